@@ -1,0 +1,5 @@
+pub mod Key
+pub mod Span
+pub mod Timestamp
+pub mod TimestampParts
+pub mod Value

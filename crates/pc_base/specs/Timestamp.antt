@@ -1,0 +1,5 @@
+-- The greatest timestamp: a wall part of 64 bits and a logical part of 32.
+use Rattle.std.specs.Prelude.{ℕ, ◌-◌, ◌^◌}
+
+abbrev pub greatest : ℕ
+greatest = 2 ^ 96 - 1
