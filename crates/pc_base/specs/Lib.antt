@@ -1,5 +1,9 @@
+pub mod Bound
 pub mod Key
+pub mod Keyed
 pub mod Span
 pub mod Timestamp
 pub mod TimestampParts
+pub mod Transaction
 pub mod Value
+pub mod Versions

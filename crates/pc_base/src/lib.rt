@@ -11,6 +11,7 @@ mod span;
 mod timestamp;
 mod transaction;
 mod value;
+mod version;
 
 pub use actor::ActorId;
 pub use entry::Entry;
@@ -22,3 +23,4 @@ pub use span::{EmptySpan, Span};
 pub use timestamp::Timestamp;
 pub use transaction::{Priority, TxnId, Who};
 pub use value::{BaseFault, Value};
+pub use version::Version;

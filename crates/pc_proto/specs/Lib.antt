@@ -1,0 +1,4 @@
+pub mod Intents
+pub mod Place
+pub mod RecordRows
+pub mod Table

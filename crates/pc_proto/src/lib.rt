@@ -17,7 +17,7 @@ pub use call::Call;
 pub use event::Event;
 pub use fate::{Fate, Finding, Goal};
 pub use meta::{Metas, TxnMeta};
-pub use record::{History, Intent, Record, Standing, Status, Version};
+pub use record::{History, Intent, Record, Standing, Status};
 pub use reply::{Origin, Reply, Rows};
 pub use request::{Keys, Request, Writes};
 pub use view::View;

@@ -1,7 +1,7 @@
 use crate::meta::TxnMeta;
 use crate::request::{Keys, Writes};
 use crate::why::Why;
-use pc_base::{Items, Key, NoMemory, Timestamp, TryCopy, TxnId, Value};
+use pc_base::{Items, NoMemory, Timestamp, TryCopy, Value};
 
 /// Where a transaction stands. Committed and aborted are final.
 #[derive(Debug, PartialEq, Eq, Drop)]
@@ -31,15 +31,6 @@ pub struct Record {
     pub writes: Writes,
     /// The keys at which the transaction may have intents.
     pub locks: Keys,
-}
-
-/// A committed value of a key, or its deletion.
-#[derive(Debug, PartialEq, Eq, Drop)]
-pub struct Version {
-    pub key: Key,
-    pub ts: Timestamp,
-    pub id: TxnId,
-    pub value: Option<Value>,
 }
 
 /// A transaction's writes of one key in one epoch, by sequence.
