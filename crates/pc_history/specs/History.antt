@@ -1,0 +1,25 @@
+-- Which histories are fine.
+use Rattle.std.specs.Prelude.{◌≡◌, List, [], ◌∷◌, ◌++◌, length, All}
+use Rattle.pc_base.specs.declared.Entry.{Entry}
+use Rattle.pc_history.specs.Sense.{Sense}
+use Rattle.pc_history.specs.Own.{own, named_in}
+
+-- the entry may come next: its step is its place, and its event is local in its actor's own list and caused by the entries before it
+pub record MayFollow {E : Type 0} (S : Sense E) (before : List (Entry E)) (e : Entry E) : Type 0 where
+  pub step : e.step ≡ length before
+  pub local : S.local e.actor (own S e.actor before) e.event (named_in S before e.event)
+  pub caused : S.caused before e.event e.actor
+
+module _ {E : Type 0} (S : Sense E) where
+  -- each of the later entries may follow all that come before it
+  abbrev pub IsFineAfter : List (Entry E) → List (Entry E) → Type 0
+  IsFineAfter before [] = Unit {0}
+  IsFineAfter before (e ∷ es) = MayFollow S before e × IsFineAfter (before ++ e ∷ []) es
+
+  -- each entry of the history may follow those before it
+  abbrev pub IsFine : List (Entry E) → Type 0
+  IsFine history = IsFineAfter [] history
+
+  -- each entry is kept
+  abbrev pub AllKept : List (Entry E) → Type 0
+  AllKept entries = All (λ e. S.kept e.step e.event) entries

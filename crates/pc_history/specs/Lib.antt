@@ -1,0 +1,4 @@
+pub mod Sense
+pub mod Own
+pub mod History
+pub mod World
