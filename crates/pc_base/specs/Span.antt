@@ -1,7 +1,7 @@
 -- Which keys a span has: one key, or those from its start, which is inside, to its end, which is outside. An open end
 -- bounds nothing. Keys are ordered byte by byte.
 use Rattle.std.specs.Prelude.{ℕ, Bool, true, false, ◌&&◌, not, Option, None, Some, List}
-use Rattle.std.specs.Ordering.{is_eq, is_lt, nat_cmp}
+use Rattle.std.specs.Ordering.{is_eq, is_le, is_lt, nat_cmp}
 use Rattle.std.specs.Cmp.Lexicographic.{slice_cmp}
 use Rattle.pc_base.specs.declared.span.Span.{Span}
 use Rattle.pc_base.specs.declared.span.Span.TheVariants.{One, Between}
@@ -9,6 +9,10 @@ use Rattle.pc_base.specs.declared.span.Span.TheVariants.{One, Between}
 -- The first key stands before the second.
 abbrev pub key_below : List ℕ → List ℕ → Bool
 key_below one other = is_lt (slice_cmp nat_cmp one other)
+
+-- The first key stands before the second, or is it.
+abbrev pub key_at_most : List ℕ → List ℕ → Bool
+key_at_most one other = is_le (slice_cmp nat_cmp one other)
 
 -- The two keys are the same bytes.
 abbrev pub same_key : List ℕ → List ℕ → Bool

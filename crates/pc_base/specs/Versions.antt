@@ -1,5 +1,5 @@
 -- Plain searches of a list of versions.
-use Rattle.std.specs.Prelude.{ℕ, ◌+◌, nat_le, nat_lt, Bool, ◌&&◌, if◌then◌else◌, Option, None, Some, List, filter, fold}
+use Rattle.std.specs.Prelude.{ℕ, ◌+◌, nat_le, nat_lt, ◌&&◌, if◌then◌else◌, Option, None, Some, List, filter, fold}
 use Rattle.std.specs.Option.{option_map_or}
 use Rattle.pc_base.specs.declared.span.Span.{Span}
 use Rattle.pc_base.specs.declared.version.Version.{Version}

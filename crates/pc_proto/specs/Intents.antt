@@ -1,5 +1,5 @@
 -- Plain searches of a range's intents, at most one under each key.
-use Rattle.std.specs.Prelude.{ℕ, max, nat_le, nat_lt, Bool, ◌&&◌, ◌==◌, not, if◌then◌else◌, Option, None, Some, List, [], ◌∷◌, ◌++◌, filter, fold}
+use Rattle.std.specs.Prelude.{ℕ, max, nat_le, nat_lt, Bool, ◌&&◌, not, if◌then◌else◌, Option, None, Some, List, [], ◌∷◌, ◌++◌, filter, fold}
 use Rattle.std.specs.Option.{option_map}
 use Rattle.pc_base.specs.declared.span.Span.{Span}
 use Rattle.pc_base.specs.declared.transaction.TxnId.{TxnId}

@@ -1,4 +1,5 @@
 pub mod Intents
 pub mod Place
 pub mod RecordRows
+pub mod Stamps
 pub mod Table

@@ -1,5 +1,5 @@
 -- What a range has of one transaction, and how that changes.
-use Rattle.std.specs.Prelude.{ℕ, Bool, true, false, ◌||◌, List, []}
+use Rattle.std.specs.Prelude.{ℕ, Bool, true, false, List, []}
 use Rattle.pc_proto.specs.declared.record.Record.{Record}
 use Rattle.pc_proto.specs.declared.record.Status.{Status}
 use Rattle.pc_proto.specs.declared.record.Standing.{Standing}

@@ -16,7 +16,6 @@ use Rattle.pc_proto.specs.RecordRows.Records.{listed}
 use Rattle.pc_proto.specs.RecordRows.Recover.{recover}
 use Rattle.pc_proto.specs.RecordRows.Remove.{remove}
 use Rattle.pc_proto.specs.RecordRows.Stage.{stage}
-
 pub mod Abort
 pub mod Beat
 pub mod Commit

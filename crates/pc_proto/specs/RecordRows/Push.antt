@@ -1,7 +1,7 @@
 -- Push: aborts or moves a transaction that stands in the way, where the pusher's level is higher or the holder has expired.
 -- A push that wins against a STAGING record decides nothing: a recovery must. SIGMOD 2020 paper, section 3.2; that a level
 -- or an expiry decides is this project's own profile.
-use Rattle.std.specs.Prelude.{ℕ, ◌-◌, nat_le, nat_lt, max, Bool, true, false, ◌&&◌, ◌||◌, if◌then◌else◌, []}
+use Rattle.std.specs.Prelude.{ℕ, ◌-◌, nat_le, nat_lt, Bool, false, ◌||◌, if◌then◌else◌, []}
 use Rattle.pc_base.specs.declared.transaction.Priority.{Priority}
 use Rattle.pc_base.specs.declared.transaction.Priority.TheVariants.{Low, Normal, High}
 use Rattle.pc_base.specs.declared.transaction.Who.{Who}

@@ -1,6 +1,5 @@
 -- What the rows ask of the record that they find.
 use Rattle.std.specs.Prelude.{ℕ, nat_le, max, Bool, true, false, ◌&&◌, ◌==◌}
-use Rattle.pc_proto.specs.declared.record.Record.{Record}
 use Rattle.pc_proto.specs.declared.record.Status.{Status}
 use Rattle.pc_proto.specs.declared.record.Standing.{Standing}
 use Rattle.pc_proto.specs.declared.record.Standing.TheVariants as standings

@@ -1,0 +1,16 @@
+-- What a request does to the intent at one key: nothing, lay this one, or drop it.
+use Rattle.std.specs.Prelude.{ℕ, List}
+use Rattle.pc_base.specs.Keyed.{set_at, without}
+use Rattle.pc_base.specs.Span.{same_key}
+use Rattle.pc_proto.specs.declared.record.Intent.{Intent}
+
+pub data IntentChange : Type 0 where
+  Leave : IntentChange
+  Lay : (i : Intent) → IntentChange
+  Drop : IntentChange
+
+-- The intents after a change at one key.
+abbrev pub intents_with : List ℕ → IntentChange → List (List ℕ × Intent) → List (List ℕ × Intent)
+intents_with key Leave intents = intents
+intents_with key (Lay i) intents = set_at same_key key i intents
+intents_with key Drop intents = without same_key key intents

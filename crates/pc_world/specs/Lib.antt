@@ -1,0 +1,4 @@
+pub mod Evaluation
+pub mod RangeOf
+pub mod RangeState
+pub mod Stamps
