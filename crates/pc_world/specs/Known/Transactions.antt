@@ -2,12 +2,9 @@
 use Rattle.std.specs.Prelude.{◌≡◌, ℕ, ◌+◌, ◌≤◌, max, Bool, true, false, ◌&&◌, ◌==◌, if◌then◌else◌, Option, None, Some, List, [], ◌∷◌, All, map}
 use Rattle.std.specs.List.{list_any}
 use Rattle.std.specs.Option.{option_or}
-use Rattle.std.specs.Ordering.{nat_cmp}
-use Rattle.std.specs.Cmp.Lexicographic.{slice_cmp}
 use Rattle.pc_base.specs.declared.transaction.Priority.{Priority}
 use Rattle.pc_base.specs.declared.transaction.TxnId.{TxnId}
-use Rattle.pc_base.specs.Keyed.{in_order}
-use Rattle.pc_base.specs.Span.{same_key}
+use Rattle.pc_base.specs.Span.{key_below, same_key}
 use Rattle.pc_base.specs.Transaction.{same_txn}
 use Rattle.pc_proto.specs.declared.answer.Answer.{Answer}
 use Rattle.pc_proto.specs.declared.answer.Answer.TheVariants as answers
@@ -135,9 +132,13 @@ anchor_sent id (requests.Put meta seq ts key value) anchor =
     if same_txn meta.id id then option_or anchor (Some key) else anchor
 anchor_sent id _ anchor = anchor
 
--- Keys in order, each once.
+-- The keys in order with one more, each once.
 abbrev pub with_lock : List ℕ → List (List ℕ) → List (List ℕ)
-with_lock key locks = map (λ e. e.0) (in_order (slice_cmp nat_cmp) (map (λ k. (k, k)) (key ∷ locks)))
+with_lock key [] = key ∷ []
+with_lock key (lock ∷ locks) =
+    if key_below key lock then key ∷ lock ∷ locks
+    else if same_key key lock then lock ∷ locks
+    else lock ∷ with_lock key locks
 
 abbrev pub locks_sent : TxnId → Request → List (List ℕ) → List (List ℕ)
 locks_sent id (requests.Put meta seq ts key value) locks = if same_txn meta.id id then with_lock key locks else locks
