@@ -17,6 +17,7 @@ use Rattle.pc_proto.specs.declared.request.Request.{Request}
 use Rattle.pc_proto.specs.declared.request.Request.TheVariants as requests
 use Rattle.pc_proto.specs.declared.view.View.TheVariants as views
 use Rattle.pc_world.specs.Known.{Known, open_txn}
+use Rattle.pc_world.specs.Known.Statements.{Statement}
 use Rattle.pc_world.specs.Known.Traffic.{Heard}
 use Rattle.pc_world.specs.Known.Transactions.{Txn, has_staged, lists}
 use Rattle.pc_world.specs.Views.{anchor_heard}
@@ -83,8 +84,11 @@ abbrev pub IsBlockedWrite : List Heard → TxnId → ℕ → ℕ → Type 0
 IsBlockedWrite heard_now id epoch seq =
     IsRefusedAfter id epoch seq heard_now ⊎ (8 ≤ count_by (put_met id epoch seq) heard_now)
 
+-- In an open call, the write is one of the open transaction's own stage, and is blocked.
 pub record QueryOfOwn (k : Known) (id : TxnId) (epoch seq ts : ℕ) (key : List ℕ) : Type 0 where
+  pub s : Statement
   pub t : Txn
+  pub in_call : k.statement ≡ Some s
   pub opened : open_txn k ≡ Some t
   pub whose : id ≡ t.id
   pub staged : IsTrue (has_staged k.sent id epoch ts key seq)
