@@ -65,14 +65,14 @@ pub record MayTellAborted (k : Known) (why : Why) : Type 0 where
   pub opened : open_txn k ≡ Some t
   pub heard : WasAborted k.heard t.id why
 
-abbrev pub IsUnrefreshed : TxnId → List ℕ → ℕ → Request → Reply → Type 0
-IsUnrefreshed id key ts (requests.Refresh other from to span) (replies.Unrefreshed at_key at) =
-    (other ≡ id) × (at_key ≡ key) × (at ≡ ts)
-IsUnrefreshed id key ts _ _ = ⊥
+-- A refresh met this write.
+abbrev pub IsUnrefreshed : List ℕ → ℕ → Reply → Type 0
+IsUnrefreshed key ts (replies.Unrefreshed at_key at) = (at_key ≡ key) × (at ≡ ts)
+IsUnrefreshed key ts _ = ⊥
 
 pub record MayTellRestart (k : Known) (s : Statement) (key : List ℕ) (ts : ℕ) : Type 0 where
   pub t : Txn
   pub opened : open_txn k ≡ Some t
   pub asked : s.call ≡ calls.Commit
-  pub heard : Any (λ h. IsUnrefreshed t.id key ts h.request h.reply) k.heard_now
+  pub heard : Any (λ h. IsUnrefreshed key ts h.reply) k.heard_now
   pub uncommitted : IsUncommitted t.id k.sent k.heard
