@@ -1,7 +1,5 @@
 -- What an actor knows: what it asked, sent, heard and was told, read from its own entries, each with the entry that it names.
 use Rattle.std.specs.Prelude.{ℕ, ◌+◌, Bool, false, cond, Option, None, Some, List, [], ◌∷◌, length, fold, map}
-use Rattle.pc_base.specs.declared.actor.ActorId.{ActorId}
-use Rattle.pc_base.specs.declared.actor.ActorId.TheVariants as actors
 use Rattle.pc_base.specs.declared.transaction.Priority.{Priority}
 use Rattle.pc_base.specs.declared.transaction.Priority.TheVariants.{Normal}
 use Rattle.pc_base.specs.declared.transaction.TxnId.{TxnId}

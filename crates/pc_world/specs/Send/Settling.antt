@@ -1,7 +1,6 @@
 -- Resolve and Remove may be sent: an intent may be settled as its transaction's record was heard to be, and a final record removed
 -- once each of its locks was settled. SIGMOD 2020 paper, section 3.2; removal by marks is this project's own profile.
-use Rattle.std.specs.Prelude.{◌≡◌, ℕ, ◌≤◌, ◌⊎◌, Option, Some, List, [], All, Any, Contains, IsTrue}
-use Rattle.pc_base.specs.declared.actor.ActorId.{ActorId}
+use Rattle.std.specs.Prelude.{◌≡◌, ℕ, ◌≤◌, ◌⊎◌, Some, List, [], All, Any, Contains, IsTrue}
 use Rattle.pc_base.specs.declared.transaction.TxnId.{TxnId}
 use Rattle.pc_proto.specs.declared.fate.Fate.{Fate}
 use Rattle.pc_proto.specs.declared.fate.Fate.TheVariants as fates

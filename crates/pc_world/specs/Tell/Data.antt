@@ -1,9 +1,8 @@
 -- Value, Rows and Written: what was heard in the open call to its get or to the pieces of its scan; and a write, once it was sent.
 -- SIGMOD 2020 paper, sections 3.1 and 3.3.
-use Rattle.std.specs.Prelude.{◌≡◌, ℕ, ◌-◌, Bool, ◌==◌, not, Option, Some, List, [], ◌∷◌, ◌++◌, length, take, map, Any, IsTrue}
+use Rattle.std.specs.Prelude.{◌≡◌, ℕ, ◌-◌, Bool, not, Option, Some, List, [], ◌∷◌, ◌++◌, length, take, map, Any, IsTrue}
 use Rattle.std.specs.List.{list_any}
 use Rattle.pc_base.specs.declared.span.Span.{Span}
-use Rattle.pc_base.specs.declared.transaction.TxnId.{TxnId}
 use Rattle.pc_proto.specs.declared.call.Call.TheVariants as calls
 use Rattle.pc_proto.specs.declared.reply.Origin.{Origin}
 use Rattle.pc_proto.specs.declared.reply.Origin.TheVariants as origins

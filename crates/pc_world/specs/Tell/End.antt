@@ -1,14 +1,11 @@
 -- Committed, RolledBack, Aborted and Restart: how a transaction ends, or begins anew. SIGMOD 2020 paper, sections 3.3 and 3.4;
 -- RFC 20180324.
-use Rattle.std.specs.Prelude.{◌≡◌, ℕ, Bool, false, ◌&&◌, ◌==◌, ◌⊎◌, Option, None, Some, List, All, Any, IsTrue}
+use Rattle.std.specs.Prelude.{◌≡◌, ℕ, Bool, false, ◌&&◌, ◌==◌, ◌⊎◌, None, Some, List, All, Any, IsTrue}
 use Rattle.std.specs.Option.{option_map_or}
 use Rattle.pc_base.specs.declared.transaction.TxnId.{TxnId}
-use Rattle.pc_base.specs.Transaction.{same_txn}
 use Rattle.pc_proto.specs.declared.call.Call.TheVariants as calls
 use Rattle.pc_proto.specs.declared.reply.Reply.{Reply}
 use Rattle.pc_proto.specs.declared.reply.Reply.TheVariants as replies
-use Rattle.pc_proto.specs.declared.request.Request.{Request}
-use Rattle.pc_proto.specs.declared.request.Request.TheVariants as requests
 use Rattle.pc_proto.specs.declared.view.View.{View}
 use Rattle.pc_proto.specs.declared.view.View.TheVariants as views
 use Rattle.pc_proto.specs.declared.why.Why.{Why}
@@ -19,7 +16,7 @@ use Rattle.pc_world.specs.Known.Transactions.{Txn, IsGood}
 use Rattle.pc_world.specs.Known.Writes.{IsProvedBy}
 use Rattle.pc_world.specs.Send.Abort.{own_cause}
 use Rattle.pc_world.specs.StageFate.{IsUncommitted}
-use Rattle.pc_world.specs.Views.{ShowsAborted, WasAborted, WasCommitted, is_about, view_in}
+use Rattle.pc_world.specs.Views.{WasAborted, WasCommitted, is_about, view_in}
 
 abbrev pub is_staging_at : ℕ → ℕ → View → Bool
 is_staging_at epoch ts (views.Staging at_epoch at writes) = at_epoch == epoch && at == ts

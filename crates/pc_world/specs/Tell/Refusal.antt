@@ -1,13 +1,11 @@
 -- Blocked, Unavailable, Unknown and Moved: why a call gives up. Where a commit gives up and the transaction stays open, its stages
 -- and commits must be known to have come to nothing. Own profile.
-use Rattle.std.specs.Prelude.{◌≡◌, ◌≢◌, ℕ, zero, suc, ◌≤◌, ◌<◌, nat_lt, Bool, false, ◌&&◌, ◌==◌, not, ◌⊎◌, Some, List, [], ◌∷◌, Any, All, Contains, IsTrue, reverse, ⊤}
+use Rattle.std.specs.Prelude.{◌≡◌, ◌≢◌, ℕ, zero, suc, ◌≤◌, nat_lt, Bool, false, ◌&&◌, ◌==◌, not, ◌⊎◌, Some, List, [], ◌∷◌, Any, Contains, IsTrue, reverse, ⊤}
 use Rattle.std.specs.List.{list_any}
 use Rattle.pc_base.specs.declared.transaction.TxnId.{TxnId}
-use Rattle.pc_base.specs.Transaction.{same_txn}
 use Rattle.pc_proto.specs.declared.call.Call.{Call}
 use Rattle.pc_proto.specs.declared.call.Call.TheVariants as calls
 use Rattle.pc_proto.specs.declared.reply.Reply.{Reply}
-use Rattle.pc_proto.specs.declared.reply.Reply.TheVariants as replies
 use Rattle.pc_proto.specs.declared.request.Request.{Request}
 use Rattle.pc_proto.specs.declared.request.Request.TheVariants as requests
 use Rattle.pc_world.specs.Counting.{AtLeast, LastIs}
