@@ -1,7 +1,5 @@
 -- What an actor knows: what it asked, sent, heard and was told, read from its own entries, each with the entry that it names.
 use Rattle.std.specs.Prelude.{ℕ, ◌+◌, Bool, false, cond, Option, None, Some, List, [], ◌∷◌, length, fold, map}
-use Rattle.pc_base.specs.declared.actor.ActorId.{ActorId}
-use Rattle.pc_base.specs.declared.actor.ActorId.TheVariants as actors
 use Rattle.pc_base.specs.declared.transaction.Priority.{Priority}
 use Rattle.pc_base.specs.declared.transaction.Priority.TheVariants.{Normal}
 use Rattle.pc_base.specs.declared.transaction.TxnId.{TxnId}
@@ -14,7 +12,7 @@ use Rattle.pc_proto.specs.declared.event.Event.{Event}
 use Rattle.pc_proto.specs.declared.event.Event.TheVariants as events
 use Rattle.pc_world.specs.Known.Clock.{high_after, top_after}
 use Rattle.pc_world.specs.Known.Statements.{Statement, begun_after, is_open_after, met_now_after, statement_after}
-use Rattle.pc_world.specs.Known.Traffic.{Heard, Sent, heard_after, heard_by, heard_now_after, sent_after, sent_now_after}
+use Rattle.pc_world.specs.Known.Traffic.{Heard, Sent, heard_after, heard_by, heard_now_after, replies_to, sent_after, sent_now_after}
 use Rattle.pc_world.specs.Known.Transactions.{Txn, begun, txn_heard, txn_sent, txn_told}
 pub mod Clock
 pub mod Reads
@@ -62,14 +60,14 @@ abbrev pub begun_by : Option Statement → TxnId → ℕ → Txn
 begun_by None id ts = begun id Normal 0 ts
 begun_by (Some s) id ts = begun id (priority_asked s.call) s.reading ts
 
--- An answer is told to the open transaction.
+-- An answer is told to the open transaction, after these replies to what was sent in the open call.
 abbrev pub told_first : Answer → List Heard → List Txn → List Txn
-told_first answer heard_now [] = []
-told_first answer heard_now (t ∷ ts) = txn_told answer heard_now t ∷ ts
+told_first answer replied [] = []
+told_first answer replied (t ∷ ts) = txn_told answer replied t ∷ ts
 
 abbrev pub txns_told : Answer → Known → List Txn
 txns_told (answers.Begun id ts) k = begun_by k.statement id ts ∷ k.txns
-txns_told answer k = cond k.is_open (told_first answer k.heard_now k.txns) k.txns
+txns_told answer k = cond k.is_open (told_first answer (replies_to k.sent_now k.heard_now) k.txns) k.txns
 
 -- The transactions after an event.
 abbrev pub txns_after : Event → Option Heard → Known → List Txn

@@ -43,16 +43,17 @@ read_heard (requests.Get id epoch seq ts key) (replies.Value origin value) = rec
 read_heard (requests.Scan id epoch seq ts span) (replies.Rows rows) = record { span = span; ts = ts } ∷ []
 read_heard _ _ = []
 
--- What was read in a statement.
+-- What these replies read.
 abbrev pub reads_heard : List Heard → List Read
 reads_heard heard = flat_map (λ h. read_heard h.request h.reply) heard
 
--- A value or rows that are told make the statement's reads those of the epoch; a restart begins an epoch without reads.
+-- A value or rows that are told make what the open call's own messages read reads of the epoch; a restart begins an epoch without
+-- reads.
 abbrev pub reads_told : Answer → List Heard → List Read → List Read
-reads_told (answers.Value value) heard_now reads = reads ++ reads_heard heard_now
-reads_told (answers.Rows rows) heard_now reads = reads ++ reads_heard heard_now
-reads_told (answers.Restart key ts) heard_now reads = []
-reads_told _ heard_now reads = reads
+reads_told (answers.Value value) replied reads = reads ++ reads_heard replied
+reads_told (answers.Rows rows) replied reads = reads ++ reads_heard replied
+reads_told (answers.Restart key ts) replied reads = []
+reads_told _ replied reads = reads
 
 -- The transaction was told that what it read in this span at `from` is still so at `to`.
 pub record WasRefreshed (id : TxnId) (heard : List Heard) (span : Span) (from to : ℕ) : Type 0 where

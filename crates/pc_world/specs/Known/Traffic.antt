@@ -1,6 +1,7 @@
 -- What an actor sent and heard.
-use Rattle.std.specs.Prelude.{ℕ, ◌==◌, Option, None, Some, List, [], ◌∷◌, ◌++◌, find}
-use Rattle.std.specs.Option.{option_and_then, option_map, option_to_list}
+use Rattle.std.specs.Prelude.{ℕ, ◌==◌, Bool, Option, None, Some, List, [], ◌∷◌, ◌++◌, filter, find}
+use Rattle.std.specs.List.{list_any}
+use Rattle.std.specs.Option.{option_map, option_to_list}
 use Rattle.pc_base.specs.declared.entry.Entry.{Entry}
 use Rattle.pc_proto.specs.declared.event.Event.{Event}
 use Rattle.pc_proto.specs.declared.event.Event.TheVariants as events
@@ -65,3 +66,11 @@ heard_after h heard = heard ++ option_to_list h
 abbrev pub heard_now_after : Event → Option Heard → List Heard → List Heard
 heard_now_after (events.Ask call reading) h heard_now = []
 heard_now_after event h heard_now = heard_now ++ option_to_list h
+
+-- The reply is to one of these messages.
+abbrev pub is_reply_to : List Sent → Heard → Bool
+is_reply_to sent h = list_any (λ m. m.number == h.number) sent
+
+-- Of these replies, those to one of these messages.
+abbrev pub replies_to : List Sent → List Heard → List Heard
+replies_to sent heard = filter (is_reply_to sent) heard

@@ -1,5 +1,5 @@
 -- What a session knows of one of its transactions.
-use Rattle.std.specs.Prelude.{◌≡◌, ℕ, ◌+◌, ◌≤◌, max, Bool, true, false, ◌&&◌, ◌==◌, if◌then◌else◌, Option, None, Some, List, [], ◌∷◌, All, map}
+use Rattle.std.specs.Prelude.{◌≡◌, ℕ, ◌+◌, ◌≤◌, max, Bool, true, false, ◌&&◌, ◌==◌, if◌then◌else◌, Option, None, Some, List, [], ◌∷◌, All}
 use Rattle.std.specs.List.{list_any}
 use Rattle.std.specs.Option.{option_or}
 use Rattle.pc_base.specs.declared.transaction.Priority.{Priority}
@@ -170,11 +170,11 @@ txn_heard sent h t = record t {
 
 -- The open transaction after it was told an answer.
 abbrev pub txn_told : Answer → List Heard → Txn → Txn
-txn_told answer heard_now t = record t {
+txn_told answer replied t = record t {
   epoch = epoch_told answer t.epoch;
   read_ts = read_ts_told answer t.write_ts t.read_ts;
   writes = writes_told answer t.writes;
-  reads = reads_told answer heard_now t.reads;
+  reads = reads_told answer replied t.reads;
   restart = restart_told answer;
   committed = committed_told answer t.committed;
 }

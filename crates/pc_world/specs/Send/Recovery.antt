@@ -1,22 +1,21 @@
 -- Query and Recover may be sent: after a push met a STAGING record, for the writes that it lists; and a query also for a write of
 -- the transaction's own stage that another stands in the way of. RFC 20180324, "Transaction recovery"; ParallelCommits TLA+.
-use Rattle.std.specs.Prelude.{◌≡◌, ℕ, ◌≤◌, Bool, true, false, ◌&&◌, ◌==◌, ◌⊎◌, Option, Some, List, [], ◌∷◌, All, Any, Contains, IsTrue, count_by}
+use Rattle.std.specs.Prelude.{◌≡◌, ℕ, ◌≤◌, Bool, true, false, ◌&&◌, ◌==◌, ◌⊎◌, Some, List, [], ◌∷◌, All, Any, IsTrue, count_by}
 use Rattle.pc_base.specs.declared.actor.ActorId.{ActorId}
 use Rattle.pc_base.specs.declared.actor.ActorId.TheVariants as actors
 use Rattle.pc_base.specs.declared.transaction.TxnId.{TxnId}
 use Rattle.pc_base.specs.declared.transaction.Who.{Who}
 use Rattle.pc_base.specs.declared.transaction.Who.TheVariants as whos
-use Rattle.pc_base.specs.Span.{same_key}
 use Rattle.pc_base.specs.Transaction.{same_txn}
 use Rattle.pc_proto.specs.declared.fate.Finding.{Finding}
 use Rattle.pc_proto.specs.declared.fate.Finding.TheVariants as findings
-use Rattle.pc_proto.specs.declared.meta.TxnMeta.{TxnMeta}
 use Rattle.pc_proto.specs.declared.reply.Reply.{Reply}
 use Rattle.pc_proto.specs.declared.reply.Reply.TheVariants as replies
 use Rattle.pc_proto.specs.declared.request.Request.{Request}
 use Rattle.pc_proto.specs.declared.request.Request.TheVariants as requests
 use Rattle.pc_proto.specs.declared.view.View.TheVariants as views
 use Rattle.pc_world.specs.Known.{Known, open_txn}
+use Rattle.pc_world.specs.Known.Statements.{Statement}
 use Rattle.pc_world.specs.Known.Traffic.{Heard}
 use Rattle.pc_world.specs.Known.Transactions.{Txn, has_staged, lists}
 use Rattle.pc_world.specs.Views.{anchor_heard}
@@ -83,8 +82,11 @@ abbrev pub IsBlockedWrite : List Heard → TxnId → ℕ → ℕ → Type 0
 IsBlockedWrite heard_now id epoch seq =
     IsRefusedAfter id epoch seq heard_now ⊎ (8 ≤ count_by (put_met id epoch seq) heard_now)
 
+-- In an open call, the write is one of the open transaction's own stage, and is blocked.
 pub record QueryOfOwn (k : Known) (id : TxnId) (epoch seq ts : ℕ) (key : List ℕ) : Type 0 where
+  pub s : Statement
   pub t : Txn
+  pub in_call : k.statement ≡ Some s
   pub opened : open_txn k ≡ Some t
   pub whose : id ≡ t.id
   pub staged : IsTrue (has_staged k.sent id epoch ts key seq)

@@ -1,7 +1,6 @@
 -- Resolve and Remove may be sent: an intent may be settled as its transaction's record was heard to be, and a final record removed
 -- once each of its locks was settled. SIGMOD 2020 paper, section 3.2; removal by marks is this project's own profile.
-use Rattle.std.specs.Prelude.{◌≡◌, ℕ, ◌≤◌, ◌⊎◌, Option, Some, List, [], All, Any, Contains, IsTrue}
-use Rattle.pc_base.specs.declared.actor.ActorId.{ActorId}
+use Rattle.std.specs.Prelude.{◌≡◌, ℕ, ◌≤◌, ◌⊎◌, Some, List, [], All, Any, Contains, IsTrue}
 use Rattle.pc_base.specs.declared.transaction.TxnId.{TxnId}
 use Rattle.pc_proto.specs.declared.fate.Fate.{Fate}
 use Rattle.pc_proto.specs.declared.fate.Fate.TheVariants as fates
@@ -14,12 +13,12 @@ use Rattle.pc_world.specs.Known.Traffic.{Heard}
 use Rattle.pc_world.specs.Known.Transactions.{Txn}
 use Rattle.pc_world.specs.Views.{anchor_heard, is_about, view_in}
 
--- The fate is what the view says: committed with its epoch and timestamp, aborted, or moved to its timestamp or past it.
+-- The fate is what the view says: committed with its epoch and timestamp, aborted, or moved to a timestamp that its own reaches.
 abbrev pub IsFateOf : View → Fate → Type 0
 IsFateOf (views.Committed epoch ts locks) (fates.Committed at_epoch at) = (at_epoch ≡ epoch) × (at ≡ ts)
 IsFateOf (views.Aborted epoch why locks) fates.Aborted = Unit {0}
-IsFateOf (views.Pending epoch ts) (fates.Pending at) = ts ≤ at
-IsFateOf (views.Staging epoch ts writes) (fates.Pending at) = ts ≤ at
+IsFateOf (views.Pending epoch ts) (fates.Pending at) = at ≤ ts
+IsFateOf (views.Staging epoch ts writes) (fates.Pending at) = at ≤ ts
 IsFateOf _ _ = ⊥
 
 pub record ShowsFate (id : TxnId) (fate : Fate) (h : Heard) : Type 0 where

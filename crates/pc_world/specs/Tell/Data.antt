@@ -1,9 +1,8 @@
 -- Value, Rows and Written: what was heard in the open call to its get or to the pieces of its scan; and a write, once it was sent.
 -- SIGMOD 2020 paper, sections 3.1 and 3.3.
-use Rattle.std.specs.Prelude.{◌≡◌, ℕ, ◌-◌, Bool, ◌==◌, not, Option, Some, List, [], ◌∷◌, ◌++◌, length, take, map, Any, IsTrue}
+use Rattle.std.specs.Prelude.{◌≡◌, ℕ, ◌-◌, Bool, not, Option, Some, List, [], ◌∷◌, ◌++◌, length, take, map, Any, IsTrue}
 use Rattle.std.specs.List.{list_any}
 use Rattle.pc_base.specs.declared.span.Span.{Span}
-use Rattle.pc_base.specs.declared.transaction.TxnId.{TxnId}
 use Rattle.pc_proto.specs.declared.call.Call.TheVariants as calls
 use Rattle.pc_proto.specs.declared.reply.Origin.{Origin}
 use Rattle.pc_proto.specs.declared.reply.Origin.TheVariants as origins
@@ -13,7 +12,7 @@ use Rattle.pc_proto.specs.declared.request.Request.{Request}
 use Rattle.pc_proto.specs.declared.request.Request.TheVariants as requests
 use Rattle.pc_world.specs.Known.{Known, open_txn}
 use Rattle.pc_world.specs.Known.Statements.{Statement}
-use Rattle.pc_world.specs.Known.Traffic.{Heard, Sent}
+use Rattle.pc_world.specs.Known.Traffic.{Heard, Sent, is_reply_to}
 use Rattle.pc_world.specs.Known.Transactions.{Txn}
 use Rattle.pc_world.specs.RangeOf.{pieces}
 use Rattle.pc_world.specs.Send.Put.{AsksFor}
@@ -21,7 +20,7 @@ use Rattle.pc_world.specs.Send.Recovery.{is_put_of}
 
 -- The reply is to a message sent in the open call.
 abbrev pub was_sent_now : Known → Heard → Bool
-was_sent_now k h = list_any (λ m. m.number == h.number) k.sent_now
+was_sent_now k h = is_reply_to k.sent_now h
 
 abbrev pub IsValueOf : Option (List ℕ) → Request → Reply → Type 0
 IsValueOf value (requests.Get id epoch seq ts key) (replies.Value origin found) = found ≡ value

@@ -1,14 +1,11 @@
 -- Committed, RolledBack, Aborted and Restart: how a transaction ends, or begins anew. SIGMOD 2020 paper, sections 3.3 and 3.4;
 -- RFC 20180324.
-use Rattle.std.specs.Prelude.{◌≡◌, ℕ, Bool, false, ◌&&◌, ◌==◌, ◌⊎◌, Option, None, Some, List, All, Any, IsTrue}
+use Rattle.std.specs.Prelude.{◌≡◌, ℕ, Bool, false, ◌&&◌, ◌==◌, ◌⊎◌, None, Some, List, All, Any, IsTrue}
 use Rattle.std.specs.Option.{option_map_or}
 use Rattle.pc_base.specs.declared.transaction.TxnId.{TxnId}
-use Rattle.pc_base.specs.Transaction.{same_txn}
 use Rattle.pc_proto.specs.declared.call.Call.TheVariants as calls
 use Rattle.pc_proto.specs.declared.reply.Reply.{Reply}
 use Rattle.pc_proto.specs.declared.reply.Reply.TheVariants as replies
-use Rattle.pc_proto.specs.declared.request.Request.{Request}
-use Rattle.pc_proto.specs.declared.request.Request.TheVariants as requests
 use Rattle.pc_proto.specs.declared.view.View.{View}
 use Rattle.pc_proto.specs.declared.view.View.TheVariants as views
 use Rattle.pc_proto.specs.declared.why.Why.{Why}
@@ -19,7 +16,7 @@ use Rattle.pc_world.specs.Known.Transactions.{Txn, IsGood}
 use Rattle.pc_world.specs.Known.Writes.{IsProvedBy}
 use Rattle.pc_world.specs.Send.Abort.{own_cause}
 use Rattle.pc_world.specs.StageFate.{IsUncommitted}
-use Rattle.pc_world.specs.Views.{ShowsAborted, WasAborted, WasCommitted, is_about, view_in}
+use Rattle.pc_world.specs.Views.{WasAborted, WasCommitted, is_about, view_in}
 
 abbrev pub is_staging_at : ℕ → ℕ → View → Bool
 is_staging_at epoch ts (views.Staging at_epoch at writes) = at_epoch == epoch && at == ts
@@ -65,14 +62,14 @@ pub record MayTellAborted (k : Known) (why : Why) : Type 0 where
   pub opened : open_txn k ≡ Some t
   pub heard : WasAborted k.heard t.id why
 
-abbrev pub IsUnrefreshed : TxnId → List ℕ → ℕ → Request → Reply → Type 0
-IsUnrefreshed id key ts (requests.Refresh other from to span) (replies.Unrefreshed at_key at) =
-    (other ≡ id) × (at_key ≡ key) × (at ≡ ts)
-IsUnrefreshed id key ts _ _ = ⊥
+-- A refresh met this write.
+abbrev pub IsUnrefreshed : List ℕ → ℕ → Reply → Type 0
+IsUnrefreshed key ts (replies.Unrefreshed at_key at) = (at_key ≡ key) × (at ≡ ts)
+IsUnrefreshed key ts _ = ⊥
 
 pub record MayTellRestart (k : Known) (s : Statement) (key : List ℕ) (ts : ℕ) : Type 0 where
   pub t : Txn
   pub opened : open_txn k ≡ Some t
   pub asked : s.call ≡ calls.Commit
-  pub heard : Any (λ h. IsUnrefreshed t.id key ts h.request h.reply) k.heard_now
+  pub heard : Any (λ h. IsUnrefreshed key ts h.reply) k.heard_now
   pub uncommitted : IsUncommitted t.id k.sent k.heard

@@ -1,13 +1,11 @@
 -- Blocked, Unavailable, Unknown and Moved: why a call gives up. Where a commit gives up and the transaction stays open, its stages
 -- and commits must be known to have come to nothing. Own profile.
-use Rattle.std.specs.Prelude.{◌≡◌, ◌≢◌, ℕ, zero, suc, ◌≤◌, ◌<◌, nat_lt, Bool, false, ◌&&◌, ◌==◌, not, ◌⊎◌, Some, List, [], ◌∷◌, Any, All, Contains, IsTrue, reverse, ⊤}
+use Rattle.std.specs.Prelude.{◌≡◌, ◌≢◌, ℕ, zero, suc, ◌≤◌, nat_lt, Bool, false, ◌&&◌, ◌==◌, not, ◌⊎◌, Some, List, [], ◌∷◌, Any, Contains, IsTrue, reverse, ⊤}
 use Rattle.std.specs.List.{list_any}
 use Rattle.pc_base.specs.declared.transaction.TxnId.{TxnId}
-use Rattle.pc_base.specs.Transaction.{same_txn}
 use Rattle.pc_proto.specs.declared.call.Call.{Call}
 use Rattle.pc_proto.specs.declared.call.Call.TheVariants as calls
 use Rattle.pc_proto.specs.declared.reply.Reply.{Reply}
-use Rattle.pc_proto.specs.declared.reply.Reply.TheVariants as replies
 use Rattle.pc_proto.specs.declared.request.Request.{Request}
 use Rattle.pc_proto.specs.declared.request.Request.TheVariants as requests
 use Rattle.pc_world.specs.Counting.{AtLeast, LastIs}
@@ -102,21 +100,20 @@ pub record MayTellUnknown (k : Known) (s : Statement) (id : TxnId) : Type 0 wher
   pub lost : WasLost k faults
   pub doubt : MayHaveCommitted k t.id
 
-abbrev pub is_moved : TxnId → Request → Reply → Bool
-is_moved id (requests.Stage meta ts now writes locks) reply =
-    same_txn meta.id id && (is_unsettled_status reply && nat_lt ts (status_ts reply))
-is_moved id (requests.Commit meta ts locks) reply =
-    same_txn meta.id id && (is_unsettled_status reply && nat_lt ts (status_ts reply))
-is_moved id _ reply = false
+-- A stage or commit met a record that is not final and has a greater timestamp.
+abbrev pub is_moved : Request → Reply → Bool
+is_moved (requests.Stage meta ts now writes locks) reply = is_unsettled_status reply && nat_lt ts (status_ts reply)
+is_moved (requests.Commit meta ts locks) reply = is_unsettled_status reply && nat_lt ts (status_ts reply)
+is_moved _ reply = false
 
--- A stage or commit of the open call met a record that is not final and has a greater timestamp.
-abbrev pub WasMoved : Known → TxnId → Heard → Type 0
-WasMoved k id h = IsTrue (was_sent_now k h && is_moved id h.request h.reply)
+-- A stage or commit of the open call was so moved.
+abbrev pub WasMoved : Known → Heard → Type 0
+WasMoved k h = IsTrue (was_sent_now k h && is_moved h.request h.reply)
 
 pub record MayTellMoved (k : Known) (s : Statement) (ts : ℕ) : Type 0 where
   pub t : Txn
   pub opened : open_txn k ≡ Some t
   pub asked : s.call ≡ calls.Commit
-  pub eight : AtLeast (WasMoved k t.id) 8 k.heard_now
-  pub last : LastIs (WasMoved k t.id) (λ h. status_ts h.reply ≡ ts) k.heard_now
+  pub eight : AtLeast (WasMoved k) 8 k.heard_now
+  pub last : LastIs (WasMoved k) (λ h. status_ts h.reply ≡ ts) k.heard_now
   pub uncommitted : IsUncommitted t.id k.sent k.heard
