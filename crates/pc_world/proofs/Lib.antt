@@ -1,0 +1,4 @@
+pub mod Each
+pub mod Knowing
+pub mod Prefixes
+pub mod Stamps
