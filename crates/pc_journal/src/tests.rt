@@ -1,0 +1,3 @@
+mod fixtures;
+mod journal;
+mod words;
