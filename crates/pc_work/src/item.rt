@@ -10,7 +10,7 @@ use std::alloc::Global;
 /// What a session does next.
 #[derive(Debug, PartialEq, Eq, Drop)]
 pub enum Item {
-    /// Waits for a transaction of another session, and learns whether it committed.
+    /// Learns that this transaction committed, where its session was told so before.
     Learn(TxnId),
     /// Runs a transaction, and commits it or rolls it back.
     Txn {

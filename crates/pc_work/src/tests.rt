@@ -116,6 +116,7 @@ fn a_transaction_has_one_put_or_more(rt: HostRuntime) -> Result<(), Fail> {
     for (statements, number) in [
         ("", 10),
         ("{\"put\":[\"a\",\"\"]},{\"put\":[\"a\",\"y\"]}", 0),
+        ("{\"put\":[\"\\u0061\",\"x\"]}", 0),
         ("{\"put\":[\"a\",\"x\"]},{}", 10),
         ("{\"get\":\"a\"}", 10),
         ("{\"put\":[\"a\"]}", 10),

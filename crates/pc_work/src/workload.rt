@@ -31,13 +31,13 @@ pub struct Workload {
     pub pipelining: bool,
     /// The first key of each range but the first one.
     pub splits: Keys,
-    /// How many entries a range keeps.
+    /// The most entries that a range keeps.
     pub limit: u64,
-    /// How often a request is sent that stays unanswered.
+    /// How often a request is sent before it is given up.
     pub tries: u32,
-    /// How often a transaction is run again that has to restart.
+    /// How often a transaction may ask again, or start again, before it is rolled back.
     pub reruns: u32,
-    /// How many items of the first session's script come before the turns.
+    /// How many items of the first session's script run before anyone else does.
     pub opening: u32,
     pub sessions: Sessions,
     /// Where there are none, sessions run on threads.
@@ -45,14 +45,14 @@ pub struct Workload {
 }
 
 impl Workload {
-    /// Reads a workload from JSON.
+    /// Reads a workload from JSON. Want of memory may come at any point, and says nothing of the bytes.
     pub fn read(alloc: Global, bytes: &[u8]) -> Result<Workload, WorkFault>
         // What is accepted, and its value.
         ensures accepted { UnlessMemory result (IsOk result ↔ (IsJson bytes.now × IsSome (workload_in bytes.now))) }
         ensures value { IfOk result (λ work. workload_in bytes.now ≡ Some work) }
         ensures built { IfOk result IsBuilt }
 
-        // Which number a refusal has. No clause says when memory runs out.
+        // Which number a refusal has: these two, and no other.
         ensures no_json { UnlessMemory result (IsErrOf result (WorkFault.Refused 1) ↔ ¬ (IsJson bytes.now)) }
         ensures other_form { UnlessMemory result (IsErrOf result (WorkFault.Refused 10) ↔ (IsJson bytes.now × (workload_in bytes.now ≡ None))) }
     {
