@@ -14,3 +14,4 @@ pub mod CopyStep
 pub mod ActStep
 pub mod CloseStep
 pub mod Calls
+pub mod Callers

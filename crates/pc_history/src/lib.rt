@@ -21,3 +21,6 @@ pub use opener::Opener;
 pub use pair::Pair;
 pub use view::{Known, Part};
 pub use world::World;
+
+#[cfg(test)]
+mod tests;
