@@ -1,2 +1,17 @@
 pub mod Ids
+pub mod Lists
 pub mod Histories
+pub mod Counts
+pub mod Uses
+pub mod Fitting
+pub mod Opening
+pub mod LookStep
+pub mod TakeStep
+pub mod HandInStep
+pub mod SeatStep
+pub mod NoteStep
+pub mod CopyStep
+pub mod ActStep
+pub mod CloseStep
+pub mod Calls
+pub mod Callers

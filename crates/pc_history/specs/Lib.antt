@@ -2,3 +2,9 @@ pub mod Sense
 pub mod Own
 pub mod History
 pub mod World
+pub mod Parts
+pub mod Meanings
+pub mod Closed
+pub mod Table
+pub mod Steps
+pub mod Ties

@@ -1,5 +1,5 @@
 /// What the events of a history mean, and the laws that a meaning has to meet.
-pub trait World {
+pub trait World: Drop {
     ghost use Rattle.pc_history.specs.Sense.{Sense};
     ghost use Rattle.pc_history.specs.World.{IsWorld};
 
