@@ -69,3 +69,36 @@ fn shared_owner(one: Option<TxnId>, other: Option<TxnId>) -> Option<TxnId>
 {
     if one == other { one } else { None }
 }
+
+#[cfg(test)]
+mod tests {
+    use super::*;
+
+    const ONE: TxnId = TxnId {
+        session: 1,
+        number: 1,
+    };
+
+    const OTHER: TxnId = TxnId {
+        session: 2,
+        number: 1,
+    };
+
+    #[test]
+    fn only_the_owner_writes_at_the_bound(rt: HostRuntime) {
+        let mut bound = Bound::new();
+        bound.raise(Timestamp::new(10, 0), Some(ONE));
+        let asked = Timestamp::new(5, 0);
+        assert_eq!(rt; bound.least_write(asked, ONE), Timestamp::new(10, 0));
+        assert_eq!(rt; bound.least_write(asked, OTHER), Timestamp::new(10, 1));
+    }
+
+    #[test]
+    fn a_shared_bound_is_nobodys(rt: HostRuntime) {
+        let mut bound = Bound::new();
+        bound.raise(Timestamp::new(10, 0), Some(ONE));
+        bound.raise(Timestamp::new(10, 0), Some(OTHER));
+        let asked = Timestamp::new(5, 0);
+        assert_eq!(rt; bound.least_write(asked, ONE), Timestamp::new(10, 1));
+    }
+}
