@@ -1,4 +1,5 @@
 pub mod Each
+pub mod Kept
 pub mod Knowing
 pub mod Prefixes
 pub mod Stamps

@@ -2,6 +2,7 @@ pub mod Evaluation
 pub mod Caused
 pub mod Counting
 pub mod Known
+pub mod Laws
 pub mod MaySend
 pub mod Local
 pub mod MayTell
