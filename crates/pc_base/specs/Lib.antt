@@ -1,4 +1,5 @@
 pub mod Bound
+pub mod Faults
 pub mod Key
 pub mod Keyed
 pub mod Span

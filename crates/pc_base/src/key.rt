@@ -1,10 +1,11 @@
-ghost use Rattle.std.specs.Prelude.{◌≡◌, ◌↔◌, IfOk, IsTrue, IsErrOf, length};
+ghost use Rattle.std.specs.Prelude.{◌≡◌, ◌↔◌, IfOk, IfErr, IsTrue, IsErrOf, length};
 ghost use Rattle.std.specs.List.{list_all};
 ghost use Rattle.std.proofs.Common.{rules};
 ghost use Rattle.std.specs.Cmp.{partial_order_from_own_ties};
 ghost use Rattle.std.specs.Cmp.Rules.{comparing};
 ghost use Rattle.std.specs.Ordering.{nat_cmp, as_partial_cmp};
 ghost use Rattle.std.specs.Cmp.Lexicographic.{slice_cmp};
+ghost use Rattle.pc_base.specs.Faults.{IsKeyFault};
 ghost use Rattle.pc_base.specs.Key.{HasKeyLength, IsKey, is_key_byte};
 ghost use Rattle.pc_base.specs.Span.{same_key};
 
@@ -38,6 +39,7 @@ impl Key {
     /// Takes the bytes of a key that came from outside.
     pub fn new(alloc: Global, bytes: &[u8]) -> Result<Key, BaseFault>
         ensures ok { IfOk result (λ key. key ≡ bytes.now) }
+        ensures faults { IfErr result IsKeyFault }
         ensures length { IsErrOf result BaseFault.KeyLength ↔ ¬ (HasKeyLength bytes.now) }
         ensures byte { IsErrOf result BaseFault.KeyByte ↔ (HasKeyLength bytes.now × ¬ (IsTrue (list_all is_key_byte bytes.now))) }
     {

@@ -1,9 +1,10 @@
-ghost use Rattle.std.specs.Prelude.{◌≡◌, ◌≤◌, ◌<◌, ◌↔◌, ◌==◌, IfOk, IsTrue, IsErrOf, length};
+ghost use Rattle.std.specs.Prelude.{◌≡◌, ◌≤◌, ◌<◌, ◌↔◌, ◌==◌, IfOk, IfErr, IsTrue, IsErrOf, length};
 ghost use Rattle.std.specs.List.{list_all};
 ghost use Rattle.std.proofs.Common.{rules};
 ghost use Rattle.std.specs.Cmp.Rules.{comparing};
 ghost use Rattle.std.specs.Cmp.Lexicographic.{pointwise};
 ghost use Rattle.pc_base.specs.declared.value.BaseFault.TheVariants.{NoMemory as no_memory};
+ghost use Rattle.pc_base.specs.Faults.{IsValueFault};
 ghost use Rattle.pc_base.specs.Value.{IsValue, is_value_byte};
 
 use crate::limits::VALUE_BYTES;
@@ -52,6 +53,7 @@ impl Value {
     /// Takes the bytes of a value that came from outside.
     pub fn new(alloc: Global, bytes: &[u8]) -> Result<Value, BaseFault>
         ensures ok { IfOk result (λ value. value ≡ bytes.now) }
+        ensures faults { IfErr result IsValueFault }
         ensures length { IsErrOf result BaseFault.ValueLength ↔ (VALUE_BYTES < length bytes.now) }
         ensures byte { IsErrOf result BaseFault.ValueByte ↔ ((length bytes.now ≤ VALUE_BYTES) × ¬ (IsTrue (list_all is_value_byte bytes.now))) }
     {
