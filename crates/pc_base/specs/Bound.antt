@@ -29,6 +29,7 @@ owner_after ts reader bound =
 abbrev pub raised : ℕ → Option TxnId → ReadBound → ReadBound
 raised ts reader bound = record { ts = max bound.ts ts; owner = owner_after ts reader bound }
 
+-- The writer is the owner, where there is one.
 abbrev pub is_owner : TxnId → Option TxnId → Bool
 is_owner writer None = false
 is_owner writer (Some owner) = same_txn owner writer

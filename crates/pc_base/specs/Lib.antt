@@ -1,3 +1,4 @@
+-- The words that every contract shares: keys, values, timestamps, transactions, spans, versions and read bounds.
 pub mod Bound
 pub mod Faults
 pub mod Key

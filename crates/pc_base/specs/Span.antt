@@ -18,10 +18,12 @@ key_at_most one other = is_le (slice_cmp nat_cmp one other)
 abbrev pub same_key : List ℕ → List ℕ → Bool
 same_key one other = is_eq (slice_cmp nat_cmp one other)
 
+-- The key is not before this start; an open start is before every key.
 abbrev pub is_from : Option (List ℕ) → List ℕ → Bool
 is_from None key = true
 is_from (Some from) key = not (key_below key from)
 
+-- The key is before this end; an open end is behind every key.
 abbrev pub is_before : Option (List ℕ) → List ℕ → Bool
 is_before None key = true
 is_before (Some to) key = key_below key to
