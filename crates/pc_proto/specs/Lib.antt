@@ -1,3 +1,4 @@
+-- What messages and events say, and what requests do to the records of transactions.
 pub mod Intents
 pub mod Place
 pub mod RecordRows

@@ -45,7 +45,7 @@ status_view standings.Staging epoch ts writes locks = views.Staging epoch ts wri
 status_view standings.Committed epoch ts writes locks = views.Committed epoch ts locks
 status_view (standings.Aborted why) epoch ts writes locks = views.Aborted epoch why locks
 
--- How a place is told. A mark's locks are shown as none.
+-- How a place is told, a mark without its locks.
 abbrev pub view_of : Place → View
 view_of Nothing = views.Nothing
 view_of (Kept r) = status_view r.status.standing r.status.epoch r.status.ts r.writes r.locks

@@ -67,18 +67,20 @@ answer (requests.Push holder by level now goal) p =
 answer (requests.Remove id anchor) p = if is_decided p then replies.Removed else replies.Status (view_of p)
 answer request p = replies.Status (view_of (after p (change request p)))
 
--- The table after a request.
+-- The table after a request that speaks of this transaction, or of none.
 abbrev pub table_for : Option TxnId → Request → Table → Table
 table_for None request table = table
 table_for (Some id) request table = applied_to id (change request (place_of id table)) table
 
+-- What a request makes of a range's records and marks.
 abbrev pub table_after : Request → Table → Table
 table_after request table = table_for (subject request) request table
 
--- The reply to a request to a record.
+-- The reply to a request that speaks of this transaction, or that lists the records.
 abbrev pub reply_for : Option TxnId → Request → Table → Reply
 reply_for None request table = replies.Listed (listed table.records)
 reply_for (Some id) request table = answer request (place_of id table)
 
+-- What a range answers to a request by its records and marks.
 abbrev pub record_reply : Request → Table → Reply
 record_reply request table = reply_for (subject request) request table

@@ -20,26 +20,31 @@ use Rattle.pc_proto.specs.declared.view.View.TheVariants as views
 use Rattle.pc_proto.specs.declared.why.Why.{Why}
 use Rattle.pc_proto.specs.declared.why.Why.TheVariants as whys
 
+-- The timestamps in the cause of an abort.
 abbrev pub why_stamps : Why → List ℕ
 why_stamps (whys.Refresh key ts) = ts ∷ []
 why_stamps (whys.Pushed by) = []
 why_stamps (whys.Missing key by) = []
 why_stamps whys.Client = []
 
+-- The timestamps in what a push is for.
 abbrev pub goal_stamps : Goal → List ℕ
 goal_stamps goals.Abort = []
 goal_stamps (goals.Move ts) = ts ∷ []
 
+-- The timestamps in the fate of a transaction.
 abbrev pub fate_stamps : Fate → List ℕ
 fate_stamps (fates.Committed epoch ts) = ts ∷ []
 fate_stamps fates.Aborted = []
 fate_stamps (fates.Pending ts) = ts ∷ []
 
+-- The timestamps in where a value comes from.
 abbrev pub origin_stamps : Origin → List ℕ
 origin_stamps origins.Nothing = []
 origin_stamps origins.Own = []
 origin_stamps (origins.At ts) = ts ∷ []
 
+-- The timestamps in a view of a transaction.
 abbrev pub view_stamps : View → List ℕ
 view_stamps views.Nothing = []
 view_stamps (views.Pending epoch ts) = ts ∷ []
@@ -47,6 +52,7 @@ view_stamps (views.Staging epoch ts writes) = ts ∷ []
 view_stamps (views.Committed epoch ts locks) = ts ∷ []
 view_stamps (views.Aborted epoch why locks) = why_stamps why
 
+-- The timestamps in the rows of a scan.
 abbrev pub row_stamps : List (List ℕ × Origin × List ℕ) → List ℕ
 row_stamps rows = flat_map (λ row. origin_stamps row.1) rows
 

@@ -7,6 +7,7 @@ use Rattle.pc_proto.specs.declared.record.Record.{Record}
 use Rattle.pc_proto.specs.declared.record.Status.{Status}
 use Rattle.pc_proto.specs.Place.{Place, Nothing, Kept, Marked, Change, Stay, Become, Finish}
 
+-- What a range has of transactions: their records, and the marks of those whose record was removed.
 pub record Table : Type 0 where
   pub records : List (TxnId × Record)
   pub marks : List (TxnId × Status)
@@ -15,6 +16,7 @@ pub record Table : Type 0 where
 abbrev pub no_table : Table
 no_table = record { records = []; marks = [] }
 
+-- The record where there is one, else the mark, else nothing.
 abbrev pub record_or_mark : Option Record → Option Status → Place
 record_or_mark (Some r) mark = Kept r
 record_or_mark None (Some s) = Marked s
@@ -24,11 +26,13 @@ record_or_mark None None = Nothing
 abbrev pub place_of : TxnId → Table → Place
 place_of id table = record_or_mark (at same_txn id table.records) (at same_txn id table.marks)
 
+-- The records after a change of one transaction's place.
 abbrev pub records_after : TxnId → Change → List (TxnId × Record) → List (TxnId × Record)
 records_after id Stay records = records
 records_after id (Become r) records = set_at same_txn id r records
 records_after id (Finish s) records = without same_txn id records
 
+-- The marks after a change of one transaction's place.
 abbrev pub marks_after : TxnId → Change → List (TxnId × Status) → List (TxnId × Status)
 marks_after id Stay marks = marks
 marks_after id (Become r) marks = marks

@@ -5,6 +5,7 @@ use Rattle.pc_proto.specs.declared.record.Standing.TheVariants.{Pending}
 use Rattle.pc_proto.specs.Place.{Place, Nothing, Kept, Marked, Change, Stay, Become}
 use Rattle.pc_proto.specs.RecordRows.Reached.{status_of}
 
+-- What a heartbeat does to the transaction's place.
 abbrev pub beat : TxnMeta → ℕ → ℕ → Place → Change
 beat meta ts now Nothing =
     Become (record { meta = meta; status = status_of Pending meta.epoch ts; activity = now; writes = []; locks = [] })

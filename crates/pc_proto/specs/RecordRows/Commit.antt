@@ -6,6 +6,7 @@ use Rattle.pc_proto.specs.declared.record.Standing.TheVariants.{Committed}
 use Rattle.pc_proto.specs.Place.{Place, Change, Stay, Become}
 use Rattle.pc_proto.specs.RecordRows.Reached.{status_of, is_reached, activity_of}
 
+-- What a commit does to the transaction's place.
 abbrev pub commit : TxnMeta → ℕ → List (List ℕ) → Place → Change
 commit meta ts locks p =
     if is_reached p meta.epoch ts

@@ -17,6 +17,7 @@ use Rattle.pc_proto.specs.RecordRows.Reached.{status_of, is_staging, epoch_from,
 abbrev pub expiry : ℕ
 expiry = 5000000000
 
+-- Of two levels the higher one has the higher rank.
 abbrev pub rank : Priority → ℕ
 rank Low = 0
 rank Normal = 1
@@ -33,6 +34,7 @@ is_there (goals.Move target) Nothing = false
 is_there (goals.Move target) (Marked s) = false
 is_there goals.Abort p = false
 
+-- The holder has a staging record.
 abbrev pub is_staged : Place → Bool
 is_staged (Kept r) = is_staging r.status.standing
 is_staged Nothing = false
@@ -45,23 +47,27 @@ pub data Verdict : Type 0 where
   Doubt : Verdict
   Do : Verdict
 
+-- What this push comes to.
 abbrev pub verdict : TxnMeta → Priority → ℕ → Goal → Place → Verdict
 verdict holder level now goal p =
     if is_there goal p then There
     else if wins holder level now p then (if is_staged p then Doubt else Do)
     else Refuse
 
+-- What a push that is done makes of the holder's place.
 abbrev pub pushed : TxnMeta → Who → Goal → Place → Change
 pushed holder by goals.Abort p =
     Become (record { meta = at_epoch (epoch_from p holder.epoch) holder; status = status_of (Aborted (Pushed by)) (epoch_from p holder.epoch) (ts_of p); activity = activity_of p holder.born; writes = []; locks = [] })
 pushed holder by (goals.Move target) p =
     Become (record { meta = at_epoch (epoch_from p holder.epoch) holder; status = status_of Pending (epoch_from p holder.epoch) target; activity = activity_of p holder.born; writes = []; locks = [] })
 
+-- A push changes nothing unless it is done.
 abbrev pub on_verdict : Verdict → Change → Change
 on_verdict There change = Stay
 on_verdict Refuse change = Stay
 on_verdict Doubt change = Stay
 on_verdict Do change = change
 
+-- What a push does to the holder's place.
 abbrev pub push : TxnMeta → Who → Priority → ℕ → Goal → Place → Change
 push holder by level now goal p = on_verdict (verdict holder level now goal p) (pushed holder by goal p)

@@ -6,6 +6,7 @@ use Rattle.pc_proto.specs.declared.record.Standing.TheVariants as standings
 use Rattle.pc_proto.specs.declared.meta.TxnMeta.{TxnMeta}
 use Rattle.pc_proto.specs.Place.{Place, Nothing, Kept, Marked}
 
+-- The status with this standing, epoch and timestamp.
 abbrev pub status_of : Standing → ℕ → ℕ → Status
 status_of standing epoch ts = record { standing = standing; epoch = epoch; ts = ts }
 
@@ -15,6 +16,7 @@ is_reached Nothing epoch ts = true
 is_reached (Kept r) epoch ts = nat_le r.status.epoch epoch && nat_le r.status.ts ts
 is_reached (Marked s) epoch ts = false
 
+-- The standing is staging.
 abbrev pub is_staging : Standing → Bool
 is_staging standings.Staging = true
 is_staging standings.Pending = false

@@ -9,15 +9,18 @@ use Rattle.pc_proto.specs.declared.why.Why.TheVariants as whys
 use Rattle.pc_proto.specs.Place.{Place, Nothing, Kept, Marked, Change, Stay, Become}
 use Rattle.pc_proto.specs.RecordRows.Reached.{status_of, is_staged_at}
 
+-- What a recovery decides by what it found.
 abbrev pub decision : Finding → Standing
 decision findings.All = Committed
 decision (findings.Missing key by) = Aborted (whys.Missing key by)
 
+-- What that decision makes of the transaction's record.
 abbrev pub decided : Finding → Place → Change
 decided finding (Kept r) =
     Become (record r { status = status_of (decision finding) r.status.epoch r.status.ts; writes = [] })
 decided finding Nothing = Stay
 decided finding (Marked s) = Stay
 
+-- What a recovery does to the transaction's place.
 abbrev pub recover : ℕ → ℕ → Finding → Place → Change
 recover epoch ts finding p = if is_staged_at p epoch ts then decided finding p else Stay

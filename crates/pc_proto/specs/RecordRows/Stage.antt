@@ -6,6 +6,7 @@ use Rattle.pc_proto.specs.declared.record.Standing.TheVariants.{Staging}
 use Rattle.pc_proto.specs.Place.{Place, Change, Stay, Become}
 use Rattle.pc_proto.specs.RecordRows.Reached.{status_of, is_reached, is_staged_at, alive_at}
 
+-- What a stage does to the transaction's place.
 abbrev pub stage : TxnMeta → ℕ → ℕ → List (List ℕ × ℕ) → List (List ℕ) → Place → Change
 stage meta ts now writes locks p =
     if is_reached p meta.epoch ts && not (is_staged_at p meta.epoch ts)
