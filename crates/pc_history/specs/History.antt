@@ -4,22 +4,25 @@ use Rattle.pc_base.specs.declared.Entry.{Entry}
 use Rattle.pc_history.specs.Sense.{Sense}
 use Rattle.pc_history.specs.Own.{own, named_in}
 
--- the entry may come next: its step is its place, and its event is local in its actor's own list and caused by the entries before it
+-- The entry may come next, after these entries.
 pub record MayFollow {E : Type 0} (S : Sense E) (before : List (Entry E)) (e : Entry E) : Type 0 where
+  -- Its step is its place.
   pub step : e.step ≡ length before
+  -- Its event may come next in its actor's own list.
   pub local : S.local e.actor (own S e.actor before) e.event (named_in S before e.event)
+  -- The entries before it let its actor make the event.
   pub caused : S.caused before e.event e.actor
 
 module _ {E : Type 0} (S : Sense E) where
-  -- each of the later entries may follow all that come before it
+  -- Each of the later entries may follow all that come before it.
   abbrev pub IsFineAfter : List (Entry E) → List (Entry E) → Type 0
   IsFineAfter before [] = Unit {0}
   IsFineAfter before (e ∷ es) = MayFollow S before e × IsFineAfter (before ++ e ∷ []) es
 
-  -- each entry of the history may follow those before it
+  -- Each entry of the history may follow those before it.
   abbrev pub IsFine : List (Entry E) → Type 0
   IsFine history = IsFineAfter [] history
 
-  -- each entry is kept
+  -- Each entry is kept.
   abbrev pub AllKept : List (Entry E) → Type 0
   AllKept entries = All (λ e. S.kept e.step e.event) entries

@@ -1,3 +1,4 @@
+-- Histories: which are fine, what each actor stores and knows of one, and how a table keeps it.
 pub mod Sense
 pub mod Own
 pub mod History

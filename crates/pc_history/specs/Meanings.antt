@@ -5,29 +5,29 @@ use Rattle.pc_base.specs.declared.ActorId.{ActorId}
 use Rattle.pc_history.specs.declared.view.Known.{Known}
 use Rattle.pc_history.specs.declared.view.Part.{Part}
 
--- the name of no table
+-- The name of no table.
 abbrev pub no_table : TableId
 no_table = record { words = 0; slots = 0; views_name = 0; atom = 0; block = 0; offset = 0; slot_names = [] }
 
--- a table of this world, which has this name and no history yet
+-- A table of this world, which has this name and no history yet.
 pub record BlankMeaning (W : Type 0) : Type 0 where
   pub world : W
   pub table : TableId
 
--- the ids that were seated, what was handed in, and whether all of it is at hand
+-- The ids that were seated, what was handed in, and whether all of it is at hand.
 pub record OpenerMeaning (W E : Type 0) : Type 0 where
   pub world : W
   pub seated : List ActorId
   pub parts : List (Part E)
   pub whole : Bool
 
--- what the actor stored and knows, and for how many more entries it has room
+-- What the actor stored and knows, and for how many more entries it has room.
 pub record ActorMeaning (W E : Type 0) : Type 0 where
   pub world : W
   pub part : Part E
   pub spare : ℕ
 
--- what the note tells: one entry, with its place and the uses
+-- What the note tells: one entry, with its place and the uses.
 pub record NoteMeaning (W E : Type 0) : Type 0 where
   pub world : W
   pub known : List (Known E)

@@ -11,25 +11,27 @@ use Rattle.pc_history.specs.Own.{entries_of}
 use Rattle.pc_history.specs.Table.{opening_view}
 use Rattle.pc_history.specs.Meanings.{ActorMeaning, NoteMeaning}
 
--- the entries of these parts, one part after another
+-- The entries of these parts, one part after another.
 abbrev pub entries_in : {E : Type 0} → List (Part E) → List (Entry E)
 entries_in parts = flat_map (λ p. entries_of p.own) parts
 
--- a seat at this table, which has one word, and holds no slot
+-- A seat at this table, which has one word, and holds no slot.
 pub record IsSeated {X V : Type 0} (table seat : TableId) (me : Me X V) : Type 0 where
   pub same : seat ≡ table
   pub one_word : table.words ≡ 1
   pub bare : me.1 ≡ []
 
+-- A blank table's seat is that of an opener before anybody is seated.
 pub record BlankIsTied {X W E : Type 0} (world : W) (table seat : TableId) (me : Me X (View W E)) : Type 0 where
   pub seated : IsSeated table seat me
   pub view_is : me.0 ≡ opening_view world
 
--- the table has the name, and its world
+-- The table has the name, and its world.
 pub record IsNamed {W : Type 0} (name : TableId) (named : Option W) (world : W) (table : TableId) : Type 0 where
   pub table_is : table ≡ name
   pub world_is : named ≡ Some world
 
+-- An opener's fields agree with what its seat knows.
 pub record OpenerIsTied {X W E : Type 0} (name : TableId) (named : Option W) (world : W) (table seat : TableId) (me : Me X (View W E)) (whole : Bool) (entries : List (Entry E)) : Type 0 where
   pub is_named : IsNamed name named world table
   pub seated : IsSeated table seat me
@@ -37,6 +39,7 @@ pub record OpenerIsTied {X W E : Type 0} (name : TableId) (named : Option W) (wo
   pub world_is : me.0.world ≡ Some world
   pub entries_are : whole ≡ true → entries ≡ entries_in me.0.parts
 
+-- An actor's fields agree with what its seat knows.
 pub record ActorIsTied {X W E : Type 0} (name : TableId) (named : Option W) (world : W) (table seat : TableId) (me : Me X (View W E)) (id : ActorId) (entries : List (Entry E)) : Type 0 where
   pub is_named : IsNamed name named world table
   pub seated : IsSeated table seat me
@@ -45,13 +48,14 @@ pub record ActorIsTied {X W E : Type 0} (name : TableId) (named : Option W) (wor
   pub id_is : me.0.part.id ≡ id
   pub entries_are : entries ≡ entries_of me.0.part.own
 
+-- A note's fields agree with what its seat knows.
 pub record NoteIsTied {X W E : Type 0} (name : TableId) (named : Option W) (world : W) (table seat : TableId) (me : Me X (View W E)) : Type 0 where
   pub is_named : IsNamed name named world table
   pub seated : IsSeated table seat me
   pub role_is : me.0.role ≡ Noting
   pub world_is : me.0.world ≡ Some world
 
--- what an actor gives out is tied to what contracts see of it
+-- What an actor gives out is tied to what contracts see of it.
 pub record ActorFields {X W E : Type 0} (name : TableId) (named : Option W) (actor : ActorMeaning W E) (seat : TableId) (me : Me X (View W E)) (entries : List (Entry E)) : Type 0 where
   pub world_is : named ≡ Some actor.world
   pub seated : IsSeated name seat me
@@ -60,7 +64,7 @@ pub record ActorFields {X W E : Type 0} (name : TableId) (named : Option W) (act
   pub part_is : me.0.part ≡ actor.part
   pub entries_are : entries ≡ entries_of actor.part.own
 
--- the same of a note
+-- What a note gives out is tied to what contracts see of it.
 pub record NoteFields {X W E : Type 0} (name : TableId) (named : Option W) (note : NoteMeaning W E) (seat : TableId) (me : Me X (View W E)) : Type 0 where
   pub world_is : named ≡ Some note.world
   pub seated : IsSeated name seat me
