@@ -9,6 +9,7 @@ use Rattle.pc_proto.specs.declared.answer.Answer.TheVariants as answers
 use Rattle.pc_proto.specs.declared.event.Event.{Event}
 use Rattle.pc_proto.specs.declared.event.Event.TheVariants as events
 
+-- The event sends the message of this number to this range.
 abbrev pub SendsTo : ActorId → ℕ → Event → Type 0
 SendsTo (actors.Range range) number (events.Send sent to request) = (sent ≡ number) × (to ≡ range)
 SendsTo _ _ _ = ⊥
@@ -18,6 +19,7 @@ pub record IsSendTo (range actor : ActorId) (number : ℕ) (e : Entry Event) : T
   pub whose : e.actor ≡ actor
   pub send : SendsTo range number e.event
 
+-- The event evaluates the actor's message of this number.
 abbrev pub Evaluates : ActorId → ℕ → Event → Type 0
 Evaluates actor number (events.Eval sender sent reply) = (sender ≡ actor) × (sent ≡ number)
 Evaluates actor number _ = ⊥
@@ -27,6 +29,7 @@ pub record IsEvalOf (actor : ActorId) (number step : ℕ) (e : Entry Event) : Ty
   pub at : e.step ≡ step
   pub eval : Evaluates actor number e.event
 
+-- The event tells that the transaction committed.
 abbrev pub TellsCommitted : TxnId → Event → Type 0
 TellsCommitted id (events.Tell (answers.Committed other ts)) = other ≡ id
 TellsCommitted id _ = ⊥
@@ -36,8 +39,8 @@ pub record IsCommittedTold (id : TxnId) (step : ℕ) (e : Entry Event) : Type 0 
   pub at : e.step ≡ step
   pub tell : TellsCommitted id e.event
 
--- An evaluation's message was sent to that range; a hearing's reply was evaluated for the actor's message of that number; a commit
--- that is met was told. Every other event needs no cause.
+-- An evaluation's message was sent to that range, a hearing's reply was evaluated for the actor's message of that number, a
+-- commit that is met was told, and every other event needs no cause.
 abbrev pub IsCaused : List (Entry Event) → Event → ActorId → Type 0
 IsCaused before (events.Eval actor number reply) range = Any (IsSendTo range actor number) before
 IsCaused before (events.Hear number step) actor = Any (IsEvalOf actor number step) before

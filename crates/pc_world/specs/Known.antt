@@ -21,18 +21,29 @@ pub mod Traffic
 pub mod Transactions
 pub mod Writes
 
--- What an actor knows. Of its transactions the last one begun stands first.
+-- What an actor knows by its own entries.
 pub record Known : Type 0 where
+  -- The open call, if there is one.
   pub statement : Option Statement
+  -- All messages that it sent.
   pub sent : List Sent
+  -- Those that it sent since its last call was asked, which may be over.
   pub sent_now : List Sent
+  -- All replies that it heard.
   pub heard : List Heard
+  -- Those that it heard since its last call was asked, which may be over.
   pub heard_now : List Heard
+  -- The commits that it met since its last call was asked, which may be over.
   pub met_now : List TxnId
+  -- The greatest timestamp in its entries and in those that they name.
   pub top : ℕ
+  -- The greatest timestamp in what it heard, met and was told at a begin.
   pub high : ℕ
+  -- How many transactions it began.
   pub begun : ℕ
+  -- Whether its last transaction is open.
   pub is_open : Bool
+  -- Its transactions, the last one begun standing first.
   pub txns : List Txn
 
 -- An actor that has no entry yet.
@@ -51,6 +62,7 @@ nothing_known = record {
   txns = [];
 }
 
+-- The priority that a begin asks for.
 abbrev pub priority_asked : Call → Priority
 priority_asked (calls.Begin priority) = priority
 priority_asked _ = Normal
@@ -65,6 +77,7 @@ abbrev pub told_first : Answer → List Heard → List Txn → List Txn
 told_first answer replied [] = []
 told_first answer replied (t ∷ ts) = txn_told answer replied t ∷ ts
 
+-- The transactions after an answer was told.
 abbrev pub txns_told : Answer → Known → List Txn
 txns_told (answers.Begun id ts) k = begun_by k.statement id ts ∷ k.txns
 txns_told answer k = cond k.is_open (told_first answer (replies_to k.sent_now k.heard_now) k.txns) k.txns
@@ -76,6 +89,7 @@ txns_after (events.Hear number step) h k = map (txn_heard k.sent h) k.txns
 txns_after (events.Tell answer) h k = txns_told answer k
 txns_after _ h k = k.txns
 
+-- What the actor knows after this event, which leaves it these greatest timestamps.
 abbrev pub known_after : Event → Option Heard → ℕ → ℕ → Known → Known
 known_after event h top high k = record {
   statement = statement_after event k.statement;
@@ -101,6 +115,7 @@ learn p k =
 abbrev pub known : List (Pair Event) → Known
 known own = fold (λ k p. learn p k) nothing_known own
 
+-- The last transaction begun, where it is open.
 abbrev pub first_if : Bool → List Txn → Option Txn
 first_if is_open [] = None
 first_if is_open (t ∷ ts) = cond is_open (Some t) None
@@ -113,10 +128,12 @@ open_txn k = first_if k.is_open k.txns
 abbrev pub next_number : Known → ℕ
 next_number k = length k.sent + 1
 
+-- The call of a statement, where there is one.
 abbrev pub call_in : Option Statement → Option Call
 call_in None = None
 call_in (Some s) = Some s.call
 
+-- The reading of a statement, where there is one.
 abbrev pub reading_in : Option Statement → Option ℕ
 reading_in None = None
 reading_in (Some s) = Some s.reading

@@ -1,3 +1,4 @@
+-- The protocol: what ranges answer, what actors know, may send and may tell, and which histories are its runs.
 pub mod Evaluation
 pub mod Caused
 pub mod Counting

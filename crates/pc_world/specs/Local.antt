@@ -37,6 +37,7 @@ abbrev pub IsAnswer : Option Request → RangeState → Reply → Type 0
 IsAnswer None s told = ⊥
 IsAnswer (Some request) s told = told ≡ reply request s
 
+-- The call is a recoverer's round.
 abbrev pub is_round : Call → Bool
 is_round calls.Round = true
 is_round _ = false

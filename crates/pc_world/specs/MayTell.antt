@@ -27,6 +27,7 @@ needs_txn (calls.Begin priority) = false
 needs_txn (calls.Learn id) = false
 needs_txn calls.Round = false
 
+-- The call begins a transaction.
 abbrev pub is_begin : Call → Bool
 is_begin (calls.Begin priority) = true
 is_begin _ = false

@@ -8,14 +8,17 @@ use Rattle.pc_proto.specs.declared.event.Event.{Event}
 use Rattle.pc_proto.specs.declared.event.Event.TheVariants as events
 use Rattle.pc_proto.specs.declared.request.Request.{Request}
 
+-- The event sends the message of this number.
 abbrev pub is_send_of : ℕ → Event → Bool
 is_send_of number (events.Send sent range request) = sent == number
 is_send_of number _ = false
 
+-- The event is an evaluation.
 abbrev pub is_eval : Event → Bool
 is_eval (events.Eval actor number reply) = true
 is_eval _ = false
 
+-- The event tells an answer.
 abbrev pub is_tell : Event → Bool
 is_tell (events.Tell answer) = true
 is_tell _ = false

@@ -10,6 +10,7 @@ IsSamePut (requests.Put meta seq ts key value) (requests.Put other other_seq oth
     (meta.id ≡ other.id) × (meta.epoch ≡ other.epoch) × (seq ≡ other_seq)
 IsSamePut _ _ = ⊥
 
+-- The two are equal, or puts of one write.
 abbrev pub IsSameRequest : Request → Request → Type 0
 IsSameRequest one other = (one ≡ other) ⊎ IsSamePut one other
 

@@ -15,7 +15,7 @@ use Rattle.pc_world.specs.Known.Traffic.{Heard, Sent}
 use Rattle.pc_world.specs.Known.Transactions.{is_final_view, lists}
 use Rattle.pc_world.specs.Views.{shows_unsettled}
 
--- A stage that was sent. Equal ones are one stage.
+-- A stage that was sent, equal ones being one and the same.
 pub record Stage : Type 0 where
   pub meta : TxnMeta
   pub ts : ℕ
@@ -23,15 +23,17 @@ pub record Stage : Type 0 where
   pub writes : List (List ℕ × ℕ)
   pub locks : List (List ℕ)
 
+-- The request that sends the stage.
 abbrev pub stage_request : Stage → Request
 stage_request s = requests.Stage s.meta s.ts s.now s.writes s.locks
 
--- A commit that was sent. Equal ones are one commit.
+-- A commit that was sent, equal ones being one and the same.
 pub record Commit : Type 0 where
   pub meta : TxnMeta
   pub ts : ℕ
   pub locks : List (List ℕ)
 
+-- The request that sends the commit.
 abbrev pub commit_request : Commit → Request
 commit_request c = requests.Commit c.meta c.ts c.locks
 
@@ -51,6 +53,7 @@ is_past s views.Nothing = true
 is_past s (views.Committed epoch ts locks) = false
 is_past s (views.Aborted epoch why locks) = false
 
+-- The reply shows that the record went another way than the stage.
 abbrev pub shows_past : Stage → Reply → Bool
 shows_past s (replies.Status view) = is_past s view
 shows_past s _ = false
@@ -60,9 +63,11 @@ pub record RefutesRecord (s : Stage) (h : Heard) : Type 0 where
   pub asked : h.request ≡ stage_request s
   pub past : IsTrue (shows_past s h.reply)
 
+-- The reply shows that one of the stage's writes stands above it or is missing.
 pub record RefutesWrite (s : Stage) (h : Heard) : Type 0 where
   pub refuted : IsTrue (refutes_write s h.request h.reply)
 
+-- The stage itself was told, in some reply, that the record went another way.
 abbrev pub IsLateByRecord : List Heard → Stage → Type 0
 IsLateByRecord heard s = Any (RefutesRecord s) heard
 
@@ -84,10 +89,12 @@ pub record IsDeadByWrite (heard : List Heard) (s : Stage) (h : Heard) : Type 0 w
 abbrev pub IsDead : List Heard → Stage → Type 0
 IsDead heard s = IsLateByRecord heard s ⊎ Any (IsDeadByWrite heard s) heard
 
+-- The reply shows a record that is not final.
 abbrev pub is_unsettled_status : Reply → Bool
 is_unsettled_status (replies.Status view) = not (is_final_view view)
 is_unsettled_status _ = false
 
+-- The commit was told, by this reply, that the record is not final.
 pub record Refuses (c : Commit) (h : Heard) : Type 0 where
   pub asked : h.request ≡ commit_request c
   pub unsettled : IsTrue (is_unsettled_status h.reply)
@@ -96,39 +103,43 @@ pub record Refuses (c : Commit) (h : Heard) : Type 0 where
 abbrev pub IsRefused : List Heard → Commit → Type 0
 IsRefused heard c = Any (Refuses c) heard
 
+-- If the request is a stage of the transaction, that stage is so.
 abbrev pub OnStage : TxnId → (Stage → Type 0) → Request → Type 0
 OnStage id P (requests.Stage meta ts now writes locks) =
     IsTrue (same_txn meta.id id) → P (record { meta = meta; ts = ts; now = now; writes = writes; locks = locks })
 OnStage id P _ = ⊤
 
+-- If the request is a commit of the transaction, that commit is so.
 abbrev pub OnCommit : TxnId → (Commit → Type 0) → Request → Type 0
 OnCommit id P (requests.Commit meta ts locks) =
     IsTrue (same_txn meta.id id) → P (record { meta = meta; ts = ts; locks = locks })
 OnCommit id P _ = ⊤
 
--- Each stage of the transaction that was sent.
+-- Each stage of the transaction that was sent is so.
 abbrev pub EachStage : TxnId → List Sent → (Stage → Type 0) → Type 0
 EachStage id sent P = All (λ m. OnStage id P m.request) sent
 
--- Each commit of the transaction that was sent.
+-- Each commit of the transaction that was sent is so.
 abbrev pub EachCommit : TxnId → List Sent → (Commit → Type 0) → Type 0
 EachCommit id sent P = All (λ m. OnCommit id P m.request) sent
 
+-- The request is a stage of the transaction, and that stage is so.
 abbrev pub IsStageWith : TxnId → (Stage → Type 0) → Request → Type 0
 IsStageWith id P (requests.Stage meta ts now writes locks) =
     IsTrue (same_txn meta.id id) × P (record { meta = meta; ts = ts; now = now; writes = writes; locks = locks })
 IsStageWith id P _ = ⊥
 
+-- The request is a commit of the transaction, and that commit is so.
 abbrev pub IsCommitWith : TxnId → (Commit → Type 0) → Request → Type 0
 IsCommitWith id P (requests.Commit meta ts locks) =
     IsTrue (same_txn meta.id id) × P (record { meta = meta; ts = ts; locks = locks })
 IsCommitWith id P _ = ⊥
 
--- Some stage of the transaction that was sent.
+-- Some stage of the transaction that was sent is so.
 abbrev pub SomeStage : TxnId → List Sent → (Stage → Type 0) → Type 0
 SomeStage id sent P = Any (λ m. IsStageWith id P m.request) sent
 
--- Some commit of the transaction that was sent.
+-- Some commit of the transaction that was sent is so.
 abbrev pub SomeCommit : TxnId → List Sent → (Commit → Type 0) → Type 0
 SomeCommit id sent P = Any (λ m. IsCommitWith id P m.request) sent
 

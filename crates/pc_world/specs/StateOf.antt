@@ -7,6 +7,7 @@ use Rattle.pc_world.specs.Evaluation.{state_after}
 use Rattle.pc_world.specs.Named.{request_named}
 use Rattle.pc_world.specs.RangeState.{RangeState, no_state}
 
+-- The state after a request, if there is one.
 abbrev pub state_with : Option Request → RangeState → RangeState
 state_with None s = s
 state_with (Some request) s = state_after request s

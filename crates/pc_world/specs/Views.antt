@@ -48,6 +48,7 @@ shows_view id h = is_about id h.request && is_some (view_in h.reply)
 abbrev pub anchor_heard : TxnId → List Heard → Option (List ℕ)
 anchor_heard id heard = option_and_then (λ h. anchor_in h.request) (find (shows_view id) heard)
 
+-- The view is committed at this timestamp.
 abbrev pub is_committed_at : ℕ → View → Bool
 is_committed_at ts (views.Committed epoch at locks) = at == ts
 is_committed_at ts _ = false
@@ -56,9 +57,11 @@ is_committed_at ts _ = false
 abbrev pub shows_committed : TxnId → ℕ → Heard → Bool
 shows_committed id ts h = is_about id h.request && option_map_or (is_committed_at ts) (view_in h.reply) false
 
+-- The transaction was heard to be committed at this timestamp.
 abbrev pub WasCommitted : List Heard → TxnId → ℕ → Type 0
 WasCommitted heard id ts = Any (λ h. IsTrue (shows_committed id ts h)) heard
 
+-- The view is aborted, with this cause.
 abbrev pub AbortsWith : Why → View → Type 0
 AbortsWith why (views.Aborted epoch cause locks) = cause ≡ why
 AbortsWith why _ = ⊥
@@ -70,5 +73,6 @@ pub record ShowsAborted (id : TxnId) (why : Why) (h : Heard) : Type 0 where
   pub told : view_in h.reply ≡ Some view
   pub cause : AbortsWith why view
 
+-- The transaction was heard to be aborted, with this cause.
 abbrev pub WasAborted : List Heard → TxnId → Why → Type 0
 WasAborted heard id why = Any (ShowsAborted id why) heard

@@ -23,10 +23,12 @@ abbrev pub own_value : TxnId → ℕ → ℕ → List ℕ → RangeState → Opt
 own_value id epoch seq key s =
     option_and_then (value_by seq) (kept_if (λ i. i.meta.epoch == epoch) (own_at id key s.intents))
 
+-- What a version gives to a read, nothing where there is none.
 abbrev pub version_found : Option Version → Origin × Option (List ℕ)
 version_found None = (origins.Nothing, None)
 version_found (Some v) = (origins.At v.ts, v.value)
 
+-- The transaction's own write is found before any version.
 abbrev pub found_first : Option (Option (List ℕ)) → Option Version → Origin × Option (List ℕ)
 found_first (Some value) version = (origins.Own, value)
 found_first None version = version_found version
@@ -35,13 +37,16 @@ found_first None version = version_found version
 abbrev pub found_at : TxnId → ℕ → ℕ → ℕ → List ℕ → RangeState → Origin × Option (List ℕ)
 found_at id epoch seq ts key s = found_first (own_value id epoch seq key s) (visible key ts s.versions)
 
+-- A get that meets an intent is told of it, and any other what it found.
 abbrev pub get_reply : Option Intent → List ℕ → Origin × Option (List ℕ) → Reply
 get_reply None key found = replies.Value found.0 found.1
 get_reply (Some i) key found = replies.Conflict i.meta i.ts key
 
+-- What a range answers to a get.
 abbrev pub get : TxnId → ℕ → ℕ → ℕ → List ℕ → RangeState → Reply
 get id epoch seq ts key s = get_reply (get_blocker id ts key s) key (found_at id epoch seq ts key s)
 
+-- The read bound, raised unless the read met an intent.
 abbrev pub read_bound : Option Intent → TxnId → ℕ → ReadBound → ReadBound
 read_bound None id ts bound = raised ts (Some id) bound
 read_bound (Some i) id ts bound = bound

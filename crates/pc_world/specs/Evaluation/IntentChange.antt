@@ -4,6 +4,7 @@ use Rattle.pc_base.specs.Keyed.{set_at, without}
 use Rattle.pc_base.specs.Span.{same_key}
 use Rattle.pc_proto.specs.declared.record.Intent.{Intent}
 
+-- An intent stays as it is, this one takes its place, or it goes.
 pub data IntentChange : Type 0 where
   Leave : IntentChange
   Lay : (i : Intent) → IntentChange

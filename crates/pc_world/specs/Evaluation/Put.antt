@@ -34,28 +34,34 @@ pub data PutOutcome : Type 0 where
   Stands : (ts : ℕ) → PutOutcome
   Lands : (i : Intent) → PutOutcome
 
+-- The transaction's own intent, where there is one, has overtaken the write.
 abbrev pub overtaken : TxnMeta → ℕ → Option Intent → Bool
 overtaken meta seq None = false
 overtaken meta seq (Some i) = is_overtaken_by meta seq i
 
+-- What a put comes to where no other transaction's intent stands in its way.
 abbrev pub own_outcome : TxnMeta → ℕ → ℕ → List ℕ → Option (List ℕ) → Option Intent → RangeState → PutOutcome
 own_outcome meta seq ts key value own s =
     if overtaken meta seq own then Stands (option_map_or (λ i. i.ts) own 0)
     else Lands (laid meta seq (write_ts meta ts key own s) value own)
 
+-- Another transaction's intent comes before all else.
 abbrev pub first_outcome : Option Intent → PutOutcome → PutOutcome
 first_outcome None outcome = outcome
 first_outcome (Some i) outcome = Meets i
 
+-- What this put comes to in the range.
 abbrev pub put_outcome : TxnMeta → ℕ → ℕ → List ℕ → Option (List ℕ) → RangeState → PutOutcome
 put_outcome meta seq ts key value s =
     first_outcome (other_at meta.id key s.intents) (own_outcome meta seq ts key value (own_at meta.id key s.intents) s)
 
+-- What a range answers to a put that came to this.
 abbrev pub put_reply : List ℕ → PutOutcome → Reply
 put_reply key (Meets i) = replies.Conflict i.meta i.ts key
 put_reply key (Stands ts) = replies.Written ts
 put_reply key (Lands i) = replies.Written i.ts
 
+-- What a put that came to this does to the intent at its key.
 abbrev pub put_change : PutOutcome → IntentChange
 put_change (Meets i) = Leave
 put_change (Stands ts) = Leave

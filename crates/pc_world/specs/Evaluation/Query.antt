@@ -13,6 +13,7 @@ use Rattle.pc_world.specs.RangeState.{RangeState}
 abbrev pub is_it : ℕ → ℕ → ℕ → Intent → Bool
 is_it epoch seq ts i = i.meta.epoch == epoch && (nat_le seq (last_seq i) && nat_le i.ts ts)
 
+-- The transaction's own intent, where there is one, is the listed write.
 abbrev pub is_found : ℕ → ℕ → ℕ → Option Intent → Bool
 is_found epoch seq ts None = false
 is_found epoch seq ts (Some i) = is_it epoch seq ts i
@@ -21,9 +22,11 @@ is_found epoch seq ts (Some i) = is_it epoch seq ts i
 abbrev pub stands : TxnId → ℕ → ℕ → ℕ → List ℕ → RangeState → Bool
 stands id epoch seq ts key s = is_found epoch seq ts (own_at id key s.intents)
 
+-- What a range answers to a query.
 abbrev pub query : TxnId → ℕ → ℕ → ℕ → List ℕ → RangeState → Reply
 query id epoch seq ts key s = if stands id epoch seq ts key s then replies.Found else replies.Missing
 
+-- The read bound after a query, raised under no owner where the write is missing.
 abbrev pub bound_after_query : TxnId → ℕ → ℕ → ℕ → List ℕ → RangeState → ReadBound
 bound_after_query id epoch seq ts key s =
     if stands id epoch seq ts key s then s.bound else raised ts None s.bound

@@ -20,19 +20,24 @@ refuter (Some v) None = Some (v.key, v.ts)
 refuter None (Some e) = Some (e.0, e.1.ts)
 refuter (Some v) (Some e) = if key_below e.0 v.key then Some (e.0, e.1.ts) else Some (v.key, v.ts)
 
+-- The write in the range that refutes this refresh, if there is one.
 abbrev pub refuter_in : TxnId → ℕ → ℕ → Span → RangeState → Option (List ℕ × ℕ)
 refuter_in id from to span s = refuter (first_between span from to s.versions) (first_other span to id s.intents)
 
+-- A refresh is told the write that refutes it, or that there is none.
 abbrev pub refresh_reply : Option (List ℕ × ℕ) → Reply
 refresh_reply None = replies.Refreshed
 refresh_reply (Some w) = replies.Unrefreshed w.0 w.1
 
+-- What a range answers to a refresh.
 abbrev pub refresh : TxnId → ℕ → ℕ → Span → RangeState → Reply
 refresh id from to span s = refresh_reply (refuter_in id from to span s)
 
+-- The read bound, raised unless a write refutes the refresh.
 abbrev pub refreshed_bound : Option (List ℕ × ℕ) → TxnId → ℕ → ReadBound → ReadBound
 refreshed_bound None id to bound = raised to (Some id) bound
 refreshed_bound (Some w) id to bound = bound
 
+-- The read bound after this refresh.
 abbrev pub bound_after_refresh : TxnId → ℕ → ℕ → Span → RangeState → ReadBound
 bound_after_refresh id from to span s = refreshed_bound (refuter_in id from to span s) id to s.bound

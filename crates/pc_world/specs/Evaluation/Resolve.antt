@@ -20,6 +20,7 @@ settled (fates.Pending ts) i = Lay (record i { ts = max i.ts ts })
 abbrev pub is_committed_by : ℕ → ℕ → Intent → Bool
 is_committed_by epoch ts i = i.meta.epoch == epoch && nat_le i.ts ts
 
+-- The committed version of what the intent says, if it says anything.
 abbrev pub version_for : TxnId → List ℕ → ℕ → Option (Option (List ℕ)) → List Version
 version_for id key ts None = []
 version_for id key ts (Some value) = record { key = key; ts = ts; id = id; value = value } ∷ []
@@ -31,16 +32,20 @@ versions_of id key (fates.Committed epoch ts) i =
 versions_of id key fates.Aborted i = []
 versions_of id key (fates.Pending ts) i = []
 
+-- What the fate does to the transaction's intent, where there is one.
 abbrev pub change_for : Fate → Option Intent → IntentChange
 change_for fate None = Leave
 change_for fate (Some i) = settled fate i
 
+-- What a resolve does to the intent at its key.
 abbrev pub intent_change : TxnId → List ℕ → Fate → RangeState → IntentChange
 intent_change id key fate s = change_for fate (own_at id key s.intents)
 
+-- The version that the transaction's intent becomes, where there is one and it becomes one.
 abbrev pub new_versions : TxnId → List ℕ → Fate → Option Intent → List Version
 new_versions id key fate None = []
 new_versions id key fate (Some i) = versions_of id key fate i
 
+-- The range's versions after this resolve.
 abbrev pub versions_after_resolve : TxnId → List ℕ → Fate → RangeState → List Version
 versions_after_resolve id key fate s = s.versions ++ new_versions id key fate (own_at id key s.intents)

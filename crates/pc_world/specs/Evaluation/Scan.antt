@@ -33,10 +33,12 @@ row_of key found = option_map (λ value. (key, found.0, value)) found.1
 abbrev pub rows_in : TxnId → ℕ → ℕ → ℕ → Span → RangeState → List (List ℕ × Origin × List ℕ)
 rows_in id epoch seq ts span s = filter_map (λ key. row_of key (found_at id epoch seq ts key s)) (keys_in span s)
 
+-- A scan that meets an intent is told of it, and any other the rows.
 abbrev pub scan_reply : Option (List ℕ × Intent) → List (List ℕ × Origin × List ℕ) → Reply
 scan_reply None rows = replies.Rows rows
 scan_reply (Some e) rows = replies.Conflict e.1.meta e.1.ts e.0
 
+-- What a range answers to a piece of a scan.
 abbrev pub scan : TxnId → ℕ → ℕ → ℕ → Span → RangeState → Reply
 scan id epoch seq ts span s = scan_reply (first_other span ts id s.intents) (rows_in id epoch seq ts span s)
 

@@ -20,6 +20,7 @@ named_stamps (Some e) = event_stamps e.event
 abbrev pub top_after : Event → Option (Entry Event) → ℕ → ℕ
 top_after event named top = max top (max (last_of (event_stamps event)) (last_of (named_stamps named)))
 
+-- A begin timestamp that is told moves the session's clock up.
 abbrev pub high_told : Answer → ℕ → ℕ
 high_told (answers.Begun id ts) high = max high ts
 high_told _ high = high

@@ -62,8 +62,8 @@ pub record WasRefreshed (id : TxnId) (heard : List Heard) (span : Span) (from to
   pub asked : reply.request ≡ requests.Refresh id from to span
   pub told : reply.reply ≡ replies.Refreshed
 
--- A read made at `ts` is good up to this timestamp: at once up to its own, and further by each refresh, whenever it was heard,
--- whose span holds the read's and which begins where the read is good already.
+-- A read made at `ts` is good up to this timestamp, by itself or by refreshes of spans that hold its own, each beginning
+-- where it is good already.
 pub data IsGoodTo (id : TxnId) (heard : List Heard) (span : Span) (ts : ℕ) : ℕ → Type 0 where
   AtOnce : IsGoodTo id heard span ts ts
   Further : (good : ℕ) (wider : Span) (from to : ℕ) → IsGoodTo id heard span ts good

@@ -38,11 +38,12 @@ abbrev pub is_open_after : Event → Bool → Bool
 is_open_after (events.Tell answer) was_open = is_open_told answer was_open
 is_open_after _ was_open = was_open
 
--- How many transactions were begun.
+-- How many transactions were begun, after an answer was told.
 abbrev pub begun_told : Answer → ℕ → ℕ
 begun_told (answers.Begun id ts) begun = begun + 1
 begun_told _ begun = begun
 
+-- How many transactions were begun, after this event.
 abbrev pub begun_after : Event → ℕ → ℕ
 begun_after (events.Tell answer) begun = begun_told answer begun
 begun_after _ begun = begun

@@ -26,6 +26,7 @@ abbrev pub reply_in : Event → Option Reply
 reply_in (events.Eval actor number reply) = Some reply
 reply_in _ = None
 
+-- The reply in the entry that is named, if there is one.
 abbrev pub reply_named : Option (Entry Event) → Option Reply
 reply_named None = None
 reply_named (Some e) = reply_in e.event
@@ -34,6 +35,7 @@ reply_named (Some e) = reply_in e.event
 abbrev pub request_sent : ℕ → List Sent → Option Request
 request_sent number sent = option_map (λ s. s.request) (find (λ s. s.number == number) sent)
 
+-- What was heard, where both the message and its reply are known.
 abbrev pub heard_as : ℕ → ℕ → Option Request → Option Reply → Option Heard
 heard_as number step (Some request) (Some reply) =
     Some (record { number = number; request = request; reply = reply; step = step })
@@ -45,6 +47,7 @@ abbrev pub heard_by : Event → Option (Entry Event) → List Sent → Option He
 heard_by (events.Hear number step) named sent = heard_as number step (request_sent number sent) (reply_named named)
 heard_by _ named sent = None
 
+-- The message that an event sends, if it sends one.
 abbrev pub sent_by : Event → List Sent
 sent_by (events.Send number range request) = record { number = number; range = range; request = request } ∷ []
 sent_by _ = []

@@ -19,22 +19,33 @@ use Rattle.pc_world.specs.Known.Reads.{IsGoodAt, Read, reads_told}
 use Rattle.pc_world.specs.Known.Traffic.{Heard, Sent}
 use Rattle.pc_world.specs.Known.Writes.{Write, writes_heard, writes_sent, writes_told}
 
--- A transaction: what it was begun with; how often it was told to restart; the key of its first put; all keys that it wrote, in
--- key order; its write and its read timestamp; the writes and reads of its present epoch; the write that made it restart,
--- where that was its last answer; and the timestamp at which it was told committed.
+-- A transaction, as its session knows it.
 pub record Txn : Type 0 where
+  -- Its name.
   pub id : TxnId
+  -- The priority that its begin asked for.
   pub priority : Priority
+  -- The reading of the clock at its begin.
   pub born : ℕ
+  -- The timestamp at which it began.
   pub begin : ℕ
+  -- How often it was told to restart.
   pub epoch : ℕ
+  -- The key of its first put, if it sent one.
   pub anchor : Option (List ℕ)
+  -- All keys that it wrote, in key order.
   pub locks : List (List ℕ)
+  -- The timestamp at which it writes now.
   pub write_ts : ℕ
+  -- The timestamp at which it reads now.
   pub read_ts : ℕ
+  -- The writes of its present epoch.
   pub writes : List Write
+  -- The reads of its present epoch.
   pub reads : List Read
+  -- The write that made it restart, where that was its last answer.
   pub restart : Option (List ℕ × ℕ)
+  -- The timestamp at which it was told committed, if it was.
   pub committed : Option ℕ
 
 -- A transaction that was just begun.
@@ -71,14 +82,17 @@ unsettled_ts views.Nothing = 0
 unsettled_ts (views.Committed epoch ts locks) = 0
 unsettled_ts (views.Aborted epoch why locks) = 0
 
+-- The timestamp at which a reply says that a put was written, 0 where it says no such thing.
 abbrev pub written_ts : Reply → ℕ
 written_ts (replies.Written ts) = ts
 written_ts _ = 0
 
+-- The timestamp of the unsettled record that a reply shows, 0 where it shows none.
 abbrev pub status_ts : Reply → ℕ
 status_ts (replies.Status view) = unsettled_ts view
 status_ts _ = 0
 
+-- The list has the write of this key and sequence.
 abbrev pub lists : List ℕ → ℕ → List (List ℕ × ℕ) → Bool
 lists key seq writes = list_any (λ w. same_key w.0 key && w.1 == seq) writes
 
@@ -92,12 +106,13 @@ is_stage_of id epoch ts key seq _ = false
 abbrev pub has_staged : List Sent → TxnId → ℕ → ℕ → List ℕ → ℕ → Bool
 has_staged sent id epoch ts key seq = list_any (λ s. is_stage_of id epoch ts key seq s.request) sent
 
+-- The timestamp after the staged one, where a write of the transaction's own stage is missing.
 abbrev pub missing_ts : Bool → ℕ → Reply → ℕ
 missing_ts staged ts replies.Missing = if staged then ts + 1 else 0
 missing_ts staged ts _ = 0
 
--- How far a reply raises the transaction's write timestamp: to where a put was written, to an unsettled record's timestamp that
--- a beat, stage or commit was told, and past the timestamp at which a write of its own stage is missing.
+-- How far a reply raises the transaction's write timestamp: to where a put was written, to where an unsettled record stands,
+-- or past where a staged write is missing.
 abbrev pub raised_to : TxnId → List Sent → Request → Reply → ℕ
 raised_to id sent (requests.Put meta seq ts key value) reply = if same_txn meta.id id then written_ts reply else 0
 raised_to id sent (requests.Beat meta ts now) reply = if same_txn meta.id id then status_ts reply else 0
@@ -107,6 +122,7 @@ raised_to id sent (requests.Query other epoch seq ts key by) reply =
     if same_txn other id then missing_ts (has_staged sent id epoch ts key seq) ts reply else 0
 raised_to id sent _ reply = 0
 
+-- The transaction's write timestamp after a reply was heard, if one was.
 abbrev pub write_ts_heard : TxnId → List Sent → Option Heard → ℕ → ℕ
 write_ts_heard id sent None ts = ts
 write_ts_heard id sent (Some h) ts = max ts (raised_to id sent h.request h.reply)
@@ -122,6 +138,7 @@ abbrev pub read_ts_told : Answer → ℕ → ℕ → ℕ
 read_ts_told (answers.Restart key at) write_ts ts = max ts write_ts
 read_ts_told _ write_ts ts = ts
 
+-- A restart begins the next epoch.
 abbrev pub epoch_told : Answer → ℕ → ℕ
 epoch_told (answers.Restart key ts) epoch = epoch + 1
 epoch_told _ epoch = epoch
@@ -140,14 +157,17 @@ with_lock key (lock ∷ locks) =
     else if same_key key lock then lock ∷ locks
     else lock ∷ with_lock key locks
 
+-- All keys that the transaction wrote, after its session sent a message.
 abbrev pub locks_sent : TxnId → Request → List (List ℕ) → List (List ℕ)
 locks_sent id (requests.Put meta seq ts key value) locks = if same_txn meta.id id then with_lock key locks else locks
 locks_sent id _ locks = locks
 
+-- The write that makes the transaction restart, where the answer says so.
 abbrev pub restart_told : Answer → Option (List ℕ × ℕ)
 restart_told (answers.Restart key ts) = Some (key, ts)
 restart_told _ = None
 
+-- The timestamp at which the transaction was told committed, once it was.
 abbrev pub committed_told : Answer → Option ℕ → Option ℕ
 committed_told (answers.Committed id ts) committed = Some ts
 committed_told _ committed = committed

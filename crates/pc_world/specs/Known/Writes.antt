@@ -63,11 +63,13 @@ abbrev pub with_query_reply : List ℕ → ℕ → ℕ → Reply → List Write 
 with_query_reply key seq ts replies.Found writes = map (proved_at key seq ts) writes
 with_query_reply key seq ts _ writes = writes
 
+-- The epoch's writes after the session sent a message.
 abbrev pub writes_sent : TxnId → ℕ → Request → List Write → List Write
 writes_sent id epoch (requests.Put meta seq ts key value) writes =
     if same_txn meta.id id && meta.epoch == epoch then with_put seq ts key value writes else writes
 writes_sent id epoch _ writes = writes
 
+-- The epoch's writes after this reply to this request was heard.
 abbrev pub writes_replied : TxnId → ℕ → Request → Reply → List Write → List Write
 writes_replied id epoch (requests.Put meta seq ts key value) reply writes =
     if same_txn meta.id id && meta.epoch == epoch then with_put_reply key seq reply writes else writes
@@ -75,6 +77,7 @@ writes_replied id epoch (requests.Query other at_epoch seq ts key by) reply writ
     if same_txn other id && at_epoch == epoch then with_query_reply key seq ts reply writes else writes
 writes_replied id epoch _ reply writes = writes
 
+-- The epoch's writes after a reply was heard, if one was.
 abbrev pub writes_heard : TxnId → ℕ → Option Heard → List Write → List Write
 writes_heard id epoch None writes = writes
 writes_heard id epoch (Some h) writes = writes_replied id epoch h.request h.reply writes

@@ -14,6 +14,7 @@ abbrev pub own_cause : Option (List ℕ × ℕ) → Why
 own_cause None = whys.Client
 own_cause (Some w) = whys.Refresh w.0 w.1
 
+-- The open transaction, in a rollback, may send this abort.
 pub record MaySendAbort (k : Known) (meta : TxnMeta) (why : Why) (locks : List (List ℕ)) : Type 0 where
   pub t : Txn
   pub opened : open_txn k ≡ Some t

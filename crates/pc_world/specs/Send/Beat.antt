@@ -5,6 +5,7 @@ use Rattle.pc_proto.specs.declared.meta.TxnMeta.{TxnMeta}
 use Rattle.pc_world.specs.Known.{Known, open_txn, reading_of}
 use Rattle.pc_world.specs.Known.Transactions.{Txn, IsMetaOf}
 
+-- The open transaction may send this heartbeat.
 pub record MaySendBeat (k : Known) (meta : TxnMeta) (ts now : ℕ) : Type 0 where
   pub t : Txn
   pub opened : open_txn k ≡ Some t

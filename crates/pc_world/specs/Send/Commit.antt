@@ -14,6 +14,7 @@ use Rattle.pc_world.specs.Views.{WasCommitted}
 abbrev pub MayCommit : Known → Txn → ℕ → Type 0
 MayCommit k t ts = ((open_txn k ≡ Some t) × (call_of k ≡ Some calls.Commit)) ⊎ (t.committed ≡ Some ts)
 
+-- The session knows by itself that the transaction may commit at this timestamp.
 pub record MayDecide (k : Known) (t : Txn) (ts : ℕ) : Type 0 where
   pub may : MayCommit k t ts
   pub at_write_ts : ts ≡ t.write_ts
@@ -22,6 +23,7 @@ pub record MayDecide (k : Known) (t : Txn) (ts : ℕ) : Type 0 where
   pub stages : EachStage t.id k.sent (λ s. s.ts ≢ ts → IsLate k.heard s)
   pub commits : EachCommit t.id k.sent (λ c. c.ts ≢ ts → IsRefused k.heard c)
 
+-- A transaction of the session may send this commit.
 pub record MaySendCommit (k : Known) (c : Commit) : Type 0 where
   pub t : Txn
   pub mine : Contains k.txns t

@@ -25,6 +25,7 @@ goal_for (requests.Get id epoch seq ts key) = goals.Move (ts + 1)
 goal_for (requests.Scan id epoch seq ts span) = goals.Move (ts + 1)
 goal_for _ = goals.Abort
 
+-- The reply is a conflict with this holder.
 abbrev pub ConflictsWith : TxnMeta → Reply → Type 0
 ConflictsWith holder (replies.Conflict other ts key) = other ≡ holder
 ConflictsWith holder _ = ⊥
@@ -34,6 +35,7 @@ pub record StoodInTheWay (holder : TxnMeta) (goal : Goal) (h : Heard) : Type 0 w
   pub conflict : ConflictsWith holder h.reply
   pub for : goal ≡ goal_for h.request
 
+-- A session may push the holder for its open transaction.
 pub record SessionPush (k : Known) (holder : TxnMeta) (by : Who) (level : Priority) (now : ℕ) (goal : Goal) : Type 0 where
   pub t : Txn
   pub opened : open_txn k ≡ Some t
@@ -42,10 +44,12 @@ pub record SessionPush (k : Known) (holder : TxnMeta) (by : Who) (level : Priori
   pub own_level : level ≡ t.priority
   pub read_now : reading_of k ≡ Some now
 
+-- The reply lists the holder's record.
 abbrev pub Lists : TxnMeta → Reply → Type 0
 Lists holder (replies.Listed metas) = Contains metas holder
 Lists holder _ = ⊥
 
+-- A recoverer may push the holder in its round.
 pub record RecovererPush (number : ℕ) (k : Known) (holder : TxnMeta) (by : Who) (now : ℕ) (goal : Goal) : Type 0 where
   pub asked : call_of k ≡ Some calls.Round
   pub was_listed : Any (λ h. Lists holder h.reply) k.heard_now
@@ -53,6 +57,7 @@ pub record RecovererPush (number : ℕ) (k : Known) (holder : TxnMeta) (by : Who
   pub to_abort : goal ≡ goals.Abort
   pub read_now : reading_of k ≡ Some now
 
+-- The actor may send this push.
 abbrev pub MaySendPush : ActorId → Known → TxnMeta → Who → Priority → ℕ → Goal → Type 0
 MaySendPush (actors.Session number) k holder by level now goal = SessionPush k holder by level now goal
 MaySendPush (actors.Recoverer number) k holder by level now goal = RecovererPush number k holder by now goal

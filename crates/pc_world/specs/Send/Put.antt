@@ -16,6 +16,7 @@ abbrev pub AsksFor : Option Call → List ℕ → Option (List ℕ) → Type 0
 AsksFor call key None = call ≡ Some (calls.Delete key)
 AsksFor call key (Some value) = call ≡ Some (calls.Put key value)
 
+-- The transaction may send this put for the first time.
 pub record MaySendFirst (k : Known) (meta : TxnMeta) (seq ts : ℕ) (key : List ℕ) (value : Option (List ℕ)) : Type 0 where
   pub t : Txn
   pub opened : open_txn k ≡ Some t
@@ -39,5 +40,6 @@ pub record MaySendAgain (k : Known) (meta : TxnMeta) (seq ts : ℕ) (key : List 
   pub same_value : value ≡ w.value
   pub again_at : (ts ≡ t.write_ts) ⊎ Contains w.asked ts
 
+-- The session may send this put, for the first time or again.
 abbrev pub MaySendPut : Known → TxnMeta → ℕ → ℕ → List ℕ → Option (List ℕ) → Type 0
 MaySendPut k meta seq ts key value = MaySendFirst k meta seq ts key value ⊎ MaySendAgain k meta seq ts key value

@@ -23,12 +23,14 @@ pub record IsReadOf (t : Txn) (id : TxnId) (epoch seq ts : ℕ) (span : Span) : 
   pub at_read_ts : ts ≡ t.read_ts
   pub proved : IsProvedIn span t.writes
 
+-- The open transaction may send this get.
 pub record MaySendGet (k : Known) (id : TxnId) (epoch seq ts : ℕ) (key : List ℕ) : Type 0 where
   pub t : Txn
   pub opened : open_txn k ≡ Some t
   pub asked : call_of k ≡ Some (calls.Get key)
   pub read : IsReadOf t id epoch seq ts (One key)
 
+-- The open transaction may send this piece of its scan.
 pub record MaySendScan (splits : List (List ℕ)) (k : Known) (id : TxnId) (epoch seq ts : ℕ) (span : Span) : Type 0 where
   pub t : Txn
   pub whole : Span

@@ -20,6 +20,7 @@ use Rattle.pc_world.specs.Known.Traffic.{Heard}
 use Rattle.pc_world.specs.Known.Transactions.{Txn, has_staged, lists}
 use Rattle.pc_world.specs.Views.{anchor_heard}
 
+-- The request pushes this transaction.
 abbrev pub is_push_of : TxnId → Request → Bool
 is_push_of id (requests.Push holder by level now goal) = same_txn holder.id id
 is_push_of id _ = false
@@ -29,6 +30,7 @@ pub record MetStaging (id : TxnId) (epoch ts : ℕ) (writes : List (List ℕ × 
   pub pushed : IsTrue (is_push_of id h.request)
   pub staging : h.reply ≡ replies.Unsure (views.Staging epoch ts writes)
 
+-- The transaction was heard to stage these writes at this epoch and timestamp.
 abbrev pub WasStaging : List Heard → TxnId → ℕ → ℕ → List (List ℕ × ℕ) → Type 0
 WasStaging heard id epoch ts writes = Any (MetStaging id epoch ts writes) heard
 
@@ -38,16 +40,19 @@ IsOwnName (actors.Session number) k by = (t : Txn) × (open_txn k ≡ Some t) ×
 IsOwnName (actors.Recoverer number) k by = by ≡ whos.Recoverer number
 IsOwnName (actors.Range number) k by = ⊥
 
+-- The write is one that the transaction was heard to stage.
 pub record QueryOfListed (k : Known) (id : TxnId) (epoch seq ts : ℕ) (key : List ℕ) : Type 0 where
   pub writes : List (List ℕ × ℕ)
   pub staging : WasStaging k.heard id epoch ts writes
   pub listed : IsTrue (lists key seq writes)
 
+-- The request is a put of this write.
 abbrev pub is_put_of : TxnId → ℕ → ℕ → Request → Bool
 is_put_of id epoch seq (requests.Put meta at_seq ts key value) =
     same_txn meta.id id && (meta.epoch == epoch && at_seq == seq)
 is_put_of id epoch seq _ = false
 
+-- The reply is a conflict.
 abbrev pub is_conflict : Reply → Bool
 is_conflict (replies.Conflict holder ts key) = true
 is_conflict _ = false
@@ -61,6 +66,7 @@ abbrev pub is_conflict_with : TxnId → Reply → Bool
 is_conflict_with id (replies.Conflict holder ts key) = same_txn holder.id id
 is_conflict_with id _ = false
 
+-- The reply refuses a push.
 abbrev pub is_refused : Reply → Bool
 is_refused (replies.Refused view) = true
 is_refused _ = false
@@ -69,6 +75,7 @@ is_refused _ = false
 abbrev pub was_refused : TxnId → Heard → Bool
 was_refused id h = is_push_of id h.request && is_refused h.reply
 
+-- A put of this write met an intent, and after that a push of its holder was refused.
 abbrev pub IsRefusedAfter : TxnId → ℕ → ℕ → List Heard → Type 0
 IsRefusedAfter id epoch seq [] = ⊥
 IsRefusedAfter id epoch seq (h ∷ heard) =
@@ -92,6 +99,7 @@ pub record QueryOfOwn (k : Known) (id : TxnId) (epoch seq ts : ℕ) (key : List 
   pub staged : IsTrue (has_staged k.sent id epoch ts key seq)
   pub blocked : IsBlockedWrite k.heard_now id epoch seq
 
+-- The actor may send this query.
 pub record MaySendQuery (actor : ActorId) (k : Known) (id : TxnId) (epoch seq ts : ℕ) (key : List ℕ) (by : Who) : Type 0 where
   pub own : IsOwnName actor k by
   pub why : QueryOfListed k id epoch seq ts key ⊎ QueryOfOwn k id epoch seq ts key
@@ -115,6 +123,7 @@ MayFind actor k id epoch ts writes findings.All = All (λ w. Any (WasFound id ep
 MayFind actor k id epoch ts writes (findings.Missing key by) =
     IsOwnName actor k by × Any (WasMissed id epoch ts writes key by) k.heard
 
+-- The actor may send this recovery.
 pub record MaySendRecover (actor : ActorId) (k : Known) (id : TxnId) (epoch ts : ℕ) (anchor : List ℕ) (finding : Finding) : Type 0 where
   pub writes : List (List ℕ × ℕ)
   pub anchored : anchor_heard id k.heard ≡ Some anchor

@@ -8,6 +8,7 @@ use Rattle.pc_world.specs.Known.{Known, call_of, open_txn}
 use Rattle.pc_world.specs.Known.Reads.{IsGoodTo, holds}
 use Rattle.pc_world.specs.Known.Transactions.{Txn}
 
+-- The open transaction, in a commit, may send this refresh.
 pub record MaySendRefresh (k : Known) (id : TxnId) (from to : ℕ) (span : Span) : Type 0 where
   pub t : Txn
   pub opened : open_txn k ≡ Some t

@@ -21,12 +21,14 @@ IsFateOf (views.Pending epoch ts) (fates.Pending at) = at ≤ ts
 IsFateOf (views.Staging epoch ts writes) (fates.Pending at) = at ≤ ts
 IsFateOf _ _ = ⊥
 
+-- A view of the transaction shows this fate.
 pub record ShowsFate (id : TxnId) (fate : Fate) (h : Heard) : Type 0 where
   pub about : IsTrue (is_about id h.request)
   pub view : View
   pub told : view_in h.reply ≡ Some view
   pub fits : IsFateOf view fate
 
+-- The actor may settle the transaction's intents with this fate.
 abbrev pub MaySendResolve : Known → TxnId → Fate → Type 0
 MaySendResolve k id fate = Any (ShowsFate id fate) k.heard
 
@@ -36,9 +38,11 @@ pub record WasResolved (id : TxnId) (key : List ℕ) (h : Heard) : Type 0 where
   pub asked : h.request ≡ requests.Resolve id key fate
   pub told : h.reply ≡ replies.Resolved
 
+-- The intent at each of these keys was settled for this transaction.
 abbrev pub AllResolved : List Heard → TxnId → List (List ℕ) → Type 0
 AllResolved heard id locks = All (λ key. Any (WasResolved id key) heard) locks
 
+-- The view is final and has these locks.
 abbrev pub HasLocks : View → List (List ℕ) → Type 0
 HasLocks (views.Committed epoch ts locks) held = held ≡ locks
 HasLocks (views.Aborted epoch why locks) held = held ≡ locks
@@ -57,6 +61,7 @@ MustSettle k id shown locks =
     ((t : Txn) × Contains k.txns t × (t.id ≡ id) × (locks ≡ t.locks))
     ⊎ (All (λ t. t.id ≡ id → ⊥) k.txns × (locks ≡ shown))
 
+-- The actor may send this removal of the transaction's record.
 pub record MaySendRemove (k : Known) (id : TxnId) (anchor : List ℕ) : Type 0 where
   pub shown : List (List ℕ)
   pub locks : List (List ℕ)

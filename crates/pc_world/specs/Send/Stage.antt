@@ -14,6 +14,7 @@ use Rattle.pc_world.specs.StageFate.{Stage, EachCommit, EachStage, IsLate, IsLat
 abbrev pub IsPassed : List Heard → ℕ → Stage → Type 0
 IsPassed heard ts s = (IsLate heard s × (s.ts < ts)) ⊎ IsLateByRecord heard s
 
+-- The open transaction, in a commit, may send this stage for the first time.
 pub record MaySendNewStage (k : Known) (s : Stage) : Type 0 where
   pub t : Txn
   pub opened : open_txn k ≡ Some t
@@ -38,5 +39,6 @@ pub record MaySendStageAgain (k : Known) (s : Stage) : Type 0 where
   pub before : Any (λ m. m.request ≡ stage_request s) k.sent
   pub not_late : IsLate k.heard s → ⊥
 
+-- The session may send this stage, for the first time or again.
 abbrev pub MaySendStage : Known → Stage → Type 0
 MaySendStage k s = MaySendNewStage k s ⊎ MaySendStageAgain k s

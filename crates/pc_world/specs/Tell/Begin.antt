@@ -13,11 +13,13 @@ use Rattle.pc_world.specs.Known.Statements.{Statement}
 abbrev pub clock_now : ℕ → ℕ → ℕ
 clock_now reading high = if nat_lt (high / 2 ^ 32) reading then reading * 2 ^ 32 else high + 1
 
+-- The id is that of the session's next transaction.
 abbrev pub IsNextOf : ActorId → ℕ → TxnId → Type 0
 IsNextOf (actors.Session session) begun id = (id.session ≡ session) × (id.number ≡ begun + 1)
 IsNextOf (actors.Range number) begun id = ⊥
 IsNextOf (actors.Recoverer number) begun id = ⊥
 
+-- The call may be told that this transaction began at this timestamp.
 pub record MayTellBegun (actor : ActorId) (k : Known) (s : Statement) (id : TxnId) (ts : ℕ) : Type 0 where
   pub priority : Priority
   pub asked : s.call ≡ calls.Begin priority

@@ -22,10 +22,12 @@ use Rattle.pc_world.specs.Send.Recovery.{is_put_of}
 abbrev pub was_sent_now : Known → Heard → Bool
 was_sent_now k h = is_reply_to k.sent_now h
 
+-- The reply to a get has this value.
 abbrev pub IsValueOf : Option (List ℕ) → Request → Reply → Type 0
 IsValueOf value (requests.Get id epoch seq ts key) (replies.Value origin found) = found ≡ value
 IsValueOf value _ _ = ⊥
 
+-- The call may be told this value.
 pub record MayTellValue (k : Known) (s : Statement) (value : Option (List ℕ)) : Type 0 where
   pub key : List ℕ
   pub asked : s.call ≡ calls.Get key
@@ -35,6 +37,7 @@ pub record MayTellValue (k : Known) (s : Statement) (value : Option (List ℕ)) 
 abbrev pub told_row : List ℕ × Origin × List ℕ → List ℕ × Origin × List ℕ
 told_row row = (row.0, origins.Nothing, row.2)
 
+-- The reply to this piece of a scan has these rows.
 abbrev pub AreRowsOf : Span → List (List ℕ × Origin × List ℕ) → Request → Reply → Type 0
 AreRowsOf span rows (requests.Scan id epoch seq ts piece) (replies.Rows found) = (piece ≡ span) × (found ≡ rows)
 AreRowsOf span rows _ _ = ⊥
@@ -48,6 +51,7 @@ AreRowsOfAll k (p ∷ ps) rows =
     × (rows ≡ map told_row found ++ later)
     × AreRowsOfAll k ps later
 
+-- The call may be told these rows.
 pub record MayTellRows (splits : List (List ℕ)) (k : Known) (s : Statement) (rows : List (List ℕ × Origin × List ℕ)) : Type 0 where
   pub span : Span
   pub asked : s.call ≡ calls.Scan span
@@ -57,6 +61,7 @@ pub record MayTellRows (splits : List (List ℕ)) (k : Known) (s : Statement) (r
 abbrev pub sent_before : Known → List Sent
 sent_before k = take (length k.sent - length k.sent_now) k.sent
 
+-- The request is the transaction's put of this key and value under this sequence.
 abbrev pub IsPutFor : Txn → List ℕ → Option (List ℕ) → ℕ → Request → Type 0
 IsPutFor t key value seq (requests.Put meta at_seq ts at_key at_value) =
     (meta.id ≡ t.id) × (meta.epoch ≡ t.epoch) × (at_seq ≡ seq) × (at_key ≡ key) × (at_value ≡ value)
@@ -71,6 +76,7 @@ pub record IsFirstPut (k : Known) (s : Statement) (t : Txn) (m : Sent) : Type 0 
   pub put : IsPutFor t key value seq m.request
   pub first : IsTrue (not (list_any (λ other. is_put_of t.id t.epoch seq other.request) (sent_before k)))
 
+-- The call may be told that it has written.
 pub record MayTellWritten (k : Known) (s : Statement) : Type 0 where
   pub t : Txn
   pub opened : open_txn k ≡ Some t

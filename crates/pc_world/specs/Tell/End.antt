@@ -18,6 +18,7 @@ use Rattle.pc_world.specs.Send.Abort.{own_cause}
 use Rattle.pc_world.specs.StageFate.{IsUncommitted}
 use Rattle.pc_world.specs.Views.{WasAborted, WasCommitted, is_about, view_in}
 
+-- The view is staging at this epoch and timestamp.
 abbrev pub is_staging_at : ℕ → ℕ → View → Bool
 is_staging_at epoch ts (views.Staging at_epoch at writes) = at_epoch == epoch && at == ts
 is_staging_at epoch ts _ = false
@@ -37,6 +38,7 @@ pub record IsImplicit (k : Known) (t : Txn) (ts : ℕ) : Type 0 where
   pub staging : Any (λ h. IsTrue (shows_staging t.id t.epoch ts h)) k.heard
   pub proved : All (IsProvedBy ts) t.writes
 
+-- The call may be told that the transaction committed at this timestamp.
 pub record MayTellCommitted (k : Known) (s : Statement) (id : TxnId) (ts : ℕ) : Type 0 where
   pub t : Txn
   pub opened : open_txn k ≡ Some t
@@ -50,6 +52,7 @@ IsCauseTold k t why =
     WasAborted k.heard_now t.id why
     ⊎ (((other : Why) → WasAborted k.heard_now t.id other → ⊥) × (why ≡ own_cause t.restart))
 
+-- The call may be told that the transaction was rolled back for this cause.
 pub record MayTellRolledBack (k : Known) (s : Statement) (id : TxnId) (why : Why) : Type 0 where
   pub t : Txn
   pub opened : open_txn k ≡ Some t
@@ -57,6 +60,7 @@ pub record MayTellRolledBack (k : Known) (s : Statement) (id : TxnId) (why : Why
   pub whose : id ≡ t.id
   pub cause : IsCauseTold k t why
 
+-- The call may be told that its transaction was aborted for this cause.
 pub record MayTellAborted (k : Known) (why : Why) : Type 0 where
   pub t : Txn
   pub opened : open_txn k ≡ Some t
@@ -67,6 +71,7 @@ abbrev pub IsUnrefreshed : List ℕ → ℕ → Reply → Type 0
 IsUnrefreshed key ts (replies.Unrefreshed at_key at) = (at_key ≡ key) × (at ≡ ts)
 IsUnrefreshed key ts _ = ⊥
 
+-- The call may be told that this write makes its transaction restart.
 pub record MayTellRestart (k : Known) (s : Statement) (key : List ℕ) (ts : ℕ) : Type 0 where
   pub t : Txn
   pub opened : open_txn k ≡ Some t

@@ -47,11 +47,13 @@ pub record MetEight (holder : TxnId) (heard_now : List Heard) : Type 0 where
   pub eight : AtLeast (IsConflictOf request) 8 heard_now
   pub last : LastIs (IsConflictOf request) (λ h. IsTrue (is_conflict_with holder h.reply)) heard_now
 
+-- The call may be told that this holder blocks it.
 pub record MayTellBlocked (k : Known) (s : Statement) (holder : TxnId) : Type 0 where
   pub asked : MayBlock s.call
   pub why : Any (λ h. IsTrue (was_refused holder h)) k.heard_now ⊎ MetEight holder k.heard_now
   pub uncommitted : IsUncommittedIn k s.call
 
+-- A reply to the message was heard.
 abbrev pub is_heard : List Heard → Sent → Bool
 is_heard heard m = list_any (λ h. h.number == m.number) heard
 
@@ -80,6 +82,7 @@ pub record WasLost (k : Known) (faults : ℕ) : Type 0 where
   pub lost : AreLastLost k.heard message (reverse k.sent) faults
   pub whose : Any (IsSameMessage message) k.sent_now ⊎ IsUnprovedPut k.txns message
 
+-- The call may be told that so many sends of one request were lost.
 pub record MayTellUnavailable (k : Known) (s : Statement) (faults : ℕ) : Type 0 where
   pub no_rollback : s.call ≢ calls.Rollback
   pub no_round : s.call ≢ calls.Round
@@ -91,6 +94,7 @@ abbrev pub MayHaveCommitted : Known → TxnId → Type 0
 MayHaveCommitted k id =
     SomeStage id k.sent (λ s. IsDead k.heard s → ⊥) ⊎ SomeCommit id k.sent (λ c. IsRefused k.heard c → ⊥)
 
+-- The call may be told that it is not known whether the transaction committed.
 pub record MayTellUnknown (k : Known) (s : Statement) (id : TxnId) : Type 0 where
   pub t : Txn
   pub faults : ℕ
@@ -110,6 +114,7 @@ is_moved _ reply = false
 abbrev pub WasMoved : Known → Heard → Type 0
 WasMoved k h = IsTrue (was_sent_now k h && is_moved h.request h.reply)
 
+-- The call may be told that its transaction was moved to this timestamp, after it was moved time and again.
 pub record MayTellMoved (k : Known) (s : Statement) (ts : ℕ) : Type 0 where
   pub t : Txn
   pub opened : open_txn k ≡ Some t
