@@ -1,1 +1,2 @@
+-- What a read bound leaves to a writer.
 pub mod LeastWrite
