@@ -3,6 +3,7 @@ use Rattle.std.specs.Prelude.{Bool, true, false, IsTrue}
 use Rattle.pc_proto.specs.declared.request.Request.{Request}
 use Rattle.pc_proto.specs.declared.request.Request.TheVariants as requests
 
+-- Whether evaluation knows the request.
 abbrev pub is_built : Request → Bool
 is_built (requests.Get id epoch seq ts key) = true
 is_built (requests.Put meta seq ts key value) = true
