@@ -1,3 +1,4 @@
+-- How a journal and all that stands in it are spelled.
 pub mod Answer
 pub mod AppendsPart
 pub mod Call
