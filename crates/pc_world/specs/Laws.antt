@@ -47,6 +47,7 @@ pub record IsBounded (head : Head) (history : List (Entry Event)) (id : ActorId)
   pub range : AllAtMost (clock_end + length history) (all_stamps (state_of (own (protocol head) id history)))
   pub known : (known (own (protocol head) id history)).top ≤ clock_end + length history
 
+-- Every run leaves ranges and actors so bounded.
 abbrev pub RunsAreBounded : Type 0
 RunsAreBounded = (head : Head) (history : List (Entry Event)) (id : ActorId) → IsRun head history → IsBounded head history id
 
