@@ -7,7 +7,6 @@ use Rattle.pc_base.specs.declared.actor.ActorId.{ActorId}
 use Rattle.pc_base.specs.declared.actor.ActorId.TheVariants as actors
 use Rattle.pc_base.specs.declared.entry.Entry.{Entry}
 use Rattle.pc_base.specs.Timestamp.{greatest}
-use Rattle.pc_history.proofs.Histories.{fine-push}
 use Rattle.pc_history.specs.declared.pair.Pair.{Pair}
 use Rattle.pc_history.specs.History.{AllKept, IsFine, IsFineAfter, MayFollow}
 use Rattle.pc_history.specs.Own.{named_in, own, pair, pairs_after, pairs_of, same_id}
@@ -20,6 +19,7 @@ use Rattle.pc_world.proofs.Each.{each-append, each-weaker}
 use Rattle.pc_world.proofs.Kept.Entries.{EntryWithin, PairWithin, named-within, own-within, request-within}
 use Rattle.pc_world.proofs.Kept.Knowledge.{KnownWithin, known-within}
 use Rattle.pc_world.proofs.Kept.Told.{told-within}
+use Rattle.pc_world.proofs.Prefixes.{run_induction}
 use Rattle.pc_world.proofs.Stamps.{after-within, has_room, reply-within}
 use Rattle.pc_world.proofs.Stamps.Within.{AtMost, StateWithin, at_most-more, state-more, state-stamps}
 use Rattle.pc_world.specs.Caused.{IsCaused}
@@ -149,18 +149,11 @@ module _ (head : Head) where
   next_kept id history event fine kept local =
       All-from_recursion (λ ts. ts ≤ clock_end + length history + 1) (event_stamps event) (next-within id history event fine kept local)
 
-  kept-after : (before later : List (Entry Event)) → IsFine (protocol head) before → AllKept (protocol head) before → IsFineAfter (protocol head) before later → AllKept (protocol head) (before ++ later)
-  kept-after before [] fine kept more = subst (λ h. AllKept (protocol head) h) (sym (append-nil before)) kept
-  kept-after before (e ∷ es) fine kept more =
-      let own : IsKept (length before) e.event = next_kept e.actor before e.event fine kept more.0.local in
-      let here : IsKept e.step e.event = subst (λ step. IsKept step e.event) (sym more.0.step) own in
-      let all : AllKept (protocol head) (before ++ e ∷ []) = All-push (λ e. IsKept e.step e.event) before e kept here in
-      subst (λ h. AllKept (protocol head) h) (append_assoc before (e ∷ []) es)
-      (kept-after (before ++ e ∷ []) es (fine-push (protocol head) before e fine more.0) all more.1)
-
   -- a run is kept: every timestamp of an entry is at most the clock's last one, plus its step, plus one
   pub run_kept : (history : List (Entry Event)) → IsRun head history → AllKept (protocol head) history
-  run_kept history run = kept-after [] history tt (All-nil (λ e. IsKept e.step e.event)) run
+  run_kept = run_induction head (λ h. AllKept (protocol head) h) (All-nil (λ e. IsKept e.step e.event)) (λ history e run may kept.
+      let own : IsKept (length history) e.event = next_kept e.actor history e.event run kept may.local in
+      All-push (λ e. IsKept e.step e.event) history e kept (subst (λ step. IsKept step e.event) (sym may.step) own))
 
   -- every timestamp of an entry of a run is at most the clock's last one, plus one for each entry
   pub run_stamps : (history : List (Entry Event)) → IsRun head history → All (λ e. AllAtMost (clock_end + length history) (event_stamps e.event)) history

@@ -3,3 +3,4 @@ pub mod Kept
 pub mod Knowing
 pub mod Prefixes
 pub mod Stamps
+pub mod World

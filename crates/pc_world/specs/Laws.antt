@@ -4,6 +4,7 @@ use Rattle.pc_base.specs.declared.actor.ActorId.{ActorId}
 use Rattle.pc_base.specs.declared.entry.Entry.{Entry}
 use Rattle.pc_history.specs.History.{AllKept}
 use Rattle.pc_history.specs.Own.{own}
+use Rattle.pc_history.specs.World.{IsWorld}
 use Rattle.pc_proto.specs.declared.event.Event.{Event}
 use Rattle.pc_proto.specs.declared.request.Request.{Request}
 use Rattle.pc_proto.specs.Stamps.{event_stamps, reply_stamps, request_stamps}
@@ -63,3 +64,7 @@ SentRequestsHaveRoom =
     (head : Head) (history : List (Entry Event)) (id : ActorId) (e : Entry Event) (request : Request)
     → IsRun head history → length history ≤ 2 ^ 64 → Contains history e → request_in e.event ≡ Some request
     → HasRoom request (state_of (own (protocol head) id history))
+
+-- The protocol is a world, whatever its actors are.
+abbrev pub ProtocolIsWorld : Type 0
+ProtocolIsWorld = (head : Head) → IsWorld (protocol head)

@@ -1,4 +1,4 @@
-ghost use Rattle.pc_world.specs.Laws.{EvaluationRaisesByOne, BeginningsAreRuns, StepsArePlaces, RunsAreKept, RunsAreBounded, TimestampsAreBelowGreatest, SentRequestsHaveRoom};
+ghost use Rattle.pc_world.specs.Laws.{EvaluationRaisesByOne, BeginningsAreRuns, StepsArePlaces, RunsAreKept, RunsAreBounded, TimestampsAreBelowGreatest, SentRequestsHaveRoom, ProtocolIsWorld};
 
 /// A law: no evaluation raises a timestamp by more than one.
 pub fn evaluation_raises_by_one()
@@ -33,4 +33,9 @@ pub fn every_timestamp_is_below_the_greatest()
 /// A law: so a range can evaluate whatever was sent in a run.
 pub fn sent_requests_have_room()
     ensures { SentRequestsHaveRoom }
+{}
+
+/// A law: a table of steps may run the protocol.
+pub fn protocol_is_a_world()
+    ensures { ProtocolIsWorld }
 {}
