@@ -51,17 +51,6 @@ module _ {X W E : Type 0} (sense : W → Sense E) (laws : (w : W) → IsWorld (s
       let fits = fits-table table seat me seated in
       (fits.0, fits.1, look_allows sense key (laws key) table.slots number me.0 me.1 role world)
 
-  -- a look after a join that left the actor on its seat
-  pub look_joined_call : (seat' : TableId) (me' : Me X (View W E)) (v : View W E) → IsSeated table seat me → me.0.role ≡ Acting → me.0.world ≡ Some key
-      → seat' ≡ seat → me' ≡ (after_taking me.0 v, me.1)
-      → (seat' ≡ table) × (0 < table.words) × Allows (Rules sense key) table.slots number me' 0 (λ n. n) (Looks sense me')
-  look_joined_call seat' me' v seated role world same joined =
-      let fits = fits-table table seat me seated in (
-        same ∙ fits.0,
-        fits.1,
-        subst (λ m. Allows (Rules sense key) table.slots number m 0 (λ n. n) (Looks sense m)) (sym joined) (look_allows sense key (laws key) table.slots number (after_taking me.0 v) me.1 role world),
-      )
-
   pub close_call : (whole : Bool) (entries : List (Entry E)) → OpenerIsTied name named key table seat me whole entries
       → (opener : OpenerMeaning W E) → record { world = key; seated = me.0.seated; parts = me.0.parts; whole = whole } ≡ opener → AllHandedIn opener.seated opener.parts
       → (seat ≡ table) × (0 < table.words) × Allows (Rules sense key) table.slots number me 0 (λ n. n) (Closes sense me)

@@ -1,6 +1,6 @@
 ghost use Rattle.std.specs.Prelude.{◌≡◌, ℕ, ◌<◌, ◌≤◌, ◌-◌, ◌^◌, length, IsOk, OnOk, OnErr, IfOk, Some, All};
 ghost use Rattle.pc_history.specs.Own.{entries_of};
-ghost use Rattle.pc_history.specs.Parts.{knowledge, named_by, CanSpend, acted, gave, noted, told};
+ghost use Rattle.pc_history.specs.Parts.{knowledge, IsLocal, IsCaused, CanSpend, acted, gave, noted, told};
 ghost use Rattle.pc_history.specs.Closed.{IsSound};
 ghost use Rattle.pc_history.specs.Steps.{TellsAct, TellsLook};
 ghost use Rattle.pc_history.specs.Ties.{ActorIsTied, ActorFields};
@@ -68,10 +68,13 @@ impl<W: World, N: Named<W>> Actor<W, N> {
     pub fn act(&mut self, event: W::Event) -> u64
         requires spare { 1 ≤ self.old.spare }
         requires short { length self.old.part.own < 2 ^ 32 }
-        requires local { (W.sense self.old.world).local self.old.part.id self.old.part.own event (named_by (W.sense self.old.world) self.old.part event) }
-        requires caused { (W.sense self.old.world).caused (knowledge self.old.part) event self.old.part.id }
+        requires local { IsLocal (W.sense self.old.world) self.old.part event }
+        requires caused { IsCaused (W.sense self.old.world) self.old.part event }
         requires can_spend { CanSpend (W.sense self.old.world) self.old.part event }
-        ensures stored { self.new ≡ record self.old { part = acted (W.sense self.old.world) result event self.old.part; spare = self.old.spare - 1 } }
+        ensures stored { self.new ≡ record self.old {
+          part = acted (W.sense self.old.world) result event self.old.part;
+          spare = self.old.spare - 1;
+        } }
         ensures above { All (λ e. e.step < result) (knowledge self.old.part) }
         ensures sound { IsSound (W.sense self.old.world) (knowledge self.new.part) }
         ensures small { result < 2 ^ 48 }
@@ -82,8 +85,12 @@ impl<W: World, N: Named<W>> Actor<W, N> {
     /// Gives a note of its own entry at a place, with so many uses: how often the entry may be spent by those who get the note.
     pub fn note(&mut self, place: usize, uses: u32) -> Result<Note<W, N>, NoMemory>
         requires { place < length self.old.part.own }
-        ensures same { self.new ≡ record self.old { part = record self.old.part { given = self.new.part.given } } }
-        ensures ok { IfOk result (λ n. (n.world ≡ self.old.world) × (n.known ≡ noted place uses self.old.part) × (self.new.part ≡ gave place uses self.old.part)) }
+        ensures same { self.new ≡ record self.old {
+          part = record self.old.part { given = self.new.part.given };
+        } }
+        ensures note { IfOk result (λ n.
+            (n.world ≡ self.old.world) × (n.known ≡ noted place uses self.old.part)) }
+        ensures given { OnOk result (self.new.part ≡ gave place uses self.old.part) }
         ensures err { OnErr result (self.new ≡ self.old) }
     {
         let table = self.table.clone()?;
@@ -96,10 +103,9 @@ impl<W: World, N: Named<W>> Actor<W, N> {
         ensures world { note.world ≡ self.old.world }
         ensures sound { IsSound (W.sense self.old.world) (knowledge self.new.part) }
     {
-        self.table
-            .shared
-            .join_seat::<Taking>(&mut self.seat, note.into_seat());
-        self.table.shared.load::<Looking>(&mut self.seat, 0);
+        let seat = note.into_seat();
+        self.table.shared.join_seat::<Taking>(&mut self.seat, seat);
+        self.look();
     }
 
     /// How many steps were taken so far.
@@ -116,21 +122,22 @@ impl<W: World, N: Named<W>> Actor<W, N> {
         requires asked { J.asked ≡ Some event }
         requires spare { 1 ≤ self.old.spare }
         requires short { length self.old.part.own < 2 ^ 32 }
-        requires local { (W.sense self.old.world).local self.old.part.id self.old.part.own event (named_by (W.sense self.old.world) self.old.part event) }
-        requires caused { (W.sense self.old.world).caused (knowledge self.old.part) event self.old.part.id }
+        requires local { IsLocal (W.sense self.old.world) self.old.part event }
+        requires caused { IsCaused (W.sense self.old.world) self.old.part event }
         requires can_spend { CanSpend (W.sense self.old.world) self.old.part event }
-        ensures stored { self.new ≡ record self.old { part = acted (W.sense self.old.world) result event self.old.part; spare = self.old.spare - 1 } }
+        ensures stored { self.new ≡ record self.old {
+          part = acted (W.sense self.old.world) result event self.old.part;
+          spare = self.old.spare - 1;
+        } }
         ensures tells { TellsAct (W.sense self.old.world) self.old.part result event }
     {
         let step = self
             .table
             .shared
             .fetch_add::<Acting<J>>(&mut self.seat, 0, 1);
-        self.entries.push_reserved(Entry {
-            step,
-            actor: self.id,
-            event,
-        });
+        let actor = self.id;
+        let entry = Entry { step, actor, event };
+        self.entries.push_reserved(entry);
         step
     }
 

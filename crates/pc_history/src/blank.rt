@@ -5,7 +5,7 @@ use crate::view::View;
 use crate::world::World;
 use atomic_table::{Seat, Table};
 use pc_base::NoMemory;
-use std::alloc::{AllocError, Global};
+use std::alloc::Global;
 use std::marker::Model;
 use std::sync::Arc;
 
@@ -40,7 +40,7 @@ impl<W: World> Blank<W> {
         ensures { IfOk result (λ b. b.world ≡ world) }
     {
         let (table, seat) = StepTable::<W>::of_words(alloc, &[0], &world)?;
-        let table = Arc::new(alloc, table).map_err(AllocError::from)?;
+        let table = Arc::new(alloc, table)?;
         Ok(Blank { alloc, table, seat })
     }
 }

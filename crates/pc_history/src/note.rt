@@ -1,4 +1,4 @@
-ghost use Rattle.std.specs.Prelude.{◌≡◌, ◌≤◌, IfOk, OnErr, Some};
+ghost use Rattle.std.specs.Prelude.{◌≡◌, ◌≤◌, IfOk, OnOk, OnErr, Some};
 ghost use Rattle.pc_history.specs.Parts.{uses_left, without_uses, with_uses};
 ghost use Rattle.pc_history.specs.Ties.{NoteIsTied, NoteFields};
 
@@ -36,7 +36,10 @@ impl<W: World, N: Named<W>> Note<W, N> {
     /// Copies a note. The copy gets so many of its uses.
     pub fn again(&mut self, uses: u32) -> Result<Note<W, N>, NoMemory>
         requires { uses ≤ uses_left self.old.known }
-        ensures ok { IfOk result (λ n. (n.world ≡ self.old.world) × (n.known ≡ with_uses uses self.old.known) × (self.new ≡ record self.old { known = without_uses uses self.old.known })) }
+        ensures same { self.new.world ≡ self.old.world }
+        ensures copy { IfOk result (λ n.
+            (n.world ≡ self.old.world) × (n.known ≡ with_uses uses self.old.known)) }
+        ensures rest { OnOk result (self.new.known ≡ without_uses uses self.old.known) }
         ensures err { OnErr result (self.new ≡ self.old) }
     {
         let table = self.table.clone()?;

@@ -1,4 +1,4 @@
-ghost use Rattle.std.specs.Prelude.{◌≡◌, ◌<◌, ◌++◌, ◌∷◌, [], ◌&&◌, true, false, is_ok, length, IfOk, OnErr, IsErr, Contains, Some};
+ghost use Rattle.std.specs.Prelude.{◌≡◌, ◌<◌, ◌++◌, ◌∷◌, [], ◌&&◌, true, false, is_ok, length, IfOk, OnOk, OnErr, IsErr, Contains, Some};
 ghost use Rattle.pc_history.specs.Parts.{newcomer};
 ghost use Rattle.pc_history.specs.Closed.{AllHandedIn, IsHistoryOf};
 
@@ -56,7 +56,9 @@ impl<W: World, N: Named<W>> Opener<W, N> {
     pub fn seat(&mut self, id: ActorId) -> Result<Actor<W, N>, NoMemory>
         requires free { Contains self.old.seated id → ⊥ }
         requires few { length self.old.seated < 65536 }
-        ensures ok { IfOk result (λ a. (a.world ≡ self.old.world) × (a.part ≡ newcomer id) × (self.new ≡ record self.old { seated = self.old.seated ++ id ∷ [] })) }
+        ensures same { self.new ≡ record self.old { seated = self.new.seated } }
+        ensures actor { IfOk result (λ a. (a.world ≡ self.old.world) × (a.part ≡ newcomer id)) }
+        ensures seated { OnOk result (self.new.seated ≡ self.old.seated ++ id ∷ []) }
         ensures err { OnErr result (self.new ≡ self.old) }
     {
         let table = self.table.clone()?;
@@ -81,7 +83,10 @@ impl<W: World, N: Named<W>> Opener<W, N> {
 
     /// Takes an actor back, with its part of the history. After a refusal `close` answers want of memory.
     pub fn hand_in(&mut self, actor: Actor<W, N>) -> Result<(), NoMemory>
-        ensures parts { self.new ≡ record self.old { parts = self.old.parts ++ actor.part ∷ []; whole = self.old.whole && is_ok result } }
+        ensures parts { self.new ≡ record self.old {
+          parts = self.old.parts ++ actor.part ∷ [];
+          whole = self.old.whole && is_ok result;
+        } }
         ensures world { actor.world ≡ self.old.world }
     {
         let (seat, mut entries) = actor.into_fields();
@@ -98,7 +103,8 @@ impl<W: World, N: Named<W>> Opener<W, N> {
     /// The one history, in the order of its numbers.
     pub fn close(mut self) -> Result<Vec<Entry<W::Event>>, NoMemory>
         requires { AllHandedIn self.seated self.parts }
-        ensures history { IfOk result (λ entries. IsHistoryOf (W.sense self.world) entries.items self.parts) }
+        ensures history { IfOk result (λ entries.
+            IsHistoryOf (W.sense self.world) entries.items self.parts) }
         ensures refused { self.whole ≡ false → IsErr result }
     {
         self.table.shared.load::<Closing>(&mut self.seat, 0);
