@@ -18,7 +18,7 @@ use Rattle.pc_world.proofs.Stamps.Within.{AtMost}
 use Rattle.pc_world.specs.Known.{Known, begun_by, known, learn, nothing_known, told_first, txns_after, txns_told}
 use Rattle.pc_world.specs.Known.Clock.{high_after, high_told, last_of, named_stamps, top_after}
 use Rattle.pc_world.specs.Known.Statements.{Statement}
-use Rattle.pc_world.specs.Known.Traffic.{Heard, Sent, heard_after, heard_as, heard_by, heard_now_after, reply_in, reply_named, request_sent}
+use Rattle.pc_world.specs.Known.Traffic.{Heard, Sent, heard_after, heard_as, heard_by, heard_now_after, reply_in, reply_named, replies_to, request_sent}
 use Rattle.pc_world.specs.Known.Transactions.{Txn, restart_told, txn_heard, txn_sent}
 
 abbrev pub HeardWithin : ℕ → Heard → Type 0
@@ -107,7 +107,8 @@ module _ (n : ℕ) where
 
   txns-told : (answer : Answer) (k : Known) → AtMost n (answer_stamps answer) → Each (TxnWithin n) k.txns → Each (TxnWithin n) (txns_told answer k)
   txns-told (answers.Begun id ts) k a b = (begun-by k.statement id ts a.0, b)
-  txns-told answer k a b = either-txns k.is_open (told_first answer k.heard_now k.txns) k.txns (told-first answer k.heard_now k.txns a b) b
+  txns-told answer k a b = let heard = replies_to k.sent_now k.heard_now in
+      either-txns k.is_open (told_first answer heard k.txns) k.txns (told-first answer heard k.txns a b) b
 
   txns-within : (event : Event) (h : Option Heard) (k : Known) → AtMost n (event_stamps event) → Each (TxnWithin n) k.txns → Each (TxnWithin n) (txns_after event h k)
   txns-within (events.Send number range request) h k a b =

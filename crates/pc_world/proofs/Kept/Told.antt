@@ -15,8 +15,6 @@ use Rattle.pc_proto.specs.declared.call.Call.TheVariants as calls
 use Rattle.pc_proto.specs.declared.reply.Origin.{Origin}
 use Rattle.pc_proto.specs.declared.reply.Reply.{Reply}
 use Rattle.pc_proto.specs.declared.reply.Reply.TheVariants as replies
-use Rattle.pc_proto.specs.declared.request.Request.{Request}
-use Rattle.pc_proto.specs.declared.request.Request.TheVariants as requests
 use Rattle.pc_proto.specs.declared.view.View.{View}
 use Rattle.pc_proto.specs.declared.view.View.TheVariants as views
 use Rattle.pc_proto.specs.declared.why.Why.{Why}
@@ -107,9 +105,9 @@ module _ (n : ℕ) where
   own-cause None h = tt
   own-cause (Some w) h = (h, tt)
 
-  unrefreshed : (id : TxnId) (key : List ℕ) (ts : ℕ) (request : Request) (reply : Reply) → AtMost n (reply_stamps reply) → IsUnrefreshed id key ts request reply → ts ≤ n
-  unrefreshed id key ts (requests.Refresh other from to span) (replies.Unrefreshed at_key at) a h = omega (arith, a.0, h.2)
-  unrefreshed id key ts request reply a h = absurd h
+  unrefreshed : (key : List ℕ) (ts : ℕ) (reply : Reply) → AtMost n (reply_stamps reply) → IsUnrefreshed key ts reply → ts ≤ n
+  unrefreshed key ts (replies.Unrefreshed at_key at) a h = omega (arith, a.0, h.1)
+  unrefreshed key ts reply a h = absurd h
 
   unsettled-ts : (view : View) → AtMost n (view_stamps view) → unsettled_ts view ≤ n
   unsettled-ts (views.Pending epoch ts) a = a.0
@@ -159,9 +157,9 @@ module _ (n : ℕ) where
   row-within splits actor k s (answers.Aborted why) e a range may =
       at_most-more n (n + 1) (why_stamps why) (omega arith) (was-aborted k.heard may.t.id why a.heard may.heard)
   row-within splits actor k s (answers.Restart key ts) e a range may =
-      let h = each-any (HeardWithin n) (λ h. IsUnrefreshed may.t.id key ts h.request h.reply) k.heard_now a.heard_now may.heard in
-      (omega (arith, unrefreshed may.t.id key ts h.0.request h.0.reply h.1 h.2), tt)
-  row-within splits actor k s (answers.Moved ts) e a range may = (omega (arith, last-is (WasMoved k may.t.id) ts k.heard_now a.heard_now may.last), tt)
+      let h = each-any (HeardWithin n) (λ h. IsUnrefreshed key ts h.reply) k.heard_now a.heard_now may.heard in
+      (omega (arith, unrefreshed key ts h.0.reply h.1 h.2), tt)
+  row-within splits actor k s (answers.Moved ts) e a range may = (omega (arith, last-is (WasMoved k) ts k.heard_now a.heard_now may.last), tt)
   row-within splits actor k s answer e a range may = tt
 
   told-in-range : (splits : List (List ℕ)) (actor : ActorId) (k : Known) (s : Statement) (answer : Answer) (past : Bool) → is_past_range s ≡ past → clock_end ≤ n → KnownWithin n k → MatchBool past (answer ≡ answers.Clock s.reading) (MayTellRow splits actor k s answer) → AtMost (n + 1) (answer_stamps answer)
