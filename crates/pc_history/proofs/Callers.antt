@@ -1,5 +1,5 @@
 -- What the callers of an actor use to show that its next event is local and caused.
-use Rattle.std.proofs.Common.{◌≡◌, ℕ, ◌+◌, ◌≤◌, ◌<◌, true, false, Bool, cond, List, [], ◌∷◌, ◌++◌, map, refl, ap, sym, ◌∙◌, subst, arith, All, Contains, Some, None, Option, IfSome}
+use Rattle.std.proofs.Common.{◌≡◌, ℕ, ◌+◌, ◌≤◌, ◌<◌, true, false, cond, List, [], ◌∷◌, ◌++◌, refl, ap, sym, ◌∙◌, subst, arith, length, slice_get, All, Contains, Some, None, IfSome}
 use Rattle.std.proofs.lemmas.List.Elements.{Contains-append_left, Contains-append_right, All-contains_itself}
 use Rattle.pc_base.specs.declared.ActorId.{ActorId}
 use Rattle.pc_base.specs.declared.Entry.{Entry}
@@ -7,10 +7,10 @@ use Rattle.pc_history.specs.declared.pair.Pair.{Pair}
 use Rattle.pc_history.specs.declared.view.Known.{Known}
 use Rattle.pc_history.specs.declared.view.Part.{Part}
 use Rattle.pc_history.specs.Sense.{Sense}
-use Rattle.pc_history.specs.Own.{entries_of, named_in}
-use Rattle.pc_history.specs.Parts.{known, knowledge, told_entries, told, uses_of, uses_at, named_by, CanSpend}
+use Rattle.pc_history.specs.Own.{entries_of, pair}
+use Rattle.pc_history.specs.Parts.{known, known_at, noted, entry_of, acted, knowledge, told_entries, told, uses_of, uses_at, named_by, CanSpend}
 use Rattle.pc_history.specs.Closed.{IsSound, AllHandedIn, ids_of}
-use Rattle.pc_history.proofs.Lists.{contains_head, contains_map}
+use Rattle.pc_history.proofs.Lists.{contains_head, contains_map, get_push}
 use Rattle.pc_history.proofs.Histories.{named-one, named-none}
 use Rattle.pc_history.proofs.Uses.{uses_of-append, uses_of-cons, eqb-same}
 
@@ -57,6 +57,16 @@ module _ {E : Type 0} (S : Sense E) where
   -- a use of the named entry is enough
   pub can_spend-one : (part : Part E) (event : E) (e : Entry E) → named_by S part event ≡ Some e → 0 < uses_of e.step part.known → CanSpend S part event
   can_spend-one part event e named some' spends = subst (λ o. IfSome o (λ a. 0 < uses_of a.step part.known)) (sym named) some'
+
+  -- a note of the entry at a place tells that entry
+  pub noted-at : (part : Part E) (place uses : ℕ) (p : Pair E) → slice_get part.own place ≡ Some p → noted place uses part ≡ known p.entry place uses ∷ []
+  noted-at part place uses p at = ap (λ o. known_at place uses o) at
+
+  -- a note of the entry that was made last
+  pub noted-last : (part : Part E) (step uses : ℕ) (event : E) → noted (length part.own) uses (acted S step event part) ≡ known (entry_of step part.id event) (length part.own) uses ∷ []
+  noted-last part step uses event =
+      let p = pair (entry_of step part.id event) (named_by S part event) in
+      ap (λ o. known_at (length part.own) uses o) (get_push part.own p)
 
 -- where the actors were handed in in the order in which they were seated, all were
 pub handed_in_order : {E : Type 0} (seated : List ActorId) (parts : List (Part E)) → ids_of parts ≡ seated → AllHandedIn seated parts

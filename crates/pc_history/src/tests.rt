@@ -31,6 +31,14 @@ impl World for Free {
 
 const HALF: u64 = 500;
 
+/// What the first actor sees once both are done.
+#[derive(Drop)]
+struct Seen {
+    id: ActorId,
+    entries: usize,
+    steps: u64,
+}
+
 /// What one actor puts out for the other: a note, or none where there was no memory for it.
 type Slot<N> = Option<Option<Note<Free, N>>>;
 
@@ -53,7 +61,8 @@ fn half_and_note<N: Named<Free>>(actor: &mut Actor<Free, N>) -> Result<Note<Free
     ensures more { OnOk result (length actor.new.part.own ≡ 500) }
 {
     act_from(actor, 0)?;
-    actor.note(499, 1)
+    let mut note = actor.note(499, 1)?;
+    note.again(0)
 }
 
 fn put<N: Named<Free>, R: Wait>(
@@ -121,7 +130,7 @@ fn second<N: Named<Free>, R: Wait>(
 fn history_of_two<N: Named<Free> + Send + Sync, R: Threads + Wait + Sync>(
     rt: &R,
     blank: Blank<Free>,
-) -> Result<Vec<Entry<u64>>, NoMemory>
+) -> Result<(Seen, Vec<Entry<u64>>), NoMemory>
     requires { (blank.table ≡ N.table) × (N.world ≡ Some blank.world) }
 {
     let mut opener = Opener::<Free, N>::start(blank);
@@ -134,15 +143,22 @@ fn history_of_two<N: Named<Free> + Send + Sync, R: Threads + Wait + Sync>(
         || first(rt, one, &desk, &told),
         || second(rt, two, &desk, &told),
     );
-    opener.hand_in(one?)?;
+    let mut one = one?;
+    let seen = Seen {
+        id: one.id(),
+        entries: one.entries().len(),
+        steps: one.look(),
+    };
+    opener.hand_in(one)?;
     opener.hand_in(two?)?;
-    opener.close()
+    Ok((seen, opener.close()?))
 }
 
 #[test]
 fn two_threads_make_one_history(rt: HostRuntime) -> Result<(), Fail> {
     let blank = Blank::new(rt.alloc(), Free)?;
-    let history = history_of_two::<Brand, _>(&rt, blank)?;
+    let (seen, history) = history_of_two::<Brand, _>(&rt, blank)?;
+    assert!(rt; seen.id == ActorId::Session(1) && seen.entries == 1000 && seen.steps == 2000);
     assert_eq!(rt; history.len(), 2000);
     assert!(rt; history.iter().map(|entry| entry.step).eq(0..2000));
     for id in [ActorId::Session(1), ActorId::Session(2)] {
