@@ -1,2 +1,2 @@
 pub mod IsBuilt
-pub mod Becoming
+pub mod RecordOf

@@ -3,7 +3,7 @@
 
 ghost use Rattle.std.specs.Prelude.{◌≡◌, IfOk, OnOk, OnErr};
 ghost use Rattle.pc_proto.specs.RecordRows.{change, record_reply, table_after};
-ghost use Rattle.pc_eval.specs.Becoming.{becoming};
+ghost use Rattle.pc_eval.specs.RecordOf.{becoming};
 
 use crate::place::Place;
 use crate::table::Table;

@@ -1,9 +1,9 @@
 ghost use Rattle.std.specs.Prelude.{◌≡◌, IfOk};
 ghost use Rattle.std.specs.Option.{option_copied};
-ghost use Rattle.pc_proto.specs.Intents.{fresh, grown, last_seq, last_value, later_write, other_at, own_at, value_by};
+ghost use Rattle.pc_proto.specs.Intents.{first_other, fresh, grown, last_seq, last_value, later_write, lesser_key, other_at, own_at, value_by};
 
 use crate::keyed::at;
-use pc_base::{Items, Key, NoMemory, Timestamp, TryCopy, TxnId, Value};
+use pc_base::{Items, Key, NoMemory, Span, Timestamp, TryCopy, TxnId, Value};
 use pc_proto::{Intent, TxnMeta};
 use std::alloc::Global;
 
@@ -22,6 +22,38 @@ pub(crate) fn other_at<'a>(intents: &'a [(Key, Intent)], id: TxnId, key: &Key) -
     ensures { option_copied result ≡ other_at id key.now intents.now }
 {
     at(intents, key).filter(|intent| intent.meta.id != id)
+}
+
+/// Another transaction's intent in a span, at or below a timestamp, of least key.
+#[tactic(auto, using(crate::proofs::Folds::of_kept_more))]
+pub(crate) fn first_other<'a>(
+    intents: &'a [(Key, Intent)],
+    span: &Span,
+    ts: Timestamp,
+    id: TxnId,
+) -> Option<&'a (Key, Intent)>
+    ensures { option_copied result ≡ first_other span.now ts id intents.now }
+{
+    let mut first = None;
+    for entry in intents {
+        let intent = &entry.1;
+        if span.contains(&entry.0) && intent.ts <= ts && intent.meta.id != id {
+            first = lesser_key(first, entry);
+        }
+    }
+    first
+}
+
+fn lesser_key<'a>(
+    best: Option<&'a (Key, Intent)>,
+    entry: &'a (Key, Intent),
+) -> Option<&'a (Key, Intent)>
+    ensures { option_copied result ≡ lesser_key (option_copied best.entry) entry.now }
+{
+    match best {
+        Some(best) if entry.0 >= best.0 => Some(best),
+        _ => Some(entry),
+    }
 }
 
 /// The greatest sequence that the intent has.

@@ -29,7 +29,8 @@ pub(crate) fn set_at<K: PartialEq + TryCopy + Drop, V: Drop>(
     Ok(())
 }
 
-fn place_of<K: PartialEq, V>(entries: &[(K, V)], key: &K) -> Option<usize>
+/// The place of the first entry under the key.
+pub(crate) fn place_of<K: PartialEq, V>(entries: &[(K, V)], key: &K) -> Option<usize>
     ensures { result ≡ position (λ e. K.eq e.0 key.now) entries.now }
 {
     entries.iter().position(|entry| entry.0 == *key)

@@ -1,12 +1,21 @@
 //! Evaluation: what a range does with a request.
 #![tactic(auto)]
 
+mod abort;
+mod beat;
 mod commit;
 mod get;
 mod intents;
 mod keyed;
 mod place;
 mod put;
+mod push;
+mod query;
+mod recover;
+mod refresh;
+mod remove;
+mod resolve;
+mod stage;
 mod state;
 mod table;
 mod versions;

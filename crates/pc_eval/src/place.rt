@@ -1,11 +1,13 @@
-ghost use Rattle.std.specs.Prelude.{◌≡◌, IfOk};
+ghost use Rattle.std.specs.Prelude.{◌≡◌, ◌&&◌, ◌==◌, IfOk};
 ghost use Rattle.std.specs.Option.{option_copied};
 ghost use Rattle.pc_proto.specs.Place.{Kept, Marked, is_decided, is_final, view_of};
 ghost use Rattle.pc_proto.specs.Table.{record_or_mark};
-ghost use Rattle.pc_proto.specs.RecordRows.Reached.{is_reached, activity_of};
+ghost use Rattle.pc_proto.specs.RecordRows.Reached.{activity_of, alive_at, epoch_from, is_reached, is_staged_at, is_staging, ts_of};
+ghost use Rattle.pc_proto.specs.RecordRows.Push.{is_staged, is_there};
+ghost use Rattle.pc_eval.specs.RecordOf.{record_of};
 
 use pc_base::{Items, NoMemory, Timestamp, TryCopy};
-use pc_proto::{Record, Standing, Status, View};
+use pc_proto::{Goal, Record, Standing, Status, View};
 use std::alloc::Global;
 use std::marker::Model;
 
@@ -31,6 +33,13 @@ impl<'a> Place<'a> {
         ensures { result ≡ record_or_mark (option_copied record.entry) (option_copied mark.entry) }
     {
         Place { record, mark }
+    }
+
+    /// The record that stands there.
+    pub(crate) fn record(&self) -> Option<&'a Record>
+        ensures { option_copied result ≡ record_of self.now }
+    {
+        self.record
     }
 
     /// Whether it is a mark, or a final record.
@@ -60,6 +69,53 @@ impl<'a> Place<'a> {
         self.record.map_or(born, |record| record.activity)
     }
 
+    /// The record's activity and this reading, the greater.
+    pub(crate) fn alive_at(&self, now: u64) -> u64
+        ensures { result ≡ alive_at self.now now }
+    {
+        self.record
+            .map_or(now, |record| record.activity.max(now))
+    }
+
+    /// The record's epoch and this one, the greater.
+    pub(crate) fn epoch_from(&self, epoch: u32) -> u32
+        ensures { result ≡ epoch_from self.now epoch }
+    {
+        self.record
+            .map_or(epoch, |record| record.status.epoch.max(epoch))
+    }
+
+    /// The record's timestamp, or none at all.
+    pub(crate) fn ts(&self) -> Timestamp
+        ensures { result ≡ ts_of self.now }
+    {
+        self.record
+            .map_or(Timestamp::ZERO, |record| record.status.ts)
+    }
+
+    /// Whether a record stands at this timestamp or above it.
+    pub(crate) fn is_kept_at(&self, ts: Timestamp) -> bool
+        ensures { result ≡ is_there (Goal.Move ts) self.now }
+    {
+        self.record.is_some_and(|record| ts <= record.status.ts)
+    }
+
+    /// Whether it is a staging record.
+    pub(crate) fn is_staged(&self) -> bool
+        ensures { result ≡ is_staged self.now }
+    {
+        self.record
+            .is_some_and(|record| is_staging(&record.status.standing))
+    }
+
+    /// Whether it is a staging record of just this epoch and timestamp.
+    pub(crate) fn is_staged_at(&self, epoch: u32, ts: Timestamp) -> bool
+        ensures { result ≡ is_staged_at self.now epoch ts }
+    {
+        self.record
+            .is_some_and(|record| is_staged_at(&record.status, epoch, ts))
+    }
+
     /// How the place is told.
     pub(crate) fn view(&self, alloc: Global) -> Result<View, NoMemory>
         ensures { IfOk result (λ made. made ≡ view_of self.now) }
@@ -76,6 +132,18 @@ fn is_final(standing: &Standing) -> bool
     ensures { result ≡ is_final standing.now }
 {
     matches!(standing, Standing::Committed | Standing::Aborted(_))
+}
+
+fn is_staging(standing: &Standing) -> bool
+    ensures { result ≡ is_staging standing.now }
+{
+    matches!(standing, Standing::Staging)
+}
+
+fn is_staged_at(status: &Status, epoch: u32, ts: Timestamp) -> bool
+    ensures { result ≡ (is_staging status.now.standing && (status.now.epoch == epoch && status.now.ts == ts)) }
+{
+    is_staging(&status.standing) && status.epoch == epoch && status.ts == ts
 }
 
 /// How a record is told.

@@ -1,9 +1,9 @@
 ghost use Rattle.std.specs.Prelude.{◌≡◌, IfOk, OnOk, OnErr};
-ghost use Rattle.pc_proto.specs.Place.{after, view_of};
+ghost use Rattle.pc_proto.specs.Place.{Finish, after, view_of};
 ghost use Rattle.pc_proto.specs.Table.{applied_to, no_table, place_of};
-ghost use Rattle.pc_eval.specs.Becoming.{becoming};
+ghost use Rattle.pc_eval.specs.RecordOf.{becoming};
 
-use crate::keyed::{at, set_at};
+use crate::keyed::{at, drop_at, set_at};
 use crate::place::{Place, record_view};
 use pc_base::{NoMemory, TxnId};
 use pc_proto::{Record, Reply, Status};
@@ -60,5 +60,15 @@ impl Table {
             set_at(&mut self.records, &id, record)?;
         }
         Ok(Reply::Status(view))
+    }
+
+    /// Puts a transaction's mark in the place of its record.
+    pub(crate) fn finish(&mut self, id: TxnId, status: Status) -> Result<(), NoMemory>
+        ensures ok { OnOk result (self.new ≡ applied_to id (Finish status) self.old) }
+        ensures err { OnErr result (self.new ≡ self.old) }
+    {
+        set_at(&mut self.marks, &id, status)?;
+        drop_at(&mut self.records, &id);
+        Ok(())
     }
 }

@@ -1,9 +1,10 @@
-ghost use Rattle.std.specs.Prelude.{◌≡◌, map};
+ghost use Rattle.std.specs.Prelude.{◌≡◌, ◌&&◌, ◌||◌, map, nat_lt};
+ghost use Rattle.pc_base.specs.Span.{key_below, same_key};
 ghost use Rattle.std.specs.Option.{option_copied};
-ghost use Rattle.pc_base.specs.Versions.{above_newest, later, newest, visible};
+ghost use Rattle.pc_base.specs.Versions.{above_newest, first_between, later, newest, sooner, visible};
 ghost use Rattle.pc_world.specs.Stamps.{AllBelowGreatest};
 
-use pc_base::{Key, Timestamp, Version};
+use pc_base::{Key, Span, Timestamp, Version};
 
 /// The least timestamp above the key's newest version.
 pub(crate) fn above_newest(versions: &[Version], key: &Key) -> Timestamp
@@ -51,4 +52,39 @@ fn later<'a>(best: Option<&'a Version>, version: &'a Version) -> Option<&'a Vers
         Some(best) if version.ts <= best.ts => Some(best),
         _ => Some(version),
     }
+}
+
+/// The version in the span, above `from` and not above `to`, of least key, then of least timestamp.
+#[tactic(auto, using(crate::proofs::Folds::of_kept_more))]
+pub(crate) fn first_between<'a>(
+    versions: &'a [Version],
+    span: &Span,
+    from: Timestamp,
+    to: Timestamp,
+) -> Option<&'a Version>
+    ensures { option_copied result ≡ first_between span.now from to versions.now }
+{
+    let mut first = None;
+    for version in versions {
+        if span.contains(&version.key) && from < version.ts && version.ts <= to {
+            first = sooner(first, version);
+        }
+    }
+    first
+}
+
+fn sooner<'a>(best: Option<&'a Version>, version: &'a Version) -> Option<&'a Version>
+    ensures { option_copied result ≡ sooner (option_copied best.entry) version.now }
+{
+    match best {
+        Some(best) if !is_sooner(version, best) => Some(best),
+        _ => Some(version),
+    }
+}
+
+/// Whether the version is of a lesser key than the other, or of a lesser timestamp at the same key.
+fn is_sooner(version: &Version, other: &Version) -> bool
+    ensures { result ≡ (key_below version.now.key other.now.key || same_key version.now.key other.now.key && nat_lt version.now.ts other.now.ts) }
+{
+    version.key < other.key || version.key == other.key && version.ts < other.ts
 }

@@ -1,0 +1,45 @@
+//! Query: asks whether a listed write stands. It closes the race with a write that is still under way: where the query finds
+//! nothing, the read bound goes up to the staged timestamp under no owner, so that the write never lands at or below it.
+
+ghost use Rattle.std.specs.Prelude.{◌≡◌};
+ghost use Rattle.pc_world.specs.Evaluation.Query.{bound_after_query, is_it, query, stands};
+
+use crate::intents::{last_seq, own_at};
+use crate::state::RangeState;
+use pc_base::{Key, Timestamp, TxnId};
+use pc_proto::{Intent, Reply};
+
+impl RangeState {
+    pub(crate) fn query(
+        &mut self,
+        id: TxnId,
+        epoch: u32,
+        seq: u32,
+        ts: Timestamp,
+        key: &Key,
+    ) -> Reply
+        ensures reply { result ≡ query id epoch seq ts key.now self.old }
+        ensures after { self.new ≡ record self.old { bound = bound_after_query id epoch seq ts key.now self.old } }
+    {
+        if self.stands(id, epoch, seq, ts, key) {
+            Reply::Found
+        } else {
+            self.bound.raise(ts, None);
+            Reply::Missing
+        }
+    }
+
+    /// Whether the listed write stands at its key.
+    fn stands(&self, id: TxnId, epoch: u32, seq: u32, ts: Timestamp, key: &Key) -> bool
+        ensures { result ≡ stands id epoch seq ts key.now self.now }
+    {
+        own_at(&self.intents, id, key).is_some_and(|own| is_it(own, epoch, seq, ts))
+    }
+}
+
+/// Whether the intent is of this epoch, has this sequence or a later one, and lies at or below this timestamp.
+fn is_it(intent: &Intent, epoch: u32, seq: u32, ts: Timestamp) -> bool
+    ensures { result ≡ is_it epoch seq ts intent.now }
+{
+    intent.meta.epoch == epoch && seq <= last_seq(intent) && intent.ts <= ts
+}

@@ -1,0 +1,52 @@
+//! Refresh: asks whether what was read at `from` is still so at `to`. It closes the race with whoever writes in between: where
+//! it is still so, the read bound keeps them above `to`.
+
+ghost use Rattle.std.specs.Prelude.{◌≡◌, IfOk, OnOk, OnErr};
+ghost use Rattle.std.specs.Option.{option_copied};
+ghost use Rattle.pc_world.specs.Evaluation.{reply, state_after};
+ghost use Rattle.pc_world.specs.Evaluation.Refresh.{refuter};
+
+use crate::intents::first_other;
+use crate::state::RangeState;
+use crate::versions::first_between;
+use pc_base::{Key, NoMemory, Span, Timestamp, TryCopy, TxnId, Version};
+use pc_proto::{Intent, Reply, Request};
+
+impl RangeState {
+    pub(crate) fn refresh(
+        &mut self,
+        id: TxnId,
+        from: Timestamp,
+        to: Timestamp,
+        span: &Span,
+    ) -> Result<Reply, NoMemory>
+        ensures reply { IfOk result (λ made. made ≡ reply (Request.Refresh id from to span.now) self.old) }
+        ensures after { OnOk result (self.new ≡ state_after (Request.Refresh id from to span.now) self.old) }
+        ensures err { OnErr result (self.new ≡ self.old) }
+    {
+        let version = first_between(&self.versions, span, from, to);
+        let other = first_other(&self.intents, span, to, id);
+        if let Some((key, ts)) = refuter(version, other)? {
+            return Ok(Reply::Unrefreshed { key, ts });
+        }
+        self.bound.raise(to, Some(id));
+        Ok(Reply::Refreshed)
+    }
+}
+
+/// The write that refutes a refresh, by key and timestamp: the one of the lesser key, the version where both have one key.
+fn refuter(
+    version: Option<&Version>,
+    other: Option<&(Key, Intent)>,
+) -> Result<Option<(Key, Timestamp)>, NoMemory>
+    ensures { IfOk result (λ found. found ≡ refuter (option_copied version.entry) (option_copied other.entry)) }
+{
+    match (version, other) {
+        (Some(version), Some(other)) if other.0 < version.key => {
+            Ok(Some((other.0.copy()?, other.1.ts)))
+        }
+        (Some(version), _) => Ok(Some((version.key.copy()?, version.ts))),
+        (None, Some(other)) => Ok(Some((other.0.copy()?, other.1.ts))),
+        (None, None) => Ok(None),
+    }
+}
