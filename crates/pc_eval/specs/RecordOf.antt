@@ -1,7 +1,6 @@
 -- Records as evaluation takes them out of a place and puts them there.
 use Rattle.std.specs.Prelude.{Option, None, Some}
 use Rattle.pc_proto.specs.declared.record.Record.{Record}
-use Rattle.pc_proto.specs.declared.record.Status.{Status}
 use Rattle.pc_proto.specs.Place.{Place, Nothing, Kept, Marked, Change, Stay, Become}
 
 -- The change that writes a record, where there is one to write.

@@ -73,8 +73,7 @@ impl<'a> Place<'a> {
     pub(crate) fn alive_at(&self, now: u64) -> u64
         ensures { result ≡ alive_at self.now now }
     {
-        self.record
-            .map_or(now, |record| record.activity.max(now))
+        self.record.map_or(now, |record| record.activity.max(now))
     }
 
     /// The record's epoch and this one, the greater.

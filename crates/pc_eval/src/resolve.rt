@@ -16,12 +16,7 @@ use pc_base::{Key, NoMemory, Timestamp, TryCopy, TxnId, Version};
 use pc_proto::{Fate, Intent, Reply, Request};
 
 impl RangeState {
-    pub(crate) fn resolve(
-        &mut self,
-        id: TxnId,
-        key: &Key,
-        fate: Fate,
-    ) -> Result<Reply, NoMemory>
+    pub(crate) fn resolve(&mut self, id: TxnId, key: &Key, fate: Fate) -> Result<Reply, NoMemory>
         ensures reply { IfOk result (λ made. made ≡ reply (Request.Resolve id key.now fate) self.old) }
         ensures after { OnOk result (self.new ≡ state_after (Request.Resolve id key.now fate) self.old) }
         ensures err { OnErr result (self.new ≡ self.old) }
