@@ -1,3 +1,4 @@
 pub mod Folds
+pub mod KeysAndRows
 pub mod Room
 pub mod SetAt

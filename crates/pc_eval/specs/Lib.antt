@@ -1,2 +1,1 @@
-pub mod IsBuilt
 pub mod RecordOf

@@ -2,7 +2,6 @@ ghost use Rattle.std.specs.Prelude.{◌≡◌, IfOk, OnOk, OnErr};
 ghost use Rattle.pc_world.specs.RangeState.{no_state};
 ghost use Rattle.pc_world.specs.Stamps.{HasRoom};
 ghost use Rattle.pc_world.specs.Evaluation.{reply, state_after};
-ghost use Rattle.pc_eval.specs.IsBuilt.{IsBuilt};
 
 use crate::abort::abort;
 use crate::beat::beat;
@@ -51,8 +50,7 @@ impl RangeState {
 
     /// Answers a request, and becomes what the request makes of the range.
     pub fn eval(&mut self, request: &Request) -> Result<Reply, NoMemory>
-        requires room { HasRoom request.now self.old }
-        requires built { IsBuilt request.now }
+        requires { HasRoom request.now self.old }
         ensures reply { IfOk result (λ made. made ≡ reply request.now self.old) }
         ensures after { OnOk result (self.new ≡ state_after request.now self.old) }
         ensures err { OnErr result (self.new ≡ self.old) }
@@ -65,6 +63,13 @@ impl RangeState {
                 ts,
                 key,
             } => self.get(*id, *epoch, *seq, *ts, key),
+            Request::Scan {
+                id,
+                epoch,
+                seq,
+                ts,
+                span,
+            } => self.scan(*id, *epoch, *seq, *ts, span),
             Request::Put {
                 meta,
                 seq,
@@ -107,7 +112,7 @@ impl RangeState {
             } => recover(&mut self.table, *id, *epoch, *ts, finding),
             Request::Resolve { id, key, fate } => self.resolve(*id, key, *fate),
             Request::Remove { id, anchor: _ } => remove(&mut self.table, *id),
-            _ => unreachable!(),
+            Request::Records => Ok(Reply::Listed(self.table.list()?)),
         }
     }
 }

@@ -1,12 +1,14 @@
 ghost use Rattle.std.specs.Prelude.{◌≡◌, IfOk, OnOk, OnErr};
 ghost use Rattle.pc_proto.specs.Place.{Finish, after, view_of};
+ghost use Rattle.pc_proto.specs.RecordRows.Records.{listed};
 ghost use Rattle.pc_proto.specs.Table.{applied_to, no_table, place_of};
 ghost use Rattle.pc_eval.specs.RecordOf.{becoming};
 
 use crate::keyed::{at, drop_at, set_at};
 use crate::place::{Place, record_view};
+use crate::records::listed;
 use pc_base::{NoMemory, TxnId};
-use pc_proto::{Record, Reply, Status};
+use pc_proto::{Metas, Record, Reply, Status};
 use std::alloc::Global;
 use std::marker::Model;
 
@@ -70,5 +72,12 @@ impl Table {
         set_at(&mut self.marks, &id, status)?;
         drop_at(&mut self.records, &id);
         Ok(())
+    }
+
+    /// The metas of the records, by transaction.
+    pub(crate) fn list(&self) -> Result<Metas, NoMemory>
+        ensures { IfOk result (λ made. made ≡ listed self.now.records) }
+    {
+        listed(self.alloc(), &self.records)
     }
 }

@@ -1,0 +1,111 @@
+//! Scan: reads the keys of a span. It closes the same race as a get, for every key of the span, also those that nobody has
+//! written yet: the read bound keeps later writes above the read's timestamp.
+
+ghost use Rattle.std.specs.Prelude.{◌≡◌, IfOk, OnOk, OnErr, ◌++◌, filter, fold, map};
+ghost use Rattle.std.specs.BTreeSet.{insert_key};
+ghost use Rattle.std.specs.Cmp.Lexicographic.{slice_cmp};
+ghost use Rattle.std.specs.Option.{option_to_list};
+ghost use Rattle.std.specs.Ordering.{nat_cmp};
+ghost use Rattle.pc_base.specs.Span.{contains};
+ghost use Rattle.pc_world.specs.Evaluation.{reply, state_after};
+ghost use Rattle.pc_world.specs.Evaluation.Scan.{keys_in, row_of, rows_in};
+
+use crate::intents::first_other;
+use crate::put::conflict;
+use crate::state::RangeState;
+use pc_base::{Items, Key, NoMemory, Span, Timestamp, TryCopy, TxnId, Value, Version};
+use pc_proto::{Intent, Origin, Reply, Request, Rows};
+use std::collections::BTreeSet;
+
+impl RangeState {
+    pub(crate) fn scan(
+        &mut self,
+        id: TxnId,
+        epoch: u32,
+        seq: u32,
+        ts: Timestamp,
+        span: &Span,
+    ) -> Result<Reply, NoMemory>
+        ensures reply { IfOk result (λ made. made ≡ reply (Request.Scan id epoch seq ts span.now) self.old) }
+        ensures after { OnOk result (self.new ≡ state_after (Request.Scan id epoch seq ts span.now) self.old) }
+        ensures err { OnErr result (self.new ≡ self.old) }
+    {
+        if let Some(other) = first_other(&self.intents, span, ts, id) {
+            return conflict(&other.1, &other.0);
+        }
+        let rows = self.rows_in(id, epoch, seq, ts, span)?;
+        self.bound.raise(ts, Some(id));
+        Ok(Reply::Rows(rows))
+    }
+
+    /// The rows that the scan finds.
+    #[tactic(auto, using(crate::proofs::KeysAndRows::rows_more))]
+    fn rows_in(
+        &self,
+        id: TxnId,
+        epoch: u32,
+        seq: u32,
+        ts: Timestamp,
+        span: &Span,
+    ) -> Result<Rows, NoMemory>
+        ensures { IfOk result (λ made. made ≡ rows_in id epoch seq ts span.now self.now) }
+    {
+        let mut rows = Items::new(*self.versions.allocator());
+        for key in self.keys_in(span)? {
+            let found = self.found_at(id, epoch, seq, ts, &key)?;
+            add_row(&mut rows, key, found)?;
+        }
+        Ok(rows)
+    }
+
+    /// The keys of the span at which the range has a version or an intent.
+    fn keys_in(&self, span: &Span) -> Result<BTreeSet<Key>, NoMemory>
+        ensures { IfOk result (λ made. made.keys ≡ keys_in span.now self.now) }
+    {
+        let mut keys = BTreeSet::new(*self.versions.allocator());
+        add_versions(&mut keys, &self.versions, span)?;
+        add_intents(&mut keys, &self.intents, span)?;
+        Ok(keys)
+    }
+}
+
+/// Adds the row of a key, where a value was found.
+fn add_row(rows: &mut Rows, key: Key, found: (Origin, Option<Value>)) -> Result<(), NoMemory>
+    ensures { OnOk result (rows.new ≡ rows.old ++ option_to_list (row_of key found)) }
+{
+    let (origin, value) = found;
+    if let Some(value) = value {
+        rows.add((key, origin, value))?;
+    }
+    Ok(())
+}
+
+/// Adds the versions' keys that lie in the span.
+#[tactic(auto, using(crate::proofs::KeysAndRows::keys_more))]
+fn add_versions(keys: &mut BTreeSet<Key>, versions: &[Version], span: &Span) -> Result<(), NoMemory>
+    ensures { OnOk result (keys.new.keys ≡ fold (insert_key (slice_cmp nat_cmp)) keys.old.keys (filter (contains span.now) (map (λ v. v.key) versions.now))) }
+{
+    for version in versions {
+        if span.contains(&version.key) {
+            keys.insert(version.key.copy()?)?;
+        }
+    }
+    Ok(())
+}
+
+/// Adds the intents' keys that lie in the span.
+#[tactic(auto, using(crate::proofs::KeysAndRows::keys_more))]
+fn add_intents(
+    keys: &mut BTreeSet<Key>,
+    intents: &[(Key, Intent)],
+    span: &Span,
+) -> Result<(), NoMemory>
+    ensures { OnOk result (keys.new.keys ≡ fold (insert_key (slice_cmp nat_cmp)) keys.old.keys (filter (contains span.now) (map (λ e. e.0) intents.now))) }
+{
+    for entry in intents {
+        if span.contains(&entry.0) {
+            keys.insert(entry.0.copy()?)?;
+        }
+    }
+    Ok(())
+}
