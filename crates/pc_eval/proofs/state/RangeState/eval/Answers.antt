@@ -1,4 +1,4 @@
-use Rattle.std.proofs.Common.{◌≡◌, sym, ap, ◌∙◌, arith}
+use Rattle.std.proofs.Common.{arith}
 use Rattle.std.proofs.lemmas.Grind.{common_steps}
 use Rattle.pc_eval.proofs.OnRecord.{on_record}
 use Rattle.pc_eval.proofs.state.RangeState.eval.Goals as goal
