@@ -1,4 +1,5 @@
 pub mod Folds
 pub mod KeysAndRows
+pub mod OnRecord
 pub mod Room
 pub mod SetAt

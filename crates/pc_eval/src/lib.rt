@@ -11,6 +11,7 @@ mod place;
 mod push;
 mod put;
 mod query;
+mod record_rows;
 mod records;
 mod recover;
 mod refresh;

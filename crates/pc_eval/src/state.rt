@@ -3,13 +3,7 @@ ghost use Rattle.pc_world.specs.RangeState.{no_state};
 ghost use Rattle.pc_world.specs.Stamps.{HasRoom};
 ghost use Rattle.pc_world.specs.Evaluation.{reply, state_after};
 
-use crate::abort::abort;
-use crate::beat::beat;
-use crate::commit::commit;
-use crate::push::push;
-use crate::recover::recover;
-use crate::remove::remove;
-use crate::stage::stage;
+use crate::record_rows;
 use crate::table::Table;
 use pc_base::{Key, NoMemory, Version};
 use pc_bound::Bound;
@@ -77,24 +71,7 @@ impl RangeState {
                 key,
                 value,
             } => self.put(meta, *seq, *ts, key, value),
-            Request::Commit { meta, ts, locks } => commit(&mut self.table, meta, *ts, locks),
             Request::Refresh { id, from, to, span } => self.refresh(*id, *from, *to, span),
-            Request::Beat { meta, ts, now } => beat(&mut self.table, meta, *ts, *now),
-            Request::Stage {
-                meta,
-                ts,
-                now,
-                writes,
-                locks,
-            } => stage(&mut self.table, meta, *ts, *now, writes, locks),
-            Request::Abort { meta, why, locks } => abort(&mut self.table, meta, why, locks),
-            Request::Push {
-                holder,
-                by,
-                level,
-                now,
-                goal,
-            } => push(&mut self.table, holder, *by, *level, *now, *goal),
             Request::Query {
                 id,
                 epoch,
@@ -103,16 +80,8 @@ impl RangeState {
                 key,
                 by: _,
             } => Ok(self.query(*id, *epoch, *seq, *ts, key)),
-            Request::Recover {
-                id,
-                epoch,
-                ts,
-                anchor: _,
-                finding,
-            } => recover(&mut self.table, *id, *epoch, *ts, finding),
             Request::Resolve { id, key, fate } => self.resolve(*id, key, *fate),
-            Request::Remove { id, anchor: _ } => remove(&mut self.table, *id),
-            Request::Records => Ok(Reply::Listed(self.table.list()?)),
+            _ => record_rows::eval(&mut self.table, request),
         }
     }
 }
