@@ -1,0 +1,31 @@
+ghost use Rattle.pc_implicit.specs.Laws.{DecisionsStand, NothingFalls, LeftStagingsStayAway, BoundsStand, ViewsStayTrue, FinalViewsStay};
+
+/// A law: a final record or mark keeps its status for good.
+pub fn decisions_stand()
+    ensures { DecisionsStand }
+{}
+
+/// A law: the epoch and the timestamp of a record or mark never fall.
+pub fn nothing_falls()
+    ensures { NothingFalls }
+{}
+
+/// A law: a staging that was left never returns.
+pub fn left_stagings_stay_away()
+    ensures { LeftStagingsStayAway }
+{}
+
+/// A law: a range's read bound never falls, and at one timestamp it gains no owner.
+pub fn bounds_stand()
+    ensures { BoundsStand }
+{}
+
+/// A law: what a range answered of a transaction is true of it for the rest of the run.
+pub fn views_stay_true()
+    ensures { ViewsStayTrue }
+{}
+
+/// A law: a range never answers two decisions of one transaction.
+pub fn final_views_stay()
+    ensures { FinalViewsStay }
+{}

@@ -1,0 +1,9 @@
+//! Laws of every run: what was decided stays decided. Each is a function that does nothing, whose contract is the law.
+#![tactic(auto)]
+
+mod laws;
+
+pub use laws::{
+    bounds_stand, decisions_stand, final_views_stay, left_stagings_stay_away, nothing_falls,
+    views_stay_true,
+};
