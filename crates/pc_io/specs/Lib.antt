@@ -1,3 +1,4 @@
 pub mod Counts
 pub mod Causes
 pub mod Reading
+pub mod Memory

@@ -3,9 +3,14 @@
 #![tactic(auto)]
 
 mod failure;
+mod memory;
 mod reading;
+mod schedule;
+mod standard;
 mod writing;
 
 pub use failure::Failed;
+pub use memory::{MemSink, MemSource};
 pub use reading::{ReadFault, Source, read_all};
+pub use standard::{StdSink, StdSource};
 pub use writing::{Sink, WriteStop, write_all};
