@@ -2,3 +2,4 @@ pub mod Counts
 pub mod Causes
 pub mod Reading
 pub mod Memory
+pub mod Standard
