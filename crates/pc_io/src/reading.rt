@@ -1,6 +1,6 @@
 //! Where bytes come from, and how all of them are read.
 
-ghost use Rattle.std.specs.Prelude.{◌≡◌, ℕ, ◌+◌, ◌<◌, ◌≤◌, ◌↔◌, List, length, IfOk, IfSome, IsErrOf};
+ghost use Rattle.std.specs.Prelude.{◌≡◌, ℕ, ◌+◌, ◌<◌, ◌≤◌, ◌↔◌, List, length, IfOk, OnOk, IfSome, IsErrOf};
 ghost use Rattle.std.specs.Io.{ReadsAtMost};
 ghost use Rattle.std.specs.Io.KnownBytes.{ReadConsumes};
 ghost use Rattle.std.specs.declared.option.Option.{Option};
@@ -71,7 +71,7 @@ pub fn read_all<S: Source>(
     limit: usize,
 ) -> Result<Vec<u8>, ReadFault>
     ensures ok { IfOk result (λ bytes. IsAllOf (S.left source.old) bytes.items) }
-    ensures end { IfOk result (λ _. LeavesNothing (S.left source.old) (S.left source.new)) }
+    ensures end { OnOk result (LeavesNothing (S.left source.old) (S.left source.new)) }
     ensures within { IfOk result (λ bytes. length bytes.items ≤ limit) }
 
     // Refused as too long exactly where one byte more than the limit was read.
