@@ -1,0 +1,5 @@
+pub mod Counts
+pub mod Causes
+pub mod Reading
+pub mod Memory
+pub mod Standard
