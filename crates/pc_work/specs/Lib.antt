@@ -1,0 +1,4 @@
+pub mod Clock
+pub mod Lists
+pub mod Members
+pub mod Reading
