@@ -2,7 +2,7 @@ ghost use Rattle.std.specs.Prelude.{◌≡◌, Option, map, string_bytes};
 ghost use Rattle.std.specs.List.{list_all};
 ghost use Rattle.std.specs.BTreeMap.{keys};
 ghost use Rattle.serde_json.specs.Data.{Data};
-ghost use Rattle.serde_json.specs.Find.{get};
+ghost use Rattle.serde_json.specs.Find.{get, as_bool};
 ghost use Rattle.serde_json.specs.View.{view, items_view};
 ghost use Rattle.pc_work.specs.Reading.{Gives, GivesBy};
 ghost use Rattle.pc_work.specs.Lists.{items_by, list_by};
@@ -48,6 +48,13 @@ pub(crate) fn whole_member(json: &Json, name: &str) -> Result<u64, Misfit>
     ensures { Gives result (whole_in name.now (view json.now)) }
 {
     member(json, name)?.as_u64().ok_or(Misfit::OtherForm)
+}
+
+/// The truth value that this is.
+pub(crate) fn flag(json: &Json) -> Result<bool, Misfit>
+    ensures { Gives result (as_bool (view json.now)) }
+{
+    json.as_bool().ok_or(Misfit::OtherForm)
 }
 
 /// A part of a workload that is read out of one JSON value.

@@ -2,20 +2,20 @@
 #![tactic(auto)]
 
 mod clock;
-// mod count;
+mod count;
 mod fault;
-// mod item;
+mod item;
 mod json;
-// mod keys;
-// mod session;
-// mod statement;
-// mod turn;
-// mod workload;
+mod keys;
+mod session;
+mod statement;
+mod turn;
+mod workload;
 
 pub use clock::ClockWork;
 pub use fault::WorkFault;
-// pub use item::{Item, Script};
-// pub use session::{SessionWork, Sessions};
-// pub use statement::{Statement, Statements};
-// pub use turn::{Turn, Turns};
-// pub use workload::Workload;
+pub use item::{Item, Script};
+pub use session::{SessionWork, Sessions};
+pub use statement::{Statement, Statements};
+pub use turn::{Turn, Turns};
+pub use workload::Workload;
