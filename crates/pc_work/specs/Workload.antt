@@ -43,7 +43,7 @@ workload_of value = if has_only workload_names value then (do
     reruns = 8;
     opening = 0;
     sessions = sessions;
-    turns = Some turns
+    turns = Some turns;
   }) else None) else None
 
 -- The bytes have a reading as JSON: they are text, and the text has a value, nested at most 127 deep.

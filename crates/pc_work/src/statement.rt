@@ -1,6 +1,6 @@
-ghost use Rattle.serde_json.specs.View.{view};
+ghost use Rattle.serde_json.specs.View.{view, items_view};
 ghost use Rattle.pc_work.specs.Reading.{Gives, GivesBy};
-ghost use Rattle.pc_work.specs.Statement.{pair_of, put_of, statement_of};
+ghost use Rattle.pc_work.specs.Statement.{two_of, pair_of, put_of, statement_of};
 
 use crate::fault::Misfit;
 use crate::json::{FromJson, has_only, member};
@@ -48,9 +48,15 @@ fn put(alloc: Global, json: &Json) -> Result<Statement, Misfit>
 fn pair(json: &Json) -> Result<(&Json, &Json), Misfit>
     ensures { GivesBy (λ both. (view both.0.now, view both.1.now)) result (pair_of (view json.now)) }
 {
-    let values = json.as_array().ok_or(Misfit::OtherForm)?;
-    let [first, second] = values.as_slice() else {
+    two(json.as_array().ok_or(Misfit::OtherForm)?.as_slice())
+}
+
+#[tactic(auto, using(crate::proofs::Pairs::two_of_none))]
+fn two(values: &[Json]) -> Result<(&Json, &Json), Misfit>
+    ensures { GivesBy (λ both. (view both.0.now, view both.1.now)) result (two_of (items_view values.now)) }
+{
+    if values.len() != 2 {
         return Err(Misfit::OtherForm);
-    };
-    Ok((first, second))
+    }
+    Ok((&values[0], &values[1]))
 }
