@@ -9,6 +9,8 @@ mod json;
 mod keys;
 mod session;
 mod statement;
+#[cfg(test)]
+mod tests;
 mod turn;
 mod workload;
 
