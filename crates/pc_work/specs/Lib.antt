@@ -1,0 +1,11 @@
+pub mod Clock
+pub mod Count
+pub mod Item
+pub mod Lists
+pub mod Members
+pub mod Reading
+pub mod Session
+pub mod Statement
+pub mod Texts
+pub mod Turn
+pub mod Workload

@@ -1,0 +1,33 @@
+-- The members of a JSON object. A member that stands twice in the text counts once, with its last value, as the JSON reader
+-- has it.
+use Rattle.std.specs.Prelude.{ℕ, Bool, true, false, ◌&&◌, List, Option, option_and_then}
+use Rattle.std.specs.List.{list_any}
+use Rattle.std.specs.Str.{bytes_eq}
+use Rattle.serde_json.specs.Data.{Data, null, boolean, number, string, array, object, Members, no_members, member}
+use Rattle.serde_json.specs.Find.{get, as_number, as_u64}
+
+-- The name is one of these.
+abbrev pub is_among : List (List ℕ) → List ℕ → Bool
+is_among names name = list_any (λ known. bytes_eq known name) names
+
+-- Each member has one of these names.
+abbrev pub only_among : List (List ℕ) → Members → Bool
+only_among names no_members = true
+only_among names (member name value others) = is_among names name && only_among names others
+
+-- The value is an object, and each of its members has one of these names.
+abbrev pub has_only : List (List ℕ) → Data → Bool
+has_only names null = false
+has_only names (boolean b) = false
+has_only names (number n) = false
+has_only names (string s) = false
+has_only names (array items) = false
+has_only names (object members) = only_among names members
+
+-- A whole number of 64 bits: neither a fraction nor an exponent is written, and no minus.
+abbrev pub whole_of : Data → Option ℕ
+whole_of value = option_and_then as_u64 (as_number value)
+
+-- The whole number in the member of this name.
+abbrev pub whole_in : List ℕ → Data → Option ℕ
+whole_in name value = option_and_then whole_of (get name value)

@@ -1,0 +1,85 @@
+ghost use Rattle.std.specs.Prelude.{◌≡◌, Option, map, string_bytes};
+ghost use Rattle.std.specs.List.{list_all};
+ghost use Rattle.std.specs.BTreeMap.{keys};
+ghost use Rattle.serde_json.specs.Data.{Data};
+ghost use Rattle.serde_json.specs.Find.{get, as_bool};
+ghost use Rattle.serde_json.specs.View.{view, items_view};
+ghost use Rattle.pc_work.specs.Reading.{Gives, GivesBy};
+ghost use Rattle.pc_work.specs.Lists.{items_by, list_by};
+ghost use Rattle.pc_work.specs.Members.{is_among, has_only, whole_in};
+
+use crate::fault::Misfit;
+use pc_base::Items;
+use serde_json::{Map, Value as Json};
+use std::alloc::Global;
+
+/// Whether the value is an object in which each member has one of these names.
+#[tactic(auto, using(crate::proofs::Names::only_among_keys))]
+pub(crate) fn has_only(json: &Json, names: &[&str]) -> bool
+    ensures { result ≡ has_only (map (λ name. name.now) names.now) (view json.now) }
+{
+    match json.as_object() {
+        Some(members) => are_among(members, names),
+        None => false,
+    }
+}
+
+fn are_among(members: &Map<String, Json>, names: &[&str]) -> bool
+    ensures { result ≡ list_all (λ key. is_among (map (λ name. name.now) names.now) (string_bytes key)) (keys members.now) }
+{
+    members.keys().all(|key| is_among(key.as_str(), names))
+}
+
+fn is_among(name: &str, names: &[&str]) -> bool
+    ensures { result ≡ is_among (map (λ name. name.now) names.now) name.now }
+{
+    names.contains(&name)
+}
+
+/// The member of this name.
+pub(crate) fn member<'a>(json: &'a Json, name: &str) -> Result<&'a Json, Misfit>
+    ensures { GivesBy (λ found. view found.now) result (get name.now (view json.now)) }
+{
+    json.get(name).ok_or(Misfit::OtherForm)
+}
+
+/// The whole number in the member of this name.
+pub(crate) fn whole_member(json: &Json, name: &str) -> Result<u64, Misfit>
+    ensures { Gives result (whole_in name.now (view json.now)) }
+{
+    member(json, name)?.as_u64().ok_or(Misfit::OtherForm)
+}
+
+/// The truth value that this is.
+pub(crate) fn flag(json: &Json) -> Result<bool, Misfit>
+    ensures { Gives result (as_bool (view json.now)) }
+{
+    json.as_bool().ok_or(Misfit::OtherForm)
+}
+
+/// A part of a workload that is read out of one JSON value.
+pub(crate) trait FromJson: Drop {
+    ghost found_in: { Data → Option Self };
+
+    fn from_json(alloc: Global, json: &Json) -> Result<Self, Misfit>
+        ensures { Gives result (found_in (view json.now)) };
+}
+
+/// All items of a list.
+pub(crate) fn list<T: FromJson>(alloc: Global, json: &Json) -> Result<Items<T>, Misfit>
+    ensures { Gives result (list_by T.found_in (view json.now)) }
+{
+    let values = json.as_array().ok_or(Misfit::OtherForm)?;
+    let items = all_of(alloc, values.as_slice())?;
+    Ok(Items::from_vec(items))
+}
+
+fn all_of<T: FromJson>(alloc: Global, values: &[Json]) -> Result<Vec<T>, Misfit>
+    ensures { GivesBy (λ items. items.items) result (items_by T.found_in (items_view values.now)) }
+{
+    let mut items = Vec::new(alloc);
+    for value in values {
+        items.push(T::from_json(alloc, value)?)?;
+    }
+    Ok(items)
+}

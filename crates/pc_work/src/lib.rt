@@ -1,0 +1,23 @@
+//! The workload: what the sessions do, read from JSON, and the one refusal that applies where it is not accepted.
+#![tactic(auto)]
+
+mod clock;
+mod count;
+mod fault;
+mod item;
+mod json;
+mod keys;
+mod session;
+mod statement;
+#[cfg(test)]
+mod tests;
+mod turn;
+mod workload;
+
+pub use clock::ClockWork;
+pub use fault::WorkFault;
+pub use item::{Item, Script};
+pub use session::{SessionWork, Sessions};
+pub use statement::{Statement, Statements};
+pub use turn::{Turn, Turns};
+pub use workload::Workload;

@@ -1,0 +1,40 @@
+ghost use Rattle.pc_work.specs.Session.{session_of};
+
+use crate::clock::{ClockWork, clock_of};
+use crate::fault::Misfit;
+use crate::item::Script;
+use crate::json::{FromJson, has_only, list, member};
+use pc_base::Items;
+use serde_json::Value as Json;
+use std::alloc::Global;
+
+/// What one session does, and how it tells the time.
+#[derive(Debug, PartialEq, Eq, Drop)]
+pub struct SessionWork {
+    pub script: Script,
+    /// Where there is none, the clock that the caller hands in.
+    pub clock: Option<ClockWork>,
+}
+
+/// The sessions of a workload; the first has number 1.
+pub type Sessions = Items<SessionWork>;
+
+impl FromJson for SessionWork {
+    ghost found_in = { session_of };
+
+    #[tactic(auto, unfolding(crate::specs::Session::session_of))]
+    fn from_json(alloc: Global, json: &Json) -> Result<SessionWork, Misfit> {
+        if !has_only(json, &["clock", "script"]) {
+            return Err(Misfit::OtherForm);
+        }
+        let clock = clock_of(member(json, "clock")?)?;
+        let script: Script = list(alloc, member(json, "script")?)?;
+        if script.len() != 1 {
+            return Err(Misfit::OtherForm);
+        }
+        Ok(SessionWork {
+            script,
+            clock: Some(clock),
+        })
+    }
+}
