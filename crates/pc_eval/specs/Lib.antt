@@ -1,0 +1,2 @@
+pub mod IsBuilt
+pub mod Becoming

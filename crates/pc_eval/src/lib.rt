@@ -1,0 +1,13 @@
+//! Evaluation: what a range does with a request.
+#![tactic(auto)]
+
+mod commit;
+mod intents;
+mod keyed;
+mod place;
+mod put;
+mod state;
+mod table;
+mod versions;
+
+pub use state::RangeState;

@@ -1,0 +1,95 @@
+//! Put: lays an intent. It closes the races with whoever has read the key, or written it: the intent lands above the key's
+//! newest version and above the range's read bound, unless the writer owns the bound; and another's intent is never touched.
+
+ghost use Rattle.std.specs.Prelude.{◌≡◌, IfOk, OnOk, OnErr};
+ghost use Rattle.std.specs.Option.{option_copied};
+ghost use Rattle.pc_world.specs.Stamps.{AllBelowGreatest, state_stamps};
+ghost use Rattle.pc_world.specs.Evaluation.{reply, state_after};
+ghost use Rattle.pc_world.specs.Evaluation.Put.{is_overtaken_by, laid, write_ts};
+
+use crate::intents::{fresh, grown, last_seq, other_at, own_at};
+use crate::keyed::set_at;
+use crate::state::RangeState;
+use crate::versions::above_newest;
+use pc_base::{Key, NoMemory, Timestamp, TryCopy, Value};
+use pc_proto::{Intent, Reply, Request, TxnMeta};
+use std::alloc::Global;
+
+impl RangeState {
+    pub(crate) fn put(
+        &mut self,
+        meta: &TxnMeta,
+        seq: u32,
+        ts: Timestamp,
+        key: &Key,
+        value: &Option<Value>,
+    ) -> Result<Reply, NoMemory>
+        requires { AllBelowGreatest (state_stamps self.old) }
+        ensures reply { IfOk result (λ made. made ≡ reply (Request.Put meta.now seq ts key.now value.now) self.old) }
+        ensures after { OnOk result (self.new ≡ state_after (Request.Put meta.now seq ts key.now value.now) self.old) }
+        ensures err { OnErr result (self.new ≡ self.old) }
+    {
+        if let Some(other) = other_at(&self.intents, meta.id, key) {
+            return conflict(other, key);
+        }
+        let own = own_at(&self.intents, meta.id, key);
+        if let Some(own) = own
+            && is_overtaken_by(meta, seq, own)
+        {
+            return Ok(Reply::Written { ts: own.ts });
+        }
+        let ts = self.write_ts(meta, ts, key, own);
+        let intent = laid(*self.intents.allocator(), meta, seq, ts, value, own)?;
+        set_at(&mut self.intents, key, intent)?;
+        Ok(Reply::Written { ts })
+    }
+
+    /// The least timestamp, not below the one asked for, that the range leaves to this write.
+    fn write_ts(&self, meta: &TxnMeta, ts: Timestamp, key: &Key, own: Option<&Intent>) -> Timestamp
+        requires { AllBelowGreatest (state_stamps self.now) }
+        ensures { result ≡ write_ts meta.now ts key.now (option_copied own.entry) self.now }
+    {
+        let unread = self.bound.least_write(ts, meta.id);
+        let unwritten = above_newest(&self.versions, key);
+        let own = own.map_or(Timestamp::ZERO, |own| own.ts);
+        unread.max(unwritten.max(own))
+    }
+}
+
+/// Another's intent stands in the way.
+pub(crate) fn conflict(other: &Intent, key: &Key) -> Result<Reply, NoMemory>
+    ensures { IfOk result (λ made. made ≡ Reply.Conflict other.now.meta other.now.ts key.now) }
+{
+    let holder = other.meta.copy()?;
+    let key = key.copy()?;
+    Ok(Reply::Conflict {
+        holder,
+        ts: other.ts,
+        key,
+    })
+}
+
+/// Whether the transaction's own intent is of a later epoch, or has this sequence or a later one already.
+fn is_overtaken_by(meta: &TxnMeta, seq: u32, own: &Intent) -> bool
+    ensures { result ≡ is_overtaken_by meta.now seq own.now }
+{
+    let (epoch, at) = (meta.epoch, own.meta.epoch);
+    epoch < at || at == epoch && seq <= last_seq(own)
+}
+
+/// The intent with the write: one more of its epoch, or the first one.
+fn laid(
+    alloc: Global,
+    meta: &TxnMeta,
+    seq: u32,
+    ts: Timestamp,
+    value: &Option<Value>,
+    own: Option<&Intent>,
+) -> Result<Intent, NoMemory>
+    ensures { IfOk result (λ made. made ≡ laid meta.now seq ts value.now (option_copied own.entry)) }
+{
+    match own {
+        Some(own) if own.meta.epoch == meta.epoch => grown(own, seq, ts, value),
+        _ => fresh(alloc, meta, seq, ts, value),
+    }
+}
