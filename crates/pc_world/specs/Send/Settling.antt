@@ -1,0 +1,67 @@
+-- Resolve and Remove may be sent: an intent may be settled as its transaction's record was heard to be, and a final record removed
+-- once each of its locks was settled. SIGMOD 2020 paper, section 3.2; removal by marks is this project's own profile.
+use Rattle.std.specs.Prelude.{◌≡◌, ℕ, ◌≤◌, ◌⊎◌, Option, Some, List, [], All, Any, Contains, IsTrue}
+use Rattle.pc_base.specs.declared.actor.ActorId.{ActorId}
+use Rattle.pc_base.specs.declared.transaction.TxnId.{TxnId}
+use Rattle.pc_proto.specs.declared.fate.Fate.{Fate}
+use Rattle.pc_proto.specs.declared.fate.Fate.TheVariants as fates
+use Rattle.pc_proto.specs.declared.request.Request.TheVariants as requests
+use Rattle.pc_proto.specs.declared.reply.Reply.TheVariants as replies
+use Rattle.pc_proto.specs.declared.view.View.{View}
+use Rattle.pc_proto.specs.declared.view.View.TheVariants as views
+use Rattle.pc_world.specs.Known.{Known}
+use Rattle.pc_world.specs.Known.Traffic.{Heard}
+use Rattle.pc_world.specs.Known.Transactions.{Txn}
+use Rattle.pc_world.specs.Views.{anchor_heard, is_about, view_in}
+
+-- The fate is what the view says: committed with its epoch and timestamp, aborted, or moved to its timestamp or past it.
+abbrev pub IsFateOf : View → Fate → Type 0
+IsFateOf (views.Committed epoch ts locks) (fates.Committed at_epoch at) = (at_epoch ≡ epoch) × (at ≡ ts)
+IsFateOf (views.Aborted epoch why locks) fates.Aborted = Unit {0}
+IsFateOf (views.Pending epoch ts) (fates.Pending at) = ts ≤ at
+IsFateOf (views.Staging epoch ts writes) (fates.Pending at) = ts ≤ at
+IsFateOf _ _ = ⊥
+
+pub record ShowsFate (id : TxnId) (fate : Fate) (h : Heard) : Type 0 where
+  pub about : IsTrue (is_about id h.request)
+  pub view : View
+  pub told : view_in h.reply ≡ Some view
+  pub fits : IsFateOf view fate
+
+abbrev pub MaySendResolve : Known → TxnId → Fate → Type 0
+MaySendResolve k id fate = Any (ShowsFate id fate) k.heard
+
+-- The key's intent was settled for this transaction.
+pub record WasResolved (id : TxnId) (key : List ℕ) (h : Heard) : Type 0 where
+  pub fate : Fate
+  pub asked : h.request ≡ requests.Resolve id key fate
+  pub told : h.reply ≡ replies.Resolved
+
+abbrev pub AllResolved : List Heard → TxnId → List (List ℕ) → Type 0
+AllResolved heard id locks = All (λ key. Any (WasResolved id key) heard) locks
+
+abbrev pub HasLocks : View → List (List ℕ) → Type 0
+HasLocks (views.Committed epoch ts locks) held = held ≡ locks
+HasLocks (views.Aborted epoch why locks) held = held ≡ locks
+HasLocks _ held = ⊥
+
+-- A final view of the transaction, with these locks.
+pub record ShowsFinal (id : TxnId) (locks : List (List ℕ)) (h : Heard) : Type 0 where
+  pub about : IsTrue (is_about id h.request)
+  pub view : View
+  pub told : view_in h.reply ≡ Some view
+  pub final : HasLocks view locks
+
+-- The locks that must be settled: the transaction's own in its session, else those of a final view.
+abbrev pub MustSettle : Known → TxnId → List (List ℕ) → List (List ℕ) → Type 0
+MustSettle k id shown locks =
+    ((t : Txn) × Contains k.txns t × (t.id ≡ id) × (locks ≡ t.locks))
+    ⊎ (All (λ t. t.id ≡ id → ⊥) k.txns × (locks ≡ shown))
+
+pub record MaySendRemove (k : Known) (id : TxnId) (anchor : List ℕ) : Type 0 where
+  pub shown : List (List ℕ)
+  pub locks : List (List ℕ)
+  pub anchored : anchor_heard id k.heard ≡ Some anchor
+  pub final : Any (ShowsFinal id shown) k.heard
+  pub must : MustSettle k id shown locks
+  pub settled : AllResolved k.heard id locks

@@ -1,0 +1,78 @@
+-- Committed, RolledBack, Aborted and Restart: how a transaction ends, or begins anew. SIGMOD 2020 paper, sections 3.3 and 3.4;
+-- RFC 20180324.
+use Rattle.std.specs.Prelude.{◌≡◌, ℕ, Bool, false, ◌&&◌, ◌==◌, ◌⊎◌, Option, None, Some, List, All, Any, IsTrue}
+use Rattle.std.specs.Option.{option_map_or}
+use Rattle.pc_base.specs.declared.transaction.TxnId.{TxnId}
+use Rattle.pc_base.specs.Transaction.{same_txn}
+use Rattle.pc_proto.specs.declared.call.Call.TheVariants as calls
+use Rattle.pc_proto.specs.declared.reply.Reply.{Reply}
+use Rattle.pc_proto.specs.declared.reply.Reply.TheVariants as replies
+use Rattle.pc_proto.specs.declared.request.Request.{Request}
+use Rattle.pc_proto.specs.declared.request.Request.TheVariants as requests
+use Rattle.pc_proto.specs.declared.view.View.{View}
+use Rattle.pc_proto.specs.declared.view.View.TheVariants as views
+use Rattle.pc_proto.specs.declared.why.Why.{Why}
+use Rattle.pc_world.specs.Known.{Known, open_txn}
+use Rattle.pc_world.specs.Known.Statements.{Statement}
+use Rattle.pc_world.specs.Known.Traffic.{Heard}
+use Rattle.pc_world.specs.Known.Transactions.{Txn, IsGood}
+use Rattle.pc_world.specs.Known.Writes.{IsProvedBy}
+use Rattle.pc_world.specs.Send.Abort.{own_cause}
+use Rattle.pc_world.specs.StageFate.{IsUncommitted}
+use Rattle.pc_world.specs.Views.{ShowsAborted, WasAborted, WasCommitted, is_about, view_in}
+
+abbrev pub is_staging_at : ℕ → ℕ → View → Bool
+is_staging_at epoch ts (views.Staging at_epoch at writes) = at_epoch == epoch && at == ts
+is_staging_at epoch ts _ = false
+
+-- A view says that the transaction stages at this epoch and timestamp.
+abbrev pub shows_staging : TxnId → ℕ → ℕ → Heard → Bool
+shows_staging id epoch ts h = is_about id h.request && option_map_or (is_staging_at epoch ts) (view_in h.reply) false
+
+-- A transaction without writes commits where it began, where its reads are good there.
+pub record IsUnwritten (k : Known) (t : Txn) (ts : ℕ) : Type 0 where
+  pub no_put : t.anchor ≡ None
+  pub at_begin : ts ≡ t.begin
+  pub good : IsGood k.heard t ts
+
+-- The record stages at this timestamp, and every write of the epoch is proved at or below it.
+pub record IsImplicit (k : Known) (t : Txn) (ts : ℕ) : Type 0 where
+  pub staging : Any (λ h. IsTrue (shows_staging t.id t.epoch ts h)) k.heard
+  pub proved : All (IsProvedBy ts) t.writes
+
+pub record MayTellCommitted (k : Known) (s : Statement) (id : TxnId) (ts : ℕ) : Type 0 where
+  pub t : Txn
+  pub opened : open_txn k ≡ Some t
+  pub asked : s.call ≡ calls.Commit
+  pub whose : id ≡ t.id
+  pub why : IsUnwritten k t ts ⊎ WasCommitted k.heard t.id ts ⊎ IsImplicit k t ts
+
+-- The cause that a rollback is told: that of an ABORTED view heard in it, else its own.
+abbrev pub IsCauseTold : Known → Txn → Why → Type 0
+IsCauseTold k t why =
+    WasAborted k.heard_now t.id why
+    ⊎ (((other : Why) → WasAborted k.heard_now t.id other → ⊥) × (why ≡ own_cause t.restart))
+
+pub record MayTellRolledBack (k : Known) (s : Statement) (id : TxnId) (why : Why) : Type 0 where
+  pub t : Txn
+  pub opened : open_txn k ≡ Some t
+  pub asked : s.call ≡ calls.Rollback
+  pub whose : id ≡ t.id
+  pub cause : IsCauseTold k t why
+
+pub record MayTellAborted (k : Known) (why : Why) : Type 0 where
+  pub t : Txn
+  pub opened : open_txn k ≡ Some t
+  pub heard : WasAborted k.heard t.id why
+
+abbrev pub IsUnrefreshed : TxnId → List ℕ → ℕ → Request → Reply → Type 0
+IsUnrefreshed id key ts (requests.Refresh other from to span) (replies.Unrefreshed at_key at) =
+    (other ≡ id) × (at_key ≡ key) × (at ≡ ts)
+IsUnrefreshed id key ts _ _ = ⊥
+
+pub record MayTellRestart (k : Known) (s : Statement) (key : List ℕ) (ts : ℕ) : Type 0 where
+  pub t : Txn
+  pub opened : open_txn k ≡ Some t
+  pub asked : s.call ≡ calls.Commit
+  pub heard : Any (λ h. IsUnrefreshed t.id key ts h.request h.reply) k.heard_now
+  pub uncommitted : IsUncommitted t.id k.sent k.heard
