@@ -1,6 +1,6 @@
 ghost use Rattle.std.specs.Prelude.{◌≡◌, ℕ, ◌+◌, ◌*◌, ◌^◌, ◌<◌, ◌≤◌, max, IfOk};
 ghost use Rattle.pc_base.specs.Timestamp.{greatest};
-ghost use Rattle.pc_coord.specs.Sends.{greatest_begin, ReplyAtMost, SendsAtMost};
+ghost use Rattle.pc_coord.specs.Sends.{greatest_begin, IfSends, IsPutOrCommit, ReplyAtMost, StampsAtMost};
 
 use crate::next::Next;
 use crate::transaction::Transaction;
@@ -169,7 +169,8 @@ impl<'a> Coordinator<'a> {
 
     /// What is due.
     pub fn next(&self) -> Result<Next, NoMemory>
-        ensures { IfOk result (SendsAtMost self.now) }
+        ensures stamps { IfOk result (λ next. IfSends next (StampsAtMost self.now)) }
+        ensures kinds { IfOk result (λ next. IfSends next IsPutOrCommit) }
     {
         match &self.due {
             Due::Nothing => Ok(Next::Idle),
@@ -181,7 +182,8 @@ impl<'a> Coordinator<'a> {
     }
 
     fn next_put(&self, key: &Key, value: &Value) -> Result<Next, NoMemory>
-        ensures { IfOk result (SendsAtMost self.now) }
+        ensures stamps { IfOk result (λ next. IfSends next (StampsAtMost self.now)) }
+        ensures kinds { IfOk result (λ next. IfSends next IsPutOrCommit) }
     {
         let Some(txn) = &self.txn else {
             return Ok(Next::Idle);
@@ -193,7 +195,8 @@ impl<'a> Coordinator<'a> {
     }
 
     fn next_commit(&self) -> Result<Next, NoMemory>
-        ensures { IfOk result (SendsAtMost self.now) }
+        ensures stamps { IfOk result (λ next. IfSends next (StampsAtMost self.now)) }
+        ensures kinds { IfOk result (λ next. IfSends next IsPutOrCommit) }
     {
         let Some(txn) = &self.txn else {
             return Ok(Next::Idle);

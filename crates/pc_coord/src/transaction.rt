@@ -1,5 +1,5 @@
-ghost use Rattle.std.specs.Prelude.{◌≡◌, ◌≤◌, IfOk, OnOk, max};
-ghost use Rattle.pc_coord.specs.Sends.{StampsAtMost};
+ghost use Rattle.std.specs.Prelude.{◌≡◌, IfOk};
+ghost use Rattle.pc_coord.specs.Sends.{IsPutOrCommit, StampsAtMost};
 
 use pc_base::{Items, Key, NoMemory, Priority, Timestamp, TryCopy, TxnId, Value};
 use pc_proto::{Keys, Request, TxnMeta};
@@ -77,7 +77,8 @@ impl Transaction {
 
     /// The message that lays the last write at the write timestamp.
     pub fn put(&self, anchor: &Key, key: &Key, value: &Value) -> Result<Request, NoMemory>
-        ensures { IfOk result (StampsAtMost self.now.write_ts) }
+        ensures stamps { IfOk result (StampsAtMost self.now.write_ts) }
+        ensures kind { IfOk result IsPutOrCommit }
     {
         let meta = self.meta(anchor)?;
         let key = key.copy()?;
@@ -93,7 +94,8 @@ impl Transaction {
 
     /// The message that commits the record at the write timestamp.
     pub fn commit(&self, anchor: &Key) -> Result<Request, NoMemory>
-        ensures { IfOk result (StampsAtMost self.now.write_ts) }
+        ensures stamps { IfOk result (StampsAtMost self.now.write_ts) }
+        ensures kind { IfOk result IsPutOrCommit }
     {
         let meta = self.meta(anchor)?;
         let locks = self.lock_list()?;
