@@ -1,3 +1,4 @@
+pub mod Built
 pub mod Loop
 pub mod Names
 pub mod Pairs

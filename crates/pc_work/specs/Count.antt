@@ -1,6 +1,6 @@
 -- How many statements a workload has: each begin, each statement, each end and each learn is counted, and an add as two, since
 -- it reads and writes.
-use Rattle.std.specs.Prelude.{ℕ, ◌+◌, List, sum_by}
+use Rattle.std.specs.Prelude.{ℕ, ◌+◌, sum_by}
 use Rattle.pc_work.specs.declared.statement.Statement.{Statement}
 use Rattle.pc_work.specs.declared.statement.Statement.TheVariants.{Get, Scan, Put, Delete, Add}
 use Rattle.pc_work.specs.declared.item.Item.{Item}

@@ -1,3 +1,4 @@
+pub mod Built
 pub mod Clock
 pub mod Count
 pub mod Item

@@ -1,6 +1,6 @@
 -- What bytes are as a workload, and where they are none. So far one form is accepted: a workload in turns without pipelining,
 -- of one session with one transaction of puts, and with no turns stated.
-use Rattle.std.specs.Prelude.{◌≡◌, ℕ, Bool, ◌&&◌, ◌==◌, not, List, [], ◌∷◌, length, sum_by, nat_le, Option, Some, None, IsSome, Result, Ok, Err, codes, option_and_then, IsUtf8, if◌then◌else◌}
+use Rattle.std.specs.Prelude.{ℕ, Bool, ◌&&◌, ◌==◌, not, List, [], ◌∷◌, length, sum_by, nat_le, Option, Some, None, IsSome, Result, Ok, Err, codes, option_and_then, IsUtf8, if◌then◌else◌}
 use Rattle.serde_json.specs.Data.{Data}
 use Rattle.serde_json.specs.Find.{get, as_bool}
 use Rattle.serde_json.specs.Read.{read}

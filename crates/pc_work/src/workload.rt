@@ -1,6 +1,7 @@
 ghost use Rattle.std.specs.Prelude.{◌≡◌, ◌↔◌, IsOk, IsSome, IfOk, IsErrOf, Some};
 ghost use Rattle.serde_json.specs.View.{view};
 ghost use Rattle.pc_work.specs.Reading.{Gives};
+ghost use Rattle.pc_work.specs.Built.{IsBuilt};
 ghost use Rattle.pc_work.specs.Workload.{is_built, workload_of, IsJson, workload_in, UnlessMemory};
 
 use crate::count::Counted;
@@ -49,6 +50,7 @@ impl Workload {
         // What is accepted, and its value.
         ensures accepted { UnlessMemory result (IsOk result ↔ (IsJson bytes.now × IsSome (workload_in bytes.now))) }
         ensures value { IfOk result (λ work. workload_in bytes.now ≡ Some work) }
+        ensures built { IfOk result IsBuilt }
 
         // Which number a refusal has. No clause says when memory runs out.
         ensures no_json { UnlessMemory result (IsErrOf result (WorkFault.Refused 1) ↔ ¬ (IsJson bytes.now)) }

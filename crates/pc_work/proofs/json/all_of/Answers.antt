@@ -1,4 +1,3 @@
-use Rattle.std.proofs.Common.{◌≡◌, ◌++◌, ◌∷◌, [], arith}
 use Rattle.std.proofs.lemmas.Result.{err_from_is_err_and}
 use Rattle.pc_work.proofs.Loop.{goes_on, ends, is_done}
 use Rattle.pc_work.proofs.json.all_of.Goals as goal
