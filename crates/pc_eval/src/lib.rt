@@ -2,6 +2,7 @@
 #![tactic(auto)]
 
 mod commit;
+mod get;
 mod intents;
 mod keyed;
 mod place;

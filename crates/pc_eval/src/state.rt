@@ -52,6 +52,13 @@ impl RangeState {
         ensures err { OnErr result (self.new ≡ self.old) }
     {
         match request {
+            Request::Get {
+                id,
+                epoch,
+                seq,
+                ts,
+                key,
+            } => self.get(*id, *epoch, *seq, *ts, key),
             Request::Put {
                 meta,
                 seq,

@@ -1,6 +1,6 @@
 ghost use Rattle.std.specs.Prelude.{◌≡◌, map};
 ghost use Rattle.std.specs.Option.{option_copied};
-ghost use Rattle.pc_base.specs.Versions.{above_newest, later, newest};
+ghost use Rattle.pc_base.specs.Versions.{above_newest, later, newest, visible};
 ghost use Rattle.pc_world.specs.Stamps.{AllBelowGreatest};
 
 use pc_base::{Key, Timestamp, Version};
@@ -24,6 +24,20 @@ pub(crate) fn newest<'a>(versions: &'a [Version], key: &Key) -> Option<&'a Versi
     let mut best = None;
     for version in versions {
         if version.key == *key {
+            best = later(best, version);
+        }
+    }
+    best
+}
+
+/// The key's version of the greatest timestamp that is not above this one.
+#[tactic(auto, using(crate::proofs::Folds::of_kept_more))]
+pub(crate) fn visible<'a>(versions: &'a [Version], key: &Key, ts: Timestamp) -> Option<&'a Version>
+    ensures { option_copied result ≡ visible key.now ts versions.now }
+{
+    let mut best = None;
+    for version in versions {
+        if version.key == *key && version.ts <= ts {
             best = later(best, version);
         }
     }
