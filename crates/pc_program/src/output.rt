@@ -1,4 +1,5 @@
-ghost use Rattle.std.specs.Prelude.{◌≡◌, ◌^◌, ◌<◌, length, IfOk};
+ghost use Rattle.std.specs.Prelude.{◌≡◌, IfOk};
+ghost use Rattle.pc_work.specs.Built.{IsBuilt};
 ghost use Rattle.pc_program.specs.Output.{IsOutput, output_text};
 
 use pc_base::{Entry, NoMemory};
@@ -18,7 +19,7 @@ pub(crate) fn output<M: Clocks, G: Gate>(
     clocks: &mut M,
     gate: &G,
 ) -> Result<Vec<u8>, NoMemory>
-    requires { length work.now.sessions < 2 ^ 32 }
+    requires { IsBuilt work.now }
     ensures { IfOk result (λ out. IsOutput work.now out.items) }
 {
     let entries = run_turns(alloc, work, clocks, gate)?;
@@ -32,7 +33,7 @@ fn print_output(
     entries: &[Entry<Event>],
     report: &Report,
 ) -> Result<Vec<u8>, NoMemory>
-    requires { length work.now.sessions < 2 ^ 32 }
+    requires { IsBuilt work.now }
     ensures { IfOk result (λ out. out.items ≡ output_text work.now entries.now report.now) }
 {
     let mut out = Vec::new(alloc);

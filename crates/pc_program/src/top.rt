@@ -1,8 +1,9 @@
-ghost use Rattle.std.specs.Prelude.{◌≡◌, ℕ, ◌+◌, ◌^◌, ◌<◌, ◌≤◌, ◌↔◌, ◌⊎◌, IsTrue, IsSome, IfSome, length, map, take, string_bytes};
+ghost use Rattle.std.specs.Prelude.{◌≡◌, ℕ, ◌+◌, ◌≤◌, ◌↔◌, ◌⊎◌, IsTrue, IsSome, IfSome, map, take, string_bytes};
 ghost use Rattle.std.specs.Io.KnownBytes.{Appends};
 ghost use Rattle.pc_io.specs.Counts.{Rose};
 ghost use Rattle.pc_io.specs.Reading.{LeavesNothing, TakesExactly};
 ghost use Rattle.pc_program.specs.Causes.{HasWritten, HasWrittenOf, IfDone, IfRead, IfRefused, IfWriteFault, IsAfterReading, IsBuilt, IsRun, IsWriting, UnlessWriting};
+ghost use Rattle.pc_work.specs.Built.{IsBuilt as IsBuiltWork};
 ghost use Rattle.pc_work.specs.Workload.{IsJson, workload_in};
 
 use crate::limits::INPUT_BYTES;
@@ -110,7 +111,7 @@ fn write_output<K: Sink, M: Clocks, G: Gate>(
     clocks: &mut M,
     gate: &G,
 ) -> Status
-    requires { length work.now.sessions < 2 ^ 32 }
+    requires { IsBuiltWork work.now }
     ensures done { IfDone result (HasWrittenOf work.now (K.taken sink.old) (K.taken sink.new) (λ text. text)) }
     ensures part { IfWriteFault result (λ written. HasWrittenOf work.now (K.taken sink.old) (K.taken sink.new) (take written)) }
     ensures write_fault { IfWriteFault result (λ written. Rose (K.faults sink.old) (K.faults sink.new)) }

@@ -155,7 +155,7 @@ marks_most most id Stay marks h all = all
 marks_most most id (Become r) marks h all = all
 marks_most most id (Finish s) marks h all = all_set_at same_txn (λ (s : Status). s.ts ≤ most) id s marks h all
 
-place_most : (most : ℕ) (record : Option Record) (mark : Option Status) → IfSome record (λ r. r.status.ts ≤ most) → IfSome mark (λ s. s.ts ≤ most) → PlaceAtMost most (record_or_mark record mark)
+place_most : (most : ℕ) (kept : Option Record) (marked : Option Status) → IfSome kept (λ r. r.status.ts ≤ most) → IfSome marked (λ s. s.ts ≤ most) → PlaceAtMost most (record_or_mark kept marked)
 place_most most (Some r) mark h k = h
 place_most most None (Some s) h k = k
 place_most most None None h k = tt

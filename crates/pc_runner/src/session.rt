@@ -86,11 +86,7 @@ impl<'a> SessionRun<'a> {
         }
     }
 
-    fn transaction(
-        &mut self,
-        priority: Priority,
-        statements: &Statements,
-    ) -> Result<bool, NoMemory>
+    fn transaction(&mut self, priority: Priority, statements: &Statements) -> Result<bool, NoMemory>
         requires { Fits self.old }
         ensures { OnOk result (Fits self.new) }
     {

@@ -1,3 +1,5 @@
+ghost use Rattle.pc_work.specs.Built.{IsBuilt};
+
 use crate::session::SessionRun;
 use pc_base::{Entry, NoMemory};
 use pc_proto::Event;
@@ -15,7 +17,9 @@ pub fn run_turns<M: Clocks, G: Gate>(
     work: &Workload,
     _clocks: &mut M,
     _gate: &G,
-) -> Result<Vec<Entry<Event>>, NoMemory> {
+) -> Result<Vec<Entry<Event>>, NoMemory>
+    requires { IsBuilt work.now }
+{
     let mut run = SessionRun::new(alloc, work);
     if let Some(session) = work.sessions.get(0) {
         run.script(&session.script)?;
