@@ -35,9 +35,12 @@ other_text row = ending_text (id_text row.id) row.ending
 abbrev pub map_text : (List ℕ × List ℕ) → List ℕ
 map_text row = codes "map" · (key_text row.0 ++ value_text row.1)
 
+-- A line for each row.
+abbrev pub rows_text : Report → List ℕ
+rows_text report = flat_map (λ row. committed_text row ⏎ []) report.committed
+    ++ (flat_map (λ row. other_text row ⏎ []) report.others
+    ++ flat_map (λ row. map_text row ⏎ []) report.map)
+
 -- The whole report: `report`, a line for each row, and `end`.
 abbrev pub report_text : Report → List ℕ
-report_text report = codes "report" ⏎ (flat_map (λ row. committed_text row ⏎ []) report.committed
-    ++ (flat_map (λ row. other_text row ⏎ []) report.others
-    ++ (flat_map (λ row. map_text row ⏎ []) report.map
-    ++ (codes "end" ⏎ []))))
+report_text report = codes "report" ⏎ (rows_text report ++ (codes "end" ⏎ []))

@@ -2,7 +2,7 @@ ghost use Rattle.std.specs.Prelude.{◌≡◌, ℕ, List, [], ◌∷◌, ◌++�
 ghost use Rattle.std.specs.List.{flat_map};
 ghost use Rattle.pc_journal.specs.Lists.{listed};
 ghost use Rattle.pc_journal.specs.Side.{◌·◌, ◌⏎◌};
-ghost use Rattle.pc_report.specs.Report.{committed_text, map_text, other_text, report_text, write_text};
+ghost use Rattle.pc_report.specs.Report.{committed_text, map_text, other_text, report_text, rows_text, write_text};
 
 use crate::rows::{CommittedRow, Ending, MapRow, OtherRow, Report};
 use pc_base::{Key, NoMemory, Value};
@@ -12,11 +12,23 @@ use pc_journal::Text;
 pub fn print_report(report: &Report, out: &mut Vec<u8>) -> Result<(), NoMemory>
     ensures { OnOk result (out.new.items ≡ out.old.items ++ report_text report.now) }
 {
-    line(b"report", out)?;
+    framed(b"report", report, b"end", out)
+}
+
+fn framed(first: &[u8], report: &Report, last: &[u8], out: &mut Vec<u8>) -> Result<(), NoMemory>
+    ensures { OnOk result (out.new.items ≡ out.old.items ++ (first.now ⏎ (rows_text report.now ++ (last.now ⏎ [])))) }
+{
+    line(first, out)?;
+    print_rows(report, out)?;
+    line(last, out)
+}
+
+fn print_rows(report: &Report, out: &mut Vec<u8>) -> Result<(), NoMemory>
+    ensures { OnOk result (out.new.items ≡ out.old.items ++ rows_text report.now) }
+{
     lines(report.committed.as_slice(), out)?;
     lines(report.others.as_slice(), out)?;
-    lines(report.map.as_slice(), out)?;
-    line(b"end", out)
+    lines(report.map.as_slice(), out)
 }
 
 /// What stands on one line of a report.

@@ -42,8 +42,9 @@ module _ {K V : Type 0} (same : K → K → Bool) (P : V → Type 0) where
       let tail = All-tail (λ (d : K × V). P d.1) e es all in
       let next = all_set_at key value es p tail in
       elim (same e.0 key) as (λ b. All (λ d. P d.1) (cond b ((e.0, value) ∷ es) (e ∷ set_at same key value es))) [
-        true ↦ All-cons (λ d. P d.1) (e.0, value) es p tail
-      | false ↦ All-cons (λ d. P d.1) e (set_at same key value es) head next ]
+        | true ↦ All-cons (λ d. P d.1) (e.0, value) es p tail
+        | false ↦ All-cons (λ d. P d.1) e (set_at same key value es) head next
+      ]
 
   all_at : (key : K) (es : List (K × V)) → All (λ e. P e.1) es → IfSome (at same key es) P
   all_at key [] all = tt
@@ -52,8 +53,9 @@ module _ {K V : Type 0} (same : K → K → Bool) (P : V → Type 0) where
       let tail = All-tail (λ (d : K × V). P d.1) e es all in
       let next = all_at key es tail in
       elim (same e.0 key) as (λ b. IfSome (option_map (λ d. d.1) (cond b (Some e) (find (λ d. same d.0 key) es))) P) [
-        true ↦ head
-      | false ↦ next ]
+        | true ↦ head
+        | false ↦ next
+      ]
 
 if_kept : {A : Type 0} (test : A → Bool) (P : A → Type 0) (x : Option A) → IfSome x P → IfSome (kept_if test x) P
 if_kept test P None h = tt
@@ -69,8 +71,9 @@ newest_from most key (v ∷ vs) best h all =
     let tail = All-tail (λ (w : Version). w.ts ≤ most) v vs all in
     let next = newest_more most best v h head in
     elim (same_key v.key key) as (λ b. IfSome (fold later best (cond b (v ∷ filter (λ w. same_key w.key key) vs) (filter (λ w. same_key w.key key) vs))) (λ w. w.ts ≤ most)) [
-      true ↦ newest_from most key vs (later best v) next tail
-    | false ↦ newest_from most key vs best h tail ]
+      | true ↦ newest_from most key vs (later best v) next tail
+      | false ↦ newest_from most key vs best h tail
+    ]
 
 above_some : (most : ℕ) (v : Option Version) → IfSome v (λ w. w.ts ≤ most) → option_map_or (λ w. w.ts + 1) v 0 ≤ most + 1
 above_some most None h = omega arith
@@ -107,8 +110,9 @@ own_most most meta seq ts key value own s fits asked h =
     let low : write_ts meta ts key own s ≤ most + 1 = written most meta ts key own s fits asked h in
     let at : (laid meta seq (write_ts meta ts key own s) value own).ts ≡ write_ts meta ts key own s = laid_ts meta seq (write_ts meta ts key own s) value own in
     elim (overtaken meta seq own) as (λ b. OutcomeAtMost (most + 1) (cond b (Stands (option_map_or (λ i. i.ts) own 0)) (Lands (laid meta seq (write_ts meta ts key own s) value own)))) [
-      true ↦ omega arith
-    | false ↦ omega arith ]
+      | true ↦ omega arith
+      | false ↦ omega arith
+    ]
 
 first_most : (most : ℕ) (other : Option Intent) (outcome : PutOutcome) → IfSome other (λ i. i.ts ≤ most) → OutcomeAtMost (most + 1) outcome → OutcomeAtMost (most + 1) (first_outcome other outcome)
 first_most most None outcome h k = k
@@ -120,7 +124,7 @@ put_most most meta seq ts key value s fits asked =
     let own = if_kept (λ (i : Intent). same_txn i.meta.id meta.id) (λ i. i.ts ≤ most) (intent_at key s.intents) there in
     let other = if_kept (λ (i : Intent). not (same_txn i.meta.id meta.id)) (λ i. i.ts ≤ most) (intent_at key s.intents) there in
     first_most most (other_at meta.id key s.intents) (own_outcome meta seq ts key value (own_at meta.id key s.intents) s) other
-      (own_most most meta seq ts key value (own_at meta.id key s.intents) s fits asked own)
+    (own_most most meta seq ts key value (own_at meta.id key s.intents) s fits asked own)
 
 put_answers : (most : ℕ) (key : List ℕ) (outcome : PutOutcome) → OutcomeAtMost most outcome → ReplyAtMost most (put_reply key outcome)
 put_answers most key (Meets i) h = tt
@@ -218,8 +222,8 @@ reply_fits most (requests.Commit meta ts locks) s asked kind fits =
     let more = state_more most (most + 1) s (omega arith) fits in
     let low : ts ≤ most = All-head (λ t. t ≤ most) ts [] asked in
     let there = place_most (most + 1) (at same_txn meta.id s.table.records) (at same_txn meta.id s.table.marks)
-      (all_at same_txn (λ (r : Record). r.status.ts ≤ most + 1) meta.id s.table.records more.records)
-      (all_at same_txn (λ (s : Status). s.ts ≤ most + 1) meta.id s.table.marks more.marks) in
+    (all_at same_txn (λ (r : Record). r.status.ts ≤ most + 1) meta.id s.table.records more.records)
+    (all_at same_txn (λ (s : Status). s.ts ≤ most + 1) meta.id s.table.marks more.marks) in
     view_most (most + 1) _ (after_most (most + 1) (place_of meta.id s.table) _ there (committed_most (most + 1) meta ts locks (place_of meta.id s.table) (omega arith)))
 reply_fits most _ s asked kind fits = absurd kind
 
@@ -227,11 +231,11 @@ pub has_room : (most : ℕ) (request : Request) (s : RangeState) → most < grea
 has_room most request s h asked fits = record {
   asked = All-weaker (λ ts. ts ≤ most) (λ ts. ts < greatest) (λ ts k. omega arith) (request_stamps request) asked;
   state = All-cons (λ ts. ts < greatest) s.bound.ts _ (let b = fits.bound in omega arith)
-    (All-append (λ ts. ts < greatest) (map (λ v. v.ts) s.versions) _
+      (All-append (λ ts. ts < greatest) (map (λ v. v.ts) s.versions) _
       (All-map (λ ts. ts < greatest) (λ (v : Version). v.ts) s.versions (All-weaker (λ (v : Version). v.ts ≤ most) (λ v. v.ts < greatest) (λ v k. omega arith) s.versions fits.versions))
-    (All-append (λ ts. ts < greatest) (map (λ e. e.1.ts) s.intents) _
+      (All-append (λ ts. ts < greatest) (map (λ e. e.1.ts) s.intents) _
       (All-map (λ ts. ts < greatest) (λ (e : List ℕ × Intent). e.1.ts) s.intents (All-weaker (λ (e : List ℕ × Intent). e.1.ts ≤ most) (λ e. e.1.ts < greatest) (λ e k. omega arith) s.intents fits.intents))
-    (All-append (λ ts. ts < greatest) (map (λ e. e.1.status.ts) s.table.records) _
+      (All-append (λ ts. ts < greatest) (map (λ e. e.1.status.ts) s.table.records) _
       (All-map (λ ts. ts < greatest) (λ (e : TxnId × Record). e.1.status.ts) s.table.records (All-weaker (λ (e : TxnId × Record). e.1.status.ts ≤ most) (λ e. e.1.status.ts < greatest) (λ e k. omega arith) s.table.records fits.records))
       (All-map (λ ts. ts < greatest) (λ (e : TxnId × Status). e.1.ts) s.table.marks (All-weaker (λ (e : TxnId × Status). e.1.ts ≤ most) (λ e. e.1.ts < greatest) (λ e k. omega arith) s.table.marks fits.marks)))));
 }

@@ -54,7 +54,7 @@ impl<'a> SessionRun<'a> {
     }
 
     pub fn into_journal(self) -> Journal
-        ensures { result ≡ self.journal }
+        ensures { result ≡ self.entry.journal }
     {
         self.journal
     }
