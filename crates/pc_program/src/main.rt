@@ -8,7 +8,6 @@ mod status;
 mod top;
 
 use clocks::SystemClocks;
-use pc_base::NoMemory;
 use pc_io::{StdSink, StdSource};
 use pc_range::NoGate;
 pub use status::{Rule, Status};
@@ -27,8 +26,10 @@ fn main(rt: HostRuntime) -> ExitCode {
 }
 
 fn run(rt: &HostRuntime) -> Status {
-    let Ok(words) = words(rt) else {
-        return Status::Usage;
+    let words = match words(rt) {
+        Ok(words) => words,
+        Err(error) if error.kind() == io::ErrorKind::OutOfMemory => return Status::NoMemory,
+        Err(_) => return Status::Usage,
     };
     let mut source = StdSource::new(rt.stdin());
     let mut sink = StdSink::new(rt.stdout());

@@ -29,6 +29,7 @@ end
 ";
 
 /// A call of the program: its words, its input, and which calls of the source and the sink fail.
+#[derive(Drop)]
 struct Case<'a> {
     words: &'a [&'a str],
     input: &'a str,

@@ -5,7 +5,7 @@ ghost use Rattle.pc_journal.specs.Side.{◌·◌, ◌⏎◌};
 ghost use Rattle.pc_report.specs.Report.{committed_text, map_text, other_text, report_text, rows_text, write_text};
 
 use crate::rows::{CommittedRow, Ending, MapRow, OtherRow, Report};
-use pc_base::{Key, NoMemory, Value};
+use pc_base::{Items, Key, NoMemory, Value};
 use pc_journal::Text;
 
 /// Appends the report: the line `report`, a line for each row, and the line `end`.
@@ -26,9 +26,10 @@ fn framed(first: &[u8], report: &Report, last: &[u8], out: &mut Vec<u8>) -> Resu
 fn print_rows(report: &Report, out: &mut Vec<u8>) -> Result<(), NoMemory>
     ensures { OnOk result (out.new.items ≡ out.old.items ++ rows_text report.now) }
 {
-    lines(report.committed.as_slice(), out)?;
-    lines(report.others.as_slice(), out)?;
-    lines(report.map.as_slice(), out)
+    row_lines(&report.committed, out)?;
+    row_lines(&report.others, out)?;
+    row_lines(&report.map, out)?;
+    Ok(())
 }
 
 /// What stands on one line of a report.
@@ -37,6 +38,12 @@ trait Row {
 
     fn print(&self, out: &mut Vec<u8>) -> Result<(), NoMemory>
         ensures { OnOk result (out.new.items ≡ out.old.items ++ text self.now) };
+}
+
+fn row_lines<R: Row>(rows: &Items<R>, out: &mut Vec<u8>) -> Result<(), NoMemory>
+    ensures { OnOk result (out.new.items ≡ out.old.items ++ flat_map (λ row. R.text row ⏎ []) rows.now) }
+{
+    lines(rows.as_slice(), out)
 }
 
 fn lines<R: Row>(rows: &[R], out: &mut Vec<u8>) -> Result<(), NoMemory>

@@ -32,8 +32,10 @@ impl<'a> Model for SessionRun<'a> {
 }
 
 impl<'a> SessionRun<'a> {
-    ghost use Rattle.std.specs.Prelude.{◌≡◌, ◌+◌, ◌^◌, ◌≤◌, OnOk, length};
+    ghost use Rattle.std.specs.Prelude.{◌≡◌, ℕ, ◌+◌, ◌^◌, ◌≤◌, IfOk, OnOk, Some, length};
     ghost use Rattle.pc_coord.specs.Sends.{IsPutOrCommit, ReplyAtMost, StampsAtMost};
+    ghost use Rattle.pc_world.specs.Evaluation.{reply, state_after};
+    ghost use Rattle.pc_world.specs.Stamps.{HasRoom};
     ghost use Rattle.pc_runner.specs.Room.{ceiling, UnheardAtMost};
     ghost use Rattle.pc_runner.specs.Running.{Fits};
 
@@ -221,9 +223,18 @@ impl<'a> SessionRun<'a> {
         requires sent { UnheardAtMost (ceiling (length self.old.journal)) (Some request.now) }
         ensures { OnOk result (Fits self.new) }
     {
-        let reply = self.state.eval(request)?;
+        let reply = self.evaluate(request)?;
         let step = self.enter_eval(&reply)?;
         self.hear(step, &reply)
+    }
+
+    fn evaluate(&mut self, request: &Request) -> Result<Reply, NoMemory>
+        requires room { HasRoom request.now self.old.state }
+        requires kind { IsPutOrCommit request.now }
+        ensures reply { IfOk result (λ made. made ≡ reply request.now self.old.state) }
+        ensures after { OnOk result (self.new ≡ record self.old { state = state_after request.now self.old.state }) }
+    {
+        self.state.eval(request)
     }
 
     fn enter_eval(&mut self, reply: &Reply) -> Result<u64, NoMemory>
@@ -259,6 +270,14 @@ impl<'a> SessionRun<'a> {
         ensures { OnOk result (Fits self.new) }
     {
         self.enter_hear(step)?;
+        self.hand_on(step, reply)?;
+        Ok(())
+    }
+
+    fn hand_on(&mut self, step: u64, reply: &Reply) -> Result<(), NoMemory>
+        ensures others { self.new ≡ record self.old { known = self.new.known } }
+        ensures known { (most : ℕ) → self.old.known ≤ most → ReplyAtMost most reply.now → self.new.known ≤ most }
+    {
         self.coordinator.heard(self.sends, step, reply)
     }
 }

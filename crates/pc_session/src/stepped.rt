@@ -5,6 +5,7 @@ ghost use Rattle.pc_session.specs.Stepped.{stepped_reading, stepped_rule};
 
 use crate::clock::{Clock, Clocks};
 use pc_base::ActorId;
+use std::marker::Model;
 
 /// A clock whose reading i, from 0, is `start + i * step`, held at `2^64 - 1`.
 #[derive(Clone, Copy, Debug, PartialEq, Eq)]
@@ -12,6 +13,16 @@ pub struct Stepped {
     start: u64,
     step: u64,
     reads: u64,
+}
+
+impl Model for Stepped {
+    ghost use Rattle.pc_session.specs.Stepped.{SteppedState};
+
+    ghost Value = { SteppedState };
+
+    ghost view = { λ s. record { start = s.start; step = s.step; reads = s.reads } };
+
+    ghost inverse = { λ s. record { start = s.start; step = s.step; reads = s.reads } };
 }
 
 impl Stepped {
