@@ -1,0 +1,120 @@
+-- When the program ends in which way. Own profile.
+use Rattle.std.specs.Prelude.{◌≡◌, ℕ, ◌≤◌, ◌↔◌, ◌⊎◌, List, [], ◌∷◌, Option, Some, None, IfSome, IsSome, ⊤, codes, length, take}
+use Rattle.std.specs.Io.KnownBytes.{Appends}
+use Rattle.pc_program.specs.declared.status.Status.{Status}
+use Rattle.pc_program.specs.declared.status.Status.TheVariants as statuses
+use Rattle.pc_program.specs.Output.{IsOutput}
+use Rattle.pc_work.specs.declared.workload.Workload.{Workload}
+use Rattle.pc_work.specs.Workload.{IsJson, workload_in}
+
+-- The words are the one word `run`.
+abbrev pub IsRun : List (List ℕ) → Type 0
+IsRun words = words ≡ codes "run" ∷ []
+
+-- The fact holds where the source was read to its end, and where the answer comes from what it gave.
+abbrev pub IfRead : Status → Type 0 → Type 0
+IfRead statuses.Done fact = fact
+IfRead (statuses.NotRun line rule) fact = fact
+IfRead statuses.Usage fact = ⊤
+IfRead statuses.ReadFault fact = ⊤
+IfRead (statuses.WriteFault written) fact = fact
+IfRead (statuses.Workload number) fact = fact
+IfRead (statuses.Journal line) fact = fact
+IfRead (statuses.TooLong bytes) fact = ⊤
+IfRead statuses.NoMemory fact = ⊤
+
+-- Where the sink was not called, the fact holds.
+abbrev pub UnlessWriting : Status → Type 0 → Type 0
+UnlessWriting statuses.Done fact = ⊤
+UnlessWriting (statuses.NotRun line rule) fact = fact
+UnlessWriting statuses.Usage fact = fact
+UnlessWriting statuses.ReadFault fact = fact
+UnlessWriting (statuses.WriteFault written) fact = ⊤
+UnlessWriting (statuses.Workload number) fact = fact
+UnlessWriting (statuses.Journal line) fact = fact
+UnlessWriting (statuses.TooLong bytes) fact = fact
+UnlessWriting statuses.NoMemory fact = fact
+
+-- The whole output was made, and its writing began.
+abbrev pub IsWriting : Status → Type 0
+IsWriting statuses.Done = ⊤
+IsWriting (statuses.NotRun line rule) = ⊥
+IsWriting statuses.Usage = ⊥
+IsWriting statuses.ReadFault = ⊥
+IsWriting (statuses.WriteFault written) = ⊤
+IsWriting (statuses.Workload number) = ⊥
+IsWriting (statuses.Journal line) = ⊥
+IsWriting (statuses.TooLong bytes) = ⊥
+IsWriting statuses.NoMemory = ⊥
+
+-- What the fact says of the number of bytes that a failed write left behind.
+abbrev pub IfWriteFault : Status → (ℕ → Type 0) → Type 0
+IfWriteFault statuses.Done fact = ⊤
+IfWriteFault (statuses.NotRun line rule) fact = ⊤
+IfWriteFault statuses.Usage fact = ⊤
+IfWriteFault statuses.ReadFault fact = ⊤
+IfWriteFault (statuses.WriteFault written) fact = fact written
+IfWriteFault (statuses.Workload number) fact = ⊤
+IfWriteFault (statuses.Journal line) fact = ⊤
+IfWriteFault (statuses.TooLong bytes) fact = ⊤
+IfWriteFault statuses.NoMemory fact = ⊤
+
+-- What the fact says of the number of a refused workload.
+abbrev pub IfRefused : Status → (ℕ → Type 0) → Type 0
+IfRefused statuses.Done fact = ⊤
+IfRefused (statuses.NotRun line rule) fact = ⊤
+IfRefused statuses.Usage fact = ⊤
+IfRefused statuses.ReadFault fact = ⊤
+IfRefused (statuses.WriteFault written) fact = ⊤
+IfRefused (statuses.Workload number) fact = fact number
+IfRefused (statuses.Journal line) fact = ⊤
+IfRefused (statuses.TooLong bytes) fact = ⊤
+IfRefused statuses.NoMemory fact = ⊤
+
+-- Done, and then the fact.
+abbrev pub IfDone : Status → Type 0 → Type 0
+IfDone statuses.Done fact = fact
+IfDone (statuses.NotRun line rule) fact = ⊤
+IfDone statuses.Usage fact = ⊤
+IfDone statuses.ReadFault fact = ⊤
+IfDone (statuses.WriteFault written) fact = ⊤
+IfDone (statuses.Workload number) fact = ⊤
+IfDone (statuses.Journal line) fact = ⊤
+IfDone (statuses.TooLong bytes) fact = ⊤
+IfDone statuses.NoMemory fact = ⊤
+
+-- The status is one that a run can end with: nothing checks a journal yet.
+abbrev pub IsBuilt : Status → Type 0
+IsBuilt (statuses.NotRun line rule) = ⊥
+IsBuilt (statuses.Journal line) = ⊥
+IsBuilt statuses.Done = ⊤
+IsBuilt statuses.Usage = ⊤
+IsBuilt statuses.ReadFault = ⊤
+IsBuilt (statuses.WriteFault written) = ⊤
+IsBuilt (statuses.Workload number) = ⊤
+IsBuilt (statuses.TooLong bytes) = ⊤
+IsBuilt statuses.NoMemory = ⊤
+
+-- A part of an output of a workload was appended to what the sink had taken.
+pub record HasWrittenOf (work : Workload) (old new : Option (List ℕ)) (part : List ℕ → List ℕ) : Type 0 where
+  pub text : List ℕ
+  pub output : IsOutput work text
+  pub written : Appends old new (part text)
+
+-- A part of an output was appended to what the sink had taken: of the workload that the source's bytes state, where it tells them.
+pub record HasWritten (left old new : Option (List ℕ)) (part : List ℕ → List ℕ) : Type 0 where
+  pub work : Workload
+  pub stated : IfSome left (λ bytes. workload_in bytes ≡ Some work)
+  pub appended : HasWrittenOf work old new part
+
+-- The status is one that comes once the source was read to its end.
+abbrev pub IsAfterReading : Status → Type 0
+IsAfterReading statuses.Done = ⊤
+IsAfterReading (statuses.WriteFault written) = ⊤
+IsAfterReading (statuses.Workload number) = ⊤
+IsAfterReading statuses.NoMemory = ⊤
+IsAfterReading (statuses.NotRun line rule) = ⊥
+IsAfterReading statuses.Usage = ⊥
+IsAfterReading statuses.ReadFault = ⊥
+IsAfterReading (statuses.Journal line) = ⊥
+IsAfterReading (statuses.TooLong bytes) = ⊥

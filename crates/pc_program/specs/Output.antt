@@ -1,0 +1,18 @@
+-- What the program writes where all goes well. Own profile.
+use Rattle.std.specs.Prelude.{◌≡◌, ℕ, List, ◌++◌, length}
+use Rattle.pc_base.specs.declared.entry.Entry.{Entry}
+use Rattle.pc_journal.specs.Journal.{journal_text}
+use Rattle.pc_proto.specs.declared.event.Event.{Event}
+use Rattle.pc_report.specs.declared.rows.Report.{Report}
+use Rattle.pc_report.specs.Report.{report_text}
+use Rattle.pc_work.specs.declared.workload.Workload.{Workload}
+
+-- The journal of a history under the head of this workload, and below it a report.
+abbrev pub output_text : Workload → List (Entry Event) → Report → List ℕ
+output_text work entries report = journal_text work.splits (length work.sessions) 0 entries ++ report_text report
+
+-- The text is such an output.
+pub record IsOutput (work : Workload) (text : List ℕ) : Type 0 where
+  pub entries : List (Entry Event)
+  pub report : Report
+  pub whole : text ≡ output_text work entries report

@@ -1,0 +1,57 @@
+//! The program: words, a source and a sink lead to the journal and the report of a workload.
+#![tactic(auto)]
+
+mod clocks;
+mod limits;
+mod output;
+mod status;
+mod top;
+
+use clocks::SystemClocks;
+use pc_io::{StdSink, StdSource};
+use pc_range::NoGate;
+pub use status::{Rule, Status};
+use std::process::ExitCode;
+use std::{env, io};
+pub use top::pcommit;
+
+fn main(rt: HostRuntime) -> ExitCode {
+    let status = run(&rt);
+    if let Ok(text) = status.text(rt.alloc())
+        && !text.is_empty()
+    {
+        let _ = rt.eprintln(text);
+    }
+    ExitCode::from(status.code())
+}
+
+fn run(rt: &HostRuntime) -> Status {
+    let words = match words(rt) {
+        Ok(words) => words,
+        Err(error) if error.kind() == io::ErrorKind::OutOfMemory => return Status::NoMemory,
+        Err(_) => return Status::Usage,
+    };
+    let mut source = StdSource::new(rt.stdin());
+    let mut sink = StdSink::new(rt.stdout());
+    let mut clocks = SystemClocks::new(rt);
+    pcommit(
+        rt.alloc(),
+        words.as_slice(),
+        &mut source,
+        &mut sink,
+        &mut clocks,
+        &NoGate,
+    )
+}
+
+/// The words behind the program's name.
+fn words(rt: &HostRuntime) -> io::Result<Vec<String>> {
+    let mut words = Vec::new(rt.alloc());
+    for word in env::args(rt)?.skip(1) {
+        words.push(word)?;
+    }
+    Ok(words)
+}
+
+#[cfg(test)]
+mod tests;

@@ -1,0 +1,200 @@
+use super::*;
+use pc_io::{MemSink, MemSource};
+use pc_session::Stepped;
+use std::alloc::Global;
+use std::test::Fail;
+
+const ONE_PUT: &str =
+    r#"{"version":1,"pipelining":false,"sessions":[{"clock":{"start":10,"step":1},"script":[{"do":[{"put":["a","x"]}]}]}],"turns":[]}"#;
+
+const ONE_PUT_OUTPUT: &str = "journal 1
+ranges 1
+actors 1 0
+0 s1 ask begin normal @10
+1 s1 tell begun 1.1 10.0
+2 s1 ask put a =x @11
+3 s1 send 1 r0 put 1.1:0:normal:10:a 1 10.0 a =x
+4 r0 eval s1 1 written 10.0
+5 s1 hear 1 4
+6 s1 tell written
+7 s1 ask commit @12
+8 s1 send 2 r0 commit 1.1:0:normal:10:a 10.0 a
+9 r0 eval s1 2 status committed 0 10.0 a
+10 s1 hear 2 9
+11 s1 tell committed 1.1 10.0
+report
+committed 1.1 10.0 a=x
+map a=x
+end
+";
+
+/// A call of the program: its words, its input, and which calls of the source and the sink fail.
+#[derive(Drop)]
+struct Case<'a> {
+    words: &'a [&'a str],
+    input: &'a str,
+    failing_reads: &'a [u64],
+    room: usize,
+    failing_writes: &'a [u64],
+}
+
+const ALL_IS_WELL: Case<'static> = Case {
+    words: &["run"],
+    input: ONE_PUT,
+    failing_reads: &[],
+    room: 4096,
+    failing_writes: &[],
+};
+
+/// How the call ends, and what the sink took.
+fn ended(alloc: Global, case: &Case) -> Result<(Status, Vec<u8>), Fail> {
+    let mut words = Vec::new(alloc);
+    for word in case.words {
+        words.push(String::from_str(alloc, word)?)?;
+    }
+    let input = case.input.as_bytes().to_vec(alloc)?;
+    let mut source = MemSource::new(input, case.failing_reads.to_vec(alloc)?);
+    let mut sink = MemSink::new(alloc, case.room, case.failing_writes.to_vec(alloc)?)
+        .ok()
+        .ok_or("memory")?;
+    let mut clocks = Stepped::new(0, 0);
+    let status = pcommit(
+        alloc,
+        words.as_slice(),
+        &mut source,
+        &mut sink,
+        &mut clocks,
+        &NoGate,
+    );
+    Ok((status, sink.taken().to_vec(alloc)?))
+}
+
+fn put_of(alloc: Global, letters: usize) -> Result<String, Fail> {
+    let mut key = String::new(alloc);
+    for _ in 0..letters {
+        key.push('k')?;
+    }
+    Ok(format!(in alloc;
+        r#"{{"version":1,"pipelining":false,"sessions":[{{"clock":{{"start":10,"step":1}},"script":[{{"do":[{{"put":["{key}","x"]}}]}}]}}],"turns":[]}}"#
+    )?)
+}
+
+#[test]
+fn one_put_gives_its_journal_and_report(rt: HostRuntime) -> Result<(), Fail> {
+    let (status, taken) = ended(rt.alloc(), &ALL_IS_WELL)?;
+    assert_eq!(rt; status, Status::Done);
+    assert!(rt; taken.as_slice() == ONE_PUT_OUTPUT.as_bytes());
+    assert_eq!(rt; status.code(), 0);
+    Ok(())
+}
+
+#[test]
+fn a_key_has_at_most_64_letters(rt: HostRuntime) -> Result<(), Fail> {
+    for (letters, wanted) in [(64, Status::Done), (65, Status::Workload { number: 10 })] {
+        let input = put_of(rt.alloc(), letters)?;
+        let case = Case {
+            words: &["run"],
+            input: input.as_str(),
+            failing_reads: &[],
+            room: 4096,
+            failing_writes: &[],
+        };
+        let (status, _) = ended(rt.alloc(), &case)?;
+        assert_eq!(rt; status, wanted, "{letters} letters");
+    }
+    Ok(())
+}
+
+#[test]
+fn other_words_are_no_use(rt: HostRuntime) -> Result<(), Fail> {
+    for words in [
+        ["walk"].as_slice(),
+        [].as_slice(),
+        ["run", "run"].as_slice(),
+    ] {
+        let case = Case {
+            words,
+            input: ONE_PUT,
+            failing_reads: &[],
+            room: 4096,
+            failing_writes: &[],
+        };
+        let (status, taken) = ended(rt.alloc(), &case)?;
+        assert_eq!(rt; status, Status::Usage);
+        assert_eq!(rt; taken.len(), 0);
+        assert_eq!(rt; status.code(), 2);
+    }
+    Ok(())
+}
+
+#[test]
+fn an_empty_input_is_no_json(rt: HostRuntime) -> Result<(), Fail> {
+    let case = Case {
+        words: &["run"],
+        input: "",
+        failing_reads: &[],
+        room: 4096,
+        failing_writes: &[],
+    };
+    let (status, taken) = ended(rt.alloc(), &case)?;
+    assert_eq!(rt; status, Status::Workload { number: 1 });
+    assert_eq!(rt; taken.len(), 0);
+    let text = status.text(rt.alloc()).ok().ok_or("memory")?;
+    assert_eq!(rt; text.as_str(), "pcommit: workload refused: W1");
+    Ok(())
+}
+
+#[test]
+fn a_failing_read_is_told(rt: HostRuntime) -> Result<(), Fail> {
+    let case = Case {
+        words: &["run"],
+        input: ONE_PUT,
+        failing_reads: &[1],
+        room: 4096,
+        failing_writes: &[],
+    };
+    let (status, taken) = ended(rt.alloc(), &case)?;
+    assert_eq!(rt; status, Status::ReadFault);
+    assert_eq!(rt; taken.len(), 0);
+    Ok(())
+}
+
+#[test]
+fn a_failing_write_is_told_with_what_was_written(rt: HostRuntime) -> Result<(), Fail> {
+    // (the room, the call that fails, the bytes that were written)
+    for (room, failing, written) in [(4096, [1].as_slice(), 0), (100, [].as_slice(), 100)] {
+        let case = Case {
+            words: &["run"],
+            input: ONE_PUT,
+            failing_reads: &[],
+            room,
+            failing_writes: failing,
+        };
+        let (status, taken) = ended(rt.alloc(), &case)?;
+        assert_eq!(rt; status, Status::WriteFault { written });
+        assert_eq!(rt; taken.len(), written);
+        assert!(rt; ONE_PUT_OUTPUT.as_bytes().starts_with(taken.as_slice()));
+    }
+    Ok(())
+}
+
+#[test]
+fn one_byte_more_than_the_limit_is_too_long(rt: HostRuntime) -> Result<(), Fail> {
+    let mut input = String::new(rt.alloc());
+    for _ in 0..16_777_217 {
+        input.push(' ')?;
+    }
+    let case = Case {
+        words: &["run"],
+        input: input.as_str(),
+        failing_reads: &[],
+        room: 4096,
+        failing_writes: &[],
+    };
+    let (status, _) = ended(rt.alloc(), &case)?;
+    assert_eq!(rt; status, Status::TooLong { bytes: 16_777_217 });
+    let text = status.text(rt.alloc()).ok().ok_or("memory")?;
+    assert_eq!(rt; text.as_str(), "pcommit: more than 16777216 bytes");
+    assert_eq!(rt; status.code(), 7);
+    Ok(())
+}

@@ -1,0 +1,141 @@
+ghost use Rattle.std.specs.Prelude.{◌≡◌, ℕ, ◌+◌, ◌≤◌, ◌↔◌, ◌⊎◌, IsTrue, IsSome, IfSome, map, take, string_bytes};
+ghost use Rattle.std.specs.Io.KnownBytes.{Appends};
+ghost use Rattle.pc_io.specs.Counts.{Rose};
+ghost use Rattle.pc_io.specs.Reading.{LeavesNothing, TakesExactly};
+ghost use Rattle.pc_program.specs.Causes.{HasWritten, HasWrittenOf, IfDone, IfRead, IfRefused, IfWriteFault, IsAfterReading, IsBuilt, IsRun, IsWriting, UnlessWriting};
+ghost use Rattle.pc_work.specs.Built.{IsBuilt as IsBuiltWork};
+ghost use Rattle.pc_work.specs.Workload.{IsJson, workload_in};
+
+use crate::limits::INPUT_BYTES;
+use crate::output::output;
+use crate::status::Status;
+use pc_base::NoMemory;
+use pc_io::{ReadFault, Sink, Source, read_all, write_all};
+use pc_range::Gate;
+use pc_session::Clocks;
+use pc_work::{WorkFault, Workload};
+use std::alloc::Global;
+
+/// The whole program: reads a workload from the source, runs it, and writes its journal and report to the sink.
+///
+/// The words are those behind the program's name. The clocks and the gate are not called yet: each session has a clock
+/// that the workload states.
+pub fn pcommit<S: Source, K: Sink, M: Clocks, G: Gate>(
+    alloc: Global,
+    words: &[String],
+    source: &mut S,
+    sink: &mut K,
+    clocks: &mut M,
+    gate: &G,
+) -> Status
+    // Usage comes exactly where the words are not the one word `run`, and nothing is read then.
+    ensures usage { (result ≡ Status.Usage) ↔ ¬ (IsRun (map string_bytes words.now)) }
+    ensures usage_reads_nothing { result ≡ Status.Usage → source.new ≡ source.old }
+
+    // A fault is answered only where the count of the object that was handed in rose in this call.
+    ensures read_fault { result ≡ Status.ReadFault → Rose (S.faults source.old) (S.faults source.new) }
+    ensures read_count { S.faults source.old ≤ S.faults source.new }
+    ensures write_fault { IfWriteFault result (λ written. Rose (K.faults sink.old) (K.faults sink.new)) }
+    ensures write_count { K.faults sink.old ≤ K.faults sink.new }
+
+    // Too long exactly where one byte more than the limit was read; else the source was read to its end.
+    ensures too_long { IfSome (S.left source.old) (λ left. IsRun (map string_bytes words.now) →
+        ((result ≡ Status.TooLong (INPUT_BYTES + 1)) ↔ TakesExactly (INPUT_BYTES + 1) left (S.left source.new))) }
+    ensures too_long_by_one { (bytes : ℕ) → result ≡ Status.TooLong bytes → bytes ≡ INPUT_BYTES + 1 }
+    ensures read_whole { IfRead result (LeavesNothing (S.left source.old) (S.left source.new)) }
+
+    // The bytes decide what becomes of the workload: no JSON, another form, or accepted and run.
+    ensures no_json { IfRead result (IfSome (S.left source.old) (λ bytes.
+        (result ≡ Status.Workload 1) ↔ ¬ (IsJson bytes))) }
+    ensures other_form { IfRead result (IfSome (S.left source.old) (λ bytes.
+        (result ≡ Status.Workload 10) ↔ (IsJson bytes × (workload_in bytes ≡ None)))) }
+    ensures accepted { IfRead result (IfSome (S.left source.old) (λ bytes.
+        IsWriting result ↔ (IsJson bytes × IsSome (workload_in bytes)))) }
+    ensures numbers { IfRefused result (λ number. (number ≡ 1) ⊎ (number ≡ 10)) }
+
+    // Done is the whole output behind what the sink had taken; a write fault is a part of it. Else nothing was written.
+    ensures done { IfDone result (HasWritten (S.left source.old) (K.taken sink.old) (K.taken sink.new) (λ text. text)) }
+    ensures part { IfWriteFault result (λ written.
+        HasWritten (S.left source.old) (K.taken sink.old) (K.taken sink.new) (take written)) }
+    ensures unwritten { UnlessWriting result (sink.new ≡ sink.old) }
+    ensures built { IsBuilt result }
+{
+    if !are_run(words) {
+        return Status::Usage;
+    }
+    match read_all(alloc, source, INPUT_BYTES) {
+        Ok(bytes) => run(alloc, &bytes, sink, clocks, gate),
+        Err(ReadFault::Failed) => Status::ReadFault,
+        Err(ReadFault::TooLong { bytes }) => Status::TooLong { bytes },
+        Err(ReadFault::NoMemory) => Status::NoMemory,
+    }
+}
+
+fn are_run(words: &[String]) -> bool
+    ensures { IsTrue result ↔ IsRun (map string_bytes words.now) }
+{
+    words.len() == 1 && words[0].as_str() == "run"
+}
+
+/// Runs the workload that the bytes state.
+fn run<K: Sink, M: Clocks, G: Gate>(
+    alloc: Global,
+    bytes: &[u8],
+    sink: &mut K,
+    clocks: &mut M,
+    gate: &G,
+) -> Status
+    ensures no_json { IfRead result ((result ≡ Status.Workload 1) ↔ ¬ (IsJson bytes.now)) }
+    ensures other_form { IfRead result ((result ≡ Status.Workload 10) ↔ (IsJson bytes.now × (workload_in bytes.now ≡ None))) }
+    ensures accepted { IfRead result (IsWriting result ↔ (IsJson bytes.now × IsSome (workload_in bytes.now))) }
+    ensures numbers { IfRefused result (λ number. (number ≡ 1) ⊎ (number ≡ 10)) }
+    ensures done { IfDone result (HasWritten (Some bytes.now) (K.taken sink.old) (K.taken sink.new) (λ text. text)) }
+    ensures part { IfWriteFault result (λ written. HasWritten (Some bytes.now) (K.taken sink.old) (K.taken sink.new) (take written)) }
+    ensures write_fault { IfWriteFault result (λ written. Rose (K.faults sink.old) (K.faults sink.new)) }
+    ensures write_count { K.faults sink.old ≤ K.faults sink.new }
+    ensures unwritten { UnlessWriting result (sink.new ≡ sink.old) }
+    ensures kind { IsAfterReading result }
+{
+    match Workload::read(alloc, bytes) {
+        Ok(work) => write_output(alloc, &work, sink, clocks, gate),
+        Err(WorkFault::Refused { number }) => Status::Workload { number },
+        Err(WorkFault::NoMemory) => Status::NoMemory,
+    }
+}
+
+/// Makes the whole output, and then writes it.
+fn write_output<K: Sink, M: Clocks, G: Gate>(
+    alloc: Global,
+    work: &Workload,
+    sink: &mut K,
+    clocks: &mut M,
+    gate: &G,
+) -> Status
+    requires { IsBuiltWork work.now }
+    ensures done { IfDone result (HasWrittenOf work.now (K.taken sink.old) (K.taken sink.new) (λ text. text)) }
+    ensures part { IfWriteFault result (λ written. HasWrittenOf work.now (K.taken sink.old) (K.taken sink.new) (take written)) }
+    ensures write_fault { IfWriteFault result (λ written. Rose (K.faults sink.old) (K.faults sink.new)) }
+    ensures write_count { K.faults sink.old ≤ K.faults sink.new }
+    ensures unwritten { UnlessWriting result (sink.new ≡ sink.old) }
+    ensures kind { (result ≡ Status.NoMemory) ⊎ IsWriting result }
+{
+    match output(alloc, work, clocks, gate) {
+        Ok(out) => write_whole(sink, &out),
+        Err(NoMemory) => Status::NoMemory,
+    }
+}
+
+fn write_whole<K: Sink>(sink: &mut K, out: &[u8]) -> Status
+    ensures done { IfDone result (Appends (K.taken sink.old) (K.taken sink.new) out.now) }
+    ensures part { IfWriteFault result (λ written. Appends (K.taken sink.old) (K.taken sink.new) (take written out.now)) }
+    ensures write_fault { IfWriteFault result (λ written. Rose (K.faults sink.old) (K.faults sink.new)) }
+    ensures write_count { K.faults sink.old ≤ K.faults sink.new }
+    ensures kind { IsWriting result }
+{
+    match write_all(sink, out) {
+        Ok(()) => Status::Done,
+        Err(stop) => Status::WriteFault {
+            written: stop.written,
+        },
+    }
+}

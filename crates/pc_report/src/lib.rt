@@ -1,0 +1,13 @@
+//! The report of a history: what was committed, what became of every other transaction, and the map in the end.
+#![tactic(auto)]
+
+mod commits;
+mod outcome;
+mod print;
+mod rows;
+
+pub use outcome::report;
+pub use print::print_report;
+pub use rows::{
+    CommittedRow, CommittedRows, Ending, LastWrites, MapRow, MapRows, OtherRow, OtherRows, Report,
+};
