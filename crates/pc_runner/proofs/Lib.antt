@@ -1,2 +1,2 @@
-pub mod Stamps
-pub mod Running
+pub mod Entering
+pub mod Following

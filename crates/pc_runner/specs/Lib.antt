@@ -1,3 +1,4 @@
+pub mod Following
+pub mod History
 pub mod Journal
-pub mod Room
-pub mod Running
+pub mod Progress

@@ -1,3 +1,17 @@
+ghost use Rattle.std.specs.Prelude.{◌≡◌, ℕ, ◌+◌, ◌≤◌, [], IfOk, OnOk, Some, true, false, length};
+ghost use Rattle.pc_base.specs.declared.actor.ActorId.TheVariants as actors;
+ghost use Rattle.pc_coord.specs.Coordination.{next_of};
+ghost use Rattle.pc_coord.specs.declared.next.Next.TheVariants as nexts;
+ghost use Rattle.pc_coord.specs.Coordination.{waits_for};
+ghost use Rattle.pc_coord.specs.Knows.{MayCome};
+ghost use Rattle.pc_runner.specs.Following.{Follows, HasNoCall, HasNoTxn, HasSameHead, IsFollowing};
+ghost use Rattle.pc_runner.specs.History.{head_of, known_by};
+ghost use Rattle.pc_runner.specs.Journal.{IsAnswered};
+ghost use Rattle.pc_runner.specs.Progress.{IsAfterStep};
+ghost use Rattle.pc_work.specs.Built.{IsBuilt};
+ghost use Rattle.pc_world.specs.Local.{MayHear, is_outside, is_round};
+ghost use Rattle.pc_world.specs.RangeOf.{GoesTo};
+
 use crate::journal::Journal;
 use pc_base::{ActorId, Key, NoMemory, Priority, TryCopy, Value};
 use pc_coord::{Coordinator, Next};
@@ -6,77 +20,74 @@ use pc_proto::{Answer, Call, Reply, Request};
 use pc_session::{Clock, Stepped};
 use pc_work::{Item, Script, Statement, Statements, Workload};
 use std::alloc::Global;
-use std::marker::Model;
 
-/// One session and one range, and what happened at them.
+/// The session that runs.
+const SESSION: u32 = 1;
+
+/// The range to which all goes.
+const RANGE: u32 = 0;
+
+/// The first session and the only range, and what happened at them.
 #[derive(Drop)]
 pub(crate) struct SessionRun<'a> {
-    actor: ActorId,
-    range: ActorId,
     coordinator: Coordinator<'a>,
     clock: Stepped,
     state: RangeState,
-    journal: Journal,
+    journal: Journal<'a>,
     /// How many messages were sent.
     sends: u64,
     /// The message that was sent and not evaluated yet.
     unheard: Option<Request>,
 }
 
-impl<'a> Model for SessionRun<'a> {
-    ghost use Rattle.pc_runner.specs.Running.{Running};
-
-    ghost Value = { Running };
-
-    ghost view = { λ s. record { known = s.coordinator; state = s.state; unheard = s.unheard; journal = s.journal } };
-}
-
 impl<'a> SessionRun<'a> {
-    ghost use Rattle.std.specs.Prelude.{◌≡◌, ℕ, ◌+◌, ◌^◌, ◌≤◌, IfOk, OnOk, Some, length};
-    ghost use Rattle.pc_coord.specs.Sends.{IsPutOrCommit, ReplyAtMost, StampsAtMost};
-    ghost use Rattle.pc_world.specs.Evaluation.{reply, state_after};
-    ghost use Rattle.pc_world.specs.Stamps.{HasRoom};
-    ghost use Rattle.pc_runner.specs.Room.{ceiling, UnheardAtMost};
-    ghost use Rattle.pc_runner.specs.Running.{Fits};
-
-    #[tactic(auto, using(crate::proofs::Stamps::no_state_fits))]
     pub fn new(alloc: Global, work: &'a Workload) -> SessionRun<'a>
-        ensures { Fits result }
+        requires { IsBuilt work.now }
+        ensures follows { IsFollowing result }
+        ensures idle { HasNoCall result }
+        ensures outside { HasNoTxn result }
+        ensures head { result.journal.head ≡ head_of work.now.splits (length work.now.sessions) }
     {
         SessionRun {
-            actor: ActorId::Session(1),
-            range: ActorId::Range(0),
-            coordinator: Coordinator::new(alloc, 1, work.tries, work.pipelining, &work.splits),
+            coordinator: Coordinator::new(
+                alloc,
+                SESSION,
+                work.tries,
+                work.pipelining,
+                &work.splits,
+            ),
             clock: clock_of(work),
             state: RangeState::new(alloc),
-            journal: Journal::new(alloc),
+            journal: Journal::new(alloc, &work.splits, work.sessions.len()),
             sends: 0,
             unheard: None,
         }
     }
 
-    pub fn into_journal(self) -> Journal
+    pub fn into_journal(self) -> Journal<'a>
         ensures { result ≡ self.entry.journal }
     {
         self.journal
     }
 
-    /// Runs the script to its end, or to where this form cannot go on.
+    /// Runs the script's first item to its end, or to where this form cannot go on.
     pub fn script(&mut self, script: &Script) -> Result<(), NoMemory>
-        requires { Fits self.old }
-        ensures { OnOk result (Fits self.new) }
+        requires follows { IsFollowing self.old }
+        requires idle { HasNoCall self.old }
+        requires outside { HasNoTxn self.old }
+        ensures head { OnOk result (HasSameHead self.old self.new) }
     {
-        for item in script.as_slice() {
-            if !self.item(item)? {
-                break;
-            }
+        if let Some(item) = script.get(0) {
+            self.item(item)?;
         }
         Ok(())
     }
 
     fn item(&mut self, item: &Item) -> Result<bool, NoMemory>
-        requires { Fits self.old }
-        ensures { OnOk result (Fits self.new) }
+        requires follows { IsFollowing self.old }
+        requires idle { HasNoCall self.old }
+        requires outside { HasNoTxn self.old }
+        ensures head { OnOk result (HasSameHead self.old self.new) }
     {
         match item {
             Item::Txn {
@@ -89,8 +100,10 @@ impl<'a> SessionRun<'a> {
     }
 
     fn transaction(&mut self, priority: Priority, statements: &Statements) -> Result<bool, NoMemory>
-        requires { Fits self.old }
-        ensures { OnOk result (Fits self.new) }
+        requires follows { IsFollowing self.old }
+        requires idle { HasNoCall self.old }
+        requires outside { HasNoTxn self.old }
+        ensures head { OnOk result (HasSameHead self.old self.new) }
     {
         if !self.call(Call::Begin(priority))? {
             return Ok(false);
@@ -102,8 +115,11 @@ impl<'a> SessionRun<'a> {
     }
 
     fn statements(&mut self, statements: &Statements) -> Result<bool, NoMemory>
-        requires { Fits self.old }
-        ensures { OnOk result (Fits self.new) }
+        requires follows { IsFollowing self.old }
+        requires idle { HasNoCall self.old }
+        ensures follows { IfOk result (λ told. told ≡ true → IsFollowing self.new) }
+        ensures idle { IfOk result (λ told. told ≡ true → HasNoCall self.new) }
+        ensures head { OnOk result (HasSameHead self.old self.new) }
     {
         for statement in statements.as_slice() {
             if !self.statement(statement)? {
@@ -114,8 +130,11 @@ impl<'a> SessionRun<'a> {
     }
 
     fn statement(&mut self, statement: &Statement) -> Result<bool, NoMemory>
-        requires { Fits self.old }
-        ensures { OnOk result (Fits self.new) }
+        requires follows { IsFollowing self.old }
+        requires idle { HasNoCall self.old }
+        ensures follows { IfOk result (λ told. told ≡ true → IsFollowing self.new) }
+        ensures idle { IfOk result (λ told. told ≡ true → HasNoCall self.new) }
+        ensures head { OnOk result (HasSameHead self.old self.new) }
     {
         match statement {
             Statement::Put(key, value) => self.put(key, value),
@@ -124,8 +143,11 @@ impl<'a> SessionRun<'a> {
     }
 
     fn put(&mut self, key: &Key, value: &Value) -> Result<bool, NoMemory>
-        requires { Fits self.old }
-        ensures { OnOk result (Fits self.new) }
+        requires follows { IsFollowing self.old }
+        requires idle { HasNoCall self.old }
+        ensures follows { IfOk result (λ told. told ≡ true → IsFollowing self.new) }
+        ensures idle { IfOk result (λ told. told ≡ true → HasNoCall self.new) }
+        ensures head { OnOk result (HasSameHead self.old self.new) }
     {
         let key = key.copy()?;
         let value = value.copy()?;
@@ -134,8 +156,13 @@ impl<'a> SessionRun<'a> {
 
     /// Asks a call, and goes on until it is told its answer. False where it never is.
     fn call(&mut self, call: Call) -> Result<bool, NoMemory>
-        requires { Fits self.old }
-        ensures { OnOk result (Fits self.new) }
+        requires follows { IsFollowing self.old }
+        requires idle { HasNoCall self.old }
+        requires whose { is_round call ≡ false }
+        requires outside { is_outside call ≡ true → HasNoTxn self.old }
+        ensures follows { IfOk result (λ told. told ≡ true → IsFollowing self.new) }
+        ensures idle { IfOk result (λ told. told ≡ true → HasNoCall self.new) }
+        ensures head { OnOk result (HasSameHead self.old self.new) }
     {
         self.ask(call)?;
         for _ in 0..u64::MAX {
@@ -149,136 +176,102 @@ impl<'a> SessionRun<'a> {
     }
 
     fn ask(&mut self, call: Call) -> Result<(), NoMemory>
-        requires { Fits self.old }
-        ensures { OnOk result (Fits self.new) }
+        requires follows { IsFollowing self.old }
+        requires idle { HasNoCall self.old }
+        requires whose { is_round call ≡ false }
+        requires outside { is_outside call ≡ true → HasNoTxn self.old }
+        ensures follows { OnOk result (IsFollowing self.new) }
+        ensures head { OnOk result (HasSameHead self.old self.new) }
     {
         let reading = self.clock.read();
-        self.enter_ask(&call, reading)?;
+        self.journal.ask(SESSION, &call, reading)?;
         self.coordinator.ask(call, reading)
-    }
-
-    fn enter_ask(&mut self, call: &Call, reading: u64) -> Result<(), NoMemory>
-        ensures others { self.new ≡ record self.old { journal = self.new.journal } }
-        ensures longer { OnOk result (length self.new.journal ≡ length self.old.journal + 1) }
-        ensures short { OnOk result (length self.new.journal ≤ 2 ^ 64) }
-    {
-        let call = call.copy()?;
-        self.journal.ask(self.actor, call, reading)?;
-        Ok(())
     }
 
     /// Does what is due.
     fn step(&mut self) -> Result<Progress, NoMemory>
-        requires { Fits self.old }
-        ensures { OnOk result (Fits self.new) }
+        requires follows { IsFollowing self.old }
+        ensures after { IfOk result (IsAfterStep self.new) }
+        ensures head { OnOk result (HasSameHead self.old self.new) }
     {
         match self.coordinator.next()? {
             Next::Send(request) => self.send(request),
             Next::Wave => self.wave(),
-            Next::Tell(answer) => {
-                self.enter_tell(answer)?;
-                self.coordinator.told();
-                Ok(Progress::Told)
-            }
+            Next::Tell(answer) => self.tell(answer),
             Next::Idle => Ok(Progress::Stuck),
         }
     }
 
+    /// A message that is for no range that is there, and one past the last number, stop the run.
     fn send(&mut self, request: Request) -> Result<Progress, NoMemory>
-        requires fits { Fits self.old }
-        requires stamps { StampsAtMost self.old.known request }
-        requires kind { IsPutOrCommit request }
-        ensures { OnOk result (Fits self.new) }
+        requires follows { IsFollowing self.old }
+        requires due { next_of self.old.coordinator.due ≡ nexts.Send request }
+        requires may { MayCome self.old.coordinator (known_by 1 self.old.journal) (nexts.Send request) }
+        ensures after { IfOk result (IsAfterStep self.new) }
+        ensures head { OnOk result (HasSameHead self.old self.new) }
     {
-        self.sends = self.sends.saturating_add(1);
-        self.enter_send(&request)?;
+        if self.sends == u64::MAX || !is_for_first(&request) {
+            return Ok(Progress::Stuck);
+        }
+        let number = self.sends + 1;
+        self.journal.send(SESSION, number, RANGE, &request)?;
+        self.coordinator.sent(number)?;
+        self.sends = number;
         self.unheard = Some(request);
-        self.coordinator.sent(self.sends)?;
         Ok(Progress::Goes)
     }
 
-    fn enter_send(&mut self, request: &Request) -> Result<(), NoMemory>
-        ensures others { self.new ≡ record self.old { journal = self.new.journal } }
-        ensures longer { OnOk result (length self.new.journal ≡ length self.old.journal + 1) }
-        ensures short { OnOk result (length self.new.journal ≤ 2 ^ 64) }
+    fn tell(&mut self, answer: Answer) -> Result<Progress, NoMemory>
+        requires follows { IsFollowing self.old }
+        requires due { next_of self.old.coordinator.due ≡ nexts.Tell answer }
+        requires may { MayCome self.old.coordinator (known_by 1 self.old.journal) (nexts.Tell answer) }
+        ensures after { IfOk result (IsAfterStep self.new) }
+        ensures head { OnOk result (HasSameHead self.old self.new) }
     {
-        let request = request.copy()?;
-        self.journal.send(self.actor, self.sends, 0, request)?;
-        Ok(())
+        self.journal.tell(SESSION, answer)?;
+        self.coordinator.told();
+        Ok(Progress::Told)
     }
 
     /// The range evaluates the message that was sent, and the session hears the reply.
     fn wave(&mut self) -> Result<Progress, NoMemory>
-        requires { Fits self.old }
-        ensures { OnOk result (Fits self.new) }
+        requires follows { IsFollowing self.old }
+        requires due { next_of self.old.coordinator.due ≡ nexts.Wave }
+        ensures after { IfOk result (IsAfterStep self.new) }
+        ensures head { OnOk result (HasSameHead self.old self.new) }
     {
-        if let Some(request) = self.unheard.take() {
-            self.serve(&request)?;
+        match self.unheard.take() {
+            Some(request) => self.serve(&request),
+            None => Ok(Progress::Stuck),
         }
-        Ok(Progress::Goes)
     }
 
-    fn serve(&mut self, request: &Request) -> Result<(), NoMemory>
-        requires fits { Fits self.old }
-        requires sent { UnheardAtMost (ceiling (length self.old.journal)) (Some request.now) }
-        ensures { OnOk result (Fits self.new) }
+    fn serve(&mut self, request: &Request) -> Result<Progress, NoMemory>
+        requires follows { Follows self.old.coordinator self.old.state self.old.sends (Some request.now) self.old.journal }
+        requires none { self.old.unheard ≡ None }
+        requires due { next_of self.old.coordinator.due ≡ nexts.Wave }
+        ensures after { IfOk result (IsAfterStep self.new) }
+        ensures head { OnOk result (HasSameHead self.old self.new) }
     {
-        let reply = self.evaluate(request)?;
-        let step = self.enter_eval(&reply)?;
+        let reply = self.state.eval(request)?;
+        let step = self
+            .journal
+            .eval(RANGE, ActorId::Session(SESSION), self.sends, &reply)?;
         self.hear(step, &reply)
     }
 
-    fn evaluate(&mut self, request: &Request) -> Result<Reply, NoMemory>
-        requires room { HasRoom request.now self.old.state }
-        requires kind { IsPutOrCommit request.now }
-        ensures reply { IfOk result (λ made. made ≡ reply request.now self.old.state) }
-        ensures after { OnOk result (self.new ≡ record self.old { state = state_after request.now self.old.state }) }
+    fn hear(&mut self, step: u64, reply: &Reply) -> Result<Progress, NoMemory>
+        requires follows { Follows self.old.coordinator self.old.state self.old.sends None self.old.journal }
+        requires none { self.old.unheard ≡ None }
+        requires waited { waits_for self.old.sends self.old.coordinator.due ≡ true }
+        requires may { MayHear (known_by 1 self.old.journal) self.old.sends }
+        requires answered { IsAnswered self.old.journal (actors.Session 1) self.old.sends step reply.now }
+        ensures after { IfOk result (IsAfterStep self.new) }
+        ensures head { OnOk result (HasSameHead self.old self.new) }
     {
-        self.state.eval(request)
-    }
-
-    fn enter_eval(&mut self, reply: &Reply) -> Result<u64, NoMemory>
-        ensures others { self.new ≡ record self.old { journal = self.new.journal } }
-        ensures longer { OnOk result (length self.new.journal ≡ length self.old.journal + 1) }
-        ensures short { OnOk result (length self.new.journal ≤ 2 ^ 64) }
-    {
-        let reply = reply.copy()?;
-        self.journal.eval(self.range, self.actor, self.sends, reply)
-    }
-
-    fn enter_hear(&mut self, step: u64) -> Result<(), NoMemory>
-        ensures others { self.new ≡ record self.old { journal = self.new.journal } }
-        ensures longer { OnOk result (length self.new.journal ≡ length self.old.journal + 1) }
-        ensures short { OnOk result (length self.new.journal ≤ 2 ^ 64) }
-    {
-        self.journal.hear(self.actor, self.sends, step)?;
-        Ok(())
-    }
-
-    fn enter_tell(&mut self, answer: Answer) -> Result<(), NoMemory>
-        ensures others { self.new ≡ record self.old { journal = self.new.journal } }
-        ensures longer { OnOk result (length self.new.journal ≡ length self.old.journal + 1) }
-        ensures short { OnOk result (length self.new.journal ≤ 2 ^ 64) }
-    {
-        self.journal.tell(self.actor, answer)?;
-        Ok(())
-    }
-
-    fn hear(&mut self, step: u64, reply: &Reply) -> Result<(), NoMemory>
-        requires fits { Fits self.old }
-        requires reply { ReplyAtMost (ceiling (length self.old.journal)) reply.now }
-        ensures { OnOk result (Fits self.new) }
-    {
-        self.enter_hear(step)?;
-        self.hand_on(step, reply)?;
-        Ok(())
-    }
-
-    fn hand_on(&mut self, step: u64, reply: &Reply) -> Result<(), NoMemory>
-        ensures others { self.new ≡ record self.old { known = self.new.known } }
-        ensures known { (most : ℕ) → self.old.known ≤ most → ReplyAtMost most reply.now → self.new.known ≤ most }
-    {
-        self.coordinator.heard(self.sends, step, reply)
+        self.journal.hear(SESSION, self.sends, step)?;
+        self.coordinator.heard(self.sends, step, reply)?;
+        Ok(Progress::Goes)
     }
 }
 
@@ -291,6 +284,13 @@ enum Progress {
     Told,
     /// This form of the runner cannot go on.
     Stuck,
+}
+
+/// Whether the first range is where the message goes, if there is no other.
+fn is_for_first(request: &Request) -> bool
+    ensures { result ≡ true → GoesTo [] request.now 0 }
+{
+    matches!(request, Request::Put { .. } | Request::Commit { .. })
 }
 
 /// The clock that the workload states.

@@ -1,0 +1,33 @@
+-- A history and its actors, and what each of them has in it.
+use Rattle.std.specs.Prelude.{ℕ, List, []}
+use Rattle.pc_base.specs.declared.actor.ActorId.{ActorId}
+use Rattle.pc_base.specs.declared.actor.ActorId.TheVariants as actors
+use Rattle.pc_base.specs.declared.entry.Entry.{Entry}
+use Rattle.pc_history.specs.Own.{own}
+use Rattle.pc_proto.specs.declared.event.Event.{Event}
+use Rattle.pc_world.specs.Known.{Known, known}
+use Rattle.pc_world.specs.Local.{Head}
+use Rattle.pc_world.specs.RangeState.{RangeState}
+use Rattle.pc_world.specs.Run.{IsRun, protocol}
+use Rattle.pc_world.specs.StateOf.{state_of}
+
+-- The entries so far, under the actors that the run has.
+pub record History : Type 0 where
+  pub head : Head
+  pub entries : List (Entry Event)
+
+-- The history is a run of its actors.
+abbrev pub IsRunSoFar : History → Type 0
+IsRunSoFar h = IsRun h.head h.entries
+
+-- What a session knows by its entries so far.
+abbrev pub known_by : ℕ → History → Known
+known_by session h = known (own (protocol h.head) (actors.Session session) h.entries)
+
+-- What a range is after its entries so far.
+abbrev pub state_in : ℕ → History → RangeState
+state_in range h = state_of (own (protocol h.head) (actors.Range range) h.entries)
+
+-- The head of a run in which sessions alone act.
+abbrev pub head_of : List (List ℕ) → ℕ → Head
+head_of splits sessions = record { splits = splits; sessions = sessions; recoverers = 0 }
