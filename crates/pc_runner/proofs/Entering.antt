@@ -103,3 +103,17 @@ entered head xs ys h place actor event is run may more at small = subst P is her
           run = subst (λ (es : List (Entry Event)). IsRun head es) (sym long) (run_push head xs (next_entry g actor event) run (may run));
           short = omega arith;
         }
+
+-- the same of copies
+pub ask_copied : (h : History) (session : ℕ) (call made : Call) (reading : ℕ) → made ≡ call → IsActorOf h.head (actors.Session session) → MayAsk (actors.Session session) (known_by session h) call
+    → MayFollow (protocol h.head) h.entries (next_entry h (actors.Session session) (events.Ask made reading))
+ask_copied h session call made reading is there may = ask_follows h session made reading there (subst (λ x. MayAsk (actors.Session session) (known_by session h) x) (sym is) may)
+
+pub send_copied : (h : History) (session number range : ℕ) (request made : Request) → made ≡ request → IsActorOf h.head (actors.Session session) → MaySend h.head.splits (actors.Session session) (known_by session h) number range request
+    → MayFollow (protocol h.head) h.entries (next_entry h (actors.Session session) (events.Send number range made))
+send_copied h session number range request made is there may =
+    send_follows h session number range made there (subst (λ x. MaySend h.head.splits (actors.Session session) (known_by session h) number range x) (sym is) may)
+
+pub eval_copied : (h : History) (range : ℕ) (actor : ActorId) (number : ℕ) (told made : Reply) → made ≡ told → IsRunSoFar h → AnswersNow h range actor number told
+    → MayFollow (protocol h.head) h.entries (next_entry h (actors.Range range) (events.Eval actor number made))
+eval_copied h range actor number told made is run a = eval_follows h range actor number made run (subst (λ x. AnswersNow h range actor number x) (sym is) a)

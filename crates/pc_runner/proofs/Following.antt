@@ -1,5 +1,5 @@
 -- What each step makes of a runner that follows its session.
-use Rattle.std.proofs.Common.{◌≡◌, ◌≢◌, ℕ, ◌+◌, ◌<◌, ◌≤◌, ◌^◌, Bool, true, false, ◌==◌, not, All, Contains, List, [], ◌∷◌, ◌++◌, length, Option, Some, None, IsTrue, refl, sym, ap, subst, ◌∙◌, arith, length-append}
+use Rattle.std.proofs.Common.{◌≡◌, ◌≢◌, ℕ, ◌+◌, ◌<◌, ◌≤◌, ◌^◌, Bool, true, false, ◌==◌, not, All, Contains, List, [], ◌∷◌, ◌++◌, length, Option, Some, None, Result, Ok, Err, OnOk, refl, sym, ap, subst, ◌∙◌, arith, length-append}
 use Rattle.std.proofs.lemmas.List.{append-nil}
 use Rattle.std.proofs.lemmas.List.Elements.{All-weaker, Contains-append_left, Contains-append_right}
 use Rattle.std.proofs.lemmas.List.Folds.{list_any_none, list_any-append}
@@ -16,7 +16,7 @@ use Rattle.pc_coord.specs.declared.due.Wait.TheVariants as waits
 use Rattle.pc_coord.specs.declared.next.Next.TheVariants as nexts
 use Rattle.pc_coord.specs.declared.transaction.Transaction.{Transaction}
 use Rattle.pc_coord.specs.Events.{IsAsked, IsHeard, IsSent, IsTold}
-use Rattle.pc_coord.specs.Knows.{Awaits, AwaitsReply, IsCounted, IsLastSent, IsSendable, Knows, KnowsAt, Rests, learned}
+use Rattle.pc_coord.specs.Knows.{Awaits, AwaitsReply, IsCounted, IsLastSent, IsPutOrCommit, IsSendable, Knows, KnowsAt, Rests, learned}
 use Rattle.pc_history.proofs.Histories.{named-none}
 use Rattle.pc_history.proofs.Lists.{contains_head}
 use Rattle.pc_history.specs.declared.pair.Pair.{Pair}
@@ -27,6 +27,7 @@ use Rattle.pc_proto.specs.declared.event.Event.{Event}
 use Rattle.pc_proto.specs.declared.event.Event.TheVariants as events
 use Rattle.pc_proto.specs.declared.reply.Reply.{Reply}
 use Rattle.pc_proto.specs.declared.request.Request.{Request}
+use Rattle.pc_proto.specs.declared.request.Request.TheVariants as requests
 use Rattle.pc_world.proofs.Kept.{run_has_room, run_top}
 use Rattle.pc_world.proofs.Knowing.{known_other, known_same, state_other, state_same}
 use Rattle.pc_world.specs.Evaluation.{reply, state_after}
@@ -47,10 +48,10 @@ use Rattle.pc_runner.specs.Following.{Follows, IsLast, IsWaiting}
 use Rattle.pc_runner.specs.History.{History, IsRunSoFar, head_of, known_by, state_in}
 use Rattle.pc_runner.specs.Journal.{AnswersNow, HasOneMore, IsAnswered, next_entry, with_entry}
 
-abbrev me : ActorId
+abbrev pub me : ActorId
 me = actors.Session 1
 
-abbrev it : ActorId
+abbrev pub it : ActorId
 it = actors.Range 0
 
 -- The session's next entry, with the one that it names.
@@ -115,17 +116,6 @@ silent : (count : ℕ) (sent : List Sent) → count ≡ length sent → count �
 silent count sent h = h ∙ sym (ap length (append-nil sent))
 
 -- Where no statement is open, the coordinator rests.
-open_call : (k : Known) (txn : Option Transaction) (number : ℕ) (wait : Wait) → AwaitsReply k txn number wait → k.statement ≡ None → ⊥
-open_call k txn number waits.Put a none = let e = a.call in absurd cc
-open_call k txn number (waits.Commit ts refusals) a none = let e = a.call in absurd cc
-
-resting : (c : Coordination) (k : Known) (due : Due) → KnowsAt c k due → k.statement ≡ None → IsCounted c.clock c.begun k
-resting c k dues.Nothing stands none = stands.counted
-resting c k dues.Stuck stands none = stands.counted
-resting c k (dues.Send request wait) stands none = absurd (open_call (learned (events.Send (next_number k) 0 request) k) c.txn (next_number k) wait (stands.after 0).reply none)
-resting c k (dues.Hear number wait) stands none = stands.counted
-resting c k (dues.Tell answer) stands none = absurd (let e = stands.0.opened in let d : Some stands.0.s ≡ None = sym e ∙ none in absurd cc)
-
 same-number : (m n : ℕ) → m ≡ n → (m == n) ≡ true
 same-number m n h = grind arith
 
@@ -158,13 +148,11 @@ last_waited k txn number (waits.Commit ts refusals) a = (a.before, a.m, a.last)
 
 may_hear : (k : Known) (number : ℕ) (before : List Sent) (m : Sent) → k.sent ≡ before ++ m ∷ [] → m.number ≡ number → All (λ (x : Heard). x.number < number) k.heard → MayHear k number
 may_hear k number before m last is unheard = record {
-  sent =
-      let there : list_any (λ x. x.number == number) k.sent ≡ true = ap (list_any (λ (x : Sent). x.number == number)) last ∙ any_last number before m is in
-      subst IsTrue (sym there) tt;
+  sent = ap (list_any (λ (x : Sent). x.number == number)) last ∙ any_last number before m is;
   unheard =
-      let none : list_any (λ x. x.number == number) k.heard ≡ false =
+      let none : list_any (λ (x : Heard). x.number == number) k.heard ≡ false =
       list_any_none (λ (x : Heard). x.number == number) k.heard (All-weaker (λ (x : Heard). x.number < number) (λ x. (x.number == number) ≡ false) (λ x lt. other-number x.number number lt) k.heard unheard) in
-      subst (λ b. IsTrue (not b)) (sym none) tt;
+      ap not none;
 }
 
 heard_next : (c : Coordination) (k : Known) (due : Due) (count : ℕ) (before : List Sent) (m : Sent) → KnowsAt c k due → next_of due ≡ nexts.Wave → k.sent ≡ before ++ m ∷ [] → m.number ≡ count
@@ -205,16 +193,6 @@ begun c splits sessions knows session is none some = record {
   waiting = tt;
 }
 
-pub ask_room : (c : Coordination) (s : RangeState) (count : ℕ) (u : Option Request) (h : History) → Follows c s count u h → (known_by 1 h).statement ≡ None → c.clock < greatest
-ask_room c s count u h f none =
-    let k = known_by 1 h in
-    let r : IsCounted c.clock c.begun k = resting c k c.due f.knows.stands none in
-    let top : k.top ≤ clock_end + length h.entries = run_top h.head me h.entries f.run in
-    let clock : c.clock ≡ k.high = r.clock in
-    let below : k.high ≤ k.top = r.below in
-    let short : length h.entries ≤ 2 ^ 64 = f.short in
-    omega arith
-
 pub may_ask : (h : History) (call : Call) → (known_by 1 h).statement ≡ None → is_round call ≡ false → (is_outside call ≡ true → (known_by 1 h).is_open ≡ false) → MayAsk me (known_by 1 h) call
 may_ask h call none whose outside = record { none_open = none; whose = whose; outside = outside }
 
@@ -229,14 +207,19 @@ asked c d s count u h g place call reading f none outside more learns session sp
     (record { is = record { says = refl; names = named-none (protocol h.head) h.entries event (λ e. refl) }; none_open = none; outside = outside }) in
     on c d s count count u u h g place event f more session splits knows (silent count (known_by 1 h).sent f.counted) (still_waiting u count h g place event more refl f.waiting)
 
+goes : (request : Request) → IsPutOrCommit request → GoesTo [] request 0
+goes (requests.Put meta seq ts key value) kind = refl
+goes (requests.Commit meta ts locks) kind = refl
+goes _ kind = absurd kind
+
 pub may_send : (c : Coordination) (s : RangeState) (count number : ℕ) (u : Option Request) (h : History) (request : Request)
-    → Follows c s count u h → IsSendable c.splits c.session (known_by 1 h) request → GoesTo [] request 0 → number ≡ count + 1
+    → Follows c s count u h → IsSendable c.splits c.session (known_by 1 h) request → number ≡ count + 1
     → MaySend h.head.splits me (known_by 1 h) number 0 request
-may_send c s count number u h request f may there next =
+may_send c s count number u h request f may next =
     let row : MaySendRow c.splits me (known_by 1 h) request = subst (λ n. MaySendRow c.splits (actors.Session n) (known_by 1 h) request) f.session may.row in
     record {
       next = next ∙ ap (λ n. n + 1) f.counted;
-      there = subst (λ splits. GoesTo splits request 0) (sym f.one_range) there;
+      there = subst (λ splits. GoesTo splits request 0) (sym f.one_range) (goes request may.kind);
       stamps = may.stamps;
       row = subst (λ splits. MaySendRow splits me (known_by 1 h) request) f.splits row;
     }
@@ -331,3 +314,39 @@ heard c d s count h g place step said f waited a more learns session splits =
     let knows = learns (known_by 1 h) (next_pair h event) f.knows
     (record { waited = waited; event = refl; evaluation = a.evaluation; actor = me; asked = count; named = hear_names h me count step said a f.run; told = a.says }) in
     on c d s count count None None h g place event f more session splits knows (silent count (known_by 1 h).sent f.counted) tt
+
+pub on_ok : {T F : Type 0} (r : Result T F) (P : Type 0) → P → OnOk r P
+on_ok (Ok x) P p = p
+on_ok (Err e) P p = tt
+
+pub asked_ok : {T F : Type 0} (r : Result T F) (c d : Coordination) (s : RangeState) (count : ℕ) (u : Option Request) (h g : History) (place : ℕ) (call : Call) (reading : ℕ)
+    → Follows c s count u h → (known_by 1 h).statement ≡ None → (is_outside call ≡ true → (known_by 1 h).is_open ≡ false)
+    → HasOneMore place h g me (events.Ask call reading)
+    → ((k : Known) (p : Pair Event) → Knows c k → IsAsked call reading k p → OnOk r (Knows d (learn p k)))
+    → d.session ≡ c.session → d.splits ≡ c.splits → OnOk r (Follows d s count u g)
+asked_ok (Ok x) c d s count u h g place call reading f none outside more learns session splits = asked c d s count u h g place call reading f none outside more learns session splits
+asked_ok (Err e) c d s count u h g place call reading f none outside more learns session splits = tt
+
+pub heard_now : (c d : Coordination) (s : RangeState) (count : ℕ) (u : Option Request) (h g : History) (place step : ℕ) (said : Reply)
+    → Follows c s count None h → u ≡ None → waits_for count c.due ≡ true → IsAnswered h me count step said → HasOneMore place h g me (events.Hear count step)
+    → ((k : Known) (p : Pair Event) → Knows c k → IsHeard c count step said p → Knows d (learn p k))
+    → d.session ≡ c.session → d.splits ≡ c.splits → Follows d s count u g
+heard_now c d s count u h g place step said f none waited a more learns session splits =
+    subst (λ v. Follows d s count v g) (sym none) (heard c d s count h g place step said f waited a more learns session splits)
+
+-- After the range evaluated the last message, as its code leaves it.
+pub served_now : (c : Coordination) (s t : RangeState) (count : ℕ) (request : Request) (h g : History) (place : ℕ) (said : Reply)
+    → Follows c s count (Some request) h → t ≡ state_after request s → HasOneMore place h g it (events.Eval me count said) → Follows c t count None g
+served_now c s t count request h g place said f is more = subst (λ x. Follows c x count None g) (sym is) (served c s count request h g place said f more)
+
+pub may_hear_now : (c : Coordination) (s : RangeState) (count : ℕ) (request : Request) (h g : History) (place : ℕ) (said : Reply)
+    → Follows c s count (Some request) h → next_of c.due ≡ nexts.Wave → HasOneMore place h g it (events.Eval me count said) → MayHear (known_by 1 g) count
+may_hear_now c s count request h g place said f wave more =
+    subst (λ k. MayHear k count) (sym (known_kept h g place count said more)) (waited c s count request h f wave).1
+
+pub begun_now : (c : Coordination) (s : RangeState) (h : History) (splits : List (List ℕ)) (sessions count : ℕ) → Knows c nothing_known → c.session ≡ 1 → c.splits ≡ splits → s ≡ no_state
+    → h ≡ record { head = head_of splits sessions; entries = [] } → splits ≡ [] → sessions ≡ count → count ≡ 1 → Follows c s 0 None h
+begun_now c s h splits sessions count knows session is state fresh none same one =
+    let first : Follows c no_state 0 None (record { head = head_of splits sessions; entries = [] }) = begun c splits sessions knows session is none (omega arith) in
+    let there : Follows c no_state 0 None h = subst (λ (x : History). Follows c no_state 0 None x) (sym fresh) first in
+    subst (λ (x : RangeState). Follows c x 0 None h) (sym state) there

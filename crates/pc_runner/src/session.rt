@@ -10,7 +10,6 @@ ghost use Rattle.pc_runner.specs.Journal.{IsAnswered};
 ghost use Rattle.pc_runner.specs.Progress.{IsAfterStep};
 ghost use Rattle.pc_work.specs.Built.{IsBuilt};
 ghost use Rattle.pc_world.specs.Local.{MayHear, is_outside, is_round};
-ghost use Rattle.pc_world.specs.RangeOf.{GoesTo};
 
 use crate::journal::Journal;
 use pc_base::{ActorId, Key, NoMemory, Priority, TryCopy, Value};
@@ -202,7 +201,7 @@ impl<'a> SessionRun<'a> {
         }
     }
 
-    /// A message that is for no range that is there, and one past the last number, stop the run.
+    /// The run stops where the numbers are used up.
     fn send(&mut self, request: Request) -> Result<Progress, NoMemory>
         requires follows { IsFollowing self.old }
         requires due { next_of self.old.coordinator.due ≡ nexts.Send request }
@@ -210,7 +209,7 @@ impl<'a> SessionRun<'a> {
         ensures after { IfOk result (IsAfterStep self.new) }
         ensures head { OnOk result (HasSameHead self.old self.new) }
     {
-        if self.sends == u64::MAX || !is_for_first(&request) {
+        if self.sends == u64::MAX {
             return Ok(Progress::Stuck);
         }
         let number = self.sends + 1;
@@ -284,13 +283,6 @@ enum Progress {
     Told,
     /// This form of the runner cannot go on.
     Stuck,
-}
-
-/// Whether the first range is where the message goes, if there is no other.
-fn is_for_first(request: &Request) -> bool
-    ensures { result ≡ true → GoesTo [] request.now 0 }
-{
-    matches!(request, Request::Put { .. } | Request::Commit { .. })
 }
 
 /// The clock that the workload states.
