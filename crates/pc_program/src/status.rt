@@ -1,4 +1,5 @@
-ghost use Rattle.std.specs.Prelude.{◌≡◌, IfOk, string_bytes};
+ghost use Rattle.std.specs.Prelude.{◌≡◌, ◌++◌, IfOk, string_bytes};
+ghost use Rattle.std.specs.Fmt.{decimal};
 ghost use Rattle.pc_program.specs.Status.{code_of, line_of, rule_word};
 
 use pc_base::NoMemory;
@@ -104,8 +105,25 @@ fn fixed(alloc: Global, text: &str) -> Result<String, NoMemory>
 fn not_run(alloc: Global, line: u64, rule: Rule) -> Result<String, NoMemory>
     ensures { IfOk result (λ text. string_bytes text ≡ line_of (Status.NotRun line rule)) }
 {
-    let word = rule.word();
-    Ok(format!(in alloc; "pcommit: not a run: line {line}, rule {word}")?)
+    around(
+        alloc,
+        "pcommit: not a run: line ",
+        line,
+        ", rule ",
+        rule.word(),
+    )
+}
+
+fn around(
+    alloc: Global,
+    before: &str,
+    number: u64,
+    behind: &str,
+    word: &str,
+) -> Result<String, NoMemory>
+    ensures { IfOk result (λ text. string_bytes text ≡ before.now ++ decimal number ++ behind.now ++ word.now) }
+{
+    Ok(format!(in alloc; "{before}{number}{behind}{word}")?)
 }
 
 fn write_failed(alloc: Global, written: usize) -> Result<String, NoMemory>
