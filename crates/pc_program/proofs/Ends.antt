@@ -1,7 +1,5 @@
 -- From what is said of the bytes that were read to what is said of those that the source had.
-use Rattle.std.proofs.Common.{◌≡◌, ℕ, List, Option, None, Some, IfSome, Ok, Err, Result, subst, ◌↔◌}
-use Rattle.pc_io.specs.declared.reading.ReadFault.{ReadFault}
-use Rattle.pc_io.specs.declared.reading.ReadFault.TheVariants as faults
+use Rattle.std.proofs.Common.{◌≡◌, ℕ, List, Option, None, Some, IfSome, subst, ◌↔◌}
 use Rattle.pc_io.specs.Reading.{IsAllOf}
 use Rattle.pc_program.specs.declared.status.Status.{Status}
 use Rattle.pc_program.specs.declared.status.Status.TheVariants as statuses
@@ -24,10 +22,10 @@ carried (statuses.TooLong count) left bytes P all p = tt
 carried statuses.NoMemory left bytes P all p = tt
 
 -- What comes after reading is not that the input was too long.
-pub not_long : {B : Type 0} (status : Status) (count : ℕ) (bytes : B) (left : Option (List ℕ)) (Takes : List ℕ → Type 0) (W : Type 0) → IsAfterReading status → IfSome left (λ there. (Ok {E = ReadFault} bytes ≡ Err (faults.TooLong count)) ↔ Takes there) → IfSome left (λ there. W → ((status ≡ statuses.TooLong count) ↔ Takes there))
-not_long status count bytes None Takes W after cause = tt
-not_long status count bytes (Some there) Takes W after cause =
-    λ w. (λ e. absurd (subst IsAfterReading e after), λ taken. let wrong = cause.1 taken in cc)
+pub not_long : (status : Status) (count : ℕ) (left : Option (List ℕ)) (Takes : List ℕ → Type 0) (Long W : Type 0) → IsAfterReading status → IfSome left (λ there. Long ↔ Takes there) → ¬ Long → IfSome left (λ there. W → ((status ≡ statuses.TooLong count) ↔ Takes there))
+not_long status count None Takes Long W after cause short = tt
+not_long status count (Some there) Takes Long W after cause short =
+    λ w. (λ e. absurd (subst IsAfterReading e after), λ taken. absurd (short (cause.1 taken)))
 
 -- Where the premise does not hold.
 pub unless : (left : Option (List ℕ)) (W : Type 0) (X : List ℕ → Type 0) → ¬ W → IfSome left (λ there. W → X there)

@@ -1,4 +1,4 @@
-ghost use Rattle.std.specs.Prelude.{◌≡◌, ℕ, ◌+◌, ◌≤◌, ◌↔◌, ◌⊎◌, IsTrue, IsSome, IfSome, map, take, string_bytes};
+ghost use Rattle.std.specs.Prelude.{◌≡◌, ℕ, ◌+◌, ◌≤◌, ◌↔◌, ◌⊎◌, IsTrue, IsSome, IfSome, codes, map, take, string_bytes};
 ghost use Rattle.std.specs.Io.KnownBytes.{Appends};
 ghost use Rattle.pc_io.specs.Counts.{Rose};
 ghost use Rattle.pc_io.specs.Reading.{LeavesNothing, TakesExactly};
@@ -73,7 +73,13 @@ pub fn pcommit<S: Source, K: Sink, M: Clocks, G: Gate>(
 fn are_run(words: &[String]) -> bool
     ensures { IsTrue result ↔ IsRun (map string_bytes words.now) }
 {
-    words.len() == 1 && words[0].as_str() == "run"
+    words.len() == 1 && is_run(words[0].as_str())
+}
+
+fn is_run(word: &str) -> bool
+    ensures { IsTrue result ↔ (word.now ≡ codes "run") }
+{
+    word == "run"
 }
 
 /// Runs the workload that the bytes state.
