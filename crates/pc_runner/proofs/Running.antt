@@ -4,12 +4,10 @@ use Rattle.std.proofs.lemmas.List.Elements.{All-weaker}
 use Rattle.pc_base.specs.declared.entry.Entry.{Entry}
 use Rattle.pc_base.specs.Timestamp.{greatest}
 use Rattle.pc_coord.specs.Sends.{greatest_begin, IsPutOrCommit, ReplyAtMost, StampsAtMost, ViewAtMost}
-use Rattle.pc_eval.specs.IsBuilt.{IsBuilt}
 use Rattle.pc_proto.specs.declared.event.Event.{Event}
 use Rattle.pc_proto.specs.declared.reply.Reply.{Reply}
 use Rattle.pc_proto.specs.declared.reply.Reply.TheVariants as replies
 use Rattle.pc_proto.specs.declared.request.Request.{Request}
-use Rattle.pc_proto.specs.declared.request.Request.TheVariants as requests
 use Rattle.pc_proto.specs.declared.view.View.{View}
 use Rattle.pc_proto.specs.declared.view.View.TheVariants as views
 use Rattle.pc_proto.specs.Stamps.{request_stamps}
@@ -29,11 +27,6 @@ stamps_more most more request h asked = All-weaker (λ ts. ts ≤ most) (λ ts. 
 unheard_more : (most more : ℕ) (unheard : Option Request) → most ≤ more → UnheardAtMost most unheard → UnheardAtMost more unheard
 unheard_more most more None h k = tt
 unheard_more most more (Some request) h k = (stamps_more most more request h k.0, k.1)
-
-pub built : (request : Request) → IsPutOrCommit request → IsBuilt request
-built (requests.Put meta seq ts key value) kind = tt
-built (requests.Commit meta ts locks) kind = tt
-built _ kind = absurd kind
 
 pub room : (run : Running) (request : Request) → Fits run → UnheardAtMost (ceiling (length run.journal)) (Some request) → HasRoom request run.state
 room run request fits sent =

@@ -201,7 +201,14 @@ no_state_fits most = record {
 pub after_fits : (most : ℕ) (request : Request) (s : RangeState) → StampsAtMost most request → IsPutOrCommit request → StateAtMost most s → StateAtMost (most + 1) (state_after request s)
 after_fits most (requests.Put meta seq ts key value) s asked kind fits =
     let more = state_more most (most + 1) s (omega arith) fits in
-    record more { intents = put_lays (most + 1) key (put_outcome meta seq ts key value s) s.intents (put_most most meta seq ts key value s fits (All-head (λ t. t ≤ most) ts [] asked)) more.intents }
+    let outcome = put_most most meta seq ts key value s fits (All-head (λ t. t ≤ most) ts [] asked) in
+    record {
+      bound = more.bound;
+      versions = more.versions;
+      intents = put_lays (most + 1) key (put_outcome meta seq ts key value s) s.intents outcome more.intents;
+      records = more.records;
+      marks = more.marks;
+    }
 after_fits most (requests.Commit meta ts locks) s asked kind fits =
     let more = state_more most (most + 1) s (omega arith) fits in
     let low : ts ≤ most = All-head (λ t. t ≤ most) ts [] asked in
