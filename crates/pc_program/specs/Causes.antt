@@ -59,18 +59,6 @@ IfWriteFault (statuses.Journal line) fact = ⊤
 IfWriteFault (statuses.TooLong bytes) fact = ⊤
 IfWriteFault statuses.NoMemory fact = ⊤
 
--- What the fact says of the number of a refused workload.
-abbrev pub IfRefused : Status → (ℕ → Type 0) → Type 0
-IfRefused statuses.Done fact = ⊤
-IfRefused (statuses.NotRun line rule) fact = ⊤
-IfRefused statuses.Usage fact = ⊤
-IfRefused statuses.ReadFault fact = ⊤
-IfRefused (statuses.WriteFault written) fact = ⊤
-IfRefused (statuses.Workload number) fact = fact number
-IfRefused (statuses.Journal line) fact = ⊤
-IfRefused (statuses.TooLong bytes) fact = ⊤
-IfRefused statuses.NoMemory fact = ⊤
-
 -- Done, and then the fact.
 abbrev pub IfDone : Status → Type 0 → Type 0
 IfDone statuses.Done fact = fact

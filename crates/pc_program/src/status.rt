@@ -1,4 +1,5 @@
-ghost use Rattle.std.specs.Prelude.{◌≡◌, IfOk, string_bytes};
+ghost use Rattle.std.specs.Prelude.{◌≡◌, ◌++◌, IfOk, codes, string_bytes};
+ghost use Rattle.std.specs.Fmt.{decimal};
 ghost use Rattle.pc_program.specs.Status.{code_of, line_of, rule_word};
 
 use pc_base::NoMemory;
@@ -104,8 +105,15 @@ fn fixed(alloc: Global, text: &str) -> Result<String, NoMemory>
 fn not_run(alloc: Global, line: u64, rule: Rule) -> Result<String, NoMemory>
     ensures { IfOk result (λ text. string_bytes text ≡ line_of (Status.NotRun line rule)) }
 {
-    let word = rule.word();
-    Ok(format!(in alloc; "pcommit: not a run: line {line}, rule {word}")?)
+    let mut text = at_line(alloc, line)?;
+    text.push_str(rule.word())?;
+    Ok(text)
+}
+
+fn at_line(alloc: Global, line: u64) -> Result<String, NoMemory>
+    ensures { IfOk result (λ text. string_bytes text ≡ codes "pcommit: not a run: line " ++ decimal line ++ codes ", rule ") }
+{
+    Ok(format!(in alloc; "pcommit: not a run: line {line}, rule ")?)
 }
 
 fn write_failed(alloc: Global, written: usize) -> Result<String, NoMemory>

@@ -1,8 +1,8 @@
-ghost use Rattle.std.specs.Prelude.{◌≡◌, ℕ, ◌+◌, ◌≤◌, ◌↔◌, ◌⊎◌, IsTrue, IsSome, IfSome, map, take, string_bytes};
+ghost use Rattle.std.specs.Prelude.{◌≡◌, ℕ, ◌+◌, ◌≤◌, ◌↔◌, ◌⊎◌, IsTrue, IsSome, IfSome, codes, map, take, string_bytes};
 ghost use Rattle.std.specs.Io.KnownBytes.{Appends};
 ghost use Rattle.pc_io.specs.Counts.{Rose};
 ghost use Rattle.pc_io.specs.Reading.{LeavesNothing, TakesExactly};
-ghost use Rattle.pc_program.specs.Causes.{HasWritten, HasWrittenOf, IfDone, IfRead, IfRefused, IfWriteFault, IsAfterReading, IsBuilt, IsRun, IsWriting, UnlessWriting};
+ghost use Rattle.pc_program.specs.Causes.{HasWritten, HasWrittenOf, IfDone, IfRead, IfWriteFault, IsAfterReading, IsBuilt, IsRun, IsWriting, UnlessWriting};
 ghost use Rattle.pc_work.specs.Built.{IsBuilt as IsBuiltWork};
 ghost use Rattle.pc_work.specs.Workload.{IsJson, workload_in};
 
@@ -51,7 +51,6 @@ pub fn pcommit<S: Source, K: Sink, M: Clocks, G: Gate>(
         (result ≡ Status.Workload 10) ↔ (IsJson bytes × (workload_in bytes ≡ None)))) }
     ensures accepted { IfRead result (IfSome (S.left source.old) (λ bytes.
         IsWriting result ↔ (IsJson bytes × IsSome (workload_in bytes)))) }
-    ensures numbers { IfRefused result (λ number. (number ≡ 1) ⊎ (number ≡ 10)) }
 
     // Done is the whole output behind what the sink had taken; a write fault is a part of it. Else nothing was written.
     ensures done { IfDone result (HasWritten (S.left source.old) (K.taken sink.old) (K.taken sink.new) (λ text. text)) }
@@ -74,7 +73,13 @@ pub fn pcommit<S: Source, K: Sink, M: Clocks, G: Gate>(
 fn are_run(words: &[String]) -> bool
     ensures { IsTrue result ↔ IsRun (map string_bytes words.now) }
 {
-    words.len() == 1 && words[0].as_str() == "run"
+    words.len() == 1 && is_run(words[0].as_str())
+}
+
+fn is_run(word: &str) -> bool
+    ensures { IsTrue result ↔ (word.now ≡ codes "run") }
+{
+    word == "run"
 }
 
 /// Runs the workload that the bytes state.
@@ -88,7 +93,6 @@ fn run<K: Sink, M: Clocks, G: Gate>(
     ensures no_json { IfRead result ((result ≡ Status.Workload 1) ↔ ¬ (IsJson bytes.now)) }
     ensures other_form { IfRead result ((result ≡ Status.Workload 10) ↔ (IsJson bytes.now × (workload_in bytes.now ≡ None))) }
     ensures accepted { IfRead result (IsWriting result ↔ (IsJson bytes.now × IsSome (workload_in bytes.now))) }
-    ensures numbers { IfRefused result (λ number. (number ≡ 1) ⊎ (number ≡ 10)) }
     ensures done { IfDone result (HasWritten (Some bytes.now) (K.taken sink.old) (K.taken sink.new) (λ text. text)) }
     ensures part { IfWriteFault result (λ written. HasWritten (Some bytes.now) (K.taken sink.old) (K.taken sink.new) (take written)) }
     ensures write_fault { IfWriteFault result (λ written. Rose (K.faults sink.old) (K.faults sink.new)) }

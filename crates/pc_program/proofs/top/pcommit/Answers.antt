@@ -1,0 +1,32 @@
+use Rattle.std.proofs.Common.{◌≡◌, ◌↔◌, None, IsSome, map, string_bytes, Global, rules, subst, sym}
+use Rattle.pc_io.specs.Reading.{IsAllOf, TakesExactly}
+use Rattle.pc_program.specs.declared.status.Status.TheVariants as statuses
+use Rattle.pc_program.specs.Causes.{IsRun, IsWriting}
+use Rattle.pc_program.proofs.Ends.{carried, not_long, unless}
+use Rattle.pc_work.specs.Workload.{IsJson, workload_in}
+use Rattle.pc_program.proofs.top.pcommit.Goals as goal
+
+pub returns-then-not-are_run-clause-too_long : goal.returns-then-not-are_run-clause-too_long
+returns-then-not-are_run-clause-too_long g c =
+    let other : IsRun (map (string_bytes {Z = Global}) c.args.words.now) → ⊥ = search rules in
+    unless (g.S.Source.left c.args.source.now) _ _ other
+
+pub returns-in-Ok-clause-too_long : goal.returns-in-Ok-clause-too_long
+returns-in-Ok-clause-too_long g c =
+    not_long c.run.result 16777217 (g.S.Source.left c.args.source.now) (λ left. TakesExactly 16777217 left (g.S.Source.left c.read_all.new.source)) _ _
+    c.run.ensures.kind c.in-Ok.ensures.too_long (λ e. cc)
+
+pub returns-in-Ok-clause-other_form : goal.returns-in-Ok-clause-other_form
+returns-in-Ok-clause-other_form g c =
+    carried c.run.result (g.S.Source.left c.args.source.now) c.deref.result.now (λ bytes. (c.run.result ≡ statuses.Workload 10) ↔ (IsJson bytes × (workload_in bytes ≡ None)))
+    (subst (IsAllOf (g.S.Source.left c.args.source.now)) (sym c.deref.ensures.value) c.in-Ok.ensures.ok) c.run.ensures.other_form
+
+pub returns-in-Ok-clause-accepted : goal.returns-in-Ok-clause-accepted
+returns-in-Ok-clause-accepted g c =
+    carried c.run.result (g.S.Source.left c.args.source.now) c.deref.result.now (λ bytes. IsWriting c.run.result ↔ (IsJson bytes × IsSome (workload_in bytes)))
+    (subst (IsAllOf (g.S.Source.left c.args.source.now)) (sym c.deref.ensures.value) c.in-Ok.ensures.ok) c.run.ensures.accepted
+
+pub returns-in-Ok-clause-no_json : goal.returns-in-Ok-clause-no_json
+returns-in-Ok-clause-no_json g c =
+    carried c.run.result (g.S.Source.left c.args.source.now) c.deref.result.now (λ bytes. (c.run.result ≡ statuses.Workload 1) ↔ ¬ (IsJson bytes))
+    (subst (IsAllOf (g.S.Source.left c.args.source.now)) (sym c.deref.ensures.value) c.in-Ok.ensures.ok) c.run.ensures.no_json
