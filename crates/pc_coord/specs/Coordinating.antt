@@ -1,0 +1,105 @@
+-- What a coordinator does: how it stands after each call and reply.
+use Rattle.std.specs.Prelude.{ℕ, ◌+◌, ◌^◌, max, nat_lt, nat_le, Bool, true, false, ◌==◌, if◌then◌else◌, Option, None, Some, List}
+use Rattle.pc_base.specs.declared.transaction.Priority.{Priority}
+use Rattle.pc_coord.specs.Coordination.{Coordination, commit_due, with_begun, with_commit, with_due, with_end, with_put, with_raise}
+use Rattle.pc_coord.specs.declared.due.Due.{Due}
+use Rattle.pc_coord.specs.declared.due.Due.TheVariants as dues
+use Rattle.pc_coord.specs.declared.due.Wait.{Wait}
+use Rattle.pc_coord.specs.declared.transaction.Transaction.{Transaction}
+use Rattle.pc_coord.specs.Transaction.{refreshed}
+use Rattle.pc_proto.specs.declared.answer.Answer.TheVariants as answers
+use Rattle.pc_proto.specs.declared.reply.Reply.{Reply}
+use Rattle.pc_proto.specs.declared.reply.Reply.TheVariants as replies
+use Rattle.pc_proto.specs.declared.view.View.{View}
+use Rattle.pc_proto.specs.declared.view.View.TheVariants as views
+use Rattle.pc_proto.specs.Stamps.{reply_stamps}
+use Rattle.pc_world.specs.Known.Clock.{last_of}
+use Rattle.pc_world.specs.Tell.Begin.{clock_now}
+
+-- After a begin: past the clock's range it is told so, else a transaction is begun at the clock's time.
+abbrev pub after_begin : Priority → ℕ → Coordination → Coordination
+after_begin priority reading c =
+    if nat_lt (2 ^ 62) reading then with_due (dues.Tell (answers.Clock reading)) c
+    else with_begun priority reading (clock_now reading c.clock) c
+
+abbrev pub put_in : List ℕ → List ℕ → Option Transaction → Coordination → Coordination
+put_in key value None c = with_due (dues.Tell answers.NoTxn) c
+put_in key value (Some x) c = with_put key value x c
+
+-- After a put.
+abbrev pub after_put : List ℕ → List ℕ → Coordination → Coordination
+after_put key value c = put_in key value c.txn c
+
+abbrev pub commit_at : ℕ → Option (List ℕ) → Transaction → Coordination → Coordination
+commit_at refusals anchor x c = record c { txn = Some (refreshed x); due = commit_due refusals anchor x }
+
+abbrev pub commit_in : ℕ → Option Transaction → Coordination → Coordination
+commit_in refusals None c = with_due dues.Stuck c
+commit_in refusals (Some x) c = commit_at refusals x.anchor x c
+
+-- The commit of the open transaction, at its write timestamp.
+abbrev pub after_commit : ℕ → Coordination → Coordination
+after_commit refusals c = commit_in refusals c.txn c
+
+abbrev pub end_at : Option (List ℕ) → Transaction → Coordination → Coordination
+end_at None x c = with_end (answers.Committed x.id x.begin) c
+end_at (Some anchor) x c = with_commit 0 anchor x c
+
+abbrev pub end_in : Option Transaction → Coordination → Coordination
+end_in None c = with_due (dues.Tell answers.NoTxn) c
+end_in (Some x) c = end_at x.anchor x c
+
+-- After a commit is asked: a transaction that wrote nothing is committed where it began.
+abbrev pub after_commit_call : Coordination → Coordination
+after_commit_call c = end_in c.txn c
+
+abbrev pub awaited_if : Bool → Wait → Option Wait
+awaited_if true wait = Some wait
+awaited_if false wait = None
+
+-- What is waited for of the message of this number.
+abbrev pub awaited_at : ℕ → Due → Option Wait
+awaited_at number (dues.Hear awaited wait) = awaited_if (awaited == number) wait
+awaited_at number _ = None
+
+-- The clock has heard every timestamp in the reply.
+abbrev pub with_heard : Reply → Coordination → Coordination
+with_heard reply c = record c { clock = max c.clock (last_of (reply_stamps reply)) }
+
+-- After the reply to a put.
+abbrev pub after_put_reply : Reply → Coordination → Coordination
+after_put_reply (replies.Written ts) c = with_due (dues.Tell answers.Written) (with_raise ts c)
+after_put_reply _ c = with_due dues.Stuck c
+
+abbrev pub committed_in : ℕ → Option Transaction → Coordination → Coordination
+committed_in ts None c = record c { txn = None; due = dues.Stuck }
+committed_in ts (Some x) c = with_end (answers.Committed x.id ts) c
+
+-- After a commit was told committed.
+abbrev pub after_committed : ℕ → Coordination → Coordination
+after_committed ts c = committed_in ts c.txn c
+
+-- How many refusals there are with this one.
+abbrev pub refusals_with : ℕ → ℕ → ℕ → ℕ
+refusals_with ts recorded refusals = if nat_lt ts recorded then refusals + 1 else refusals
+
+-- After so many refusals the commit is tried again where the record stands, or given up.
+abbrev pub again_or_moved : ℕ → ℕ → Coordination → Coordination
+again_or_moved recorded refusals c =
+    if nat_lt refusals 8 then after_commit refusals c else with_due (dues.Tell (answers.Moved recorded)) c
+
+-- After a commit met a record that is not final.
+abbrev pub after_refused : ℕ → ℕ → ℕ → Coordination → Coordination
+after_refused ts recorded refusals c = again_or_moved recorded (refusals_with ts recorded refusals) (with_raise recorded c)
+
+abbrev pub after_view : ℕ → ℕ → View → Coordination → Coordination
+after_view ts refusals (views.Committed epoch at locks) c = after_committed at c
+after_view ts refusals (views.Aborted epoch why locks) c = with_end (answers.Aborted why) c
+after_view ts refusals (views.Pending epoch recorded) c = after_refused ts recorded refusals c
+after_view ts refusals (views.Staging epoch recorded writes) c = after_refused ts recorded refusals c
+after_view ts refusals views.Nothing c = with_due dues.Stuck c
+
+-- After the reply to a commit at this timestamp, after so many refusals.
+abbrev pub after_commit_reply : ℕ → ℕ → Reply → Coordination → Coordination
+after_commit_reply ts refusals (replies.Status view) c = after_view ts refusals view c
+after_commit_reply ts refusals _ c = with_due dues.Stuck c

@@ -1,0 +1,10 @@
+//! The coordinator of a session's transactions: what it sends, and what it tells, after what it was asked and heard.
+#![tactic(auto)]
+
+mod due;
+mod locks;
+mod next;
+mod stamps;
+mod transaction;
+
+pub use next::Next;
