@@ -15,14 +15,15 @@ use Rattle.pc_coord.proofs.Resting.{closed_told, match_false, open_is}
 use Rattle.pc_coord.proofs.Same.{if_true, same_txn-self}
 use Rattle.pc_coord.proofs.Steps.{counted-heard, counted-told, heard, told, told_is}
 use Rattle.pc_coord.proofs.Writes.{all_proved-more}
-use Rattle.pc_coord.specs.Coordinating.{after_commit_reply, after_refused, after_view, again_or_moved, commit_at, commit_in, committed_in, refusals_with, with_heard}
-use Rattle.pc_coord.specs.Coordination.{Coordination, with_commit, with_due, with_end, with_raise}
+use Rattle.pc_coord.specs.Coordinating.{after_commit_reply, after_refused, after_view, committed_in, refusals_with, with_heard}
+use Rattle.pc_coord.specs.Turning.{due_of_commit}
+use Rattle.pc_coord.specs.Coordination.{Coordination, commit_due, with_due, with_end}
 use Rattle.pc_coord.specs.declared.due.Due.TheVariants as dues
 use Rattle.pc_coord.specs.declared.due.Wait.TheVariants as waits
 use Rattle.pc_coord.specs.declared.transaction.Transaction.{Transaction}
 use Rattle.pc_coord.specs.Events.{IsHeard}
 use Rattle.pc_coord.specs.Knows.{Awaits, AwaitsCommit, IsCounted, IsHeld, IsOpenAs, IsPlain, IsSettled, Knows, Rests, learned}
-use Rattle.pc_coord.specs.Transaction.{raised, transaction_of}
+use Rattle.pc_coord.specs.Transaction.{raised, refreshed, transaction_of}
 use Rattle.pc_history.specs.declared.pair.Pair.{Pair}
 use Rattle.pc_proto.specs.declared.answer.Answer.TheVariants as answers
 use Rattle.pc_proto.specs.declared.call.Call.TheVariants as calls
@@ -183,15 +184,15 @@ module _ (c : Coordination) (k : Known) (number step ts refusals : ℕ) (view : 
 
     -- the commit is tried again where the record stands
     again : (n : ℕ) → n < 8 → AtLeast (WasMoved k3) n k3.heard_now → (anchor : Option (List ℕ)) → a.x.anchor ≡ anchor
-        → Knows (commit_at n anchor (raised recorded a.x) (with_raise recorded (with_heard reply c))) k3
+        → Knows (record (with_heard reply c) { txn = Some (refreshed (raised recorded a.x)); due = commit_due n anchor (raised recorded a.x) }) k3
     again n few moved None none =
         let some : Some a.anchor ≡ None = sym a.anchored ∙ sym (ap (λ x. x.anchor) a.open_as.same) ∙ none in absurd cc
     again n few moved (Some anchor) is =
-        commit_sends (with_raise recorded (with_heard reply c)) k3 (raised recorded a.x) raised_txn anchor n counted3 open3
+        commit_sends (with_heard reply c) k3 (raised recorded a.x) raised_txn anchor n counted3 open3
         (record { reading = a.reading; call = a.call; anchored = sym (ap (λ x. x.anchor) a.open_as.same) ∙ is; settled = settled3; few = few; moved = moved })
 
     -- the commit is given up
-    given_up : nat_lt ts recorded ≡ true → AtLeast (WasMoved k3) 8 k3.heard_now → Knows (with_due (dues.Tell (answers.Moved recorded)) (with_raise recorded (with_heard reply c))) k3
+    given_up : nat_lt ts recorded ≡ true → AtLeast (WasMoved k3) 8 k3.heard_now → Knows (record (with_heard reply c) { txn = option_map (raised recorded) c.txn; due = dues.Tell (answers.Moved recorded) }) k3
     given_up above eight =
         let answer = answers.Moved recorded in
         let t4 : Txn = record raised_txn { restart = None } in
@@ -228,13 +229,17 @@ module _ (c : Coordination) (k : Known) (number step ts refusals : ℕ) (view : 
           )
         }
 
-    tried : (n : ℕ) → n < 8 → AtLeast (WasMoved k3) n k3.heard_now → Knows (commit_in n (option_map (raised recorded) c.txn) (with_raise recorded (with_heard reply c))) k3
+    tried : (n : ℕ) → n < 8 → AtLeast (WasMoved k3) n k3.heard_now
+        → Knows (record (with_heard reply c) { txn = option_map refreshed (option_map (raised recorded) c.txn); due = due_of_commit n (option_map (raised recorded) c.txn) }) k3
     tried n few moved =
-        subst (λ txn. Knows (commit_in n (option_map (raised recorded) txn) (with_raise recorded (with_heard reply c))) k3) (sym a.held)
+        subst (λ txn. Knows (record (with_heard reply c) { txn = option_map refreshed (option_map (raised recorded) txn); due = due_of_commit n (option_map (raised recorded) txn) }) k3) (sym a.held)
         (again n few moved a.x.anchor refl)
 
     at_last : (b : Bool) → nat_lt ts recorded ≡ b → (few : Bool) → nat_lt (cond b (refusals + 1) refusals) 8 ≡ few
-        → Knows (cond few (commit_in (cond b (refusals + 1) refusals) (option_map (raised recorded) c.txn) (with_raise recorded (with_heard reply c))) (with_due (dues.Tell (answers.Moved recorded)) (with_raise recorded (with_heard reply c)))) k3
+        → Knows (record (with_heard reply c) {
+          txn = cond few (option_map refreshed (option_map (raised recorded) c.txn)) (option_map (raised recorded) c.txn);
+          due = cond few (due_of_commit (cond b (refusals + 1) refusals) (option_map (raised recorded) c.txn)) (dues.Tell (answers.Moved recorded))
+        }) k3
     at_last b e true low = tried (cond b (refusals + 1) refusals) (ltb-true (cond b (refusals + 1) refusals) 8 low) (moved_by b e)
     at_last true e false high =
         let eight : refusals + 1 ≡ 8 = let most : 8 ≤ refusals + 1 = ltb-false (refusals + 1) 8 high in omega (arith, a.few) in

@@ -9,7 +9,8 @@ use Rattle.pc_coord.proofs.Lists.{at_least-weaker}
 use Rattle.pc_coord.proofs.Resting.{asked_knows, closed_told, match_false, no_txn, open_is, rests}
 use Rattle.pc_coord.proofs.Same.{if_true, same_txn-self}
 use Rattle.pc_coord.proofs.Steps.{asked, counted-asked, counted-sent, sent, sent_is}
-use Rattle.pc_coord.specs.Coordinating.{after_commit_call, end_at, end_in}
+use Rattle.pc_coord.specs.Coordinating.{after_commit_call, end_in}
+use Rattle.pc_coord.specs.Turning.{due_at_end, txn_at_end}
 use Rattle.pc_coord.specs.Coordination.{Coordination, with_commit, with_due, with_end}
 use Rattle.pc_coord.specs.declared.due.Due.TheVariants as dues
 use Rattle.pc_coord.specs.declared.due.Wait.TheVariants as waits
@@ -168,7 +169,7 @@ settled-asked k t reading s =
     }
 
 end_by : (c : Coordination) (k : Known) (x : Transaction) (t : Txn) (reading : ℕ) (anchor : Option (List ℕ)) → x.anchor ≡ anchor → IsCounted c.clock c.begun k → IsOpenAs x k t → IsSettled k t
-    → Knows (end_at anchor x c) (asked calls.Commit reading k)
+    → Knows (record c { txn = txn_at_end anchor x; due = due_at_end anchor x }) (asked calls.Commit reading k)
 end_by c k x t reading None none counted open_as settled =
     let k2 = asked calls.Commit reading k in
     let rc = counted-asked c.clock c.begun k counted calls.Commit reading in
@@ -213,8 +214,7 @@ commit_by c k reading None none counted closed =
     record {
       stands = (
         no_txn c.splits c.session k2 (record { call = calls.Commit; reading = reading }) refl refl closed,
-        subst (λ txn. Rests c.clock c.begun txn (learned (events.Tell answers.NoTxn) k2)) (sym none)
-        (closed_told c.clock c.begun k2 answers.NoTxn (counted-asked c.clock c.begun k counted calls.Commit reading) closed refl refl)
+        closed_told c.clock c.begun k2 answers.NoTxn (counted-asked c.clock c.begun k counted calls.Commit reading) closed refl refl
       )
     }
 commit_by c k reading (Some x) is counted (t, open_as, settled) = end_by c k x t reading x.anchor refl counted open_as settled

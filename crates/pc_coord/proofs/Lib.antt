@@ -10,5 +10,6 @@ pub mod PutHeard
 pub mod Putting
 pub mod Resting
 pub mod Same
+pub mod Standing
 pub mod Steps
 pub mod Writes

@@ -166,8 +166,7 @@ put_by c k key value reading None none counted closed =
     record {
       stands = (
         no_txn c.splits c.session k2 (record { call = calls.Put key value; reading = reading }) refl refl closed,
-        subst (λ txn. Rests c.clock c.begun txn (learned (events.Tell answers.NoTxn) k2)) (sym none)
-        (closed_told c.clock c.begun k2 answers.NoTxn (counted-asked c.clock c.begun k counted (calls.Put key value) reading) closed refl refl)
+        closed_told c.clock c.begun k2 answers.NoTxn (counted-asked c.clock c.begun k counted (calls.Put key value) reading) closed refl refl
       )
     }
 put_by c k key value reading (Some x) is counted (t, open_as, settled) =

@@ -1,12 +1,14 @@
 -- What a coordinator does: how it stands after each call and reply.
 use Rattle.std.specs.Prelude.{ℕ, ◌+◌, ◌^◌, max, nat_lt, nat_le, Bool, true, false, ◌==◌, if◌then◌else◌, Option, None, Some, List}
+use Rattle.std.specs.Option.{option_map}
 use Rattle.pc_base.specs.declared.transaction.Priority.{Priority}
-use Rattle.pc_coord.specs.Coordination.{Coordination, commit_due, with_begun, with_commit, with_due, with_end, with_put, with_raise}
+use Rattle.pc_coord.specs.Coordination.{Coordination, with_begun, with_due, with_end, with_raise}
 use Rattle.pc_coord.specs.declared.due.Due.{Due}
 use Rattle.pc_coord.specs.declared.due.Due.TheVariants as dues
 use Rattle.pc_coord.specs.declared.due.Wait.{Wait}
 use Rattle.pc_coord.specs.declared.transaction.Transaction.{Transaction}
-use Rattle.pc_coord.specs.Transaction.{refreshed}
+use Rattle.pc_coord.specs.Transaction.{raised, with_write}
+use Rattle.pc_coord.specs.Turning.{due_of_committed, due_of_end, due_of_put, due_of_retry, txn_of_end, txn_of_retry}
 use Rattle.pc_proto.specs.declared.answer.Answer.TheVariants as answers
 use Rattle.pc_proto.specs.declared.reply.Reply.{Reply}
 use Rattle.pc_proto.specs.declared.reply.Reply.TheVariants as replies
@@ -23,33 +25,16 @@ after_begin priority reading c =
     else with_begun priority reading (clock_now reading c.clock) c
 
 abbrev pub put_in : List ℕ → List ℕ → Option Transaction → Coordination → Coordination
-put_in key value None c = with_due (dues.Tell answers.NoTxn) c
-put_in key value (Some x) c = with_put key value x c
+put_in key value txn c = record c { txn = option_map (with_write key) txn; due = due_of_put key value txn }
 
 -- After a put.
 abbrev pub after_put : List ℕ → List ℕ → Coordination → Coordination
 after_put key value c = put_in key value c.txn c
 
-abbrev pub commit_at : ℕ → Option (List ℕ) → Transaction → Coordination → Coordination
-commit_at refusals anchor x c = record c { txn = Some (refreshed x); due = commit_due refusals anchor x }
-
-abbrev pub commit_in : ℕ → Option Transaction → Coordination → Coordination
-commit_in refusals None c = with_due dues.Stuck c
-commit_in refusals (Some x) c = commit_at refusals x.anchor x c
-
--- The commit of the open transaction, at its write timestamp.
-abbrev pub after_commit : ℕ → Coordination → Coordination
-after_commit refusals c = commit_in refusals c.txn c
-
-abbrev pub end_at : Option (List ℕ) → Transaction → Coordination → Coordination
-end_at None x c = with_end (answers.Committed x.id x.begin) c
-end_at (Some anchor) x c = with_commit 0 anchor x c
-
 abbrev pub end_in : Option Transaction → Coordination → Coordination
-end_in None c = with_due (dues.Tell answers.NoTxn) c
-end_in (Some x) c = end_at x.anchor x c
+end_in txn c = record c { txn = txn_of_end txn; due = due_of_end txn }
 
--- After a commit is asked: a transaction that wrote nothing is committed where it began.
+-- After a commit is asked.
 abbrev pub after_commit_call : Coordination → Coordination
 after_commit_call c = end_in c.txn c
 
@@ -72,8 +57,7 @@ after_put_reply (replies.Written ts) c = with_due (dues.Tell answers.Written) (w
 after_put_reply _ c = with_due dues.Stuck c
 
 abbrev pub committed_in : ℕ → Option Transaction → Coordination → Coordination
-committed_in ts None c = record c { txn = None; due = dues.Stuck }
-committed_in ts (Some x) c = with_end (answers.Committed x.id ts) c
+committed_in ts txn c = record c { txn = None; due = due_of_committed ts txn }
 
 -- After a commit was told committed.
 abbrev pub after_committed : ℕ → Coordination → Coordination
@@ -83,14 +67,12 @@ after_committed ts c = committed_in ts c.txn c
 abbrev pub refusals_with : ℕ → ℕ → ℕ → ℕ
 refusals_with ts recorded refusals = if nat_lt ts recorded then refusals + 1 else refusals
 
--- After so many refusals the commit is tried again where the record stands, or given up.
-abbrev pub again_or_moved : ℕ → ℕ → Coordination → Coordination
-again_or_moved recorded refusals c =
-    if nat_lt refusals 8 then after_commit refusals c else with_due (dues.Tell (answers.Moved recorded)) c
+abbrev pub retry_in : ℕ → ℕ → Option Transaction → Coordination → Coordination
+retry_in recorded refusals txn c = record c { txn = txn_of_retry refusals txn; due = due_of_retry recorded refusals txn }
 
 -- After a commit met a record that is not final.
 abbrev pub after_refused : ℕ → ℕ → ℕ → Coordination → Coordination
-after_refused ts recorded refusals c = again_or_moved recorded (refusals_with ts recorded refusals) (with_raise recorded c)
+after_refused ts recorded refusals c = retry_in recorded (refusals_with ts recorded refusals) (option_map (raised recorded) c.txn) c
 
 abbrev pub after_view : ℕ → ℕ → View → Coordination → Coordination
 after_view ts refusals (views.Committed epoch at locks) c = after_committed at c

@@ -4,3 +4,4 @@ pub mod Events
 pub mod Knows
 pub mod Place
 pub mod Transaction
+pub mod Turning

@@ -6,5 +6,6 @@ mod locks;
 mod next;
 mod stamps;
 mod transaction;
+mod turn;
 
 pub use next::Next;
