@@ -1,13 +1,18 @@
 -- Each call of a coordinator keeps that it knows what its session knows.
-use Rattle.std.proofs.Common.{◌≡◌, ℕ, ◌<◌, max, Bool, true, false, ◌==◌, List, [], ◌∷◌, Option, Some, None, refl, sym, ap, ◌∙◌, subst, IfOk, Result}
+use Rattle.std.proofs.Common.{◌≡◌, ℕ, ◌<◌, ◌≤◌, max, Bool, true, false, ◌==◌, List, [], ◌∷◌, Option, Some, None, refl, sym, ap, ◌∙◌, subst, arith, IfOk, OnOk, Ok, Err, Result}
+use Rattle.std.proofs.lemmas.List.Elements.{All-nil}
+use Rattle.pc_base.specs.declared.memory.NoMemory.{NoMemory}
 use Rattle.std.proofs.lemmas.Bool.{eqb-true}
 use Rattle.pc_base.specs.declared.transaction.Priority.{Priority}
+use Rattle.pc_coord.proofs.Beginning.{begin_asked}
 use Rattle.pc_coord.proofs.CommitHeard.{commit_heard}
+use Rattle.pc_coord.proofs.Committing.{commit_asked}
 use Rattle.pc_coord.proofs.Learned.{learn_own}
 use Rattle.pc_coord.proofs.PutHeard.{put_heard}
+use Rattle.pc_coord.proofs.Putting.{put_asked}
 use Rattle.pc_coord.proofs.Resting.{asked_knows, rests}
 use Rattle.pc_coord.proofs.Steps.{asked, counted-asked}
-use Rattle.pc_coord.specs.Coordinating.{after_commit_reply, after_put_reply, awaited_at, awaited_if, with_heard}
+use Rattle.pc_coord.specs.Coordinating.{after_begin, after_commit_call, after_commit_reply, after_put, after_put_reply, awaited_at, awaited_if, sending_of, with_heard}
 use Rattle.pc_coord.specs.Coordination.{Coordination, next_of, waits_for, with_due}
 use Rattle.pc_coord.specs.declared.due.Due.{Due}
 use Rattle.pc_coord.specs.declared.due.Due.TheVariants as dues
@@ -16,15 +21,20 @@ use Rattle.pc_coord.specs.declared.due.Wait.TheVariants as waits
 use Rattle.pc_coord.specs.declared.next.Next.{Next}
 use Rattle.pc_coord.specs.declared.next.Next.TheVariants as nexts
 use Rattle.pc_coord.specs.Events.{IsAsked, IsHeard, IsOf, IsSent, IsTold}
-use Rattle.pc_coord.specs.Knows.{Awaits, Knows, KnowsAt, MayCome, Rests, SendsNow, learned}
+use Rattle.pc_coord.specs.Knows.{Awaits, IsHeld, IsOwnSent, Knows, KnowsAt, MayCome, Rests, SendsNow, learned}
 use Rattle.pc_history.specs.declared.pair.Pair.{Pair}
 use Rattle.pc_proto.specs.declared.answer.Answer.{Answer}
 use Rattle.pc_proto.specs.declared.call.Call.{Call}
+use Rattle.pc_proto.specs.declared.call.Call.TheVariants as calls
 use Rattle.pc_proto.specs.declared.event.Event.{Event}
 use Rattle.pc_proto.specs.declared.event.Event.TheVariants as events
 use Rattle.pc_proto.specs.declared.reply.Reply.{Reply}
 use Rattle.pc_proto.specs.declared.request.Request.{Request}
-use Rattle.pc_world.specs.Known.{Known, learn, next_number}
+use Rattle.pc_world.specs.Known.{Known, learn, next_number, nothing_known}
+
+on_ok : (r : Result (Unit {0}) NoMemory) (P Q : Type 0) → (P → Q) → OnOk r P → OnOk r Q
+on_ok (Ok u) P Q f p = f p
+on_ok (Err e) P Q f p = tt
 
 -- a call that is not built
 pub stuck_asked : (c : Coordination) (k : Known) (p : Pair Event) (call : Call) (reading : ℕ) → Knows c k → IsAsked call reading k p → Knows (with_due dues.Stuck c) (learn p k)
@@ -52,23 +62,30 @@ sent_at c k p number range said request wait h same is =
     (subst (λ n. Awaits c.clock c.begun c.txn n wait (learned (events.Send n range request) k)) (sym is.next)
     (subst (λ r. Awaits c.clock c.begun c.txn (next_number k) wait (learned (events.Send (next_number k) range r) k)) same (h.after range)))
 
-pub sent_knows : (c : Coordination) (k : Known) (p : Pair Event) (number range : ℕ) (said request : Request) (wait : Wait) → c.due ≡ dues.Send said wait → Knows c k → IsSent c number range request k p
-    → Knows (with_due (dues.Hear number wait) c) (learn p k)
-sent_knows c k p number range said request wait due knows is =
-    let h : SendsNow c k said wait = subst (λ d. KnowsAt c k d) due knows.stands in
-    let same : said ≡ request = let e : nexts.Send said ≡ nexts.Send request = sym (ap next_of due) ∙ is.due in cc in
-    record { stands = sent_at c k p number range said request wait h same is }
+sending_is : (c : Coordination) (k : Known) (p : Pair Event) (number range : ℕ) (request : Request) (wait : Wait) (due : Due) → Some wait ≡ sending_of due → KnowsAt c k due → next_of due ≡ nexts.Send request → IsSent c number range request k p
+    → Awaits c.clock c.begun c.txn number wait (learn p k)
+sending_is c k p number range request wait (dues.Send said other) e h n is =
+    let same : said ≡ request = cc in
+    let w : other ≡ wait = cc in
+    subst (λ w. Awaits c.clock c.begun c.txn number w (learn p k)) w (sent_at c k p number range said request other h same is)
+sending_is c k p number range request wait due e h n is = absurd cc
+
+-- the request that was due was sent
+pub sent_knows : (c new : Coordination) (k : Known) (p : Pair Event) (number range : ℕ) (request : Request) (wait : Wait) → Some wait ≡ sending_of c.due → new ≡ with_due (dues.Hear number wait) c
+    → Knows c k → IsSent c number range request k p → Knows new (learn p k)
+sent_knows c new k p number range request wait due made knows is =
+    subst (λ n. Knows n (learn p k)) (sym made) (record { stands = sending_is c k p number range request wait c.due due knows.stands is.due is })
+
+not_at : (request : Request) (due : Due) → None ≡ sending_of due → next_of due ≡ nexts.Send request → ⊥
+not_at request (dues.Send said other) e n = cc
+not_at request dues.Nothing e n = cc
+not_at request dues.Stuck e n = cc
+not_at request (dues.Hear number wait) e n = cc
+not_at request (dues.Tell answer) e n = cc
 
 -- nothing is sent where nothing is due to be sent
-pub not_sent : (c : Coordination) (k : Known) (p : Pair Event) (number range : ℕ) (request : Request) (P : Type 0) → ((said : Request) (wait : Wait) → c.due ≡ dues.Send said wait → ⊥) → IsSent c number range request k p → P
-not_sent c k p number range request P other is = absurd (by c.due refl)
-  where
-    by : (due : Due) → c.due ≡ due → ⊥
-    by dues.Nothing e = let n = sym (ap next_of e) ∙ is.due in cc
-    by dues.Stuck e = let n = sym (ap next_of e) ∙ is.due in cc
-    by (dues.Send said wait) e = other said wait e
-    by (dues.Hear at wait) e = let n = sym (ap next_of e) ∙ is.due in cc
-    by (dues.Tell answer) e = let n = sym (ap next_of e) ∙ is.due in cc
+pub not_sent : (c new : Coordination) (k : Known) (p : Pair Event) (number range : ℕ) (request : Request) → None ≡ sending_of c.due → IsSent c number range request k p → Knows new (learn p k)
+not_sent c new k p number range request none is = absurd (not_at request c.due none is.due)
 
 told_at : (c : Coordination) (k : Known) (due : Due) (answer : Answer) → KnowsAt c k due → next_of due ≡ nexts.Tell answer → Rests c.clock c.begun c.txn (learned (events.Tell answer) k)
 told_at c k (dues.Tell told) answer h e = let same : told ≡ answer = cc in subst (λ a. Rests c.clock c.begun c.txn (learned (events.Tell a) k)) same h.1
@@ -111,3 +128,54 @@ not_when number awaited wait false e h = cc
 pub not_waited : (number : ℕ) (due : Due) → None ≡ awaited_at number due → waits_for number due ≡ true → ⊥
 not_waited number (dues.Hear awaited wait) none is = not_when number awaited wait (awaited == number) is none
 not_waited number due none is = cc
+
+module _ (c new : Coordination) (k : Known) (p : Pair Event) (reading : ℕ) (r : Result (Unit {0}) NoMemory) where
+  pub begin_ok : (call : Call) (priority : Priority) → call ≡ calls.Begin priority → OnOk r (new ≡ after_begin priority reading c) → Knows c k → IsAsked call reading k p → OnOk r (Knows new (learn p k))
+  begin_ok call priority is made knows asked =
+      on_ok r (new ≡ after_begin priority reading c) (Knows new (learn p k))
+      (λ e. subst (λ n. Knows n (learn p k)) (sym e) (begin_asked c k p priority reading knows (subst (λ call. IsAsked call reading k p) is asked))) made
+
+  pub put_ok : (call : Call) (key value : List ℕ) → call ≡ calls.Put key value → OnOk r (new ≡ after_put key value c) → Knows c k → IsAsked call reading k p → OnOk r (Knows new (learn p k))
+  put_ok call key value is made knows asked =
+      on_ok r (new ≡ after_put key value c) (Knows new (learn p k))
+      (λ e. subst (λ n. Knows n (learn p k)) (sym e) (put_asked c k p key value reading knows (subst (λ call. IsAsked call reading k p) is asked))) made
+
+  pub commit_ok : (call : Call) → call ≡ calls.Commit → OnOk r (new ≡ after_commit_call c) → Knows c k → IsAsked call reading k p → OnOk r (Knows new (learn p k))
+  commit_ok call is made knows asked =
+      on_ok r (new ≡ after_commit_call c) (Knows new (learn p k))
+      (λ e. subst (λ n. Knows n (learn p k)) (sym e) (commit_asked c k p reading knows (subst (λ call. IsAsked call reading k p) is asked))) made
+
+pub stuck_ok : (c new : Coordination) (k : Known) (p : Pair Event) (call : Call) (reading : ℕ) → new ≡ with_due dues.Stuck c → Knows c k → IsAsked call reading k p → Knows new (learn p k)
+stuck_ok c new k p call reading made knows asked = subst (λ n. Knows n (learn p k)) (sym made) (stuck_asked c k p call reading knows asked)
+
+pub told_ok : (c new : Coordination) (k : Known) (p : Pair Event) (answer : Answer) → new ≡ with_due dues.Nothing c → Knows c k → IsTold c answer p → Knows new (learn p k)
+told_ok c new k p answer made knows is = subst (λ n. Knows n (learn p k)) (sym made) (told_knows c k p answer knows is)
+
+pub next_ok : (c : Coordination) (k : Known) (r : Result Next NoMemory) → IfOk r (λ next. next ≡ next_of c.due) → Knows c k → IfOk r (MayCome c k)
+next_ok c k (Ok next) is knows = may_come c k next is knows
+next_ok c k (Err e) is knows = tt
+
+pub put_heard_ok : (c heard new : Coordination) (k : Known) (p : Pair Event) (number step : ℕ) (reply : Reply) → Some waits.Put ≡ awaited_at number c.due → heard ≡ with_heard reply c → new ≡ after_put_reply reply heard
+    → Knows c k → IsHeard c number step reply p → Knows new (learn p k)
+put_heard_ok c heard new k p number step reply wait hear made knows is =
+    subst (λ n. Knows n (learn p k)) (sym (made ∙ ap (after_put_reply reply) hear)) (put_heard_knows c k p number step reply wait knows is)
+
+pub commit_heard_ok : (c heard new : Coordination) (k : Known) (p : Pair Event) (number step ts refusals : ℕ) (reply : Reply) (r : Result (Unit {0}) NoMemory) → Some (waits.Commit ts refusals) ≡ awaited_at number c.due → heard ≡ with_heard reply c
+    → (refusals < 8 → OnOk r (new ≡ after_commit_reply ts refusals reply heard)) → Knows c k → IsHeard c number step reply p → OnOk r (Knows new (learn p k))
+commit_heard_ok c heard new k p number step ts refusals reply r wait hear made knows is =
+    on_ok r (new ≡ after_commit_reply ts refusals reply heard) (Knows new (learn p k))
+    (λ e. subst (λ n. Knows n (learn p k)) (sym (e ∙ ap (after_commit_reply ts refusals reply) hear)) (commit_heard_knows c k p number step ts refusals reply wait knows is))
+    (made (commit_few c k number ts refusals wait knows))
+
+-- nothing is heard where nothing is waited for
+pub not_heard : (c new : Coordination) (k : Known) (p : Pair Event) (number step : ℕ) (reply : Reply) → None ≡ awaited_at number c.due → IsHeard c number step reply p → Knows new (learn p k)
+not_heard c new k p number step reply none is = absurd (not_waited number c.due none is.waited)
+
+pub new_knows : (c : Coordination) → c.clock ≡ 0 → c.begun ≡ 0 → c.txn ≡ None → c.due ≡ dues.Nothing → Knows c nothing_known
+new_knows c clock begun txn due = record {
+  stands = subst (λ d. KnowsAt c nothing_known d) (sym due) (record {
+    counted = record { clock = clock; below = omega arith; begun = begun; sent = All-nil (IsOwnSent 0 0); heard = All-nil (λ h. h.number ≤ 0) };
+    none_open = refl;
+    held = subst (λ t. IsHeld t nothing_known) (sym txn) refl;
+  })
+}

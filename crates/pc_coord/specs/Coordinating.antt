@@ -38,6 +38,11 @@ end_in txn c = record c { txn = txn_of_end txn; due = due_of_end txn }
 abbrev pub after_commit_call : Coordination → Coordination
 after_commit_call c = end_in c.txn c
 
+-- What is waited for once the request that is due was sent.
+abbrev pub sending_of : Due → Option Wait
+sending_of (dues.Send request wait) = Some wait
+sending_of _ = None
+
 abbrev pub awaited_if : Bool → Wait → Option Wait
 awaited_if true wait = Some wait
 awaited_if false wait = None
