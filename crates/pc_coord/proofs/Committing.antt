@@ -144,6 +144,7 @@ module _ (c : Coordination) (k : Known) (t : Txn) (anchor : List ℕ) (refusals 
     may = record {
       row = may_send;
       stamps = All-cons (λ ts. ts ≤ k.top + 1) t.write_ts [] (omega (arith, may.settled.plain.below, counted.below)) (All-nil (λ ts. ts ≤ k.top + 1));
+      kind = tt;
     };
     after = λ range.
       subst (λ k2. Awaits c.clock c.begun (Some (refreshed (transaction_of t))) (next_number k) (waits.Commit t.write_ts refusals) k2) (sym (sent_is (next_number k) range request k)) (awaits range);

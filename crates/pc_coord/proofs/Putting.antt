@@ -100,6 +100,7 @@ module _ (c : Coordination) (k : Known) (key value : List ℕ) (reading : ℕ) (
               uncommitted = record { stages = no_stages t.id (IsDead k.heard) k.begun (length k.sent) k.sent counted.sent; commits = plain.refused };
             });
             stamps = All-cons (λ ts. ts ≤ k2.top + 1) t.write_ts [] (omega (arith, plain.below, counted.below)) (All-nil (λ ts. ts ≤ k2.top + 1));
+            kind = tt;
           };
           after = λ range.
             let n = next_number k in

@@ -1,13 +1,15 @@
 -- Each call of a coordinator keeps that it knows what its session knows.
-use Rattle.std.proofs.Common.{◌≡◌, ℕ, ◌<◌, ◌≤◌, max, Bool, true, false, ◌==◌, List, [], ◌∷◌, Option, Some, None, refl, sym, ap, ◌∙◌, subst, arith, IfOk, OnOk, Ok, Err, Result}
-use Rattle.std.proofs.lemmas.List.Elements.{All-nil}
+use Rattle.std.proofs.Common.{◌≡◌, ℕ, ◌<◌, ◌≤◌, max, Bool, true, false, not, ◌==◌, ◌||◌, List, [], ◌∷◌, Option, Some, None, refl, sym, ap, ◌∙◌, subst, arith, All, is_some, IfOk, OnOk, Ok, Err, Result}
+use Rattle.std.proofs.lemmas.List.Elements.{All-head, All-nil, All-tail}
 use Rattle.pc_base.specs.declared.memory.NoMemory.{NoMemory}
-use Rattle.std.proofs.lemmas.Bool.{eqb-true}
+use Rattle.std.specs.List.{list_any}
+use Rattle.std.proofs.lemmas.Bool.{eq-eqb, eqb-true, ne_eqb}
 use Rattle.pc_base.specs.declared.transaction.Priority.{Priority}
 use Rattle.pc_coord.proofs.Beginning.{begin_asked}
 use Rattle.pc_coord.proofs.CommitHeard.{commit_heard}
 use Rattle.pc_coord.proofs.Committing.{commit_asked}
 use Rattle.pc_coord.proofs.Learned.{learn_own}
+use Rattle.pc_coord.proofs.Lists.{any_last_of}
 use Rattle.pc_coord.proofs.PutHeard.{put_heard}
 use Rattle.pc_coord.proofs.Putting.{put_asked}
 use Rattle.pc_coord.proofs.Resting.{asked_knows, rests}
@@ -19,9 +21,10 @@ use Rattle.pc_coord.specs.declared.due.Due.TheVariants as dues
 use Rattle.pc_coord.specs.declared.due.Wait.{Wait}
 use Rattle.pc_coord.specs.declared.due.Wait.TheVariants as waits
 use Rattle.pc_coord.specs.declared.next.Next.{Next}
+use Rattle.pc_coord.specs.declared.transaction.Transaction.{Transaction}
 use Rattle.pc_coord.specs.declared.next.Next.TheVariants as nexts
 use Rattle.pc_coord.specs.Events.{IsAsked, IsHeard, IsOf, IsSent, IsTold}
-use Rattle.pc_coord.specs.Knows.{Awaits, IsHeld, IsOwnSent, Knows, KnowsAt, MayCome, Rests, SendsNow, learned}
+use Rattle.pc_coord.specs.Knows.{Awaits, AwaitsReply, IsHeld, IsLastSent, IsOwnSent, Knows, KnowsAt, MayCome, Rests, SendsNow, learned}
 use Rattle.pc_history.specs.declared.pair.Pair.{Pair}
 use Rattle.pc_proto.specs.declared.answer.Answer.{Answer}
 use Rattle.pc_proto.specs.declared.call.Call.{Call}
@@ -30,6 +33,8 @@ use Rattle.pc_proto.specs.declared.event.Event.{Event}
 use Rattle.pc_proto.specs.declared.event.Event.TheVariants as events
 use Rattle.pc_proto.specs.declared.reply.Reply.{Reply}
 use Rattle.pc_proto.specs.declared.request.Request.{Request}
+use Rattle.pc_world.specs.Known.Traffic.{Heard, Sent}
+use Rattle.pc_world.specs.Local.{MayHear}
 use Rattle.pc_world.specs.Known.{Known, learn, next_number, nothing_known}
 
 on_ok : (r : Result (Unit {0}) NoMemory) (P Q : Type 0) → (P → Q) → OnOk r P → OnOk r Q
@@ -179,3 +184,42 @@ new_knows c clock begun txn due = record {
     held = subst (λ t. IsHeld t nothing_known) (sym txn) refl;
   })
 }
+
+-- whether a transaction is open is known to the coordinator between statements
+pub has_txn_ok : (c : Coordination) (k : Known) (b : Bool) → b ≡ is_some c.txn → Knows c k → k.statement ≡ None → k.is_open ≡ b
+has_txn_ok c k b is knows none = by c.txn (rests c k knows none).held ∙ sym is
+  where
+    by : (txn : Option Transaction) → IsHeld txn k → k.is_open ≡ is_some txn
+    by None h = h
+    by (Some x) h = h.1.is_open
+
+pub sent_waits : (c new : Coordination) (number : ℕ) (wait : Wait) → new ≡ with_due (dues.Hear number wait) c → waits_for number new.due ≡ true
+sent_waits c new number wait made = ap (λ c. waits_for number c.due) made ∙ eq-eqb number number refl
+
+pub not_sent_waits : (c new : Coordination) (number : ℕ) (request : Request) → None ≡ sending_of c.due → next_of c.due ≡ nexts.Send request → waits_for number new.due ≡ true
+not_sent_waits c new number request none is = absurd (not_at request c.due none is)
+
+none_heard : (number : ℕ) (heard : List Heard) → All (λ h. h.number < number) heard → list_any (λ h. h.number == number) heard ≡ false
+none_heard number [] a = refl
+none_heard number (h ∷ heard) a =
+    let low : h.number < number = All-head (λ h. h.number < number) h heard a in
+    let other : (h.number == number) ≡ false = ne_eqb h.number number (λ q. absurd (omega arith)) in
+    ap (λ b. b || list_any (λ h. h.number == number) heard) other ∙ none_heard number heard (All-tail (λ h. h.number < number) h heard a)
+
+last_may_hear : (k : Known) (number : ℕ) (before : List Sent) (m : Sent) → IsLastSent k number before m → MayHear k number
+last_may_hear k number before m last = record {
+  sent = ap (list_any (λ m. m.number == number)) last.sent ∙ any_last_of (λ m. m.number) number before m last.numbered;
+  unheard = ap not (none_heard number k.heard last.unheard);
+}
+
+awaited_may_hear : (k : Known) (txn : Option Transaction) (number : ℕ) (wait : Wait) → AwaitsReply k txn number wait → MayHear k number
+awaited_may_hear k txn number waits.Put a = last_may_hear k number a.before a.m a.last
+awaited_may_hear k txn number (waits.Commit ts refusals) a = last_may_hear k number a.before a.m a.last
+
+hear_at : (c : Coordination) (k : Known) (number : ℕ) (due : Due) → KnowsAt c k due → waits_for number due ≡ true → MayHear k number
+hear_at c k number (dues.Hear awaited wait) h is = subst (λ n. MayHear k n) (eqb-true awaited number is) (awaited_may_hear k c.txn awaited wait h.reply)
+hear_at c k number due h is = absurd cc
+
+-- what is waited for may be heard
+pub may_hear : (c : Coordination) (k : Known) (number : ℕ) → Knows c k → waits_for number c.due ≡ true → MayHear k number
+may_hear c k number knows is = hear_at c k number c.due knows.stands is

@@ -158,10 +158,17 @@ pub record Awaits (clock begun : ℕ) (txn : Option Transaction) (number : ℕ) 
   pub counted : IsCounted clock begun k
   pub reply : AwaitsReply k txn number wait
 
+-- The requests that are built.
+abbrev pub IsPutOrCommit : Request → Type 0
+IsPutOrCommit (requests.Put meta seq ts key value) = Unit {0}
+IsPutOrCommit (requests.Commit meta ts locks) = Unit {0}
+IsPutOrCommit _ = ⊥
+
 -- The request may be sent: its row allows it, and none of its timestamps is past the one after the greatest that the session knows.
 pub record IsSendable (splits : List (List ℕ)) (session : ℕ) (k : Known) (request : Request) : Type 0 where
   pub row : MaySendRow splits (actors.Session session) k request
   pub stamps : All (λ ts. ts ≤ k.top + 1) (request_stamps request)
+  pub kind : IsPutOrCommit request
 
 -- The request may be sent, and once it is its reply is waited for.
 pub record SendsNow (c : Coordination) (k : Known) (request : Request) (wait : Wait) : Type 0 where
@@ -187,7 +194,7 @@ KnowsAt c k (dues.Tell answer) =
 pub record Knows (c : Coordination) (k : Known) : Type 0 where
   pub stands : KnowsAt c k c.due
 
--- What comes next is allowed: a request may be sent, an answer may be told; and only a put or a commit is sent.
+-- What comes next is allowed: a request may be sent, an answer may be told.
 abbrev pub MayCome : Coordination → Known → Next → Type 0
 MayCome c k (nexts.Send request) = IsSendable c.splits c.session k request
 MayCome c k (nexts.Tell answer) = MayTell c.splits (actors.Session c.session) k answer

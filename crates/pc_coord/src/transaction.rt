@@ -91,10 +91,11 @@ impl Transaction {
         let meta = self.meta(anchor);
         let key = key.copy()?;
         let value = value.copy()?;
+        let (seq, ts) = (self.seq, self.write_ts);
         Ok(Request::Put {
             meta,
-            seq: self.seq,
-            ts: self.write_ts,
+            seq,
+            ts,
             key,
             value: Some(value),
         })
