@@ -45,8 +45,8 @@ module _ (c : Coordination) (k : Known) (priority : Priority) (reading : ℕ) (r
         stands = (
           record { s = record { call = calls.Begin priority; reading = reading }; opened = refl; told = match_true (nat_lt (2 ^ 62) reading) _ _ past refl },
           subst (λ txn. Rests c.clock c.begun txn (learned (events.Tell answer) k2)) (sym none)
-          (closed_told c.clock c.begun k2 answer (counted-asked c.clock c.begun k r.counted (calls.Begin priority) reading) closed refl refl)
-        )
+              (closed_told c.clock c.begun k2 answer (counted-asked c.clock c.begun k r.counted (calls.Begin priority) reading) closed refl refl),
+        );
       }
 
   begun_told : nat_lt (2 ^ 62) reading ≡ false → Knows (with_begun priority reading (clock_now reading c.clock) c) (asked (calls.Begin priority) reading k)
@@ -87,8 +87,8 @@ module _ (c : Coordination) (k : Known) (priority : Priority) (reading : ℕ) (r
             opened = refl;
             told = match_false (nat_lt (2 ^ 62) reading) _ _ within (record { priority = priority; asked = refl; next = (refl, ap (λ n. n + 1) rc.begun); at = ap (clock_now reading) rc.clock });
           },
-          subst (λ k. Rests ts (c.begun + 1) (Some (transaction_of t)) k) (sym (told_is answer k2)) (record { counted = counted; none_open = refl; held = held })
-        )
+          subst (λ k. Rests ts (c.begun + 1) (Some (transaction_of t)) k) (sym (told_is answer k2)) (record { counted = counted; none_open = refl; held = held }),
+        );
       }
 
   after : c.txn ≡ None → (b : Bool) → nat_lt (2 ^ 62) reading ≡ b

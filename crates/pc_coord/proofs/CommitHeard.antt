@@ -98,8 +98,8 @@ module _ (c : Coordination) (k : Known) (number step ts refusals : ℕ) (view : 
           why = inr (inl (any_last (λ h. IsTrue (shows_committed a.t.id at h)) k.heard h (shown at epoch locks is)));
         });
       },
-      closed_told latest c.begun k3 (answers.Committed a.x.id at) counted3 refl refl refl
-    )
+      closed_told latest c.begun k3 (answers.Committed a.x.id at) counted3 refl refl refl,
+    );
   }
 
   pub aborted_told : (why : Why) → AbortsWith why view → Knows (with_end (answers.Aborted why) (with_heard reply c)) k3
@@ -114,8 +114,8 @@ module _ (c : Coordination) (k : Known) (number step ts refusals : ℕ) (view : 
           heard = any_last (ShowsAborted a.t.id why) k.heard h (record { about = same_txn-self a.t.id; view = view; told = refl; cause = cause });
         });
       },
-      closed_told latest c.begun k3 (answers.Aborted why) counted3 refl refl refl
-    )
+      closed_told latest c.begun k3 (answers.Aborted why) counted3 refl refl refl,
+    );
   }
 
   module _ (open_view : is_final_view view ≡ false) where
@@ -142,8 +142,8 @@ module _ (c : Coordination) (k : Known) (number step ts refusals : ℕ) (view : 
     is_refused : OnCommit a.t.id (IsRefused k3.heard) a.m.request
     is_refused =
         let now : OnCommit a.t.id (IsRefused k3.heard) said =
-            λ same. let commit : Commit = record { meta = meta_of a.t a.anchor; ts = ts; locks = a.t.locks } in
-            any_last (Refuses commit) k.heard h (record { asked = refl; unsettled = ap not open_view }) in
+        λ same. let commit : Commit = record { meta = meta_of a.t a.anchor; ts = ts; locks = a.t.locks } in
+        any_last (Refuses commit) k.heard h (record { asked = refl; unsettled = ap not open_view }) in
         subst (λ r. OnCommit a.t.id (IsRefused k3.heard) r) (sym a.said) now
 
     refused : EachCommit a.t.id k.sent (IsRefused k3.heard)
@@ -199,16 +199,20 @@ module _ (c : Coordination) (k : Known) (number step ts refusals : ℕ) (view : 
         let k4 = told answer k3 in
         let p = settled3.plain in
         let txn : option_map (raised recorded) c.txn ≡ Some (raised recorded a.x) = ap (option_map (raised recorded)) a.held in
-        let held : IsHeld (Some (raised recorded a.x)) k4 = (t4, record {
-          others = others3;
-          is_open = a.open_as.is_open;
-          first = still_open k3 answer raised_txn others3 a.open_as.is_open first3;
-          same = same3;
-        }, record {
-          plain = record { number = p.number; reads = p.reads; restart = refl; begun = p.begun; below = p.below; refused = refused };
-          proved = settled3.proved;
-          puts = a.puts;
-        }) in
+        let held : IsHeld (Some (raised recorded a.x)) k4 = (
+          t4,
+          record {
+            others = others3;
+            is_open = a.open_as.is_open;
+            first = still_open k3 answer raised_txn others3 a.open_as.is_open first3;
+            same = same3;
+          },
+          record {
+            plain = record { number = p.number; reads = p.reads; restart = refl; begun = p.begun; below = p.below; refused = refused };
+            proved = settled3.proved;
+            puts = a.puts;
+          },
+        ) in
         record {
           stands = (
             record {
@@ -224,9 +228,9 @@ module _ (c : Coordination) (k : Known) (number step ts refusals : ℕ) (view : 
               });
             },
             subst (λ txn. Rests latest c.begun txn (learned (events.Tell answer) k3)) (sym txn)
-            (subst (λ k. Rests latest c.begun (Some (raised recorded a.x)) k) (sym (told_is answer k3))
-            (record { counted = counted-told latest c.begun k3 counted3 answer refl refl; none_open = refl; held = held }))
-          )
+                (subst (λ k. Rests latest c.begun (Some (raised recorded a.x)) k) (sym (told_is answer k3))
+                (record { counted = counted-told latest c.begun k3 counted3 answer refl refl; none_open = refl; held = held })),
+          );
         }
 
     tried : (n : ℕ) → n < 8 → AtLeast (WasMoved k3) n k3.heard_now
@@ -238,7 +242,7 @@ module _ (c : Coordination) (k : Known) (number step ts refusals : ℕ) (view : 
     at_last : (b : Bool) → nat_lt ts recorded ≡ b → (few : Bool) → nat_lt (cond b (refusals + 1) refusals) 8 ≡ few
         → Knows (record (with_heard reply c) {
           txn = cond few (option_map refreshed (option_map (raised recorded) c.txn)) (option_map (raised recorded) c.txn);
-          due = cond few (due_of_commit (cond b (refusals + 1) refusals) (option_map (raised recorded) c.txn)) (dues.Tell (answers.Moved recorded))
+          due = cond few (due_of_commit (cond b (refusals + 1) refusals) (option_map (raised recorded) c.txn)) (dues.Tell (answers.Moved recorded));
         }) k3
     at_last b e true low = tried (cond b (refusals + 1) refusals) (ltb-true (cond b (refusals + 1) refusals) 8 low) (moved_by b e)
     at_last true e false high =

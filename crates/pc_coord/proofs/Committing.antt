@@ -147,7 +147,7 @@ module _ (c : Coordination) (k : Known) (t : Txn) (anchor : List ℕ) (refusals 
       kind = tt;
     };
     after = λ range.
-      subst (λ k2. Awaits c.clock c.begun (Some (refreshed (transaction_of t))) (next_number k) (waits.Commit t.write_ts refusals) k2) (sym (sent_is (next_number k) range request k)) (awaits range);
+        subst (λ k2. Awaits c.clock c.begun (Some (refreshed (transaction_of t))) (next_number k) (waits.Commit t.write_ts refusals) k2) (sym (sent_is (next_number k) range request k)) (awaits range);
   }
 
   commit_here : Knows (with_commit refusals anchor (transaction_of t) c) k
@@ -192,8 +192,8 @@ end_by c k x t reading None none counted open_as settled =
             });
           });
         },
-        closed_told c.clock c.begun k2 (answers.Committed x.id x.begin) rc refl refl refl
-      )
+        closed_told c.clock c.begun k2 (answers.Committed x.id x.begin) rc refl refl refl,
+      );
     }
 end_by c k x t reading (Some anchor) some counted open_as settled =
     let k2 = asked calls.Commit reading k in
@@ -215,8 +215,8 @@ commit_by c k reading None none counted closed =
     record {
       stands = (
         no_txn c.splits c.session k2 (record { call = calls.Commit; reading = reading }) refl refl closed,
-        closed_told c.clock c.begun k2 answers.NoTxn (counted-asked c.clock c.begun k counted calls.Commit reading) closed refl refl
-      )
+        closed_told c.clock c.begun k2 answers.NoTxn (counted-asked c.clock c.begun k counted calls.Commit reading) closed refl refl,
+      );
     }
 commit_by c k reading (Some x) is counted (t, open_as, settled) = end_by c k x t reading x.anchor refl counted open_as settled
 

@@ -68,7 +68,7 @@ heard_stuck c k number step request reply s counted low opened = record {
     counted = counted-heard c.clock c.begun k counted (record { number = number; request = request; reply = reply; step = step }) low;
     s = s;
     opened = opened;
-  }
+  };
 }
 
 -- The transaction once its put was written at this timestamp.
@@ -135,8 +135,8 @@ module _ (c : Coordination) (k : Known) (number step at : ℕ) (counted : IsCoun
     asked = refl;
     put = subst (λ r. IsPutFor t3 a.key (Some a.value) a.seq r) (sym a.said) (refl, refl, refl, refl, refl);
     first =
-      ap not (ap (list_any (λ other. is_put_of a.t.id a.t.epoch a.seq other.request)) before_is
-      ∙ no_put a.t (last_seq_of a.older) a.seq a.before (omega (arith, a.next)) a.puts);
+        ap not (ap (list_any (λ other. is_put_of a.t.id a.t.epoch a.seq other.request)) before_is
+        ∙ no_put a.t (last_seq_of a.older) a.seq a.before (omega (arith, a.next)) a.puts);
   }
 
   may_tell : MayTell c.splits (actors.Session c.session) k3 answers.Written
@@ -185,12 +185,16 @@ module _ (c : Coordination) (k : Known) (number step at : ℕ) (counted : IsCoun
       }
 
   held : IsHeld (Some (raised at a.x)) k4
-  held = (t4, record {
-    others = map (txn_heard k.sent (Some h)) a.open_as.others;
-    is_open = a.open_as.is_open;
-    first = still_open k3 answers.Written t3 (map (txn_heard k.sent (Some h)) a.open_as.others) a.open_as.is_open first;
-    same = ap (raised at) a.open_as.same ∙ placed-same a.key a.seq at a.t;
-  }, record { plain = plain; proved = proved; puts = puts })
+  held = (
+    t4,
+    record {
+      others = map (txn_heard k.sent (Some h)) a.open_as.others;
+      is_open = a.open_as.is_open;
+      first = still_open k3 answers.Written t3 (map (txn_heard k.sent (Some h)) a.open_as.others) a.open_as.is_open first;
+      same = ap (raised at) a.open_as.same ∙ placed-same a.key a.seq at a.t;
+    },
+    record { plain = plain; proved = proved; puts = puts },
+  )
 
   pub written_told : Knows (after_put_reply (replies.Written at) (with_heard (replies.Written at) c)) k3
   written_told =
@@ -200,9 +204,9 @@ module _ (c : Coordination) (k : Known) (number step at : ℕ) (counted : IsCoun
         stands = (
           may_tell,
           subst (λ txn. Rests latest c.begun txn (learned (events.Tell answers.Written) k3)) (sym txn)
-          (subst (λ k. Rests latest c.begun (Some (raised at a.x)) k) (sym (told_is answers.Written k3))
-          (record { counted = counted-told latest c.begun k3 (counted-heard c.clock c.begun k counted h a.last.counted) answers.Written refl refl; none_open = refl; held = held }))
-        )
+              (subst (λ k. Rests latest c.begun (Some (raised at a.x)) k) (sym (told_is answers.Written k3))
+              (record { counted = counted-told latest c.begun k3 (counted-heard c.clock c.begun k counted h a.last.counted) answers.Written refl refl; none_open = refl; held = held })),
+        );
       }
 
 put_reply : (c : Coordination) (k : Known) (number step : ℕ) (reply : Reply) → IsCounted c.clock c.begun k → (a : AwaitsPut k c.txn number)

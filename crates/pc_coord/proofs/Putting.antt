@@ -63,8 +63,8 @@ sent-put key value t =
     ap (λ a. F a (txn_sent r t).locks (txn_sent r t).writes) (if_true (same_txn t.id t.id) (option_or t.anchor (Some key)) t.anchor (same_txn-self t.id))
     ∙ ap (λ l. F (option_or t.anchor (Some key)) l (txn_sent r t).writes) (if_true (same_txn t.id t.id) (with_lock key t.locks) t.locks (same_txn-self t.id))
     ∙ ap (F (option_or t.anchor (Some key)) (with_lock key t.locks))
-      (if_true (same_txn t.id t.id && (t.epoch == t.epoch)) _ t.writes (same_epoch-self t.id t.epoch)
-      ∙ put-new (last_seq_of t.writes + 1) t.write_ts key (Some value) t.writes refl)
+    (if_true (same_txn t.id t.id && (t.epoch == t.epoch)) _ t.writes (same_epoch-self t.id t.epoch)
+    ∙ put-new (last_seq_of t.writes + 1) t.write_ts key (Some value) t.writes refl)
 
 -- it is what the coordinator made of its own
 pub written-same : (key value : List ℕ) (t : Txn) → with_write key (transaction_of t) ≡ transaction_of (written key value t)
@@ -103,59 +103,59 @@ module _ (c : Coordination) (k : Known) (key value : List ℕ) (reading : ℕ) (
             kind = tt;
           };
           after = λ range.
-            let n = next_number k in
-            let request = first_put key value t in
-            let m : Sent = record { number = n; range = range; request = request } in
-            let k3 = sent n range request k2 in
-            let longer : length (k.sent ++ m ∷ []) ≡ length k.sent + 1 = omega (arith, length-append k.sent (m ∷ [])) in
-            let t2 = written key value t in
-            let now : Awaits c.clock c.begun (Some (with_write key (transaction_of t))) n waits.Put k3 = record {
-              counted = counted-sent c.clock c.begun k2 rc range request plain.number;
-              reply = record {
-                x = with_write key (transaction_of t);
-                held = refl;
-                t = t2;
-                open_as = record {
-                  others = map (txn_sent request) open_as.others;
-                  is_open = open_as.is_open;
-                  first = ap (map (txn_sent request)) open_as.first ∙ ap (λ t. t ∷ map (txn_sent request) open_as.others) (sent-put key value t);
-                  same = written-same key value t;
+              let n = next_number k in
+              let request = first_put key value t in
+              let m : Sent = record { number = n; range = range; request = request } in
+              let k3 = sent n range request k2 in
+              let longer : length (k.sent ++ m ∷ []) ≡ length k.sent + 1 = omega (arith, length-append k.sent (m ∷ [])) in
+              let t2 = written key value t in
+              let now : Awaits c.clock c.begun (Some (with_write key (transaction_of t))) n waits.Put k3 = record {
+                counted = counted-sent c.clock c.begun k2 rc range request plain.number;
+                reply = record {
+                  x = with_write key (transaction_of t);
+                  held = refl;
+                  t = t2;
+                  open_as = record {
+                    others = map (txn_sent request) open_as.others;
+                    is_open = open_as.is_open;
+                    first = ap (map (txn_sent request)) open_as.first ∙ ap (λ t. t ∷ map (txn_sent request) open_as.others) (sent-put key value t);
+                    same = written-same key value t;
+                  };
+                  before = k.sent;
+                  m = m;
+                  last = record {
+                    sent = refl;
+                    numbered = refl;
+                    counted = omega arith;
+                    earlier = All-weaker (IsOwnSent k.begun (length k.sent)) (λ other. other.number < n) (λ other own. omega (arith, own.numbered)) k.sent counted.sent;
+                    unheard = All-weaker (λ h. h.number ≤ length k.sent) (λ h. h.number < n) (λ h low. omega arith) k.heard counted.heard;
+                  };
+                  sent_now = refl;
+                  key = key;
+                  value = value;
+                  reading = reading;
+                  call = refl;
+                  anchor = unwrap_or t.anchor key;
+                  ts = t.write_ts;
+                  seq = last_seq_of t.writes + 1;
+                  anchored = anchor-some t.anchor key;
+                  said = refl;
+                  older = t.writes;
+                  next = refl;
+                  writes = refl;
+                  proved = settled.proved;
+                  puts = settled.puts;
+                  plain = record {
+                    number = plain.number;
+                    reads = plain.reads;
+                    restart = plain.restart;
+                    begun = plain.begun;
+                    below = plain.below;
+                    refused = All-push (λ m. OnCommit t.id (IsRefused k.heard) m.request) k.sent m plain.refused tt;
+                  };
                 };
-                before = k.sent;
-                m = m;
-                last = record {
-                  sent = refl;
-                  numbered = refl;
-                  counted = omega arith;
-                  earlier = All-weaker (IsOwnSent k.begun (length k.sent)) (λ other. other.number < n) (λ other own. omega (arith, own.numbered)) k.sent counted.sent;
-                  unheard = All-weaker (λ h. h.number ≤ length k.sent) (λ h. h.number < n) (λ h low. omega arith) k.heard counted.heard;
-                };
-                sent_now = refl;
-                key = key;
-                value = value;
-                reading = reading;
-                call = refl;
-                anchor = unwrap_or t.anchor key;
-                ts = t.write_ts;
-                seq = last_seq_of t.writes + 1;
-                anchored = anchor-some t.anchor key;
-                said = refl;
-                older = t.writes;
-                next = refl;
-                writes = refl;
-                proved = settled.proved;
-                puts = settled.puts;
-                plain = record {
-                  number = plain.number;
-                  reads = plain.reads;
-                  restart = plain.restart;
-                  begun = plain.begun;
-                  below = plain.below;
-                  refused = All-push (λ m. OnCommit t.id (IsRefused k.heard) m.request) k.sent m plain.refused tt;
-                };
-              };
-            } in
-            subst (λ k. Awaits c.clock c.begun (Some (with_write key (transaction_of t))) n waits.Put k) (sym (sent_is n range request k2)) now;
+              } in
+              subst (λ k. Awaits c.clock c.begun (Some (with_write key (transaction_of t))) n waits.Put k) (sym (sent_is n range request k2)) now;
         }
 
     put_sends : Knows (with_put key value (transaction_of t) c) k2
@@ -167,8 +167,8 @@ put_by c k key value reading None none counted closed =
     record {
       stands = (
         no_txn c.splits c.session k2 (record { call = calls.Put key value; reading = reading }) refl refl closed,
-        closed_told c.clock c.begun k2 answers.NoTxn (counted-asked c.clock c.begun k counted (calls.Put key value) reading) closed refl refl
-      )
+        closed_told c.clock c.begun k2 answers.NoTxn (counted-asked c.clock c.begun k counted (calls.Put key value) reading) closed refl refl,
+      );
     }
 put_by c k key value reading (Some x) is counted (t, open_as, settled) =
     subst (λ x. Knows (with_put key value x c) (asked (calls.Put key value) reading k)) (sym open_as.same)

@@ -14,7 +14,7 @@ use Rattle.pc_coord.proofs.PutHeard.{put_heard}
 use Rattle.pc_coord.proofs.Putting.{put_asked}
 use Rattle.pc_coord.proofs.Resting.{asked_knows, rests}
 use Rattle.pc_coord.proofs.Steps.{asked, counted-asked}
-use Rattle.pc_coord.specs.Coordinating.{after_begin, after_commit_call, after_commit_reply, after_put, after_put_reply, awaited_at, awaited_if, sending_of, with_heard}
+use Rattle.pc_coord.specs.Coordinating.{FewRefused, after_call, after_commit_reply, after_put_reply, after_reply, awaited_at, awaited_if, sending_of, with_heard}
 use Rattle.pc_coord.specs.Coordination.{Coordination, next_of, waits_for, with_due}
 use Rattle.pc_coord.specs.declared.due.Due.{Due}
 use Rattle.pc_coord.specs.declared.due.Due.TheVariants as dues
@@ -99,8 +99,8 @@ told_at c k due answer h e = absurd cc
 pub told_knows : (c : Coordination) (k : Known) (p : Pair Event) (answer : Answer) → Knows c k → IsTold c answer p → Knows (with_due dues.Nothing c) (learn p k)
 told_knows c k p answer knows is = record {
   stands =
-    subst (λ k. Rests c.clock c.begun c.txn k) (sym (learn_own (events.Tell answer) k p is.is))
-    (told_at c k c.due answer knows.stands is.due)
+      subst (λ k. Rests c.clock c.begun c.txn k) (sym (learn_own (events.Tell answer) k p is.is))
+      (told_at c k c.due answer knows.stands is.due);
 }
 
 awaited_when : (number awaited : ℕ) (wait wanted : Wait) (b : Bool) → (awaited == number) ≡ b → awaited_if b wait ≡ Some wanted → dues.Hear awaited wait ≡ dues.Hear number wanted
@@ -134,24 +134,16 @@ pub not_waited : (number : ℕ) (due : Due) → None ≡ awaited_at number due �
 not_waited number (dues.Hear awaited wait) none is = not_when number awaited wait (awaited == number) is none
 not_waited number due none is = cc
 
-module _ (c new : Coordination) (k : Known) (p : Pair Event) (reading : ℕ) (r : Result (Unit {0}) NoMemory) where
-  pub begin_ok : (call : Call) (priority : Priority) → call ≡ calls.Begin priority → OnOk r (new ≡ after_begin priority reading c) → Knows c k → IsAsked call reading k p → OnOk r (Knows new (learn p k))
-  begin_ok call priority is made knows asked =
-      on_ok r (new ≡ after_begin priority reading c) (Knows new (learn p k))
-      (λ e. subst (λ n. Knows n (learn p k)) (sym e) (begin_asked c k p priority reading knows (subst (λ call. IsAsked call reading k p) is asked))) made
+call_asked : (c : Coordination) (k : Known) (p : Pair Event) (call : Call) (reading : ℕ) → Knows c k → IsAsked call reading k p → Knows (after_call call reading c) (learn p k)
+call_asked c k p (calls.Begin priority) reading knows is = begin_asked c k p priority reading knows is
+call_asked c k p (calls.Put key value) reading knows is = put_asked c k p key value reading knows is
+call_asked c k p calls.Commit reading knows is = commit_asked c k p reading knows is
+call_asked c k p call reading knows is = stuck_asked c k p call reading knows is
 
-  pub put_ok : (call : Call) (key value : List ℕ) → call ≡ calls.Put key value → OnOk r (new ≡ after_put key value c) → Knows c k → IsAsked call reading k p → OnOk r (Knows new (learn p k))
-  put_ok call key value is made knows asked =
-      on_ok r (new ≡ after_put key value c) (Knows new (learn p k))
-      (λ e. subst (λ n. Knows n (learn p k)) (sym e) (put_asked c k p key value reading knows (subst (λ call. IsAsked call reading k p) is asked))) made
-
-  pub commit_ok : (call : Call) → call ≡ calls.Commit → OnOk r (new ≡ after_commit_call c) → Knows c k → IsAsked call reading k p → OnOk r (Knows new (learn p k))
-  commit_ok call is made knows asked =
-      on_ok r (new ≡ after_commit_call c) (Knows new (learn p k))
-      (λ e. subst (λ n. Knows n (learn p k)) (sym e) (commit_asked c k p reading knows (subst (λ call. IsAsked call reading k p) is asked))) made
-
-pub stuck_ok : (c new : Coordination) (k : Known) (p : Pair Event) (call : Call) (reading : ℕ) → new ≡ with_due dues.Stuck c → Knows c k → IsAsked call reading k p → Knows new (learn p k)
-stuck_ok c new k p call reading made knows asked = subst (λ n. Knows n (learn p k)) (sym made) (stuck_asked c k p call reading knows asked)
+pub ask_ok : (c new : Coordination) (k : Known) (p : Pair Event) (call : Call) (reading : ℕ) (r : Result (Unit {0}) NoMemory) → OnOk r (new ≡ after_call call reading c) → Knows c k → IsAsked call reading k p → OnOk r (Knows new (learn p k))
+ask_ok c new k p call reading r made knows asked =
+    on_ok r (new ≡ after_call call reading c) (Knows new (learn p k))
+    (λ e. subst (λ n. Knows n (learn p k)) (sym e) (call_asked c k p call reading knows asked)) made
 
 pub told_ok : (c new : Coordination) (k : Known) (p : Pair Event) (answer : Answer) → new ≡ with_due dues.Nothing c → Knows c k → IsTold c answer p → Knows new (learn p k)
 told_ok c new k p answer made knows is = subst (λ n. Knows n (learn p k)) (sym made) (told_knows c k p answer knows is)
@@ -160,17 +152,21 @@ pub next_ok : (c : Coordination) (k : Known) (r : Result Next NoMemory) → IfOk
 next_ok c k (Ok next) is knows = may_come c k next is knows
 next_ok c k (Err e) is knows = tt
 
-pub put_heard_ok : (c heard new : Coordination) (k : Known) (p : Pair Event) (number step : ℕ) (reply : Reply) → Some waits.Put ≡ awaited_at number c.due → heard ≡ with_heard reply c → new ≡ after_put_reply reply heard
-    → Knows c k → IsHeard c number step reply p → Knows new (learn p k)
-put_heard_ok c heard new k p number step reply wait hear made knows is =
-    subst (λ n. Knows n (learn p k)) (sym (made ∙ ap (after_put_reply reply) hear)) (put_heard_knows c k p number step reply wait knows is)
+reply_few : (c : Coordination) (k : Known) (number : ℕ) (wait : Wait) → Some wait ≡ awaited_at number c.due → Knows c k → FewRefused wait
+reply_few c k number waits.Put is knows = tt
+reply_few c k number (waits.Commit ts refusals) is knows = commit_few c k number ts refusals is knows
 
-pub commit_heard_ok : (c heard new : Coordination) (k : Known) (p : Pair Event) (number step ts refusals : ℕ) (reply : Reply) (r : Result (Unit {0}) NoMemory) → Some (waits.Commit ts refusals) ≡ awaited_at number c.due → heard ≡ with_heard reply c
-    → (refusals < 8 → OnOk r (new ≡ after_commit_reply ts refusals reply heard)) → Knows c k → IsHeard c number step reply p → OnOk r (Knows new (learn p k))
-commit_heard_ok c heard new k p number step ts refusals reply r wait hear made knows is =
-    on_ok r (new ≡ after_commit_reply ts refusals reply heard) (Knows new (learn p k))
-    (λ e. subst (λ n. Knows n (learn p k)) (sym (e ∙ ap (after_commit_reply ts refusals reply) hear)) (commit_heard_knows c k p number step ts refusals reply wait knows is))
-    (made (commit_few c k number ts refusals wait knows))
+reply_heard : (c : Coordination) (k : Known) (p : Pair Event) (number step : ℕ) (reply : Reply) (wait : Wait) → Some wait ≡ awaited_at number c.due → Knows c k → IsHeard c number step reply p
+    → Knows (after_reply wait reply (with_heard reply c)) (learn p k)
+reply_heard c k p number step reply waits.Put wait knows is = put_heard_knows c k p number step reply wait knows is
+reply_heard c k p number step reply (waits.Commit ts refusals) wait knows is = commit_heard_knows c k p number step ts refusals reply wait knows is
+
+pub heard_ok : (c heard new : Coordination) (k : Known) (p : Pair Event) (number step : ℕ) (reply : Reply) (wait : Wait) (r : Result (Unit {0}) NoMemory) → Some wait ≡ awaited_at number c.due → heard ≡ with_heard reply c
+    → (FewRefused wait → OnOk r (new ≡ after_reply wait reply heard)) → Knows c k → IsHeard c number step reply p → OnOk r (Knows new (learn p k))
+heard_ok c heard new k p number step reply wait r waited hear made knows is =
+    on_ok r (new ≡ after_reply wait reply heard) (Knows new (learn p k))
+    (λ e. subst (λ n. Knows n (learn p k)) (sym (e ∙ ap (after_reply wait reply) hear)) (reply_heard c k p number step reply wait waited knows is))
+    (made (reply_few c k number wait waited knows))
 
 -- nothing is heard where nothing is waited for
 pub not_heard : (c new : Coordination) (k : Known) (p : Pair Event) (number step : ℕ) (reply : Reply) → None ≡ awaited_at number c.due → IsHeard c number step reply p → Knows new (learn p k)
@@ -182,7 +178,7 @@ new_knows c clock begun txn due = record {
     counted = record { clock = clock; below = omega arith; begun = begun; sent = All-nil (IsOwnSent 0 0); heard = All-nil (λ h. h.number ≤ 0) };
     none_open = refl;
     held = subst (λ t. IsHeld t nothing_known) (sym txn) refl;
-  })
+  });
 }
 
 -- whether a transaction is open is known to the coordinator between statements

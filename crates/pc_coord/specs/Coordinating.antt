@@ -1,15 +1,18 @@
 -- What a coordinator does: how it stands after each call and reply.
-use Rattle.std.specs.Prelude.{ℕ, ◌+◌, ◌^◌, max, nat_lt, nat_le, Bool, true, false, ◌==◌, if◌then◌else◌, Option, None, Some, List}
+use Rattle.std.specs.Prelude.{ℕ, ◌+◌, ◌^◌, ◌<◌, max, nat_lt, nat_le, Bool, true, false, ◌==◌, if◌then◌else◌, Option, None, Some, List}
 use Rattle.std.specs.Option.{option_map}
 use Rattle.pc_base.specs.declared.transaction.Priority.{Priority}
 use Rattle.pc_coord.specs.Coordination.{Coordination, with_begun, with_due, with_end, with_raise}
 use Rattle.pc_coord.specs.declared.due.Due.{Due}
 use Rattle.pc_coord.specs.declared.due.Due.TheVariants as dues
 use Rattle.pc_coord.specs.declared.due.Wait.{Wait}
+use Rattle.pc_coord.specs.declared.due.Wait.TheVariants as waits
 use Rattle.pc_coord.specs.declared.transaction.Transaction.{Transaction}
 use Rattle.pc_coord.specs.Transaction.{raised, with_write}
 use Rattle.pc_coord.specs.Turning.{due_of_committed, due_of_end, due_of_put, due_of_retry, txn_of_end, txn_of_retry}
 use Rattle.pc_proto.specs.declared.answer.Answer.TheVariants as answers
+use Rattle.pc_proto.specs.declared.call.Call.{Call}
+use Rattle.pc_proto.specs.declared.call.Call.TheVariants as calls
 use Rattle.pc_proto.specs.declared.reply.Reply.{Reply}
 use Rattle.pc_proto.specs.declared.reply.Reply.TheVariants as replies
 use Rattle.pc_proto.specs.declared.view.View.{View}
@@ -90,3 +93,20 @@ after_view ts refusals views.Nothing c = with_due dues.Stuck c
 abbrev pub after_commit_reply : ℕ → ℕ → Reply → Coordination → Coordination
 after_commit_reply ts refusals (replies.Status view) c = after_view ts refusals view c
 after_commit_reply ts refusals _ c = with_due dues.Stuck c
+
+-- After the reply that was waited for.
+abbrev pub after_reply : Wait → Reply → Coordination → Coordination
+after_reply waits.Put reply c = after_put_reply reply c
+after_reply (waits.Commit ts refusals) reply c = after_commit_reply ts refusals reply c
+
+-- Fewer than eight commits of the statement were refused.
+abbrev pub FewRefused : Wait → Type 0
+FewRefused waits.Put = Unit {0}
+FewRefused (waits.Commit ts refusals) = refusals < 8
+
+-- After a call.
+abbrev pub after_call : Call → ℕ → Coordination → Coordination
+after_call (calls.Begin priority) reading c = after_begin priority reading c
+after_call (calls.Put key value) reading c = after_put key value c
+after_call calls.Commit reading c = after_commit_call c
+after_call _ reading c = with_due dues.Stuck c

@@ -52,7 +52,11 @@ pub fn commit(txn: &mut Option<Transaction>, refusals: u32) -> Result<Due, NoMem
 }
 
 /// The commit is tried again where the record stands, or given up after so many refusals.
-pub fn retry(txn: &mut Option<Transaction>, recorded: Timestamp, refusals: u32) -> Result<Due, NoMemory>
+pub fn retry(
+    txn: &mut Option<Transaction>,
+    recorded: Timestamp,
+    refusals: u32,
+) -> Result<Due, NoMemory>
     ensures due { IfOk result (λ due. due ≡ due_of_retry recorded refusals txn.old) }
     ensures txn { OnOk result (txn.new ≡ txn_of_retry refusals txn.old) }
 {

@@ -11,7 +11,7 @@ returns-then-is_at c =
     let key = c.args.key.now in
     let at : c.place_of-place.result ≡ place key locks = c.place_of-place.ensures ∙ ap (place key) c.as_slice.ensures in
     let is : c.is_at.result ≡ is_at key locks (place key locks) =
-        c.is_at.ensures ∙ ap (λ ls. is_at key ls c.place_of-place.result) c.as_slice-2.ensures ∙ ap (is_at key locks) at in
+    c.is_at.ensures ∙ ap (λ ls. is_at key ls c.place_of-place.result) c.as_slice-2.ensures ∙ ap (is_at key locks) at in
     subst (λ ls. IfOk c.copy.result (λ made. made ≡ ls)) (sym (lock_there key locks (sym is ∙ c.if-is_at.true))) c.copy.ensures
 
 pub insert-requires : goal.insert-requires
@@ -30,7 +30,7 @@ returns c =
     let key = c.args.key.now in
     let at : c.place_of-place.result ≡ place key locks = c.place_of-place.ensures ∙ ap (place key) c.as_slice.ensures in
     let is : c.is_at.result ≡ is_at key locks (place key locks) =
-        c.is_at.ensures ∙ ap (λ ls. is_at key ls c.place_of-place.result) c.as_slice-2.ensures ∙ ap (is_at key locks) at in
+    c.is_at.ensures ∙ ap (λ ls. is_at key ls c.place_of-place.result) c.as_slice-2.ensures ∙ ap (is_at key locks) at in
     let e : c.into_vec-made.result.items ≡ locks = c.into_vec-made.ensures ∙ c.in_ok-copy.ensures in
     c.from_vec.ensures
     ∙ c.in_ok-insert.ensures.items
