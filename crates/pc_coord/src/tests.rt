@@ -1,3 +1,5 @@
+ghost use Rattle.std.specs.Prelude.{◌<◌};
+
 use crate::{Coordinator, Next};
 use pc_base::{Items, Key, Priority, Timestamp, TxnId, Value};
 use pc_proto::{Answer, Call, Keys, Reply, Request, TxnMeta, View};
