@@ -1,0 +1,15 @@
+pub mod Beginning
+pub mod CommitHeard
+pub mod Committing
+pub mod Ids
+pub mod Latest
+pub mod Learned
+pub mod Lists
+pub mod Places
+pub mod PutHeard
+pub mod Putting
+pub mod Resting
+pub mod Same
+pub mod Standing
+pub mod Steps
+pub mod Writes

@@ -1,1 +1,7 @@
-pub mod Sends
+pub mod Coordinating
+pub mod Coordination
+pub mod Events
+pub mod Knows
+pub mod Place
+pub mod Transaction
+pub mod Turning

@@ -1,9 +1,26 @@
-ghost use Rattle.std.specs.Prelude.{◌≡◌, ℕ, ◌+◌, ◌*◌, ◌^◌, ◌<◌, ◌≤◌, max, IfOk};
+ghost use Rattle.std.specs.Prelude.{◌≡◌, ℕ, ◌+◌, ◌*◌, ◌^◌, ◌<◌, ◌≤◌, nat_lt, max, if◌then◌else◌, true, is_some, IfOk, OnOk, None};
 ghost use Rattle.pc_base.specs.Timestamp.{greatest};
-ghost use Rattle.pc_coord.specs.Sends.{greatest_begin, IfSends, IsPutOrCommit, ReplyAtMost, StampsAtMost};
+ghost use Rattle.pc_coord.specs.Coordination.{next_of, waits_for, with_begun, with_due, with_end, with_raise};
+ghost use Rattle.pc_coord.specs.Coordinating.{FewRefused, after_begin, after_call, after_commit_call, after_commit_reply, after_committed, after_put, after_put_reply, after_refused, after_reply, after_view, awaited_at, sending_of, with_heard};
+ghost use Rattle.pc_coord.specs.declared.due.Due.TheVariants as dues;
+ghost use Rattle.pc_coord.specs.declared.next.Next.TheVariants as nexts;
+ghost use Rattle.pc_coord.specs.Events.{IsAsked, IsHeard, IsSent, IsTold};
+ghost use Rattle.pc_coord.specs.Knows.{Knows, MayCome};
+ghost use Rattle.pc_history.specs.declared.pair.Pair.{Pair};
+ghost use Rattle.pc_proto.specs.declared.answer.Answer.{Answer};
+ghost use Rattle.pc_proto.specs.declared.answer.Answer.TheVariants as answers;
+ghost use Rattle.pc_proto.specs.declared.event.Event.{Event};
+ghost use Rattle.pc_proto.specs.declared.request.Request.{Request};
+ghost use Rattle.pc_proto.specs.Stamps.{reply_stamps};
+ghost use Rattle.pc_world.specs.Known.{Known, learn, nothing_known};
+ghost use Rattle.pc_world.specs.Known.Clock.{last_of};
+ghost use Rattle.pc_world.specs.Tell.Begin.{clock_now};
 
+use crate::due::{Due, Wait};
 use crate::next::Next;
-use crate::transaction::Transaction;
+use crate::stamps::last_stamp;
+use crate::transaction::{Transaction, following};
+use crate::turn;
 use pc_base::{Key, NoMemory, Priority, Timestamp, TryCopy, TxnId, Value};
 use pc_proto::{Answer, Call, Keys, Reply, View, Why};
 use std::alloc::Global;
@@ -12,42 +29,16 @@ use std::marker::Model;
 /// The greatest reading of a clock at which a transaction begins.
 const GREATEST_READING: u64 = 1 << 62;
 
-/// How many refused commits of one statement make it give up.
-const REFUSALS: u32 = 8;
-
-/// What the open statement waits for.
-#[derive(Drop)]
-enum Due {
-    /// No statement is open, or one that this form of the coordinator cannot go on with.
-    Nothing,
-    /// The write is to be sent.
-    SendPut {
-        key: Key,
-        value: Value,
-    },
-    /// The commit is to be sent, after so many that were refused.
-    SendCommit {
-        refusals: u32,
-    },
-    /// The write of this number is to be heard.
-    HearPut {
-        number: u64,
-    },
-    /// The commit of this number, at this timestamp, is to be heard.
-    HearCommit {
-        number: u64,
-        ts: Timestamp,
-        refusals: u32,
-    },
-    /// The answer is to be told.
-    Tell(Answer),
-}
+const GREATEST: Timestamp = Timestamp {
+    wall: u64::MAX,
+    logical: u32::MAX,
+};
 
 /// Runs the transactions of one session, one after another: it is asked calls, says which messages go out, hears the
 /// replies, and says what the call is told.
 ///
-/// So far it begins, puts without pipelining, and commits with no write in flight. Contracts see it as the greatest
-/// timestamp that it was given or gave.
+/// So far it begins, puts without pipelining, and commits with no write in flight; any other call, and a reply that asks
+/// for a round, leaves it with nothing due. After a refusal for want of memory nothing is promised of it any more.
 #[derive(Drop)]
 pub struct Coordinator<'a> {
     alloc: Global,
@@ -55,22 +46,18 @@ pub struct Coordinator<'a> {
     tries: u32,
     pipelining: bool,
     splits: &'a Keys,
-    /// The greatest timestamp that was given or heard.
     clock: Timestamp,
-    /// How many transactions were begun.
     begun: u32,
     txn: Option<Transaction>,
     due: Due,
 }
 
 impl<'a> Model for Coordinator<'a> {
-    ghost use Rattle.std.specs.Prelude.{ℕ, ◌≤◌, IfSome};
+    ghost use Rattle.pc_coord.specs.Coordination.{Coordination};
 
-    ghost Value = { ℕ };
+    ghost Value = { Coordination };
 
-    ghost view = { λ s. s.clock };
-
-    ghost invariant = { λ s. IfSome s.txn (λ txn. (txn.read_ts ≤ s.clock) × (txn.write_ts ≤ s.clock)) };
+    ghost view = { λ s. record { session = s.session; splits = s.splits.now; clock = s.clock; begun = s.begun; txn = s.txn; due = s.due } };
 }
 
 impl<'a> Coordinator<'a> {
@@ -82,7 +69,9 @@ impl<'a> Coordinator<'a> {
         pipelining: bool,
         splits: &'a Keys,
     ) -> Coordinator<'a>
-        ensures { result ≡ 0 }
+        ensures knows { Knows result nothing_known }
+        ensures session { result.session ≡ session }
+        ensures splits { result.splits ≡ splits.now }
     {
         Coordinator {
             alloc,
@@ -97,260 +86,285 @@ impl<'a> Coordinator<'a> {
         }
     }
 
-    /// Opens a statement, at this reading of the session's clock.
+    /// Opens a statement, at this reading of the session's clock in nanoseconds.
+    ///
+    /// Refused for want of memory, and where the session's numbers or timestamps are used up.
     pub fn ask(&mut self, call: Call, reading: u64) -> Result<(), NoMemory>
-        requires { self.old < greatest }
-        ensures { self.new ≤ max (self.old + 1) greatest_begin }
+        ensures knows { (k : Known) (p : Pair Event) → Knows self.old k → IsAsked call reading k p → OnOk result (Knows self.new (learn p k)) }
+        ensures session { self.new.session ≡ self.old.session }
+        ensures splits { self.new.splits ≡ self.old.splits }
     {
-        match call {
-            Call::Begin(priority) => self.begin(priority, reading),
-            Call::Put(key, value) => return self.put(key, value),
-            Call::Commit => self.commit(),
-            _ => self.due = Due::Nothing,
-        }
-        Ok(())
+        self.ask_of(&call, reading)
     }
 
-    fn begin(&mut self, priority: Priority, reading: u64)
-        requires { self.old < greatest }
-        ensures { self.new ≤ max (self.old + 1) greatest_begin }
+    fn ask_of(&mut self, call: &Call, reading: u64) -> Result<(), NoMemory>
+        ensures made { OnOk result (self.new ≡ after_call call.now reading self.old) }
+        ensures session { self.new.session ≡ self.old.session }
+        ensures splits { self.new.splits ≡ self.old.splits }
+    {
+        match call {
+            Call::Begin(priority) => self.begin(*priority, reading),
+            Call::Put(key, value) => self.put(key, value),
+            Call::Commit => self.commit(),
+            _ => {
+                self.set_due(Due::Stuck);
+                Ok(())
+            }
+        }
+    }
+
+    fn set_due(&mut self, due: Due)
+        ensures { self.new ≡ with_due due self.old }
+    {
+        self.due = due;
+    }
+
+    fn begin(&mut self, priority: Priority, reading: u64) -> Result<(), NoMemory>
+        ensures made { OnOk result (self.new ≡ after_begin priority reading self.old) }
+        ensures session { self.new.session ≡ self.old.session }
+        ensures splits { self.new.splits ≡ self.old.splits }
     {
         if reading > GREATEST_READING {
             self.due = Due::Tell(Answer::Clock { reading });
-            return;
+            return Ok(());
         }
-        let ts = now(self.clock, reading);
-        self.clock = ts;
-        self.begun = self.begun.saturating_add(1);
-        let id = TxnId {
-            session: self.session,
-            number: self.begun,
-        };
-        self.txn = Some(Transaction::new(self.alloc, id, priority, reading, ts));
-        self.due = Due::Tell(Answer::Begun { id, ts });
-    }
-
-    fn put(&mut self, key: Key, value: Value) -> Result<(), NoMemory>
-        ensures { self.new ≡ self.old }
-    {
-        match &mut self.txn {
-            None => self.due = Due::Tell(Answer::NoTxn),
-            Some(txn) => {
-                txn.write(&key)?;
-                self.due = Due::SendPut { key, value };
-            }
-        }
+        let begun = following(self.begun)?;
+        let ts = now(self.clock, reading)?;
+        self.open(priority, reading, begun, ts);
         Ok(())
     }
 
-    /// A transaction that wrote nothing has nothing to send.
-    fn commit(&mut self)
-        ensures { self.new ≡ self.old }
+    fn open(&mut self, priority: Priority, reading: u64, begun: u32, ts: Timestamp)
+        requires { begun ≡ self.old.begun + 1 }
+        ensures { self.new ≡ with_begun priority reading ts self.old }
     {
-        self.due = match &self.txn {
-            None => Due::Tell(Answer::NoTxn),
-            Some(txn) if txn.anchor.is_none() => Due::Tell(Answer::Committed {
-                id: txn.id,
-                ts: txn.read_ts,
-            }),
-            Some(_) => Due::SendCommit { refusals: 0 },
+        let id = TxnId {
+            session: self.session,
+            number: begun,
         };
-        self.move_reads();
+        self.txn = Some(Transaction::new(self.alloc, id, priority, reading, ts));
+        self.clock = ts;
+        self.begun = begun;
+        self.due = Due::Tell(Answer::Begun { id, ts });
     }
 
-    /// Nothing was read, so the read timestamp goes up to the write timestamp with no message.
-    fn move_reads(&mut self)
-        ensures { self.new ≡ self.old }
+    fn put(&mut self, key: &Key, value: &Value) -> Result<(), NoMemory>
+        ensures made { OnOk result (self.new ≡ after_put key.now value.now self.old) }
+        ensures session { self.new.session ≡ self.old.session }
+        ensures splits { self.new.splits ≡ self.old.splits }
     {
-        if let Some(txn) = &mut self.txn {
-            txn.read_ts = txn.read_ts.max(txn.write_ts);
-        }
+        self.due = turn::put(&mut self.txn, key, value)?;
+        Ok(())
+    }
+
+    fn commit(&mut self) -> Result<(), NoMemory>
+        ensures made { OnOk result (self.new ≡ after_commit_call self.old) }
+        ensures session { self.new.session ≡ self.old.session }
+        ensures splits { self.new.splits ≡ self.old.splits }
+    {
+        self.due = turn::end(&mut self.txn)?;
+        Ok(())
+    }
+
+    /// Whether a transaction is open, between statements.
+    pub fn has_txn(&self) -> bool
+        ensures { (k : Known) → Knows self.now k → k.statement ≡ None → k.is_open ≡ result }
+    {
+        self.holds_txn()
+    }
+
+    fn holds_txn(&self) -> bool
+        ensures { result ≡ is_some self.now.txn }
+    {
+        self.txn.is_some()
     }
 
     /// What is due.
     pub fn next(&self) -> Result<Next, NoMemory>
-        ensures stamps { IfOk result (λ next. IfSends next (StampsAtMost self.now)) }
-        ensures kinds { IfOk result (λ next. IfSends next IsPutOrCommit) }
+        ensures due { IfOk result (λ next. next ≡ next_of self.now.due) }
+        ensures may { (k : Known) → Knows self.now k → IfOk result (MayCome self.now k) }
+    {
+        self.next_due()
+    }
+
+    fn next_due(&self) -> Result<Next, NoMemory>
+        ensures { IfOk result (λ next. next ≡ next_of self.now.due) }
     {
         match &self.due {
-            Due::Nothing => Ok(Next::Idle),
-            Due::HearPut { .. } | Due::HearCommit { .. } => Ok(Next::Wave),
+            Due::Nothing | Due::Stuck => Ok(Next::Idle),
+            Due::Hear { .. } => Ok(Next::Wave),
+            Due::Send { request, .. } => Ok(Next::Send(request.copy()?)),
             Due::Tell(answer) => Ok(Next::Tell(answer.copy()?)),
-            Due::SendPut { key, value } => self.next_put(key, value),
-            Due::SendCommit { .. } => self.next_commit(),
         }
-    }
-
-    fn next_put(&self, key: &Key, value: &Value) -> Result<Next, NoMemory>
-        ensures stamps { IfOk result (λ next. IfSends next (StampsAtMost self.now)) }
-        ensures kinds { IfOk result (λ next. IfSends next IsPutOrCommit) }
-    {
-        let Some(txn) = &self.txn else {
-            return Ok(Next::Idle);
-        };
-        let Some(anchor) = &txn.anchor else {
-            return Ok(Next::Idle);
-        };
-        Ok(Next::Send(txn.put(anchor, key, value)?))
-    }
-
-    fn next_commit(&self) -> Result<Next, NoMemory>
-        ensures stamps { IfOk result (λ next. IfSends next (StampsAtMost self.now)) }
-        ensures kinds { IfOk result (λ next. IfSends next IsPutOrCommit) }
-    {
-        let Some(txn) = &self.txn else {
-            return Ok(Next::Idle);
-        };
-        let Some(anchor) = &txn.anchor else {
-            return Ok(Next::Idle);
-        };
-        Ok(Next::Send(txn.commit(anchor)?))
     }
 
     /// The message that `next` gave went out under this number.
     pub fn sent(&mut self, number: u64) -> Result<(), NoMemory>
-        ensures { self.new ≡ self.old }
+        ensures knows { (k : Known) (p : Pair Event) (range : ℕ) (request : Request) → Knows self.old k → IsSent self.old number range request k p → OnOk result (Knows self.new (learn p k)) }
+        ensures waits { (request : Request) → next_of self.old.due ≡ nexts.Send request → OnOk result (waits_for number self.new.due ≡ true) }
+        ensures session { self.new.session ≡ self.old.session }
+        ensures splits { self.new.splits ≡ self.old.splits }
     {
-        match &self.due {
-            Due::SendPut { .. } => self.due = Due::HearPut { number },
-            Due::SendCommit { refusals } => {
-                let refusals = *refusals;
-                self.commit_sent(number, refusals);
-            }
-            _ => {}
+        if let Some(wait) = self.sending() {
+            self.set_due(Due::Hear { number, wait });
         }
         Ok(())
     }
 
-    fn commit_sent(&mut self, number: u64, refusals: u32)
-        ensures { self.new ≡ self.old }
+    fn sending(&self) -> Option<Wait>
+        ensures { result ≡ sending_of self.now.due }
     {
-        if let Some(txn) = &self.txn {
-            let ts = txn.write_ts;
-            self.due = Due::HearCommit {
-                number,
-                ts,
-                refusals,
-            };
+        match &self.due {
+            Due::Send { wait, .. } => Some(*wait),
+            _ => None,
         }
     }
 
     /// The reply to the message of this number was heard; it was evaluated at this step.
-    pub fn heard(&mut self, number: u64, _step: u64, reply: &Reply) -> Result<(), NoMemory>
-        ensures { (most : ℕ) → self.old ≤ most → ReplyAtMost most reply.now → self.new ≤ most }
+    pub fn heard(&mut self, number: u64, step: u64, reply: &Reply) -> Result<(), NoMemory>
+        ensures knows { (k : Known) (p : Pair Event) → Knows self.old k → IsHeard self.old number step reply.now p → OnOk result (Knows self.new (learn p k)) }
+        ensures session { self.new.session ≡ self.old.session }
+        ensures splits { self.new.splits ≡ self.old.splits }
+    {
+        let wait = self.awaited(number);
+        self.hear(reply);
+        match &wait {
+            None => Ok(()),
+            Some(wait) => self.reply_heard(wait, reply),
+        }
+    }
+
+    fn awaited(&self, number: u64) -> Option<Wait>
+        ensures { result ≡ awaited_at number self.now.due }
     {
         match &self.due {
-            Due::HearPut { number: awaited } if *awaited == number => {
+            Due::Hear {
+                number: awaited,
+                wait,
+            } if *awaited == number => Some(*wait),
+            _ => None,
+        }
+    }
+
+    fn hear(&mut self, reply: &Reply)
+        ensures { self.new ≡ with_heard reply.now self.old }
+    {
+        self.clock = self.clock.max(last_stamp(reply));
+    }
+
+    fn reply_heard(&mut self, wait: &Wait, reply: &Reply) -> Result<(), NoMemory>
+        ensures made { FewRefused wait.now → OnOk result (self.new ≡ after_reply wait.now reply.now self.old) }
+        ensures session { self.new.session ≡ self.old.session }
+        ensures splits { self.new.splits ≡ self.old.splits }
+    {
+        match wait {
+            Wait::Put => {
                 self.put_heard(reply);
                 Ok(())
             }
-            Due::HearCommit {
-                number: awaited,
-                ts,
-                refusals,
-            } if *awaited == number => {
-                let ts = *ts;
-                let refusals = *refusals;
-                self.commit_heard(ts, refusals, reply)
-            }
-            _ => Ok(()),
+            Wait::Commit { ts, refusals } => self.commit_heard(*ts, *refusals, reply),
         }
     }
 
     fn put_heard(&mut self, reply: &Reply)
-        ensures { (most : ℕ) → self.old ≤ most → ReplyAtMost most reply.now → self.new ≤ most }
+        ensures { self.new ≡ after_put_reply reply.now self.old }
     {
         match reply {
-            Reply::Written { ts } => {
-                self.raise_write(*ts);
-                self.due = Due::Tell(Answer::Written);
-            }
-            _ => self.due = Due::Nothing,
+            Reply::Written { ts } => self.written(*ts),
+            _ => self.set_due(Due::Stuck),
         }
+    }
+
+    fn written(&mut self, ts: Timestamp)
+        ensures { self.new ≡ with_due (dues.Tell answers.Written) (with_raise ts self.old) }
+    {
+        turn::raise(&mut self.txn, ts);
+        self.due = Due::Tell(Answer::Written);
     }
 
     fn commit_heard(&mut self, ts: Timestamp, refusals: u32, reply: &Reply) -> Result<(), NoMemory>
-        ensures { (most : ℕ) → self.old ≤ most → ReplyAtMost most reply.now → self.new ≤ most }
+        ensures made { refusals < 8 → OnOk result (self.new ≡ after_commit_reply ts refusals reply.now self.old) }
+        ensures session { self.new.session ≡ self.old.session }
+        ensures splits { self.new.splits ≡ self.old.splits }
     {
         match reply {
-            Reply::Status(View::Committed { .. }) => self.committed(ts),
-            Reply::Status(View::Aborted { why, .. }) => return self.aborted(why),
-            Reply::Status(View::Pending { ts: recorded, .. })
-            | Reply::Status(View::Staging { ts: recorded, .. }) => {
-                self.refused(ts, *recorded, refusals)
+            Reply::Status(view) => self.view_heard(ts, refusals, view),
+            _ => {
+                self.set_due(Due::Stuck);
+                Ok(())
             }
-            _ => self.due = Due::Nothing,
         }
-        Ok(())
+    }
+
+    fn view_heard(&mut self, ts: Timestamp, refusals: u32, view: &View) -> Result<(), NoMemory>
+        ensures made { refusals < 8 → OnOk result (self.new ≡ after_view ts refusals view.now self.old) }
+        ensures session { self.new.session ≡ self.old.session }
+        ensures splits { self.new.splits ≡ self.old.splits }
+    {
+        match view {
+            View::Committed { ts: at, .. } => {
+                self.committed(*at);
+                Ok(())
+            }
+            View::Aborted { why, .. } => self.aborted(why),
+            View::Pending { ts: recorded, .. } => self.refused(ts, *recorded, refusals),
+            View::Staging { ts: recorded, .. } => self.refused(ts, *recorded, refusals),
+            View::Nothing => {
+                self.set_due(Due::Stuck);
+                Ok(())
+            }
+        }
     }
 
     fn committed(&mut self, ts: Timestamp)
-        ensures { self.new ≡ self.old }
+        ensures { self.new ≡ after_committed ts self.old }
     {
-        self.due = match &self.txn {
-            None => Due::Nothing,
-            Some(txn) => Due::Tell(Answer::Committed { id: txn.id, ts }),
-        };
+        self.due = turn::committed(&self.txn, ts);
+        self.txn = None;
     }
 
     fn aborted(&mut self, why: &Why) -> Result<(), NoMemory>
-        ensures { self.new ≡ self.old }
+        ensures made { OnOk result (self.new ≡ with_end (answers.Aborted why.now) self.old) }
+        ensures session { self.new.session ≡ self.old.session }
+        ensures splits { self.new.splits ≡ self.old.splits }
     {
         let why = why.copy()?;
+        self.txn = None;
         self.due = Due::Tell(Answer::Aborted { why });
         Ok(())
     }
 
-    /// The record stands above the commit's timestamp: it is tried again there, a few times.
-    fn refused(&mut self, ts: Timestamp, recorded: Timestamp, refusals: u32)
-        ensures { self.new ≡ max self.old recorded }
+    /// The record was not final: the commit is tried again where the record stands, a few times.
+    fn refused(&mut self, ts: Timestamp, recorded: Timestamp, refusals: u32) -> Result<(), NoMemory>
+        ensures made { refusals < 8 → OnOk result (self.new ≡ after_refused ts recorded refusals self.old) }
+        ensures session { self.new.session ≡ self.old.session }
+        ensures splits { self.new.splits ≡ self.old.splits }
     {
-        self.raise_write(recorded);
-        self.move_reads();
-        let refusals = if recorded > ts {
-            refusals.saturating_add(1)
-        } else {
-            refusals
-        };
-        self.due = if refusals >= REFUSALS {
-            Due::Tell(Answer::Moved { ts: recorded })
-        } else {
-            Due::SendCommit { refusals }
-        };
-    }
-
-    fn raise_write(&mut self, ts: Timestamp)
-        ensures { self.new ≡ max self.old ts }
-    {
-        self.clock = self.clock.max(ts);
-        if let Some(txn) = &mut self.txn {
-            txn.write_ts = txn.write_ts.max(ts);
-        }
+        let refusals = turn::with_refusal(ts, recorded, refusals);
+        turn::raise(&mut self.txn, recorded);
+        self.due = turn::retry(&mut self.txn, recorded, refusals)?;
+        Ok(())
     }
 
     /// The answer that `next` gave was told, and the statement is over.
     pub fn told(&mut self)
-        ensures { self.new ≡ self.old }
+        ensures knows { (k : Known) (p : Pair Event) (answer : Answer) → Knows self.old k → IsTold self.old answer p → Knows self.new (learn p k) }
+        ensures session { self.new.session ≡ self.old.session }
+        ensures splits { self.new.splits ≡ self.old.splits }
     {
-        if matches!(
-            &self.due,
-            Due::Tell(Answer::Committed { .. } | Answer::Aborted { .. })
-        ) {
-            self.txn = None;
-        }
-        self.due = Due::Nothing;
+        self.set_due(Due::Nothing);
     }
 }
 
 /// The reading as a timestamp, or the one after the last where that is not above it.
-fn now(last: Timestamp, reading: u64) -> Timestamp
-    requires { last < greatest }
-    ensures later { last < result }
-    ensures most { result ≤ max (last + 1) (reading * 2 ^ 32) }
+fn now(last: Timestamp, reading: u64) -> Result<Timestamp, NoMemory>
+    ensures { IfOk result (λ ts. ts ≡ clock_now reading last) }
 {
     if reading > last.wall {
-        Timestamp::new(reading, 0)
-    } else {
-        last.next()
+        return Ok(Timestamp::new(reading, 0));
     }
+    if last >= GREATEST {
+        return Err(NoMemory);
+    }
+    Ok(last.next())
 }

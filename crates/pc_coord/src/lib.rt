@@ -2,8 +2,15 @@
 #![tactic(auto)]
 
 mod coordinator;
+mod due;
+mod locks;
 mod next;
+mod stamps;
 mod transaction;
+mod turn;
 
 pub use coordinator::Coordinator;
 pub use next::Next;
+
+#[cfg(test)]
+mod tests;

@@ -1,16 +1,22 @@
-ghost use Rattle.std.specs.Prelude.{◌≡◌, IfOk};
-ghost use Rattle.pc_coord.specs.Sends.{IsPutOrCommit, StampsAtMost};
+ghost use Rattle.std.specs.Prelude.{◌≡◌, ◌+◌, IfOk, OnOk, unwrap_or};
+ghost use Rattle.pc_coord.specs.Transaction.{commit_of, meta_in, put_of, refreshed, transaction_of, with_write};
+ghost use Rattle.pc_coord.specs.Coordination.{commit_due, put_due};
+ghost use Rattle.pc_world.specs.Known.Transactions.{begun};
 
+use crate::due::{Due, Wait};
+use crate::locks::with_lock;
 use pc_base::{Items, Key, NoMemory, Priority, Timestamp, TryCopy, TxnId, Value};
 use pc_proto::{Keys, Request, TxnMeta};
 use std::alloc::Global;
 
 /// The open transaction, as its session knows it.
 #[derive(Drop)]
-pub(crate) struct Transaction {
+pub struct Transaction {
     pub id: TxnId,
     pub priority: Priority,
+    /// Its session's reading at its begin, in nanoseconds.
     pub born: u64,
+    pub begin: Timestamp,
     /// How often it has restarted.
     pub epoch: u32,
     /// The number of its last write in this epoch.
@@ -20,89 +26,137 @@ pub(crate) struct Transaction {
     /// The key of its first write.
     pub anchor: Option<Key>,
     /// Each key that it wrote in any epoch, in key order.
-    pub locks: Vec<Key>,
+    pub locks: Keys,
 }
 
 impl Transaction {
     pub fn new(alloc: Global, id: TxnId, priority: Priority, born: u64, ts: Timestamp) -> Self
-        ensures read { result.read_ts ≡ ts }
-        ensures write { result.write_ts ≡ ts }
+        ensures { result ≡ transaction_of (begun id priority born ts) }
     {
         Transaction {
             id,
             priority,
             born,
+            begin: ts,
             epoch: 0,
             seq: 0,
             read_ts: ts,
             write_ts: ts,
             anchor: None,
-            locks: Vec::new(alloc),
+            locks: Items::new(alloc),
         }
     }
 
-    /// Takes one more write of this key in.
-    pub fn write(&mut self, key: &Key) -> Result<(), NoMemory>
-        ensures read { self.new.read_ts ≡ self.old.read_ts }
-        ensures write { self.new.write_ts ≡ self.old.write_ts }
+    /// Takes one more write of this key in. It is refused too where the sequences are used up.
+    fn write(&mut self, key: &Key) -> Result<(), NoMemory>
+        ensures { OnOk result (self.new ≡ with_write key.now self.old) }
     {
+        self.seq = following(self.seq)?;
+        self.locks = with_lock(&self.locks, key)?;
         if self.anchor.is_none() {
             self.anchor = Some(key.copy()?);
         }
-        if let Err(place) = self.locks.binary_search(key) {
-            self.locks.insert(place, key.copy()?)?;
-        }
-        self.seq = self.seq.saturating_add(1);
         Ok(())
     }
 
-    fn meta(&self, anchor: &Key) -> Result<TxnMeta, NoMemory> {
-        let anchor = anchor.copy()?;
-        Ok(TxnMeta {
+    fn meta(&self, anchor: Key) -> TxnMeta
+        ensures { result ≡ meta_in self.now anchor }
+    {
+        TxnMeta {
             id: self.id,
             epoch: self.epoch,
             priority: self.priority,
             born: self.born,
             anchor,
+        }
+    }
+
+    /// Takes the write in, and makes the message that lays it at the write timestamp.
+    pub fn put(&mut self, key: &Key, value: &Value) -> Result<Due, NoMemory>
+        ensures due { IfOk result (λ due. due ≡ put_due (unwrap_or self.old.anchor key.now) key.now value.now (with_write key.now self.old)) }
+        ensures wrote { OnOk result (self.new ≡ with_write key.now self.old) }
+    {
+        let anchor = anchor_or(&self.anchor, key)?;
+        self.write(key)?;
+        let request = self.put_request(anchor, key, value)?;
+        Ok(Due::Send {
+            request,
+            wait: Wait::Put,
         })
     }
 
-    fn lock_list(&self) -> Result<Keys, NoMemory> {
-        let mut locks = Vec::with_capacity(*self.locks.allocator(), self.locks.len())?;
-        for key in self.locks.as_slice() {
-            locks.push(key.copy()?)?;
-        }
-        Ok(Items::from_vec(locks))
-    }
-
-    /// The message that lays the last write at the write timestamp.
-    pub fn put(&self, anchor: &Key, key: &Key, value: &Value) -> Result<Request, NoMemory>
-        ensures stamps { IfOk result (StampsAtMost self.now.write_ts) }
-        ensures kind { IfOk result IsPutOrCommit }
+    fn put_request(&self, anchor: Key, key: &Key, value: &Value) -> Result<Request, NoMemory>
+        ensures { IfOk result (λ made. made ≡ put_of self.now anchor key.now value.now) }
     {
-        let meta = self.meta(anchor)?;
+        let meta = self.meta(anchor);
         let key = key.copy()?;
         let value = value.copy()?;
+        let (seq, ts) = (self.seq, self.write_ts);
         Ok(Request::Put {
             meta,
-            seq: self.seq,
-            ts: self.write_ts,
+            seq,
+            ts,
             key,
             value: Some(value),
         })
     }
 
-    /// The message that commits the record at the write timestamp.
-    pub fn commit(&self, anchor: &Key) -> Result<Request, NoMemory>
-        ensures stamps { IfOk result (StampsAtMost self.now.write_ts) }
-        ensures kind { IfOk result IsPutOrCommit }
+    /// Moves the reads to the write timestamp, which takes no message while nothing was read, and makes the message that commits
+    /// the record there, after so many that were refused.
+    pub fn commit(&mut self, refusals: u32) -> Result<Due, NoMemory>
+        ensures due { IfOk result (λ due. due ≡ commit_due refusals self.old.anchor self.old) }
+        ensures moved { OnOk result (self.new ≡ refreshed self.old) }
     {
-        let meta = self.meta(anchor)?;
-        let locks = self.lock_list()?;
+        let due = self.commit_due(refusals)?;
+        self.read_ts = self.read_ts.max(self.write_ts);
+        Ok(due)
+    }
+
+    fn commit_due(&self, refusals: u32) -> Result<Due, NoMemory>
+        ensures { IfOk result (λ due. due ≡ commit_due refusals self.now.anchor self.now) }
+    {
+        match &self.anchor {
+            None => Ok(Due::Stuck),
+            Some(anchor) => {
+                let request = self.commit_request(anchor)?;
+                let ts = self.write_ts;
+                Ok(Due::Send {
+                    request,
+                    wait: Wait::Commit { ts, refusals },
+                })
+            }
+        }
+    }
+
+    fn commit_request(&self, anchor: &Key) -> Result<Request, NoMemory>
+        ensures { IfOk result (λ made. made ≡ commit_of self.now anchor.now) }
+    {
+        let meta = self.meta(anchor.copy()?);
+        let locks = self.locks.copy()?;
         Ok(Request::Commit {
             meta,
             ts: self.write_ts,
             locks,
         })
     }
+}
+
+/// The anchor, or else the key.
+fn anchor_or(anchor: &Option<Key>, key: &Key) -> Result<Key, NoMemory>
+    ensures { IfOk result (λ made. made ≡ unwrap_or anchor.now key.now) }
+{
+    match anchor {
+        None => key.copy(),
+        Some(anchor) => anchor.copy(),
+    }
+}
+
+/// The next number, unless the numbers are used up.
+pub fn following(number: u32) -> Result<u32, NoMemory>
+    ensures { IfOk result (λ next. next ≡ number + 1) }
+{
+    if number == u32::MAX {
+        return Err(NoMemory);
+    }
+    Ok(number + 1)
 }

@@ -1,0 +1,71 @@
+-- What the messages of a session say of a transaction.
+use Rattle.std.proofs.Common.{◌≡◌, ℕ, ◌+◌, ◌<◌, ◌≤◌, Bool, true, false, ◌&&◌, ◌==◌, List, [], ◌∷◌, ◌++◌, length, refl, sym, ap, ◌∙◌, arith, All, IsTrue}
+use Rattle.std.proofs.lemmas.Bool.{and_parts, eqb-true}
+use Rattle.pc_coord.proofs.Lists.{any_kept}
+use Rattle.std.proofs.lemmas.List.Elements.{All-weaker}
+use Rattle.pc_base.specs.declared.transaction.TxnId.{TxnId}
+use Rattle.pc_base.specs.Transaction.{same_txn}
+use Rattle.pc_coord.specs.Knows.{IsOwn, IsOwnSent, PutsUpTo}
+use Rattle.pc_proto.specs.declared.request.Request.{Request}
+use Rattle.pc_proto.specs.declared.request.Request.TheVariants as requests
+use Rattle.pc_world.specs.Known.Traffic.{Heard, Sent}
+use Rattle.pc_world.specs.Known.Transactions.{Txn}
+use Rattle.pc_world.specs.Send.Recovery.{is_put_of}
+use Rattle.pc_world.specs.StageFate.{Commit, EachCommit, EachStage, IsDead, IsRefused, IsUncommitted, OnCommit, OnStage, Refuses, Stage}
+
+same-number : (one other : TxnId) → same_txn one other ≡ true → one.number ≡ other.number
+same-number one other h = eqb-true one.number other.number (and_parts (one.session == other.session) (one.number == other.number) h).1
+
+no_stage : (id : TxnId) (P : Stage → Type 0) (begun : ℕ) (request : Request) → IsOwn begun request → OnStage id P request
+no_stage id P begun (requests.Stage meta ts now writes locks) own = absurd own
+no_stage id P begun request own = tt
+
+-- no stage was sent
+pub no_stages : (id : TxnId) (P : Stage → Type 0) (begun count : ℕ) (sent : List Sent) → All (IsOwnSent begun count) sent → EachStage id sent P
+no_stages id P begun count sent a = All-weaker (IsOwnSent begun count) (λ m. OnStage id P m.request) (λ m own. no_stage id P begun m.request own.own) sent a
+
+new_commit : (id : TxnId) (P : Commit → Type 0) (begun : ℕ) (request : Request) → begun < id.number → IsOwn begun request → OnCommit id P request
+new_commit id P begun (requests.Commit meta ts locks) new own = λ same. let e : meta.id.number ≡ id.number = same-number meta.id id same in absurd (omega arith)
+new_commit id P begun request new own = tt
+
+-- no commit of a new transaction was sent
+pub new_commits : (id : TxnId) (P : Commit → Type 0) (begun count : ℕ) (sent : List Sent) → begun < id.number → All (IsOwnSent begun count) sent → EachCommit id sent P
+new_commits id P begun count sent new a = All-weaker (IsOwnSent begun count) (λ m. OnCommit id P m.request) (λ m own. new_commit id P begun m.request new own.own) sent a
+
+new_put : (id : TxnId) (epoch last begun : ℕ) (request : Request) → begun < id.number → IsOwn begun request → (seq : ℕ) → IsTrue (is_put_of id epoch seq request) → seq ≤ last
+new_put id epoch last begun (requests.Put meta at ts key value) new own seq is =
+    let e : meta.id.number ≡ id.number = same-number meta.id id (and_parts (same_txn meta.id id) (meta.epoch == epoch && at == seq) is).0 in absurd (omega arith)
+new_put id epoch last begun request new own seq is = absurd cc
+
+-- nor a put of it
+pub new_puts : (t : Txn) (last begun count : ℕ) (sent : List Sent) → begun < t.id.number → All (IsOwnSent begun count) sent → All (PutsUpTo t last) sent
+new_puts t last begun count sent new a =
+    All-weaker (IsOwnSent begun count) (PutsUpTo t last) (λ m own. new_put t.id t.epoch last begun m.request new own.own) sent a
+
+put-seq : (id : TxnId) (epoch seq n : ℕ) (request : Request) → IsTrue (is_put_of id epoch seq request) → IsTrue (is_put_of id epoch n request) → seq ≡ n
+put-seq id epoch seq n (requests.Put meta at ts key value) a b =
+    let x = and_parts (meta.epoch == epoch) (at == seq) (and_parts (same_txn meta.id id) (meta.epoch == epoch && at == seq) a).1 in
+    let y = and_parts (meta.epoch == epoch) (at == n) (and_parts (same_txn meta.id id) (meta.epoch == epoch && at == n) b).1 in
+    sym (eqb-true at seq x.1) ∙ eqb-true at n y.1
+put-seq id epoch seq n request a b = absurd cc
+
+pub puts-one : (t : Txn) (seq last : ℕ) (m : Sent) → IsTrue (is_put_of t.id t.epoch seq m.request) → seq ≤ last → PutsUpTo t last m
+puts-one t seq last m is low = λ n other. let e : seq ≡ n = put-seq t.id t.epoch seq n m.request is other in omega arith
+
+pub puts-more : (t : Txn) (low high : ℕ) (sent : List Sent) → low ≤ high → All (PutsUpTo t low) sent → All (PutsUpTo t high) sent
+puts-more t low high sent h a = All-weaker (PutsUpTo t low) (PutsUpTo t high) (λ m up seq is. let l : seq ≤ low = up seq is in omega arith) sent a
+
+on_commit-more : (id : TxnId) (P Q : Commit → Type 0) → ((c : Commit) → P c → Q c) → (request : Request) → OnCommit id P request → OnCommit id Q request
+on_commit-more id P Q on (requests.Commit meta ts locks) h = λ same. on (record { meta = meta; ts = ts; locks = locks }) (h same)
+on_commit-more id P Q on request h = tt
+
+-- a commit that was refused stays refused
+pub on_commits-more : (id : TxnId) (heard : List Heard) (h : Heard) (sent : List Sent) → EachCommit id sent (IsRefused heard) → EachCommit id sent (IsRefused (heard ++ h ∷ []))
+on_commits-more id heard h sent a =
+    All-weaker (λ m. OnCommit id (IsRefused heard) m.request) (λ m. OnCommit id (IsRefused (heard ++ h ∷ [])) m.request)
+    (λ m. on_commit-more id (IsRefused heard) (IsRefused (heard ++ h ∷ [])) (λ c r. any_kept (Refuses c) heard (h ∷ []) r) m.request) sent a
+
+pub on_commits-if : (id : TxnId) (P : Commit → Type 0) (heard : List Heard) (sent : List Sent) → EachCommit id sent (IsRefused heard) → EachCommit id sent (λ c. P c → IsRefused heard c)
+on_commits-if id P heard sent a =
+    All-weaker (λ m. OnCommit id (IsRefused heard) m.request) (λ m. OnCommit id (λ c. P c → IsRefused heard c) m.request)
+    (λ m. on_commit-more id (IsRefused heard) (λ c. P c → IsRefused heard c) (λ c r p. r) m.request) sent a

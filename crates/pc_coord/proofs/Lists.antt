@@ -1,0 +1,68 @@
+-- Lists to which one more element came.
+use Rattle.std.proofs.Common.{◌≡◌, ℕ, zero, suc, ◌+◌, ◌-◌, ◌<◌, ◌≤◌, max, Bool, true, false, cond, ◌==◌, ◌||◌, ◌⊎◌, inl, inr, List, [], ◌∷◌, ◌++◌, length, take, fold, find, map, Option, Some, None, refl, sym, ap, ◌∙◌, subst, arith, length-append, All}
+use Rattle.std.specs.List.{Any, list_any, slice_index_or}
+use Rattle.std.proofs.lemmas.Bool.{eq-eqb, ne_eqb}
+use Rattle.std.proofs.Math.Seq.{take-append_seam}
+use Rattle.std.proofs.lemmas.List.Elements.{All-cons, All-head, All-nil, All-tail}
+use Rattle.pc_world.specs.Counting.{AtLeast, LastIs}
+
+module _ {X : Type 0} (P : X → Type 0) where
+  pub any_head : (x : X) (xs : List X) → P x → Any P (x ∷ xs)
+  any_head x xs h = (0, x, omega (arith), refl, h)
+
+  pub any_later : (x : X) (xs : List X) → Any P xs → Any P (x ∷ xs)
+  any_later x xs (k, y, low, is, h) = (suc k, y, omega arith, is, h)
+
+  pub any_last : (xs : List X) (x : X) → P x → Any P (xs ++ x ∷ [])
+  any_last [] x h = any_head x [] h
+  any_last (y ∷ ys) x h = any_later y (ys ++ x ∷ []) (any_last ys x h)
+
+  pub any_kept : (xs ys : List X) → Any P xs → Any P (xs ++ ys)
+  any_kept [] ys (k, x, there, is, h) = absurd (omega arith)
+  any_kept (y ∷ xs) ys (zero, x, there, is, h) = any_head y (xs ++ ys) (subst P (sym is) h)
+  any_kept (y ∷ xs) ys (suc k, x, there, is, h) = any_later y (xs ++ ys) (any_kept xs ys (k, x, omega arith, is, h))
+
+  pub at_least-kept : (n : ℕ) (xs ys : List X) → AtLeast P n xs → AtLeast P n (xs ++ ys)
+  at_least-kept zero xs ys h = tt
+  at_least-kept (suc n) [] ys h = absurd h
+  at_least-kept (suc n) (x ∷ xs) ys (inl (p, h)) = inl (p, at_least-kept n xs ys h)
+  at_least-kept (suc n) (x ∷ xs) ys (inr h) = inr (at_least-kept (suc n) xs ys h)
+
+  pub at_least-push : (n : ℕ) (xs : List X) (x : X) → AtLeast P n xs → P x → AtLeast P (suc n) (xs ++ x ∷ [])
+  at_least-push zero [] x h p = inl (p, tt)
+  at_least-push zero (y ∷ ys) x h p = inr (at_least-push zero ys x tt p)
+  at_least-push (suc n) [] x h p = absurd h
+  at_least-push (suc n) (y ∷ ys) x (inl (q, h)) p = inl (q, at_least-push n ys x h p)
+  at_least-push (suc n) (y ∷ ys) x (inr h) p = inr (at_least-push (suc n) ys x h p)
+
+  pub last-push : (Q : X → Type 0) (xs : List X) (x : X) → P x → Q x → LastIs P Q (xs ++ x ∷ [])
+  last-push Q [] x p q = inr (p, q, All-nil (λ y. P y → ⊥))
+  last-push Q (y ∷ ys) x p q = inl (last-push Q ys x p q)
+
+module _ {X : Type 0} (P Q : X → Type 0) (on : (x : X) → P x → Q x) where
+  pub at_least-weaker : (n : ℕ) (xs : List X) → AtLeast P n xs → AtLeast Q n xs
+  at_least-weaker zero xs h = tt
+  at_least-weaker (suc n) [] h = absurd h
+  at_least-weaker (suc n) (x ∷ xs) (inl (p, h)) = inl (on x p, at_least-weaker n xs h)
+  at_least-weaker (suc n) (x ∷ xs) (inr h) = inr (at_least-weaker (suc n) xs h)
+
+module _ {X : Type 0} (number : X → ℕ) (n : ℕ) where
+  -- the first of this number is the last one, where all before it have lower numbers
+  pub find-last : (before : List X) (m : X) → All (λ x. number x < n) before → number m ≡ n → find (λ x. number x == n) (before ++ m ∷ []) ≡ Some m
+  find-last [] m a e = ap (λ b. cond b (Some m) None) (eq-eqb (number m) n e)
+  find-last (x ∷ before) m a e =
+      let low : number x < n = All-head (λ x. number x < n) x before a in
+      let other : (number x == n) ≡ false = ne_eqb (number x) n (λ q. absurd (omega arith)) in
+      ap (λ b. cond b (Some x) (find (λ x. number x == n) (before ++ m ∷ []))) other
+      ∙ find-last before m (All-tail (λ x. number x < n) x before a) e
+
+  pub any_last_of : (before : List X) (m : X) → number m ≡ n → list_any (λ x. number x == n) (before ++ m ∷ []) ≡ true
+  any_last_of [] m e = ap (λ b. b || false) (eq-eqb (number m) n e)
+  any_last_of (x ∷ before) m e = ap (λ b. (number x == n) || b) (any_last_of before m e) ∙ or_true (number x == n)
+    where
+      or_true : (b : Bool) → (b || true) ≡ true
+      or_true true = refl
+      or_true false = refl
+
+pub take_front : {X : Type 0} (xs : List X) (x : X) → take (length (xs ++ x ∷ []) - 1) (xs ++ x ∷ []) ≡ xs
+take_front xs x = let e : length (xs ++ x ∷ []) - 1 ≡ length xs = omega (arith, length-append xs (x ∷ [])) in ap (λ n. take n (xs ++ x ∷ [])) e ∙ take-append_seam xs (x ∷ [])

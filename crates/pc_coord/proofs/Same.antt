@@ -1,0 +1,24 @@
+-- A transaction and a key are the same as themselves.
+use Rattle.std.proofs.Common.{◌≡◌, ℕ, Bool, true, false, cond, ◌&&◌, ◌==◌, List, refl, ap, ◌∙◌}
+use Rattle.std.proofs.lemmas.Bool.{eq-eqb, and_from}
+use Rattle.std.proofs.lemmas.Cmp.{nat_list_cmp_total, tied_itself}
+use Rattle.std.specs.Ordering.{is_eq, nat_cmp}
+use Rattle.std.specs.Cmp.Lexicographic.{slice_cmp}
+use Rattle.pc_base.specs.declared.transaction.TxnId.{TxnId}
+use Rattle.pc_base.specs.Span.{same_key}
+use Rattle.pc_base.specs.Transaction.{same_txn}
+
+pub same_txn-self : (id : TxnId) → same_txn id id ≡ true
+same_txn-self id = and_from (id.session == id.session) (id.number == id.number) (eq-eqb id.session id.session refl) (eq-eqb id.number id.number refl)
+
+pub same_key-self : (key : List ℕ) → same_key key key ≡ true
+same_key-self key = ap is_eq (tied_itself nat_list_cmp_total key)
+
+pub same_epoch-self : (id : TxnId) (epoch : ℕ) → (same_txn id id && (epoch == epoch)) ≡ true
+same_epoch-self id epoch = and_from (same_txn id id) (epoch == epoch) (same_txn-self id) (eq-eqb epoch epoch refl)
+
+pub if_true : {A : Type 0} (b : Bool) (x y : A) → b ≡ true → cond b x y ≡ x
+if_true b x y e = ap (λ b. cond b x y) e
+
+pub if_false : {A : Type 0} (b : Bool) (x y : A) → b ≡ false → cond b x y ≡ y
+if_false b x y e = ap (λ b. cond b x y) e

@@ -1,0 +1,221 @@
+-- Each call of a coordinator keeps that it knows what its session knows.
+use Rattle.std.proofs.Common.{◌≡◌, ℕ, ◌<◌, ◌≤◌, max, Bool, true, false, not, ◌==◌, ◌||◌, List, [], ◌∷◌, Option, Some, None, refl, sym, ap, ◌∙◌, subst, arith, All, is_some, IfOk, OnOk, Ok, Err, Result}
+use Rattle.std.proofs.lemmas.List.Elements.{All-head, All-nil, All-tail}
+use Rattle.pc_base.specs.declared.memory.NoMemory.{NoMemory}
+use Rattle.std.specs.List.{list_any}
+use Rattle.std.proofs.lemmas.Bool.{eq-eqb, eqb-true, ne_eqb}
+use Rattle.pc_base.specs.declared.transaction.Priority.{Priority}
+use Rattle.pc_coord.proofs.Beginning.{begin_asked}
+use Rattle.pc_coord.proofs.CommitHeard.{commit_heard}
+use Rattle.pc_coord.proofs.Committing.{commit_asked}
+use Rattle.pc_coord.proofs.Learned.{learn_own}
+use Rattle.pc_coord.proofs.Lists.{any_last_of}
+use Rattle.pc_coord.proofs.PutHeard.{put_heard}
+use Rattle.pc_coord.proofs.Putting.{put_asked}
+use Rattle.pc_coord.proofs.Resting.{asked_knows, rests}
+use Rattle.pc_coord.proofs.Steps.{asked, counted-asked}
+use Rattle.pc_coord.specs.Coordinating.{FewRefused, after_call, after_commit_reply, after_put_reply, after_reply, awaited_at, awaited_if, sending_of, with_heard}
+use Rattle.pc_coord.specs.Coordination.{Coordination, next_of, waits_for, with_due}
+use Rattle.pc_coord.specs.declared.due.Due.{Due}
+use Rattle.pc_coord.specs.declared.due.Due.TheVariants as dues
+use Rattle.pc_coord.specs.declared.due.Wait.{Wait}
+use Rattle.pc_coord.specs.declared.due.Wait.TheVariants as waits
+use Rattle.pc_coord.specs.declared.next.Next.{Next}
+use Rattle.pc_coord.specs.declared.transaction.Transaction.{Transaction}
+use Rattle.pc_coord.specs.declared.next.Next.TheVariants as nexts
+use Rattle.pc_coord.specs.Events.{IsAsked, IsHeard, IsOf, IsSent, IsTold}
+use Rattle.pc_coord.specs.Knows.{Awaits, AwaitsReply, IsHeld, IsLastSent, IsOwnSent, Knows, KnowsAt, MayCome, Rests, SendsNow, learned}
+use Rattle.pc_history.specs.declared.pair.Pair.{Pair}
+use Rattle.pc_proto.specs.declared.answer.Answer.{Answer}
+use Rattle.pc_proto.specs.declared.call.Call.{Call}
+use Rattle.pc_proto.specs.declared.call.Call.TheVariants as calls
+use Rattle.pc_proto.specs.declared.event.Event.{Event}
+use Rattle.pc_proto.specs.declared.event.Event.TheVariants as events
+use Rattle.pc_proto.specs.declared.reply.Reply.{Reply}
+use Rattle.pc_proto.specs.declared.request.Request.{Request}
+use Rattle.pc_world.specs.Known.Traffic.{Heard, Sent}
+use Rattle.pc_world.specs.Local.{MayHear}
+use Rattle.pc_world.specs.Known.{Known, learn, next_number, nothing_known}
+
+on_ok : (r : Result (Unit {0}) NoMemory) (P Q : Type 0) → (P → Q) → OnOk r P → OnOk r Q
+on_ok (Ok u) P Q f p = f p
+on_ok (Err e) P Q f p = tt
+
+-- a call that is not built
+pub stuck_asked : (c : Coordination) (k : Known) (p : Pair Event) (call : Call) (reading : ℕ) → Knows c k → IsAsked call reading k p → Knows (with_due dues.Stuck c) (learn p k)
+stuck_asked c k p call reading knows is =
+    let r = rests c k knows is.none_open in
+    asked_knows (with_due dues.Stuck c) k p call reading is
+    (record { stands = record { counted = counted-asked c.clock c.begun k r.counted call reading; s = record { call = call; reading = reading }; opened = refl } })
+
+come_at : (c : Coordination) (k : Known) (due : Due) → KnowsAt c k due → MayCome c k (next_of due)
+come_at c k dues.Nothing h = tt
+come_at c k dues.Stuck h = tt
+come_at c k (dues.Send request wait) h = h.may
+come_at c k (dues.Hear number wait) h = tt
+come_at c k (dues.Tell answer) h = h.0
+
+-- what is due is allowed
+pub may_come : (c : Coordination) (k : Known) (next : Next) → next ≡ next_of c.due → Knows c k → MayCome c k next
+may_come c k next is knows = subst (λ n. MayCome c k n) (sym is) (come_at c k c.due knows.stands)
+
+sent_at : (c : Coordination) (k : Known) (p : Pair Event) (number range : ℕ) (said request : Request) (wait : Wait) → SendsNow c k said wait → said ≡ request → IsSent c number range request k p
+    → Awaits c.clock c.begun c.txn number wait (learn p k)
+sent_at c k p number range said request wait h same is =
+    let e : learn p k ≡ learned (events.Send number range request) k = learn_own (events.Send number range request) k p is.is in
+    subst (λ k2. Awaits c.clock c.begun c.txn number wait k2) (sym e)
+    (subst (λ n. Awaits c.clock c.begun c.txn n wait (learned (events.Send n range request) k)) (sym is.next)
+    (subst (λ r. Awaits c.clock c.begun c.txn (next_number k) wait (learned (events.Send (next_number k) range r) k)) same (h.after range)))
+
+sending_is : (c : Coordination) (k : Known) (p : Pair Event) (number range : ℕ) (request : Request) (wait : Wait) (due : Due) → Some wait ≡ sending_of due → KnowsAt c k due → next_of due ≡ nexts.Send request → IsSent c number range request k p
+    → Awaits c.clock c.begun c.txn number wait (learn p k)
+sending_is c k p number range request wait (dues.Send said other) e h n is =
+    let same : said ≡ request = cc in
+    let w : other ≡ wait = cc in
+    subst (λ w. Awaits c.clock c.begun c.txn number w (learn p k)) w (sent_at c k p number range said request other h same is)
+sending_is c k p number range request wait due e h n is = absurd cc
+
+-- the request that was due was sent
+pub sent_knows : (c new : Coordination) (k : Known) (p : Pair Event) (number range : ℕ) (request : Request) (wait : Wait) → Some wait ≡ sending_of c.due → new ≡ with_due (dues.Hear number wait) c
+    → Knows c k → IsSent c number range request k p → Knows new (learn p k)
+sent_knows c new k p number range request wait due made knows is =
+    subst (λ n. Knows n (learn p k)) (sym made) (record { stands = sending_is c k p number range request wait c.due due knows.stands is.due is })
+
+not_at : (request : Request) (due : Due) → None ≡ sending_of due → next_of due ≡ nexts.Send request → ⊥
+not_at request (dues.Send said other) e n = cc
+not_at request dues.Nothing e n = cc
+not_at request dues.Stuck e n = cc
+not_at request (dues.Hear number wait) e n = cc
+not_at request (dues.Tell answer) e n = cc
+
+-- nothing is sent where nothing is due to be sent
+pub not_sent : (c new : Coordination) (k : Known) (p : Pair Event) (number range : ℕ) (request : Request) → None ≡ sending_of c.due → IsSent c number range request k p → Knows new (learn p k)
+not_sent c new k p number range request none is = absurd (not_at request c.due none is.due)
+
+told_at : (c : Coordination) (k : Known) (due : Due) (answer : Answer) → KnowsAt c k due → next_of due ≡ nexts.Tell answer → Rests c.clock c.begun c.txn (learned (events.Tell answer) k)
+told_at c k (dues.Tell told) answer h e = let same : told ≡ answer = cc in subst (λ a. Rests c.clock c.begun c.txn (learned (events.Tell a) k)) same h.1
+told_at c k due answer h e = absurd cc
+
+pub told_knows : (c : Coordination) (k : Known) (p : Pair Event) (answer : Answer) → Knows c k → IsTold c answer p → Knows (with_due dues.Nothing c) (learn p k)
+told_knows c k p answer knows is = record {
+  stands =
+      subst (λ k. Rests c.clock c.begun c.txn k) (sym (learn_own (events.Tell answer) k p is.is))
+      (told_at c k c.due answer knows.stands is.due);
+}
+
+awaited_when : (number awaited : ℕ) (wait wanted : Wait) (b : Bool) → (awaited == number) ≡ b → awaited_if b wait ≡ Some wanted → dues.Hear awaited wait ≡ dues.Hear number wanted
+awaited_when number awaited wait wanted true e h = let n : awaited ≡ number = eqb-true awaited number e in let w : wait ≡ wanted = cc in ap (λ n. dues.Hear n wait) n ∙ ap (dues.Hear number) w
+awaited_when number awaited wait wanted false e h = absurd cc
+
+awaited_is : (number : ℕ) (due : Due) (wait : Wait) → awaited_at number due ≡ Some wait → due ≡ dues.Hear number wait
+awaited_is number (dues.Hear awaited wait) wanted h = awaited_when number awaited wait wanted (awaited == number) refl h
+awaited_is number due wanted h = absurd cc
+
+awaits_at : (c : Coordination) (k : Known) (number : ℕ) (wait : Wait) → Knows c k → Some wait ≡ awaited_at number c.due → Awaits c.clock c.begun c.txn number wait k
+awaits_at c k number wait knows h = subst (λ d. KnowsAt c k d) (awaited_is number c.due wait (sym h)) knows.stands
+
+pub put_heard_knows : (c : Coordination) (k : Known) (p : Pair Event) (number step : ℕ) (reply : Reply) → Some waits.Put ≡ awaited_at number c.due → Knows c k → IsHeard c number step reply p
+    → Knows (after_put_reply reply (with_heard reply c)) (learn p k)
+put_heard_knows c k p number step reply wait knows is = put_heard c k p number step reply is (awaits_at c k number waits.Put knows wait)
+
+pub commit_heard_knows : (c : Coordination) (k : Known) (p : Pair Event) (number step ts refusals : ℕ) (reply : Reply) → Some (waits.Commit ts refusals) ≡ awaited_at number c.due → Knows c k → IsHeard c number step reply p
+    → Knows (after_commit_reply ts refusals reply (with_heard reply c)) (learn p k)
+commit_heard_knows c k p number step ts refusals reply wait knows is = commit_heard c k p number step ts refusals reply is (awaits_at c k number (waits.Commit ts refusals) knows wait)
+
+pub commit_few : (c : Coordination) (k : Known) (number ts refusals : ℕ) → Some (waits.Commit ts refusals) ≡ awaited_at number c.due → Knows c k → refusals < 8
+commit_few c k number ts refusals wait knows = (awaits_at c k number (waits.Commit ts refusals) knows wait).reply.few
+
+not_when : (number awaited : ℕ) (wait : Wait) (b : Bool) → b ≡ true → None ≡ awaited_if b wait → ⊥
+not_when number awaited wait true e h = cc
+not_when number awaited wait false e h = cc
+
+-- nothing is heard where nothing is waited for
+pub not_waited : (number : ℕ) (due : Due) → None ≡ awaited_at number due → waits_for number due ≡ true → ⊥
+not_waited number (dues.Hear awaited wait) none is = not_when number awaited wait (awaited == number) is none
+not_waited number due none is = cc
+
+call_asked : (c : Coordination) (k : Known) (p : Pair Event) (call : Call) (reading : ℕ) → Knows c k → IsAsked call reading k p → Knows (after_call call reading c) (learn p k)
+call_asked c k p (calls.Begin priority) reading knows is = begin_asked c k p priority reading knows is
+call_asked c k p (calls.Put key value) reading knows is = put_asked c k p key value reading knows is
+call_asked c k p calls.Commit reading knows is = commit_asked c k p reading knows is
+call_asked c k p call reading knows is = stuck_asked c k p call reading knows is
+
+pub ask_ok : (c new : Coordination) (k : Known) (p : Pair Event) (call : Call) (reading : ℕ) (r : Result (Unit {0}) NoMemory) → OnOk r (new ≡ after_call call reading c) → Knows c k → IsAsked call reading k p → OnOk r (Knows new (learn p k))
+ask_ok c new k p call reading r made knows asked =
+    on_ok r (new ≡ after_call call reading c) (Knows new (learn p k))
+    (λ e. subst (λ n. Knows n (learn p k)) (sym e) (call_asked c k p call reading knows asked)) made
+
+pub told_ok : (c new : Coordination) (k : Known) (p : Pair Event) (answer : Answer) → new ≡ with_due dues.Nothing c → Knows c k → IsTold c answer p → Knows new (learn p k)
+told_ok c new k p answer made knows is = subst (λ n. Knows n (learn p k)) (sym made) (told_knows c k p answer knows is)
+
+pub next_ok : (c : Coordination) (k : Known) (r : Result Next NoMemory) → IfOk r (λ next. next ≡ next_of c.due) → Knows c k → IfOk r (MayCome c k)
+next_ok c k (Ok next) is knows = may_come c k next is knows
+next_ok c k (Err e) is knows = tt
+
+reply_few : (c : Coordination) (k : Known) (number : ℕ) (wait : Wait) → Some wait ≡ awaited_at number c.due → Knows c k → FewRefused wait
+reply_few c k number waits.Put is knows = tt
+reply_few c k number (waits.Commit ts refusals) is knows = commit_few c k number ts refusals is knows
+
+reply_heard : (c : Coordination) (k : Known) (p : Pair Event) (number step : ℕ) (reply : Reply) (wait : Wait) → Some wait ≡ awaited_at number c.due → Knows c k → IsHeard c number step reply p
+    → Knows (after_reply wait reply (with_heard reply c)) (learn p k)
+reply_heard c k p number step reply waits.Put wait knows is = put_heard_knows c k p number step reply wait knows is
+reply_heard c k p number step reply (waits.Commit ts refusals) wait knows is = commit_heard_knows c k p number step ts refusals reply wait knows is
+
+pub heard_ok : (c heard new : Coordination) (k : Known) (p : Pair Event) (number step : ℕ) (reply : Reply) (wait : Wait) (r : Result (Unit {0}) NoMemory) → Some wait ≡ awaited_at number c.due → heard ≡ with_heard reply c
+    → (FewRefused wait → OnOk r (new ≡ after_reply wait reply heard)) → Knows c k → IsHeard c number step reply p → OnOk r (Knows new (learn p k))
+heard_ok c heard new k p number step reply wait r waited hear made knows is =
+    on_ok r (new ≡ after_reply wait reply heard) (Knows new (learn p k))
+    (λ e. subst (λ n. Knows n (learn p k)) (sym (e ∙ ap (after_reply wait reply) hear)) (reply_heard c k p number step reply wait waited knows is))
+    (made (reply_few c k number wait waited knows))
+
+-- nothing is heard where nothing is waited for
+pub not_heard : (c new : Coordination) (k : Known) (p : Pair Event) (number step : ℕ) (reply : Reply) → None ≡ awaited_at number c.due → IsHeard c number step reply p → Knows new (learn p k)
+not_heard c new k p number step reply none is = absurd (not_waited number c.due none is.waited)
+
+pub new_knows : (c : Coordination) → c.clock ≡ 0 → c.begun ≡ 0 → c.txn ≡ None → c.due ≡ dues.Nothing → Knows c nothing_known
+new_knows c clock begun txn due = record {
+  stands = subst (λ d. KnowsAt c nothing_known d) (sym due) (record {
+    counted = record { clock = clock; below = omega arith; begun = begun; sent = All-nil (IsOwnSent 0 0); heard = All-nil (λ h. h.number ≤ 0) };
+    none_open = refl;
+    held = subst (λ t. IsHeld t nothing_known) (sym txn) refl;
+  });
+}
+
+-- whether a transaction is open is known to the coordinator between statements
+pub has_txn_ok : (c : Coordination) (k : Known) (b : Bool) → b ≡ is_some c.txn → Knows c k → k.statement ≡ None → k.is_open ≡ b
+has_txn_ok c k b is knows none = by c.txn (rests c k knows none).held ∙ sym is
+  where
+    by : (txn : Option Transaction) → IsHeld txn k → k.is_open ≡ is_some txn
+    by None h = h
+    by (Some x) h = h.1.is_open
+
+pub sent_waits : (c new : Coordination) (number : ℕ) (wait : Wait) → new ≡ with_due (dues.Hear number wait) c → waits_for number new.due ≡ true
+sent_waits c new number wait made = ap (λ c. waits_for number c.due) made ∙ eq-eqb number number refl
+
+pub not_sent_waits : (c new : Coordination) (number : ℕ) (request : Request) → None ≡ sending_of c.due → next_of c.due ≡ nexts.Send request → waits_for number new.due ≡ true
+not_sent_waits c new number request none is = absurd (not_at request c.due none is)
+
+none_heard : (number : ℕ) (heard : List Heard) → All (λ h. h.number < number) heard → list_any (λ h. h.number == number) heard ≡ false
+none_heard number [] a = refl
+none_heard number (h ∷ heard) a =
+    let low : h.number < number = All-head (λ h. h.number < number) h heard a in
+    let other : (h.number == number) ≡ false = ne_eqb h.number number (λ q. absurd (omega arith)) in
+    ap (λ b. b || list_any (λ h. h.number == number) heard) other ∙ none_heard number heard (All-tail (λ h. h.number < number) h heard a)
+
+last_may_hear : (k : Known) (number : ℕ) (before : List Sent) (m : Sent) → IsLastSent k number before m → MayHear k number
+last_may_hear k number before m last = record {
+  sent = ap (list_any (λ m. m.number == number)) last.sent ∙ any_last_of (λ m. m.number) number before m last.numbered;
+  unheard = ap not (none_heard number k.heard last.unheard);
+}
+
+awaited_may_hear : (k : Known) (txn : Option Transaction) (number : ℕ) (wait : Wait) → AwaitsReply k txn number wait → MayHear k number
+awaited_may_hear k txn number waits.Put a = last_may_hear k number a.before a.m a.last
+awaited_may_hear k txn number (waits.Commit ts refusals) a = last_may_hear k number a.before a.m a.last
+
+hear_at : (c : Coordination) (k : Known) (number : ℕ) (due : Due) → KnowsAt c k due → waits_for number due ≡ true → MayHear k number
+hear_at c k number (dues.Hear awaited wait) h is = subst (λ n. MayHear k n) (eqb-true awaited number is) (awaited_may_hear k c.txn awaited wait h.reply)
+hear_at c k number due h is = absurd cc
+
+-- what is waited for may be heard
+pub may_hear : (c : Coordination) (k : Known) (number : ℕ) → Knows c k → waits_for number c.due ≡ true → MayHear k number
+may_hear c k number knows is = hear_at c k number c.due knows.stands is

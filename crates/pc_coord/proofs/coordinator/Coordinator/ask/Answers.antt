@@ -1,0 +1,5 @@
+use Rattle.pc_coord.proofs.Standing.{ask_ok}
+use Rattle.pc_coord.proofs.coordinator.Coordinator.ask.Goals as goal
+
+pub returns-clause-knows : goal.returns-clause-knows
+returns-clause-knows c = λ k p knows is. ask_ok c.args.self.now c.ask_of.new.self k p c.args.call c.args.reading c.ask_of.result c.ask_of.ensures.made knows is

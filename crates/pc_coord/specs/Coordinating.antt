@@ -1,0 +1,112 @@
+-- What a coordinator does: how it stands after each call and reply.
+use Rattle.std.specs.Prelude.{ℕ, ◌+◌, ◌^◌, ◌<◌, max, nat_lt, nat_le, Bool, true, false, ◌==◌, if◌then◌else◌, Option, None, Some, List}
+use Rattle.std.specs.Option.{option_map}
+use Rattle.pc_base.specs.declared.transaction.Priority.{Priority}
+use Rattle.pc_coord.specs.Coordination.{Coordination, with_begun, with_due, with_end, with_raise}
+use Rattle.pc_coord.specs.declared.due.Due.{Due}
+use Rattle.pc_coord.specs.declared.due.Due.TheVariants as dues
+use Rattle.pc_coord.specs.declared.due.Wait.{Wait}
+use Rattle.pc_coord.specs.declared.due.Wait.TheVariants as waits
+use Rattle.pc_coord.specs.declared.transaction.Transaction.{Transaction}
+use Rattle.pc_coord.specs.Transaction.{raised, with_write}
+use Rattle.pc_coord.specs.Turning.{due_of_committed, due_of_end, due_of_put, due_of_retry, txn_of_end, txn_of_retry}
+use Rattle.pc_proto.specs.declared.answer.Answer.TheVariants as answers
+use Rattle.pc_proto.specs.declared.call.Call.{Call}
+use Rattle.pc_proto.specs.declared.call.Call.TheVariants as calls
+use Rattle.pc_proto.specs.declared.reply.Reply.{Reply}
+use Rattle.pc_proto.specs.declared.reply.Reply.TheVariants as replies
+use Rattle.pc_proto.specs.declared.view.View.{View}
+use Rattle.pc_proto.specs.declared.view.View.TheVariants as views
+use Rattle.pc_proto.specs.Stamps.{reply_stamps}
+use Rattle.pc_world.specs.Known.Clock.{last_of}
+use Rattle.pc_world.specs.Tell.Begin.{clock_now}
+
+-- After a begin: past the clock's range it is told so, else a transaction is begun at the clock's time.
+abbrev pub after_begin : Priority → ℕ → Coordination → Coordination
+after_begin priority reading c =
+    if nat_lt (2 ^ 62) reading then with_due (dues.Tell (answers.Clock reading)) c
+    else with_begun priority reading (clock_now reading c.clock) c
+
+abbrev pub put_in : List ℕ → List ℕ → Option Transaction → Coordination → Coordination
+put_in key value txn c = record c { txn = option_map (with_write key) txn; due = due_of_put key value txn }
+
+-- After a put.
+abbrev pub after_put : List ℕ → List ℕ → Coordination → Coordination
+after_put key value c = put_in key value c.txn c
+
+abbrev pub end_in : Option Transaction → Coordination → Coordination
+end_in txn c = record c { txn = txn_of_end txn; due = due_of_end txn }
+
+-- After a commit is asked.
+abbrev pub after_commit_call : Coordination → Coordination
+after_commit_call c = end_in c.txn c
+
+-- What is waited for once the request that is due was sent.
+abbrev pub sending_of : Due → Option Wait
+sending_of (dues.Send request wait) = Some wait
+sending_of _ = None
+
+abbrev pub awaited_if : Bool → Wait → Option Wait
+awaited_if true wait = Some wait
+awaited_if false wait = None
+
+-- What is waited for of the message of this number.
+abbrev pub awaited_at : ℕ → Due → Option Wait
+awaited_at number (dues.Hear awaited wait) = awaited_if (awaited == number) wait
+awaited_at number _ = None
+
+-- The clock has heard every timestamp in the reply.
+abbrev pub with_heard : Reply → Coordination → Coordination
+with_heard reply c = record c { clock = max c.clock (last_of (reply_stamps reply)) }
+
+-- After the reply to a put.
+abbrev pub after_put_reply : Reply → Coordination → Coordination
+after_put_reply (replies.Written ts) c = with_due (dues.Tell answers.Written) (with_raise ts c)
+after_put_reply _ c = with_due dues.Stuck c
+
+abbrev pub committed_in : ℕ → Option Transaction → Coordination → Coordination
+committed_in ts txn c = record c { txn = None; due = due_of_committed ts txn }
+
+-- After a commit was told committed.
+abbrev pub after_committed : ℕ → Coordination → Coordination
+after_committed ts c = committed_in ts c.txn c
+
+-- How many refusals there are with this one.
+abbrev pub refusals_with : ℕ → ℕ → ℕ → ℕ
+refusals_with ts recorded refusals = if nat_lt ts recorded then refusals + 1 else refusals
+
+abbrev pub retry_in : ℕ → ℕ → Option Transaction → Coordination → Coordination
+retry_in recorded refusals txn c = record c { txn = txn_of_retry refusals txn; due = due_of_retry recorded refusals txn }
+
+-- After a commit met a record that is not final.
+abbrev pub after_refused : ℕ → ℕ → ℕ → Coordination → Coordination
+after_refused ts recorded refusals c = retry_in recorded (refusals_with ts recorded refusals) (option_map (raised recorded) c.txn) c
+
+abbrev pub after_view : ℕ → ℕ → View → Coordination → Coordination
+after_view ts refusals (views.Committed epoch at locks) c = after_committed at c
+after_view ts refusals (views.Aborted epoch why locks) c = with_end (answers.Aborted why) c
+after_view ts refusals (views.Pending epoch recorded) c = after_refused ts recorded refusals c
+after_view ts refusals (views.Staging epoch recorded writes) c = after_refused ts recorded refusals c
+after_view ts refusals views.Nothing c = with_due dues.Stuck c
+
+-- After the reply to a commit at this timestamp, after so many refusals.
+abbrev pub after_commit_reply : ℕ → ℕ → Reply → Coordination → Coordination
+after_commit_reply ts refusals (replies.Status view) c = after_view ts refusals view c
+after_commit_reply ts refusals _ c = with_due dues.Stuck c
+
+-- After the reply that was waited for.
+abbrev pub after_reply : Wait → Reply → Coordination → Coordination
+after_reply waits.Put reply c = after_put_reply reply c
+after_reply (waits.Commit ts refusals) reply c = after_commit_reply ts refusals reply c
+
+-- Fewer than eight commits of the statement were refused.
+abbrev pub FewRefused : Wait → Type 0
+FewRefused waits.Put = Unit {0}
+FewRefused (waits.Commit ts refusals) = refusals < 8
+
+-- After a call.
+abbrev pub after_call : Call → ℕ → Coordination → Coordination
+after_call (calls.Begin priority) reading c = after_begin priority reading c
+after_call (calls.Put key value) reading c = after_put key value c
+after_call calls.Commit reading c = after_commit_call c
+after_call _ reading c = with_due dues.Stuck c

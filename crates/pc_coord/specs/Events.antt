@@ -1,0 +1,47 @@
+-- The session's next event, as its coordinator is told of it.
+use Rattle.std.specs.Prelude.{◌≡◌, ℕ, true, false, None, Some, IsTrue}
+use Rattle.pc_base.specs.declared.actor.ActorId.{ActorId}
+use Rattle.pc_base.specs.declared.entry.Entry.{Entry}
+use Rattle.pc_coord.specs.Coordination.{Coordination, next_of, waits_for}
+use Rattle.pc_coord.specs.declared.next.Next.TheVariants as nexts
+use Rattle.pc_history.specs.declared.pair.Pair.{Pair}
+use Rattle.pc_proto.specs.declared.answer.Answer.{Answer}
+use Rattle.pc_proto.specs.declared.call.Call.{Call}
+use Rattle.pc_proto.specs.declared.event.Event.{Event}
+use Rattle.pc_proto.specs.declared.event.Event.TheVariants as events
+use Rattle.pc_proto.specs.declared.reply.Reply.{Reply}
+use Rattle.pc_proto.specs.declared.request.Request.{Request}
+use Rattle.pc_world.specs.Known.{Known, next_number}
+use Rattle.pc_world.specs.Local.{is_outside}
+
+-- The entry is this event, and names none.
+pub record IsOf (event : Event) (p : Pair Event) : Type 0 where
+  pub says : p.entry.event ≡ event
+  pub names : p.named ≡ None
+
+-- The call is asked where none is open, and begin and learn where no transaction is.
+pub record IsAsked (call : Call) (reading : ℕ) (k : Known) (p : Pair Event) : Type 0 where
+  pub is : IsOf (events.Ask call reading) p
+  pub none_open : k.statement ≡ None
+  pub outside : is_outside call ≡ true → k.is_open ≡ false
+
+-- The request that was due went out under the session's next number.
+pub record IsSent (c : Coordination) (number range : ℕ) (request : Request) (k : Known) (p : Pair Event) : Type 0 where
+  pub due : next_of c.due ≡ nexts.Send request
+  pub is : IsOf (events.Send number range request) p
+  pub next : number ≡ next_number k
+
+-- The reply that was waited for was heard: the entry names an evaluation that answered so.
+pub record IsHeard (c : Coordination) (number step : ℕ) (reply : Reply) (p : Pair Event) : Type 0 where
+  pub waited : waits_for number c.due ≡ true
+  pub event : p.entry.event ≡ events.Hear number step
+  pub evaluation : Entry Event
+  pub actor : ActorId
+  pub asked : ℕ
+  pub named : p.named ≡ Some evaluation
+  pub told : evaluation.event ≡ events.Eval actor asked reply
+
+-- The answer that was due was told.
+pub record IsTold (c : Coordination) (answer : Answer) (p : Pair Event) : Type 0 where
+  pub due : next_of c.due ≡ nexts.Tell answer
+  pub is : IsOf (events.Tell answer) p

@@ -1,0 +1,202 @@
+-- How a coordinator stands beside what its session knows.
+use Rattle.std.specs.Prelude.{◌≡◌, ℕ, ◌+◌, ◌≤◌, ◌<◌, Bool, true, false, Option, None, Some, List, [], ◌∷◌, ◌++◌, length, All, IsTrue}
+use Rattle.pc_base.specs.declared.actor.ActorId.{ActorId}
+use Rattle.pc_base.specs.declared.actor.ActorId.TheVariants as actors
+use Rattle.pc_base.specs.declared.entry.Entry.{Entry}
+use Rattle.pc_base.specs.declared.transaction.TxnId.{TxnId}
+use Rattle.pc_coord.specs.Coordination.{Coordination}
+use Rattle.pc_coord.specs.declared.due.Due.{Due}
+use Rattle.pc_coord.specs.declared.due.Due.TheVariants as dues
+use Rattle.pc_coord.specs.declared.due.Wait.{Wait}
+use Rattle.pc_coord.specs.declared.due.Wait.TheVariants as waits
+use Rattle.pc_coord.specs.declared.next.Next.{Next}
+use Rattle.pc_coord.specs.declared.next.Next.TheVariants as nexts
+use Rattle.pc_coord.specs.declared.transaction.Transaction.{Transaction}
+use Rattle.pc_coord.specs.Transaction.{transaction_of}
+use Rattle.pc_proto.specs.declared.call.Call.TheVariants as calls
+use Rattle.pc_proto.specs.declared.event.Event.{Event}
+use Rattle.pc_proto.specs.declared.event.Event.TheVariants as events
+use Rattle.pc_proto.specs.declared.request.Request.{Request}
+use Rattle.pc_proto.specs.declared.request.Request.TheVariants as requests
+use Rattle.pc_proto.specs.Stamps.{request_stamps}
+use Rattle.pc_world.specs.Counting.{AtLeast}
+use Rattle.pc_world.specs.Known.{Known, known_after, next_number}
+use Rattle.pc_world.specs.Known.Clock.{high_after, top_after}
+use Rattle.pc_world.specs.Known.Statements.{Statement}
+use Rattle.pc_world.specs.Known.Traffic.{Heard, Sent, heard_by}
+use Rattle.pc_world.specs.Known.Transactions.{Txn, meta_of}
+use Rattle.pc_world.specs.Known.Writes.{IsProvedBy, Write, last_seq_of}
+use Rattle.pc_world.specs.MaySend.{MaySendRow}
+use Rattle.pc_world.specs.MayTell.{MayTell}
+use Rattle.pc_world.specs.Send.Recovery.{is_put_of}
+use Rattle.pc_world.specs.StageFate.{EachCommit, IsRefused}
+use Rattle.pc_world.specs.Tell.Refusal.{WasMoved}
+
+-- What a session knows after an event of its own that names no entry.
+abbrev pub learned : Event → Known → Known
+learned event k = known_after event (heard_by event None k.sent) (top_after event None k.top) (high_after event None k.high) k
+
+-- A put or a commit of a transaction that was begun already.
+abbrev pub IsOwn : ℕ → Request → Type 0
+IsOwn begun (requests.Put meta seq ts key value) = meta.id.number ≤ begun
+IsOwn begun (requests.Commit meta ts locks) = meta.id.number ≤ begun
+IsOwn begun _ = ⊥
+
+-- A message that was sent, under a number up to this one.
+pub record IsOwnSent (begun count : ℕ) (m : Sent) : Type 0 where
+  pub numbered : m.number ≤ count
+  pub own : IsOwn begun m.request
+
+-- The clock is the greatest timestamp heard or given, the count that of the transactions begun; no message has a number above
+-- their count.
+pub record IsCounted (latest count : ℕ) (k : Known) : Type 0 where
+  pub clock : latest ≡ k.high
+  pub below : k.high ≤ k.top
+  pub begun : count ≡ k.begun
+  pub sent : All (IsOwnSent k.begun (length k.sent)) k.sent
+  pub heard : All (λ h. h.number ≤ length k.sent) k.heard
+
+-- If the message puts a write of the transaction's epoch, its sequence is at most this one.
+abbrev pub PutsUpTo : Txn → ℕ → Sent → Type 0
+PutsUpTo t last m = (seq : ℕ) → IsTrue (is_put_of t.id t.epoch seq m.request) → seq ≤ last
+
+-- A transaction that read nothing, whose commits up to now were refused.
+pub record IsPlain (k : Known) (t : Txn) (sent : List Sent) : Type 0 where
+  pub number : t.id.number ≤ k.begun
+  pub reads : t.reads ≡ []
+  pub restart : t.restart ≡ None
+  pub begun : t.begin ≤ t.write_ts
+  pub below : t.write_ts ≤ k.high
+  pub refused : EachCommit t.id sent (IsRefused k.heard)
+
+-- Between statements every write is proved at or below the write timestamp.
+pub record IsSettled (k : Known) (t : Txn) : Type 0 where
+  pub plain : IsPlain k t k.sent
+  pub proved : All (IsProvedBy t.write_ts) t.writes
+  pub puts : All (PutsUpTo t (last_seq_of t.writes)) k.sent
+
+-- The coordinator's transaction is the open one, field by field.
+pub record IsOpenAs (x : Transaction) (k : Known) (t : Txn) : Type 0 where
+  pub others : List Txn
+  pub is_open : k.is_open ≡ true
+  pub first : k.txns ≡ t ∷ others
+  pub same : x ≡ transaction_of t
+
+-- No transaction is open; or the coordinator's is, and it is settled.
+abbrev pub IsHeld : Option Transaction → Known → Type 0
+IsHeld None k = k.is_open ≡ false
+IsHeld (Some x) k = (t : Txn) × IsOpenAs x k t × IsSettled k t
+
+-- No statement is open, and the coordinator's transaction is the session's.
+pub record Rests (clock begun : ℕ) (txn : Option Transaction) (k : Known) : Type 0 where
+  pub counted : IsCounted clock begun k
+  pub none_open : k.statement ≡ None
+  pub held : IsHeld txn k
+
+-- The message of this number is the last one sent, and was not heard.
+pub record IsLastSent (k : Known) (number : ℕ) (before : List Sent) (m : Sent) : Type 0 where
+  pub sent : k.sent ≡ before ++ m ∷ []
+  pub numbered : m.number ≡ number
+  pub counted : number ≤ length k.sent
+  pub earlier : All (λ other. other.number < number) before
+  pub unheard : All (λ h. h.number < number) k.heard
+
+-- The put of a call was sent and not heard; the transaction's other writes are proved.
+pub record AwaitsPut (k : Known) (txn : Option Transaction) (number : ℕ) : Type 0 where
+  pub x : Transaction
+  pub held : txn ≡ Some x
+  pub t : Txn
+  pub open_as : IsOpenAs x k t
+  pub before : List Sent
+  pub m : Sent
+  pub last : IsLastSent k number before m
+  pub sent_now : k.sent_now ≡ m ∷ []
+  pub key : List ℕ
+  pub value : List ℕ
+  pub reading : ℕ
+  pub call : k.statement ≡ Some (record { call = calls.Put key value; reading = reading })
+  pub anchor : List ℕ
+  pub ts : ℕ
+  pub seq : ℕ
+  pub anchored : t.anchor ≡ Some anchor
+  pub said : m.request ≡ requests.Put (meta_of t anchor) seq ts key (Some value)
+  pub older : List Write
+  pub next : seq ≡ last_seq_of older + 1
+  pub writes : t.writes ≡ older ++ record { key = key; seq = seq; value = Some value; asked = ts ∷ []; proofs = [] } ∷ []
+  pub proved : All (IsProvedBy t.write_ts) older
+  pub puts : All (PutsUpTo t (last_seq_of older)) before
+  pub plain : IsPlain k t k.sent
+
+-- The commit of a call was sent and not heard, after so many that met a record above them; all earlier ones were refused.
+pub record AwaitsCommit (k : Known) (txn : Option Transaction) (number ts refusals : ℕ) : Type 0 where
+  pub x : Transaction
+  pub held : txn ≡ Some x
+  pub t : Txn
+  pub open_as : IsOpenAs x k t
+  pub before : List Sent
+  pub m : Sent
+  pub last : IsLastSent k number before m
+  pub before_now : List Sent
+  pub sent_now : k.sent_now ≡ before_now ++ m ∷ []
+  pub reading : ℕ
+  pub call : k.statement ≡ Some (record { call = calls.Commit; reading = reading })
+  pub anchor : List ℕ
+  pub anchored : t.anchor ≡ Some anchor
+  pub said : m.request ≡ requests.Commit (meta_of t anchor) ts t.locks
+  pub proved : All (IsProvedBy t.write_ts) t.writes
+  pub puts : All (PutsUpTo t (last_seq_of t.writes)) k.sent
+  pub plain : IsPlain k t before
+  pub few : refusals < 8
+  pub moved : AtLeast (WasMoved k) refusals k.heard_now
+
+abbrev pub AwaitsReply : Known → Option Transaction → ℕ → Wait → Type 0
+AwaitsReply k txn number waits.Put = AwaitsPut k txn number
+AwaitsReply k txn number (waits.Commit ts refusals) = AwaitsCommit k txn number ts refusals
+
+-- The reply to this message is waited for.
+pub record Awaits (clock begun : ℕ) (txn : Option Transaction) (number : ℕ) (wait : Wait) (k : Known) : Type 0 where
+  pub counted : IsCounted clock begun k
+  pub reply : AwaitsReply k txn number wait
+
+-- The requests that are built.
+abbrev pub IsPutOrCommit : Request → Type 0
+IsPutOrCommit (requests.Put meta seq ts key value) = Unit {0}
+IsPutOrCommit (requests.Commit meta ts locks) = Unit {0}
+IsPutOrCommit _ = ⊥
+
+-- The request may be sent: its row allows it, and none of its timestamps is past the one after the greatest that the session knows.
+pub record IsSendable (splits : List (List ℕ)) (session : ℕ) (k : Known) (request : Request) : Type 0 where
+  pub row : MaySendRow splits (actors.Session session) k request
+  pub stamps : All (λ ts. ts ≤ k.top + 1) (request_stamps request)
+  pub kind : IsPutOrCommit request
+
+-- The request may be sent, and once it is its reply is waited for.
+pub record SendsNow (c : Coordination) (k : Known) (request : Request) (wait : Wait) : Type 0 where
+  pub may : IsSendable c.splits c.session k request
+  pub after : (range : ℕ) → Awaits c.clock c.begun c.txn (next_number k) wait (learned (events.Send (next_number k) range request) k)
+
+-- A statement is open that the coordinator cannot go on with.
+pub record IsStuck (clock begun : ℕ) (k : Known) : Type 0 where
+  pub counted : IsCounted clock begun k
+  pub s : Statement
+  pub opened : k.statement ≡ Some s
+
+abbrev pub KnowsAt : Coordination → Known → Due → Type 0
+KnowsAt c k dues.Nothing = Rests c.clock c.begun c.txn k
+KnowsAt c k dues.Stuck = IsStuck c.clock c.begun k
+KnowsAt c k (dues.Send request wait) = SendsNow c k request wait
+KnowsAt c k (dues.Hear number wait) = Awaits c.clock c.begun c.txn number wait k
+KnowsAt c k (dues.Tell answer) =
+    MayTell c.splits (actors.Session c.session) k answer × Rests c.clock c.begun c.txn (learned (events.Tell answer) k)
+
+-- The coordinator knows what its session knows. What is due may be sent or told, and once it is, the coordinator stands as the
+-- session does.
+pub record Knows (c : Coordination) (k : Known) : Type 0 where
+  pub stands : KnowsAt c k c.due
+
+-- What comes next is allowed: a request may be sent, an answer may be told.
+abbrev pub MayCome : Coordination → Known → Next → Type 0
+MayCome c k (nexts.Send request) = IsSendable c.splits c.session k request
+MayCome c k (nexts.Tell answer) = MayTell c.splits (actors.Session c.session) k answer
+MayCome c k nexts.Wave = Unit {0}
+MayCome c k nexts.Idle = Unit {0}

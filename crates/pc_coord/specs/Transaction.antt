@@ -1,0 +1,52 @@
+-- The coordinator's transaction beside the one that its session knows, and the messages that it makes.
+use Rattle.std.specs.Prelude.{ℕ, ◌+◌, max, Option, None, Some, List, unwrap_or}
+use Rattle.std.specs.Option.{option_or}
+use Rattle.pc_coord.specs.declared.transaction.Transaction.{Transaction}
+use Rattle.pc_proto.specs.declared.meta.TxnMeta.{TxnMeta}
+use Rattle.pc_proto.specs.declared.request.Request.{Request}
+use Rattle.pc_proto.specs.declared.request.Request.TheVariants as requests
+use Rattle.pc_world.specs.Known.Transactions.{Txn, with_lock}
+use Rattle.pc_world.specs.Known.Writes.{last_seq_of}
+
+-- What a coordinator keeps of a transaction that its session knows.
+abbrev pub transaction_of : Txn → Transaction
+transaction_of t = record {
+  id = t.id;
+  priority = t.priority;
+  born = t.born;
+  begin = t.begin;
+  epoch = t.epoch;
+  seq = last_seq_of t.writes;
+  read_ts = t.read_ts;
+  write_ts = t.write_ts;
+  anchor = t.anchor;
+  locks = t.locks;
+}
+
+-- The transaction with one more write of this key.
+abbrev pub with_write : List ℕ → Transaction → Transaction
+with_write key x = record x {
+  anchor = option_or x.anchor (Some key);
+  locks = with_lock key x.locks;
+  seq = x.seq + 1;
+}
+
+-- The transaction once it was raised to this timestamp.
+abbrev pub raised : ℕ → Transaction → Transaction
+raised ts x = record x { write_ts = max x.write_ts ts }
+
+-- The transaction whose reads were moved to its write timestamp.
+abbrev pub refreshed : Transaction → Transaction
+refreshed x = record x { read_ts = max x.read_ts x.write_ts }
+
+-- Its meta, with this anchor.
+abbrev pub meta_in : Transaction → List ℕ → TxnMeta
+meta_in x anchor = record { id = x.id; epoch = x.epoch; priority = x.priority; born = x.born; anchor = anchor }
+
+-- Its last write, at its write timestamp.
+abbrev pub put_of : Transaction → List ℕ → List ℕ → List ℕ → Request
+put_of x anchor key value = requests.Put (meta_in x anchor) x.seq x.write_ts key (Some value)
+
+-- Its commit, at its write timestamp.
+abbrev pub commit_of : Transaction → List ℕ → Request
+commit_of x anchor = requests.Commit (meta_in x anchor) x.write_ts x.locks

@@ -1,0 +1,26 @@
+use pc_base::Timestamp;
+use pc_proto::{Answer, Request};
+
+/// Which reply a statement waits for.
+#[derive(Clone, Copy, Debug)]
+pub enum Wait {
+    /// That to its write.
+    Put,
+    /// That to its commit at this timestamp, after so many that were refused.
+    Commit { ts: Timestamp, refusals: u32 },
+}
+
+/// What the open statement waits for.
+#[derive(Drop)]
+pub enum Due {
+    /// No statement is open.
+    Nothing,
+    /// A statement is open that this form of the coordinator cannot go on with.
+    Stuck,
+    /// The request is to be sent, and this reply to it is to be heard.
+    Send { request: Request, wait: Wait },
+    /// The reply to the message of this number is to be heard.
+    Hear { number: u64, wait: Wait },
+    /// The open call is to be told this.
+    Tell(Answer),
+}
