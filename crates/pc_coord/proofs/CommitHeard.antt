@@ -1,14 +1,11 @@
 -- The reply to a commit.
-use Rattle.std.proofs.Common.{◌≡◌, ℕ, suc, ◌+◌, ◌-◌, ◌<◌, ◌≤◌, max, nat_lt, Bool, true, false, cond, not, ◌&&◌, ◌||◌, ◌==◌, ◌⊎◌, inl, inr, List, [], ◌∷◌, ◌++◌, length, map, Option, Some, None, refl, sym, ap, ◌∙◌, subst, arith, All, IsTrue}
-use Rattle.std.specs.List.{Any, list_any}
+use Rattle.std.proofs.Common.{◌≡◌, ℕ, suc, ◌+◌, ◌<◌, ◌≤◌, max, nat_lt, Bool, true, false, cond, not, inl, inr, List, [], ◌∷◌, length, map, Option, Some, None, refl, sym, ap, ◌∙◌, subst, arith, IsTrue}
 use Rattle.std.specs.Option.{option_map, option_map_or}
 use Rattle.std.proofs.lemmas.Bool.{and_from, eq-eqb, ltb-false, ltb-true}
 use Rattle.std.proofs.lemmas.List.Elements.{All-push}
-use Rattle.pc_base.specs.declared.actor.ActorId.TheVariants as actors
 use Rattle.pc_base.specs.Transaction.{same_txn}
 use Rattle.pc_coord.proofs.Committing.{commit_sends}
 use Rattle.pc_coord.proofs.Ids.{no_stages, on_commits-more}
-use Rattle.pc_coord.proofs.Learned.{learn_heard}
 use Rattle.pc_coord.proofs.Lists.{any_last, any_last_of, at_least-kept, at_least-push, last-push}
 use Rattle.pc_coord.proofs.PutHeard.{heard_stuck, learned_reply, reply_known, still_open}
 use Rattle.pc_coord.proofs.Resting.{closed_told, match_false, open_is}
@@ -17,12 +14,11 @@ use Rattle.pc_coord.proofs.Steps.{counted-heard, counted-told, heard, told, told
 use Rattle.pc_coord.proofs.Writes.{all_proved-more}
 use Rattle.pc_coord.specs.Coordinating.{after_commit_reply, after_refused, after_view, committed_in, refusals_with, with_heard}
 use Rattle.pc_coord.specs.Turning.{due_of_commit}
-use Rattle.pc_coord.specs.Coordination.{Coordination, commit_due, with_due, with_end}
+use Rattle.pc_coord.specs.Coordination.{Coordination, commit_due, with_end}
 use Rattle.pc_coord.specs.declared.due.Due.TheVariants as dues
 use Rattle.pc_coord.specs.declared.due.Wait.TheVariants as waits
-use Rattle.pc_coord.specs.declared.transaction.Transaction.{Transaction}
 use Rattle.pc_coord.specs.Events.{IsHeard}
-use Rattle.pc_coord.specs.Knows.{Awaits, AwaitsCommit, IsCounted, IsHeld, IsOpenAs, IsPlain, IsSettled, Knows, Rests, learned}
+use Rattle.pc_coord.specs.Knows.{Awaits, AwaitsCommit, IsCounted, IsHeld, IsOpenAs, IsSettled, Knows, Rests, learned}
 use Rattle.pc_coord.specs.Transaction.{raised, refreshed, transaction_of}
 use Rattle.pc_history.specs.declared.pair.Pair.{Pair}
 use Rattle.pc_proto.specs.declared.answer.Answer.TheVariants as answers
@@ -36,14 +32,13 @@ use Rattle.pc_proto.specs.declared.request.Request.TheVariants as requests
 use Rattle.pc_proto.specs.declared.view.View.{View}
 use Rattle.pc_proto.specs.declared.view.View.TheVariants as views
 use Rattle.pc_proto.specs.declared.why.Why.{Why}
-use Rattle.pc_proto.specs.Stamps.{reply_stamps, view_stamps}
-use Rattle.pc_world.specs.Counting.{AtLeast, LastIs}
+use Rattle.pc_proto.specs.Stamps.{view_stamps}
+use Rattle.pc_world.specs.Counting.{AtLeast}
 use Rattle.pc_world.specs.Known.{Known, learn}
 use Rattle.pc_world.specs.Known.Clock.{last_of}
-use Rattle.pc_world.specs.Known.Traffic.{Heard, Sent, is_reply_to}
+use Rattle.pc_world.specs.Known.Traffic.{Heard, is_reply_to}
 use Rattle.pc_world.specs.Known.Transactions.{Txn, is_final_view, meta_of, status_ts, txn_heard, unsettled_ts}
-use Rattle.pc_world.specs.Known.Writes.{IsProvedBy}
-use Rattle.pc_world.specs.StageFate.{Commit, EachCommit, IsDead, IsRefused, IsUncommitted, OnCommit, Refuses}
+use Rattle.pc_world.specs.StageFate.{Commit, EachCommit, IsDead, IsRefused, OnCommit, Refuses}
 use Rattle.pc_world.specs.Tell.Refusal.{WasMoved, is_moved}
 use Rattle.pc_world.specs.Views.{AbortsWith, ShowsAborted, is_committed_at, shows_committed}
 

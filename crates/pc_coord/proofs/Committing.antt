@@ -1,8 +1,7 @@
 -- A call commits: a transaction that wrote nothing at once, any other by a message.
-use Rattle.std.proofs.Common.{◌≡◌, ◌≢◌, ℕ, ◌+◌, ◌-◌, ◌<◌, ◌≤◌, max, Bool, true, false, cond, not, ◌&&◌, ◌||◌, ◌==◌, ◌⊎◌, inl, inr, List, [], ◌∷◌, ◌++◌, length, map, Option, Some, None, refl, sym, ap, ◌∙◌, subst, arith, All, IsTrue, Contains, length-append}
-use Rattle.std.specs.List.{Any, list_any}
+use Rattle.std.proofs.Common.{◌≡◌, ◌≢◌, ℕ, ◌+◌, ◌<◌, ◌≤◌, max, Bool, true, false, not, ◌&&◌, ◌||◌, ◌==◌, inl, List, [], ◌∷◌, ◌++◌, length, map, Option, Some, None, refl, sym, ap, ◌∙◌, subst, arith, All, Contains, length-append}
+use Rattle.std.specs.List.{list_any}
 use Rattle.std.proofs.lemmas.List.Elements.{All-cons, All-nil, All-push, All-weaker}
-use Rattle.pc_base.specs.declared.actor.ActorId.TheVariants as actors
 use Rattle.pc_base.specs.Transaction.{same_txn}
 use Rattle.pc_coord.proofs.Ids.{no_stages, on_commits-if}
 use Rattle.pc_coord.proofs.Lists.{at_least-weaker}
@@ -11,27 +10,25 @@ use Rattle.pc_coord.proofs.Same.{if_true, same_txn-self}
 use Rattle.pc_coord.proofs.Steps.{asked, counted-asked, counted-sent, sent, sent_is}
 use Rattle.pc_coord.specs.Coordinating.{after_commit_call, end_in}
 use Rattle.pc_coord.specs.Turning.{due_at_end, txn_at_end}
-use Rattle.pc_coord.specs.Coordination.{Coordination, with_commit, with_due, with_end}
-use Rattle.pc_coord.specs.declared.due.Due.TheVariants as dues
+use Rattle.pc_coord.specs.Coordination.{Coordination, with_commit}
 use Rattle.pc_coord.specs.declared.due.Wait.TheVariants as waits
 use Rattle.pc_coord.specs.declared.transaction.Transaction.{Transaction}
 use Rattle.pc_coord.specs.Events.{IsAsked}
-use Rattle.pc_coord.specs.Knows.{Awaits, IsCounted, IsHeld, IsOpenAs, IsOwnSent, IsPlain, IsSettled, Knows, PutsUpTo, Rests, SendsNow, learned}
+use Rattle.pc_coord.specs.Knows.{Awaits, IsCounted, IsHeld, IsOpenAs, IsOwnSent, IsSettled, Knows, PutsUpTo, SendsNow}
 use Rattle.pc_coord.specs.Transaction.{commit_of, refreshed, transaction_of}
 use Rattle.pc_history.specs.declared.pair.Pair.{Pair}
 use Rattle.pc_proto.specs.declared.answer.Answer.TheVariants as answers
 use Rattle.pc_proto.specs.declared.call.Call.TheVariants as calls
 use Rattle.pc_proto.specs.declared.event.Event.{Event}
-use Rattle.pc_proto.specs.declared.event.Event.TheVariants as events
 use Rattle.pc_proto.specs.declared.request.Request.{Request}
 use Rattle.pc_world.specs.Counting.{AtLeast}
 use Rattle.pc_world.specs.Known.{Known, call_in, learn, next_number}
-use Rattle.pc_world.specs.Known.Reads.{IsGoodAt, Read}
+use Rattle.pc_world.specs.Known.Reads.{IsGoodAt}
 use Rattle.pc_world.specs.Known.Traffic.{Heard, Sent, is_reply_to}
 use Rattle.pc_world.specs.Known.Transactions.{IsGood, Txn, meta_of, txn_sent}
-use Rattle.pc_world.specs.Known.Writes.{IsProvedBy, last_seq_of}
+use Rattle.pc_world.specs.Known.Writes.{last_seq_of}
 use Rattle.pc_world.specs.Send.Commit.{MaySendCommit}
-use Rattle.pc_world.specs.StageFate.{Commit, EachCommit, IsLate, IsRefused}
+use Rattle.pc_world.specs.StageFate.{IsLate}
 use Rattle.pc_world.specs.Tell.Refusal.{WasMoved, is_moved}
 
 -- where nothing was read, every timestamp from the begin timestamp on is good

@@ -1,5 +1,5 @@
 -- What the messages of a session say of a transaction.
-use Rattle.std.proofs.Common.{◌≡◌, ℕ, ◌+◌, ◌<◌, ◌≤◌, Bool, true, false, ◌&&◌, ◌==◌, List, [], ◌∷◌, ◌++◌, length, refl, sym, ap, ◌∙◌, arith, All, IsTrue}
+use Rattle.std.proofs.Common.{◌≡◌, ℕ, ◌<◌, ◌≤◌, true, ◌&&◌, ◌==◌, List, [], ◌∷◌, ◌++◌, sym, ◌∙◌, arith, All, IsTrue}
 use Rattle.std.proofs.lemmas.Bool.{and_parts, eqb-true}
 use Rattle.pc_coord.proofs.Lists.{any_kept}
 use Rattle.std.proofs.lemmas.List.Elements.{All-weaker}
@@ -11,7 +11,7 @@ use Rattle.pc_proto.specs.declared.request.Request.TheVariants as requests
 use Rattle.pc_world.specs.Known.Traffic.{Heard, Sent}
 use Rattle.pc_world.specs.Known.Transactions.{Txn}
 use Rattle.pc_world.specs.Send.Recovery.{is_put_of}
-use Rattle.pc_world.specs.StageFate.{Commit, EachCommit, EachStage, IsDead, IsRefused, IsUncommitted, OnCommit, OnStage, Refuses, Stage}
+use Rattle.pc_world.specs.StageFate.{Commit, EachCommit, EachStage, IsRefused, OnCommit, OnStage, Refuses, Stage}
 
 same-number : (one other : TxnId) → same_txn one other ≡ true → one.number ≡ other.number
 same-number one other h = eqb-true one.number other.number (and_parts (one.session == other.session) (one.number == other.number) h).1

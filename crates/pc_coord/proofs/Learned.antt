@@ -1,5 +1,5 @@
 -- What a session learns from its own events.
-use Rattle.std.proofs.Common.{◌≡◌, ℕ, ◌+◌, ◌<◌, ◌≤◌, max, true, List, [], ◌∷◌, ◌++◌, Option, Some, None, refl, sym, ap, ◌∙◌, subst, All}
+use Rattle.std.proofs.Common.{◌≡◌, ℕ, max, List, Option, Some, None, ap, ◌∙◌}
 use Rattle.std.specs.Option.{option_map}
 use Rattle.pc_base.specs.declared.entry.Entry.{Entry}
 use Rattle.pc_coord.proofs.Lists.{find-last}

@@ -1,8 +1,8 @@
 -- The reply to a put.
-use Rattle.std.proofs.Common.{◌≡◌, ℕ, ◌+◌, ◌-◌, ◌<◌, ◌≤◌, max, Bool, true, false, cond, not, ◌&&◌, ◌||◌, ◌==◌, List, [], ◌∷◌, ◌++◌, length, map, Option, Some, None, refl, sym, ap, ◌∙◌, subst, arith, All, IsTrue, take}
+use Rattle.std.proofs.Common.{◌≡◌, ℕ, ◌-◌, ◌<◌, ◌≤◌, max, Bool, true, false, cond, not, ◌&&◌, ◌||◌, ◌==◌, List, [], ◌∷◌, length, map, Some, None, refl, sym, ap, ◌∙◌, subst, arith, All, take}
 use Rattle.std.specs.List.{Any, list_any}
 use Rattle.std.specs.Option.{option_map}
-use Rattle.std.proofs.lemmas.List.Elements.{All-append, All-cons, All-head, All-nil, All-push, All-tail, All-weaker}
+use Rattle.std.proofs.lemmas.List.Elements.{All-head, All-push, All-tail}
 use Rattle.std.proofs.lemmas.Bool.{eq-eqb}
 use Rattle.pc_base.specs.declared.actor.ActorId.TheVariants as actors
 use Rattle.pc_base.specs.Transaction.{same_txn}
@@ -14,12 +14,12 @@ use Rattle.pc_coord.proofs.Same.{if_true, same_epoch-self, same_txn-self}
 use Rattle.pc_coord.proofs.Steps.{counted-heard, counted-told, heard, heard_is, told, told_is}
 use Rattle.pc_coord.proofs.Writes.{all_proved, last_seq-push, proved-last_seq}
 use Rattle.pc_coord.specs.Coordinating.{after_put_reply, with_heard}
-use Rattle.pc_coord.specs.Coordination.{Coordination, with_due, with_raise}
+use Rattle.pc_coord.specs.Coordination.{Coordination, with_due}
 use Rattle.pc_coord.specs.declared.due.Due.TheVariants as dues
 use Rattle.pc_coord.specs.declared.due.Wait.TheVariants as waits
 use Rattle.pc_coord.specs.declared.transaction.Transaction.{Transaction}
 use Rattle.pc_coord.specs.Events.{IsHeard}
-use Rattle.pc_coord.specs.Knows.{Awaits, AwaitsPut, IsCounted, IsHeld, IsLastSent, IsOpenAs, IsPlain, IsSettled, IsStuck, Knows, PutsUpTo, Rests, learned}
+use Rattle.pc_coord.specs.Knows.{Awaits, AwaitsPut, IsCounted, IsHeld, IsLastSent, IsPlain, Knows, PutsUpTo, Rests, learned}
 use Rattle.pc_coord.specs.Transaction.{raised, transaction_of}
 use Rattle.pc_history.specs.declared.pair.Pair.{Pair}
 use Rattle.pc_proto.specs.declared.answer.Answer.{Answer}
@@ -32,7 +32,7 @@ use Rattle.pc_proto.specs.declared.reply.Reply.TheVariants as replies
 use Rattle.pc_proto.specs.declared.request.Request.{Request}
 use Rattle.pc_proto.specs.declared.request.Request.TheVariants as requests
 use Rattle.pc_proto.specs.Stamps.{reply_stamps}
-use Rattle.pc_world.specs.Known.{Known, learn, told_first, txns_told}
+use Rattle.pc_world.specs.Known.{Known, learn, told_first}
 use Rattle.pc_world.specs.Known.Clock.{last_of}
 use Rattle.pc_world.specs.Known.Statements.{Statement}
 use Rattle.pc_world.specs.Known.Traffic.{Heard, Sent, replies_to}
@@ -40,8 +40,7 @@ use Rattle.pc_world.specs.Known.Transactions.{Txn, meta_of, txn_heard, txn_told}
 use Rattle.pc_world.specs.Known.Writes.{IsProvedBy, Write, last_seq_of, proved_at}
 use Rattle.pc_world.specs.MayTell.{MayTell}
 use Rattle.pc_world.specs.Send.Recovery.{is_put_of}
-use Rattle.pc_world.specs.StageFate.{EachCommit, IsRefused}
-use Rattle.pc_world.specs.Tell.Data.{IsFirstPut, IsPutFor, MayTellWritten, sent_before}
+use Rattle.pc_world.specs.Tell.Data.{IsFirstPut, IsPutFor, sent_before}
 
 -- the open transaction stays open and is told the answer
 pub still_open : (k : Known) (answer : Answer) (t : Txn) (others : List Txn) → k.is_open ≡ true → k.txns ≡ t ∷ others

@@ -1,37 +1,32 @@
 -- A call puts a write.
-use Rattle.std.proofs.Common.{◌≡◌, ℕ, ◌+◌, ◌-◌, ◌<◌, ◌≤◌, max, Bool, true, false, cond, not, ◌&&◌, ◌==◌, ◌⊎◌, inl, inr, List, [], ◌∷◌, ◌++◌, length, map, Option, Some, None, refl, sym, ap, ◌∙◌, subst, arith, All, IsTrue, take, unwrap_or, length-append}
+use Rattle.std.proofs.Common.{◌≡◌, ℕ, ◌+◌, ◌<◌, ◌≤◌, Bool, true, ◌&&◌, ◌==◌, inl, List, [], ◌∷◌, ◌++◌, length, map, Option, Some, None, refl, sym, ap, ◌∙◌, subst, arith, All, IsTrue, unwrap_or, length-append}
 use Rattle.std.specs.List.{Any, list_any}
-use Rattle.std.specs.Option.{option_map, option_or}
-use Rattle.std.proofs.lemmas.List.Elements.{All-append, All-cons, All-head, All-nil, All-push, All-tail, All-weaker}
-use Rattle.pc_base.specs.declared.actor.ActorId.TheVariants as actors
+use Rattle.std.specs.Option.{option_or}
+use Rattle.std.proofs.lemmas.List.Elements.{All-cons, All-nil, All-push, All-weaker}
 use Rattle.pc_base.specs.Span.{same_key}
 use Rattle.pc_base.specs.Transaction.{same_txn}
-use Rattle.pc_coord.proofs.Ids.{no_stages, puts-more, puts-one}
-use Rattle.pc_coord.proofs.Lists.{any_head, take_front}
-use Rattle.pc_coord.proofs.Resting.{asked_knows, closed_told, match_false, no_txn, open_is, rests}
+use Rattle.pc_coord.proofs.Ids.{no_stages}
+use Rattle.pc_coord.proofs.Resting.{asked_knows, closed_told, no_txn, open_is, rests}
 use Rattle.pc_coord.proofs.Same.{if_true, same_epoch-self, same_txn-self}
 use Rattle.pc_coord.proofs.Steps.{asked, counted-asked, counted-sent, sent, sent_is}
 use Rattle.pc_coord.proofs.Writes.{last_seq-push, put-new}
 use Rattle.pc_coord.specs.Coordinating.{after_put, put_in}
-use Rattle.pc_coord.specs.Coordination.{Coordination, with_due, with_put}
-use Rattle.pc_coord.specs.declared.due.Due.TheVariants as dues
+use Rattle.pc_coord.specs.Coordination.{Coordination, with_put}
 use Rattle.pc_coord.specs.declared.due.Wait.TheVariants as waits
 use Rattle.pc_coord.specs.declared.transaction.Transaction.{Transaction}
 use Rattle.pc_coord.specs.Events.{IsAsked}
-use Rattle.pc_coord.specs.Knows.{Awaits, AwaitsPut, IsCounted, IsHeld, IsOpenAs, IsOwnSent, IsPlain, IsSettled, Knows, PutsUpTo, Rests, SendsNow, learned}
+use Rattle.pc_coord.specs.Knows.{Awaits, IsCounted, IsHeld, IsOpenAs, IsOwnSent, IsSettled, Knows, SendsNow}
 use Rattle.pc_coord.specs.Transaction.{put_of, transaction_of, with_write}
 use Rattle.pc_history.specs.declared.pair.Pair.{Pair}
 use Rattle.pc_proto.specs.declared.answer.Answer.TheVariants as answers
 use Rattle.pc_proto.specs.declared.call.Call.TheVariants as calls
 use Rattle.pc_proto.specs.declared.event.Event.{Event}
-use Rattle.pc_proto.specs.declared.event.Event.TheVariants as events
 use Rattle.pc_proto.specs.declared.request.Request.{Request}
-use Rattle.pc_proto.specs.declared.request.Request.TheVariants as requests
 use Rattle.pc_world.specs.Known.{Known, learn, next_number}
-use Rattle.pc_world.specs.Known.Traffic.{Heard, Sent}
-use Rattle.pc_world.specs.Known.Transactions.{Txn, meta_of, txn_sent, with_lock}
+use Rattle.pc_world.specs.Known.Traffic.{Sent}
+use Rattle.pc_world.specs.Known.Transactions.{Txn, txn_sent, with_lock}
 use Rattle.pc_world.specs.Known.Writes.{IsProvedBy, Write, is_proved, last_seq_of}
-use Rattle.pc_world.specs.StageFate.{IsDead, IsRefused, IsUncommitted, OnCommit}
+use Rattle.pc_world.specs.StageFate.{IsDead, IsRefused, OnCommit}
 
 proofs-some : (ts : ℕ) (proofs : List ℕ) → Any (λ n. n ≤ ts) proofs → list_any (λ n. true) proofs ≡ true
 proofs-some ts [] (k, x, there, is, small) = absurd (omega arith)

@@ -1,9 +1,9 @@
 -- A coordinator at rest: no statement is open.
-use Rattle.std.proofs.Common.{◌≡◌, ℕ, ◌+◌, ◌<◌, ◌≤◌, max, Bool, true, false, cond, not, ◌&&◌, List, [], ◌∷◌, ◌++◌, length, map, Option, Some, None, refl, sym, ap, ◌∙◌, subst, arith, All}
+use Rattle.std.proofs.Common.{◌≡◌, ℕ, Bool, true, false, not, ◌&&◌, List, ◌∷◌, Option, Some, None, refl, sym, ap, ◌∙◌, subst}
 use Rattle.std.specs.Bool.{MatchBool}
 use Rattle.pc_base.specs.declared.actor.ActorId.TheVariants as actors
 use Rattle.pc_coord.proofs.Learned.{learn_own}
-use Rattle.pc_coord.proofs.Steps.{asked, asked_is, counted-told, told, told_is}
+use Rattle.pc_coord.proofs.Steps.{asked, asked_is, counted-told, told_is}
 use Rattle.pc_coord.specs.Coordination.{Coordination}
 use Rattle.pc_coord.specs.declared.due.Due.{Due}
 use Rattle.pc_coord.specs.declared.due.Due.TheVariants as dues
@@ -22,7 +22,7 @@ use Rattle.pc_world.specs.Known.{Known, first_if, learn, next_number}
 use Rattle.pc_world.specs.Known.Clock.{high_told}
 use Rattle.pc_world.specs.Known.Statements.{Statement, begun_told, is_open_told}
 use Rattle.pc_world.specs.Known.Transactions.{Txn}
-use Rattle.pc_world.specs.MayTell.{MayTell, MayTellRow, is_past_range, needs_txn}
+use Rattle.pc_world.specs.MayTell.{MayTell, needs_txn}
 
 waiting : (k : Known) (txn : Option Transaction) (number : ℕ) (wait : Wait) → AwaitsReply k txn number wait → k.statement ≡ None → ⊥
 waiting k txn number waits.Put a none = let e = sym a.call ∙ none in cc

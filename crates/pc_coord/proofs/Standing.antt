@@ -1,10 +1,9 @@
 -- Each call of a coordinator keeps that it knows what its session knows.
-use Rattle.std.proofs.Common.{◌≡◌, ℕ, ◌<◌, ◌≤◌, max, Bool, true, false, not, ◌==◌, ◌||◌, List, [], ◌∷◌, Option, Some, None, refl, sym, ap, ◌∙◌, subst, arith, All, is_some, IfOk, OnOk, Ok, Err, Result}
+use Rattle.std.proofs.Common.{◌≡◌, ℕ, ◌<◌, ◌≤◌, Bool, true, false, not, ◌==◌, ◌||◌, List, [], ◌∷◌, Option, Some, None, refl, sym, ap, ◌∙◌, subst, arith, All, is_some, IfOk, OnOk, Ok, Err, Result}
 use Rattle.std.proofs.lemmas.List.Elements.{All-head, All-nil, All-tail}
 use Rattle.pc_base.specs.declared.memory.NoMemory.{NoMemory}
 use Rattle.std.specs.List.{list_any}
 use Rattle.std.proofs.lemmas.Bool.{eq-eqb, eqb-true, ne_eqb}
-use Rattle.pc_base.specs.declared.transaction.Priority.{Priority}
 use Rattle.pc_coord.proofs.Beginning.{begin_asked}
 use Rattle.pc_coord.proofs.CommitHeard.{commit_heard}
 use Rattle.pc_coord.proofs.Committing.{commit_asked}
@@ -23,7 +22,7 @@ use Rattle.pc_coord.specs.declared.due.Wait.TheVariants as waits
 use Rattle.pc_coord.specs.declared.next.Next.{Next}
 use Rattle.pc_coord.specs.declared.transaction.Transaction.{Transaction}
 use Rattle.pc_coord.specs.declared.next.Next.TheVariants as nexts
-use Rattle.pc_coord.specs.Events.{IsAsked, IsHeard, IsOf, IsSent, IsTold}
+use Rattle.pc_coord.specs.Events.{IsAsked, IsHeard, IsSent, IsTold}
 use Rattle.pc_coord.specs.Knows.{Awaits, AwaitsReply, IsHeld, IsLastSent, IsOwnSent, Knows, KnowsAt, MayCome, Rests, SendsNow, learned}
 use Rattle.pc_history.specs.declared.pair.Pair.{Pair}
 use Rattle.pc_proto.specs.declared.answer.Answer.{Answer}

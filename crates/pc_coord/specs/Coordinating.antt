@@ -1,5 +1,5 @@
 -- What a coordinator does: how it stands after each call and reply.
-use Rattle.std.specs.Prelude.{ℕ, ◌+◌, ◌^◌, ◌<◌, max, nat_lt, nat_le, Bool, true, false, ◌==◌, if◌then◌else◌, Option, None, Some, List}
+use Rattle.std.specs.Prelude.{ℕ, ◌+◌, ◌^◌, ◌<◌, max, nat_lt, Bool, true, false, ◌==◌, if◌then◌else◌, Option, None, Some, List}
 use Rattle.std.specs.Option.{option_map}
 use Rattle.pc_base.specs.declared.transaction.Priority.{Priority}
 use Rattle.pc_coord.specs.Coordination.{Coordination, with_begun, with_due, with_end, with_raise}

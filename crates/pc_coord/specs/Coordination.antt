@@ -1,11 +1,10 @@
 -- A coordinator as contracts see it, and what it does of itself.
-use Rattle.std.specs.Prelude.{ℕ, ◌+◌, ◌*◌, ◌^◌, max, nat_lt, Bool, true, false, ◌==◌, if◌then◌else◌, Option, None, Some, List, unwrap_or}
+use Rattle.std.specs.Prelude.{ℕ, ◌+◌, Bool, false, ◌==◌, Option, None, Some, List, unwrap_or}
 use Rattle.std.specs.Option.{option_map}
 use Rattle.pc_base.specs.declared.transaction.Priority.{Priority}
 use Rattle.pc_base.specs.declared.transaction.TxnId.{TxnId}
 use Rattle.pc_coord.specs.declared.due.Due.{Due}
 use Rattle.pc_coord.specs.declared.due.Due.TheVariants as dues
-use Rattle.pc_coord.specs.declared.due.Wait.{Wait}
 use Rattle.pc_coord.specs.declared.due.Wait.TheVariants as waits
 use Rattle.pc_coord.specs.declared.next.Next.{Next}
 use Rattle.pc_coord.specs.declared.next.Next.TheVariants as nexts
@@ -13,9 +12,7 @@ use Rattle.pc_coord.specs.declared.transaction.Transaction.{Transaction}
 use Rattle.pc_coord.specs.Transaction.{commit_of, put_of, raised, refreshed, transaction_of, with_write}
 use Rattle.pc_proto.specs.declared.answer.Answer.{Answer}
 use Rattle.pc_proto.specs.declared.answer.Answer.TheVariants as answers
-use Rattle.pc_proto.specs.declared.why.Why.{Why}
 use Rattle.pc_world.specs.Known.Transactions.{begun}
-use Rattle.pc_world.specs.Tell.Begin.{clock_now}
 
 -- A coordinator: its session and the keys at which the ranges are cut; the greatest timestamp heard or given; how many
 -- transactions were begun; the open transaction; and what is due. The clock, the count and the transaction are those that stand

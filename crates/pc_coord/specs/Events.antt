@@ -1,5 +1,5 @@
 -- The session's next event, as its coordinator is told of it.
-use Rattle.std.specs.Prelude.{◌≡◌, ℕ, true, false, None, Some, IsTrue}
+use Rattle.std.specs.Prelude.{◌≡◌, ℕ, true, false, None, Some}
 use Rattle.pc_base.specs.declared.actor.ActorId.{ActorId}
 use Rattle.pc_base.specs.declared.entry.Entry.{Entry}
 use Rattle.pc_coord.specs.Coordination.{Coordination, next_of, waits_for}

@@ -1,9 +1,6 @@
 -- How a coordinator stands beside what its session knows.
-use Rattle.std.specs.Prelude.{◌≡◌, ℕ, ◌+◌, ◌≤◌, ◌<◌, Bool, true, false, Option, None, Some, List, [], ◌∷◌, ◌++◌, length, All, IsTrue}
-use Rattle.pc_base.specs.declared.actor.ActorId.{ActorId}
+use Rattle.std.specs.Prelude.{◌≡◌, ℕ, ◌+◌, ◌≤◌, ◌<◌, true, false, Option, None, Some, List, [], ◌∷◌, ◌++◌, length, All, IsTrue}
 use Rattle.pc_base.specs.declared.actor.ActorId.TheVariants as actors
-use Rattle.pc_base.specs.declared.entry.Entry.{Entry}
-use Rattle.pc_base.specs.declared.transaction.TxnId.{TxnId}
 use Rattle.pc_coord.specs.Coordination.{Coordination}
 use Rattle.pc_coord.specs.declared.due.Due.{Due}
 use Rattle.pc_coord.specs.declared.due.Due.TheVariants as dues
@@ -23,7 +20,7 @@ use Rattle.pc_world.specs.Counting.{AtLeast}
 use Rattle.pc_world.specs.Known.{Known, known_after, next_number}
 use Rattle.pc_world.specs.Known.Clock.{high_after, top_after}
 use Rattle.pc_world.specs.Known.Statements.{Statement}
-use Rattle.pc_world.specs.Known.Traffic.{Heard, Sent, heard_by}
+use Rattle.pc_world.specs.Known.Traffic.{Sent, heard_by}
 use Rattle.pc_world.specs.Known.Transactions.{Txn, meta_of}
 use Rattle.pc_world.specs.Known.Writes.{IsProvedBy, Write, last_seq_of}
 use Rattle.pc_world.specs.MaySend.{MaySendRow}

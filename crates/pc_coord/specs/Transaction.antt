@@ -1,5 +1,5 @@
 -- The coordinator's transaction beside the one that its session knows, and the messages that it makes.
-use Rattle.std.specs.Prelude.{ℕ, ◌+◌, max, Option, None, Some, List, unwrap_or}
+use Rattle.std.specs.Prelude.{ℕ, ◌+◌, max, Some, List}
 use Rattle.std.specs.Option.{option_or}
 use Rattle.pc_coord.specs.declared.transaction.Transaction.{Transaction}
 use Rattle.pc_proto.specs.declared.meta.TxnMeta.{TxnMeta}

@@ -1,11 +1,11 @@
 -- What becomes of the open transaction, and what is due, by each call and reply.
-use Rattle.std.specs.Prelude.{ℕ, ◌+◌, max, nat_lt, Option, None, Some, List, if◌then◌else◌, unwrap_or}
+use Rattle.std.specs.Prelude.{ℕ, nat_lt, Option, None, Some, List, if◌then◌else◌, unwrap_or}
 use Rattle.std.specs.Option.{option_map}
 use Rattle.pc_coord.specs.Coordination.{commit_due, put_due}
 use Rattle.pc_coord.specs.declared.due.Due.{Due}
 use Rattle.pc_coord.specs.declared.due.Due.TheVariants as dues
 use Rattle.pc_coord.specs.declared.transaction.Transaction.{Transaction}
-use Rattle.pc_coord.specs.Transaction.{raised, refreshed, with_write}
+use Rattle.pc_coord.specs.Transaction.{refreshed, with_write}
 use Rattle.pc_proto.specs.declared.answer.Answer.TheVariants as answers
 
 -- What is due after a put was asked.

@@ -1,4 +1,4 @@
-use Rattle.std.proofs.Common.{◌≡◌, length, ap, ◌∙◌}
+use Rattle.std.proofs.Common.{length, ap, ◌∙◌}
 use Rattle.std.specs.Option.{unwrap_or}
 use Rattle.pc_coord.proofs.Places.{place_is}
 use Rattle.pc_coord.proofs.locks.place_of.Goals as goal

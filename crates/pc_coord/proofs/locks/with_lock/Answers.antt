@@ -1,8 +1,7 @@
-use Rattle.std.proofs.Common.{◌≡◌, ℕ, ◌≤◌, List, length, IfOk, true, false, sym, subst, ap, ◌∙◌, arith}
+use Rattle.std.proofs.Common.{◌≡◌, ◌≤◌, length, IfOk, sym, subst, ap, ◌∙◌, arith}
 use Rattle.std.specs.List.{insert}
 use Rattle.pc_coord.proofs.Places.{is_at, lock_new, lock_there, place_within}
 use Rattle.pc_coord.specs.Place.{place}
-use Rattle.pc_world.specs.Known.Transactions.{with_lock}
 use Rattle.pc_coord.proofs.locks.with_lock.Goals as goal
 
 pub returns-then-is_at : goal.returns-then-is_at

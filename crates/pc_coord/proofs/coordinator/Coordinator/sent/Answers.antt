@@ -1,5 +1,5 @@
 use Rattle.std.proofs.Common.{sym, ◌∙◌}
-use Rattle.pc_coord.proofs.Standing.{not_sent, not_sent_waits, sent_knows, sent_waits}
+use Rattle.pc_coord.proofs.Standing.{sent_knows, sent_waits}
 use Rattle.pc_coord.proofs.coordinator.Coordinator.sent.Goals as goal
 
 pub returns-in-Some-clause-knows : goal.returns-in-Some-clause-knows
