@@ -1,13 +1,19 @@
 -- The protocol: what ranges answer, what actors know, may send and may tell, and which histories are its runs.
+pub mod After
+pub mod CommitOrder
+pub mod Committed
 pub mod Evaluation
 pub mod Caused
 pub mod Counting
 pub mod Known
 pub mod Laws
+pub mod Legal
+pub mod MapRun
 pub mod MaySend
 pub mod Local
 pub mod MayTell
 pub mod Named
+pub mod Operations
 pub mod RangeOf
 pub mod RangeState
 pub mod Run
