@@ -5,6 +5,7 @@ pub mod Committed
 pub mod Evaluation
 pub mod Caused
 pub mod Counting
+pub mod Decisions
 pub mod Known
 pub mod Laws
 pub mod Legal
@@ -14,6 +15,7 @@ pub mod Local
 pub mod MayTell
 pub mod Named
 pub mod Operations
+pub mod PutsAndCommits
 pub mod RangeOf
 pub mod RangeState
 pub mod Run

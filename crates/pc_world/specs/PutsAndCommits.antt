@@ -1,0 +1,23 @@
+-- Histories in which only puts and commits are sent. What is built sends no other message; the laws of decisions and of the legal
+-- order are stated for these histories until they are proved for all.
+use Rattle.std.specs.Prelude.{List, All, ⊤}
+use Rattle.pc_base.specs.declared.entry.Entry.{Entry}
+use Rattle.pc_proto.specs.declared.event.Event.{Event}
+use Rattle.pc_proto.specs.declared.event.Event.TheVariants as events
+use Rattle.pc_proto.specs.declared.request.Request.{Request}
+use Rattle.pc_proto.specs.declared.request.Request.TheVariants as requests
+
+-- The request is a put or a commit.
+abbrev pub IsPutOrCommit : Request → Type 0
+IsPutOrCommit (requests.Put meta seq ts key value) = ⊤
+IsPutOrCommit (requests.Commit meta ts locks) = ⊤
+IsPutOrCommit _ = ⊥
+
+-- The event sends nothing but a put or a commit.
+abbrev pub SendsPutOrCommit : Event → Type 0
+SendsPutOrCommit (events.Send number range request) = IsPutOrCommit request
+SendsPutOrCommit _ = ⊤
+
+-- Each message that is sent is a put or a commit.
+abbrev pub OnlyPutsAndCommits : List (Entry Event) → Type 0
+OnlyPutsAndCommits history = All (λ e. SendsPutOrCommit e.event) history
