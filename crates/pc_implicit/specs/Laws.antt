@@ -3,11 +3,12 @@ use Rattle.std.specs.Prelude.{◌≡◌, ℕ, true, false, Some, List, ◌∷◌
 use Rattle.pc_base.specs.declared.entry.Entry.{Entry}
 use Rattle.pc_base.specs.declared.transaction.TxnId.{TxnId}
 use Rattle.pc_implicit.specs.Answers.{Agree, Answers}
-use Rattle.pc_implicit.specs.Decided.{BoundStands, IsNotBelow, StaysTrue, decision, place_at, state_at}
+use Rattle.pc_implicit.specs.Decided.{BoundStands, IsNotBelow, StaysTrue, decision}
 use Rattle.pc_proto.specs.declared.event.Event.{Event}
 use Rattle.pc_proto.specs.declared.record.Status.{Status}
 use Rattle.pc_proto.specs.declared.view.View.{View}
 use Rattle.pc_proto.specs.RecordRows.Reached.{is_staged_at}
+use Rattle.pc_world.specs.After.{place_at, state_at}
 use Rattle.pc_world.specs.Known.Transactions.{is_final_view}
 use Rattle.pc_world.specs.Local.{Head}
 use Rattle.pc_world.specs.Run.{IsRun}
