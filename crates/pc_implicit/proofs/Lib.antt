@@ -6,3 +6,6 @@ pub mod Bounds
 pub mod Staged
 pub mod Views
 pub mod Runs
+pub mod Begins
+pub mod Clocks
+pub mod Unread
