@@ -6,6 +6,9 @@ pub mod Bounds
 pub mod Staged
 pub mod Views
 pub mod Runs
+pub mod Firsts
+pub mod Doing
+pub mod Agreed
 pub mod Begins
 pub mod Clocks
 pub mod Unread
