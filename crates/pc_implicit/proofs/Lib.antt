@@ -9,6 +9,9 @@ pub mod Runs
 pub mod Firsts
 pub mod Doing
 pub mod Agreed
+pub mod Anchored
+pub mod Evals
+pub mod Recorded
 pub mod Begins
 pub mod Clocks
 pub mod Unread
