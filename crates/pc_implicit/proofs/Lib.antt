@@ -11,7 +11,10 @@ pub mod Doing
 pub mod Agreed
 pub mod Anchored
 pub mod Evals
+pub mod Puts
 pub mod Recorded
+pub mod Shown
+pub mod Asked
 pub mod Begins
 pub mod Clocks
 pub mod Unread

@@ -13,6 +13,7 @@ use Rattle.pc_implicit.proofs.Doing.{same_or_not}
 use Rattle.pc_implicit.proofs.Evals.{Evaluates, of_entry, range_evaluates}
 use Rattle.pc_implicit.proofs.Keyed.{same-is}
 use Rattle.pc_implicit.proofs.Places.{place_after, place_other}
+use Rattle.pc_implicit.proofs.Puts.{only_front, only_sent, puts_induction}
 use Rattle.pc_proto.specs.declared.event.Event.{Event}
 use Rattle.pc_proto.specs.declared.event.Event.TheVariants as events
 use Rattle.pc_proto.specs.declared.meta.TxnMeta.{TxnMeta}
@@ -101,3 +102,34 @@ evaluated_state head history e actor number range reply ev is =
     state_same head (actors.Range ev.range) history e ev.there
     ∙ ap (λ o. state_with (request_named o) (state_at head ev.range history)) (ap (named_in (protocol head) history) is ∙ ev.named)
     ∙ ap (λ event. state_with (request_in event) (state_at head ev.range history)) ev.sends
+
+module _ (head : Head) where
+  AreRecorded : List (Entry Event) → Type 0
+  AreRecorded history = (range : ℕ) (id : TxnId) → IsRecorded history range id (place_at head range id history)
+
+  evaluated-there : (history : List (Entry Event)) (e : Entry Event) (actor : ActorId) (number : ℕ) (reply : Reply) → OnlyPutsAndCommits history → e.event ≡ events.Eval actor number reply
+      → (ev : Evaluates head history e.actor actor number reply) (id : TxnId) → IsRecorded history ev.range id (place_at head ev.range id history)
+      → IsRecorded (history ++ e ∷ []) ev.range id (place_at head ev.range id (history ++ e ∷ []))
+  evaluated-there history e actor number reply only is ev id h =
+      let s = state_at head ev.range history in
+      let after : IsRecorded history ev.range id (place_of id (state_after ev.request s).table) =
+      recorded-after history ev.range id ev.request s (only_sent history only ev.send ev.listed number ev.range ev.request ev.sends)
+      (sent-there history ev.range ev.send number ev.request ev.listed ev.sends) h in
+      recorded-more history e ev.range id (place_at head ev.range id (history ++ e ∷ []))
+      (subst (λ (t : RangeState). IsRecorded history ev.range id (place_of id t.table)) (sym (evaluated_state head history e actor number ev.range reply ev is)) after)
+
+  -- a range has nothing of a transaction, or a committed record that a commit made
+  pub recorded : (history : List (Entry Event)) → IsRun head history → OnlyPutsAndCommits history → (range : ℕ) (id : TxnId) → IsRecorded history range id (place_at head range id history)
+  unfolding AreRecorded
+  recorded = puts_induction head AreRecorded (λ range id. tt) (λ history e run only may all range id.
+      elim (same_or_not e.actor (actors.Range range)) [
+        | inl at ↦
+            let what = range_evaluates head history e range may at in
+            let ev = of_entry head history e what.0 what.1 what.2 run may what.3 in
+            let same : ev.range ≡ range = let both = sym ev.there ∙ at in cc both in
+            subst (λ r. IsRecorded (history ++ e ∷ []) r id (place_at head r id (history ++ e ∷ []))) same
+            (evaluated-there history e what.0 what.1 what.2 (only_front history (e ∷ []) only) what.3 ev id (all ev.range id))
+        | inr differ ↦
+            recorded-more history e range id (place_at head range id (history ++ e ∷ []))
+            (subst (λ (t : RangeState). IsRecorded history range id (place_of id t.table)) (sym (state_other head (actors.Range range) history e differ)) (all range id))
+      ])
