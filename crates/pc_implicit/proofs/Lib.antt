@@ -15,6 +15,8 @@ pub mod Puts
 pub mod Recorded
 pub mod Shown
 pub mod Asked
+pub mod Hearing
+pub mod Commits
 pub mod Begins
 pub mod Clocks
 pub mod Unread
