@@ -19,6 +19,7 @@ pub mod Hearing
 pub mod Commits
 pub mod OneDecision
 pub mod Points
+pub mod OwnSplit
 pub mod Begins
 pub mod Clocks
 pub mod Unread
