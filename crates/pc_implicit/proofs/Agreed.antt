@@ -26,13 +26,12 @@ use Rattle.pc_world.proofs.Knowing.{known_other, known_same}
 use Rattle.pc_world.proofs.Prefixes.{run_induction}
 use Rattle.pc_world.specs.After.{known_at}
 use Rattle.pc_world.specs.Committed.{anchor_in, committed_by, committed_in, key_put, key_sent, told_at}
-use Rattle.pc_world.specs.Known.{Known, begun_by, first_if, known, learn, open_txn, told_first, txns_after}
+use Rattle.pc_world.specs.Known.{Known, begun_by, first_if, learn, open_txn, told_first, txns_after}
 use Rattle.pc_world.specs.Known.Statements.{Statement, begun_after, is_open_after}
 use Rattle.pc_world.specs.Known.Traffic.{Heard, Sent, heard_by, replies_to}
 use Rattle.pc_world.specs.Known.Transactions.{Txn, anchor_sent, txn_heard, txn_sent, txn_told}
 use Rattle.pc_world.specs.Local.{Head}
-use Rattle.pc_world.specs.MaySend.{MaySend}
-use Rattle.pc_world.specs.MayTell.{MayTell, MayTellRow}
+use Rattle.pc_world.specs.MayTell.{MayTellRow}
 use Rattle.pc_world.specs.Tell.End.{MayTellCommitted}
 use Rattle.pc_world.specs.Run.{IsRun, protocol}
 use Rattle.pc_world.specs.Send.Put.{MaySendPut}
@@ -144,17 +143,18 @@ pub record IsSilent (id : TxnId) (event : Event) : Type 0 where
   pub told : committed_in id event ≡ None
   pub begin : begun_told_in id event ≡ None
 
-one-if : {Y : Type 0} (one other : TxnId) (y : Y) (b : Bool) → same_txn one other ≡ b → (one ≡ other → ⊥) → (if b then Some y else None) ≡ None
-one-if one other y true e differ = absurd (differ (same-is one other e))
-one-if one other y false e differ = refl
+-- what is given for one transaction is not given for another
+pub none_unless : {Y : Type 0} (one other : TxnId) (y : Y) (b : Bool) → same_txn one other ≡ b → (one ≡ other → ⊥) → (if b then Some y else None) ≡ None
+none_unless one other y true e differ = absurd (differ (same-is one other e))
+none_unless one other y false e differ = refl
 
 pub silent : (actor : ActorId) (n : ℕ) (id : TxnId) (event : Event) → SaysOwn actor n event → (IsOwn actor n id → ⊥) → IsSilent id event
 silent actor n id (events.Send number range (requests.Put meta seq ts key value)) says differ =
-    record { put = one-if meta.id id key (same_txn meta.id id) refl (λ same. differ (subst (λ i. IsOwn actor n i) same says)); told = refl; begin = refl }
+    record { put = none_unless meta.id id key (same_txn meta.id id) refl (λ same. differ (subst (λ i. IsOwn actor n i) same says)); told = refl; begin = refl }
 silent actor n id (events.Tell (answers.Committed other ts)) says differ =
-    record { put = refl; told = one-if other id ts (same_txn other id) refl (λ same. differ (subst (λ i. IsOwn actor n i) same says)); begin = refl }
+    record { put = refl; told = none_unless other id ts (same_txn other id) refl (λ same. differ (subst (λ i. IsOwn actor n i) same says)); begin = refl }
 silent actor n id (events.Tell (answers.Begun other ts)) says differ =
-    record { put = refl; told = refl; begin = one-if other id ts (same_txn other id) refl (λ same. differ (subst (λ i. IsOwn actor n i) same says)) }
+    record { put = refl; told = refl; begin = none_unless other id ts (same_txn other id) refl (λ same. differ (subst (λ i. IsOwn actor n i) same says)) }
 silent actor n id event says differ = record { put = refl; told = refl; begin = refl }
 
 -- What is known of a transaction before and after an event.
@@ -240,8 +240,7 @@ module _ (A B : Txn → Type 0) where
       let itself : same_txn id x.id ≡ true = ap (λ i. same_txn i x.id) is ∙ same-itself x.id in
       let number : id.number ≡ x.id.number = ap (λ (i : TxnId). i.number) is in
       let other : (u : Txn) → u.id.number < x.id.number → IsSilent u.id (events.Tell (answers.Committed id ts)) =
-      λ u below. record { put = refl; told = one-if id u.id ts (same_txn id u.id) refl (λ e. let m : id.number ≡ u.id.number = ap (λ (i : TxnId). i.number) e in omega arith); begin = refl } in
-      (
+      λ u below. record { put = refl; told = none_unless id u.id ts (same_txn id u.id) refl (λ e. let m : id.number ≡ u.id.number = ap (λ (i : TxnId). i.number) e in omega arith); begin = refl } in (
         on x (txn_told (answers.Committed id ts) replied x) each.0 (record {
           same = refl;
           anchor = or_none x.anchor;
@@ -270,7 +269,7 @@ module _ (A B : Txn → Type 0) where
         (λ u own below. record {
           put = refl;
           told = refl;
-          begin = one-if id u.id ts (same_txn id u.id) refl (λ e. let m : id.number ≡ u.id.number = ap (λ (i : TxnId). i.number) e in omega (arith, new.0));
+          begin = none_unless id u.id ts (same_txn id u.id) refl (λ e. let m : id.number ≡ u.id.number = ap (λ (i : TxnId). i.number) e in omega (arith, new.0));
         }) numbered each,
   )
   told-agree actor k (answers.Committed id ts) on new ended numbered unended each =

@@ -1,5 +1,5 @@
 -- What a session knows that it sent under a number is what an evaluation of this number names.
-use Rattle.std.proofs.Common.{◌≡◌, ℕ, Bool, true, false, cond, ◌&&◌, ◌==◌, ◌⊎◌, inl, inr, List, [], ◌∷◌, ◌++◌, find, Option, None, Some, refl, sym, ap, subst, ◌∙◌}
+use Rattle.std.proofs.Common.{◌≡◌, ℕ, Bool, true, false, cond, ◌&&◌, ◌==◌, inl, inr, List, [], ◌∷◌, ◌++◌, find, Option, None, Some, refl, sym, ap, subst, ◌∙◌}
 use Rattle.std.proofs.lemmas.List.Folds.{find-append}
 use Rattle.std.specs.Option.{option_map, option_or}
 use Rattle.pc_base.specs.declared.actor.ActorId.{ActorId}
@@ -18,7 +18,7 @@ use Rattle.pc_world.specs.After.{known_at}
 use Rattle.pc_world.specs.Known.{Known}
 use Rattle.pc_world.specs.Known.Traffic.{Sent, request_sent, sent_by}
 use Rattle.pc_world.specs.Local.{Head}
-use Rattle.pc_world.specs.Named.{is_send_of, request_in, request_named}
+use Rattle.pc_world.specs.Named.{is_send_of, request_in}
 use Rattle.pc_world.specs.Run.{IsRun, protocol}
 
 -- Both are of one message, or there is none.

@@ -1,22 +1,24 @@
 -- Where only puts and commits are sent, a transaction is committed at or above its begin timestamp.
-use Rattle.std.proofs.Common.{◌≡◌, ℕ, ◌<◌, ◌≤◌, inl, inr, List, [], ◌∷◌, ◌++◌, if◌then◌else◌, Option, None, Some, Contains, refl, sym, ap, subst, ◌∙◌, arith}
+use Rattle.std.proofs.Common.{◌≡◌, ℕ, ◌<◌, ◌≤◌, inl, inr, List, [], ◌∷◌, ◌++◌, filter_map, slice_get, Bool, true, false, if◌then◌else◌, Option, None, Some, Contains, refl, sym, ap, subst, ◌∙◌, arith}
 use Rattle.std.proofs.lemmas.List.{append_assoc}
 use Rattle.std.proofs.lemmas.List.Elements.{Contains-append_right, Contains-push_cases}
 use Rattle.std.specs.Option.{option_or}
+use Rattle.std.specs.List.{cons_option}
 use Rattle.std.specs.Prelude.{⊤}
 use Rattle.pc_base.specs.declared.actor.ActorId.{ActorId}
 use Rattle.pc_base.specs.declared.actor.ActorId.TheVariants as actors
 use Rattle.pc_base.specs.declared.entry.Entry.{Entry}
 use Rattle.pc_base.specs.declared.transaction.TxnId.{TxnId}
-use Rattle.pc_history.proofs.Lists.{contains_head, contains_nil}
+use Rattle.pc_base.specs.Transaction.{same_txn}
+use Rattle.pc_history.proofs.Lists.{contains_head, contains_nil, contains_tail}
 use Rattle.pc_history.specs.History.{MayFollow}
-use Rattle.pc_implicit.proofs.Agreed.{Agrees, Knows, agreed, begun_at, begun_next, begun_told_in}
+use Rattle.pc_implicit.proofs.Agreed.{Agrees, agreed, begun_at, begun_next, begun_told_in}
 use Rattle.pc_implicit.proofs.Anchored.{each_contained}
 use Rattle.pc_implicit.proofs.Clocks.{begun_above, high_grows, learnt_below}
 use Rattle.pc_implicit.proofs.Commits.{ByRecord, ByTell, act_of, decided_is_committed, heard_decided, tell_means, why_committed}
 use Rattle.pc_implicit.proofs.Doing.{Does}
 use Rattle.pc_implicit.proofs.Firsts.{first_push}
-use Rattle.pc_implicit.proofs.Keyed.{same-itself}
+use Rattle.pc_implicit.proofs.Keyed.{same-is, same-itself}
 use Rattle.pc_implicit.proofs.OwnSplit.{own_split}
 use Rattle.pc_implicit.proofs.Points.{or-first, told-what}
 use Rattle.pc_implicit.proofs.Puts.{only_front, puts_induction}
@@ -28,8 +30,9 @@ use Rattle.pc_proto.specs.declared.meta.TxnMeta.{TxnMeta}
 use Rattle.pc_proto.specs.declared.request.Request.TheVariants as requests
 use Rattle.pc_world.proofs.Prefixes.{run_induction}
 use Rattle.pc_world.specs.After.{known_at}
+use Rattle.pc_world.specs.CommitOrder.{all_begun, begun_in}
 use Rattle.pc_world.specs.Committed.{IsCommitted, anchor_in, committed_in, key_sent, told_at}
-use Rattle.pc_world.specs.Known.{Known, known}
+use Rattle.pc_world.specs.Known.{known}
 use Rattle.pc_world.specs.Legal.{BeganAfter, TellsBegun}
 use Rattle.pc_world.specs.Local.{Head}
 use Rattle.pc_world.specs.PutsAndCommits.{OnlyPutsAndCommits}
@@ -71,10 +74,10 @@ module _ (head : Head) where
   begun_once =
       run_induction head (λ history. (e : Entry Event) → Contains history e → (id : TxnId) (ts : ℕ) → e.event ≡ events.Tell (answers.Begun id ts) → begun_at id history ≡ Some ts)
       (λ e there. absurd (contains_nil e there)) (λ history e run may all x there id ts is.
-        elim (Contains-push_cases history e x there) [
-          | inl before ↦ first_push (λ y. begun_told_in id y.event) history e ∙ ap (λ o. option_or o (begun_told_in id e.event)) (all x before id ts is)
-          | inr now ↦ begun-new history e id ts run may (ap (λ (y : Entry Event). y.event) now ∙ is)
-        ])
+      elim (Contains-push_cases history e x there) [
+        | inl before ↦ first_push (λ y. begun_told_in id y.event) history e ∙ ap (λ o. option_or o (begun_told_in id e.event)) (all x before id ts is)
+        | inr now ↦ begun-new history e id ts run may (ap (λ (y : Entry Event). y.event) now ∙ is)
+      ])
 
   TellsAbove : List (Entry Event) → Type 0
   TellsAbove history = (id : TxnId) (ts : ℕ) → anchor_in id history ≡ None → told_at id history ≡ Some ts → IsAbove history id ts
@@ -170,3 +173,31 @@ module _ (head : Head) (history : List (Entry Event)) (run : IsRun head history)
       subst (λ h. Contains h b.begin.entry) (sym s.whole) (Contains-append_right s.front (b.begin.entry ∷ s.back) b.begin.entry (contains_head b.begin.entry s.back)) in
       let from : told.0 ≤ later = committed_from_begin other later told.0 b.begin.entry there told.1 also in
       omega arith
+
+begun-what : (id : TxnId) (ts : ℕ) (event : Event) → begun_told_in id event ≡ Some ts → begun_in event ≡ Some id
+begun-what id ts (events.Tell (answers.Begun other at)) h = by (same_txn other id) refl h
+  where
+    by : (b : Bool) → same_txn other id ≡ b → (if b then Some at else None) ≡ Some ts → begun_in (events.Tell (answers.Begun other at)) ≡ Some id
+    by true same h = ap Some (same-is other id same)
+    by false same h = absurd cc
+begun-what id ts (events.Tell answer) h = absurd cc
+begun-what id ts event h = absurd cc
+
+begun-there : (id : TxnId) (ts : ℕ) (history : List (Entry Event)) → begun_at id history ≡ Some ts → Contains (all_begun history) id
+begun-there id ts [] h = absurd cc
+begun-there id ts (e ∷ es) h = by (begun_told_in id e.event) refl h (begun-there id ts es)
+  where
+    by : (o : Option ℕ) → begun_told_in id e.event ≡ o → slice_get (cons_option o (filter_map (λ x. begun_told_in id x.event) es)) 0 ≡ Some ts
+        → (begun_at id es ≡ Some ts → Contains (all_begun es) id) → Contains (all_begun (e ∷ es)) id
+    by (Some at) is h rest =
+        subst (λ o. Contains (cons_option o (all_begun es)) id) (sym (begun-what id at e.event is)) (contains_head id (all_begun es))
+    by None is h rest = kept (begun_in e.event) (all_begun es) (rest h)
+      where
+        kept : (o : Option TxnId) (ids : List TxnId) → Contains ids id → Contains (cons_option o ids) id
+        kept None ids there = there
+        kept (Some x) ids there = contains_tail x ids id there
+
+-- where only puts and commits are sent, a committed transaction is one of those that were begun
+pub committed_was_begun : (head : Head) (history : List (Entry Event)) → IsRun head history → OnlyPutsAndCommits history → (id : TxnId) (ts : ℕ) → IsCommitted head history id ts → Contains (all_begun history) id
+committed_was_begun head history run only id ts is =
+    let above = committed_above_begin head history run only id ts is in begun-there id above.begin history above.begun

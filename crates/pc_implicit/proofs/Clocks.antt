@@ -1,5 +1,5 @@
 -- Where only puts and commits are sent, a session that knows of a commit knows a timestamp at or above it, and begins above that.
-use Rattle.std.proofs.Common.{◌≡◌, ℕ, ◌+◌, ◌*◌, ◌/◌, ◌^◌, ◌<◌, ◌≤◌, max, nat_lt, Bool, true, false, cond, ◌&&◌, ◌==◌, inl, inr, List, [], ◌∷◌, ◌++◌, fold, map, Option, None, Some, IfSome, Contains, IsTrue, refl, sym, ap, subst, ◌∙◌, arith}
+use Rattle.std.proofs.Common.{◌≡◌, ℕ, ◌+◌, ◌*◌, ◌/◌, ◌^◌, ◌<◌, ◌≤◌, max, nat_lt, Bool, true, false, cond, ◌==◌, inl, inr, List, [], ◌∷◌, ◌++◌, fold, map, Option, None, Some, IfSome, Contains, refl, sym, ap, subst, ◌∙◌, arith}
 use Rattle.std.proofs.lemmas.Bool.{and_from, and_parts, eq-eqb, ltb-true}
 use Rattle.std.proofs.lemmas.Grind.{fold-append}
 use Rattle.std.proofs.lemmas.List.Elements.{Contains-append_left, Contains-append_right}
@@ -20,9 +20,8 @@ use Rattle.pc_implicit.proofs.Commits.{act_of, committed-view, none_staging}
 use Rattle.pc_implicit.proofs.Doing.{Does, told_by_row}
 use Rattle.pc_implicit.proofs.Hearing.{IsSo, as-heard, heard-event, to-list}
 use Rattle.pc_implicit.proofs.OneDecision.{told_committed}
-use Rattle.pc_implicit.proofs.OwnSplit.{Stands, own_split}
+use Rattle.pc_implicit.proofs.OwnSplit.{own_split}
 use Rattle.pc_implicit.proofs.Puts.{only_front, only_sent}
-use Rattle.pc_implicit.proofs.Shown.{WasAnswered}
 use Rattle.pc_proto.specs.declared.answer.Answer.{Answer}
 use Rattle.pc_proto.specs.declared.answer.Answer.TheVariants as answers
 use Rattle.pc_proto.specs.declared.event.Event.{Event}
@@ -40,10 +39,10 @@ use Rattle.pc_world.proofs.World.{names_one}
 use Rattle.pc_world.specs.After.{known_at}
 use Rattle.pc_world.specs.Caused.{IsCaused, TellsCommitted}
 use Rattle.pc_world.specs.Committed.{IsCommitted}
-use Rattle.pc_world.specs.Known.{Known, begun_by, known, learn, nothing_known, told_first, txns_after, txns_told}
+use Rattle.pc_world.specs.Known.{Known, begun_by, known, learn, nothing_known, told_first, txns_after}
 use Rattle.pc_world.specs.Known.Clock.{high_after, last_of, named_stamps}
 use Rattle.pc_world.specs.Known.Statements.{Statement}
-use Rattle.pc_world.specs.Known.Traffic.{Heard, Sent, heard_as, heard_by, reply_in, reply_named, replies_to, request_sent}
+use Rattle.pc_world.specs.Known.Traffic.{Heard, Sent, heard_by, reply_in, reply_named, replies_to, request_sent}
 use Rattle.pc_world.specs.Known.Transactions.{Txn, txn_heard, txn_sent}
 use Rattle.pc_world.specs.Legal.{Learns, ShowsWrite, ShowsWriteHeard}
 use Rattle.pc_world.specs.Local.{Head}
@@ -214,10 +213,14 @@ module _ (head : Head) (history : List (Entry Event)) (run : IsRun head history)
   meeting-names : (actor : ActorId) (id : TxnId) (step : ℕ) → IsCaused front (events.Meet id step) actor
       → (x : Entry Event) × (ts : ℕ) × Contains front x × (x.event ≡ events.Tell (answers.Committed id ts)) × (named_in (protocol head) front (events.Meet id step) ≡ Some x)
   meeting-names actor id step (k, x, inside, at, is) =
-      let what = tells-what id x.event is.tell in
-      (x, what.0, (k, inside, at), what.1,
+      let what = tells-what id x.event is.tell in (
+        x,
+        what.0,
+        (k, inside, at),
+        what.1,
         named-one (protocol head) front (events.Meet id step) x (names_one head front (events.Meet id step) early) (k, inside, at)
-            (and_from (x.step == step) (is_tell x.event) (eq-eqb x.step step is.at) (ap is_tell what.1)))
+            (and_from (x.step == step) (is_tell x.event) (eq-eqb x.step step is.at) (ap is_tell what.1)),
+      )
 
   no-value : (id : TxnId) (h : Option Heard) → IfSome h (IsSo head front e.actor) → ShowsWriteHeard head history id h → ⊥
   no-value id None so shows = shows

@@ -1,6 +1,6 @@
 -- Where only puts and commits are sent, a transaction is committed where a record of its anchor's range says so, or where it wrote
 -- nothing and was told so; and it stays so.
-use Rattle.std.proofs.Common.{◌≡◌, ℕ, Bool, true, false, if◌then◌else◌, ◌&&◌, ◌==◌, ◌⊎◌, inl, inr, List, [], ◌∷◌, ◌++◌, Option, None, Some, Contains, Any, IsTrue, refl, sym, ap, subst, ◌∙◌}
+use Rattle.std.proofs.Common.{◌≡◌, ℕ, Bool, true, false, if◌then◌else◌, ◌⊎◌, inl, inr, List, [], ◌∷◌, ◌++◌, Option, None, Some, Any, IsTrue, refl, sym, ap, subst, ◌∙◌}
 use Rattle.std.proofs.lemmas.Bool.{and_parts, eqb-true}
 use Rattle.std.proofs.lemmas.List.{append_assoc, append-nil}
 use Rattle.std.specs.List.{list_all}
@@ -12,7 +12,7 @@ use Rattle.pc_base.specs.Transaction.{same_txn}
 use Rattle.pc_history.specs.History.{IsFineAfter, MayFollow}
 use Rattle.pc_history.specs.Own.{named_in, own}
 use Rattle.pc_history.proofs.Histories.{fine_after-back}
-use Rattle.pc_implicit.proofs.Agreed.{Agrees, IsUnended, Knows, agreed, begun_at, committed_row, open_is, open_there}
+use Rattle.pc_implicit.proofs.Agreed.{Agrees, IsUnended, Knows, agreed, begun_at, committed_row, none_unless, open_there}
 use Rattle.pc_implicit.proofs.Anchored.{anchor_stays, commit_anchored, each_contained}
 use Rattle.pc_implicit.proofs.Doing.{Does, does}
 use Rattle.pc_implicit.proofs.Firsts.{first_push}
@@ -20,7 +20,7 @@ use Rattle.pc_implicit.proofs.Keyed.{same-is}
 use Rattle.pc_implicit.proofs.Hearing.{IsSo, heard_is_so}
 use Rattle.pc_implicit.proofs.Puts.{only_front, only_sent}
 use Rattle.pc_implicit.proofs.Recorded.{IsRecorded, WasSent, recorded}
-use Rattle.pc_implicit.proofs.Runs.{decisions_stand}
+use Rattle.pc_implicit.proofs.Runs.{decisions_stand, kept-status}
 use Rattle.pc_implicit.proofs.Shown.{IsUnstaged, WasAnswered}
 use Rattle.pc_implicit.specs.Decided.{decision}
 use Rattle.pc_proto.specs.declared.answer.Answer.TheVariants as answers
@@ -40,7 +40,7 @@ use Rattle.pc_proto.specs.RecordRows.Reached.{status_of}
 use Rattle.pc_world.proofs.Knowing.{run_push}
 use Rattle.pc_world.proofs.Prefixes.{run_front}
 use Rattle.pc_world.specs.After.{known_at, place_at}
-use Rattle.pc_world.specs.Committed.{IsCommitted, anchor_in, commit_at, commit_by, commit_in, committed_in, is_present, key_put, key_sent, told_at}
+use Rattle.pc_world.specs.Committed.{IsCommitted, anchor_in, commit_at, commit_by, commit_in, committed_in, is_present, key_sent, told_at}
 use Rattle.pc_world.specs.Known.{Known, first_if}
 use Rattle.pc_world.specs.Known.Transactions.{Txn}
 use Rattle.pc_world.specs.Local.{Head}
@@ -58,15 +58,11 @@ pub record IsDecided (head : Head) (history : List (Entry Event)) (id : TxnId) (
   pub epoch : ℕ
   pub decided : decision (place_at head (range_of head.splits anchor) id history) ≡ Some (status_of standings.Committed epoch ts)
 
-kept-is : (b : Bool) (s t : Status) → (if b then Some s else None) ≡ Some t → s ≡ t
-kept-is true s t h = cc
-kept-is false s t h = absurd cc
-
 -- how a decision commits
 pub decision_commits : (head : Head) (history : List (Entry Event)) (id : TxnId) (epoch ts : ℕ) (p : Place) → decision p ≡ Some (status_of standings.Committed epoch ts) → commit_in head history id p ≡ Some ts
 decision_commits head history id epoch ts Nothing h = absurd cc
 decision_commits head history id epoch ts (Kept r) h =
-    let same = kept-is (is_final r.status.standing) r.status (status_of standings.Committed epoch ts) h in
+    let same = kept-status (is_final r.status.standing) r.status (status_of standings.Committed epoch ts) h in
     ap (λ (s : Status). commit_by s.standing s.ts (list_all (is_present head history id r.status.epoch r.status.ts) r.writes)) same
 decision_commits head history id epoch ts (Marked s) h = let same : s ≡ status_of standings.Committed epoch ts = cc in ap (λ (t : Status). commit_by t.standing t.ts false) same
 
@@ -101,10 +97,6 @@ why_committed head history run only id ts is = by (anchor_in id history) refl
         let c = commits-recorded head history range id ts (place_at head range id history) (recorded head history run only range id) (sym (ap (commit_at head history id) some) ∙ is) in
         ByRecord (record { anchor = anchor; anchored = some; epoch = c.0.0; decided = c.0.1 }) c.1
 
-if-same : (one other : TxnId) (key : List ℕ) (b : Bool) → same_txn one other ≡ b → (one ≡ other → ⊥) → (if b then Some key else None) ≡ None
-if-same one other key true e differ = absurd (differ (same-is one other e))
-if-same one other key false e differ = refl
-
 unended-none : (is_open : Bool) (txns : List Txn) (t : Txn) → IsUnended is_open txns → first_if is_open txns ≡ Some t → t.committed ≡ None
 unended-none true [] t unended opened = absurd cc
 unended-none true (x ∷ xs) t unended opened = let same : x ≡ t = cc in subst (λ (y : Txn). y.committed ≡ None) same unended
@@ -136,7 +128,7 @@ no-put-row history actor k id ts meta seq at key value knows none told may same 
 no-put : (head : Head) (history : List (Entry Event)) (actor : ActorId) (k : Known) (event : Event) (id : TxnId) (ts : ℕ) → Knows history actor k → Does head actor k event
     → anchor_in id history ≡ None → told_at id history ≡ Some ts → key_sent id event ≡ None
 no-put head history actor k (events.Send number range (requests.Put meta seq at key value)) id ts knows may none told =
-    if-same meta.id id key (same_txn meta.id id) refl (no-put-row history actor k id ts meta seq at key value knows none told may.row)
+    none_unless meta.id id key (same_txn meta.id id) refl (no-put-row history actor k id ts meta seq at key value knows none told may.row)
 no-put head history actor k event id ts knows may none told = refl
 
 pub act_of : (head : Head) (history : List (Entry Event)) (e : Entry Event) → MayFollow (protocol head) history e → Does head e.actor (known_at head e.actor history) e.event

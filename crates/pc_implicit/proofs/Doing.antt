@@ -13,10 +13,9 @@ use Rattle.pc_proto.specs.declared.answer.Answer.TheVariants as answers
 use Rattle.pc_proto.specs.declared.event.Event.{Event}
 use Rattle.pc_proto.specs.declared.event.Event.TheVariants as events
 use Rattle.pc_world.specs.Known.{Known, known}
-use Rattle.pc_world.specs.Known.Statements.{Statement}
 use Rattle.pc_world.specs.Local.{Head, MayComeNext, MayHear}
 use Rattle.pc_world.specs.MaySend.{MaySend}
-use Rattle.pc_world.specs.MayTell.{MayTell, MayTellIn, MayTellRow, is_past_range, needs_txn}
+use Rattle.pc_world.specs.MayTell.{MayTell, MayTellRow, is_past_range, needs_txn}
 
 -- What an event asks of the actor that makes it.
 abbrev pub Does : Head → ActorId → Known → Event → Type 0

@@ -1,5 +1,5 @@
 -- An evaluation names the message that it evaluates.
-use Rattle.std.proofs.Common.{◌≡◌, ℕ, true, ◌&&◌, ◌==◌, List, Option, Some, Contains, refl, sym, ap, subst, ◌∙◌}
+use Rattle.std.proofs.Common.{◌≡◌, ℕ, true, List, Option, Some, Contains, refl, sym, ap, subst, ◌∙◌}
 use Rattle.std.proofs.lemmas.Bool.{and_from, eq-eqb}
 use Rattle.pc_base.specs.declared.actor.ActorId.{ActorId}
 use Rattle.pc_base.specs.declared.actor.ActorId.TheVariants as actors
@@ -20,7 +20,7 @@ use Rattle.pc_world.specs.Named.{is_send_of}
 use Rattle.pc_world.specs.Run.{IsRun, protocol}
 
 -- The message that an evaluation at this place names.
-pub record Evaluates (head : Head) (history : List (Entry Event)) (at actor : ActorId) (number : ℕ) (reply : Reply) : Type 0 where
+pub record NamedMessage (head : Head) (history : List (Entry Event)) (at actor : ActorId) (number : ℕ) (reply : Reply) : Type 0 where
   pub range : ℕ
   pub there : at ≡ actors.Range range
   pub send : Entry Event
@@ -34,7 +34,7 @@ sends-what : (at : ActorId) (number : ℕ) (event : Event) → SendsTo at number
 sends-what (actors.Range range) number (events.Send sent to request) h = (range, request, refl, ap (λ s. events.Send s to request) h.0 ∙ ap (λ t. events.Send number t request) h.1)
 sends-what at number event h = absurd h
 
-pub evaluates : (head : Head) (history : List (Entry Event)) (at actor : ActorId) (number : ℕ) (reply : Reply) → IsRun head history → IsCaused history (events.Eval actor number reply) at → Evaluates head history at actor number reply
+pub evaluates : (head : Head) (history : List (Entry Event)) (at actor : ActorId) (number : ℕ) (reply : Reply) → IsRun head history → IsCaused history (events.Eval actor number reply) at → NamedMessage head history at actor number reply
 evaluates head history at actor number reply run (k, a, inside, here, is) =
     let what = sends-what at number a.event is.send in
     let named : is_send_of number a.event ≡ true = ap (is_send_of number) what.3 ∙ eq-eqb number number refl in
@@ -51,7 +51,7 @@ evaluates head history at actor number reply run (k, a, inside, here, is) =
           (and_from (same_id actor a.actor) (is_send_of number a.event) (same_id-equal actor a.actor (sym is.whose)) named);
     }
 
-pub of_entry : (head : Head) (history : List (Entry Event)) (e : Entry Event) (actor : ActorId) (number : ℕ) (reply : Reply) → IsRun head history → MayFollow (protocol head) history e → e.event ≡ events.Eval actor number reply → Evaluates head history e.actor actor number reply
+pub of_entry : (head : Head) (history : List (Entry Event)) (e : Entry Event) (actor : ActorId) (number : ℕ) (reply : Reply) → IsRun head history → MayFollow (protocol head) history e → e.event ≡ events.Eval actor number reply → NamedMessage head history e.actor actor number reply
 of_entry head history e actor number reply run may is = evaluates head history e.actor actor number reply run (subst (λ event. IsCaused history event e.actor) is may.caused)
 
 evaluates-only : (head : Head) (range : ℕ) (entries : List (Pair Event)) (event : Event) (named : Option (Entry Event)) → MayComeNext head (actors.Range range) entries event named → (actor : ActorId) × (number : ℕ) × (reply : Reply) × (event ≡ events.Eval actor number reply)

@@ -1,5 +1,5 @@
 -- Where only puts and commits are sent, what an actor heard is so.
-use Rattle.std.proofs.Common.{◌≡◌, ℕ, true, ◌&&◌, ◌==◌, inl, inr, List, [], ◌∷◌, ◌++◌, Option, None, Some, IfSome, Contains, refl, sym, ap, subst, ◌∙◌}
+use Rattle.std.proofs.Common.{◌≡◌, ℕ, true, ◌==◌, inl, inr, List, [], ◌∷◌, ◌++◌, Option, None, Some, IfSome, Contains, refl, sym, ap, subst, ◌∙◌}
 use Rattle.std.proofs.lemmas.Bool.{and_from, eq-eqb}
 use Rattle.std.specs.List.{AllByRecursion as Each}
 use Rattle.std.specs.Option.{option_to_list}
@@ -7,7 +7,7 @@ use Rattle.pc_base.specs.declared.actor.ActorId.{ActorId}
 use Rattle.pc_base.specs.declared.entry.Entry.{Entry}
 use Rattle.pc_history.proofs.Histories.{named-one}
 use Rattle.pc_history.proofs.Ids.{same_id-equal}
-use Rattle.pc_history.specs.Own.{named_in, own, same_id}
+use Rattle.pc_history.specs.Own.{named_in, same_id}
 use Rattle.pc_implicit.proofs.Asked.{asked_is_named}
 use Rattle.pc_implicit.proofs.Doing.{same_or_not}
 use Rattle.pc_implicit.proofs.Puts.{only_front, puts_induction}
@@ -53,10 +53,14 @@ module _ (head : Head) where
   pub hearing_names : (history : List (Entry Event)) → IsRun head history → (actor : ActorId) (number step : ℕ) → IsCaused history (events.Hear number step) actor
       → (x : Entry Event) × (reply : Reply) × Contains history x × (x.event ≡ events.Eval actor number reply) × (named_in (protocol head) history (events.Hear number step) ≡ Some x)
   hearing_names history run actor number step (k, x, inside, at, is) =
-      let what = evaluation-is actor number x.event is.eval in
-      (x, what.0, (k, inside, at), what.1,
+      let what = evaluation-is actor number x.event is.eval in (
+        x,
+        what.0,
+        (k, inside, at),
+        what.1,
         named-one (protocol head) history (events.Hear number step) x (names_one head history (events.Hear number step) run) (k, inside, at)
-            (and_from (x.step == step) (is_eval x.event) (eq-eqb x.step step is.at) (ap is_eval what.1)))
+            (and_from (x.step == step) (is_eval x.event) (eq-eqb x.step step is.at) (ap is_eval what.1)),
+      )
 
   -- so is what it hears next
   pub heard-event : (history : List (Entry Event)) → IsRun head history → OnlyPutsAndCommits history → (actor : ActorId) (event : Event) → IsCaused history event actor
@@ -73,9 +77,9 @@ module _ (head : Head) where
       let told : reply_named (named_in (protocol head) history (events.Hear number step)) ≡ Some names.1 = ap reply_named names.4 ∙ ap (λ event. reply_in event) names.3 in
       as-heard (IsSo history actor) number step (request_sent number (known_at head actor history).sent) (reply_named (named_in (protocol head) history (events.Hear number step)))
       (λ asked reply is_asked is_told.
-          let same : so.0 ≡ asked = let both = sym asks ∙ is_asked in cc both in
-          let also : names.1 ≡ reply = let both = sym told ∙ is_told in cc both in
-          subst (λ r. WasAnswered head history actor number asked r) also (subst (λ q. WasAnswered head history actor number q names.1) same w))
+      let same : so.0 ≡ asked = let both = sym asks ∙ is_asked in cc both in
+      let also : names.1 ≡ reply = let both = sym told ∙ is_told in cc both in
+      subst (λ r. WasAnswered head history actor number asked r) also (subst (λ q. WasAnswered head history actor number q names.1) same w))
   heard-event history run only actor event cause = tt
 
   -- what an actor heard is so

@@ -1,5 +1,5 @@
 -- Where only puts and commits are sent, no two decisions differ.
-use Rattle.std.proofs.Common.{◌≡◌, ℕ, true, false, if◌then◌else◌, inl, inr, List, [], ◌∷◌, ◌++◌, Option, None, Some, Contains, refl, sym, ap, subst, ◌∙◌}
+use Rattle.std.proofs.Common.{◌≡◌, ℕ, if◌then◌else◌, inl, inr, List, [], ◌∷◌, ◌++◌, None, Some, Contains, sym, ap, subst, ◌∙◌}
 use Rattle.std.proofs.lemmas.List.{append_assoc}
 use Rattle.std.proofs.lemmas.List.Elements.{Contains-push_cases}
 use Rattle.std.specs.Option.{option_or}
@@ -11,7 +11,7 @@ use Rattle.pc_history.specs.History.{MayFollow}
 use Rattle.pc_history.specs.Own.{named_in}
 use Rattle.pc_implicit.proofs.Commits.{act_of, decided-more, decided_is_committed, shown_decided, stays_committed, stays_push, tell_means}
 use Rattle.pc_implicit.proofs.Doing.{Does}
-use Rattle.pc_implicit.proofs.Evals.{Evaluates, of_entry}
+use Rattle.pc_implicit.proofs.Evals.{NamedMessage, of_entry}
 use Rattle.pc_implicit.proofs.Firsts.{first_push}
 use Rattle.pc_implicit.proofs.Keyed.{same-itself}
 use Rattle.pc_implicit.proofs.Puts.{only_front, only_sent, puts_induction}
@@ -68,7 +68,7 @@ module _ (head : Head) (before : List (Entry Event)) (e : Entry Event) (run : Is
 
   -- The message that an answer evaluates.
   asked-what : (Is : Request → Type 0) (ts : ℕ) (a : AnswersCommitted head before ts Is e) (actor : ActorId) (number : ℕ) → e.event ≡ events.Eval actor number a.reply
-      → (ev : Evaluates head before e.actor actor number a.reply) × (a.request ≡ ev.request)
+      → (ev : NamedMessage head before e.actor actor number a.reply) × (a.request ≡ ev.request)
   asked-what Is ts a actor number is =
       let ev = of_entry head before e actor number a.reply run may is in
       let both : ev.request ≡ a.request =
@@ -108,10 +108,10 @@ pub told_committed : (head : Head) (history : List (Entry Event)) → IsRun head
 told_committed head =
     puts_induction head (λ history. (x : Entry Event) → Contains history x → (id : TxnId) (ts : ℕ) → x.event ≡ events.Tell (answers.Committed id ts) → IsCommitted head history id ts)
     (λ x there. absurd (contains_nil x there)) (λ history e run only may all x there id ts is.
-      elim (Contains-push_cases history e x there) [
-        | inl before ↦ stays_push head history e run (only_front history (e ∷ []) only) may id ts (all x before id ts is)
-        | inr now ↦ tell_committed head history e run may only id ts (ap (λ (y : Entry Event). y.event) now ∙ is)
-      ])
+    elim (Contains-push_cases history e x there) [
+      | inl before ↦ stays_push head history e run (only_front history (e ∷ []) only) may id ts (all x before id ts is)
+      | inr now ↦ tell_committed head history e run may only id ts (ap (λ (y : Entry Event). y.event) now ∙ is)
+    ])
 
 -- What a history that is split at an entry has to meet.
 module _ (head : Head) (history : List (Entry Event)) (run : IsRun head history) (only : OnlyPutsAndCommits history) where

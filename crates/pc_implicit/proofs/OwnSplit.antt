@@ -1,5 +1,5 @@
 -- Where one of an actor's own entries stands in the history.
-use Rattle.std.proofs.Common.{◌≡◌, Bool, true, false, cond, List, [], ◌∷◌, ◌++◌, filter, Contains, refl, sym, ap, subst, ◌∙◌}
+use Rattle.std.proofs.Common.{◌≡◌, Bool, true, false, cond, List, [], ◌∷◌, ◌++◌, filter, refl, sym, ap, subst, ◌∙◌}
 use Rattle.std.proofs.lemmas.List.{append_assoc, append-nil}
 use Rattle.pc_base.specs.declared.actor.ActorId.{ActorId}
 use Rattle.pc_base.specs.declared.entry.Entry.{Entry}
@@ -69,7 +69,7 @@ module _ {E : Type 0} (S : Sense E) (id : ActorId) where
   split-after done (x ∷ xs) before p later h = split-step done xs x p later (λ before h. split-after (done ++ x ∷ []) xs before p later h) (same_id id x.actor) refl before h
 
   -- Where the entry stands: behind a history in which the actor has just the entries before it.
-  pub record Stands (history : List (Entry E)) (before : List (Pair E)) (p : Pair E) : Type 0 where
+  pub record StandsBehind (history : List (Entry E)) (before : List (Pair E)) (p : Pair E) : Type 0 where
     pub front : List (Entry E)
     pub back : List (Entry E)
     pub whole : history ≡ front ++ p.entry ∷ back
@@ -78,7 +78,7 @@ module _ {E : Type 0} (S : Sense E) (id : ActorId) where
     pub actor : p.entry.actor ≡ id
 
   -- an own entry stands behind a history in which the actor has those before it
-  pub own_split : (history : List (Entry E)) (before : List (Pair E)) (p : Pair E) (later : List (Pair E)) → own S id history ≡ before ++ p ∷ later → Stands history before p
+  pub own_split : (history : List (Entry E)) (before : List (Pair E)) (p : Pair E) (later : List (Pair E)) → own S id history ≡ before ++ p ∷ later → StandsBehind history before p
   own_split history before p later h =
       let r = split-after [] history before p later h in
       record { front = r.mid; back = r.back; whole = r.whole; mine = r.mine; named = r.names; actor = sym (same_id-true id p.entry.actor r.actor) }

@@ -13,17 +13,16 @@ use Rattle.pc_history.proofs.Histories.{fine-one}
 use Rattle.pc_history.proofs.Ids.{same_id-equal}
 use Rattle.pc_history.specs.History.{MayFollow}
 use Rattle.pc_history.specs.Own.{same_id}
-use Rattle.pc_implicit.proofs.Anchored.{anchor_stays, commit_anchored}
+use Rattle.pc_implicit.proofs.Anchored.{commit_anchored}
 use Rattle.pc_implicit.proofs.Commits.{ByRecord, ByTell, decision_commits, why_committed}
 use Rattle.pc_implicit.proofs.Doing.{same_or_not}
-use Rattle.pc_implicit.proofs.Evals.{Evaluates, of_entry, range_evaluates}
+use Rattle.pc_implicit.proofs.Evals.{NamedMessage, of_entry, range_evaluates}
 use Rattle.pc_implicit.proofs.Firsts.{first_push}
 use Rattle.pc_implicit.proofs.Keyed.{same-is}
 use Rattle.pc_implicit.proofs.Places.{place_other}
 use Rattle.pc_implicit.proofs.Puts.{only_front, only_sent}
 use Rattle.pc_implicit.proofs.Recorded.{IsRecorded, evaluated_state, recorded}
 use Rattle.pc_implicit.specs.Decided.{decision}
-use Rattle.pc_proto.specs.declared.answer.Answer.{Answer}
 use Rattle.pc_proto.specs.declared.answer.Answer.TheVariants as answers
 use Rattle.pc_proto.specs.declared.event.Event.{Event}
 use Rattle.pc_proto.specs.declared.event.Event.TheVariants as events
@@ -88,7 +87,7 @@ module _ (head : Head) (front : List (Entry Event)) (e : Entry Event) (run : IsR
   undecided-before range epoch ts decided =
       recorded-before range epoch ts (place_at head range id front) refl (recorded head front run (only_front front (e ∷ []) only) range id) decided
 
-  by-commit : (range epoch ts : ℕ) (actor : ActorId) (number : ℕ) (reply : Reply) (ev : Evaluates head front e.actor actor number reply) → e.event ≡ events.Eval actor number reply
+  by-commit : (range epoch ts : ℕ) (actor : ActorId) (number : ℕ) (reply : Reply) (ev : NamedMessage head front e.actor actor number reply) → e.event ≡ events.Eval actor number reply
       → (request : Request) → IsPutOrCommit request → ev.send.event ≡ events.Send number ev.range request
       → decision (place_of id (state_after request (state_at head ev.range front)).table) ≡ Some (status_of standings.Committed epoch ts) → Makes front e id
   by-commit range epoch ts actor number reply ev is (requests.Put meta seq at key value) kind sends decided = absurd (undecided-before ev.range epoch ts decided)
@@ -200,8 +199,7 @@ module _ (head : Head) (history : List (Entry Event)) (run : IsRun head history)
       let split = subst (IsRun head) (sym p.whole) run in
       let may = run_may head p.front p.e p.back split in
       let joined : (p.front ++ p.e ∷ []) ++ p.back ≡ history = append_assoc p.front (p.e ∷ []) p.back ∙ p.whole in
-      let until = only_front (p.front ++ p.e ∷ []) p.back (subst OnlyPutsAndCommits (sym joined) only) in
-      (
+      let until = only_front (p.front ++ p.e ∷ []) p.back (subst OnlyPutsAndCommits (sym joined) only) in (
         makes-more p.front p.e p.e p.back id p.whole (makes head p.front p.e (run_front head p.front (p.e ∷ p.back) split) may until id p.before p.ts p.now),
         subst (λ h. Contains h p.e) joined (Contains-append_left (p.front ++ p.e ∷ []) p.back p.e (Contains-push p.front p.e)),
         omega (arith, may.step, p.at),

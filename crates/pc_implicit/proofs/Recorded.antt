@@ -1,16 +1,15 @@
 -- Where only puts and commits are sent, a range has of a transaction nothing, or a committed record that a commit made.
-use Rattle.std.proofs.Common.{◌≡◌, ℕ, Bool, true, false, if◌then◌else◌, List, [], ◌∷◌, ◌++◌, Option, None, Some, Contains, inl, inr, refl, sym, ap, subst, ◌∙◌}
-use Rattle.std.proofs.lemmas.List.Elements.{All-contains, All-head, All-append, Contains-append_left}
-use Rattle.std.specs.Prelude.{⊤, All}
+use Rattle.std.proofs.Common.{◌≡◌, ℕ, Bool, true, false, if◌then◌else◌, List, [], ◌∷◌, ◌++◌, Contains, inl, inr, refl, sym, ap, subst, ◌∙◌}
+use Rattle.std.proofs.lemmas.List.Elements.{Contains-append_left}
+use Rattle.std.specs.Prelude.{⊤}
 use Rattle.pc_base.specs.declared.actor.ActorId.{ActorId}
 use Rattle.pc_base.specs.declared.actor.ActorId.TheVariants as actors
 use Rattle.pc_base.specs.declared.entry.Entry.{Entry}
 use Rattle.pc_base.specs.declared.transaction.TxnId.{TxnId}
 use Rattle.pc_base.specs.Transaction.{same_txn}
-use Rattle.pc_history.specs.History.{MayFollow}
 use Rattle.pc_history.specs.Own.{named_in}
 use Rattle.pc_implicit.proofs.Doing.{same_or_not}
-use Rattle.pc_implicit.proofs.Evals.{Evaluates, of_entry, range_evaluates}
+use Rattle.pc_implicit.proofs.Evals.{NamedMessage, of_entry, range_evaluates}
 use Rattle.pc_implicit.proofs.Keyed.{same-is}
 use Rattle.pc_implicit.proofs.Places.{place_after, place_other}
 use Rattle.pc_implicit.proofs.Puts.{only_front, only_sent, puts_induction}
@@ -26,12 +25,11 @@ use Rattle.pc_proto.specs.RecordRows.{change}
 use Rattle.pc_proto.specs.RecordRows.Commit.{commit}
 use Rattle.pc_proto.specs.Table.{place_of}
 use Rattle.pc_world.proofs.Knowing.{state_other, state_same}
-use Rattle.pc_world.proofs.Prefixes.{run_induction}
 use Rattle.pc_world.specs.After.{place_at, state_at}
 use Rattle.pc_world.specs.Evaluation.{state_after}
 use Rattle.pc_world.specs.Local.{Head}
 use Rattle.pc_world.specs.Named.{request_in, request_named}
-use Rattle.pc_world.specs.PutsAndCommits.{IsPutOrCommit, OnlyPutsAndCommits, SendsPutOrCommit}
+use Rattle.pc_world.specs.PutsAndCommits.{IsPutOrCommit, OnlyPutsAndCommits}
 use Rattle.pc_world.specs.RangeState.{RangeState}
 use Rattle.pc_world.specs.Run.{IsRun, protocol}
 use Rattle.pc_world.specs.StateOf.{state_with}
@@ -96,7 +94,7 @@ module _ (history : List (Entry Event)) (range : ℕ) where
   recorded-after id request s is sent h = absurd is
 
 -- the state of a range after it evaluated the message that the evaluation names
-pub evaluated_state : (head : Head) (history : List (Entry Event)) (e : Entry Event) (actor : ActorId) (number range : ℕ) (reply : Reply) (ev : Evaluates head history e.actor actor number reply) → e.event ≡ events.Eval actor number reply
+pub evaluated_state : (head : Head) (history : List (Entry Event)) (e : Entry Event) (actor : ActorId) (number range : ℕ) (reply : Reply) (ev : NamedMessage head history e.actor actor number reply) → e.event ≡ events.Eval actor number reply
     → state_at head ev.range (history ++ e ∷ []) ≡ state_after ev.request (state_at head ev.range history)
 evaluated_state head history e actor number range reply ev is =
     state_same head (actors.Range ev.range) history e ev.there
@@ -108,7 +106,7 @@ module _ (head : Head) where
   AreRecorded history = (range : ℕ) (id : TxnId) → IsRecorded history range id (place_at head range id history)
 
   evaluated-there : (history : List (Entry Event)) (e : Entry Event) (actor : ActorId) (number : ℕ) (reply : Reply) → OnlyPutsAndCommits history → e.event ≡ events.Eval actor number reply
-      → (ev : Evaluates head history e.actor actor number reply) (id : TxnId) → IsRecorded history ev.range id (place_at head ev.range id history)
+      → (ev : NamedMessage head history e.actor actor number reply) (id : TxnId) → IsRecorded history ev.range id (place_at head ev.range id history)
       → IsRecorded (history ++ e ∷ []) ev.range id (place_at head ev.range id (history ++ e ∷ []))
   evaluated-there history e actor number reply only is ev id h =
       let s = state_at head ev.range history in

@@ -84,7 +84,8 @@ views_stay_true head range id view before e later run a =
     let stands : Stands p (place_at head range id (now ++ later)) = over _ (places_go_on id) head range now later in
     subst (λ h. StaysTrue view (place_at head range id h)) (append_assoc before (e ∷ []) later) (true-on view p (place_at head range id (now ++ later)) here stands)
 
-kept-status : (b : Bool) (s t : Status) → (if b then Some s else None) ≡ Some t → s ≡ t
+-- the status that is kept where it is final
+pub kept-status : (b : Bool) (s t : Status) → (if b then Some s else None) ≡ Some t → s ≡ t
 kept-status true s t h = cc
 kept-status false s t h = absurd cc
 

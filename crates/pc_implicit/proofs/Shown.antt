@@ -1,17 +1,16 @@
 -- Where only puts and commits are sent, what an evaluation showed of a transaction stays true, and is never a staging record.
-use Rattle.std.proofs.Common.{◌≡◌, ℕ, true, List, [], ◌∷◌, ◌++◌, Option, None, Some, Contains, inl, inr, refl, sym, ap, subst, ◌∙◌}
+use Rattle.std.proofs.Common.{◌≡◌, ℕ, List, [], ◌∷◌, ◌++◌, Some, Contains, inl, inr, sym, ap, subst, ◌∙◌}
 use Rattle.std.proofs.lemmas.List.Elements.{Contains-append_left, Contains-push_cases}
 use Rattle.std.specs.Prelude.{⊤}
 use Rattle.pc_base.specs.declared.actor.ActorId.{ActorId}
-use Rattle.pc_base.specs.declared.actor.ActorId.TheVariants as actors
 use Rattle.pc_base.specs.declared.entry.Entry.{Entry}
 use Rattle.pc_base.specs.declared.transaction.TxnId.{TxnId}
 use Rattle.pc_history.proofs.Lists.{contains_nil}
 use Rattle.pc_history.specs.History.{MayFollow}
 use Rattle.pc_history.specs.Own.{named_in}
-use Rattle.pc_implicit.proofs.Evals.{Evaluates, of_entry}
+use Rattle.pc_implicit.proofs.Evals.{NamedMessage, of_entry}
 use Rattle.pc_implicit.proofs.Lift.{over}
-use Rattle.pc_implicit.proofs.Puts.{only_front, puts_induction}
+use Rattle.pc_implicit.proofs.Puts.{puts_induction}
 use Rattle.pc_implicit.proofs.Recorded.{IsRecorded, recorded}
 use Rattle.pc_implicit.proofs.Runs.{answered}
 use Rattle.pc_implicit.proofs.Views.{Stands, places_go_on, true-on, view-true}
@@ -19,7 +18,6 @@ use Rattle.pc_implicit.specs.Answers.{Answers}
 use Rattle.pc_implicit.specs.Decided.{StaysTrue}
 use Rattle.pc_proto.specs.declared.event.Event.{Event}
 use Rattle.pc_proto.specs.declared.event.Event.TheVariants as events
-use Rattle.pc_proto.specs.declared.record.Standing.TheVariants as standings
 use Rattle.pc_proto.specs.declared.reply.Reply.{Reply}
 use Rattle.pc_proto.specs.declared.request.Request.{Request}
 use Rattle.pc_proto.specs.declared.view.View.{View}
@@ -77,7 +75,7 @@ module _ (head : Head) where
 
   -- an evaluation's answer shows what is so after it
   pub answer_shows : (history : List (Entry Event)) (e : Entry Event) (actor : ActorId) (number : ℕ) (reply : Reply) → IsRun head (history ++ e ∷ []) → OnlyPutsAndCommits (history ++ e ∷ []) → MayFollow (protocol head) history e
-      → e.event ≡ events.Eval actor number reply → (ev : Evaluates head history e.actor actor number reply) → WasAnswered head (history ++ e ∷ []) actor number ev.request reply
+      → e.event ≡ events.Eval actor number reply → (ev : NamedMessage head history e.actor actor number reply) → WasAnswered head (history ++ e ∷ []) actor number ev.request reply
   answer_shows history e actor number reply run only may is ev = record {
     range = ev.range;
     send = ev.send;

@@ -13,7 +13,7 @@ use Rattle.pc_base.specs.declared.transaction.TxnId.{TxnId}
 use Rattle.pc_base.specs.Span.{contains}
 use Rattle.pc_base.specs.Transaction.{same_txn}
 use Rattle.pc_history.proofs.Ids.{same_id-differ, same_id-equal}
-use Rattle.pc_history.specs.Own.{named_in, own, same_id}
+use Rattle.pc_history.specs.Own.{named_in, same_id}
 use Rattle.pc_implicit.proofs.Anchored.{each_contained}
 use Rattle.pc_implicit.proofs.Commits.{act_of}
 use Rattle.pc_implicit.proofs.Doing.{Does, same_or_not, told_by_row}
@@ -181,21 +181,21 @@ pub record IsUnread (d : Doing) (s : Option Statement) : Type 0 where
 unread : (head : Head) (history : List (Entry Event)) → IsRun head history → OnlyPutsAndCommits history → (id : TxnId) → IsUnread (doing_at id history) (known_at head (actors.Session id.session) history).statement
 unread head = puts_induction head (λ history. (id : TxnId) → IsUnread (doing_at id history) (known_at head (actors.Session id.session) history).statement)
     (λ id. record { call = tt; done = tt }) (λ history e run only may all id.
-      elim (same_or_not e.actor (actors.Session id.session)) [
-        | inl same ↦
-            let k = known_at head (actors.Session id.session) history in
-            let act : Does head (actors.Session id.session) k e.event = subst (λ a. Does head a (known_at head a history) e.event) same (act_of head history e may) in
-            let before = all id in
-            subst (λ d. IsUnread d (known_at head (actors.Session id.session) (history ++ e ∷ [])).statement) (sym (doing-same id history e same))
-            (subst (λ (l : Known). IsUnread (doing_after id (doing_at id history) e.event) l.statement) (sym (known_same head (actors.Session id.session) history e same))
-            (record {
-              call = call-after e.event (doing_at id history).call k.statement before.call;
-              done = done-each head (actors.Session id.session) k (heard-now head history run (only_front history (e ∷ []) only) (actors.Session id.session)) id e.event (doing_at id history) act before.call before.done;
-            }))
-        | inr differ ↦
-            subst (λ d. IsUnread d (known_at head (actors.Session id.session) (history ++ e ∷ [])).statement) (sym (doing-other id history e differ))
-            (subst (λ (l : Known). IsUnread (doing_at id history) l.statement) (sym (known_other head (actors.Session id.session) history e differ)) (all id))
-      ])
+    elim (same_or_not e.actor (actors.Session id.session)) [
+      | inl same ↦
+          let k = known_at head (actors.Session id.session) history in
+          let act : Does head (actors.Session id.session) k e.event = subst (λ a. Does head a (known_at head a history) e.event) same (act_of head history e may) in
+          let before = all id in
+          subst (λ d. IsUnread d (known_at head (actors.Session id.session) (history ++ e ∷ [])).statement) (sym (doing-same id history e same))
+          (subst (λ (l : Known). IsUnread (doing_after id (doing_at id history) e.event) l.statement) (sym (known_same head (actors.Session id.session) history e same))
+          (record {
+            call = call-after e.event (doing_at id history).call k.statement before.call;
+            done = done-each head (actors.Session id.session) k (heard-now head history run (only_front history (e ∷ []) only) (actors.Session id.session)) id e.event (doing_at id history) act before.call before.done;
+          }))
+      | inr differ ↦
+          subst (λ d. IsUnread d (known_at head (actors.Session id.session) (history ++ e ∷ [])).statement) (sym (doing-other id history e differ))
+          (subst (λ (l : Known). IsUnread (doing_at id history) l.statement) (sym (known_other head (actors.Session id.session) history e differ)) (all id))
+    ])
 
 module _ (head : Head) (history : List (Entry Event)) (run : IsRun head history) (only : OnlyPutsAndCommits history) where
   -- each operation of a transaction reads nothing
