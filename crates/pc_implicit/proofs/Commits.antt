@@ -187,9 +187,9 @@ module _ (head : Head) (history : List (Entry Event)) (run : IsRun head history)
       let shows = w.shows id (views.Committed epoch ts locks) about told in
       record {
         anchor = meta.anchor;
-        anchored = ap (λ i. anchor_in i history) (sym same) ∙ anchored.1;
+        anchored = ap (λ i. anchor_in i history) (sym same) ∙ anchored.anchor;
         epoch = epoch;
-        decided = ap (λ r. decision (place_at head r id history)) (sym anchored.0) ∙ shows.stays;
+        decided = ap (λ r. decision (place_at head r id history)) (sym anchored.there) ∙ shows.stays;
       }
   answered-commit actor number (requests.Put meta seq at key value) reply id epoch ts locks w is about told = absurd cc
   answered-commit actor number request reply id epoch ts locks w is about told = absurd is

@@ -74,8 +74,8 @@ module _ (head : Head) (front : List (Entry Event)) (e : Entry Event) (run : IsR
   recorded-before range epoch ts (Kept r) same h decided =
       let w = h.1 in
       let anchored = commit_anchored head front run w.send w.listed w.number range w.meta r.status.ts w.locks w.sends in
-      let anchor : anchor_in id front ≡ Some w.meta.anchor = ap (λ i. anchor_in i front) (sym w.whose) ∙ anchored.1 in
-      let there : place_at head (range_of head.splits w.meta.anchor) id front ≡ Kept r = ap (λ n. place_at head n id front) (sym anchored.0) ∙ sym same in
+      let anchor : anchor_in id front ≡ Some w.meta.anchor = ap (λ i. anchor_in i front) (sym w.whose) ∙ anchored.anchor in
+      let there : place_at head (range_of head.splits w.meta.anchor) id front ≡ Kept r = ap (λ n. place_at head n id front) (sym anchored.there) ∙ sym same in
       let is : commit_ts head front id ≡ Some ts =
       ap (commit_at head front id) anchor ∙ decision_commits head front id epoch ts (place_at head (range_of head.splits w.meta.anchor) id front) (ap decision there ∙ decided) in
       let both : None ≡ Some ts = sym none ∙ is in
