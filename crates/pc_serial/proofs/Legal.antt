@@ -1,0 +1,45 @@
+-- Where only puts and commits are sent, the committed transactions are one legal history.
+use Rattle.std.proofs.Common.{◌≡◌, ℕ, ◌<◌, List, [], ◌∷◌, ◌++◌, inl, Contains, sym, subst, ◌∙◌}
+use Rattle.std.proofs.lemmas.List.{append-nil, append_assoc}
+use Rattle.std.specs.List.{AllByRecursion as Each}
+use Rattle.pc_base.specs.declared.entry.Entry.{Entry}
+use Rattle.pc_base.specs.declared.transaction.TxnId.{TxnId}
+use Rattle.pc_proto.specs.declared.event.Event.{Event}
+use Rattle.pc_serial.proofs.Begun.{between, committed-begun}
+use Rattle.pc_serial.proofs.Order.{PointsDiffer, stands-before, stands-once}
+use Rattle.pc_serial.proofs.Serial.{ReadsNothing, runs-on}
+use Rattle.pc_serial.specs.Laws.{StandsOnce}
+use Rattle.pc_world.specs.Committed.{IsCommitted}
+use Rattle.pc_world.specs.Decisions.{HasOneDecision, TellsCommit}
+use Rattle.pc_world.specs.Legal.{BeganAfter, IsLegal, committed_in_order}
+use Rattle.pc_world.specs.Local.{Head}
+use Rattle.pc_world.specs.Operations.{operations_of}
+use Rattle.pc_world.specs.Run.{IsRun}
+
+-- What the legal order rests on.
+pub record Rests (head : Head) (history : List (Entry Event)) : Type 0 where
+  pub decided : HasOneDecision head history
+  pub differ : PointsDiffer head history
+  pub unread : (id : TxnId) → Each ReadsNothing (operations_of history id)
+  pub above : (id other : TxnId) (ts later : ℕ) → BeganAfter head history id other → IsCommitted head history id ts → IsCommitted head history other later → ts < later
+
+module _ (head : Head) (history : List (Entry Event)) (run : IsRun head history) (rests : Rests head history) where
+  pub is-legal : IsLegal head history
+  is-legal = record {
+    serial = runs-on (operations_of history) rests.unread [] (committed_in_order head history);
+    in_order = λ id other ts later is also after.
+        stands-before head history rests.differ id other ts later (committed-begun head history run id ts is) (committed-begun head history run other later also) is also (rests.above id other ts later after is also);
+  }
+
+  told-committed : (before : List (Entry Event)) (e : Entry Event) (later : List (Entry Event)) (id : TxnId) (ts : ℕ) → history ≡ before ++ e ∷ later → TellsCommit id ts e.event → IsCommitted head history id ts
+  told-committed before e later id ts whole tells =
+      let then : IsCommitted head (before ++ e ∷ []) id ts = rests.decided.acknowledged before e later id ts whole (inl tells) in
+      let joined : history ≡ (before ++ e ∷ []) ++ later = whole ∙ sym (append_assoc before (e ∷ []) later) in
+      let long : history ≡ (before ++ e ∷ []) ++ later ++ [] = joined ∙ sym (append-nil ((before ++ e ∷ []) ++ later)) in
+      subst (λ h. IsCommitted head h id ts) (sym joined) (rests.decided.stays (before ++ e ∷ []) later [] id ts long then)
+
+  pub told-once : (e : Entry Event) (id : TxnId) (ts : ℕ) → Contains history e → TellsCommit id ts e.event → StandsOnce head history id ts
+  told-once e id ts there tells =
+      let b = between history e there in
+      let is : IsCommitted head history id ts = told-committed b.front e b.back id ts b.whole tells in
+      stands-once head history rests.differ id ts (committed-begun head history run id ts is) is

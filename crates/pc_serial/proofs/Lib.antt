@@ -1,0 +1,6 @@
+pub mod Begun
+pub mod FirstRow
+pub mod InOrder
+pub mod Legal
+pub mod Order
+pub mod Serial
