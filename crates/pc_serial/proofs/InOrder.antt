@@ -5,6 +5,7 @@ use Rattle.std.specs.Cmp.{IsTotalOrder}
 use Rattle.std.specs.declared.cmp.Ordering.{Ordering}
 use Rattle.std.specs.declared.cmp.Ordering.TheVariants.{Less, Equal, Greater}
 use Rattle.std.specs.List.{AllByRecursion as Each}
+use Rattle.std.specs.List.Sorted.{IsStrictlySortedBy}
 use Rattle.std.specs.Ordering.{match_ordering, ordering_reverse}
 use Rattle.std.proofs.lemmas.Cmp.{tied_itself}
 use Rattle.pc_base.specs.declared.transaction.TxnId.{TxnId}
@@ -31,6 +32,16 @@ module _ {K V : Type 0} (cmp : K → K → Ordering) where
   abbrev pub Rises : List (K × V) → Type 0
   Rises [] = Unit {0}
   Rises (e ∷ es) = Each (λ x. cmp e.0 x.0 ≡ Less) es × Rises es
+
+  each-key : (P : K → Type 0) (es : List (K × V)) → Each (λ e. P e.0) es → Each P (map (λ e. e.0) es)
+  each-key P [] a = tt
+  each-key P (e ∷ es) a = (a.0, each-key P es a.1)
+
+  -- the keys of rising entries are sorted
+  pub rises-sorted : (es : List (K × V)) → Rises es → IsStrictlySortedBy cmp (map (λ e. e.0) es)
+  unfolding IsStrictlySortedBy
+  rises-sorted [] r = tt
+  rises-sorted (e ∷ es) r = (each-key (λ x. cmp e.0 x ≡ Less) es r.0, rises-sorted es r.1)
 
   each-insert : (P : K → Type 0) (k : K) (v : V) (es : List (K × V)) → P k → Each (λ e. P e.0) es → Each (λ e. P e.0) (insert_entry cmp es k v)
   each-insert P k v [] h a = (h, tt)

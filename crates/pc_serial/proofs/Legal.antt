@@ -1,14 +1,16 @@
 -- Where only puts and commits are sent, the committed transactions are one legal history.
 use Rattle.std.proofs.Common.{◌≡◌, ℕ, ◌<◌, List, [], ◌∷◌, ◌++◌, inl, Contains, sym, subst, ◌∙◌}
 use Rattle.std.proofs.lemmas.List.{append-nil, append_assoc}
+use Rattle.std.proofs.lemmas.List.Elements.{All-from_recursion}
 use Rattle.std.specs.List.{AllByRecursion as Each}
 use Rattle.pc_base.specs.declared.entry.Entry.{Entry}
 use Rattle.pc_base.specs.declared.transaction.TxnId.{TxnId}
 use Rattle.pc_proto.specs.declared.event.Event.{Event}
 use Rattle.pc_serial.proofs.Begun.{between, committed-begun}
-use Rattle.pc_serial.proofs.Order.{PointsDiffer, stands-before, stands-once}
+use Rattle.pc_serial.proofs.Order.{PointsDiffer, order-committed, order-sorted, stands-before, stands-once}
 use Rattle.pc_serial.proofs.Serial.{ReadsNothing, runs-on}
-use Rattle.pc_serial.specs.Laws.{StandsOnce}
+use Rattle.pc_serial.specs.Laws.{OrdersCommits, StandsOnce}
+use Rattle.pc_world.specs.CommitOrder.{Rank, commit_order}
 use Rattle.pc_world.specs.Committed.{IsCommitted}
 use Rattle.pc_world.specs.Decisions.{HasOneDecision, TellsCommit}
 use Rattle.pc_world.specs.Legal.{BeganAfter, IsLegal, committed_in_order}
@@ -43,3 +45,10 @@ module _ (head : Head) (history : List (Entry Event)) (run : IsRun head history)
       let b = between history e there in
       let is : IsCommitted head history id ts = told-committed b.front e b.back id ts b.whole tells in
       stands-once head history rests.differ id ts (committed-begun head history run id ts is) is
+
+  pub is-ordered : OrdersCommits head history
+  is-ordered = record {
+    each = λ id ts is. stands-once head history rests.differ id ts (committed-begun head history run id ts is) is;
+    others = All-from_recursion (λ (e : Rank × TxnId). IsCommitted head history e.1 e.0.ts) (commit_order head history) (order-committed head history rests.differ);
+    sorted = order-sorted head history rests.differ;
+  }

@@ -1,11 +1,12 @@
 -- Where commit points differ, the committed transactions stand in the commit order, each once, by their timestamps.
-use Rattle.std.proofs.Common.{◌≡◌, ℕ, ◌<◌, true, List, [], ◌∷◌, filter, filter_map, Option, None, Some, IfSome, Contains, refl, sym, ap, ◌∙◌, arith}
+use Rattle.std.proofs.Common.{map, ◌≡◌, ℕ, ◌<◌, true, List, [], ◌∷◌, filter, filter_map, Option, None, Some, IfSome, Contains, refl, sym, ap, ◌∙◌, arith}
 use Rattle.std.proofs.lemmas.Cmp.{nat_cmp_total, on_total, then_total}
 use Rattle.std.proofs.lemmas.Map.Lookups.{exact_unsigned}
 use Rattle.std.specs.Cmp.{IsTotalOrder, nat_cmp_is}
 use Rattle.std.specs.declared.cmp.Ordering.{Ordering}
 use Rattle.std.specs.declared.cmp.Ordering.TheVariants.{Less, Equal, Greater}
 use Rattle.std.specs.List.{AllByRecursion as Each}
+use Rattle.std.specs.List.Sorted.{IsStrictlySortedBy}
 use Rattle.std.specs.Option.{option_map}
 use Rattle.std.specs.Ordering.{nat_cmp, ordering_then}
 use Rattle.pc_base.specs.declared.entry.Entry.{Entry}
@@ -13,8 +14,8 @@ use Rattle.pc_base.specs.declared.transaction.TxnId.{TxnId}
 use Rattle.pc_base.specs.Transaction.{same_txn}
 use Rattle.pc_proto.specs.declared.event.Event.{Event}
 use Rattle.pc_serial.proofs.Begun.{mapped-contains, same-is}
-use Rattle.pc_serial.proofs.InOrder.{before-in, each-contains, each-in_order, has-in_order, once-in, rises-in_order}
-use Rattle.pc_world.proofs.Each.{each-filter_map}
+use Rattle.pc_serial.proofs.InOrder.{before-in, each-contains, each-in_order, has-in_order, once-in, rises-in_order, rises-sorted}
+use Rattle.pc_world.proofs.Each.{each-filter_map, each-weaker}
 use Rattle.pc_world.specs.CommitOrder.{Rank, all_begun, commit_order, rank_cmp, ranked}
 use Rattle.pc_world.specs.Committed.{IsCommitted, commit_point, commit_ts}
 use Rattle.pc_world.specs.Legal.{StandsBefore, committed_in_order}
@@ -92,6 +93,15 @@ module _ (head : Head) (history : List (Entry Event)) where
 
     same-itself : (id : TxnId) → same_txn id id ≡ true
     same-itself id = grind arith
+
+    -- the order has committed transactions alone
+    pub order-committed : Each (λ x. IsCommitted head history x.1 x.0.ts) (commit_order head history)
+    order-committed =
+        each-weaker IsRanked (λ x. IsCommitted head history x.1 x.0.ts) (λ x h. (ranked-of x.1 (commit_ts head history x.1) x h).0) (commit_order head history) order-ranked
+
+    -- it is sorted
+    pub order-sorted : IsStrictlySortedBy rank_cmp (map (λ e. e.0) (commit_order head history))
+    order-sorted = rises-sorted rank_cmp (commit_order head history) (rises-in_order rank_cmp rank-total (filter_map (ranked head history) (all_begun history)))
 
     -- a committed transaction that was begun stands in the order once
     pub stands-once : (id : TxnId) (ts : ℕ) → Contains (all_begun history) id → IsCommitted head history id ts → filter (λ e. same_txn e.1 id) (commit_order head history) ≡ entry_of id ts ∷ []

@@ -32,6 +32,7 @@ first_txn = record { session = 1; number = 1 }
 abbrev pub first_ts : ℕ
 first_ts = 10 * 2 ^ 32
 
+-- What the transaction tells of itself.
 abbrev pub first_meta : TxnMeta
 first_meta = record { id = first_txn; epoch = 0; priority = priorities.Normal; born = 10; anchor = codes "a" }
 

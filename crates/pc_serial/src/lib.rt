@@ -2,6 +2,8 @@
 //! law.
 #![tactic(auto)]
 
+mod laws;
 mod rows;
 
-pub use rows::first_row_is_one_commit;
+pub use laws::{commits_are_ordered, committed_once, histories_are_legal};
+pub use rows::{first_row_is_a_run, first_row_is_one_commit};
