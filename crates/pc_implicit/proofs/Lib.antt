@@ -6,3 +6,17 @@ pub mod Bounds
 pub mod Staged
 pub mod Views
 pub mod Runs
+pub mod Firsts
+pub mod Doing
+pub mod Agreed
+pub mod Anchored
+pub mod Evals
+pub mod Puts
+pub mod Recorded
+pub mod Shown
+pub mod Asked
+pub mod Hearing
+pub mod Commits
+pub mod Begins
+pub mod Clocks
+pub mod Unread

@@ -11,7 +11,7 @@ use Rattle.pc_implicit.proofs.Lift.{over}
 use Rattle.pc_implicit.proofs.Staged.{Leaves, past-differs, staging_goes_on}
 use Rattle.pc_implicit.proofs.Views.{Stands, places_go_on, reply-view, true-on, view-true}
 use Rattle.pc_implicit.specs.Answers.{Agree, Answers}
-use Rattle.pc_implicit.specs.Decided.{BoundStands, IsNotBelow, StaysTrue, decision, place_at, state_at}
+use Rattle.pc_implicit.specs.Decided.{BoundStands, IsNotBelow, StaysTrue, decision}
 use Rattle.pc_proto.specs.declared.event.Event.{Event}
 use Rattle.pc_proto.specs.declared.event.Event.TheVariants as events
 use Rattle.pc_proto.specs.declared.record.Standing.TheVariants as standings
@@ -25,6 +25,7 @@ use Rattle.pc_proto.specs.RecordRows.Reached.{is_staged_at, status_of}
 use Rattle.pc_proto.specs.Table.{place_of}
 use Rattle.pc_world.proofs.Knowing.{state_same}
 use Rattle.pc_world.proofs.Prefixes.{run_front, run_may}
+use Rattle.pc_world.specs.After.{place_at, state_at}
 use Rattle.pc_world.specs.Evaluation.{reply, state_after}
 use Rattle.pc_world.specs.Known.Traffic.{reply_in}
 use Rattle.pc_world.specs.Known.Transactions.{is_final_view}

@@ -1,30 +1,12 @@
 -- How a range decided a transaction, how far its record went, and what a view says for good.
-use Rattle.std.specs.Prelude.{◌≡◌, ℕ, ◌+◌, ◌<◌, ◌≤◌, true, ◌⊎◌, ⊤, if◌then◌else◌, Option, None, Some, List}
-use Rattle.pc_base.specs.declared.actor.ActorId.TheVariants as actors
-use Rattle.pc_base.specs.declared.entry.Entry.{Entry}
-use Rattle.pc_base.specs.declared.transaction.TxnId.{TxnId}
+use Rattle.std.specs.Prelude.{◌≡◌, ℕ, ◌+◌, ◌<◌, ◌≤◌, true, ◌⊎◌, ⊤, if◌then◌else◌, Option, None, Some}
 use Rattle.pc_base.specs.Bound.{ReadBound}
-use Rattle.pc_history.specs.Own.{own}
-use Rattle.pc_proto.specs.declared.event.Event.{Event}
 use Rattle.pc_proto.specs.declared.record.Status.{Status}
 use Rattle.pc_proto.specs.declared.record.Standing.TheVariants as standings
 use Rattle.pc_proto.specs.declared.view.View.{View}
 use Rattle.pc_proto.specs.declared.view.View.TheVariants as views
 use Rattle.pc_proto.specs.Place.{Place, Nothing, Kept, Marked, is_decided, is_final}
 use Rattle.pc_proto.specs.RecordRows.Reached.{status_of}
-use Rattle.pc_proto.specs.Table.{place_of}
-use Rattle.pc_world.specs.Local.{Head}
-use Rattle.pc_world.specs.RangeState.{RangeState}
-use Rattle.pc_world.specs.Run.{protocol}
-use Rattle.pc_world.specs.StateOf.{state_of}
-
--- The state of a range after a history.
-abbrev pub state_at : Head → ℕ → List (Entry Event) → RangeState
-state_at head range history = state_of (own (protocol head) (actors.Range range) history)
-
--- What a range has of a transaction after a history.
-abbrev pub place_at : Head → ℕ → TxnId → List (Entry Event) → Place
-place_at head range id history = place_of id (state_at head range history).table
 
 -- How the transaction was decided: the status of its final record, or of its mark.
 abbrev pub decision : Place → Option Status

@@ -1,15 +1,19 @@
--- Laws of every run: what a range decided stays decided.
+-- Laws of runs: what a range decided stays decided; and where only puts and commits are sent, no two decisions differ.
 use Rattle.std.specs.Prelude.{◌≡◌, ℕ, true, false, Some, List, ◌∷◌, ◌++◌}
 use Rattle.pc_base.specs.declared.entry.Entry.{Entry}
 use Rattle.pc_base.specs.declared.transaction.TxnId.{TxnId}
 use Rattle.pc_implicit.specs.Answers.{Agree, Answers}
-use Rattle.pc_implicit.specs.Decided.{BoundStands, IsNotBelow, StaysTrue, decision, place_at, state_at}
+use Rattle.pc_implicit.specs.Decided.{BoundStands, IsNotBelow, StaysTrue, decision}
 use Rattle.pc_proto.specs.declared.event.Event.{Event}
 use Rattle.pc_proto.specs.declared.record.Status.{Status}
 use Rattle.pc_proto.specs.declared.view.View.{View}
 use Rattle.pc_proto.specs.RecordRows.Reached.{is_staged_at}
+use Rattle.pc_world.specs.After.{place_at, state_at}
+use Rattle.pc_world.specs.Committed.{IsCommitted, commit_point}
+use Rattle.pc_world.specs.Decisions.{HasOneDecision}
 use Rattle.pc_world.specs.Known.Transactions.{is_final_view}
 use Rattle.pc_world.specs.Local.{Head}
+use Rattle.pc_world.specs.PutsAndCommits.{OnlyPutsAndCommits}
 use Rattle.pc_world.specs.Run.{IsRun}
 
 -- A decision stands: a final record or mark keeps its status for good.
@@ -53,3 +57,15 @@ FinalViewsStay =
     → IsRun head (before ++ e ∷ between ++ f ∷ later)
     → Answers head before range id one e → Answers head (before ++ e ∷ between) range id other f
     → is_final_view one ≡ true → (is_final_view other ≡ true) × Agree one other
+
+-- Where only puts and commits are sent, no two decisions differ.
+abbrev pub DecisionsDoNotDiffer : Type 0
+DecisionsDoNotDiffer =
+    (head : Head) (history : List (Entry Event)) → IsRun head history → OnlyPutsAndCommits history → HasOneDecision head history
+
+-- Where only puts and commits are sent, one entry makes at most one transaction committed.
+abbrev pub CommitPointsDiffer : Type 0
+CommitPointsDiffer =
+    (head : Head) (history : List (Entry Event)) (id other : TxnId) (ts later : ℕ)
+    → IsRun head history → OnlyPutsAndCommits history → IsCommitted head history id ts → IsCommitted head history other later
+    → commit_point head history id ≡ commit_point head history other → id ≡ other
