@@ -143,7 +143,8 @@ pub act_of : (head : Head) (history : List (Entry Event)) (e : Entry Event) → 
 act_of head history e may = does head e.actor (own (protocol head) e.actor history) e.event (named_in (protocol head) history e.event) may.local.next
 
 module _ (head : Head) where
-  decided-more : (history : List (Entry Event)) (e : Entry Event) (id : TxnId) (ts : ℕ) → IsDecided head history id ts → IsDecided head (history ++ e ∷ []) id ts
+  -- so does a decision
+  pub decided-more : (history : List (Entry Event)) (e : Entry Event) (id : TxnId) (ts : ℕ) → IsDecided head history id ts → IsDecided head (history ++ e ∷ []) id ts
   decided-more history e id ts d = record {
     anchor = d.anchor;
     anchored = anchor_stays id history e d.anchor d.anchored;

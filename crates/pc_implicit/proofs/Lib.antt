@@ -17,6 +17,7 @@ pub mod Shown
 pub mod Asked
 pub mod Hearing
 pub mod Commits
+pub mod OneDecision
 pub mod Begins
 pub mod Clocks
 pub mod Unread

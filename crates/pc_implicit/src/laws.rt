@@ -1,4 +1,4 @@
-ghost use Rattle.pc_implicit.specs.Laws.{DecisionsStand, NothingFalls, LeftStagingsStayAway, BoundsStand, ViewsStayTrue, FinalViewsStay};
+ghost use Rattle.pc_implicit.specs.Laws.{DecisionsStand, NothingFalls, LeftStagingsStayAway, BoundsStand, ViewsStayTrue, FinalViewsStay, DecisionsDoNotDiffer};
 
 /// A law: a final record or mark keeps its status for good.
 pub fn decisions_stand()
@@ -28,4 +28,9 @@ pub fn views_stay_true()
 /// A law: a range never answers two decisions of one transaction.
 pub fn final_views_stay()
     ensures { FinalViewsStay }
+{}
+
+/// A law: where only puts and commits are sent, no two decisions differ.
+pub fn decisions_do_not_differ()
+    ensures { DecisionsDoNotDiffer }
 {}
