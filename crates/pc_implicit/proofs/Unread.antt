@@ -141,7 +141,7 @@ heard-as number step None reply a = tt
 heard-as number step (Some request) None a = tt
 heard-as number step (Some request) (Some reply) a = a
 
-heard-by : (event : Event) (named : Option (Entry Event)) (sent : List Sent) → Each (λ m. IsPutOrCommit m.request) sent → IfSome (heard_by event named sent) AsksPut
+pub heard-by : (event : Event) (named : Option (Entry Event)) (sent : List Sent) → Each (λ m. IsPutOrCommit m.request) sent → IfSome (heard_by event named sent) AsksPut
 heard-by (events.Hear number step) named sent a = heard-as number step (request_sent number sent) (reply_named named) (request-sent number sent a)
 heard-by event named sent a = tt
 
@@ -273,3 +273,7 @@ module _ (head : Head) (history : List (Entry Event)) (run : IsRun head history)
   -- each operation of a transaction reads nothing
   pub reads_nothing : (id : TxnId) → Each ReadsNothing (operations_of history id)
   reads_nothing id = (unread head history run only id).nothing
+
+-- what a session sent is puts and commits
+pub asks_puts : (head : Head) (history : List (Entry Event)) → IsRun head history → OnlyPutsAndCommits history → (session : ℕ) → Each (λ m. IsPutOrCommit m.request) (known (own (protocol head) (actors.Session session) history)).sent
+asks_puts head history run only session = (unread head history run only (record { session = session; number = 0 })).sent
