@@ -18,6 +18,8 @@ pub mod Asked
 pub mod Hearing
 pub mod Commits
 pub mod OneDecision
+pub mod Points
+pub mod OwnSplit
 pub mod Begins
 pub mod Clocks
 pub mod Unread

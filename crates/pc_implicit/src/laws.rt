@@ -1,4 +1,4 @@
-ghost use Rattle.pc_implicit.specs.Laws.{DecisionsStand, NothingFalls, LeftStagingsStayAway, BoundsStand, ViewsStayTrue, FinalViewsStay, DecisionsDoNotDiffer};
+ghost use Rattle.pc_implicit.specs.Laws.{DecisionsStand, NothingFalls, LeftStagingsStayAway, BoundsStand, ViewsStayTrue, FinalViewsStay, DecisionsDoNotDiffer, CommitPointsDiffer};
 
 /// A law: a final record or mark keeps its status for good.
 pub fn decisions_stand()
@@ -33,4 +33,9 @@ pub fn final_views_stay()
 /// A law: where only puts and commits are sent, no two decisions differ.
 pub fn decisions_do_not_differ()
     ensures { DecisionsDoNotDiffer }
+{}
+
+/// A law: where only puts and commits are sent, one entry makes at most one transaction committed.
+pub fn commit_points_differ()
+    ensures { CommitPointsDiffer }
 {}

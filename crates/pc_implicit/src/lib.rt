@@ -4,6 +4,6 @@
 mod laws;
 
 pub use laws::{
-    bounds_stand, decisions_do_not_differ, decisions_stand, final_views_stay, left_stagings_stay_away, nothing_falls,
+    bounds_stand, commit_points_differ, decisions_do_not_differ, decisions_stand, final_views_stay, left_stagings_stay_away, nothing_falls,
     views_stay_true,
 };
