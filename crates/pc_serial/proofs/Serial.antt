@@ -3,14 +3,9 @@ use Rattle.std.proofs.Common.{◌≡◌, ℕ, Bool, false, cond, List, [], ◌�
 use Rattle.std.specs.List.{AllByRecursion as Each}
 use Rattle.pc_base.specs.declared.transaction.TxnId.{TxnId}
 use Rattle.pc_base.specs.Span.{contains}
+use Rattle.pc_implicit.proofs.Unread.{ReadsNothing}
 use Rattle.pc_world.specs.MapRun.{IsMapRun, Map, ReadsAlong, ReadsMap, map_after}
 use Rattle.pc_world.specs.Operations.{Operation, Read, ReadAll, Write}
-
--- A write, or a scan of a span that has no key, which was told no rows.
-abbrev pub ReadsNothing : Operation → Type 0
-ReadsNothing (Write key seq value) = Unit {0}
-ReadsNothing (Read key value) = ⊥
-ReadsNothing (ReadAll span rows) = (rows ≡ []) × ((key : List ℕ) → contains span key ≡ false)
 
 none-passes : {X : Type 0} (test : X → Bool) (xs : List X) → ((x : X) → test x ≡ false) → filter test xs ≡ []
 none-passes test [] none = refl

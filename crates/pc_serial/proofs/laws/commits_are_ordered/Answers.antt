@@ -1,5 +1,5 @@
-use Rattle.pc_serial.proofs.Legal.{is-legal, is-ordered, told-once}
+use Rattle.pc_serial.proofs.Legal.{is-ordered}
 use Rattle.pc_serial.proofs.laws.commits_are_ordered.Goals as goal
 
 pub returns : goal.returns
-returns c = ?
+returns c = is-ordered
