@@ -180,7 +180,8 @@ subject-is : (id : TxnId) (o : Option TxnId) → option_map_or (λ other. same_t
 subject-is id None h = absurd cc
 subject-is id (Some other) h = ap Some (same-is other id h)
 
-committed-view : (ts : ℕ) (o : Option View) → option_map_or (is_committed_at ts) o false ≡ true → (epoch : ℕ) × (locks : List (List ℕ)) × (o ≡ Some (views.Committed epoch ts locks))
+-- the view that shows a commit
+pub committed-view : (ts : ℕ) (o : Option View) → option_map_or (is_committed_at ts) o false ≡ true → (epoch : ℕ) × (locks : List (List ℕ)) × (o ≡ Some (views.Committed epoch ts locks))
 committed-view ts None h = absurd cc
 committed-view ts (Some (views.Committed epoch at locks)) h = (epoch, locks, ap (λ t. Some (views.Committed epoch t locks)) (eqb-true at ts h))
 committed-view ts (Some view) h = absurd cc

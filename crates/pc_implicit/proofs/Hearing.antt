@@ -32,13 +32,15 @@ evaluation-is : (actor : ActorId) (number : ℕ) (event : Event) → IsEvaluatio
 evaluation-is actor number (events.Eval sender sent reply) h = (reply, ap (λ s. events.Eval s sent reply) h.0 ∙ ap (λ n. events.Eval actor n reply) h.1)
 evaluation-is actor number event h = absurd h
 
-as-heard : (P : Heard → Type 0) (number step : ℕ) (request : Option Request) (reply : Option Reply)
+-- what is so of what is heard, where it is so of each request and reply
+pub as-heard : (P : Heard → Type 0) (number step : ℕ) (request : Option Request) (reply : Option Reply)
     → ((asked : Request) (told : Reply) → request ≡ Some asked → reply ≡ Some told → P (record { number = number; request = asked; reply = told; step = step })) → IfSome (heard_as number step request reply) P
 as-heard P number step (Some request) (Some reply) on = on request reply refl refl
 as-heard P number step (Some request) None on = tt
 as-heard P number step None reply on = tt
 
-to-list : (P : Heard → Type 0) (h : Option Heard) → IfSome h P → Each P (option_to_list h)
+-- the same of the list
+pub to-list : (P : Heard → Type 0) (h : Option Heard) → IfSome h P → Each P (option_to_list h)
 to-list P None a = tt
 to-list P (Some h) a = (a, tt)
 
@@ -56,7 +58,8 @@ module _ (head : Head) where
         named-one (protocol head) history (events.Hear number step) x (names_one head history (events.Hear number step) run) (k, inside, at)
             (and_from (x.step == step) (is_eval x.event) (eq-eqb x.step step is.at) (ap is_eval what.1)))
 
-  heard-event : (history : List (Entry Event)) → IsRun head history → OnlyPutsAndCommits history → (actor : ActorId) (event : Event) → IsCaused history event actor
+  -- so is what it hears next
+  pub heard-event : (history : List (Entry Event)) → IsRun head history → OnlyPutsAndCommits history → (actor : ActorId) (event : Event) → IsCaused history event actor
       → IfSome (heard_by event (named_in (protocol head) history event) (known_at head actor history).sent) (IsSo history actor)
   heard-event history run only actor (events.Hear number step) cause =
       let names = hearing_names history run actor number step cause in

@@ -20,6 +20,6 @@ pub mod Commits
 pub mod OneDecision
 pub mod Points
 pub mod OwnSplit
-pub mod Begins
 pub mod Clocks
+pub mod Begins
 pub mod Unread

@@ -1,18 +1,20 @@
 -- Where only puts and commits are sent, no two decisions differ.
-use Rattle.std.proofs.Common.{◌≡◌, ℕ, true, false, if◌then◌else◌, inl, inr, List, [], ◌∷◌, ◌++◌, Option, None, Some, refl, sym, ap, subst, ◌∙◌}
+use Rattle.std.proofs.Common.{◌≡◌, ℕ, true, false, if◌then◌else◌, inl, inr, List, [], ◌∷◌, ◌++◌, Option, None, Some, Contains, refl, sym, ap, subst, ◌∙◌}
 use Rattle.std.proofs.lemmas.List.{append_assoc}
+use Rattle.std.proofs.lemmas.List.Elements.{Contains-push_cases}
 use Rattle.std.specs.Option.{option_or}
 use Rattle.pc_base.specs.declared.actor.ActorId.{ActorId}
 use Rattle.pc_base.specs.declared.entry.Entry.{Entry}
 use Rattle.pc_base.specs.declared.transaction.TxnId.{TxnId}
+use Rattle.pc_history.proofs.Lists.{contains_nil}
 use Rattle.pc_history.specs.History.{MayFollow}
 use Rattle.pc_history.specs.Own.{named_in}
-use Rattle.pc_implicit.proofs.Commits.{act_of, decided-more, decided_is_committed, shown_decided, stays_committed, tell_means}
+use Rattle.pc_implicit.proofs.Commits.{act_of, decided-more, decided_is_committed, shown_decided, stays_committed, stays_push, tell_means}
 use Rattle.pc_implicit.proofs.Doing.{Does}
 use Rattle.pc_implicit.proofs.Evals.{Evaluates, of_entry}
 use Rattle.pc_implicit.proofs.Firsts.{first_push}
 use Rattle.pc_implicit.proofs.Keyed.{same-itself}
-use Rattle.pc_implicit.proofs.Puts.{only_front, only_sent}
+use Rattle.pc_implicit.proofs.Puts.{only_front, only_sent, puts_induction}
 use Rattle.pc_implicit.proofs.Shown.{answer_shows}
 use Rattle.pc_proto.specs.declared.answer.Answer.TheVariants as answers
 use Rattle.pc_proto.specs.declared.event.Event.{Event}
@@ -99,6 +101,17 @@ module _ (head : Head) (before : List (Entry Event)) (e : Entry Event) (run : Is
           | inr recovered ↦ absurd (none-recovered id ts recovered)
         ]
       ]
+
+-- a transaction that anybody was told committed is committed at that timestamp
+pub told_committed : (head : Head) (history : List (Entry Event)) → IsRun head history → OnlyPutsAndCommits history → (x : Entry Event) → Contains history x → (id : TxnId) (ts : ℕ)
+    → x.event ≡ events.Tell (answers.Committed id ts) → IsCommitted head history id ts
+told_committed head =
+    puts_induction head (λ history. (x : Entry Event) → Contains history x → (id : TxnId) (ts : ℕ) → x.event ≡ events.Tell (answers.Committed id ts) → IsCommitted head history id ts)
+    (λ x there. absurd (contains_nil x there)) (λ history e run only may all x there id ts is.
+      elim (Contains-push_cases history e x there) [
+        | inl before ↦ stays_push head history e run (only_front history (e ∷ []) only) may id ts (all x before id ts is)
+        | inr now ↦ tell_committed head history e run may only id ts (ap (λ (y : Entry Event). y.event) now ∙ is)
+      ])
 
 -- What a history that is split at an entry has to meet.
 module _ (head : Head) (history : List (Entry Event)) (run : IsRun head history) (only : OnlyPutsAndCommits history) where

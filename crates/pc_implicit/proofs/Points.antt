@@ -56,11 +56,11 @@ pub data Makes (history : List (Entry Event)) (e : Entry Event) (id : TxnId) : T
       → e.event ≡ events.Eval actor number reply → Contains history send → send.actor ≡ actor → send.event ≡ events.Send number range (requests.Commit meta ts locks)
       → meta.id ≡ id → Makes history e id
 
-or-first : {Y : Type 0} (a b : Option Y) → option_or a b ≡ None → a ≡ None
+pub or-first : {Y : Type 0} (a b : Option Y) → option_or a b ≡ None → a ≡ None
 or-first None b h = refl
 or-first (Some a) b h = absurd cc
 
-told-what : (id : TxnId) (ts : ℕ) (event : Event) → committed_in id event ≡ Some ts → event ≡ events.Tell (answers.Committed id ts)
+pub told-what : (id : TxnId) (ts : ℕ) (event : Event) → committed_in id event ≡ Some ts → event ≡ events.Tell (answers.Committed id ts)
 told-what id ts (events.Tell (answers.Committed other at)) h = by (same_txn other id) refl h
   where
     by : (b : Bool) → same_txn other id ≡ b → (if b then Some at else None) ≡ Some ts → events.Tell (answers.Committed other at) ≡ events.Tell (answers.Committed id ts)
