@@ -132,9 +132,9 @@ module _ (head : Head) (front : List (Entry Event)) (e : Entry Event) (run : IsR
       let sent : MaySend head.splits e.actor k s.number s.range (requests.Put s.meta s.seq s.ts s.key s.value) = subst (Does head e.actor k) s.sends (act_of head front e may) in
       let row : MaySendPut k s.meta s.seq s.ts s.key s.value = sent.row in
       let first : MaySendFirst k s.meta s.seq s.ts s.key s.value → Contains (all_begun front) s.meta.id = λ f.
-          subst (λ (m : TxnMeta). Contains (all_begun front) m.id) (sym f.whose) (own-begun f.t (open_there k f.t f.opened)) in
+      subst (λ (m : TxnMeta). Contains (all_begun front) m.id) (sym f.whose) (own-begun f.t (open_there k f.t f.opened)) in
       let again : MaySendAgain k s.meta s.seq s.ts s.key s.value → Contains (all_begun front) s.meta.id = λ f.
-          subst (λ (m : TxnMeta). Contains (all_begun front) m.id) (sym f.whose.same) (own-begun f.t f.mine) in
+      subst (λ (m : TxnMeta). Contains (all_begun front) m.id) (sym f.whose.same) (own-begun f.t f.mine) in
       subst (λ i. Contains (all_begun front) i) s.whose (elim row [ inl f ↦ first f | inr f ↦ again f ])
 
 module _ (head : Head) (history : List (Entry Event)) (run : IsRun head history) where

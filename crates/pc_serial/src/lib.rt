@@ -1,5 +1,5 @@
-//! Laws of every run: its committed transactions are one legal history. Each is a function that does nothing, whose contract is the
-//! law.
+//! Laws of runs in which only puts and commits are sent: their committed transactions are one legal history. Each is a function that
+//! does nothing, whose contract is the law.
 #![tactic(auto)]
 
 mod laws;
