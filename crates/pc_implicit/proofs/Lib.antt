@@ -22,4 +22,5 @@ pub mod Points
 pub mod OwnSplit
 pub mod Clocks
 pub mod Begins
+pub mod Pieces
 pub mod Unread
