@@ -1,0 +1,25 @@
+-- Transactions that read nothing run on every map.
+use Rattle.std.proofs.Common.{◌≡◌, ℕ, Bool, false, cond, List, [], ◌∷◌, map, filter, fold, refl, sym, ap, ◌∙◌}
+use Rattle.std.specs.List.{AllByRecursion as Each}
+use Rattle.pc_base.specs.declared.transaction.TxnId.{TxnId}
+use Rattle.pc_base.specs.Span.{contains}
+use Rattle.pc_implicit.proofs.Unread.{ReadsNothing}
+use Rattle.pc_world.specs.MapRun.{IsMapRun, Map, ReadsAlong, ReadsMap, map_after}
+use Rattle.pc_world.specs.Operations.{Operation, Read, ReadAll, Write}
+
+none-passes : {X : Type 0} (test : X → Bool) (xs : List X) → ((x : X) → test x ≡ false) → filter test xs ≡ []
+none-passes test [] none = refl
+none-passes test (x ∷ xs) none = ap (λ b. cond b (x ∷ filter test xs) (filter test xs)) (none x) ∙ none-passes test xs none
+
+reads-map : (m : Map) (o : Operation) → ReadsNothing o → ReadsMap m o
+reads-map m (Write key seq value) h = tt
+reads-map m (Read key value) h = absurd h
+reads-map m (ReadAll span rows) h = h.0 ∙ sym (none-passes (λ (e : List ℕ × List ℕ). contains span e.0) m (λ e. h.1 e.0))
+
+reads-along : (m : Map) (done : List Operation) → Each ReadsNothing done → ReadsAlong m done
+reads-along m [] a = tt
+reads-along m (o ∷ os) a = (reads-map m o a.0, reads-along (map_after m o) os a.1)
+
+pub runs-on : (operations : TxnId → List Operation) → ((id : TxnId) → Each ReadsNothing (operations id)) → (m : Map) (ids : List TxnId) → IsMapRun m (map operations ids)
+runs-on operations none m [] = tt
+runs-on operations none m (id ∷ ids) = (reads-along m (operations id) (none id), runs-on operations none (fold map_after m (operations id)) ids)

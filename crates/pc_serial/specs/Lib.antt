@@ -1,0 +1,3 @@
+pub mod FirstRow
+pub mod FirstRun
+pub mod Laws
