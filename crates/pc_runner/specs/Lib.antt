@@ -1,4 +1,5 @@
 pub mod Following
+pub mod Follows
 pub mod History
 pub mod Journal
 pub mod Progress
