@@ -63,5 +63,5 @@ pub record Follows (work : Workload) (rules : ActorId → ℕ → ℕ → Bool) 
   pub sessions : head.sessions ≡ length work.sessions
   pub recoverers : head.recoverers ≡ 0
   pub each :
-    (number : ℕ) (session : SessionWork) → 1 ≤ number → slice_get work.sessions (number - 1) ≡ Some session
-    → FollowsAlone work session (rules (actors.Session number)) (actors.Session number) (own (protocol head) (actors.Session number) history) history
+      (number : ℕ) (session : SessionWork) → 1 ≤ number → slice_get work.sessions (number - 1) ≡ Some session
+      → FollowsAlone work session (rules (actors.Session number)) (actors.Session number) (own (protocol head) (actors.Session number) history) history

@@ -9,7 +9,7 @@ use Rattle.pc_proto.specs.declared.call.Call.TheVariants as calls
 use Rattle.pc_proto.specs.declared.event.Event.{Event}
 use Rattle.pc_proto.specs.declared.event.Event.TheVariants as events
 use Rattle.pc_work.specs.declared.item.Item.{Item}
-use Rattle.pc_work.specs.declared.item.Item.TheVariants as items
+use Rattle.pc_work.specs.declared.item.Item.TheVariants.{Learn, Txn}
 use Rattle.pc_work.specs.declared.statement.Statement.{Statement}
 use Rattle.pc_work.specs.declared.statement.Statement.TheVariants as statements
 
@@ -37,9 +37,9 @@ end_call false = calls.Rollback
 
 -- The calls of an item: a transaction's begin, its statements and its end; or one learn.
 abbrev pub calls_of : Item → List Call
-calls_of (items.Txn priority statements commits) =
+calls_of (Txn priority statements commits) =
     calls.Begin priority ∷ (flat_map statement_calls statements ++ end_call commits ∷ [])
-calls_of (items.Learn id) = calls.Learn id ∷ []
+calls_of (Learn id) = calls.Learn id ∷ []
 
 -- At the first call of the first of these items, or at the end where there is none.
 abbrev pub opened : List Item → ℕ → Position
