@@ -25,6 +25,7 @@ use Rattle.pc_world.specs.Known.Transactions.{Txn, meta_of}
 use Rattle.pc_world.specs.Known.Writes.{IsProvedBy, Write, last_seq_of}
 use Rattle.pc_world.specs.MaySend.{MaySendRow}
 use Rattle.pc_world.specs.MayTell.{MayTell}
+use Rattle.pc_world.specs.PutsAndCommits.{IsPutOrCommit}
 use Rattle.pc_world.specs.Send.Recovery.{is_put_of}
 use Rattle.pc_world.specs.StageFate.{EachCommit, IsRefused}
 use Rattle.pc_world.specs.Tell.Refusal.{WasMoved}
@@ -154,12 +155,6 @@ AwaitsReply k txn number (waits.Commit ts refusals) = AwaitsCommit k txn number 
 pub record Awaits (clock begun : ℕ) (txn : Option Transaction) (number : ℕ) (wait : Wait) (k : Known) : Type 0 where
   pub counted : IsCounted clock begun k
   pub reply : AwaitsReply k txn number wait
-
--- The requests that are built.
-abbrev pub IsPutOrCommit : Request → Type 0
-IsPutOrCommit (requests.Put meta seq ts key value) = Unit {0}
-IsPutOrCommit (requests.Commit meta ts locks) = Unit {0}
-IsPutOrCommit _ = ⊥
 
 -- The request may be sent: its row allows it, and none of its timestamps is past the one after the greatest that the session knows.
 pub record IsSendable (splits : List (List ℕ)) (session : ℕ) (k : Known) (request : Request) : Type 0 where
