@@ -61,7 +61,7 @@ or-unwrap (Some anchor) key = refl
 
 -- One more entry, of an actor that knows its transactions.
 module _ (head : Head) (history : List (Entry Event)) (e : Entry Event) (k : Known) (knows : Knows history e.actor k) where
-  meta-anchored : (t : Txn) (meta : TxnMeta) → Contains k.txns t → IsMetaOf t meta → anchor_in meta.id history ≡ Some meta.anchor
+  pub meta-anchored : (t : Txn) (meta : TxnMeta) → Contains k.txns t → IsMetaOf t meta → anchor_in meta.id history ≡ Some meta.anchor
   meta-anchored t meta mine whose =
       let agrees : Agrees history t = each_contained (Agrees history) k.txns t knows.agrees mine in
       ap (λ (m : TxnMeta). anchor_in m.id history) whose.same ∙ agrees.anchor ∙ whose.anchored

@@ -1,4 +1,4 @@
--- Where only puts and commits are sent, a transaction is committed at or above its begin timestamp.
+-- Where nothing is staged, a transaction is committed at or above its begin timestamp.
 use Rattle.std.proofs.Common.{◌≡◌, ℕ, ◌<◌, ◌≤◌, inl, inr, List, [], ◌∷◌, ◌++◌, filter_map, slice_get, Bool, true, false, if◌then◌else◌, Option, None, Some, Contains, refl, sym, ap, subst, ◌∙◌, arith}
 use Rattle.std.proofs.lemmas.List.{append_assoc}
 use Rattle.std.proofs.lemmas.List.Elements.{Contains-append_right, Contains-push_cases}
@@ -21,7 +21,7 @@ use Rattle.pc_implicit.proofs.Firsts.{first_push}
 use Rattle.pc_implicit.proofs.Keyed.{same-is, same-itself}
 use Rattle.pc_implicit.proofs.OwnSplit.{own_split}
 use Rattle.pc_implicit.proofs.Points.{or-first, told-what}
-use Rattle.pc_implicit.proofs.Puts.{only_front, puts_induction}
+use Rattle.pc_implicit.proofs.Sent.{unstaged_front, unstaged_induction}
 use Rattle.pc_implicit.proofs.Recorded.{WasSent}
 use Rattle.pc_proto.specs.declared.answer.Answer.TheVariants as answers
 use Rattle.pc_proto.specs.declared.event.Event.{Event}
@@ -35,7 +35,7 @@ use Rattle.pc_world.specs.Committed.{IsCommitted, anchor_in, committed_in, key_s
 use Rattle.pc_world.specs.Known.{known}
 use Rattle.pc_world.specs.Legal.{BeganAfter, TellsBegun}
 use Rattle.pc_world.specs.Local.{Head}
-use Rattle.pc_world.specs.PutsAndCommits.{OnlyPutsAndCommits}
+use Rattle.pc_world.specs.Unstaged.{NothingIsStaged}
 use Rattle.pc_world.specs.Run.{IsRun, protocol}
 
 -- The transaction was told begun, at or below this timestamp.
@@ -82,13 +82,13 @@ module _ (head : Head) where
   TellsAbove : List (Entry Event) → Type 0
   TellsAbove history = (id : TxnId) (ts : ℕ) → anchor_in id history ≡ None → told_at id history ≡ Some ts → IsAbove history id ts
 
-  tells-above : (history : List (Entry Event)) → IsRun head history → OnlyPutsAndCommits history → TellsAbove history
+  tells-above : (history : List (Entry Event)) → IsRun head history → NothingIsStaged history → TellsAbove history
   unfolding TellsAbove
-  tells-above = puts_induction head TellsAbove (λ id ts none told. absurd cc) (λ history e run only may all id ts none told.
+  tells-above = unstaged_induction head TellsAbove (λ id ts none told. absurd cc) (λ history e run only may all id ts none told.
       let before : anchor_in id history ≡ None = or-first (anchor_in id history) (key_sent id e.event) (sym (first_push (λ x. key_sent id x.event) history e) ∙ none) in
-      by history e run (only_front history (e ∷ []) only) may all id ts before (told_at id history) refl (sym (first_push (λ x. committed_in id x.event) history e) ∙ told))
+      by history e run (unstaged_front history (e ∷ []) only) may all id ts before (told_at id history) refl (sym (first_push (λ x. committed_in id x.event) history e) ∙ told))
     where
-      by : (history : List (Entry Event)) (e : Entry Event) → IsRun head history → OnlyPutsAndCommits history → MayFollow (protocol head) history e
+      by : (history : List (Entry Event)) (e : Entry Event) → IsRun head history → NothingIsStaged history → MayFollow (protocol head) history e
           → ((id : TxnId) (ts : ℕ) → anchor_in id history ≡ None → told_at id history ≡ Some ts → IsAbove history id ts)
           → (id : TxnId) (ts : ℕ) → anchor_in id history ≡ None → (o : Option ℕ) → told_at id history ≡ o → option_or (told_at id history) (committed_in id e.event) ≡ Some ts → IsAbove (history ++ e ∷ []) id ts
       by history e run only may all id ts none (Some at) before told =
@@ -108,7 +108,7 @@ module _ (head : Head) where
   unfolding SendsAbove
   above-sent history range id ts all w = subst (λ i. IsAbove history i ts) w.whose (subst (SaysAbove history) w.sends (all w.send w.listed))
 
-  says-above : (history : List (Entry Event)) → IsRun head history → OnlyPutsAndCommits history → SendsAbove history → (actor : ActorId) (event : Event) → Does head actor (known_at head actor history) event → SaysAbove history event
+  says-above : (history : List (Entry Event)) → IsRun head history → NothingIsStaged history → SendsAbove history → (actor : ActorId) (event : Event) → Does head actor (known_at head actor history) event → SaysAbove history event
   says-above history run only all actor (events.Send number range (requests.Commit meta ts locks)) may =
       let k = known_at head actor history in
       let row = may.row in
@@ -126,21 +126,21 @@ module _ (head : Head) where
       subst (λ i. IsAbove history i ts) same own
   says-above history run only all actor event may = tt
 
-  sends-above : (history : List (Entry Event)) → IsRun head history → OnlyPutsAndCommits history → SendsAbove history
+  sends-above : (history : List (Entry Event)) → IsRun head history → NothingIsStaged history → SendsAbove history
   unfolding SendsAbove
-  sends-above = puts_induction head SendsAbove (λ a there. absurd (contains_nil a there)) (λ history e run only may all a there.
+  sends-above = unstaged_induction head SendsAbove (λ a there. absurd (contains_nil a there)) (λ history e run only may all a there.
       elim (Contains-push_cases history e a there) [
         | inl before ↦ says-more history e a.event (all a before)
         | inr now ↦
             subst (λ (x : Entry Event). SaysAbove (history ++ e ∷ []) x.event) now
-            (says-more history e e.event (says-above history run (only_front history (e ∷ []) only) all e.actor e.event (act_of head history e may)))
+            (says-more history e e.event (says-above history run (unstaged_front history (e ∷ []) only) all e.actor e.event (act_of head history e may)))
       ])
 
 tells-what : (id : TxnId) (event : Event) → TellsBegun id event → (ts : ℕ) × (event ≡ events.Tell (answers.Begun id ts))
 tells-what id (events.Tell (answers.Begun other ts)) h = (ts, ap (λ i. events.Tell (answers.Begun i ts)) h)
 tells-what id event h = absurd h
 
-module _ (head : Head) (history : List (Entry Event)) (run : IsRun head history) (only : OnlyPutsAndCommits history) where
+module _ (head : Head) (history : List (Entry Event)) (run : IsRun head history) (only : NothingIsStaged history) where
   -- a committed transaction was told begun, at or below its commit timestamp
   pub committed_above_begin : (id : TxnId) (ts : ℕ) → IsCommitted head history id ts → IsAbove history id ts
   committed_above_begin id ts is =
@@ -197,7 +197,7 @@ begun-there id ts (e ∷ es) h = by (begun_told_in id e.event) refl h (begun-the
         kept None ids there = there
         kept (Some x) ids there = contains_tail x ids id there
 
--- where only puts and commits are sent, a committed transaction is one of those that were begun
-pub committed_was_begun : (head : Head) (history : List (Entry Event)) → IsRun head history → OnlyPutsAndCommits history → (id : TxnId) (ts : ℕ) → IsCommitted head history id ts → Contains (all_begun history) id
+-- where nothing is staged, a committed transaction is one of those that were begun
+pub committed_was_begun : (head : Head) (history : List (Entry Event)) → IsRun head history → NothingIsStaged history → (id : TxnId) (ts : ℕ) → IsCommitted head history id ts → Contains (all_begun history) id
 committed_was_begun head history run only id ts is =
     let above = committed_above_begin head history run only id ts is in begun-there id above.begin history above.begun

@@ -1,4 +1,4 @@
--- Where only puts and commits are sent, a session that knows of a commit knows a timestamp at or above it, and begins above that.
+-- Where nothing is staged, a session that knows of a commit knows a timestamp at or above it, and begins above that.
 use Rattle.std.proofs.Common.{◌≡◌, ℕ, ◌+◌, ◌*◌, ◌/◌, ◌^◌, ◌<◌, ◌≤◌, max, nat_lt, Bool, true, false, cond, ◌==◌, inl, inr, List, [], ◌∷◌, ◌++◌, fold, map, Option, None, Some, IfSome, Contains, refl, sym, ap, subst, ◌∙◌, arith}
 use Rattle.std.proofs.lemmas.Bool.{and_from, and_parts, eq-eqb, ltb-true}
 use Rattle.std.proofs.lemmas.Grind.{fold-append}
@@ -21,18 +21,20 @@ use Rattle.pc_implicit.proofs.Doing.{Does, told_by_row}
 use Rattle.pc_implicit.proofs.Hearing.{IsSo, as-heard, heard-event, to-list}
 use Rattle.pc_implicit.proofs.OneDecision.{told_committed}
 use Rattle.pc_implicit.proofs.OwnSplit.{own_split}
-use Rattle.pc_implicit.proofs.Puts.{only_front, only_sent}
+use Rattle.pc_implicit.proofs.Sent.{unstaged_front, unstaged_sent}
 use Rattle.pc_proto.specs.declared.answer.Answer.{Answer}
 use Rattle.pc_proto.specs.declared.answer.Answer.TheVariants as answers
 use Rattle.pc_proto.specs.declared.event.Event.{Event}
 use Rattle.pc_proto.specs.declared.event.Event.TheVariants as events
+use Rattle.pc_proto.specs.declared.reply.Origin.{Origin}
+use Rattle.pc_proto.specs.declared.reply.Origin.TheVariants as origins
 use Rattle.pc_proto.specs.declared.reply.Reply.{Reply}
 use Rattle.pc_proto.specs.declared.reply.Reply.TheVariants as replies
 use Rattle.pc_proto.specs.declared.request.Request.{Request}
 use Rattle.pc_proto.specs.declared.request.Request.TheVariants as requests
 use Rattle.pc_proto.specs.declared.view.View.TheVariants as views
-use Rattle.pc_proto.specs.Stamps.{event_stamps, reply_stamps, view_stamps}
-use Rattle.pc_world.proofs.Each.{each-append, each-map, each-weaker}
+use Rattle.pc_proto.specs.Stamps.{event_stamps, origin_stamps, reply_stamps, view_stamps}
+use Rattle.pc_world.proofs.Each.{each-append, each-flat_unmap, each-map, each-weaker}
 use Rattle.pc_world.proofs.Knowing.{known_push}
 use Rattle.pc_world.proofs.Prefixes.{run_front, run_may}
 use Rattle.pc_world.proofs.World.{names_one}
@@ -44,11 +46,11 @@ use Rattle.pc_world.specs.Known.Clock.{high_after, last_of, named_stamps}
 use Rattle.pc_world.specs.Known.Statements.{Statement}
 use Rattle.pc_world.specs.Known.Traffic.{Heard, Sent, heard_by, reply_in, reply_named, replies_to, request_sent}
 use Rattle.pc_world.specs.Known.Transactions.{Txn, txn_heard, txn_sent}
-use Rattle.pc_world.specs.Legal.{Learns, ShowsWrite, ShowsWriteHeard}
+use Rattle.pc_world.specs.Legal.{Learns, ShowsWrite, ShowsWriteHeard, Wrote}
 use Rattle.pc_world.specs.Local.{Head}
 use Rattle.pc_world.specs.MayTell.{MayTellRow}
 use Rattle.pc_world.specs.Named.{is_tell}
-use Rattle.pc_world.specs.PutsAndCommits.{IsPutOrCommit, OnlyPutsAndCommits}
+use Rattle.pc_world.specs.Unstaged.{NothingIsStaged}
 use Rattle.pc_world.specs.Run.{IsRun, protocol}
 use Rattle.pc_world.specs.Tell.Begin.{clock_now}
 use Rattle.pc_world.specs.Views.{WasCommitted, is_about, is_committed_at, view_in}
@@ -152,7 +154,7 @@ clock-rises reading high = by (nat_lt (high / 2 ^ 32) reading) refl
     by true e = let low : high / 2 ^ 32 < reading = ltb-true (high / 2 ^ 32) reading e in omega arith
     by false e = omega arith
 
-module _ (head : Head) (history : List (Entry Event)) (run : IsRun head history) (only : OnlyPutsAndCommits history) where
+module _ (head : Head) (history : List (Entry Event)) (run : IsRun head history) (only : NothingIsStaged history) where
   -- a commit that is told is at or below the session's clock
   pub told_below : (actor : ActorId) (id : TxnId) (ts : ℕ) → Does head actor (known_at head actor history) (events.Tell (answers.Committed id ts)) → ts ≤ (known_at head actor history).high
   told_below actor id ts may =
@@ -184,18 +186,43 @@ tells-what : (id : TxnId) (event : Event) → TellsCommitted id event → (ts : 
 tells-what id (events.Tell (answers.Committed other ts)) h = (ts, ap (λ i. events.Tell (answers.Committed i ts)) h)
 tells-what id event h = absurd h
 
-no-read : (head : Head) (history : List (Entry Event)) (id : TxnId) (request : Request) (reply : Reply) → IsPutOrCommit request → ShowsWrite head history id request reply → ⊥
-no-read head history id (requests.Put meta seq ts key value) reply is shows = shows
-no-read head history id (requests.Commit meta ts locks) reply is shows = shows
-no-read head history id request reply is shows = is
+-- each timestamp is at or below the greatest
+low-each : (most high : ℕ) (stamps : List ℕ) → fold (λ most ts. max most ts) most stamps ≤ high → (most ≤ high) × Each (λ ts. ts ≤ high) stamps
+low-each most high [] h = (h, tt)
+low-each most high (ts ∷ stamps) h =
+    let later = low-each (max most ts) high stamps h in
+    let greatest : max most ts ≤ high = later.0 in
+    (omega (arith, greatest), (omega (arith, greatest), later.1))
+
+module _ (head : Head) (history : List (Entry Event)) (id : TxnId) (ts high : ℕ) (is : IsCommitted head history id ts) where
+  wrote-low : (key : List ℕ) (origin : Origin) → Wrote head history id key origin → Each (λ at. at ≤ high) (origin_stamps origin) → ts ≤ high
+  wrote-low key (origins.At at) wrote low =
+      let both : Some at ≡ Some ts = sym wrote.0 ∙ is in
+      let same : at ≡ ts = cc in
+      omega (arith, low.0)
+  wrote-low key origins.Own wrote low = absurd wrote
+  wrote-low key origins.Nothing wrote low = absurd wrote
+
+  shown-low : (request : Request) (reply : Reply) → ShowsWrite head history id request reply → Each (λ at. at ≤ high) (reply_stamps reply) → ts ≤ high
+  shown-low (requests.Get other epoch seq from key) (replies.Value origin value) shows low = wrote-low key origin shows low
+  shown-low (requests.Scan other epoch seq from span) (replies.Rows rows) (n, row, inside, at, wrote) low =
+      wrote-low row.0 row.1 wrote
+      (each_contained (λ (r : List ℕ × Origin × List ℕ). Each (λ at. at ≤ high) (origin_stamps r.1)) rows row
+      (each-flat_unmap (λ at. at ≤ high) (λ (r : List ℕ × Origin × List ℕ). origin_stamps r.1) rows low) (n, inside, at))
+  shown-low request reply shows low = absurd shows
+
+  -- a value that was heard is at or below what was heard
+  heard-value-low : (h : Option Heard) → IfSome h (λ g. last_of (reply_stamps g.reply) ≤ high) → ShowsWriteHeard head history id h → ts ≤ high
+  heard-value-low None low shows = absurd shows
+  heard-value-low (Some h) low shows = shown-low h.request h.reply shows (low-each 0 high (reply_stamps h.reply) low).1
 
 -- What a session learns by its next entry.
-module _ (head : Head) (history : List (Entry Event)) (run : IsRun head history) (only : OnlyPutsAndCommits history) (front back : List (Entry Event)) (e : Entry Event) (whole : history ≡ front ++ e ∷ back) where
+module _ (head : Head) (history : List (Entry Event)) (run : IsRun head history) (only : NothingIsStaged history) (front back : List (Entry Event)) (e : Entry Event) (whole : history ≡ front ++ e ∷ back) where
   early : IsRun head front
   early = run_front head front (e ∷ back) (subst (IsRun head) whole run)
 
-  early-only : OnlyPutsAndCommits front
-  early-only = only_front front (e ∷ back) (subst OnlyPutsAndCommits whole only)
+  early-only : NothingIsStaged front
+  early-only = unstaged_front front (e ∷ back) (subst NothingIsStaged whole only)
 
   may-now : MayFollow (protocol head) front e
   may-now = run_may head front e back (subst (IsRun head) whole run)
@@ -222,10 +249,6 @@ module _ (head : Head) (history : List (Entry Event)) (run : IsRun head history)
             (and_from (x.step == step) (is_tell x.event) (eq-eqb x.step step is.at) (ap is_tell what.1)),
       )
 
-  no-value : (id : TxnId) (h : Option Heard) → IfSome h (IsSo head front e.actor) → ShowsWriteHeard head history id h → ⊥
-  no-value id None so shows = shows
-  no-value id (Some h) so shows = no-read head history id h.request h.reply (only_sent front early-only so.send so.listed h.number so.range h.request so.sends) shows
-
   learnt-now : (event : Event) → e.event ≡ event → (id : TxnId) (ts : ℕ) → Learns head history id (own (protocol head) e.actor front) event (named_in (protocol head) front event) → IsCommitted head history id ts
       → ts ≤ high_after event (named_in (protocol head) front event) (known_at head e.actor front).high
   learnt-now (events.Tell (answers.Committed other at)) same id ts learns is =
@@ -241,8 +264,10 @@ module _ (head : Head) (history : List (Entry Event)) (run : IsRun head history)
       ap (λ o. last_of (named_stamps o)) names.4 ∙ ap (λ event. last_of (event_stamps event)) names.3 in
       omega arith
   learnt-now (events.Hear number step) same id ts learns is =
-      absurd (no-value id (heard_by (events.Hear number step) (named_in (protocol head) front (events.Hear number step)) (known_at head e.actor front).sent)
-      (heard-event head front early early-only e.actor (events.Hear number step) (subst (λ event. IsCaused front event e.actor) same may-now.caused)) learns)
+      let k = known_at head e.actor front in
+      let named = named_in (protocol head) front (events.Hear number step) in
+      heard-value-low head history id ts (high_after (events.Hear number step) named k.high) is (heard_by (events.Hear number step) named k.sent)
+      (heard-low (events.Hear number step) named k.high k.sent) learns
   learnt-now event same id ts learns is = absurd learns
 
 module _ (head : Head) (history : List (Entry Event)) (run : IsRun head history) (session : ℕ) (before : List (Pair Event)) (p : Pair Event) (later : List (Pair Event)) (whole : own (protocol head) (actors.Session session) history ≡ before ++ p ∷ later) where
@@ -260,7 +285,7 @@ module _ (head : Head) (history : List (Entry Event)) (run : IsRun head history)
       omega (arith, clock-rises act.s.reading (known before).high)
 
   -- a session that learns of a commit knows a timestamp at or above it
-  pub learnt_below : OnlyPutsAndCommits history → (id : TxnId) (ts : ℕ) → Learns head history id before p.entry.event p.named → IsCommitted head history id ts → ts ≤ (known (before ++ p ∷ [])).high
+  pub learnt_below : NothingIsStaged history → (id : TxnId) (ts : ℕ) → Learns head history id before p.entry.event p.named → IsCommitted head history id ts → ts ≤ (known (before ++ p ∷ [])).high
   learnt_below only id ts learns is =
       let s = own_split (protocol head) (actors.Session session) history before p later whole in
       let mine : own (protocol head) p.entry.actor s.front ≡ before = ap (λ a. own (protocol head) a s.front) s.actor ∙ s.mine in

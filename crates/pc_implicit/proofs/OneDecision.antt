@@ -1,4 +1,4 @@
--- Where only puts and commits are sent, no two decisions differ.
+-- Where nothing is staged, no two decisions differ.
 use Rattle.std.proofs.Common.{◌≡◌, ℕ, if◌then◌else◌, inl, inr, List, [], ◌∷◌, ◌++◌, None, Some, Contains, sym, ap, subst, ◌∙◌}
 use Rattle.std.proofs.lemmas.List.{append_assoc}
 use Rattle.std.proofs.lemmas.List.Elements.{Contains-push_cases}
@@ -9,12 +9,12 @@ use Rattle.pc_base.specs.declared.transaction.TxnId.{TxnId}
 use Rattle.pc_history.proofs.Lists.{contains_nil}
 use Rattle.pc_history.specs.History.{MayFollow}
 use Rattle.pc_history.specs.Own.{named_in}
-use Rattle.pc_implicit.proofs.Commits.{act_of, decided-more, decided_is_committed, shown_decided, stays_committed, stays_push, tell_means}
+use Rattle.pc_implicit.proofs.Commits.{SendsNoRecovery, act_of, decided-more, decided_is_committed, none_recovers, shown_decided, stays_committed, stays_push, tell_means}
 use Rattle.pc_implicit.proofs.Doing.{Does}
 use Rattle.pc_implicit.proofs.Evals.{NamedMessage, of_entry}
 use Rattle.pc_implicit.proofs.Firsts.{first_push}
 use Rattle.pc_implicit.proofs.Keyed.{same-itself}
-use Rattle.pc_implicit.proofs.Puts.{only_front, only_sent, puts_induction}
+use Rattle.pc_implicit.proofs.Sent.{unstaged_front, unstaged_induction, unstaged_sent}
 use Rattle.pc_implicit.proofs.Shown.{answer_shows}
 use Rattle.pc_proto.specs.declared.answer.Answer.TheVariants as answers
 use Rattle.pc_proto.specs.declared.event.Event.{Event}
@@ -31,7 +31,7 @@ use Rattle.pc_world.specs.Decisions.{Acknowledges, AnswersCommitted, Commits, Ha
 use Rattle.pc_world.specs.Known.Traffic.{reply_in}
 use Rattle.pc_world.specs.Local.{Head}
 use Rattle.pc_world.specs.Named.{request_in, request_named}
-use Rattle.pc_world.specs.PutsAndCommits.{IsPutOrCommit, OnlyPutsAndCommits}
+use Rattle.pc_world.specs.Unstaged.{NothingIsStaged}
 use Rattle.pc_world.specs.Run.{IsRun, protocol}
 
 tells-what : (id : TxnId) (ts : ℕ) (event : Event) → TellsCommit id ts event → event ≡ events.Tell (answers.Committed id ts)
@@ -46,12 +46,12 @@ commits-what : (id : TxnId) (request : Request) → Commits id request → subje
 commits-what id (requests.Commit meta ts locks) h = ap Some h
 commits-what id request h = absurd h
 
-recovers-none : (id : TxnId) (request : Request) → Recovers id request → IsPutOrCommit request → ⊥
-recovers-none id (requests.Recover other epoch ts anchor finding) h is = is
-recovers-none id request h is = absurd h
+recovers-none : (id : TxnId) (number range : ℕ) (request : Request) → Recovers id request → SendsNoRecovery (events.Send number range request) → ⊥
+recovers-none id number range (requests.Recover other epoch ts anchor finding) h none = none
+recovers-none id number range request h none = absurd h
 
 -- One more entry of such a run.
-module _ (head : Head) (before : List (Entry Event)) (e : Entry Event) (run : IsRun head before) (may : MayFollow (protocol head) before e) (only : OnlyPutsAndCommits (before ++ e ∷ [])) where
+module _ (head : Head) (before : List (Entry Event)) (e : Entry Event) (run : IsRun head before) (may : MayFollow (protocol head) before e) (only : NothingIsStaged (before ++ e ∷ [])) where
   told-now : (id : TxnId) (ts : ℕ) → e.event ≡ events.Tell (answers.Committed id ts) → anchor_in id before ≡ None → told_at id before ≡ None → IsCommitted head (before ++ e ∷ []) id ts
   told-now id ts is none untold =
       let anchor : anchor_in id (before ++ e ∷ []) ≡ None = first_push (λ x. key_sent id x.event) before e ∙ ap (λ o. option_or o (key_sent id e.event)) none ∙ ap (key_sent id) is in
@@ -61,7 +61,7 @@ module _ (head : Head) (before : List (Entry Event)) (e : Entry Event) (run : Is
   -- what is told committed is committed
   pub tell_committed : (id : TxnId) (ts : ℕ) → e.event ≡ events.Tell (answers.Committed id ts) → IsCommitted head (before ++ e ∷ []) id ts
   tell_committed id ts is =
-      elim (tell_means head before run (only_front before (e ∷ []) only) e.actor id ts (subst (Does head e.actor (known_at head e.actor before)) is (act_of head before e may))) [
+      elim (tell_means head before run (unstaged_front before (e ∷ []) only) e.actor id ts (subst (Does head e.actor (known_at head e.actor before)) is (act_of head before e may))) [
         | inl decided ↦ decided_is_committed head (before ++ e ∷ []) id ts (decided-more head before e id ts decided)
         | inr begun ↦ told-now id ts is begun.0 begun.1
       ]
@@ -80,7 +80,7 @@ module _ (head : Head) (before : List (Entry Event)) (e : Entry Event) (run : Is
       let what = replies-what e.event a.reply a.told in
       let asked = asked-what (Commits id) ts a what.0 what.1 what.2 in
       let whole = run_push head before e run may in
-      let w = answer_shows head before e what.0 what.1 a.reply whole only may what.2 asked.0 in
+      let w = answer_shows head before e what.0 what.1 a.reply whole may what.2 asked.0 in
       let about : subject asked.0.request ≡ Some id = subst (λ r. subject r ≡ Some id) asked.1 (commits-what id a.request a.kind) in
       decided_is_committed head (before ++ e ∷ []) id ts (shown_decided head (before ++ e ∷ []) whole only what.0 what.1 asked.0.request a.reply id ts w about a.shown)
 
@@ -90,7 +90,8 @@ module _ (head : Head) (before : List (Entry Event)) (e : Entry Event) (run : Is
       let what = replies-what e.event a.reply a.told in
       let asked = asked-what (Recovers id) ts a what.0 what.1 what.2 in
       let ev = asked.0 in
-      recovers-none id a.request a.kind (subst IsPutOrCommit (sym asked.1) (only_sent before (only_front before (e ∷ []) only) ev.send ev.listed what.1 ev.range ev.request ev.sends))
+      recovers-none id what.1 ev.range ev.request (subst (Recovers id) asked.1 a.kind)
+      (subst SendsNoRecovery ev.sends (none_recovers head before run (unstaged_front before (e ∷ []) only) ev.send ev.listed))
 
   acknowledged-committed : (id : TxnId) (ts : ℕ) → Acknowledges head before id ts e → IsCommitted head (before ++ e ∷ []) id ts
   acknowledged-committed id ts a =
@@ -103,21 +104,21 @@ module _ (head : Head) (before : List (Entry Event)) (e : Entry Event) (run : Is
       ]
 
 -- a transaction that anybody was told committed is committed at that timestamp
-pub told_committed : (head : Head) (history : List (Entry Event)) → IsRun head history → OnlyPutsAndCommits history → (x : Entry Event) → Contains history x → (id : TxnId) (ts : ℕ)
+pub told_committed : (head : Head) (history : List (Entry Event)) → IsRun head history → NothingIsStaged history → (x : Entry Event) → Contains history x → (id : TxnId) (ts : ℕ)
     → x.event ≡ events.Tell (answers.Committed id ts) → IsCommitted head history id ts
 told_committed head =
-    puts_induction head (λ history. (x : Entry Event) → Contains history x → (id : TxnId) (ts : ℕ) → x.event ≡ events.Tell (answers.Committed id ts) → IsCommitted head history id ts)
+    unstaged_induction head (λ history. (x : Entry Event) → Contains history x → (id : TxnId) (ts : ℕ) → x.event ≡ events.Tell (answers.Committed id ts) → IsCommitted head history id ts)
     (λ x there. absurd (contains_nil x there)) (λ history e run only may all x there id ts is.
     elim (Contains-push_cases history e x there) [
-      | inl before ↦ stays_push head history e run (only_front history (e ∷ []) only) may id ts (all x before id ts is)
+      | inl before ↦ stays_push head history e run (unstaged_front history (e ∷ []) only) may id ts (all x before id ts is)
       | inr now ↦ tell_committed head history e run may only id ts (ap (λ (y : Entry Event). y.event) now ∙ is)
     ])
 
 -- What a history that is split at an entry has to meet.
-module _ (head : Head) (history : List (Entry Event)) (run : IsRun head history) (only : OnlyPutsAndCommits history) where
-  only-until : (before : List (Entry Event)) (e : Entry Event) (later : List (Entry Event)) → history ≡ before ++ e ∷ later → OnlyPutsAndCommits (before ++ e ∷ [])
+module _ (head : Head) (history : List (Entry Event)) (run : IsRun head history) (only : NothingIsStaged history) where
+  only-until : (before : List (Entry Event)) (e : Entry Event) (later : List (Entry Event)) → history ≡ before ++ e ∷ later → NothingIsStaged (before ++ e ∷ [])
   only-until before e later whole =
-      only_front (before ++ e ∷ []) later (subst OnlyPutsAndCommits (whole ∙ sym (append_assoc before (e ∷ []) later)) only)
+      unstaged_front (before ++ e ∷ []) later (subst NothingIsStaged (whole ∙ sym (append_assoc before (e ∷ []) later)) only)
 
   may-until : (before : List (Entry Event)) (e : Entry Event) (later : List (Entry Event)) → history ≡ before ++ e ∷ later → IsRun head before × MayFollow (protocol head) before e
   may-until before e later whole =
@@ -126,7 +127,7 @@ module _ (head : Head) (history : List (Entry Event)) (run : IsRun head history)
 
   stays-so : (front middle back : List (Entry Event)) (id : TxnId) (ts : ℕ) → history ≡ front ++ middle ++ back → IsCommitted head front id ts → IsCommitted head (front ++ middle) id ts
   stays-so front middle back id ts whole is =
-      stays_committed head front middle (run_front head (front ++ middle) back (subst (IsRun head) whole run)) (only_front (front ++ middle) back (subst OnlyPutsAndCommits whole only)) id ts is
+      stays_committed head front middle (run_front head (front ++ middle) back (subst (IsRun head) whole run)) (unstaged_front (front ++ middle) back (subst NothingIsStaged whole only)) id ts is
 
   -- no two decisions differ
   pub decisions_do_not_differ : HasOneDecision head history

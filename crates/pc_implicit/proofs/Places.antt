@@ -39,3 +39,27 @@ module _ (Q : Place → Place → Type 0) (same : (p : Place) → Q p p) (row : 
   -- what holds over each row holds of each transaction's place over each request
   pub at_place : (id : TxnId) (request : Request) (t : Table) → Q (place_of id t) (place_of id (table_after request t))
   at_place id request t = by-subject (subject request) id request t
+
+module _ (P : Place → Type 0) (request : Request) (other : TxnId) (t : Table) where
+  -- The row keeps it, where the request speaks of the transaction.
+  Keeps : Type 0
+  Keeps = subject request ≡ Some other → P (place_of other t) → P (after (place_of other t) (change request (place_of other t)))
+
+  kept-by-id : (one : TxnId) (b : Bool) → same_txn one other ≡ b → subject request ≡ Some one → Keeps → P (place_of other t) → P (place_of other (applied_to one (change request (place_of one t)) t))
+  unfolding Keeps
+  kept-by-id one true h about keeps holds =
+      let is : one ≡ other = same-is one other h in
+      let own : P (after (place_of one t) (change request (place_of one t))) =
+      subst (λ id. P (after (place_of id t) (change request (place_of id t)))) (sym is) (keeps (about ∙ ap Some is) holds) in
+      subst (λ id. P (place_of id (applied_to one (change request (place_of one t)) t))) is
+      (subst P (sym (place_after one (change request (place_of one t)) t)) own)
+  kept-by-id one false h about keeps holds = subst P (sym (place_other one other (change request (place_of one t)) t h)) holds
+
+  kept-by-subject : (one : Option TxnId) → subject request ≡ one → Keeps → P (place_of other t) → P (place_of other (table_for one request t))
+  kept-by-subject None about keeps holds = holds
+  kept-by-subject (Some one) about keeps holds = kept-by-id one (same_txn one other) refl about keeps holds
+
+  -- what the row of this request keeps holds of each transaction's place after it
+  pub place_kept : (subject request ≡ Some other → P (place_of other t) → P (after (place_of other t) (change request (place_of other t)))) → P (place_of other t) → P (place_of other (table_after request t))
+  unfolding Keeps
+  place_kept keeps holds = kept-by-subject (subject request) refl keeps holds

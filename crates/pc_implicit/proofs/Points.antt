@@ -1,4 +1,4 @@
--- Where only puts and commits are sent, one entry makes at most one transaction committed.
+-- Where nothing is staged, one entry makes at most one transaction committed.
 use Rattle.std.proofs.Common.{◌≡◌, ℕ, ◌+◌, Bool, true, false, ◌&&◌, if◌then◌else◌, inl, inr, List, [], ◌∷◌, ◌++◌, length, is_some, Option, None, Some, Contains, refl, sym, ap, subst, ◌∙◌, arith, length-append}
 use Rattle.std.proofs.lemmas.Bool.{and_from, eq-eqb}
 use Rattle.std.proofs.lemmas.List.{append_assoc, append-nil}
@@ -19,8 +19,9 @@ use Rattle.pc_implicit.proofs.Doing.{same_or_not}
 use Rattle.pc_implicit.proofs.Evals.{NamedMessage, of_entry, range_evaluates}
 use Rattle.pc_implicit.proofs.Firsts.{first_push}
 use Rattle.pc_implicit.proofs.Keyed.{same-is}
-use Rattle.pc_implicit.proofs.Places.{place_other}
-use Rattle.pc_implicit.proofs.Puts.{only_front, only_sent}
+use Rattle.pc_implicit.proofs.Made.{decided_sent, made_by_commit}
+use Rattle.pc_implicit.proofs.Places.{place_kept}
+use Rattle.pc_implicit.proofs.Sent.{unstaged_front, unstaged_sent}
 use Rattle.pc_implicit.proofs.Recorded.{IsRecorded, evaluated_state, recorded}
 use Rattle.pc_implicit.specs.Decided.{decision}
 use Rattle.pc_proto.specs.declared.answer.Answer.TheVariants as answers
@@ -32,7 +33,7 @@ use Rattle.pc_proto.specs.declared.reply.Reply.{Reply}
 use Rattle.pc_proto.specs.declared.request.Request.{Request}
 use Rattle.pc_proto.specs.declared.request.Request.TheVariants as requests
 use Rattle.pc_proto.specs.Place.{Place, Nothing, Kept, Marked}
-use Rattle.pc_proto.specs.RecordRows.{change}
+use Rattle.pc_proto.specs.RecordRows.{subject}
 use Rattle.pc_proto.specs.RecordRows.Reached.{status_of}
 use Rattle.pc_proto.specs.Table.{place_of}
 use Rattle.pc_world.proofs.Knowing.{run_push, state_other}
@@ -43,7 +44,7 @@ use Rattle.pc_world.specs.Committed.{IsCommitted, anchor_in, commit_at, commit_p
 use Rattle.pc_world.specs.Evaluation.{state_after}
 use Rattle.pc_world.specs.Local.{Head}
 use Rattle.pc_world.specs.Named.{is_send_of}
-use Rattle.pc_world.specs.PutsAndCommits.{IsPutOrCommit, OnlyPutsAndCommits}
+use Rattle.pc_world.specs.Unstaged.{NothingIsStaged}
 use Rattle.pc_world.specs.RangeOf.{range_of}
 use Rattle.pc_world.specs.RangeState.{RangeState}
 use Rattle.pc_world.specs.Run.{IsRun, protocol}
@@ -68,38 +69,33 @@ told-what id ts (events.Tell (answers.Committed other at)) h = by (same_txn othe
 told-what id ts (events.Tell answer) h = absurd cc
 told-what id ts event h = absurd cc
 
-module _ (head : Head) (front : List (Entry Event)) (e : Entry Event) (run : IsRun head front) (may : MayFollow (protocol head) front e) (only : OnlyPutsAndCommits (front ++ e ∷ [])) (id : TxnId) (none : commit_ts head front id ≡ None) where
-  recorded-before : (range epoch ts : ℕ) (p : Place) → p ≡ place_at head range id front → IsRecorded front range id p → decision p ≡ Some (status_of standings.Committed epoch ts) → ⊥
-  recorded-before range epoch ts Nothing same h decided = absurd cc
-  recorded-before range epoch ts (Kept r) same h decided =
-      let w = h.1 in
-      let anchored = commit_anchored head front run w.send w.listed w.number range w.meta r.status.ts w.locks w.sends in
-      let anchor : anchor_in id front ≡ Some w.meta.anchor = ap (λ i. anchor_in i front) (sym w.whose) ∙ anchored.anchor in
-      let there : place_at head (range_of head.splits w.meta.anchor) id front ≡ Kept r = ap (λ n. place_at head n id front) (sym anchored.there) ∙ sym same in
-      let is : commit_ts head front id ≡ Some ts =
-      ap (commit_at head front id) anchor ∙ decision_commits head front id epoch ts (place_at head (range_of head.splits w.meta.anchor) id front) (ap decision there ∙ decided) in
-      let both : None ≡ Some ts = sym none ∙ is in
-      absurd cc
-  recorded-before range epoch ts (Marked s) same h decided = absurd h
-
+module _ (head : Head) (front : List (Entry Event)) (e : Entry Event) (run : IsRun head front) (may : MayFollow (protocol head) front e) (only : NothingIsStaged (front ++ e ∷ [])) (id : TxnId) (none : commit_ts head front id ≡ None) where
   -- the range did not have it committed before
   undecided-before : (range epoch ts : ℕ) → decision (place_at head range id front) ≡ Some (status_of standings.Committed epoch ts) → ⊥
   undecided-before range epoch ts decided =
-      recorded-before range epoch ts (place_at head range id front) refl (recorded head front run (only_front front (e ∷ []) only) range id) decided
+      let w = decided_sent front range id epoch ts (place_at head range id front) (recorded head front run (unstaged_front front (e ∷ []) only) range id) decided in
+      let anchored = commit_anchored head front run w.send w.listed w.number range w.meta ts w.locks w.sends in
+      let anchor : anchor_in id front ≡ Some w.meta.anchor = ap (λ i. anchor_in i front) (sym w.whose) ∙ anchored.anchor in
+      let is : commit_ts head front id ≡ Some ts =
+      ap (commit_at head front id) anchor
+      ∙ decision_commits head front id epoch ts (place_at head (range_of head.splits w.meta.anchor) id front) (ap (λ n. decision (place_at head n id front)) (sym anchored.there) ∙ decided) in
+      let both : None ≡ Some ts = sym none ∙ is in
+      absurd cc
 
   by-commit : (range epoch ts : ℕ) (actor : ActorId) (number : ℕ) (reply : Reply) (ev : NamedMessage head front e.actor actor number reply) → e.event ≡ events.Eval actor number reply
-      → (request : Request) → IsPutOrCommit request → ev.send.event ≡ events.Send number ev.range request
-      → decision (place_of id (state_after request (state_at head ev.range front)).table) ≡ Some (status_of standings.Committed epoch ts) → Makes front e id
-  by-commit range epoch ts actor number reply ev is (requests.Put meta seq at key value) kind sends decided = absurd (undecided-before ev.range epoch ts decided)
-  by-commit range epoch ts actor number reply ev is (requests.Commit meta at locks) kind sends decided = by (same_txn meta.id id) refl
-    where
-      by : (b : Bool) → same_txn meta.id id ≡ b → Makes front e id
-      by true own = ByEvaluating actor number reply ev.send ev.range meta at locks is ev.listed ev.whose sends (same-is meta.id id own)
-      by false other =
-          let s = state_at head ev.range front in
-          let c = change (requests.Commit meta at locks) (place_of meta.id s.table) in
-          absurd (undecided-before ev.range epoch ts (ap decision (sym (place_other meta.id id c s.table other)) ∙ decided))
-  by-commit range epoch ts actor number reply ev is request kind sends decided = absurd kind
+      → decision (place_of id (state_after ev.request (state_at head ev.range front)).table) ≡ Some (status_of standings.Committed epoch ts) → Makes front e id
+  by-commit range epoch ts actor number reply ev is decided =
+      let s = state_at head ev.range front in
+      let p = place_of id s.table in
+      let unstaged = unstaged_front front (e ∷ []) only in
+      place_kept (λ q. decision q ≡ Some (status_of standings.Committed epoch ts) → Makes front e id) ev.request id s.table
+      (λ about old. made_by_commit front ev.range id epoch ts p (Makes front e id) old (recorded head front run unstaged ev.range id) ev.request
+      (unstaged_sent front unstaged ev.send ev.listed number ev.range ev.request ev.sends)
+      (λ meta at locks asked.
+      let sends : ev.send.event ≡ events.Send number ev.range (requests.Commit meta at locks) = ev.sends ∙ ap (events.Send number ev.range) asked in
+      let whose : meta.id ≡ id = let both : Some meta.id ≡ Some id = sym (ap subject asked) ∙ about in cc in
+      ByEvaluating actor number reply ev.send ev.range meta at locks is ev.listed ev.whose sends whose))
+      (λ before. absurd (undecided-before ev.range epoch ts before)) decided
 
   by-record : (range epoch ts : ℕ) → decision (place_at head range id (front ++ e ∷ [])) ≡ Some (status_of standings.Committed epoch ts) → Makes front e id
   by-record range epoch ts decided =
@@ -110,7 +106,7 @@ module _ (head : Head) (front : List (Entry Event)) (e : Entry Event) (run : IsR
             let same : ev.range ≡ range = let both = sym ev.there ∙ at in cc both in
             let there : decision (place_at head ev.range id (front ++ e ∷ [])) ≡ Some (status_of standings.Committed epoch ts) = ap (λ r. decision (place_at head r id (front ++ e ∷ []))) same ∙ decided in
             let state = evaluated_state head front e what.0 what.1 ev.range what.2 ev what.3 in
-            by-commit range epoch ts what.0 what.1 what.2 ev what.3 ev.request (only_sent front (only_front front (e ∷ []) only) ev.send ev.listed what.1 ev.range ev.request ev.sends) ev.sends
+            by-commit range epoch ts what.0 what.1 what.2 ev what.3
             (ap (λ (s : RangeState). decision (place_of id s.table)) (sym state) ∙ there)
         | inr differ ↦
             absurd (undecided-before range epoch ts (ap (λ (s : RangeState). decision (place_of id s.table)) (sym (state_other head (actors.Range range) front e differ)) ∙ decided))
@@ -194,19 +190,19 @@ module _ (head : Head) (history : List (Entry Event)) (run : IsRun head history)
   makes-more front e x back id whole (ByEvaluating actor number reply send range meta at locks b listed whose sends is) =
       ByEvaluating actor number reply send range meta at locks b (subst (λ h. Contains h send) whole (Contains-append_left front (x ∷ back) send listed)) whose sends is
 
-  made-by-point : (only : OnlyPutsAndCommits history) (id : TxnId) (n : ℕ) (p : IsPoint head history id n) → Makes history p.e id × Contains history p.e × (p.e.step + 1 ≡ n)
+  made-by-point : (only : NothingIsStaged history) (id : TxnId) (n : ℕ) (p : IsPoint head history id n) → Makes history p.e id × Contains history p.e × (p.e.step + 1 ≡ n)
   made-by-point only id n p =
       let split = subst (IsRun head) (sym p.whole) run in
       let may = run_may head p.front p.e p.back split in
       let joined : (p.front ++ p.e ∷ []) ++ p.back ≡ history = append_assoc p.front (p.e ∷ []) p.back ∙ p.whole in
-      let until = only_front (p.front ++ p.e ∷ []) p.back (subst OnlyPutsAndCommits (sym joined) only) in (
+      let until = unstaged_front (p.front ++ p.e ∷ []) p.back (subst NothingIsStaged (sym joined) only) in (
         makes-more p.front p.e p.e p.back id p.whole (makes head p.front p.e (run_front head p.front (p.e ∷ p.back) split) may until id p.before p.ts p.now),
         subst (λ h. Contains h p.e) joined (Contains-append_left (p.front ++ p.e ∷ []) p.back p.e (Contains-push p.front p.e)),
         omega (arith, may.step, p.at),
       )
 
 -- two transactions with one commit point are one
-pub commit_points_differ : (head : Head) (history : List (Entry Event)) (id other : TxnId) (ts later : ℕ) → IsRun head history → OnlyPutsAndCommits history
+pub commit_points_differ : (head : Head) (history : List (Entry Event)) (id other : TxnId) (ts later : ℕ) → IsRun head history → NothingIsStaged history
     → IsCommitted head history id ts → IsCommitted head history other later → commit_point head history id ≡ commit_point head history other → id ≡ other
 commit_points_differ head history id other ts later run only is also same =
     let p = point_of head id history ts is in

@@ -27,7 +27,7 @@ decided-if Nothing s h = grind arith
 decided-if (Kept r) s h = grind arith
 decided-if (Marked s) t h = refl
 
-removed-keeps : (p : Place) → decision (after p (remove p)) ≡ decision p
+pub removed-keeps : (p : Place) → decision (after p (remove p)) ≡ decision p
 removed-keeps Nothing = refl
 removed-keeps (Kept r) = grind arith
 removed-keeps (Marked s) = refl

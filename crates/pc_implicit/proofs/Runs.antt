@@ -1,12 +1,14 @@
 -- What a range answered stays true in a run.
 use Rattle.std.proofs.Common.{◌≡◌, ℕ, Bool, true, false, if◌then◌else◌, inl, inr, List, [], ◌∷◌, ◌++◌, Option, None, Some, refl, sym, ap, subst, ◌∙◌}
 use Rattle.std.proofs.lemmas.List.{append_assoc}
+use Rattle.pc_base.specs.declared.actor.ActorId.{ActorId}
 use Rattle.pc_base.specs.declared.actor.ActorId.TheVariants as actors
 use Rattle.pc_base.specs.declared.entry.Entry.{Entry}
 use Rattle.pc_base.specs.declared.transaction.TxnId.{TxnId}
 use Rattle.pc_history.specs.History.{MayFollow}
 use Rattle.pc_history.specs.Own.{named_in, own}
 use Rattle.pc_implicit.proofs.Bounds.{bound_goes_on}
+use Rattle.pc_implicit.proofs.Evals.{NamedMessage}
 use Rattle.pc_implicit.proofs.Lift.{over}
 use Rattle.pc_implicit.proofs.Staged.{Leaves, past-differs, staging_goes_on}
 use Rattle.pc_implicit.proofs.Views.{Stands, places_go_on, reply-view, true-on, view-true}
@@ -30,7 +32,7 @@ use Rattle.pc_world.specs.Evaluation.{reply, state_after}
 use Rattle.pc_world.specs.Known.Traffic.{reply_in}
 use Rattle.pc_world.specs.Known.Transactions.{is_final_view}
 use Rattle.pc_world.specs.Local.{Head, IsAnswer, MayComeNext, MayEvaluate}
-use Rattle.pc_world.specs.Named.{request_named}
+use Rattle.pc_world.specs.Named.{request_in, request_named}
 use Rattle.pc_world.specs.RangeState.{RangeState}
 use Rattle.pc_world.specs.Run.{IsRun, protocol}
 use Rattle.pc_world.specs.StateOf.{state_with}
@@ -62,6 +64,15 @@ told-is (events.Eval sender number answered) named s request told asked is may =
     let answer : IsAnswer (Some request) s answered = subst (λ o. IsAnswer o s answered) asked may in
     sym same ∙ answer
 told-is event named s request told asked is may = absurd cc
+
+-- an evaluation answers as the range's state and its message say
+pub reply_is : (head : Head) (history : List (Entry Event)) (e : Entry Event) (actor : ActorId) (number : ℕ) (told : Reply) → MayFollow (protocol head) history e → e.event ≡ events.Eval actor number told
+    → (ev : NamedMessage head history e.actor actor number told) → told ≡ reply ev.request (state_at head ev.range history)
+reply_is head history e actor number told may is ev =
+    let named = named_in (protocol head) history e.event in
+    let next : MayEvaluate (state_at head ev.range history) e.event named = subst (λ a. MayComeNext head a (own (protocol head) a history) e.event named) ev.there may.local.next in
+    told-is e.event named (state_at head ev.range history) ev.request told
+    (ap request_named (ap (named_in (protocol head) history) is ∙ ev.named) ∙ ap request_in ev.sends) (ap reply_in is) next
 
 -- an answer shows the place as it is after it
 pub answered : (head : Head) (range : ℕ) (id : TxnId) (view : View) (before : List (Entry Event)) (e : Entry Event) → MayFollow (protocol head) before e → Answers head before range id view e → view ≡ view_of (place_at head range id (before ++ e ∷ []))

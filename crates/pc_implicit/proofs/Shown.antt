@@ -1,6 +1,7 @@
--- Where only puts and commits are sent, what an evaluation showed of a transaction stays true, and is never a staging record.
-use Rattle.std.proofs.Common.{◌≡◌, ℕ, List, [], ◌∷◌, ◌++◌, Some, Contains, inl, inr, sym, ap, subst, ◌∙◌}
-use Rattle.std.proofs.lemmas.List.Elements.{Contains-append_left, Contains-push_cases}
+-- What an evaluation showed of a transaction stays true, and where nothing is staged it is never a staging record.
+use Rattle.std.proofs.Common.{◌≡◌, ℕ, List, [], ◌∷◌, ◌++◌, Some, Contains, inl, inr, refl, sym, ap, subst, ◌∙◌}
+use Rattle.std.proofs.lemmas.List.{append_assoc}
+use Rattle.std.proofs.lemmas.List.Elements.{Contains-append_left, Contains-push, Contains-push_cases}
 use Rattle.std.specs.Prelude.{⊤}
 use Rattle.pc_base.specs.declared.actor.ActorId.{ActorId}
 use Rattle.pc_base.specs.declared.entry.Entry.{Entry}
@@ -10,14 +11,16 @@ use Rattle.pc_history.specs.History.{MayFollow}
 use Rattle.pc_history.specs.Own.{named_in}
 use Rattle.pc_implicit.proofs.Evals.{NamedMessage, of_entry}
 use Rattle.pc_implicit.proofs.Lift.{over}
-use Rattle.pc_implicit.proofs.Puts.{puts_induction}
-use Rattle.pc_implicit.proofs.Recorded.{IsRecorded, recorded}
-use Rattle.pc_implicit.proofs.Runs.{answered}
+use Rattle.pc_implicit.proofs.Recorded.{IsBacked, IsRecorded, recorded}
+use Rattle.pc_implicit.proofs.Runs.{answered, reply_is}
+use Rattle.pc_implicit.proofs.Sent.{unstaged_front}
 use Rattle.pc_implicit.proofs.Views.{Stands, places_go_on, true-on, view-true}
 use Rattle.pc_implicit.specs.Answers.{Answers}
 use Rattle.pc_implicit.specs.Decided.{StaysTrue}
 use Rattle.pc_proto.specs.declared.event.Event.{Event}
 use Rattle.pc_proto.specs.declared.event.Event.TheVariants as events
+use Rattle.pc_proto.specs.declared.record.Standing.{Standing}
+use Rattle.pc_proto.specs.declared.record.Standing.TheVariants as standings
 use Rattle.pc_proto.specs.declared.reply.Reply.{Reply}
 use Rattle.pc_proto.specs.declared.request.Request.{Request}
 use Rattle.pc_proto.specs.declared.view.View.{View}
@@ -25,12 +28,14 @@ use Rattle.pc_proto.specs.declared.view.View.TheVariants as views
 use Rattle.pc_proto.specs.Place.{Place, Nothing, Kept, Marked, status_view, view_of}
 use Rattle.pc_proto.specs.RecordRows.{subject}
 use Rattle.pc_world.proofs.Knowing.{run_push}
-use Rattle.pc_world.specs.After.{place_at}
+use Rattle.pc_world.proofs.Prefixes.{run_induction}
+use Rattle.pc_world.specs.After.{place_at, state_at}
+use Rattle.pc_world.specs.Evaluation.{reply as reply_of}
 use Rattle.pc_world.specs.Known.Traffic.{reply_in}
 use Rattle.pc_world.specs.Local.{Head}
 use Rattle.pc_world.specs.Named.{request_in, request_named}
-use Rattle.pc_world.specs.PutsAndCommits.{OnlyPutsAndCommits}
 use Rattle.pc_world.specs.Run.{IsRun, protocol}
+use Rattle.pc_world.specs.Unstaged.{NothingIsStaged}
 use Rattle.pc_world.specs.Views.{view_in}
 
 -- The view is not that of a staging record.
@@ -38,19 +43,27 @@ abbrev pub IsUnstaged : View → Type 0
 IsUnstaged (views.Staging epoch ts writes) = ⊥
 IsUnstaged view = ⊤
 
--- The view is true of the place for good, and is not that of a staging record.
-pub record Shows (view : View) (p : Place) : Type 0 where
+-- The view is true of the place for good, and where nothing is staged it is not that of a staging record.
+pub record Shows (history : List (Entry Event)) (view : View) (p : Place) : Type 0 where
   pub stays : StaysTrue view p
-  pub unstaged : IsUnstaged view
+  pub unstaged : NothingIsStaged history → IsUnstaged view
 
--- The actor's message of this number said this, went to this range, and was answered so; what the answer shows is so.
+-- The actor's message of this number said this, went to this range, and was answered so, as the range was after some beginning of
+-- the history; what the answer shows is so.
 pub record WasAnswered (head : Head) (history : List (Entry Event)) (actor : ActorId) (number : ℕ) (request : Request) (reply : Reply) : Type 0 where
   pub range : ℕ
   pub send : Entry Event
   pub listed : Contains history send
   pub whose : send.actor ≡ actor
   pub sends : send.event ≡ events.Send number range request
-  pub shows : (id : TxnId) (view : View) → subject request ≡ Some id → view_in reply ≡ Some view → Shows view (place_at head range id history)
+  pub shows : (id : TxnId) (view : View) → subject request ≡ Some id → view_in reply ≡ Some view → Shows history view (place_at head range id history)
+  pub eval : Entry Event
+  pub evaluated : Contains history eval
+  pub told : eval.event ≡ events.Eval actor number reply
+  pub front : List (Entry Event)
+  pub back : List (Entry Event)
+  pub whole : front ++ back ≡ history
+  pub answers : reply ≡ reply_of request (state_at head range front)
 
 module _ (head : Head) where
   -- it stays so
@@ -64,19 +77,31 @@ module _ (head : Head) where
     shows = λ id view about told.
         let before = w.shows id view about told in
         let stands : Stands (place_at head w.range id history) (place_at head w.range id (history ++ e ∷ [])) = over _ (places_go_on id) head w.range history (e ∷ []) in
-        record { stays = true-on view (place_at head w.range id history) (place_at head w.range id (history ++ e ∷ [])) before.stays stands; unstaged = before.unstaged };
+        record { stays = true-on view (place_at head w.range id history) (place_at head w.range id (history ++ e ∷ [])) before.stays stands; unstaged = λ none. before.unstaged (unstaged_front history (e ∷ []) none) };
+    eval = w.eval;
+    evaluated = Contains-append_left history (e ∷ []) w.eval w.evaluated;
+    told = w.told;
+    front = w.front;
+    back = w.back ++ e ∷ [];
+    whole = sym (append_assoc w.front w.back (e ∷ [])) ∙ ap (λ h. h ++ e ∷ []) w.whole;
+    answers = w.answers;
   }
+
+  status-unstaged : (history : List (Entry Event)) (range : ℕ) (id : TxnId) (standing : Standing) (epoch ts : ℕ) (writes : List (List ℕ × ℕ)) (locks : List (List ℕ)) → IsBacked history range id ts standing → IsUnstaged (status_view standing epoch ts writes locks)
+  status-unstaged history range id standings.Pending epoch ts writes locks h = tt
+  status-unstaged history range id standings.Staging epoch ts writes locks h = absurd h
+  status-unstaged history range id standings.Committed epoch ts writes locks h = tt
+  status-unstaged history range id (standings.Aborted why) epoch ts writes locks h = tt
 
   recorded-unstaged : (history : List (Entry Event)) (range : ℕ) (id : TxnId) (p : Place) → IsRecorded history range id p → IsUnstaged (view_of p)
   recorded-unstaged history range id Nothing h = tt
-  recorded-unstaged history range id (Kept r) h =
-      subst (λ s. IsUnstaged (status_view s r.status.epoch r.status.ts r.writes r.locks)) (sym h.0) tt
-  recorded-unstaged history range id (Marked s) h = absurd h
+  recorded-unstaged history range id (Kept r) h = status-unstaged history range id r.status.standing r.status.epoch r.status.ts r.writes r.locks h
+  recorded-unstaged history range id (Marked s) h = status-unstaged history range id s.standing s.epoch s.ts [] [] h
 
   -- an evaluation's answer shows what is so after it
-  pub answer_shows : (history : List (Entry Event)) (e : Entry Event) (actor : ActorId) (number : ℕ) (reply : Reply) → IsRun head (history ++ e ∷ []) → OnlyPutsAndCommits (history ++ e ∷ []) → MayFollow (protocol head) history e
+  pub answer_shows : (history : List (Entry Event)) (e : Entry Event) (actor : ActorId) (number : ℕ) (reply : Reply) → IsRun head (history ++ e ∷ []) → MayFollow (protocol head) history e
       → e.event ≡ events.Eval actor number reply → (ev : NamedMessage head history e.actor actor number reply) → WasAnswered head (history ++ e ∷ []) actor number ev.request reply
-  answer_shows history e actor number reply run only may is ev = record {
+  answer_shows history e actor number reply run may is ev = record {
     range = ev.range;
     send = ev.send;
     listed = Contains-append_left history (e ∷ []) ev.send ev.listed;
@@ -96,22 +121,29 @@ module _ (head : Head) where
         let same : view ≡ view_of p = answered head ev.range id view history e may a in
         record {
           stays = subst (λ v. StaysTrue v p) (sym same) (view-true p);
-          unstaged = subst IsUnstaged (sym same) (recorded-unstaged (history ++ e ∷ []) ev.range id p (recorded head (history ++ e ∷ []) run only ev.range id));
+          unstaged = λ none. subst IsUnstaged (sym same) (recorded-unstaged (history ++ e ∷ []) ev.range id p (recorded head (history ++ e ∷ []) run none ev.range id));
         };
+    eval = e;
+    evaluated = Contains-push history e;
+    told = is;
+    front = history;
+    back = e ∷ [];
+    whole = refl;
+    answers = reply_is head history e actor number reply may is ev;
   }
 
   AllShown : List (Entry Event) → Type 0
   AllShown history = (x : Entry Event) → Contains history x → (actor : ActorId) (number : ℕ) (reply : Reply) → x.event ≡ events.Eval actor number reply → (request : Request) × WasAnswered head history actor number request reply
 
   -- what an evaluation showed is so
-  pub shown : (history : List (Entry Event)) → IsRun head history → OnlyPutsAndCommits history → (x : Entry Event) → Contains history x → (actor : ActorId) (number : ℕ) (reply : Reply) → x.event ≡ events.Eval actor number reply
+  pub shown : (history : List (Entry Event)) → IsRun head history → (x : Entry Event) → Contains history x → (actor : ActorId) (number : ℕ) (reply : Reply) → x.event ≡ events.Eval actor number reply
       → (request : Request) × WasAnswered head history actor number request reply
   unfolding AllShown
-  shown = puts_induction head AllShown (λ x there. absurd (contains_nil x there)) (λ history e run only may all x there actor number reply is.
+  shown = run_induction head AllShown (λ x there. absurd (contains_nil x there)) (λ history e run may all x there actor number reply is.
       elim (Contains-push_cases history e x there) [
         | inl before ↦ let old = all x before actor number reply is in (old.0, answered_more history e actor number old.0 reply old.1)
         | inr now ↦
             let this : e.event ≡ events.Eval actor number reply = ap (λ (y : Entry Event). y.event) now ∙ is in
             let ev = of_entry head history e actor number reply run may this in
-            (ev.request, answer_shows history e actor number reply (run_push head history e run may) only may this ev)
+            (ev.request, answer_shows history e actor number reply (run_push head history e run may) may this ev)
       ])

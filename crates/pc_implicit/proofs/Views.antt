@@ -1,6 +1,9 @@
 -- A view that a range answered stays true of it.
 use Rattle.std.proofs.Common.{◌≡◌, ℕ, Bool, true, false, if◌then◌else◌, List, [], Option, None, Some, refl, sym, ap, subst, ◌∙◌, arith}
+use Rattle.std.specs.Option.{option_map_or}
 use Rattle.pc_base.specs.declared.transaction.TxnId.{TxnId}
+use Rattle.pc_base.specs.Transaction.{same_txn}
+use Rattle.pc_implicit.proofs.Keyed.{same-is}
 use Rattle.pc_implicit.proofs.Lift.{GoesOn}
 use Rattle.pc_implicit.proofs.Places.{at_place, place_after}
 use Rattle.pc_implicit.proofs.Rows.{decision-row, not-below-itself, rises-row}
@@ -119,3 +122,8 @@ reply-view (requests.Push holder by level now goal) s id view is h = from-answer
 reply-view (requests.Recover other epoch ts anchor finding) s id view is h = from-answer other id (requests.Recover other epoch ts anchor finding) s.table view is h
 reply-view (requests.Remove other anchor) s id view is h = from-answer other id (requests.Remove other anchor) s.table view is h
 reply-view request s id view is h = absurd cc
+
+-- what speaks of a transaction's record has it for its subject
+pub subject-is : (id : TxnId) (o : Option TxnId) → option_map_or (λ other. same_txn other id) o false ≡ true → o ≡ Some id
+subject-is id None h = absurd cc
+subject-is id (Some other) h = ap Some (same-is other id h)

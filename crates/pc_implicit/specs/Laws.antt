@@ -1,4 +1,4 @@
--- Laws of runs: what a range decided stays decided; and where only puts and commits are sent, no two decisions differ.
+-- Laws of runs: what a range decided stays decided; and where nothing is staged, no two decisions differ.
 use Rattle.std.specs.Prelude.{◌≡◌, ℕ, true, false, Some, List, ◌∷◌, ◌++◌}
 use Rattle.pc_base.specs.declared.entry.Entry.{Entry}
 use Rattle.pc_base.specs.declared.transaction.TxnId.{TxnId}
@@ -13,7 +13,7 @@ use Rattle.pc_world.specs.Committed.{IsCommitted, commit_point}
 use Rattle.pc_world.specs.Decisions.{HasOneDecision}
 use Rattle.pc_world.specs.Known.Transactions.{is_final_view}
 use Rattle.pc_world.specs.Local.{Head}
-use Rattle.pc_world.specs.PutsAndCommits.{OnlyPutsAndCommits}
+use Rattle.pc_world.specs.Unstaged.{NothingIsStaged}
 use Rattle.pc_world.specs.Run.{IsRun}
 
 -- A decision stands: a final record or mark keeps its status for good.
@@ -58,14 +58,14 @@ FinalViewsStay =
     → Answers head before range id one e → Answers head (before ++ e ∷ between) range id other f
     → is_final_view one ≡ true → (is_final_view other ≡ true) × Agree one other
 
--- Where only puts and commits are sent, no two decisions differ.
+-- Where nothing is staged, no two decisions differ.
 abbrev pub DecisionsDoNotDiffer : Type 0
 DecisionsDoNotDiffer =
-    (head : Head) (history : List (Entry Event)) → IsRun head history → OnlyPutsAndCommits history → HasOneDecision head history
+    (head : Head) (history : List (Entry Event)) → IsRun head history → NothingIsStaged history → HasOneDecision head history
 
--- Where only puts and commits are sent, one entry makes at most one transaction committed.
+-- Where nothing is staged, one entry makes at most one transaction committed.
 abbrev pub CommitPointsDiffer : Type 0
 CommitPointsDiffer =
     (head : Head) (history : List (Entry Event)) (id other : TxnId) (ts later : ℕ)
-    → IsRun head history → OnlyPutsAndCommits history → IsCommitted head history id ts → IsCommitted head history other later
+    → IsRun head history → NothingIsStaged history → IsCommitted head history id ts → IsCommitted head history other later
     → commit_point head history id ≡ commit_point head history other → id ≡ other

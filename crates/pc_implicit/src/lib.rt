@@ -1,4 +1,4 @@
-//! Laws of runs: what was decided stays decided, and where only puts and commits are sent, no two decisions differ. Each is a function
+//! Laws of runs: what was decided stays decided, and where nothing is staged, no two decisions differ. Each is a function
 //! that does nothing, whose contract is the law.
 #![tactic(auto)]
 

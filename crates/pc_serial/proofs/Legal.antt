@@ -1,5 +1,5 @@
--- Where only puts and commits are sent, the committed transactions are one legal history.
-use Rattle.std.proofs.Common.{◌≡◌, ℕ, List, [], ◌∷◌, ◌++◌, inl, Contains, sym, subst, ◌∙◌}
+-- Where nothing is staged, the commit order is that of the committed transactions, and where nothing is read or put, it is legal.
+use Rattle.std.proofs.Common.{◌≡◌, ℕ, List, [], ◌∷◌, ◌++◌, ◌⊎◌, inl, inr, Contains, sym, subst, ◌∙◌}
 use Rattle.std.proofs.lemmas.List.{append-nil, append_assoc}
 use Rattle.std.proofs.lemmas.List.Elements.{All-from_recursion}
 use Rattle.pc_base.specs.declared.entry.Entry.{Entry}
@@ -7,11 +7,12 @@ use Rattle.pc_base.specs.declared.transaction.TxnId.{TxnId}
 use Rattle.pc_implicit.proofs.Begins.{committed_above}
 use Rattle.pc_implicit.proofs.OneDecision.{decisions_do_not_differ}
 use Rattle.pc_implicit.proofs.Points.{commit_points_differ}
+use Rattle.pc_implicit.proofs.Unput.{finds_nothing}
 use Rattle.pc_implicit.proofs.Unread.{reads_nothing}
 use Rattle.pc_proto.specs.declared.event.Event.{Event}
 use Rattle.pc_serial.proofs.Begun.{between, committed-begun}
 use Rattle.pc_serial.proofs.Order.{PointsDiffer, order-committed, order-sorted, stands-before, stands-once}
-use Rattle.pc_serial.proofs.Serial.{runs-on}
+use Rattle.pc_serial.proofs.Serial.{runs-empty, runs-on}
 use Rattle.pc_serial.specs.Laws.{OrdersCommits, StandsOnce}
 use Rattle.pc_world.specs.CommitOrder.{Rank, commit_order}
 use Rattle.pc_world.specs.Committed.{IsCommitted}
@@ -19,17 +20,20 @@ use Rattle.pc_world.specs.Decisions.{HasOneDecision, TellsCommit}
 use Rattle.pc_world.specs.Legal.{IsLegal, committed_in_order}
 use Rattle.pc_world.specs.Local.{Head}
 use Rattle.pc_world.specs.Operations.{operations_of}
-use Rattle.pc_world.specs.PutsAndCommits.{OnlyPutsAndCommits}
 use Rattle.pc_world.specs.Run.{IsRun}
+use Rattle.pc_world.specs.Unstaged.{NothingIsPut, NothingIsRead, NothingIsStaged}
 
-module _ (head : Head) (history : List (Entry Event)) (run : IsRun head history) (only : OnlyPutsAndCommits history) where
+module _ (head : Head) (history : List (Entry Event)) (run : IsRun head history) (only : NothingIsStaged history) where
   differ : PointsDiffer head history
   differ id other ts later is also same = commit_points_differ head history id other ts later run only is also same
 
   -- the history is legal
-  pub is-legal : IsLegal head history
-  is-legal = record {
-    serial = runs-on (operations_of history) (reads_nothing head history run only) [] (committed_in_order head history);
+  pub is-legal : NothingIsRead history ⊎ NothingIsPut history → IsLegal head history
+  is-legal kind = record {
+    serial = elim kind [
+      | inl unread ↦ runs-on (operations_of history) (reads_nothing head history run unread) [] (committed_in_order head history)
+      | inr unput ↦ runs-empty (operations_of history) (finds_nothing head history run unput) (committed_in_order head history)
+    ];
     in_order = λ id other ts later is also after.
         stands-before head history differ id other ts later (committed-begun head history run id ts is) (committed-begun head history run other later also) is also
         (committed_above head history run only id other ts later after is also);

@@ -16,7 +16,6 @@ pub mod Local
 pub mod MayTell
 pub mod Named
 pub mod Operations
-pub mod PutsAndCommits
 pub mod RangeOf
 pub mod RangeState
 pub mod Run
@@ -26,4 +25,5 @@ pub mod StageFate
 pub mod Stamps
 pub mod StateOf
 pub mod Tell
+pub mod Unstaged
 pub mod Views

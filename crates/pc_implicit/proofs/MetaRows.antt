@@ -1,0 +1,331 @@
+-- What is so of the transaction and anchor of each meta in a range and in a request stays so over evaluation, and is so in the reply.
+use Rattle.std.proofs.Common.{◌≡◌, ℕ, Bool, true, false, ◌&&◌, ◌==◌, not, nat_le, cond, if◌then◌else◌, inl, inr, List, [], ◌∷◌, filter, fold, map, Option, None, Some, IfSome, refl, sym, ap, subst, ◌∙◌}
+use Rattle.std.specs.Prelude.{⊤}
+use Rattle.std.specs.BTreeMap.{insert_entry}
+use Rattle.std.specs.declared.cmp.Ordering.{Ordering}
+use Rattle.std.specs.declared.cmp.Ordering.TheVariants.{Less, Equal, Greater}
+use Rattle.std.specs.List.{AllByRecursion as Each}
+use Rattle.std.specs.Option.{option_map_or}
+use Rattle.std.specs.Ordering.{match_ordering}
+use Rattle.pc_base.specs.declared.span.Span.{Span}
+use Rattle.pc_base.specs.declared.transaction.TxnId.{TxnId}
+use Rattle.pc_base.specs.declared.transaction.Who.{Who}
+use Rattle.pc_base.specs.Keyed.{at, in_order}
+use Rattle.pc_base.specs.Span.{contains, key_below, same_key}
+use Rattle.pc_base.specs.Transaction.{same_txn, txn_cmp}
+use Rattle.pc_proto.specs.declared.fate.Fate.{Fate}
+use Rattle.pc_proto.specs.declared.fate.Fate.TheVariants as fates
+use Rattle.pc_proto.specs.declared.fate.Finding.{Finding}
+use Rattle.pc_proto.specs.declared.fate.Goal.{Goal}
+use Rattle.pc_proto.specs.declared.fate.Goal.TheVariants as goals
+use Rattle.pc_proto.specs.declared.meta.TxnMeta.{TxnMeta}
+use Rattle.pc_proto.specs.declared.record.Intent.{Intent}
+use Rattle.pc_proto.specs.declared.record.Record.{Record}
+use Rattle.pc_proto.specs.declared.record.Standing.TheVariants as standings
+use Rattle.pc_proto.specs.declared.record.Status.{Status}
+use Rattle.pc_proto.specs.declared.reply.Origin.{Origin}
+use Rattle.pc_proto.specs.declared.reply.Reply.{Reply}
+use Rattle.pc_proto.specs.declared.reply.Reply.TheVariants as replies
+use Rattle.pc_proto.specs.declared.request.Request.{Request}
+use Rattle.pc_proto.specs.declared.request.Request.TheVariants as requests
+use Rattle.pc_proto.specs.Intents.{first_other, fresh, grown, intent_at, kept_if, lesser_key, other_at, own_at}
+use Rattle.pc_proto.specs.Place.{Place, Nothing, Kept, Marked, Change, Stay, Become, Finish, after, is_decided, is_final, view_of}
+use Rattle.pc_proto.specs.RecordRows.{change, push_reply, subject, table_for}
+use Rattle.pc_proto.specs.RecordRows.Abort.{abort}
+use Rattle.pc_proto.specs.RecordRows.Beat.{beat}
+use Rattle.pc_proto.specs.RecordRows.Commit.{commit}
+use Rattle.pc_proto.specs.RecordRows.Push.{Verdict, There, Refuse, Doubt, Do, on_verdict, push, pushed, verdict}
+use Rattle.pc_proto.specs.RecordRows.Reached.{activity_of, alive_at, at_epoch, is_reached, is_staged_at, status_of}
+use Rattle.pc_proto.specs.RecordRows.Records.{listed}
+use Rattle.pc_proto.specs.RecordRows.Recover.{decided, recover}
+use Rattle.pc_proto.specs.RecordRows.Remove.{remove}
+use Rattle.pc_proto.specs.RecordRows.Stage.{stage}
+use Rattle.pc_proto.specs.Table.{Table, applied_to, place_of, record_or_mark, records_after}
+use Rattle.pc_world.proofs.Each.{each-at, each-choose, each-filter, each-map, each-set_at, each-without}
+use Rattle.pc_world.specs.Evaluation.{intents_after, reply, state_after}
+use Rattle.pc_world.specs.Evaluation.Get.{found_at, get_blocker, get_reply}
+use Rattle.pc_world.specs.Evaluation.IntentChange.{IntentChange, Leave, Lay, Drop, intents_with}
+use Rattle.pc_world.specs.Evaluation.Put.{PutOutcome, Meets, Stands, Lands, first_outcome, laid, overtaken, own_outcome, put_change, put_outcome, put_reply, write_ts}
+use Rattle.pc_world.specs.Evaluation.Query.{stands}
+use Rattle.pc_world.specs.Evaluation.Refresh.{refresh_reply, refuter_in}
+use Rattle.pc_world.specs.Evaluation.Resolve.{change_for, settled}
+use Rattle.pc_world.specs.Evaluation.Scan.{rows_in, scan_reply}
+use Rattle.pc_world.specs.RangeState.{RangeState}
+
+-- The transaction and the anchor that a request names.
+abbrev pub anchor_named : Request → Option (TxnId × List ℕ)
+anchor_named (requests.Put meta seq ts key value) = Some (meta.id, meta.anchor)
+anchor_named (requests.Beat meta ts now) = Some (meta.id, meta.anchor)
+anchor_named (requests.Stage meta ts now writes locks) = Some (meta.id, meta.anchor)
+anchor_named (requests.Commit meta ts locks) = Some (meta.id, meta.anchor)
+anchor_named (requests.Abort meta why locks) = Some (meta.id, meta.anchor)
+anchor_named (requests.Push holder by level now goal) = Some (holder.id, holder.anchor)
+anchor_named (requests.Recover id epoch ts anchor finding) = Some (id, anchor)
+anchor_named (requests.Remove id anchor) = Some (id, anchor)
+anchor_named _ = None
+
+-- The meta's transaction has its anchor.
+abbrev pub MetaHas : (TxnId → List ℕ → Type 0) → TxnMeta → Type 0
+MetaHas Has meta = Has meta.id meta.anchor
+
+-- So has the transaction that the request names.
+abbrev pub RequestHas : (TxnId → List ℕ → Type 0) → Request → Type 0
+RequestHas Has request = IfSome (anchor_named request) (λ n. Has n.0 n.1)
+
+-- So has each holder, and each transaction that is listed.
+abbrev pub ReplyHas : (TxnId → List ℕ → Type 0) → Reply → Type 0
+ReplyHas Has (replies.Conflict holder ts key) = MetaHas Has holder
+ReplyHas Has (replies.Listed metas) = Each (MetaHas Has) metas
+ReplyHas Has reply = ⊤
+
+-- So has the transaction of each intent and record.
+pub record StateHas (Has : TxnId → List ℕ → Type 0) (s : RangeState) : Type 0 where
+  pub intents : Each (λ e. MetaHas Has e.1.meta) s.intents
+  pub records : Each (λ e. MetaHas Has e.1.meta) s.table.records
+
+some-kept : {A : Type 0} (P : A → Type 0) (test : A → Bool) (o : Option A) → IfSome o P → IfSome (kept_if test o) P
+some-kept P test None h = tt
+some-kept P test (Some x) h = by (test x)
+  where
+    by : (b : Bool) → IfSome (if b then Some x else None) P
+    by true = h
+    by false = tt
+
+module _ {K V : Type 0} (P : V → Type 0) (cmp : K → K → Ordering) where
+  each-insert : (key : K) (value : V) (entries : List (K × V)) → P value → Each (λ e. P e.1) entries → Each (λ e. P e.1) (insert_entry cmp entries key value)
+  each-insert key value [] h a = (h, tt)
+  each-insert key value (e ∷ es) h a = by (cmp key e.0) (each-insert key value es h a.1)
+    where
+      by : (o : Ordering) → Each (λ e. P e.1) (insert_entry cmp es key value) → Each (λ e. P e.1) (match_ordering o ((key, value) ∷ e ∷ es) ((e.0, value) ∷ es) (e ∷ insert_entry cmp es key value))
+      by Less rest = (h, a)
+      by Equal rest = (h, a.1)
+      by Greater rest = (a.0, rest)
+
+  each-ordered : (sorted entries : List (K × V)) → Each (λ e. P e.1) sorted → Each (λ e. P e.1) entries → Each (λ e. P e.1) (fold (λ (sorted : List (K × V)) (e : K × V). insert_entry cmp sorted e.0 e.1) sorted entries)
+  each-ordered sorted [] a b = a
+  each-ordered sorted (e ∷ es) a b = each-ordered (insert_entry cmp sorted e.0 e.1) es (each-insert e.0 e.1 sorted b.0 a) b.1
+
+module _ (Has : TxnId → List ℕ → Type 0) where
+  Own : Intent → Type 0
+  Own i = Has i.meta.id i.meta.anchor
+
+  -- What a change lays is so.
+  Lays : IntentChange → Type 0
+  Lays (Lay i) = Own i
+  Lays Leave = ⊤
+  Lays Drop = ⊤
+
+  found : (test : Intent → Bool) (key : List ℕ) (intents : List (List ℕ × Intent)) → Each (λ e. MetaHas Has e.1.meta) intents → IfSome (kept_if test (intent_at key intents)) Own
+  unfolding Own
+  found test key intents a = some-kept Own test (intent_at key intents) (each-at Own same_key key intents a)
+
+  with-change : (key : List ℕ) (c : IntentChange) (intents : List (List ℕ × Intent)) → Lays c → Each (λ e. MetaHas Has e.1.meta) intents → Each (λ e. MetaHas Has e.1.meta) (intents_with key c intents)
+  unfolding Lays Own
+  with-change key Leave intents h a = a
+  with-change key (Lay i) intents h a = each-set_at Own same_key key i intents h a
+  with-change key Drop intents h a = each-without Own same_key key intents a
+
+  laid-has : (meta : TxnMeta) (seq ts : ℕ) (value : Option (List ℕ)) (own : Option Intent) → MetaHas Has meta → IfSome own Own → Own (laid meta seq ts value own)
+  unfolding Own
+  laid-has meta seq ts value None h a = h
+  laid-has meta seq ts value (Some i) h a = by (i.meta.epoch == meta.epoch)
+    where
+      by : (b : Bool) → Own (if b then grown seq ts value i else fresh meta seq ts value)
+      by true = a
+      by false = h
+
+  own-lays : (meta : TxnMeta) (seq ts : ℕ) (key : List ℕ) (value : Option (List ℕ)) (own : Option Intent) (s : RangeState) → MetaHas Has meta → IfSome own Own → Lays (put_change (own_outcome meta seq ts key value own s))
+  unfolding Lays
+  own-lays meta seq ts key value own s h a = by (overtaken meta seq own) (laid meta seq (write_ts meta ts key own s) value own) (laid-has meta seq (write_ts meta ts key own s) value own h a)
+    where
+      by : (b : Bool) (i : Intent) → Own i → Lays (put_change (if b then Stands (option_map_or (λ j. j.ts) own 0) else Lands i))
+      by true i is = tt
+      by false i is = is
+
+  put-lays : (other : Option Intent) (outcome : PutOutcome) → Lays (put_change outcome) → Lays (put_change (first_outcome other outcome))
+  unfolding Lays
+  put-lays None outcome h = h
+  put-lays (Some i) outcome h = tt
+
+  settled-lays : (fate : Fate) (own : Option Intent) → IfSome own Own → Lays (change_for fate own)
+  unfolding Lays Own
+  settled-lays fate None a = tt
+  settled-lays (fates.Committed epoch ts) (Some i) a = tt
+  settled-lays fates.Aborted (Some i) a = tt
+  settled-lays (fates.Pending ts) (Some i) a = a
+
+  intents-have : (request : Request) (s : RangeState) → RequestHas Has request → Each (λ e. MetaHas Has e.1.meta) s.intents → Each (λ e. MetaHas Has e.1.meta) (intents_after request s)
+  intents-have (requests.Put meta seq ts key value) s h a =
+      with-change key (put_change (put_outcome meta seq ts key value s)) s.intents
+      (put-lays (other_at meta.id key s.intents) (own_outcome meta seq ts key value (own_at meta.id key s.intents) s)
+      (own-lays meta seq ts key value (own_at meta.id key s.intents) s h (found (λ i. same_txn i.meta.id meta.id) key s.intents a))) a
+  intents-have (requests.Resolve id key fate) s h a =
+      with-change key (change_for fate (own_at id key s.intents)) s.intents
+      (settled-lays fate (own_at id key s.intents) (found (λ i. same_txn i.meta.id id) key s.intents a)) a
+  intents-have request s h a = a
+
+  -- The meta of the record there is so.
+  PlaceHas : Place → Type 0
+  PlaceHas (Kept r) = MetaHas Has r.meta
+  PlaceHas Nothing = ⊤
+  PlaceHas (Marked s) = ⊤
+
+  -- The meta of the record that a change makes is so.
+  Makes : Change → Type 0
+  Makes (Become r) = MetaHas Has r.meta
+  Makes Stay = ⊤
+  Makes (Finish s) = ⊤
+
+  makes-either : (b : Bool) (c d : Change) → Makes c → Makes d → Makes (if b then c else d)
+  makes-either true c d x y = x
+  makes-either false c d x y = y
+
+  beat-makes : (meta : TxnMeta) (ts now : ℕ) (p : Place) → MetaHas Has meta → PlaceHas p → Makes (beat meta ts now p)
+  unfolding Makes PlaceHas
+  beat-makes meta ts now Nothing h a = h
+  beat-makes meta ts now (Kept r) h a = a
+  beat-makes meta ts now (Marked s) h a = tt
+
+  push-makes : (holder : TxnMeta) (by : Who) (goal : Goal) (v : Verdict) (p : Place) → MetaHas Has holder → Makes (on_verdict v (pushed holder by goal p))
+  unfolding Makes
+  push-makes holder by goal There p h = tt
+  push-makes holder by goal Refuse p h = tt
+  push-makes holder by goal Doubt p h = tt
+  push-makes holder by goals.Abort Do p h = h
+  push-makes holder by (goals.Move target) Do p h = h
+
+  decided-makes : (finding : Finding) (p : Place) → PlaceHas p → Makes (decided finding p)
+  unfolding Makes PlaceHas
+  decided-makes finding Nothing a = tt
+  decided-makes finding (Kept r) a = a
+  decided-makes finding (Marked s) a = tt
+
+  remove-makes : (p : Place) → Makes (remove p)
+  unfolding Makes
+  remove-makes Nothing = tt
+  remove-makes (Kept r) = makes-either (is_final r.status.standing) (Finish r.status) Stay tt tt
+  remove-makes (Marked s) = tt
+
+  change-makes : (request : Request) (p : Place) → RequestHas Has request → PlaceHas p → Makes (change request p)
+  unfolding Makes
+  change-makes (requests.Beat meta ts now) p h a = makes-either (is_decided p) Stay (beat meta ts now p) tt (beat-makes meta ts now p h a)
+  change-makes (requests.Stage meta ts now writes locks) p h a =
+      makes-either (is_decided p) Stay (stage meta ts now writes locks p) tt
+      (makes-either (is_reached p meta.epoch ts && not (is_staged_at p meta.epoch ts))
+      (Become (record { meta = meta; status = status_of standings.Staging meta.epoch ts; activity = alive_at p now; writes = writes; locks = locks })) Stay h tt)
+  change-makes (requests.Commit meta ts locks) p h a =
+      makes-either (is_decided p) Stay (commit meta ts locks p) tt
+      (makes-either (is_reached p meta.epoch ts)
+      (Become (record { meta = meta; status = status_of standings.Committed meta.epoch ts; activity = activity_of p meta.born; writes = []; locks = locks })) Stay h tt)
+  change-makes (requests.Abort meta why locks) p h a = makes-either (is_decided p) Stay (abort meta why locks p) tt h
+  change-makes (requests.Push holder by level now goal) p h a =
+      makes-either (is_decided p) Stay (push holder by level now goal p) tt (push-makes holder by goal (verdict holder level now goal p) p h)
+  change-makes (requests.Recover id epoch ts anchor finding) p h a =
+      makes-either (is_decided p) Stay (recover epoch ts finding p) tt (makes-either (is_staged_at p epoch ts) (decided finding p) Stay (decided-makes finding p a) tt)
+  change-makes (requests.Remove id anchor) p h a = remove-makes p
+  change-makes request p h a = tt
+
+  OwnRecord : Record → Type 0
+  OwnRecord r = Has r.meta.id r.meta.anchor
+
+  place-has : (o : Option Record) (mark : Option Status) → IfSome o OwnRecord → PlaceHas (record_or_mark o mark)
+  unfolding PlaceHas OwnRecord
+  place-has (Some r) mark a = a
+  place-has None (Some s) a = tt
+  place-has None None a = tt
+
+  records-with : (id : TxnId) (c : Change) (records : List (TxnId × Record)) → Makes c → Each (λ e. MetaHas Has e.1.meta) records → Each (λ e. MetaHas Has e.1.meta) (records_after id c records)
+  unfolding Makes OwnRecord
+  records-with id Stay records h a = a
+  records-with id (Become r) records h a = each-set_at OwnRecord same_txn id r records h a
+  records-with id (Finish s) records h a = each-without OwnRecord same_txn id records a
+
+  records-for : (one : Option TxnId) (request : Request) (t : Table) → RequestHas Has request → Each (λ e. MetaHas Has e.1.meta) t.records → Each (λ e. MetaHas Has e.1.meta) (table_for one request t).records
+  unfolding OwnRecord
+  records-for None request t h a = a
+  records-for (Some id) request t h a =
+      records-with id (change request (place_of id t)) t.records
+      (change-makes request (place_of id t) h (place-has (at same_txn id t.records) (at same_txn id t.marks) (each-at OwnRecord same_txn id t.records a))) a
+
+  -- over evaluation
+  pub state_has : (request : Request) (s : RangeState) → RequestHas Has request → StateHas Has s → StateHas Has (state_after request s)
+  state_has request s h a = record { intents = intents-have request s h a.intents; records = records-for (subject request) request s.table h a.records }
+
+  get-has : (blocker : Option Intent) (key : List ℕ) (what : Origin × Option (List ℕ)) → IfSome blocker Own → ReplyHas Has (get_reply blocker key what)
+  unfolding Own
+  get-has None key what a = tt
+  get-has (Some i) key what a = a
+
+  OwnEntry : List ℕ × Intent → Type 0
+  OwnEntry e = Has e.1.meta.id e.1.meta.anchor
+
+  lesser-has : (best : Option (List ℕ × Intent)) (e : List ℕ × Intent) → IfSome best OwnEntry → OwnEntry e → IfSome (lesser_key best e) OwnEntry
+  lesser-has None e h a = a
+  lesser-has (Some best) e h a = by (key_below e.0 best.0)
+    where
+      by : (b : Bool) → IfSome (if b then Some e else Some best) OwnEntry
+      by true = a
+      by false = h
+
+  scan-has : (blocker : Option (List ℕ × Intent)) (rows : List (List ℕ × Origin × List ℕ)) → IfSome blocker OwnEntry → ReplyHas Has (scan_reply blocker rows)
+  unfolding OwnEntry
+  scan-has None rows a = tt
+  scan-has (Some e) rows a = a
+
+  put-has : (key : List ℕ) (other : Option Intent) (meta : TxnMeta) (seq ts : ℕ) (value : Option (List ℕ)) (own : Option Intent) (s : RangeState) → IfSome other Own → ReplyHas Has (put_reply key (first_outcome other (own_outcome meta seq ts key value own s)))
+  unfolding Own
+  put-has key (Some i) meta seq ts value own s a = a
+  put-has key None meta seq ts value own s a = by (overtaken meta seq own)
+    where
+      by : (b : Bool) → ReplyHas Has (put_reply key (if b then Stands (option_map_or (λ j. j.ts) own 0) else Lands (laid meta seq (write_ts meta ts key own s) value own)))
+      by true = tt
+      by false = tt
+
+  refresh-has : (w : Option (List ℕ × ℕ)) → ReplyHas Has (refresh_reply w)
+  refresh-has None = tt
+  refresh-has (Some w) = tt
+
+  reply-either : (b : Bool) (r q : Reply) → ReplyHas Has r → ReplyHas Has q → ReplyHas Has (if b then r else q)
+  reply-either true r q x y = x
+  reply-either false r q x y = y
+
+  push-has : (v : Verdict) (before later : Place) → ReplyHas Has (push_reply v before later)
+  push-has There before later = tt
+  push-has Refuse before later = tt
+  push-has Doubt before later = tt
+  push-has Do before later = tt
+
+  at-epochs : (records : List (TxnId × Record)) → Each (λ e. MetaHas Has e.1.meta) records → Each (λ (e : TxnId × TxnMeta). Has e.1.id e.1.anchor) (map (λ (e : TxnId × Record). (e.0, at_epoch e.1.status.epoch e.1.meta)) records)
+  at-epochs [] a = tt
+  at-epochs (e ∷ es) a = (a.0, at-epochs es a.1)
+
+  seconds : (es : List (TxnId × TxnMeta)) → Each (λ (e : TxnId × TxnMeta). Has e.1.id e.1.anchor) es → Each (MetaHas Has) (map (λ (e : TxnId × TxnMeta). e.1) es)
+  seconds [] a = tt
+  seconds (e ∷ es) a = (a.0, seconds es a.1)
+
+  listed-has : (records : List (TxnId × Record)) → Each (λ e. MetaHas Has e.1.meta) records → Each (MetaHas Has) (listed records)
+  listed-has records a =
+      seconds (in_order txn_cmp (map (λ (e : TxnId × Record). (e.0, at_epoch e.1.status.epoch e.1.meta)) records))
+      (each-ordered (λ (m : TxnMeta). Has m.id m.anchor) txn_cmp [] (map (λ (e : TxnId × Record). (e.0, at_epoch e.1.status.epoch e.1.meta)) records) tt (at-epochs records a))
+
+  -- and in the reply
+  pub reply_has : (request : Request) (s : RangeState) → StateHas Has s → ReplyHas Has (reply request s)
+  unfolding OwnEntry Own
+  reply_has (requests.Get id epoch seq ts key) s a =
+      get-has (get_blocker id ts key s) key (found_at id epoch seq ts key s)
+      (some-kept Own (λ i. nat_le i.ts ts) (other_at id key s.intents) (found (λ i. not (same_txn i.meta.id id)) key s.intents a.intents))
+  reply_has (requests.Scan id epoch seq ts span) s a =
+      scan-has (first_other span ts id s.intents) (rows_in id epoch seq ts span s)
+      (each-choose OwnEntry lesser_key lesser-has None (filter (λ e. contains span e.0 && (nat_le e.1.ts ts && not (same_txn e.1.meta.id id))) s.intents) tt
+      (each-filter OwnEntry (λ e. contains span e.0 && (nat_le e.1.ts ts && not (same_txn e.1.meta.id id))) s.intents a.intents))
+  reply_has (requests.Put meta seq ts key value) s a =
+      put-has key (other_at meta.id key s.intents) meta seq ts value (own_at meta.id key s.intents) s (found (λ i. not (same_txn i.meta.id meta.id)) key s.intents a.intents)
+  reply_has (requests.Refresh id from to span) s a = refresh-has (refuter_in id from to span s)
+  reply_has (requests.Query id epoch seq ts key by) s a = reply-either (stands id epoch seq ts key s) replies.Found replies.Missing tt tt
+  reply_has (requests.Push holder by level now goal) s a =
+      let p = place_of holder.id s.table in
+      reply-either (is_decided p) (replies.Status (view_of p)) (push_reply (verdict holder level now goal p) p (after p (push holder by level now goal p))) tt
+      (push-has (verdict holder level now goal p) p (after p (push holder by level now goal p)))
+  reply_has (requests.Remove id anchor) s a = let p = place_of id s.table in reply-either (is_decided p) replies.Removed (replies.Status (view_of p)) tt tt
+  reply_has requests.Records s a = listed-has s.table.records a.records
+  reply_has request s a = tt
