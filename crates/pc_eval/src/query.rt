@@ -30,7 +30,7 @@ impl RangeState {
     }
 
     /// Whether the listed write stands at its key.
-    fn stands(&self, id: TxnId, epoch: u32, seq: u32, ts: Timestamp, key: &Key) -> bool
+    pub fn stands(&self, id: TxnId, epoch: u32, seq: u32, ts: Timestamp, key: &Key) -> bool
         ensures { result ≡ stands id epoch seq ts key.now self.now }
     {
         own_at(&self.intents, id, key).is_some_and(|own| is_it(own, epoch, seq, ts))

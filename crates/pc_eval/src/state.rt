@@ -1,13 +1,16 @@
 ghost use Rattle.std.specs.Prelude.{◌≡◌, IfOk, OnOk, OnErr};
+ghost use Rattle.std.specs.Option.{option_copied};
+ghost use Rattle.pc_base.specs.Keyed.{at};
+ghost use Rattle.pc_base.specs.Transaction.{same_txn};
 ghost use Rattle.pc_world.specs.RangeState.{no_state};
 ghost use Rattle.pc_world.specs.Stamps.{HasRoom};
 ghost use Rattle.pc_world.specs.Evaluation.{reply, state_after};
 
 use crate::record_rows;
 use crate::table::Table;
-use pc_base::{Key, NoMemory, Version};
+use pc_base::{Key, NoMemory, TxnId, Version};
 use pc_bound::Bound;
-use pc_proto::{Intent, Reply, Request};
+use pc_proto::{Intent, Record, Reply, Request, Status};
 use std::alloc::Global;
 use std::marker::Model;
 
@@ -40,6 +43,20 @@ impl RangeState {
             bound: Bound::new(),
             table: Table::new(alloc),
         }
+    }
+
+    /// The transaction's record, if the range keeps it.
+    pub fn record(&self, id: TxnId) -> Option<&Record>
+        ensures { option_copied result ≡ at same_txn id self.now.table.records }
+    {
+        self.table.record(id)
+    }
+
+    /// What the transaction's record said when it was removed.
+    pub fn mark(&self, id: TxnId) -> Option<&Status>
+        ensures { option_copied result ≡ at same_txn id self.now.table.marks }
+    {
+        self.table.mark(id)
     }
 
     /// Answers a request, and becomes what the request makes of the range.

@@ -1,4 +1,7 @@
 ghost use Rattle.std.specs.Prelude.{◌≡◌, IfOk, OnOk, OnErr};
+ghost use Rattle.std.specs.Option.{option_copied};
+ghost use Rattle.pc_base.specs.Keyed.{at};
+ghost use Rattle.pc_base.specs.Transaction.{same_txn};
 ghost use Rattle.pc_proto.specs.Place.{Finish, after, view_of};
 ghost use Rattle.pc_proto.specs.RecordRows.Records.{listed};
 ghost use Rattle.pc_proto.specs.Table.{applied_to, no_table, place_of};
@@ -41,11 +44,25 @@ impl Table {
         *self.records.allocator()
     }
 
+    /// The transaction's record.
+    pub(crate) fn record(&self, id: TxnId) -> Option<&Record>
+        ensures { option_copied result ≡ at same_txn id self.now.records }
+    {
+        at(&self.records, &id)
+    }
+
+    /// The mark that the transaction's removed record left.
+    pub(crate) fn mark(&self, id: TxnId) -> Option<&Status>
+        ensures { option_copied result ≡ at same_txn id self.now.marks }
+    {
+        at(&self.marks, &id)
+    }
+
     /// What the range has of a transaction.
     pub(crate) fn place(&self, id: TxnId) -> Place<'_>
         ensures { result ≡ place_of id self.now }
     {
-        Place::new(at(&self.records, &id), at(&self.marks, &id))
+        Place::new(self.record(id), self.mark(id))
     }
 
     /// Writes a transaction's record, where there is one to write, and tells what stands there then.

@@ -1,1 +1,6 @@
 pub mod Report
+pub mod ReportOf
+pub mod Replaying
+pub mod Ordering
+pub mod Writing
+pub mod Rows

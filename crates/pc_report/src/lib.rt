@@ -1,10 +1,12 @@
 //! The report of a history: what was committed, what became of every other transaction, and the map in the end.
 #![tactic(auto)]
 
-mod commits;
 mod outcome;
 mod print;
+mod replay;
 mod rows;
+mod tables;
+mod writes;
 
 pub use outcome::report;
 pub use print::print_report;

@@ -1,17 +1,36 @@
-use crate::commits::{Commit, begun, shown_commit, shown_view};
+ghost use Rattle.std.specs.Prelude.{◌≡◌, ℕ, ◌+◌, ◌^◌, ◌<◌, [], IfOk, OnOk, fold, length, map};
+ghost use Rattle.std.specs.Cmp.Lexicographic.{slice_cmp};
+ghost use Rattle.std.specs.Ordering.{nat_cmp};
+ghost use Rattle.pc_base.specs.Keyed.{in_order};
+ghost use Rattle.pc_report.specs.Ordering.{given, order_in, other_in, others_in, placed};
+ghost use Rattle.pc_report.specs.ReportOf.{IsRunOver, other_row, report_of};
+ghost use Rattle.pc_report.specs.Rows.{last_puts, map_with_put, map_with_puts, row_of};
+ghost use Rattle.pc_world.specs.CommitOrder.{begun_in};
+ghost use Rattle.pc_world.specs.Local.{Head};
+
+use crate::replay::{Rank, Replay, replayed};
 use crate::rows::{
     CommittedRow, CommittedRows, Ending, LastWrites, MapRows, OtherRow, OtherRows, Report,
 };
+use crate::tables::insert;
+use crate::writes::{Put, Writes, written};
 use pc_base::{Entry, Items, Key, NoMemory, TryCopy, TxnId, Value};
-use pc_proto::{Answer, Event, Keys, Request, TxnMeta, View};
+use pc_proto::{Answer, Event, Keys};
 use std::alloc::Global;
 use std::collections::BTreeMap;
 
 /// The report of a history over ranges with these splits.
-pub fn report(alloc: Global, _splits: &Keys, entries: &[Entry<Event>]) -> Result<Report, NoMemory> {
-    let committed = committed_rows(alloc, entries)?;
-    let others = other_rows(alloc, entries, &committed)?;
-    let map = map_rows(alloc, &committed)?;
+pub fn report(alloc: Global, splits: &Keys, entries: &[Entry<Event>]) -> Result<Report, NoMemory>
+    requires few { length splits.now + 1 < 2 ^ 32 }
+    requires run { IsRunOver splits.now entries.now }
+    ensures { IfOk result (λ report. (head : Head) → head.splits ≡ splits.now → report ≡ report_of head entries.now) }
+{
+    let replay = replayed(alloc, splits, entries)?;
+    let writes = written(alloc, entries)?;
+    let order = commit_order(alloc, splits, entries, &replay)?;
+    let committed = committed_rows(alloc, &order, &writes)?;
+    let others = other_rows(alloc, splits, entries, &replay)?;
+    let map = map_rows(alloc, &order, &writes)?;
     Ok(Report {
         committed,
         others,
@@ -19,126 +38,147 @@ pub fn report(alloc: Global, _splits: &Keys, entries: &[Entry<Event>]) -> Result
     })
 }
 
-fn committed_rows(alloc: Global, entries: &[Entry<Event>]) -> Result<CommittedRows, NoMemory> {
-    let mut rows: Vec<CommittedRow> = Vec::new(alloc);
-    for entry in entries {
-        if let Some(commit) = shown_commit(entry, entries)
-            && !rows.iter().any(|row| row.id == commit.id)
-        {
-            rows.push(committed_row(alloc, commit, entries)?)?;
-        }
-    }
-    rows.sort_by_key(|row| row.ts)?;
-    Ok(Items::from_vec(rows))
-}
-
-fn committed_row(
+/// The committed transactions, by timestamp and then by commit point.
+fn commit_order(
     alloc: Global,
-    commit: Commit,
+    splits: &Keys,
     entries: &[Entry<Event>],
-) -> Result<CommittedRow, NoMemory> {
-    let mut last = BTreeMap::new(alloc);
+    replay: &Replay,
+) -> Result<Vec<(Rank, TxnId)>, NoMemory>
+    requires { length splits.now + 1 < 2 ^ 32 }
+    ensures { IfOk result (λ order. order.items ≡ order_in splits.now replay.now entries.now) }
+{
+    let mut order = BTreeMap::new(alloc);
     for entry in entries {
-        if let Event::Send {
-            request: Request::Put {
-                meta,
-                key,
-                value,
-                ..
-            },
-            ..
-        } = &entry.event
-            && is_of(meta, commit)
-        {
-            last.insert(key.copy()?, value.copy()?)?;
-        }
+        insert(&mut order, placed(splits, replay, &entry.event))?;
     }
-    Ok(CommittedRow {
-        id: commit.id,
-        ts: commit.ts,
-        writes: listed(alloc, last)?,
-    })
+    Ok(order.into_iter().collect(alloc)?)
 }
 
-fn is_of(meta: &TxnMeta, commit: Commit) -> bool {
-    meta.id == commit.id && meta.epoch == commit.epoch
+/// The transaction that was begun, with its place in the order, if it is committed.
+fn placed(splits: &Keys, replay: &Replay, event: &Event) -> Option<(Rank, TxnId)>
+    requires { length splits.now + 1 < 2 ^ 32 }
+    ensures { result ≡ given (placed splits.now replay.now) (begun_in event.now) }
+{
+    let id = begun(event)?;
+    let rank = replay.rank(splits, id)?;
+    Some((rank, id))
 }
 
-fn listed<V: Drop>(alloc: Global, map: BTreeMap<Key, V>) -> Result<Items<(Key, V)>, NoMemory> {
+/// The transaction that the event tells begun.
+fn begun(event: &Event) -> Option<TxnId>
+    ensures { result ≡ begun_in event.now }
+{
+    match event {
+        Event::Tell(Answer::Begun { id, .. }) => Some(*id),
+        _ => None,
+    }
+}
+
+fn committed_rows(
+    alloc: Global,
+    order: &[(Rank, TxnId)],
+    writes: &Writes,
+) -> Result<CommittedRows, NoMemory>
+    ensures { IfOk result (λ rows. rows ≡ map (row_of writes.now) order.now) }
+{
     let mut rows = Items::new(alloc);
-    for (key, value) in map {
-        rows.add((key, value))?;
+    for (rank, id) in order {
+        rows.add(CommittedRow {
+            id: *id,
+            ts: rank.ts,
+            writes: last_writes(alloc, writes.of(*id))?,
+        })?;
     }
     Ok(rows)
 }
 
+/// The last write of each key, in key order.
+fn last_writes(alloc: Global, puts: &[Put]) -> Result<LastWrites, NoMemory>
+    ensures { IfOk result (λ last. last ≡ last_puts puts.now) }
+{
+    let mut last = BTreeMap::new(alloc);
+    for put in puts {
+        last.insert(put.key.copy()?, put.value.copy()?)?;
+    }
+    Ok(Items::from_vec(last.into_iter().collect(alloc)?))
+}
+
 fn other_rows(
     alloc: Global,
+    splits: &Keys,
     entries: &[Entry<Event>],
-    committed: &CommittedRows,
-) -> Result<OtherRows, NoMemory> {
-    let mut rows = Vec::new(alloc);
+    replay: &Replay,
+) -> Result<OtherRows, NoMemory>
+    requires { length splits.now + 1 < 2 ^ 32 }
+    ensures { IfOk result (λ rows. rows ≡ map other_row (others_in splits.now replay.now entries.now)) }
+{
+    let mut rows = Items::new(alloc);
+    for (id, ending) in others(alloc, splits, entries, replay)? {
+        rows.add(OtherRow { id, ending })?;
+    }
+    Ok(rows)
+}
+
+/// The transactions that are not committed, by session and number.
+fn others(
+    alloc: Global,
+    splits: &Keys,
+    entries: &[Entry<Event>],
+    replay: &Replay,
+) -> Result<BTreeMap<TxnId, Ending>, NoMemory>
+    requires { length splits.now + 1 < 2 ^ 32 }
+    ensures { IfOk result (λ others. others.entries ≡ others_in splits.now replay.now entries.now) }
+{
+    let mut others = BTreeMap::new(alloc);
     for entry in entries {
-        if let Some(id) = begun(entry)
-            && !committed.as_slice().iter().any(|row| row.id == id)
-        {
-            let ending = ending(id, entries)?;
-            rows.push(OtherRow { id, ending })?;
+        insert(&mut others, other(splits, replay, &entry.event)?)?;
+    }
+    Ok(others)
+}
+
+/// The transaction that was begun, with its ending, unless it is committed.
+fn other(splits: &Keys, replay: &Replay, event: &Event) -> Result<Option<(TxnId, Ending)>, NoMemory>
+    requires { length splits.now + 1 < 2 ^ 32 }
+    ensures { IfOk result (λ other. other ≡ given (other_in splits.now replay.now) (begun_in event.now)) }
+{
+    match begun(event) {
+        Some(id) if replay.commit(splits, id).is_none() => {
+            Ok(Some((id, replay.ending(splits, id)?)))
         }
+        _ => Ok(None),
     }
-    rows.sort_by_key(|row| row.id)?;
-    Ok(Items::from_vec(rows))
 }
 
-/// By the last that its record showed, or else by what its session was told.
-fn ending(id: TxnId, entries: &[Entry<Event>]) -> Result<Ending, NoMemory> {
-    let mut ending = Ending::NoRecord;
-    for entry in entries {
-        if let Some((of, view)) = shown_view(entry, entries)
-            && of == id
-        {
-            ending = ending_of(view)?;
+/// The map after all committed transactions, one after another in their order.
+fn map_rows(alloc: Global, order: &[(Rank, TxnId)], writes: &Writes) -> Result<MapRows, NoMemory>
+    ensures { IfOk result (λ rows. rows ≡ fold (map_with_puts writes.now) [] order.now) }
+{
+    let mut map = BTreeMap::new(alloc);
+    for (_, id) in order {
+        apply(&mut map, writes.of(*id))?;
+    }
+    Ok(Items::from_vec(map.into_iter().collect(alloc)?))
+}
+
+fn apply(map: &mut BTreeMap<Key, Value>, puts: &[Put]) -> Result<(), NoMemory>
+    ensures { OnOk result (map.new.entries ≡ fold map_with_put map.old.entries puts.now) }
+{
+    for put in puts {
+        write(map, put)?;
+    }
+    Ok(())
+}
+
+fn write(map: &mut BTreeMap<Key, Value>, put: &Put) -> Result<(), NoMemory>
+    ensures { OnOk result (map.new.entries ≡ map_with_put map.old.entries put.now) }
+{
+    match &put.value {
+        Some(value) => {
+            map.insert(put.key.copy()?, value.copy()?)?;
         }
-    }
-    if let Ending::Aborted(_) = &ending {
-        return Ok(ending);
-    }
-    for entry in entries {
-        if let Event::Tell(Answer::RolledBack { id: of, why }) = &entry.event
-            && *of == id
-        {
-            return Ok(Ending::Aborted(why.copy()?));
-        }
-    }
-    Ok(ending)
-}
-
-fn ending_of(view: &View) -> Result<Ending, NoMemory> {
-    match view {
-        View::Nothing | View::Committed { .. } => Ok(Ending::NoRecord),
-        View::Pending { .. } => Ok(Ending::Pending),
-        View::Staging { .. } => Ok(Ending::Staging),
-        View::Aborted { why, .. } => Ok(Ending::Aborted(why.copy()?)),
-    }
-}
-
-fn map_rows(alloc: Global, committed: &CommittedRows) -> Result<MapRows, NoMemory> {
-    let mut map: BTreeMap<Key, Value> = BTreeMap::new(alloc);
-    for row in committed.as_slice() {
-        apply(&mut map, &row.writes)?;
-    }
-    listed(alloc, map)
-}
-
-fn apply(map: &mut BTreeMap<Key, Value>, writes: &LastWrites) -> Result<(), NoMemory> {
-    for (key, value) in writes.as_slice() {
-        match value {
-            Some(value) => {
-                map.insert(key.copy()?, value.copy()?)?;
-            }
-            None => {
-                map.remove(key);
-            }
+        None => {
+            map.remove(&put.key);
         }
     }
     Ok(())

@@ -1,0 +1,276 @@
+-- What was kept of a history, one entry further, and what it says.
+use Rattle.std.proofs.Common.{◌≡◌, ◌≢◌, ℕ, ◌+◌, ◌^◌, ◌<◌, ◌≤◌, Bool, true, false, cond, Contains, List, [], ◌∷◌, ◌++◌, length, take, drop, Option, None, Some, refl, sym, ap, subst, ◌∙◌, arith, slice_get, slice_index_or, slice_set, length-append, ◌⊎◌, inl, inr}
+use Rattle.std.proofs.lemmas.Grind.{common_steps}
+use Rattle.std.proofs.lemmas.List.{get_or-set_other, get_or-set_same, length-set}
+use Rattle.std.proofs.lemmas.Bool.{cases_eq}
+use Rattle.std.proofs.lemmas.List.Sums.{count_by-le-length}
+use Rattle.std.proofs.lemmas.Option.{slice_get-get_or, slice_get_within}
+use Rattle.std.specs.BTreeMap.{BTreeMap}
+use Rattle.std.specs.List.{filter, filter_map, list_all}
+use Rattle.std.specs.Option.{is_some, unwrap_or}
+use Rattle.pc_base.specs.declared.actor.ActorId.{ActorId}
+use Rattle.pc_base.specs.declared.actor.ActorId.TheVariants as actors
+use Rattle.pc_base.specs.declared.entry.Entry.{Entry}
+use Rattle.pc_base.specs.declared.transaction.TxnId.{TxnId}
+use Rattle.pc_base.specs.Span.{key_at_most}
+use Rattle.pc_base.specs.Transaction.{same_txn}
+use Rattle.pc_history.proofs.Ids.{same_id-equal, same_id-true}
+use Rattle.pc_history.specs.declared.pair.Pair.{Pair}
+use Rattle.pc_history.specs.Own.{named_in, own, pair, pairs_after, same_id}
+use Rattle.pc_proto.specs.declared.event.Event.{Event}
+use Rattle.pc_proto.specs.declared.request.Request.{Request}
+use Rattle.pc_proto.specs.Place.{Place, Nothing, Kept, Marked}
+use Rattle.pc_proto.specs.Table.{place_of}
+use Rattle.pc_implicit.proofs.Keyed.{same-is}
+use Rattle.pc_report.proofs.Intents.{is_one}
+use Rattle.pc_report.proofs.Naming.{asked_there}
+use Rattle.pc_report.proofs.Points.{point_push, point_stays, point_start}
+use Rattle.pc_report.proofs.RowLists.{take_next}
+use Rattle.pc_report.proofs.Staying.{commit_stays, first_none, first_push}
+use Rattle.pc_report.specs.declared.replay.Replay.{Replay}
+use Rattle.pc_report.specs.ReportOf.{IsRunOver, ending_at, ending_of, rolled_back, rolled_back_in}
+use Rattle.pc_report.specs.ReportOf.{ending_from as ending_in_history}
+use Rattle.pc_report.specs.Replaying.{AreBlank, AreStates, HasRoomAt, HasRoomFor, Holds, IsPoint, IsReplayOf, IsSomeRun, Notes, after_eval, asked_in, commit_from, commit_in, commit_of_place, ending_from, ending_in, first_of, held, is_present_in, only_for, committed_one, over, place_in, point_for, PointsFollow, state_in, states_after, touched_in}
+use Rattle.pc_world.proofs.Kept.{run_has_room}
+use Rattle.pc_world.proofs.Knowing.{state_other, state_same}
+use Rattle.pc_world.proofs.Prefixes.{run_front, run_take}
+use Rattle.pc_world.specs.After.{place_at, state_at}
+use Rattle.pc_world.specs.Committed.{anchor_in, commit_at, commit_by, commit_ts, committed_in, is_present, key_sent, told_at}
+use Rattle.pc_world.specs.Committed.{commit_in as commit_in_history}
+use Rattle.pc_world.specs.Evaluation.{state_after}
+use Rattle.pc_world.specs.Evaluation.Query.{stands}
+use Rattle.pc_world.specs.Local.{Head}
+use Rattle.pc_world.specs.Named.{request_in}
+use Rattle.pc_world.specs.RangeOf.{range_of}
+use Rattle.pc_world.specs.RangeState.{RangeState, no_state}
+use Rattle.pc_world.specs.Run.{IsRun, protocol}
+use Rattle.pc_world.specs.Stamps.{HasRoom}
+use Rattle.pc_world.specs.StateOf.{state_of, state_with}
+
+-- what ranges are doesn't depend on who else takes part
+same-pairs : (head other : Head) (before entries : List (Entry Event)) → pairs_after (protocol head) before entries ≡ pairs_after (protocol other) before entries
+same-pairs head other before [] = refl
+same-pairs head other before (e ∷ es) = ap (λ ps. pair e (named_in (protocol head) before e.event) ∷ ps) (same-pairs head other (before ++ e ∷ []) es)
+
+pub same_states : (head other : Head) (range : ℕ) (history : List (Entry Event)) → state_at head range history ≡ state_at other range history
+same_states head other range history =
+    ap (λ ps. state_of (filter (λ p. same_id (actors.Range range) p.entry.actor) ps)) (same-pairs head other [] history)
+
+set-same : {A : Type 0} (xs : List A) (i : ℕ) (a b : A) → slice_get xs i ≡ Some b → slice_get (slice_set xs i a) i ≡ Some a
+set-same xs i a b h =
+    let within : i < length xs = slice_get_within xs i b h in
+    slice_get-get_or (slice_set xs i a) i a (omega (arith, length-set xs i a)) ∙ ap Some (get_or-set_same xs i a a within)
+
+set-other : {A : Type 0} (xs : List A) (i j : ℕ) (a b : A) → j ≢ i → slice_get xs j ≡ Some b → slice_get (slice_set xs i a) j ≡ Some b
+set-other xs i j a b apart h =
+    let within : j < length xs = slice_get_within xs j b h in
+    let at : Some b ≡ Some _ = sym h ∙ slice_get-get_or xs j a within in
+    slice_get-get_or (slice_set xs i a) j a (omega (arith, length-set xs i a)) ∙ ap Some (get_or-set_other xs i j a a apart) ∙ sym at
+
+module _ (splits : List (List ℕ)) (history : List (Entry Event)) (e : Entry Event) where
+  next-same : (range : ℕ) → e.actor ≡ actors.Range range → state_at (over splits) range (history ++ e ∷ []) ≡ state_with (asked_in history e.event) (state_at (over splits) range history)
+  next-same range same = state_same (over splits) (actors.Range range) history e same
+
+  next-other : (range : ℕ) → e.actor ≢ actors.Range range → state_at (over splits) range (history ++ e ∷ []) ≡ state_at (over splits) range history
+  next-other range apart = state_other (over splits) (actors.Range range) history e apart
+
+  module _ (states : List RangeState) (old : AreStates splits history states) where
+    kept : (range : ℕ) → range ≤ length splits → e.actor ≢ actors.Range range → slice_get states range ≡ Some (state_at (over splits) range (history ++ e ∷ []))
+    kept range le apart = old.each range le ∙ ap Some (sym (next-other range apart))
+
+    unasked : (range : ℕ) → range ≤ length splits → e.actor ≡ actors.Range range → asked_in history e.event ≡ None → slice_get states range ≡ Some (state_at (over splits) range (history ++ e ∷ []))
+    unasked range le same none =
+        let now = next-same range same ∙ ap (λ asked. state_with asked (state_at (over splits) range history)) none in
+        old.each range le ∙ ap Some (sym now)
+
+    answered : (range : ℕ) (request : Request) → range ≤ length splits → e.actor ≡ actors.Range range → asked_in history e.event ≡ Some request → slice_get (after_eval states range request) range ≡ Some (state_at (over splits) range (history ++ e ∷ []))
+    answered range request le same is =
+        let was : state_in states range ≡ state_at (over splits) range history = ap (λ o. unwrap_or o no_state) (old.each range le) in
+        let now = next-same range same ∙ ap (λ asked. state_with asked (state_at (over splits) range history)) is in
+        set-same states range (state_after request (state_in states range)) (state_at (over splits) range history) (old.each range le)
+        ∙ ap Some (ap (state_after request) was ∙ sym now)
+
+    elsewhere : (range other : ℕ) (request : Request) → range ≤ length splits → e.actor ≢ actors.Range range → range ≢ other → slice_get (after_eval states other request) range ≡ Some (state_at (over splits) range (history ++ e ∷ []))
+    elsewhere range other request le apart differ =
+        set-other states other range (state_after request (state_in states other)) (state_at (over splits) range (history ++ e ∷ [])) differ (kept range le apart)
+
+    pub states_next : AreStates splits (history ++ e ∷ []) (states_after states e.actor (asked_in history e.event))
+    states_next = by e.actor (asked_in history e.event) refl refl
+      where
+        not-range : (a b : ℕ) → e.actor ≡ actors.Range a → b ≢ a → e.actor ≢ actors.Range b
+        not-range a b is differ same = differ (range-number (sym same ∙ is))
+          where
+            number-of : ActorId → ℕ
+            number-of (actors.Range n) = n
+            number-of (actors.Session n) = n
+            number-of (actors.Recoverer n) = n
+
+            range-number : actors.Range b ≡ actors.Range a → b ≡ a
+            range-number h = ap number-of h
+
+        by : (actor : ActorId) (asked : Option Request) → e.actor ≡ actor → asked_in history e.event ≡ asked → AreStates splits (history ++ e ∷ []) (states_after states actor asked)
+        by (actors.Range a) (Some request) is q = record {
+          count = length-set states a (state_after request (state_in states a)) ∙ old.count;
+          each = λ range le. elim (cases_eq range a) [
+            | inl same ↦ subst (λ x. slice_get (after_eval states x request) range ≡ Some (state_at (over splits) range (history ++ e ∷ []))) same (answered range request le (is ∙ ap actors.Range (sym same)) q)
+            | inr differ ↦ elsewhere range a request le (not-range a range is differ) differ
+          ];
+        }
+        by (actors.Range a) None is q = record {
+          count = old.count;
+          each = λ range le. elim (cases_eq range a) [
+            | inl same ↦ unasked range le (is ∙ ap actors.Range (sym same)) q
+            | inr differ ↦ kept range le (not-range a range is differ)
+          ];
+        }
+        by (actors.Session a) asked is q = record { count = old.count; each = λ range le. kept range le (λ same. absurd cc) }
+        by (actors.Recoverer a) asked is q = record { count = old.count; each = λ range le. kept range le (λ same. absurd cc) }
+
+    -- there is room for what was asked
+    pub room : IsRunOver splits (history ++ e ∷ []) → length history ≤ 2 ^ 64 → HasRoomFor states e.actor (asked_in history e.event)
+    room run short = by e.actor (asked_in history e.event) refl
+      where
+        by : (actor : ActorId) (asked : Option Request) → asked_in history e.event ≡ asked → HasRoomFor states actor asked
+        by (actors.Range a) (Some request) q = λ s at.
+            let within : a < length states = slice_get_within states a s at in
+            let le : a ≤ length splits = omega (arith, old.count) in
+            let here : Some (state_at (over splits) a history) ≡ Some s = sym (old.each a le) ∙ at in
+            let is : state_at (over splits) a history ≡ s = cc in
+            let there = asked_there history e.event request q in
+            subst (HasRoom request) (same_states run.head (over splits) a history ∙ is)
+            (run_has_room run.head (actors.Range a) history there.0 request (run_front run.head history (e ∷ []) run.run) short there.1 there.2)
+        by (actors.Range a) None q = tt
+        by (actors.Session a) asked q = tt
+        by (actors.Recoverer a) asked q = tt
+
+-- what was kept says when a transaction is committed, and how one ended
+module _ (splits : List (List ℕ)) (history : List (Entry Event)) (r : Replay) (states : AreStates splits history r.states.items) (anchors : Holds r.anchors (λ id. anchor_in id history)) (id : TxnId) where
+  state-means : (key : List ℕ) → state_in r.states.items (range_of splits key) ≡ state_at (over splits) (range_of splits key) history
+  state-means key = ap (λ o. unwrap_or o no_state) (states.each (range_of splits key) (count_by-le-length (λ split. key_at_most split key) splits))
+
+  place-means : (anchor : List ℕ) → place_in splits r.states.items anchor id ≡ place_at (over splits) (range_of splits anchor) id history
+  place-means anchor = ap (λ s. place_of id s.table) (state-means anchor)
+
+  place-commits : (p : Place) → commit_of_place splits r.states.items id p ≡ commit_in_history (over splits) history id p
+  place-commits Nothing = refl
+  place-commits (Kept k) =
+      let all : list_all (is_present_in splits r.states.items id k.status.epoch k.status.ts) k.writes ≡ list_all (is_present (over splits) history id k.status.epoch k.status.ts) k.writes =
+      ap (λ test. list_all test k.writes) (λ i write. ap (stands id k.status.epoch write.1 k.status.ts write.0) (state-means write.0) i) in
+      ap (commit_by k.status.standing k.status.ts) all
+  place-commits (Marked s) = refl
+
+  pub commit_means : Holds r.told (λ id. told_at id history) → commit_in splits r id ≡ commit_ts (over splits) history id
+  commit_means told =
+      ap (λ anchor. commit_from splits r.states.items id anchor (held r.told id)) (anchors id)
+      ∙ ap (commit_from splits r.states.items id (anchor_in id history)) (told id)
+      ∙ by (anchor_in id history)
+    where
+      by : (anchor : Option (List ℕ)) → commit_from splits r.states.items id anchor (told_at id history) ≡ commit_at (over splits) history id anchor
+      by None = refl
+      by (Some anchor) = ap (commit_of_place splits r.states.items id) (place-means anchor) ∙ place-commits (place_at (over splits) (range_of splits anchor) id history)
+
+  pub ending_means : Holds r.rolled_back (λ id. rolled_back id history) → ending_in splits r id ≡ ending_of (over splits) history id
+  ending_means told =
+      ap (λ anchor. ending_from splits r.states.items id anchor (held r.rolled_back id)) (anchors id)
+      ∙ ap (ending_from splits r.states.items id (anchor_in id history)) (told id)
+      ∙ by (anchor_in id history)
+    where
+      by : (anchor : Option (List ℕ)) → ending_from splits r.states.items id anchor (rolled_back id history) ≡ ending_in_history (over splits) history id anchor
+      by None = refl
+      by (Some anchor) = ap (λ p. ending_at p (rolled_back id history)) (place-means anchor)
+
+noted : {V : Type 0} (said : TxnId → Event → Option V) (old new : BTreeMap TxnId V) (history : List (Entry Event)) (e : Entry Event)
+    → Holds old (λ id. slice_get (filter_map (λ x. said id x.event) history) 0) → Notes said old e.event new → Holds new (λ id. slice_get (filter_map (λ x. said id x.event) (history ++ e ∷ [])) 0)
+noted said old new history e was notes = λ id. notes id ∙ ap (λ o. first_of o (said id e.event)) (was id) ∙ sym (first_push (λ x. said id x.event) history e)
+
+abbrev point_now : (TxnId → Option ℕ) → Option TxnId → ℕ → TxnId → Option ℕ
+point_now commit None far id = None
+point_now commit (Some one) far id = cond (is_some (commit one)) (cond (same_txn one id) (Some far) None) None
+
+point-now : (commit : TxnId → Option ℕ) (touched : Option TxnId) (far : ℕ) (id : TxnId) → point_for (committed_one commit touched) far id ≡ point_now commit touched far id
+point-now commit None far id = refl
+point-now commit (Some one) far id = by (is_some (commit one))
+  where
+    by : (b : Bool) → point_for (cond b (Some one) None) far id ≡ cond b (cond (same_txn one id) (Some far) None) None
+    by true = refl
+    by false = refl
+
+-- One entry further.
+pub followed : (splits : List (List ℕ)) (history : List (Entry Event)) (e : Entry Event) (old new : Replay) → IsReplayOf splits history old
+    → Notes key_sent old.anchors e.event new.anchors → Notes committed_in old.told e.event new.told → Notes rolled_back_in old.rolled_back e.event new.rolled_back
+    → new.states.items ≡ states_after old.states.items e.actor (asked_in history e.event)
+    → PointsFollow splits (touched_in (asked_in history e.event) e.event) (length history + 1) old new
+    → IsReplayOf splits (history ++ e ∷ []) new
+followed splits history e old new was anchors told rolled states points = record {
+  states = now-states;
+  anchors = now-anchors;
+  told = now-told;
+  rolled_back = noted rolled_back_in old.rolled_back new.rolled_back history e was.rolled_back rolled;
+  points = λ id. subst (IsPoint (over splits) (history ++ e ∷ []) id) (sym (points id ∙ ap (first_of (held old.points id)) (point-now (commit_in splits new) (touched_in (asked_in history e.event) e.event) (length history + 1) id))) (by id (touched_in (asked_in history e.event) e.event) refl);
+}
+  where
+    now-states : AreStates splits (history ++ e ∷ []) new.states.items
+    now-states = subst (AreStates splits (history ++ e ∷ [])) (sym states) (states_next splits history e old.states.items was.states)
+
+    now-anchors : Holds new.anchors (λ id. anchor_in id (history ++ e ∷ []))
+    now-anchors = noted key_sent old.anchors new.anchors history e was.anchors anchors
+
+    now-told : Holds new.told (λ id. told_at id (history ++ e ∷ []))
+    now-told = noted committed_in old.told new.told history e was.told told
+
+    stays : (id : TxnId) → is_one id (touched_in (asked_in history e.event) e.event) ≡ false → (late : Option ℕ) → late ≡ None → IsPoint (over splits) (history ++ e ∷ []) id (first_of (held old.points id) late)
+    stays id apart late none =
+        subst (λ o. IsPoint (over splits) (history ++ e ∷ []) id (first_of (held old.points id) o)) (sym none)
+        (subst (IsPoint (over splits) (history ++ e ∷ []) id) (sym (first_none (held old.points id)))
+        (point_stays (over splits) id history e (held old.points id) (was.points id) (commit_stays id (over splits) history e apart)))
+
+    by : (id : TxnId) (touched : Option TxnId) → touched_in (asked_in history e.event) e.event ≡ touched → IsPoint (over splits) (history ++ e ∷ []) id (first_of (held old.points id) (point_now (commit_in splits new) touched (length history + 1) id))
+    by id None is = stays id (ap (is_one id) is) None refl
+    by id (Some one) is = by-same (same_txn one id) refl
+      where
+        by-same : (b : Bool) → same_txn one id ≡ b → IsPoint (over splits) (history ++ e ∷ []) id (first_of (held old.points id) (cond (is_some (commit_in splits new one)) (cond (same_txn one id) (Some (length history + 1)) None) None))
+        by-same false t = stays id (ap (is_one id) is ∙ t) _ (ap (λ b. cond (is_some (commit_in splits new one)) (cond b (Some (length history + 1)) None) None) t ∙ both-none (is_some (commit_in splits new one)))
+          where
+            both-none : (b : Bool) → cond {A = Option ℕ} b None None ≡ None
+            both-none true = refl
+            both-none false = refl
+        by-same true t =
+            let same : one ≡ id = same-is one id t in
+            let committed : commit_in splits new one ≡ commit_ts (over splits) (history ++ e ∷ []) id = ap (commit_in splits new) same ∙ commit_means splits (history ++ e ∷ []) new now-states now-anchors id now-told in
+            let far : length (history ++ e ∷ []) ≡ length history + 1 = length-append history (e ∷ []) in
+            let now : cond (is_some (commit_ts (over splits) (history ++ e ∷ []) id)) (Some (length (history ++ e ∷ []))) None ≡ cond (is_some (commit_in splits new one)) (cond (same_txn one id) (Some (length history + 1)) None) None =
+            ap (λ n. cond (is_some (commit_ts (over splits) (history ++ e ∷ []) id)) (Some n) None) far
+            ∙ ap (λ o. cond (is_some o) (Some (length history + 1)) None) (sym committed)
+            ∙ ap (λ b. cond (is_some (commit_in splits new one)) (cond b (Some (length history + 1)) None) None) (sym t) in
+            subst (λ o. IsPoint (over splits) (history ++ e ∷ []) id (first_of (held old.points id) o)) now
+            (point_push (over splits) id history e (held old.points id) (commit_ts (over splits) (history ++ e ∷ []) id) (was.points id) refl)
+
+-- Before the first entry.
+pub begins : (splits : List (List ℕ)) (r : Replay) → AreBlank (length splits) r.states.items → ((id : TxnId) → held r.anchors id ≡ None) → ((id : TxnId) → held r.told id ≡ None) → ((id : TxnId) → held r.rolled_back id ≡ None) → ((id : TxnId) → held r.points id ≡ None)
+    → IsReplayOf splits [] r
+begins splits r states anchors told rolled points = record {
+  states = record { count = states.count; each = λ range le. states.each range le };
+  anchors = anchors;
+  told = told;
+  rolled_back = rolled;
+  points = λ id. subst (IsPoint (over splits) [] id) (sym (points id)) (point_start (over splits) id);
+}
+
+-- where nothing was committed now, the points stay
+pub points_stay : (splits : List (List ℕ)) (touched : Option TxnId) (far : ℕ) (old new : Replay) → committed_one (commit_in splits new) touched ≡ None → new.points ≡ old.points → PointsFollow splits touched far old new
+points_stay splits touched far old new none same =
+    λ id. ap (λ points. held points id) same ∙ sym (ap (λ o. first_of (held old.points id) (point_for o far id)) none ∙ first_none (held old.points id))
+
+-- where a transaction was, it has its point
+pub points_grow : (splits : List (List ℕ)) (touched : Option TxnId) (far : ℕ) (old new : Replay) (one : TxnId) → committed_one (commit_in splits new) touched ≡ Some one
+    → ((id : TxnId) → held new.points id ≡ first_of (held old.points id) (only_for one far id)) → PointsFollow splits touched far old new
+points_grow splits touched far old new one is put = λ id. put id ∙ sym (ap (λ o. first_of (held old.points id) (point_for o far id)) is)
+
+-- the entries so far and the next one are a run
+pub run_so_far : (splits : List (List ℕ)) (entries : List (Entry Event)) (i : ℕ) (x : Entry Event) (front : List (Entry Event)) → IsRunOver splits entries → i < length entries → x ≡ slice_index_or entries i x → front ≡ take i entries
+    → IsRunOver splits (front ++ x ∷ [])
+run_so_far splits entries i x front run within is at = record {
+  head = run.head;
+  cut = run.cut;
+  run = subst (λ h. IsRun run.head h) (take_next entries i x within is ∙ ap (λ f. f ++ x ∷ []) (sym at)) (run_take run.head (i + 1) entries run.run);
+}

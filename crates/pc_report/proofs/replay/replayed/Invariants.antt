@@ -1,0 +1,7 @@
+-- What was kept is that of the entries so far.
+use Rattle.std.proofs.Common.{take}
+use Rattle.pc_report.specs.Replaying.{IsReplayOf}
+use Rattle.pc_report.proofs.replay.replayed.Given as goal
+
+abbrev pub invariant-loop-done : goal.invariant-loop-done
+invariant-loop-done l = IsReplayOf l.splits (take l.done l.entries) l.replay

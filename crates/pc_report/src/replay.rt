@@ -1,0 +1,387 @@
+//! Replays a history once: what its ranges become, and when each transaction is committed.
+
+ghost use Rattle.std.specs.Prelude.{◌≡◌, ◌+◌, ◌^◌, ◌<◌, ◌++◌, ◌∷◌, ◌&&◌, [], IfOk, OnOk, length, slice_get};
+ghost use Rattle.std.specs.List.{list_all};
+ghost use Rattle.std.specs.Option.{option_copied};
+ghost use Rattle.pc_history.specs.Own.{same_id};
+ghost use Rattle.pc_proto.specs.Table.{place_of};
+ghost use Rattle.pc_report.specs.Ordering.{rank_in};
+ghost use Rattle.pc_report.specs.ReportOf.{IsRunOver, ending_at, ending_by, rolled_back_in, told_ending};
+ghost use Rattle.pc_report.specs.Replaying.{AreBlank, HasRoomAt, HasRoomFor, IsReplayOf, IsSomeRun, Notes, after_eval, states_after, asked_in, commit_in, commit_of_place, committed_one, ending_in, is_present_in, touched, touched_by_send, touched_in};
+ghost use Rattle.pc_world.specs.Committed.{commit_by, committed_in, key_sent};
+ghost use Rattle.pc_world.specs.Named.{is_send_of, request_in};
+ghost use Rattle.pc_world.specs.RangeOf.{range_of};
+
+use crate::rows::Ending;
+use crate::tables::keep_first;
+use pc_base::{ActorId, Entry, Key, NoMemory, Timestamp, TryCopy, TxnId};
+use pc_eval::RangeState;
+use pc_proto::{Answer, Event, Keys, Record, Request, Standing, Status, Why};
+use pc_world::range_of;
+use std::alloc::Global;
+use std::collections::BTreeMap;
+
+/// Where a committed transaction stands: its timestamp, and after how many entries it was committed.
+#[derive(Clone, Copy, Debug, PartialEq, Eq, PartialOrd, Ord)]
+pub(crate) struct Rank {
+    pub ts: Timestamp,
+    pub point: u64,
+}
+
+/// What the entries so far come to.
+#[derive(Drop)]
+pub(crate) struct Replay {
+    /// The ranges, in key order.
+    states: Vec<RangeState>,
+    /// The key of each transaction's first put.
+    anchors: BTreeMap<TxnId, Key>,
+    /// The timestamp at which a transaction was first told committed.
+    told: BTreeMap<TxnId, Timestamp>,
+    /// The cause for which a transaction was first told rolled back.
+    rolled_back: BTreeMap<TxnId, Why>,
+    /// After how many entries a transaction was committed.
+    points: BTreeMap<TxnId, u64>,
+}
+
+/// What the whole history comes to.
+pub(crate) fn replayed(
+    alloc: Global,
+    splits: &Keys,
+    entries: &[Entry<Event>],
+) -> Result<Replay, NoMemory>
+    requires few { length splits.now + 1 < 2 ^ 32 }
+    requires run { IsRunOver splits.now entries.now }
+    ensures { IfOk result (IsReplayOf splits.now entries.now) }
+{
+    let mut replay = Replay::new(alloc, splits)?;
+    for (done, entry) in entries.iter().enumerate() {
+        let (before, _) = entries.split_at(done);
+        replay.follow(splits, before, entry)?;
+    }
+    Ok(replay)
+}
+
+impl Replay {
+    fn new(alloc: Global, splits: &Keys) -> Result<Replay, NoMemory>
+        requires { length splits.now + 1 < 2 ^ 32 }
+        ensures { IfOk result (IsReplayOf splits.now []) }
+    {
+        Ok(Replay {
+            states: blank_ranges(alloc, splits.len())?,
+            anchors: BTreeMap::new(alloc),
+            told: BTreeMap::new(alloc),
+            rolled_back: BTreeMap::new(alloc),
+            points: BTreeMap::new(alloc),
+        })
+    }
+
+    /// Takes one more entry.
+    fn follow(
+        &mut self,
+        splits: &Keys,
+        before: &[Entry<Event>],
+        entry: &Entry<Event>,
+    ) -> Result<(), NoMemory>
+        requires few { length splits.now + 1 < 2 ^ 32 }
+        requires so_far { IsReplayOf splits.now before.now self.old }
+        requires run { IsRunOver splits.now (before.now ++ entry.now ∷ []) }
+        ensures { OnOk result (IsReplayOf splits.now (before.now ++ entry.now ∷ []) self.new) }
+    {
+        let length = before.len() as u64 + 1;
+        note_anchor(&mut self.anchors, &entry.event)?;
+        note_told(&mut self.told, &entry.event)?;
+        note_rolled_back(&mut self.rolled_back, &entry.event)?;
+        let asked = asked(before, &entry.event);
+        evaluate(&mut self.states, entry.actor, asked)?;
+        let Some(id) = self.committed_of(splits, touched_in(asked, &entry.event)) else {
+            return Ok(());
+        };
+        keep_first(&mut self.points, id, length)?;
+        Ok(())
+    }
+
+    /// This transaction, if it is committed.
+    fn committed_of(&self, splits: &Keys, touched: Option<TxnId>) -> Option<TxnId>
+        requires { length splits.now + 1 < 2 ^ 32 }
+        ensures { result ≡ committed_one (commit_in splits.now self.now) touched }
+    {
+        let id = touched?;
+        self.commit(splits, id).map(|_ts| id)
+    }
+
+    /// The timestamp at which the transaction is committed, if it is.
+    pub fn commit(&self, splits: &Keys, id: TxnId) -> Option<Timestamp>
+        requires { length splits.now + 1 < 2 ^ 32 }
+        ensures { result ≡ commit_in splits.now self.now id }
+    {
+        match self.anchors.get(&id) {
+            None => self.told.get(&id).copied(),
+            Some(anchor) => {
+                let state = state_at(splits, &self.states, anchor)?;
+                commit_on(splits, &self.states, state, id)
+            }
+        }
+    }
+
+    /// Where the transaction stands in the commit order, if it is committed.
+    pub fn rank(&self, splits: &Keys, id: TxnId) -> Option<Rank>
+        requires { length splits.now + 1 < 2 ^ 32 }
+        ensures { result ≡ rank_in splits.now self.now id }
+    {
+        let ts = self.commit(splits, id)?;
+        let point = *self.points.get(&id)?;
+        Some(Rank { ts, point })
+    }
+
+    /// What became of the transaction, which is not committed.
+    pub fn ending(&self, splits: &Keys, id: TxnId) -> Result<Ending, NoMemory>
+        requires { length splits.now + 1 < 2 ^ 32 }
+        ensures { IfOk result (λ ending. ending ≡ ending_in splits.now self.now id) }
+    {
+        let told = self.rolled_back.get(&id);
+        match self.anchors.get(&id) {
+            None => told_ending(told, Ending::NoRecord),
+            Some(anchor) => match state_at(splits, &self.states, anchor) {
+                None => told_ending(told, Ending::NoRecord),
+                Some(state) => ending_on(state, id, told),
+            },
+        }
+    }
+}
+
+/// Ranges on which nothing has happened, one more than there are splits.
+fn blank_ranges(alloc: Global, splits: usize) -> Result<Vec<RangeState>, NoMemory>
+    requires { splits + 1 < 2 ^ 32 }
+    ensures { IfOk result (λ states. AreBlank splits states.items) }
+{
+    let mut states = Vec::new(alloc);
+    for _range in 0..splits + 1 {
+        states.push(RangeState::new(alloc))?;
+    }
+    Ok(states)
+}
+
+/// The state of the range that has the key.
+fn state_at<'a>(splits: &Keys, states: &'a [RangeState], key: &Key) -> Option<&'a RangeState>
+    requires { length splits.now + 1 < 2 ^ 32 }
+    ensures { option_copied result ≡ slice_get states.now (range_of splits.now key.now) }
+{
+    states.get(range_of(splits, key) as usize)
+}
+
+fn note_anchor(table: &mut BTreeMap<TxnId, Key>, event: &Event) -> Result<(), NoMemory>
+    ensures { OnOk result (Notes key_sent table.old event.now table.new) }
+{
+    if let Event::Send {
+        request: Request::Put { meta, key, .. },
+        ..
+    } = event
+    {
+        keep_first(table, meta.id, key.copy()?)?;
+    }
+    Ok(())
+}
+
+fn note_told(table: &mut BTreeMap<TxnId, Timestamp>, event: &Event) -> Result<(), NoMemory>
+    ensures { OnOk result (Notes committed_in table.old event.now table.new) }
+{
+    if let Event::Tell(Answer::Committed { id, ts }) = event {
+        keep_first(table, *id, *ts)?;
+    }
+    Ok(())
+}
+
+fn note_rolled_back(table: &mut BTreeMap<TxnId, Why>, event: &Event) -> Result<(), NoMemory>
+    ensures { OnOk result (Notes rolled_back_in table.old event.now table.new) }
+{
+    if let Event::Tell(Answer::RolledBack { id, why }) = event {
+        keep_first(table, *id, why.copy()?)?;
+    }
+    Ok(())
+}
+
+/// The request that an evaluation answers. It was sent shortly before, so the search begins at the end.
+fn asked<'a>(before: &'a [Entry<Event>], event: &Event) -> Option<&'a Request>
+    requires { IsSomeRun before.now }
+    ensures { option_copied result ≡ asked_in before.now event.now }
+{
+    let Event::Eval { actor, number, .. } = event else {
+        return None;
+    };
+    let sent = before
+        .iter()
+        .rev()
+        .find(|entry| is_send(entry, *actor, *number))?;
+    request_of(&sent.event)
+}
+
+fn is_send(entry: &Entry<Event>, actor: ActorId, number: u64) -> bool
+    ensures { result ≡ (same_id actor entry.now.actor && is_send_of number entry.now.event) }
+{
+    entry.actor == actor
+        && matches!(&entry.event, Event::Send { number: own, .. } if *own == number)
+}
+
+fn request_of(event: &Event) -> Option<&Request>
+    ensures { option_copied result ≡ request_in event.now }
+{
+    match event {
+        Event::Send { request, .. } => Some(request),
+        _ => None,
+    }
+}
+
+/// Lets a range evaluate the request that its entry answers.
+fn evaluate(
+    states: &mut Vec<RangeState>,
+    actor: ActorId,
+    asked: Option<&Request>,
+) -> Result<(), NoMemory>
+    requires { HasRoomFor states.old.items actor (option_copied asked) }
+    ensures { OnOk result (states.new.items ≡ states_after states.old.items actor (option_copied asked.entry)) }
+{
+    match (actor, asked) {
+        (ActorId::Range(range), Some(request)) => eval_at(states, range, request),
+        _ => Ok(()),
+    }
+}
+
+fn eval_at(states: &mut Vec<RangeState>, range: u32, request: &Request) -> Result<(), NoMemory>
+    requires { HasRoomAt states.old.items range request.now }
+    ensures { OnOk result (states.new.items ≡ after_eval states.old.items range request.now) }
+{
+    if let Some(state) = states.get_mut(range as usize) {
+        state.eval(request)?;
+    }
+    Ok(())
+}
+
+/// The transaction that the event may commit.
+fn touched_in(asked: Option<&Request>, event: &Event) -> Option<TxnId>
+    ensures { result ≡ touched_in (option_copied asked.entry) event.now }
+{
+    match event {
+        Event::Send { request, .. } => touched_by_send(request),
+        Event::Tell(Answer::Committed { id, .. }) => Some(*id),
+        Event::Tell(_) => None,
+        _ => touched(asked?),
+    }
+}
+
+fn touched_by_send(request: &Request) -> Option<TxnId>
+    ensures { result ≡ touched_by_send request.now }
+{
+    match request {
+        Request::Put { meta, .. } => Some(meta.id),
+        _ => None,
+    }
+}
+
+/// The transaction whose record or intents the request may change.
+fn touched(request: &Request) -> Option<TxnId>
+    ensures { result ≡ touched request.now }
+{
+    match request {
+        Request::Put { meta, .. }
+        | Request::Beat { meta, .. }
+        | Request::Stage { meta, .. }
+        | Request::Commit { meta, .. }
+        | Request::Abort { meta, .. } => Some(meta.id),
+        Request::Push { holder, .. } => Some(holder.id),
+        Request::Recover { id, .. } | Request::Remove { id, .. } | Request::Resolve { id, .. } => {
+            Some(*id)
+        }
+        Request::Get { .. }
+        | Request::Scan { .. }
+        | Request::Refresh { .. }
+        | Request::Query { .. }
+        | Request::Records => None,
+    }
+}
+
+/// The timestamp at which what this range has of the transaction commits it.
+fn commit_on(
+    splits: &Keys,
+    states: &[RangeState],
+    state: &RangeState,
+    id: TxnId,
+) -> Option<Timestamp>
+    requires { length splits.now + 1 < 2 ^ 32 }
+    ensures { result ≡ commit_of_place splits.now states.now id (place_of id state.now.table) }
+{
+    match (state.record(id), state.mark(id)) {
+        (Some(kept), _) => commit_by(&kept.status, are_present(splits, states, id, kept)),
+        (None, Some(mark)) => commit_by(mark, false),
+        (None, None) => None,
+    }
+}
+
+fn commit_by(status: &Status, present: bool) -> Option<Timestamp>
+    ensures { result ≡ commit_by status.now.standing status.now.ts present }
+{
+    match status.standing {
+        Standing::Committed => Some(status.ts),
+        Standing::Staging if present => Some(status.ts),
+        _ => None,
+    }
+}
+
+/// Whether each write that the record lists is present.
+fn are_present(splits: &Keys, states: &[RangeState], id: TxnId, kept: &Record) -> bool
+    requires { length splits.now + 1 < 2 ^ 32 }
+    ensures { result ≡ list_all (is_present_in splits.now states.now id kept.now.status.epoch kept.now.status.ts) kept.now.writes }
+{
+    kept.writes.as_slice().iter().all(|write| is_present(splits, states, id, &kept.status, write))
+}
+
+fn is_present(
+    splits: &Keys,
+    states: &[RangeState],
+    id: TxnId,
+    status: &Status,
+    write: &(Key, u32),
+) -> bool
+    requires { length splits.now + 1 < 2 ^ 32 }
+    ensures { result ≡ is_present_in splits.now states.now id status.now.epoch status.now.ts write.now }
+{
+    let (key, seq) = write;
+    state_at(splits, states, key).is_some_and(|state| state.stands(
+        id,
+        status.epoch,
+        *seq,
+        status.ts,
+        key,
+    ))
+}
+
+/// What became of a transaction, by what this range has of it and by what its session was told.
+fn ending_on(state: &RangeState, id: TxnId, told: Option<&Why>) -> Result<Ending, NoMemory>
+    ensures { IfOk result (λ ending. ending ≡ ending_at (place_of id state.now.table) (option_copied told.entry)) }
+{
+    match (state.record(id), state.mark(id)) {
+        (Some(kept), _) => ending_by(&kept.status.standing, told),
+        (None, Some(mark)) => ending_by(&mark.standing, told),
+        (None, None) => told_ending(told, Ending::NoRecord),
+    }
+}
+
+fn ending_by(standing: &Standing, told: Option<&Why>) -> Result<Ending, NoMemory>
+    ensures { IfOk result (λ ending. ending ≡ ending_by standing.now (option_copied told.entry)) }
+{
+    match standing {
+        Standing::Aborted(why) => Ok(Ending::Aborted(why.copy()?)),
+        Standing::Pending => told_ending(told, Ending::Pending),
+        Standing::Staging => told_ending(told, Ending::Staging),
+        Standing::Committed => told_ending(told, Ending::NoRecord),
+    }
+}
+
+/// Aborted, where the session was told so.
+fn told_ending(told: Option<&Why>, otherwise: Ending) -> Result<Ending, NoMemory>
+    ensures { IfOk result (λ ending. ending ≡ told_ending (option_copied told.entry) otherwise) }
+{
+    match told {
+        Some(why) => Ok(Ending::Aborted(why.copy()?)),
+        None => Ok(otherwise),
+    }
+}

@@ -1,0 +1,146 @@
+//! What each transaction wrote, as its session was told.
+
+ghost use Rattle.std.specs.Prelude.{◌≡◌, ◌==◌, [], IfOk, OnOk, if◌then◌else◌};
+ghost use Rattle.std.specs.List.{list_any};
+ghost use Rattle.pc_base.specs.Transaction.{same_txn};
+ghost use Rattle.pc_report.specs.Replaying.{held};
+ghost use Rattle.pc_report.specs.Writing.{AreWritesOf, LastFollows, LastOf, PutsFollow, PutsOf, is_last_in, puts_held, puts_of, puts_sent, puts_told, with_put};
+
+use pc_base::{ActorId, Entry, Items, Key, NoMemory, TryCopy, TxnId, Value};
+use pc_proto::{Answer, Event, Request};
+use std::alloc::Global;
+use std::collections::BTreeMap;
+
+/// A write of a key; no value is a deletion.
+#[derive(Drop)]
+pub(crate) struct Put {
+    pub seq: u32,
+    pub key: Key,
+    pub value: Option<Value>,
+}
+
+/// The writes of each transaction's present epoch.
+#[derive(Drop)]
+pub(crate) struct Writes {
+    puts: BTreeMap<TxnId, Items<Put>>,
+    /// The transaction that each session began last.
+    last: BTreeMap<u32, TxnId>,
+}
+
+/// What the transactions wrote in the whole history.
+pub(crate) fn written(alloc: Global, entries: &[Entry<Event>]) -> Result<Writes, NoMemory>
+    ensures { IfOk result (AreWritesOf entries.now) }
+{
+    let mut writes = Writes {
+        puts: BTreeMap::new(alloc),
+        last: BTreeMap::new(alloc),
+    };
+    for entry in entries {
+        writes.follow(alloc, entry)?;
+    }
+    Ok(writes)
+}
+
+impl Writes {
+    /// Takes one more entry.
+    fn follow(&mut self, alloc: Global, entry: &Entry<Event>) -> Result<(), NoMemory>
+        ensures puts { OnOk result (PutsFollow self.old entry.now self.new) }
+        ensures last { OnOk result (LastFollows self.old entry.now self.new) }
+    {
+        let ActorId::Session(session) = entry.actor else {
+            return Ok(());
+        };
+        match &entry.event {
+            Event::Send { request, .. } => self.sent(alloc, session, request),
+            Event::Tell(answer) => self.told(session, answer),
+            _ => Ok(()),
+        }
+    }
+}
+
+impl Writes {
+    /// The transaction's writes.
+    pub fn of(&self, id: TxnId) -> &[Put]
+        ensures { result.now ≡ puts_held self.now id }
+    {
+        match self.puts.get(&id) {
+            Some(puts) => puts.as_slice(),
+            None => &[],
+        }
+    }
+
+    fn sent(&mut self, alloc: Global, session: u32, request: &Request) -> Result<(), NoMemory>
+        ensures puts { OnOk result (PutsOf session (λ id. puts_sent id request.now) self.old self.new) }
+        ensures last { OnOk result (self.new.last ≡ self.old.last) }
+    {
+        if let Request::Put {
+            meta,
+            seq,
+            key,
+            value,
+            ..
+        } = request
+            && meta.id.session == session
+        {
+            let put = Put {
+                seq: *seq,
+                key: key.copy()?,
+                value: value.copy()?,
+            };
+            add(&mut self.puts, alloc, meta.id, put)?;
+        }
+        Ok(())
+    }
+
+    fn told(&mut self, session: u32, answer: &Answer) -> Result<(), NoMemory>
+        ensures puts { OnOk result (PutsOf session (λ id. puts_told (is_last_in self.old id) answer.now) self.old self.new) }
+        ensures last { OnOk result (LastOf session answer.now self.old self.new) }
+    {
+        match answer {
+            Answer::Begun { id, .. } => {
+                self.last.insert(session, *id)?;
+            }
+            Answer::Restart { .. } => self.restarted(session),
+            _ => {}
+        }
+        Ok(())
+    }
+
+    /// The last transaction of the session begins anew.
+    fn restarted(&mut self, session: u32)
+        ensures puts { PutsOf session (λ id puts. if is_last_in self.old id then [] else puts) self.old self.new }
+        ensures last { self.new.last ≡ self.old.last }
+    {
+        if let Some(id) = self.last.get(&session).copied()
+            && id.session == session
+        {
+            self.puts.remove(&id);
+        }
+    }
+}
+
+/// Adds a put to those of a transaction, where its sequence is new.
+fn add(
+    table: &mut BTreeMap<TxnId, Items<Put>>,
+    alloc: Global,
+    id: TxnId,
+    put: Put,
+) -> Result<(), NoMemory>
+    ensures { OnOk result ((other : TxnId) → puts_of (held table.new other) ≡ if same_txn id other then with_put put (puts_of (held table.old other)) else puts_of (held table.old other)) }
+{
+    let mut puts = match table.remove(&id) {
+        Some(puts) => puts,
+        None => Items::new(alloc),
+    };
+    if !has_seq(&puts, put.seq) {
+        puts.add(put)?;
+    }
+    table.insert(id, puts)?;
+    Ok(())
+}
+
+fn has_seq(puts: &Items<Put>, seq: u32) -> bool
+    ensures { result ≡ list_any (λ p. p.seq == seq) puts.now }
+{
+    puts.as_slice().iter().any(|put| put.seq == seq)
+}
