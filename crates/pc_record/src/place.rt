@@ -29,10 +29,10 @@ impl<'a> Model for Place<'a> {
 }
 
 impl<'a> Place<'a> {
-    pub(crate) fn new(record: Option<&'a Record>, mark: Option<&'a Status>) -> Place<'a>
-        ensures { result ≡ record_or_mark (option_copied record.entry) (option_copied mark.entry) }
+    pub(crate) fn new(kept: Option<&'a Record>, mark: Option<&'a Status>) -> Place<'a>
+        ensures { result ≡ record_or_mark (option_copied kept.entry) (option_copied mark.entry) }
     {
-        Place { record, mark }
+        Place { record: kept, mark }
     }
 
     /// The record that stands there.
@@ -146,30 +146,30 @@ fn is_staged_at(status: &Status, epoch: u32, ts: Timestamp) -> bool
 }
 
 /// How a record is told.
-pub(crate) fn record_view(record: &Record) -> Result<View, NoMemory>
-    ensures { IfOk result (λ made. made ≡ view_of (Kept record.now)) }
+pub(crate) fn record_view(kept: &Record) -> Result<View, NoMemory>
+    ensures { IfOk result (λ made. made ≡ view_of (Kept kept.now)) }
 {
     let Status {
         standing,
         epoch,
         ts,
-    } = &record.status;
+    } = &kept.status;
     let (epoch, ts) = (*epoch, *ts);
     match standing {
         Standing::Pending => Ok(View::Pending { epoch, ts }),
         Standing::Staging => Ok(View::Staging {
             epoch,
             ts,
-            writes: record.writes.copy()?,
+            writes: kept.writes.copy()?,
         }),
         Standing::Committed => Ok(View::Committed {
             epoch,
             ts,
-            locks: record.locks.copy()?,
+            locks: kept.locks.copy()?,
         }),
         Standing::Aborted(why) => {
             let why = why.copy()?;
-            let locks = record.locks.copy()?;
+            let locks = kept.locks.copy()?;
             Ok(View::Aborted { epoch, why, locks })
         }
     }
