@@ -3,6 +3,7 @@ use pc_base::{Key, Priority, Span, Timestamp, TxnId, Value};
 use pc_proto::TxnMeta;
 use std::alloc::Global;
 use std::collections::BTreeSet;
+use std::process::Abort;
 use std::test::Fail;
 
 const ONE: TxnId = TxnId {
