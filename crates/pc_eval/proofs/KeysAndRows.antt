@@ -1,5 +1,5 @@
 -- The keys and the rows of a scan, one element further; and the keys of versions and intents taken together.
-use Rattle.std.proofs.Common.{◌≡◌, ℕ, ◌+◌, ◌<◌, Bool, cond, List, [], ◌∷◌, ◌++◌, length, take, filter, fold, map, slice_index_or, Option, refl, ap, ◌∙◌, arith}
+use Rattle.std.proofs.Common.{◌≡◌, List, [], ◌∷◌, ◌++◌, filter, fold, map, Option, refl, ap, ◌∙◌, arith}
 use Rattle.std.specs.declared.cmp.Ordering.{Ordering}
 use Rattle.std.specs.BTreeMap.{insert_entry}
 use Rattle.std.specs.BTreeSet.{insert_key}
@@ -14,10 +14,6 @@ use Rattle.pc_base.specs.declared.span.Span.{Span}
 use Rattle.pc_base.specs.Span.{contains}
 use Rattle.pc_world.specs.RangeState.{RangeState}
 use Rattle.pc_world.specs.Evaluation.Scan.{keys_in}
-
-module _ {A B K : Type 0} (f : B → K → B) (test : K → Bool) (key : A → K) where
-  pub keys_more : (start : B) (xs : List A) (i : ℕ) (x : A) → i < length xs → x ≡ slice_index_or xs i x → fold f start (filter test (map key (take (i + 1) xs))) ≡ cond (test (key x)) (f (fold f start (filter test (map key (take i xs)))) (key x)) (fold f start (filter test (map key (take i xs))))
-  keys_more start xs i x h e = grind (arith, common_steps)
 
 module _ {K : Type 0} (cmp : K → K → Ordering) where
   keys-inserted : (k : K) (es : List (K × K)) → map (λ e. e.0) (insert_entry cmp es k k) ≡ insert_key cmp (map (λ e. e.0) es) k

@@ -6,12 +6,12 @@ ghost use Rattle.std.specs.Option.{option_copied};
 ghost use Rattle.pc_world.specs.Evaluation.{reply, state_after};
 ghost use Rattle.pc_world.specs.Evaluation.Get.{found_at, get_blocker, own_value, version_found};
 
-use crate::intents::{other_at, own_at, value_by};
 use crate::put::conflict;
 use crate::state::RangeState;
 use crate::versions::visible;
 use pc_base::{Key, NoMemory, Timestamp, TryCopy, TxnId, Value, Version};
-use pc_proto::{Intent, Origin, Reply, Request};
+use pc_intent::{Intent, value_by};
+use pc_proto::{Origin, Reply, Request};
 
 impl RangeState {
     pub(crate) fn get(
@@ -38,7 +38,9 @@ impl RangeState {
     fn get_blocker(&self, id: TxnId, ts: Timestamp, key: &Key) -> Option<&Intent>
         ensures { option_copied result ≡ get_blocker id ts key.now self.now }
     {
-        other_at(&self.intents, id, key).filter(|other| other.ts <= ts)
+        self.intents
+            .other_at(id, key)
+            .filter(|other| other.ts <= ts)
     }
 
     /// What a read finds at a key: the own write first, else the newest version at or below its timestamp.
@@ -62,7 +64,10 @@ impl RangeState {
     fn own_value(&self, id: TxnId, epoch: u32, seq: u32, key: &Key) -> Option<&Option<Value>>
         ensures { option_copied result ≡ own_value id epoch seq key.now self.now }
     {
-        let own = own_at(&self.intents, id, key).filter(|own| own.meta.epoch == epoch)?;
+        let own = self
+            .intents
+            .own_at(id, key)
+            .filter(|own| own.meta.epoch == epoch)?;
         value_by(own, seq)
     }
 }

@@ -1,19 +1,20 @@
 //! Put: lays an intent. It closes the races with whoever has read the key, or written it: the intent lands above the key's
 //! newest version and above the range's read bound, unless the writer owns the bound; and another's intent is never touched.
 
-ghost use Rattle.std.specs.Prelude.{◌≡◌, IfOk, OnOk, OnErr};
+ghost use Rattle.std.specs.Prelude.{◌≡◌, IfOk, None, OnOk, OnErr};
 ghost use Rattle.std.specs.Option.{option_copied};
+ghost use Rattle.pc_base.specs.Keyed.{set_at};
+ghost use Rattle.pc_base.specs.Span.{same_key};
+ghost use Rattle.pc_proto.specs.Intents.{other_at, own_at};
 ghost use Rattle.pc_world.specs.Stamps.{AllBelowGreatest, state_stamps};
 ghost use Rattle.pc_world.specs.Evaluation.{reply, state_after};
 ghost use Rattle.pc_world.specs.Evaluation.Put.{is_overtaken_by, laid, write_ts};
 
-use crate::intents::{fresh, grown, last_seq, other_at, own_at};
-use crate::keyed::set_at;
 use crate::state::RangeState;
 use crate::versions::above_newest;
 use pc_base::{Key, NoMemory, Timestamp, TryCopy, Value};
-use pc_proto::{Intent, Reply, Request, TxnMeta};
-use std::alloc::Global;
+use pc_intent::{Intent, last_seq};
+use pc_proto::{Reply, Request, TxnMeta};
 
 impl RangeState {
     pub(crate) fn put(
@@ -29,19 +30,37 @@ impl RangeState {
         ensures after { OnOk result (self.new ≡ state_after (Request.Put meta.now seq ts key.now value.now) self.old) }
         ensures err { OnErr result (self.new ≡ self.old) }
     {
-        if let Some(other) = other_at(&self.intents, meta.id, key) {
+        if let Some(other) = self.intents.other_at(meta.id, key) {
             return conflict(other, key);
         }
-        let own = own_at(&self.intents, meta.id, key);
+        let own = self.intents.own_at(meta.id, key);
         if let Some(own) = own
             && is_overtaken_by(meta, seq, own)
         {
             return Ok(Reply::Written { ts: own.ts });
         }
         let ts = self.write_ts(meta, ts, key, own);
-        let intent = laid(*self.intents.allocator(), meta, seq, ts, value, own)?;
-        set_at(&mut self.intents, key, intent)?;
+        self.lay(meta, seq, ts, key, value)?;
         Ok(Reply::Written { ts })
+    }
+
+    /// Lays a copy of the write, where no other transaction's intent stands.
+    fn lay(
+        &mut self,
+        meta: &TxnMeta,
+        seq: u32,
+        ts: Timestamp,
+        key: &Key,
+        value: &Option<Value>,
+    ) -> Result<(), NoMemory>
+        requires { other_at meta.now.id key.now self.old.intents ≡ None }
+        ensures ok { OnOk result (self.new ≡ record self.old { intents = set_at same_key key.now (laid meta.now seq ts value.now (own_at meta.now.id key.now self.old.intents)) self.old.intents }) }
+        ensures err { OnErr result (self.new ≡ self.old) }
+    {
+        let meta = meta.copy()?;
+        let key = key.copy()?;
+        let value = value.copy()?;
+        self.intents.lay(meta, seq, ts, key, value)
     }
 
     /// The least timestamp, not below the one asked for, that the range leaves to this write.
@@ -75,21 +94,4 @@ fn is_overtaken_by(meta: &TxnMeta, seq: u32, own: &Intent) -> bool
 {
     let (epoch, at) = (meta.epoch, own.meta.epoch);
     epoch < at || at == epoch && seq <= last_seq(own)
-}
-
-/// The intent with the write: one more of its epoch, or the first one.
-fn laid(
-    alloc: Global,
-    meta: &TxnMeta,
-    seq: u32,
-    ts: Timestamp,
-    value: &Option<Value>,
-    own: Option<&Intent>,
-) -> Result<Intent, NoMemory>
-    ensures { IfOk result (λ made. made ≡ laid meta.now seq ts value.now (option_copied own.entry)) }
-{
-    match own {
-        Some(own) if own.meta.epoch == meta.epoch => grown(own, seq, ts, value),
-        _ => fresh(alloc, meta, seq, ts, value),
-    }
 }

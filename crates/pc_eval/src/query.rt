@@ -4,10 +4,10 @@
 ghost use Rattle.std.specs.Prelude.{◌≡◌};
 ghost use Rattle.pc_world.specs.Evaluation.Query.{bound_after_query, is_it, query, stands};
 
-use crate::intents::{last_seq, own_at};
 use crate::state::RangeState;
 use pc_base::{Key, Timestamp, TxnId};
-use pc_proto::{Intent, Reply};
+use pc_intent::{Intent, last_seq};
+use pc_proto::Reply;
 
 impl RangeState {
     pub(crate) fn query(
@@ -33,7 +33,9 @@ impl RangeState {
     pub fn stands(&self, id: TxnId, epoch: u32, seq: u32, ts: Timestamp, key: &Key) -> bool
         ensures { result ≡ stands id epoch seq ts key.now self.now }
     {
-        own_at(&self.intents, id, key).is_some_and(|own| is_it(own, epoch, seq, ts))
+        self.intents
+            .own_at(id, key)
+            .is_some_and(|own| is_it(own, epoch, seq, ts))
     }
 }
 

@@ -2,15 +2,15 @@
 //! it is still so, the read bound keeps them above `to`.
 
 ghost use Rattle.std.specs.Prelude.{◌≡◌, IfOk, OnOk, OnErr};
-ghost use Rattle.std.specs.Option.{option_copied};
+ghost use Rattle.std.specs.Option.{option_copied, option_map};
 ghost use Rattle.pc_world.specs.Evaluation.{reply, state_after};
 ghost use Rattle.pc_world.specs.Evaluation.Refresh.{refuter};
 
-use crate::intents::first_other;
 use crate::state::RangeState;
 use crate::versions::first_between;
 use pc_base::{Key, NoMemory, Span, Timestamp, TryCopy, TxnId, Version};
-use pc_proto::{Intent, Reply, Request};
+use pc_intent::Intent;
+use pc_proto::{Reply, Request};
 
 impl RangeState {
     pub(crate) fn refresh(
@@ -25,7 +25,7 @@ impl RangeState {
         ensures err { OnErr result (self.new ≡ self.old) }
     {
         let version = first_between(&self.versions, span, from, to);
-        let other = first_other(&self.intents, span, to, id);
+        let other = self.intents.first_other(span, to, id);
         if let Some((key, ts)) = refuter(version, other)? {
             return Ok(Reply::Unrefreshed { key, ts });
         }
@@ -37,16 +37,16 @@ impl RangeState {
 /// The write that refutes a refresh, by key and timestamp: the one of the lesser key, the version where both have one key.
 fn refuter(
     version: Option<&Version>,
-    other: Option<&(Key, Intent)>,
+    other: Option<(&Key, &Intent)>,
 ) -> Result<Option<(Key, Timestamp)>, NoMemory>
-    ensures { IfOk result (λ found. found ≡ refuter (option_copied version.entry) (option_copied other.entry)) }
+    ensures { IfOk result (λ found. found ≡ refuter (option_copied version.entry) (option_map (λ e. (e.0.now, e.1.now)) other.entry)) }
 {
     match (version, other) {
-        (Some(version), Some(other)) if other.0 < version.key => {
-            Ok(Some((other.0.copy()?, other.1.ts)))
+        (Some(version), Some((key, other))) if *key < version.key => {
+            Ok(Some((key.copy()?, other.ts)))
         }
         (Some(version), _) => Ok(Some((version.key.copy()?, version.ts))),
-        (None, Some(other)) => Ok(Some((other.0.copy()?, other.1.ts))),
+        (None, Some((key, other))) => Ok(Some((key.copy()?, other.ts))),
         (None, None) => Ok(None),
     }
 }

@@ -10,11 +10,10 @@ ghost use Rattle.pc_base.specs.Span.{contains};
 ghost use Rattle.pc_world.specs.Evaluation.{reply, state_after};
 ghost use Rattle.pc_world.specs.Evaluation.Scan.{keys_in, row_of, rows_in};
 
-use crate::intents::first_other;
 use crate::put::conflict;
 use crate::state::RangeState;
 use pc_base::{Items, Key, NoMemory, Span, Timestamp, TryCopy, TxnId, Value, Version};
-use pc_proto::{Intent, Origin, Reply, Request, Rows};
+use pc_proto::{Origin, Reply, Request, Rows};
 use std::collections::BTreeSet;
 
 impl RangeState {
@@ -30,8 +29,8 @@ impl RangeState {
         ensures after { OnOk result (self.new ≡ state_after (Request.Scan id epoch seq ts span.now) self.old) }
         ensures err { OnErr result (self.new ≡ self.old) }
     {
-        if let Some(other) = first_other(&self.intents, span, ts, id) {
-            return conflict(&other.1, &other.0);
+        if let Some((key, other)) = self.intents.first_other(span, ts, id) {
+            return conflict(other, key);
         }
         let rows = self.rows_in(id, epoch, seq, ts, span)?;
         self.bound.raise(ts, Some(id));
@@ -64,7 +63,7 @@ impl RangeState {
     {
         let mut keys = BTreeSet::new(*self.versions.allocator());
         add_versions(&mut keys, &self.versions, span)?;
-        add_intents(&mut keys, &self.intents, span)?;
+        self.intents.add_keys(span, &mut keys)?;
         Ok(keys)
     }
 }
@@ -81,30 +80,13 @@ fn add_row(rows: &mut Rows, key: Key, found: (Origin, Option<Value>)) -> Result<
 }
 
 /// Adds the versions' keys that lie in the span.
-#[tactic(auto, using(crate::proofs::KeysAndRows::keys_more))]
+#[tactic(auto, using(pc_intent::proofs::Folds::keys_more))]
 fn add_versions(keys: &mut BTreeSet<Key>, versions: &[Version], span: &Span) -> Result<(), NoMemory>
     ensures { OnOk result (keys.new.keys ≡ fold (insert_key (slice_cmp nat_cmp)) keys.old.keys (filter (contains span.now) (map (λ v. v.key) versions.now))) }
 {
     for version in versions {
         if span.contains(&version.key) {
             keys.insert(version.key.copy()?)?;
-        }
-    }
-    Ok(())
-}
-
-/// Adds the intents' keys that lie in the span.
-#[tactic(auto, using(crate::proofs::KeysAndRows::keys_more))]
-fn add_intents(
-    keys: &mut BTreeSet<Key>,
-    intents: &[(Key, Intent)],
-    span: &Span,
-) -> Result<(), NoMemory>
-    ensures { OnOk result (keys.new.keys ≡ fold (insert_key (slice_cmp nat_cmp)) keys.old.keys (filter (contains span.now) (map (λ e. e.0) intents.now))) }
-{
-    for entry in intents {
-        if span.contains(&entry.0) {
-            keys.insert(entry.0.copy()?)?;
         }
     }
     Ok(())

@@ -6,11 +6,11 @@ ghost use Rattle.pc_world.specs.RangeState.{no_state};
 ghost use Rattle.pc_world.specs.Stamps.{HasRoom};
 ghost use Rattle.pc_world.specs.Evaluation.{reply, state_after};
 
-use crate::record_rows;
-use crate::table::Table;
-use pc_base::{Key, NoMemory, TxnId, Version};
+use pc_base::{NoMemory, TxnId, Version};
 use pc_bound::Bound;
-use pc_proto::{Intent, Record, Reply, Request, Status};
+use pc_intent::Intents;
+use pc_proto::{Record, Reply, Request, Status};
+use pc_record::RecordTable;
 use std::alloc::Global;
 use std::marker::Model;
 
@@ -19,9 +19,9 @@ use std::marker::Model;
 #[derive(Debug, Drop)]
 pub struct RangeState {
     pub(crate) versions: Vec<Version>,
-    pub(crate) intents: Vec<(Key, Intent)>,
+    pub(crate) intents: Intents,
     pub(crate) bound: Bound,
-    pub(crate) table: Table,
+    pub(crate) table: RecordTable,
 }
 
 impl Model for RangeState {
@@ -29,7 +29,7 @@ impl Model for RangeState {
 
     ghost Value = { range_state };
 
-    ghost view = { λ s. record { versions = s.versions.items; intents = s.intents.items; bound = s.bound; table = s.table } };
+    ghost view = { λ s. record { versions = s.versions.items; intents = s.intents; bound = s.bound; table = s.table } };
 }
 
 impl RangeState {
@@ -39,9 +39,9 @@ impl RangeState {
     {
         RangeState {
             versions: Vec::new(alloc),
-            intents: Vec::new(alloc),
+            intents: Intents::new(alloc),
             bound: Bound::new(),
-            table: Table::new(alloc),
+            table: RecordTable::new(alloc),
         }
     }
 
@@ -98,7 +98,7 @@ impl RangeState {
                 by: _,
             } => Ok(self.query(*id, *epoch, *seq, *ts, key)),
             Request::Resolve { id, key, fate } => self.resolve(*id, key, *fate),
-            _ => record_rows::eval(&mut self.table, request),
+            _ => self.table.step(request),
         }
     }
 }

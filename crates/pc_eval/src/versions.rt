@@ -18,7 +18,7 @@ pub(crate) fn above_newest(versions: &[Version], key: &Key) -> Timestamp
 }
 
 /// The key's version of the greatest timestamp.
-#[tactic(auto, using(crate::proofs::Folds::of_kept_more))]
+#[tactic(auto, using(pc_intent::proofs::Folds::of_kept_more))]
 pub(crate) fn newest<'a>(versions: &'a [Version], key: &Key) -> Option<&'a Version>
     ensures { option_copied result ≡ newest key.now versions.now }
 {
@@ -32,7 +32,7 @@ pub(crate) fn newest<'a>(versions: &'a [Version], key: &Key) -> Option<&'a Versi
 }
 
 /// The key's version of the greatest timestamp that is not above this one.
-#[tactic(auto, using(crate::proofs::Folds::of_kept_more))]
+#[tactic(auto, using(pc_intent::proofs::Folds::of_kept_more))]
 pub(crate) fn visible<'a>(versions: &'a [Version], key: &Key, ts: Timestamp) -> Option<&'a Version>
     ensures { option_copied result ≡ visible key.now ts versions.now }
 {
@@ -55,7 +55,7 @@ fn later<'a>(best: Option<&'a Version>, version: &'a Version) -> Option<&'a Vers
 }
 
 /// The version in the span, above `from` and not above `to`, of least key, then of least timestamp.
-#[tactic(auto, using(crate::proofs::Folds::of_kept_more))]
+#[tactic(auto, using(pc_intent::proofs::Folds::of_kept_more))]
 pub(crate) fn first_between<'a>(
     versions: &'a [Version],
     span: &Span,

@@ -1,0 +1,12 @@
+//! The intents of a range: writes that are not committed yet, each under its key.
+#![tactic(auto)]
+
+mod intent;
+mod intents;
+
+pub use intent::{last_seq, last_value, value_by};
+pub use intents::Intents;
+pub use pc_proto::{History, Intent};
+
+#[cfg(test)]
+mod tests;

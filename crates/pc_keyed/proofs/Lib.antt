@@ -1,0 +1,2 @@
+pub mod SetAt
+pub mod Taken

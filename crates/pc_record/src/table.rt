@@ -1,0 +1,108 @@
+ghost use Rattle.std.specs.Prelude.{◌≡◌, IfOk, OnOk, OnErr};
+ghost use Rattle.std.specs.Option.{option_copied};
+ghost use Rattle.pc_base.specs.Keyed.{at};
+ghost use Rattle.pc_base.specs.Transaction.{same_txn};
+ghost use Rattle.pc_proto.specs.Place.{Finish, after, view_of};
+ghost use Rattle.pc_proto.specs.RecordRows.Records.{listed};
+ghost use Rattle.pc_proto.specs.Table.{applied_to, no_table, place_of};
+ghost use Rattle.pc_record.specs.RecordOf.{becoming};
+
+use crate::place::{Place, record_view};
+use crate::records::listed;
+use pc_base::{NoMemory, TxnId};
+use pc_keyed::{at, drop_at, set_at};
+use pc_proto::{Metas, Record, Reply, Status, View};
+use std::alloc::Global;
+use std::marker::Model;
+
+/// The records and marks of a range.
+#[derive(Debug, Drop)]
+pub struct RecordTable {
+    records: Vec<(TxnId, Record)>,
+    marks: Vec<(TxnId, Status)>,
+}
+
+impl Model for RecordTable {
+    ghost use Rattle.pc_proto.specs.Table.{Table as table};
+
+    ghost Value = { table };
+
+    ghost view = { λ t. record { records = t.records.items; marks = t.marks.items } };
+}
+
+impl RecordTable {
+    /// A range of which no transaction has a record.
+    pub fn new(alloc: Global) -> RecordTable
+        ensures { result ≡ no_table }
+    {
+        RecordTable {
+            records: Vec::new(alloc),
+            marks: Vec::new(alloc),
+        }
+    }
+
+    /// What the range tells of a transaction.
+    pub fn status(&self, id: TxnId) -> Result<View, NoMemory>
+        ensures { IfOk result (λ made. made ≡ view_of (place_of id self.now)) }
+    {
+        self.place(id).view(self.alloc())
+    }
+
+    pub(crate) fn alloc(&self) -> Global {
+        *self.records.allocator()
+    }
+
+    /// The transaction's record.
+    pub fn record(&self, id: TxnId) -> Option<&Record>
+        ensures { option_copied result ≡ at same_txn id self.now.records }
+    {
+        at(&self.records, &id)
+    }
+
+    /// The mark that the transaction's removed record left.
+    pub fn mark(&self, id: TxnId) -> Option<&Status>
+        ensures { option_copied result ≡ at same_txn id self.now.marks }
+    {
+        at(&self.marks, &id)
+    }
+
+    /// What the range has of a transaction.
+    pub(crate) fn place(&self, id: TxnId) -> Place<'_>
+        ensures { result ≡ place_of id self.now }
+    {
+        Place::new(self.record(id), self.mark(id))
+    }
+
+    /// Writes a transaction's record, where there is one to write, and tells what stands there then.
+    pub(crate) fn write(&mut self, id: TxnId, written: Option<Record>) -> Result<Reply, NoMemory>
+        ensures reply { IfOk result (λ made. made ≡ Reply.Status (view_of (after (place_of id self.old) (becoming written)))) }
+        ensures after { OnOk result (self.new ≡ applied_to id (becoming written) self.old) }
+        ensures err { OnErr result (self.new ≡ self.old) }
+    {
+        let view = match &written {
+            Some(record) => record_view(record)?,
+            None => self.status(id)?,
+        };
+        if let Some(record) = written {
+            set_at(&mut self.records, &id, record)?;
+        }
+        Ok(Reply::Status(view))
+    }
+
+    /// Puts a transaction's mark in the place of its record.
+    pub(crate) fn finish(&mut self, id: TxnId, status: Status) -> Result<(), NoMemory>
+        ensures ok { OnOk result (self.new ≡ applied_to id (Finish status) self.old) }
+        ensures err { OnErr result (self.new ≡ self.old) }
+    {
+        set_at(&mut self.marks, &id, status)?;
+        drop_at(&mut self.records, &id);
+        Ok(())
+    }
+
+    /// The metas of the records, by transaction.
+    pub(crate) fn list(&self) -> Result<Metas, NoMemory>
+        ensures { IfOk result (λ made. made ≡ listed self.now.records) }
+    {
+        listed(self.alloc(), &self.records)
+    }
+}
