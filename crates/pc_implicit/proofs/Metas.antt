@@ -1,6 +1,6 @@
 -- In every run each meta in a range, a request or a reply has its transaction's anchor, and each request to a record goes to the range
 -- of its transaction's anchor.
-use Rattle.std.proofs.Common.{◌≡◌, ℕ, Bool, true, false, cond, ◌&&◌, inl, inr, List, [], ◌∷◌, ◌++◌, find, Option, None, Some, IfSome, Any, Contains, refl, sym, ap, subst, ◌∙◌}
+use Rattle.std.proofs.Common.{◌≡◌, ℕ, Bool, true, false, cond, inl, inr, List, [], ◌∷◌, ◌++◌, find, Option, None, Some, IfSome, Contains, refl, sym, subst, ◌∙◌}
 use Rattle.std.proofs.lemmas.Bool.{and_parts}
 use Rattle.std.proofs.lemmas.List.Elements.{Contains-push, Contains-push_cases}
 use Rattle.std.specs.List.{AllByRecursion as Each}
@@ -9,21 +9,21 @@ use Rattle.std.specs.Prelude.{⊤, is_some}
 use Rattle.pc_base.specs.declared.actor.ActorId.{ActorId}
 use Rattle.pc_base.specs.declared.actor.ActorId.TheVariants as actors
 use Rattle.pc_base.specs.declared.entry.Entry.{Entry}
-use Rattle.pc_base.specs.declared.transaction.Who.{Who}
 use Rattle.pc_base.specs.declared.transaction.Priority.{Priority}
 use Rattle.pc_base.specs.declared.transaction.TxnId.{TxnId}
+use Rattle.pc_base.specs.declared.transaction.Who.{Who}
 use Rattle.pc_history.proofs.Lists.{contains_nil}
 use Rattle.pc_history.specs.History.{MayFollow}
 use Rattle.pc_history.specs.Own.{named_in}
 use Rattle.pc_implicit.proofs.Agreed.{Knows, agreed, open_there}
 use Rattle.pc_implicit.proofs.Anchored.{anchor_stays, commit_anchored, each_contained, meta-anchored, put_anchored}
-use Rattle.pc_implicit.proofs.Views.{subject-is}
 use Rattle.pc_implicit.proofs.Doing.{Does, does, same_or_not}
 use Rattle.pc_implicit.proofs.Evals.{NamedMessage, of_entry, range_evaluates}
 use Rattle.pc_implicit.proofs.Hearing.{IsSo, WasSentBy, heard_is_so, now_is_so, sent_is_so}
 use Rattle.pc_implicit.proofs.MetaRows.{MetaHas, ReplyHas, RequestHas, StateHas, anchor_named, reply_has, state_has}
 use Rattle.pc_implicit.proofs.Recorded.{evaluated_state}
 use Rattle.pc_implicit.proofs.Runs.{reply_is}
+use Rattle.pc_implicit.proofs.Views.{subject-is}
 use Rattle.pc_proto.specs.declared.event.Event.{Event}
 use Rattle.pc_proto.specs.declared.event.Event.TheVariants as events
 use Rattle.pc_proto.specs.declared.fate.Goal.{Goal}
@@ -38,7 +38,7 @@ use Rattle.pc_world.proofs.Knowing.{run_push, state_other}
 use Rattle.pc_world.proofs.Prefixes.{run_induction}
 use Rattle.pc_world.specs.After.{known_at, state_at}
 use Rattle.pc_world.specs.Committed.{anchor_in}
-use Rattle.pc_world.specs.Evaluation.{reply, state_after}
+use Rattle.pc_world.specs.Evaluation.{reply}
 use Rattle.pc_world.specs.Known.{Known}
 use Rattle.pc_world.specs.Known.Traffic.{Heard}
 use Rattle.pc_world.specs.Local.{Head}
