@@ -2,8 +2,8 @@
 use Rattle.std.proofs.Common.{◌≡◌, ℕ, ◌<◌, ◌≤◌, inl, inr, List, [], ◌∷◌, ◌++◌, filter_map, slice_get, Bool, true, false, if◌then◌else◌, Option, None, Some, Contains, refl, sym, ap, subst, ◌∙◌, arith}
 use Rattle.std.proofs.lemmas.List.{append_assoc}
 use Rattle.std.proofs.lemmas.List.Elements.{Contains-append_right, Contains-push_cases}
-use Rattle.std.specs.Option.{option_or}
 use Rattle.std.specs.List.{cons_option}
+use Rattle.std.specs.Option.{option_or}
 use Rattle.std.specs.Prelude.{⊤}
 use Rattle.pc_base.specs.declared.actor.ActorId.{ActorId}
 use Rattle.pc_base.specs.declared.actor.ActorId.TheVariants as actors
@@ -21,8 +21,8 @@ use Rattle.pc_implicit.proofs.Firsts.{first_push}
 use Rattle.pc_implicit.proofs.Keyed.{same-is, same-itself}
 use Rattle.pc_implicit.proofs.OwnSplit.{own_split}
 use Rattle.pc_implicit.proofs.Points.{or-first, told-what}
-use Rattle.pc_implicit.proofs.Sent.{unstaged_front, unstaged_induction}
 use Rattle.pc_implicit.proofs.Recorded.{WasSent}
+use Rattle.pc_implicit.proofs.Sent.{unstaged_front, unstaged_induction}
 use Rattle.pc_proto.specs.declared.answer.Answer.TheVariants as answers
 use Rattle.pc_proto.specs.declared.event.Event.{Event}
 use Rattle.pc_proto.specs.declared.event.Event.TheVariants as events
@@ -35,8 +35,8 @@ use Rattle.pc_world.specs.Committed.{IsCommitted, anchor_in, committed_in, key_s
 use Rattle.pc_world.specs.Known.{known}
 use Rattle.pc_world.specs.Legal.{BeganAfter, TellsBegun}
 use Rattle.pc_world.specs.Local.{Head}
-use Rattle.pc_world.specs.Unstaged.{NothingIsStaged}
 use Rattle.pc_world.specs.Run.{IsRun, protocol}
+use Rattle.pc_world.specs.Unstaged.{NothingIsStaged}
 
 -- The transaction was told begun, at or below this timestamp.
 pub record IsAbove (history : List (Entry Event)) (id : TxnId) (ts : ℕ) : Type 0 where

@@ -18,10 +18,10 @@ use Rattle.pc_implicit.proofs.Agreed.{committed_row, open_there}
 use Rattle.pc_implicit.proofs.Anchored.{each_contained}
 use Rattle.pc_implicit.proofs.Commits.{act_of, committed-view, none_staging}
 use Rattle.pc_implicit.proofs.Doing.{Does, told_by_row}
-use Rattle.pc_implicit.proofs.Hearing.{IsSo, as-heard, heard-event, to-list}
+use Rattle.pc_implicit.proofs.Hearing.{as-heard, to-list}
 use Rattle.pc_implicit.proofs.OneDecision.{told_committed}
 use Rattle.pc_implicit.proofs.OwnSplit.{own_split}
-use Rattle.pc_implicit.proofs.Sent.{unstaged_front, unstaged_sent}
+use Rattle.pc_implicit.proofs.Sent.{unstaged_front}
 use Rattle.pc_proto.specs.declared.answer.Answer.{Answer}
 use Rattle.pc_proto.specs.declared.answer.Answer.TheVariants as answers
 use Rattle.pc_proto.specs.declared.event.Event.{Event}
@@ -50,9 +50,9 @@ use Rattle.pc_world.specs.Legal.{Learns, ShowsWrite, ShowsWriteHeard, Wrote}
 use Rattle.pc_world.specs.Local.{Head}
 use Rattle.pc_world.specs.MayTell.{MayTellRow}
 use Rattle.pc_world.specs.Named.{is_tell}
-use Rattle.pc_world.specs.Unstaged.{NothingIsStaged}
 use Rattle.pc_world.specs.Run.{IsRun, protocol}
 use Rattle.pc_world.specs.Tell.Begin.{clock_now}
+use Rattle.pc_world.specs.Unstaged.{NothingIsStaged}
 use Rattle.pc_world.specs.Views.{WasCommitted, is_about, is_committed_at, view_in}
 
 high-rises : (event : Event) (named : Option (Entry Event)) (high : ℕ) → high ≤ high_after event named high

@@ -11,22 +11,22 @@ use Rattle.pc_base.specs.declared.actor.ActorId.{ActorId}
 use Rattle.pc_base.specs.declared.entry.Entry.{Entry}
 use Rattle.pc_base.specs.declared.transaction.TxnId.{TxnId}
 use Rattle.pc_base.specs.Transaction.{same_txn}
-use Rattle.pc_history.specs.History.{IsFineAfter, MayFollow}
-use Rattle.pc_history.specs.Own.{named_in, own}
 use Rattle.pc_history.proofs.Histories.{fine_after-back}
 use Rattle.pc_history.proofs.Lists.{contains_nil}
+use Rattle.pc_history.specs.History.{IsFineAfter, MayFollow}
+use Rattle.pc_history.specs.Own.{named_in, own}
 use Rattle.pc_implicit.proofs.Agreed.{Agrees, IsUnended, Knows, agreed, begun_at, committed_row, none_unless, open_there}
 use Rattle.pc_implicit.proofs.Anchored.{anchor_stays, each_contained}
-use Rattle.pc_implicit.proofs.Metas.{subject_anchored}
-use Rattle.pc_implicit.proofs.Views.{subject-is}
 use Rattle.pc_implicit.proofs.Doing.{Does, does}
 use Rattle.pc_implicit.proofs.Firsts.{first_push}
-use Rattle.pc_implicit.proofs.Keyed.{same-is}
 use Rattle.pc_implicit.proofs.Hearing.{IsSo, heard_is_so}
-use Rattle.pc_implicit.proofs.Sent.{unstaged_front, unstaged_induction}
+use Rattle.pc_implicit.proofs.Keyed.{same-is}
+use Rattle.pc_implicit.proofs.Metas.{subject_anchored}
 use Rattle.pc_implicit.proofs.Recorded.{IsBacked, IsRecorded, WasSent, recorded}
 use Rattle.pc_implicit.proofs.Runs.{decisions_stand, kept-status}
+use Rattle.pc_implicit.proofs.Sent.{unstaged_front, unstaged_induction}
 use Rattle.pc_implicit.proofs.Shown.{IsUnstaged, WasAnswered}
+use Rattle.pc_implicit.proofs.Views.{subject-is}
 use Rattle.pc_implicit.specs.Decided.{decision}
 use Rattle.pc_proto.specs.declared.answer.Answer.TheVariants as answers
 use Rattle.pc_proto.specs.declared.event.Event.{Event}
@@ -50,12 +50,12 @@ use Rattle.pc_world.specs.Committed.{IsCommitted, anchor_in, commit_at, commit_b
 use Rattle.pc_world.specs.Known.{Known, first_if}
 use Rattle.pc_world.specs.Known.Transactions.{Txn}
 use Rattle.pc_world.specs.Local.{Head}
-use Rattle.pc_world.specs.Unstaged.{NothingIsStaged}
 use Rattle.pc_world.specs.RangeOf.{range_of}
 use Rattle.pc_world.specs.Run.{IsRun, protocol}
 use Rattle.pc_world.specs.Send.Put.{MaySendPut}
 use Rattle.pc_world.specs.Send.Recovery.{WasStaging, is_push_of}
 use Rattle.pc_world.specs.Tell.End.{is_staging_at, shows_staging}
+use Rattle.pc_world.specs.Unstaged.{NothingIsStaged}
 use Rattle.pc_world.specs.Views.{WasCommitted, is_about, is_committed_at, view_in}
 
 -- The range of the transaction's anchor has it committed at this timestamp.

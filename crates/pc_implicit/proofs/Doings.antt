@@ -1,22 +1,24 @@
 -- What is so of each operation of a transaction, where it is so of each that an event adds.
-use Rattle.std.proofs.Common.{◌≡◌, ◌≢◌, ℕ, Bool, true, false, if◌then◌else◌, ◌&&◌, not, cond, inl, inr, List, [], ◌∷◌, ◌++◌, filter, fold, map, Option, None, Some, IfSome, Any, refl, sym, ap, subst, ◌∙◌}
+use Rattle.std.proofs.Common.{◌≡◌, ◌≢◌, ℕ, Bool, true, false, if◌then◌else◌, ◌&&◌, not, cond, inl, inr, List, [], ◌∷◌, ◌++◌, filter, fold, map, Option, None, Some, IfSome, refl, sym, ap, subst, ◌∙◌}
 use Rattle.std.proofs.lemmas.Grind.{fold-append}
+use Rattle.std.proofs.lemmas.List.{append-nil, map-append}
 use Rattle.std.proofs.lemmas.List.Elements.{filter-append}
 use Rattle.std.specs.List.{AllByRecursion as Each, list_any}
-use Rattle.pc_base.specs.declared.actor.ActorId.{ActorId}
 use Rattle.pc_base.specs.declared.actor.ActorId.TheVariants as actors
 use Rattle.pc_base.specs.declared.entry.Entry.{Entry}
 use Rattle.pc_base.specs.declared.transaction.TxnId.{TxnId}
 use Rattle.pc_base.specs.Transaction.{same_txn}
 use Rattle.pc_history.proofs.Ids.{same_id-differ, same_id-equal}
-use Rattle.pc_history.specs.Own.{named_in, same_id}
+use Rattle.pc_history.specs.Own.{same_id}
+use Rattle.pc_implicit.proofs.Commits.{act_of}
+use Rattle.pc_implicit.proofs.Doing.{Does, same_or_not}
+use Rattle.pc_implicit.proofs.Sent.{sent_induction}
 use Rattle.pc_proto.specs.declared.answer.Answer.{Answer}
 use Rattle.pc_proto.specs.declared.answer.Answer.TheVariants as answers
 use Rattle.pc_proto.specs.declared.call.Call.{Call}
 use Rattle.pc_proto.specs.declared.call.Call.TheVariants as calls
 use Rattle.pc_proto.specs.declared.event.Event.{Event}
 use Rattle.pc_proto.specs.declared.event.Event.TheVariants as events
-use Rattle.pc_proto.specs.declared.reply.Reply.{Reply}
 use Rattle.pc_proto.specs.declared.request.Request.{Request}
 use Rattle.pc_proto.specs.declared.request.Request.TheVariants as requests
 use Rattle.pc_world.proofs.Each.{each-append}
@@ -26,11 +28,7 @@ use Rattle.pc_world.specs.Known.{Known}
 use Rattle.pc_world.specs.Known.Statements.{Statement, statement_after}
 use Rattle.pc_world.specs.Local.{Head}
 use Rattle.pc_world.specs.Operations.{Doing, Operation, Read, ReadAll, Write, call_after, doing_after, doing_nothing, done_after, done_sent, done_told, is_write, operations_of, session_events}
-use Rattle.pc_world.specs.Run.{IsRun, protocol}
-use Rattle.std.proofs.lemmas.List.{append-nil, map-append}
-use Rattle.pc_implicit.proofs.Commits.{act_of}
-use Rattle.pc_implicit.proofs.Doing.{Does, same_or_not}
-use Rattle.pc_implicit.proofs.Sent.{sent_induction}
+use Rattle.pc_world.specs.Run.{IsRun}
 use Rattle.pc_world.specs.Unstaged.{EachSent}
 
 -- The call of the open statement is the one that was asked last.
@@ -112,7 +110,7 @@ pub record AreSo (P : Operation → Type 0) (d : Doing) (s : Option Statement) :
 
 module _ (head : Head) (R : Request → Type 0) (P : Operation → Type 0)
     (new : (history : List (Entry Event)) (e : Entry Event) → IsRun head history → EachSent R (history ++ e ∷ []) → (call : Option Call)
-      → IsCallOf call (known_at head e.actor history).statement → Does head e.actor (known_at head e.actor history) e.event → IfSome (added e.event call) P) where
+    → IsCallOf call (known_at head e.actor history).statement → Does head e.actor (known_at head e.actor history) e.event → IfSome (added e.event call) P) where
   are-so : (history : List (Entry Event)) → IsRun head history → EachSent R history → (id : TxnId) → AreSo P (doing_at id history) (known_at head (actors.Session id.session) history).statement
   are-so = sent_induction R head (λ history. (id : TxnId) → AreSo P (doing_at id history) (known_at head (actors.Session id.session) history).statement)
       (λ id. record { call = tt; done = tt }) (λ history e run each may all id.

@@ -1,13 +1,12 @@
 -- What is so of the transaction and anchor of each meta in a range and in a request stays so over evaluation, and is so in the reply.
-use Rattle.std.proofs.Common.{◌≡◌, ℕ, Bool, true, false, ◌&&◌, ◌==◌, not, nat_le, cond, if◌then◌else◌, inl, inr, List, [], ◌∷◌, filter, fold, map, Option, None, Some, IfSome, refl, sym, ap, subst, ◌∙◌}
-use Rattle.std.specs.Prelude.{⊤}
+use Rattle.std.proofs.Common.{ℕ, Bool, true, false, ◌&&◌, ◌==◌, not, nat_le, if◌then◌else◌, List, [], ◌∷◌, filter, fold, map, Option, None, Some, IfSome}
 use Rattle.std.specs.BTreeMap.{insert_entry}
 use Rattle.std.specs.declared.cmp.Ordering.{Ordering}
 use Rattle.std.specs.declared.cmp.Ordering.TheVariants.{Less, Equal, Greater}
 use Rattle.std.specs.List.{AllByRecursion as Each}
 use Rattle.std.specs.Option.{option_map_or}
 use Rattle.std.specs.Ordering.{match_ordering}
-use Rattle.pc_base.specs.declared.span.Span.{Span}
+use Rattle.std.specs.Prelude.{⊤}
 use Rattle.pc_base.specs.declared.transaction.TxnId.{TxnId}
 use Rattle.pc_base.specs.declared.transaction.Who.{Who}
 use Rattle.pc_base.specs.Keyed.{at, in_order}
@@ -40,15 +39,15 @@ use Rattle.pc_proto.specs.RecordRows.Records.{listed}
 use Rattle.pc_proto.specs.RecordRows.Recover.{decided, recover}
 use Rattle.pc_proto.specs.RecordRows.Remove.{remove}
 use Rattle.pc_proto.specs.RecordRows.Stage.{stage}
-use Rattle.pc_proto.specs.Table.{Table, applied_to, place_of, record_or_mark, records_after}
-use Rattle.pc_world.proofs.Each.{each-at, each-choose, each-filter, each-map, each-set_at, each-without}
+use Rattle.pc_proto.specs.Table.{Table, place_of, record_or_mark, records_after}
+use Rattle.pc_world.proofs.Each.{each-at, each-choose, each-filter, each-set_at, each-without}
 use Rattle.pc_world.specs.Evaluation.{intents_after, reply, state_after}
 use Rattle.pc_world.specs.Evaluation.Get.{found_at, get_blocker, get_reply}
 use Rattle.pc_world.specs.Evaluation.IntentChange.{IntentChange, Leave, Lay, Drop, intents_with}
-use Rattle.pc_world.specs.Evaluation.Put.{PutOutcome, Meets, Stands, Lands, first_outcome, laid, overtaken, own_outcome, put_change, put_outcome, put_reply, write_ts}
+use Rattle.pc_world.specs.Evaluation.Put.{PutOutcome, Stands, Lands, first_outcome, laid, overtaken, own_outcome, put_change, put_outcome, put_reply, write_ts}
 use Rattle.pc_world.specs.Evaluation.Query.{stands}
 use Rattle.pc_world.specs.Evaluation.Refresh.{refresh_reply, refuter_in}
-use Rattle.pc_world.specs.Evaluation.Resolve.{change_for, settled}
+use Rattle.pc_world.specs.Evaluation.Resolve.{change_for}
 use Rattle.pc_world.specs.Evaluation.Scan.{rows_in, scan_reply}
 use Rattle.pc_world.specs.RangeState.{RangeState}
 

@@ -1,6 +1,6 @@
 -- In every run each meta in a range, a request or a reply has its transaction's anchor, and each request to a record goes to the range
 -- of its transaction's anchor.
-use Rattle.std.proofs.Common.{◌≡◌, ℕ, Bool, true, false, cond, ◌&&◌, inl, inr, List, [], ◌∷◌, ◌++◌, find, Option, None, Some, IfSome, Any, Contains, refl, sym, ap, subst, ◌∙◌}
+use Rattle.std.proofs.Common.{◌≡◌, ℕ, Bool, true, false, cond, ◌⊎◌, if◌then◌else◌, inl, inr, List, [], ◌∷◌, ◌++◌, find, Option, None, Some, IfSome, Contains, refl, sym, ap, subst, ◌∙◌}
 use Rattle.std.proofs.lemmas.Bool.{and_parts}
 use Rattle.std.proofs.lemmas.List.Elements.{Contains-push, Contains-push_cases}
 use Rattle.std.specs.List.{AllByRecursion as Each}
@@ -9,21 +9,21 @@ use Rattle.std.specs.Prelude.{⊤, is_some}
 use Rattle.pc_base.specs.declared.actor.ActorId.{ActorId}
 use Rattle.pc_base.specs.declared.actor.ActorId.TheVariants as actors
 use Rattle.pc_base.specs.declared.entry.Entry.{Entry}
-use Rattle.pc_base.specs.declared.transaction.Who.{Who}
 use Rattle.pc_base.specs.declared.transaction.Priority.{Priority}
 use Rattle.pc_base.specs.declared.transaction.TxnId.{TxnId}
+use Rattle.pc_base.specs.declared.transaction.Who.{Who}
 use Rattle.pc_history.proofs.Lists.{contains_nil}
 use Rattle.pc_history.specs.History.{MayFollow}
 use Rattle.pc_history.specs.Own.{named_in}
 use Rattle.pc_implicit.proofs.Agreed.{Knows, agreed, open_there}
 use Rattle.pc_implicit.proofs.Anchored.{anchor_stays, commit_anchored, each_contained, meta-anchored, put_anchored}
-use Rattle.pc_implicit.proofs.Views.{subject-is}
 use Rattle.pc_implicit.proofs.Doing.{Does, does, same_or_not}
 use Rattle.pc_implicit.proofs.Evals.{NamedMessage, of_entry, range_evaluates}
 use Rattle.pc_implicit.proofs.Hearing.{IsSo, WasSentBy, heard_is_so, now_is_so, sent_is_so}
 use Rattle.pc_implicit.proofs.MetaRows.{MetaHas, ReplyHas, RequestHas, StateHas, anchor_named, reply_has, state_has}
 use Rattle.pc_implicit.proofs.Recorded.{evaluated_state}
 use Rattle.pc_implicit.proofs.Runs.{reply_is}
+use Rattle.pc_implicit.proofs.Views.{subject-is}
 use Rattle.pc_proto.specs.declared.event.Event.{Event}
 use Rattle.pc_proto.specs.declared.event.Event.TheVariants as events
 use Rattle.pc_proto.specs.declared.fate.Goal.{Goal}
@@ -33,12 +33,12 @@ use Rattle.pc_proto.specs.declared.reply.Reply.TheVariants as replies
 use Rattle.pc_proto.specs.declared.request.Request.{Request}
 use Rattle.pc_proto.specs.declared.request.Request.TheVariants as requests
 use Rattle.pc_proto.specs.RecordRows.{subject}
-use Rattle.pc_world.proofs.Each.{each-weaker}
+use Rattle.pc_world.proofs.Each.{each-at, each-weaker}
 use Rattle.pc_world.proofs.Knowing.{run_push, state_other}
 use Rattle.pc_world.proofs.Prefixes.{run_induction}
-use Rattle.pc_world.specs.After.{known_at, state_at}
+use Rattle.pc_world.specs.After.{known_at, place_at, state_at}
 use Rattle.pc_world.specs.Committed.{anchor_in}
-use Rattle.pc_world.specs.Evaluation.{reply, state_after}
+use Rattle.pc_world.specs.Evaluation.{reply}
 use Rattle.pc_world.specs.Known.{Known}
 use Rattle.pc_world.specs.Known.Traffic.{Heard}
 use Rattle.pc_world.specs.Local.{Head}
@@ -51,6 +51,14 @@ use Rattle.pc_world.specs.Send.Stage.{MaySendStage}
 use Rattle.pc_world.specs.StageFate.{Stage}
 use Rattle.pc_world.specs.Views.{anchor_heard, is_about, shows_view, view_in}
 use Rattle.pc_world.specs.Views.{anchor_in as anchor_of}
+use Rattle.pc_proto.specs.Place.{Place, Nothing}
+use Rattle.pc_implicit.proofs.Places.{place_kept}
+use Rattle.pc_proto.specs.Table.{place_of}
+use Rattle.pc_proto.specs.Intents.{intent_at, kept_if, own_at}
+use Rattle.pc_proto.specs.declared.record.Intent.{Intent}
+use Rattle.pc_base.specs.Span.{same_key}
+use Rattle.pc_base.specs.Transaction.{same_txn}
+use Rattle.pc_implicit.proofs.Keyed.{same-is}
 
 -- The history has this anchor of the transaction.
 abbrev pub HasAnchor : List (Entry Event) → TxnId → List ℕ → Type 0
@@ -261,3 +269,51 @@ module _ (head : Head) where
       let has : GoesTo head.splits request range × RequestHas (HasAnchor history) request = subst (EventHas head history) is ((metas_agree history run).entries a there) in
       let goes = goes-to range request id who has.0 in
       record { anchor = goes.anchor; there = goes.there; anchored = subject-has (HasAnchor history) request id goes.anchor has.1 who goes.named }
+
+  AreAtAnchors : List (Entry Event) → Type 0
+  AreAtAnchors history = (range : ℕ) (id : TxnId) → (place_at head range id history ≡ Nothing) ⊎ IsAnchorRange history range id
+
+  at-more : (history : List (Entry Event)) (e : Entry Event) (range : ℕ) (id : TxnId) → IsAnchorRange history range id → IsAnchorRange (history ++ e ∷ []) range id
+  at-more history e range id a = record { anchor = a.anchor; there = a.there; anchored = anchor_stays id history e a.anchor a.anchored }
+
+  -- in every run a range has of a transaction nothing, or it is the range of the transaction's anchor
+  pub place_anchored : (history : List (Entry Event)) → IsRun head history → (range : ℕ) (id : TxnId) → (place_at head range id history ≡ Nothing) ⊎ IsAnchorRange history range id
+  unfolding AreAtAnchors
+  place_anchored = run_induction head AreAtAnchors (λ range id. inl refl) (λ history e run may all range id.
+      let P : Place → Type 0 = λ p. (p ≡ Nothing) ⊎ IsAnchorRange history range id in
+      let now : P (place_at head range id (history ++ e ∷ [])) =
+      elim (same_or_not e.actor (actors.Range range)) [
+        | inl at ↦
+            let what = range_evaluates head history e range may at in
+            let ev = of_entry head history e what.0 what.1 what.2 run may what.3 in
+            let same : ev.range ≡ range = let both = sym ev.there ∙ at in cc both in
+            subst (λ r. (place_at head r id (history ++ e ∷ []) ≡ Nothing) ⊎ IsAnchorRange history r id) same
+            (subst (λ (s : RangeState). (place_of id s.table ≡ Nothing) ⊎ IsAnchorRange history ev.range id) (sym (evaluated_state head history e what.0 what.1 ev.range what.2 ev what.3))
+            (place_kept (λ p. (p ≡ Nothing) ⊎ IsAnchorRange history ev.range id) ev.request id (state_at head ev.range history).table
+            (λ about before. inr (subject_anchored history run ev.send ev.listed what.1 ev.range ev.request id ev.sends about)) (all ev.range id)))
+        | inr differ ↦ subst (λ (s : RangeState). P (place_of id s.table)) (sym (state_other head (actors.Range range) history e differ)) (all range id)
+      ] in
+      elim now [ inl none ↦ inl none | inr at ↦ inr (at-more history e range id at) ])
+
+  -- a transaction of which no put was sent has neither a record nor a mark
+  pub no_place : (history : List (Entry Event)) → IsRun head history → (range : ℕ) (id : TxnId) → anchor_in id history ≡ None → place_at head range id history ≡ Nothing
+  no_place history run range id none =
+      elim (place_anchored history run range id) [
+        | inl nothing ↦ nothing
+        | inr at ↦ let both : None ≡ Some at.anchor = sym none ∙ at.anchored in absurd cc
+      ]
+
+  -- nor an intent
+  pub no_intent : (history : List (Entry Event)) → IsRun head history → (range : ℕ) (id : TxnId) (key : List ℕ) → anchor_in id history ≡ None → own_at id key (state_at head range history).intents ≡ None
+  no_intent history run range id key none =
+      let intents = (state_at head range history).intents in
+      by (intent_at key intents) (each-at (λ (i : Intent). HasAnchor history i.meta.id i.meta.anchor) same_key key intents ((metas_agree history run).states range).intents)
+    where
+      by : (o : Option Intent) → IfSome o (λ i. HasAnchor history i.meta.id i.meta.anchor) → kept_if (λ (i : Intent). same_txn i.meta.id id) o ≡ None
+      by None has = refl
+      by (Some i) has = by_id (same_txn i.meta.id id) refl
+        where
+          by_id : (b : Bool) → same_txn i.meta.id id ≡ b → (if b then Some i else None) ≡ None
+          by_id true same =
+              let both : None ≡ Some i.meta.anchor = sym none ∙ ap (λ i. anchor_in i history) (sym (same-is i.meta.id id same)) ∙ has in absurd cc
+          by_id false same = refl

@@ -14,7 +14,7 @@ use Rattle.pc_implicit.proofs.Doing.{Does}
 use Rattle.pc_implicit.proofs.Evals.{NamedMessage, of_entry}
 use Rattle.pc_implicit.proofs.Firsts.{first_push}
 use Rattle.pc_implicit.proofs.Keyed.{same-itself}
-use Rattle.pc_implicit.proofs.Sent.{unstaged_front, unstaged_induction, unstaged_sent}
+use Rattle.pc_implicit.proofs.Sent.{unstaged_front, unstaged_induction}
 use Rattle.pc_implicit.proofs.Shown.{answer_shows}
 use Rattle.pc_proto.specs.declared.answer.Answer.TheVariants as answers
 use Rattle.pc_proto.specs.declared.event.Event.{Event}
@@ -31,8 +31,8 @@ use Rattle.pc_world.specs.Decisions.{Acknowledges, AnswersCommitted, Commits, Ha
 use Rattle.pc_world.specs.Known.Traffic.{reply_in}
 use Rattle.pc_world.specs.Local.{Head}
 use Rattle.pc_world.specs.Named.{request_in, request_named}
-use Rattle.pc_world.specs.Unstaged.{NothingIsStaged}
 use Rattle.pc_world.specs.Run.{IsRun, protocol}
+use Rattle.pc_world.specs.Unstaged.{NothingIsStaged}
 
 tells-what : (id : TxnId) (ts : ℕ) (event : Event) → TellsCommit id ts event → event ≡ events.Tell (answers.Committed id ts)
 tells-what id ts (events.Tell (answers.Committed other at)) h = ap (λ i. events.Tell (answers.Committed i at)) h.0 ∙ ap (λ t. events.Tell (answers.Committed id t)) h.1

@@ -21,8 +21,8 @@ use Rattle.pc_implicit.proofs.Firsts.{first_push}
 use Rattle.pc_implicit.proofs.Keyed.{same-is}
 use Rattle.pc_implicit.proofs.Made.{decided_sent, made_by_commit}
 use Rattle.pc_implicit.proofs.Places.{place_kept}
+use Rattle.pc_implicit.proofs.Recorded.{evaluated_state, recorded}
 use Rattle.pc_implicit.proofs.Sent.{unstaged_front, unstaged_sent}
-use Rattle.pc_implicit.proofs.Recorded.{IsRecorded, evaluated_state, recorded}
 use Rattle.pc_implicit.specs.Decided.{decision}
 use Rattle.pc_proto.specs.declared.answer.Answer.TheVariants as answers
 use Rattle.pc_proto.specs.declared.event.Event.{Event}
@@ -30,9 +30,7 @@ use Rattle.pc_proto.specs.declared.event.Event.TheVariants as events
 use Rattle.pc_proto.specs.declared.meta.TxnMeta.{TxnMeta}
 use Rattle.pc_proto.specs.declared.record.Standing.TheVariants as standings
 use Rattle.pc_proto.specs.declared.reply.Reply.{Reply}
-use Rattle.pc_proto.specs.declared.request.Request.{Request}
 use Rattle.pc_proto.specs.declared.request.Request.TheVariants as requests
-use Rattle.pc_proto.specs.Place.{Place, Nothing, Kept, Marked}
 use Rattle.pc_proto.specs.RecordRows.{subject}
 use Rattle.pc_proto.specs.RecordRows.Reached.{status_of}
 use Rattle.pc_proto.specs.Table.{place_of}
@@ -44,10 +42,10 @@ use Rattle.pc_world.specs.Committed.{IsCommitted, anchor_in, commit_at, commit_p
 use Rattle.pc_world.specs.Evaluation.{state_after}
 use Rattle.pc_world.specs.Local.{Head}
 use Rattle.pc_world.specs.Named.{is_send_of}
-use Rattle.pc_world.specs.Unstaged.{NothingIsStaged}
 use Rattle.pc_world.specs.RangeOf.{range_of}
 use Rattle.pc_world.specs.RangeState.{RangeState}
 use Rattle.pc_world.specs.Run.{IsRun, protocol}
+use Rattle.pc_world.specs.Unstaged.{NothingIsStaged}
 
 -- The entry makes the transaction committed: it tells so, or it evaluates a commit of it.
 pub data Makes (history : List (Entry Event)) (e : Entry Event) (id : TxnId) : Type 0 where

@@ -1,25 +1,25 @@
 -- What each record row keeps.
 use Rattle.std.proofs.Common.{◌≡◌, ℕ, Bool, true, false, if◌then◌else◌, List, Some, refl, ap, ◌∙◌, arith}
 use Rattle.std.proofs.lemmas.Grind.{common_steps}
-use Rattle.pc_implicit.specs.Decided.{IsNotBelow, decision}
 use Rattle.pc_base.specs.declared.transaction.Priority.{Priority}
 use Rattle.pc_base.specs.declared.transaction.Who.{Who}
+use Rattle.pc_implicit.specs.Decided.{IsNotBelow, decision}
 use Rattle.pc_proto.specs.declared.fate.Finding.{Finding}
 use Rattle.pc_proto.specs.declared.fate.Goal.{Goal}
 use Rattle.pc_proto.specs.declared.fate.Goal.TheVariants as goals
 use Rattle.pc_proto.specs.declared.meta.TxnMeta.{TxnMeta}
-use Rattle.pc_proto.specs.declared.why.Why.{Why}
+use Rattle.pc_proto.specs.declared.record.Status.{Status}
 use Rattle.pc_proto.specs.declared.request.Request.{Request}
 use Rattle.pc_proto.specs.declared.request.Request.TheVariants as requests
-use Rattle.pc_proto.specs.declared.record.Status.{Status}
+use Rattle.pc_proto.specs.declared.why.Why.{Why}
 use Rattle.pc_proto.specs.Place.{Place, Nothing, Kept, Marked, Change, Stay, after, is_decided}
 use Rattle.pc_proto.specs.RecordRows.{change, unless_decided}
-use Rattle.pc_proto.specs.RecordRows.Remove.{remove}
 use Rattle.pc_proto.specs.RecordRows.Abort.{abort}
 use Rattle.pc_proto.specs.RecordRows.Beat.{beat}
 use Rattle.pc_proto.specs.RecordRows.Commit.{commit}
 use Rattle.pc_proto.specs.RecordRows.Push.{push}
 use Rattle.pc_proto.specs.RecordRows.Recover.{recover}
+use Rattle.pc_proto.specs.RecordRows.Remove.{remove}
 use Rattle.pc_proto.specs.RecordRows.Stage.{stage}
 
 decided-if : (p : Place) (s : Status) → decision p ≡ Some s → is_decided p ≡ true

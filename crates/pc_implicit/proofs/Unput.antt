@@ -1,12 +1,12 @@
 -- Where no put is sent, ranges stay empty, and each read finds nothing.
-use Rattle.std.proofs.Common.{◌≡◌, ℕ, Bool, true, false, not, ◌&&◌, ◌==◌, nat_le, inl, inr, List, [], ◌∷◌, ◌++◌, filter, filter_map, map, Option, None, Some, IfSome, Any, Contains, refl, sym, ap, subst, ◌∙◌}
+use Rattle.std.proofs.Common.{◌≡◌, ℕ, ◌==◌, inl, inr, List, [], ◌∷◌, ◌++◌, filter, filter_map, map, Option, None, Some, IfSome, Any, refl, sym, ap, subst, ◌∙◌}
 use Rattle.std.proofs.lemmas.List.{append-nil}
 use Rattle.std.proofs.lemmas.List.Elements.{All-contains, Contains-push}
+use Rattle.std.specs.Cmp.Lexicographic.{slice_cmp}
 use Rattle.std.specs.List.{AllByRecursion as Each}
 use Rattle.std.specs.Option.{option_and_then}
 use Rattle.std.specs.Ordering.{nat_cmp}
 use Rattle.std.specs.Prelude.{⊤}
-use Rattle.std.specs.Cmp.Lexicographic.{slice_cmp}
 use Rattle.pc_base.specs.declared.actor.ActorId.{ActorId}
 use Rattle.pc_base.specs.declared.actor.ActorId.TheVariants as actors
 use Rattle.pc_base.specs.declared.entry.Entry.{Entry}
@@ -16,10 +16,9 @@ use Rattle.pc_base.specs.declared.version.Version.{Version}
 use Rattle.pc_base.specs.Keyed.{in_order}
 use Rattle.pc_base.specs.Span.{contains}
 use Rattle.pc_base.specs.Versions.{visible}
-use Rattle.pc_history.specs.History.{MayFollow}
 use Rattle.pc_implicit.proofs.Anchored.{each_contained}
 use Rattle.pc_implicit.proofs.Doing.{Does, same_or_not, told_by_row}
-use Rattle.pc_implicit.proofs.Doings.{IsCallOf, added, operations_are_so}
+use Rattle.pc_implicit.proofs.Doings.{added, operations_are_so}
 use Rattle.pc_implicit.proofs.Evals.{of_entry, range_evaluates}
 use Rattle.pc_implicit.proofs.Hearing.{IsSo, now_is_so}
 use Rattle.pc_implicit.proofs.Recorded.{evaluated_state}
@@ -41,7 +40,7 @@ use Rattle.pc_world.proofs.Each.{each-weaker}
 use Rattle.pc_world.proofs.Knowing.{state_other}
 use Rattle.pc_world.proofs.Prefixes.{run_front}
 use Rattle.pc_world.specs.After.{known_at, state_at}
-use Rattle.pc_world.specs.Evaluation.{intents_after, reply, state_after, versions_after}
+use Rattle.pc_world.specs.Evaluation.{reply, state_after}
 use Rattle.pc_world.specs.Evaluation.Get.{found_at, found_first, get_blocker, get_reply, own_value, version_found}
 use Rattle.pc_world.specs.Evaluation.IntentChange.{intents_with}
 use Rattle.pc_world.specs.Evaluation.Resolve.{change_for, new_versions}
@@ -52,7 +51,7 @@ use Rattle.pc_world.specs.Local.{Head}
 use Rattle.pc_world.specs.Operations.{Operation, Read, ReadAll, Write, operations_of}
 use Rattle.pc_world.specs.RangeOf.{pieces}
 use Rattle.pc_world.specs.RangeState.{RangeState}
-use Rattle.pc_world.specs.Run.{IsRun, protocol}
+use Rattle.pc_world.specs.Run.{IsRun}
 use Rattle.pc_world.specs.Tell.Data.{AreRowsOf, AreRowsOfAll, IsValueOf, told_row}
 use Rattle.pc_world.specs.Unstaged.{IsNoPut, NothingIsPut, OnSent}
 

@@ -1,14 +1,17 @@
 -- Where no get and no scan is sent, nothing is read.
-use Rattle.std.proofs.Common.{◌≡◌, ◌≢◌, ℕ, Bool, true, false, if◌then◌else◌, ◌&&◌, not, cond, inl, inr, List, [], ◌∷◌, ◌++◌, filter, fold, map, Option, None, Some, IfSome, Any, refl, sym, ap, subst, ◌∙◌}
-use Rattle.std.specs.List.{AllByRecursion as Each, list_any}
+use Rattle.std.proofs.Common.{◌≡◌, ℕ, false, List, [], ◌∷◌, map, Option, None, Some, IfSome, Any, refl, sym, ap, ◌∙◌}
+use Rattle.std.specs.List.{AllByRecursion as Each}
 use Rattle.pc_base.specs.declared.actor.ActorId.{ActorId}
-use Rattle.pc_base.specs.declared.actor.ActorId.TheVariants as actors
 use Rattle.pc_base.specs.declared.entry.Entry.{Entry}
 use Rattle.pc_base.specs.declared.span.Span.{Span}
 use Rattle.pc_base.specs.declared.transaction.TxnId.{TxnId}
 use Rattle.pc_base.specs.Span.{contains}
 use Rattle.pc_implicit.proofs.Anchored.{each_contained}
+use Rattle.pc_implicit.proofs.Doing.{Does, told_by_row}
+use Rattle.pc_implicit.proofs.Doings.{IsCallOf, added, call_is, operations_are_so}
+use Rattle.pc_implicit.proofs.Hearing.{IsSo, now_is_so}
 use Rattle.pc_implicit.proofs.Pieces.{no_key}
+use Rattle.pc_implicit.proofs.Sent.{each_front, each_sent}
 use Rattle.pc_proto.specs.declared.answer.Answer.{Answer}
 use Rattle.pc_proto.specs.declared.answer.Answer.TheVariants as answers
 use Rattle.pc_proto.specs.declared.call.Call.{Call}
@@ -19,21 +22,17 @@ use Rattle.pc_proto.specs.declared.reply.Origin.{Origin}
 use Rattle.pc_proto.specs.declared.reply.Reply.{Reply}
 use Rattle.pc_proto.specs.declared.request.Request.{Request}
 use Rattle.pc_proto.specs.declared.request.Request.TheVariants as requests
+use Rattle.pc_world.proofs.Each.{each-weaker}
 use Rattle.pc_world.specs.After.{known_at}
 use Rattle.pc_world.specs.Known.{Known}
-use Rattle.pc_world.specs.Local.{Head}
-use Rattle.pc_world.specs.MayTell.{MayTellRow}
-use Rattle.pc_world.specs.RangeOf.{pieces}
-use Rattle.pc_world.specs.Run.{IsRun, protocol}
-use Rattle.pc_world.specs.Tell.Data.{AreRowsOf, AreRowsOfAll, IsValueOf}
-use Rattle.pc_implicit.proofs.Doing.{Does, told_by_row}
-use Rattle.pc_implicit.proofs.Doings.{IsCallOf, added, call_is, operations_are_so}
-use Rattle.pc_implicit.proofs.Hearing.{IsSo, now_is_so}
-use Rattle.pc_implicit.proofs.Sent.{each_front, each_sent}
-use Rattle.pc_world.proofs.Each.{each-weaker}
 use Rattle.pc_world.specs.Known.Statements.{Statement}
 use Rattle.pc_world.specs.Known.Traffic.{Heard}
+use Rattle.pc_world.specs.Local.{Head}
+use Rattle.pc_world.specs.MayTell.{MayTellRow}
 use Rattle.pc_world.specs.Operations.{Operation, Read, ReadAll, Write, operations_of}
+use Rattle.pc_world.specs.RangeOf.{pieces}
+use Rattle.pc_world.specs.Run.{IsRun}
+use Rattle.pc_world.specs.Tell.Data.{AreRowsOf, AreRowsOfAll, IsValueOf}
 use Rattle.pc_world.specs.Unstaged.{IsNoRead, NothingIsRead}
 
 -- A write, or a scan of a span that has no key, which was told no rows.

@@ -8,10 +8,10 @@ use Rattle.pc_implicit.proofs.Lift.{GoesOn}
 use Rattle.pc_implicit.proofs.Places.{at_place, place_after}
 use Rattle.pc_implicit.proofs.Rows.{decision-row, not-below-itself, rises-row}
 use Rattle.pc_implicit.specs.Decided.{HasReached, IsNotBelow, StaysTrue, decision}
+use Rattle.pc_proto.specs.declared.record.Record.{Record}
 use Rattle.pc_proto.specs.declared.record.Standing.{Standing}
 use Rattle.pc_proto.specs.declared.record.Standing.TheVariants as standings
 use Rattle.pc_proto.specs.declared.record.Status.{Status}
-use Rattle.pc_proto.specs.declared.record.Record.{Record}
 use Rattle.pc_proto.specs.declared.reply.Reply.TheVariants as replies
 use Rattle.pc_proto.specs.declared.request.Request.{Request}
 use Rattle.pc_proto.specs.declared.request.Request.TheVariants as requests

@@ -13,8 +13,8 @@ use Rattle.pc_world.specs.Committed.{IsCommitted, commit_point}
 use Rattle.pc_world.specs.Decisions.{HasOneDecision}
 use Rattle.pc_world.specs.Known.Transactions.{is_final_view}
 use Rattle.pc_world.specs.Local.{Head}
-use Rattle.pc_world.specs.Unstaged.{NothingIsStaged}
 use Rattle.pc_world.specs.Run.{IsRun}
+use Rattle.pc_world.specs.Unstaged.{NothingIsStaged}
 
 -- A decision stands: a final record or mark keeps its status for good.
 abbrev pub DecisionsStand : Type 0

@@ -12,8 +12,8 @@ use Rattle.std.specs.Ordering.{nat_cmp, ordering_then}
 use Rattle.pc_base.specs.declared.entry.Entry.{Entry}
 use Rattle.pc_base.specs.declared.transaction.TxnId.{TxnId}
 use Rattle.pc_base.specs.Transaction.{same_txn}
-use Rattle.pc_proto.specs.declared.event.Event.{Event}
 use Rattle.pc_implicit.proofs.Keyed.{same-is}
+use Rattle.pc_proto.specs.declared.event.Event.{Event}
 use Rattle.pc_serial.proofs.Begun.{mapped-contains}
 use Rattle.pc_serial.proofs.InOrder.{before-in, each-contains, each-in_order, has-in_order, once-in, rises-in_order, rises-sorted}
 use Rattle.pc_world.proofs.Each.{each-filter_map, each-weaker}
