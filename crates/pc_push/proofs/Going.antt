@@ -1,5 +1,5 @@
 -- What a machine stands by it stands by later.
-use Rattle.std.proofs.Common.{◌≡◌, ℕ, ◌+◌, ◌≤◌, true, false, Bool, List, [], ◌∷◌, map, inl, inr, All, Any, Option, None, Some, IsTrue, refl, sym, ap, ◌∙◌, subst, arith}
+use Rattle.std.proofs.Common.{◌≡◌, ℕ, ◌+◌, ◌≤◌, true, false, Bool, List, [], ◌∷◌, map, inl, inr, All, Option, Some, IsTrue, sym, ap, subst, arith}
 use Rattle.std.proofs.lemmas.List.Elements.{All-weaker}
 use Rattle.std.specs.Option.{option_map, option_to_list}
 use Rattle.pc_base.specs.declared.actor.ActorId.{ActorId}
@@ -15,7 +15,7 @@ use Rattle.pc_proto.specs.declared.view.View.{View}
 use Rattle.pc_proto.specs.Stamps.{fate_stamps, goal_stamps}
 use Rattle.pc_push.specs.declared.progress.Progress.{Progress}
 use Rattle.pc_push.specs.declared.progress.Progress.TheVariants as progress
-use Rattle.pc_push.specs.PushKnows.{HasMetStaging, IsDone, MayPush, PushKnows, StandsAt, WasRefused}
+use Rattle.pc_push.specs.PushKnows.{HasMetStaging, IsDone, MayPush, PushKnows, StandsAt}
 use Rattle.pc_push.specs.Pushing.{Pushing, push_of, resolve_of}
 use Rattle.pc_world.proofs.Anywhere.{any_kept}
 use Rattle.pc_world.proofs.Exchange.{ever_later, heard_later, kept_later, later-itself, later-later, top_later}

@@ -1,5 +1,5 @@
 -- Every mark of a range is final.
-use Rattle.std.proofs.Common.{◌≡◌, ℕ, Bool, true, false, if◌then◌else◌, List, [], ◌∷◌, fold, Option, None, Some, IfSome, refl, ap, ◌∙◌, arith}
+use Rattle.std.proofs.Common.{◌≡◌, ℕ, Bool, true, false, if◌then◌else◌, List, [], ◌∷◌, fold, Option, None, Some, IfSome, refl, arith}
 use Rattle.std.specs.List.{AllByRecursion as Each}
 use Rattle.pc_base.specs.declared.transaction.TxnId.{TxnId}
 use Rattle.pc_base.specs.Keyed.{at}
@@ -7,7 +7,6 @@ use Rattle.pc_base.specs.Transaction.{same_txn}
 use Rattle.pc_history.specs.declared.pair.Pair.{Pair}
 use Rattle.pc_proto.specs.declared.event.Event.{Event}
 use Rattle.pc_proto.specs.declared.fate.Finding.{Finding}
-use Rattle.pc_proto.specs.declared.fate.Goal.{Goal}
 use Rattle.pc_proto.specs.declared.fate.Goal.TheVariants as goals
 use Rattle.pc_proto.specs.declared.meta.TxnMeta.{TxnMeta}
 use Rattle.pc_proto.specs.declared.record.Record.{Record}
@@ -15,15 +14,14 @@ use Rattle.pc_proto.specs.declared.record.Status.{Status}
 use Rattle.pc_proto.specs.declared.request.Request.{Request}
 use Rattle.pc_proto.specs.declared.request.Request.TheVariants as requests
 use Rattle.pc_proto.specs.Place.{Place, Nothing, Kept, Marked, Change, Stay, Become, Finish, is_decided, is_final}
-use Rattle.pc_proto.specs.RecordRows.{change, subject, table_after, table_for}
+use Rattle.pc_proto.specs.RecordRows.{change, subject, table_for}
 use Rattle.pc_proto.specs.RecordRows.Commit.{commit}
-use Rattle.pc_proto.specs.RecordRows.Push.{Verdict, There, Refuse, Doubt, Do, on_verdict, pushed, verdict}
+use Rattle.pc_proto.specs.RecordRows.Push.{Verdict, There, Refuse, Doubt, Do, on_verdict, verdict}
 use Rattle.pc_proto.specs.RecordRows.Reached.{is_staged_at}
 use Rattle.pc_proto.specs.RecordRows.Recover.{decided}
 use Rattle.pc_proto.specs.RecordRows.Stage.{stage}
-use Rattle.pc_proto.specs.Table.{Table, applied_to, marks_after, place_of, record_or_mark}
+use Rattle.pc_proto.specs.Table.{Table, applied_to, place_of, record_or_mark}
 use Rattle.pc_world.proofs.Each.{each-at, each-set_at}
-use Rattle.pc_world.specs.Evaluation.{state_after}
 use Rattle.pc_world.specs.Named.{request_named}
 use Rattle.pc_world.specs.RangeState.{RangeState, no_state}
 use Rattle.pc_world.specs.StateOf.{evaluated, state_of, state_with}

@@ -1,6 +1,5 @@
 -- What a range can answer to the requests of a conflict round.
-use Rattle.std.proofs.Common.{◌≡◌, ℕ, ◌≤◌, Bool, true, false, cond, List, Option, None, Some, nat_le, refl, sym, ap, ◌∙◌, subst, arith}
-use Rattle.pc_base.specs.declared.transaction.Priority.{Priority}
+use Rattle.std.proofs.Common.{◌≡◌, ℕ, ◌≤◌, Bool, true, false, cond, List, None, refl, sym, subst, arith}
 use Rattle.pc_base.specs.declared.transaction.TxnId.{TxnId}
 use Rattle.pc_base.specs.declared.transaction.Who.{Who}
 use Rattle.pc_proto.specs.declared.fate.Fate.{Fate}
@@ -17,13 +16,13 @@ use Rattle.pc_proto.specs.declared.request.Request.TheVariants as requests
 use Rattle.pc_proto.specs.declared.view.View.{View}
 use Rattle.pc_proto.specs.declared.view.View.TheVariants as views
 use Rattle.pc_proto.specs.Place.{Place, Nothing, Kept, Marked, after, is_decided, is_final, status_view, view_of}
-use Rattle.pc_proto.specs.RecordRows.{answer, push_reply}
+use Rattle.pc_proto.specs.RecordRows.{push_reply}
 use Rattle.pc_proto.specs.RecordRows.Push.{Verdict, There, Refuse, Doubt, Do, is_staged, is_there, on_verdict, push, pushed, verdict, wins}
 use Rattle.pc_proto.specs.RecordRows.Reached.{is_staging}
 use Rattle.pc_proto.specs.Table.{place_of}
 use Rattle.pc_push.proofs.Marks.{IsFinalPlace, place_final}
 use Rattle.pc_push.specs.PushKnows.{Recovers}
-use Rattle.pc_push.specs.Pushing.{Pushing, final_fate, push_of, resolve_of}
+use Rattle.pc_push.specs.Pushing.{Pushing, final_fate, push_of}
 use Rattle.pc_world.specs.Exchange.{IsReplyTo}
 use Rattle.pc_world.specs.Send.Settling.{IsFateOf}
 use Rattle.pc_world.specs.StateOf.{state_of}

@@ -1,5 +1,5 @@
 -- What comes next is allowed, and after a reply the machine stands by what its actor knows.
-use Rattle.std.proofs.Common.{◌≡◌, ℕ, ◌+◌, ◌≤◌, Bool, true, false, ◌==◌, List, [], ◌∷◌, inl, inr, All, Any, Option, None, Some, Result, Ok, Err, IfOk, OnOk, IsTrue, refl, sym, ap, ◌∙◌, subst, arith}
+use Rattle.std.proofs.Common.{◌≡◌, ℕ, ◌+◌, ◌≤◌, true, false, ◌==◌, List, inl, inr, All, Option, None, Some, Result, Ok, Err, IfOk, OnOk, refl, sym, ap, ◌∙◌, subst, arith}
 use Rattle.std.proofs.lemmas.Bool.{and_from, eq-eqb}
 use Rattle.std.proofs.lemmas.List.Elements.{All-nil, All-weaker}
 use Rattle.pc_base.specs.declared.actor.ActorId.{ActorId}
@@ -18,16 +18,15 @@ use Rattle.pc_proto.specs.declared.view.View.{View}
 use Rattle.pc_proto.specs.declared.view.View.TheVariants as views
 use Rattle.pc_proto.specs.Stamps.{fate_stamps, goal_stamps, reply_stamps, view_stamps}
 use Rattle.pc_push.proofs.Going.{push_later, stamps_later, stands_later}
-use Rattle.pc_push.proofs.Replies.{IsPushReply, IsStagingView, IsStatus, push_answers, recovery_answers, resolve_answers}
+use Rattle.pc_push.proofs.Replies.{IsPushReply, IsStatus, push_answers, recovery_answers, resolve_answers}
 use Rattle.pc_push.specs.declared.progress.Progress.{Progress}
 use Rattle.pc_push.specs.declared.progress.Progress.TheVariants as progress
-use Rattle.pc_push.specs.PushKnows.{Asks, AsksAt, HasMetStaging, IsDone, MayCome, MayPush, MaySettle, PushKnows, Recovers, StandsAt, WasRefused}
+use Rattle.pc_push.specs.PushKnows.{Asks, AsksAt, HasMetStaging, MayCome, MayPush, MaySettle, PushKnows, Recovers, StandsAt}
 use Rattle.pc_push.specs.Pushing.{Pushing, after_reply, due_at, fate_after, final_fate, first_of, heard_at, moved_fate, next_of, progress_after_push, progress_after_recovery, push_of, resolve_of, resolving, with_progress}
 use Rattle.pc_world.proofs.Anywhere.{any_weaker}
 use Rattle.pc_world.proofs.Exchange.{answered, heard_earlier, heard_ever, later-later}
 use Rattle.pc_world.specs.declared.machine.MachineNext.{MachineNext}
-use Rattle.pc_world.specs.declared.machine.MachineNext.TheVariants as nexts
-use Rattle.pc_world.specs.Exchange.{HeardSince, IsAllowed, IsExchange, IsLater, IsReplyTo, WasAnswered}
+use Rattle.pc_world.specs.Exchange.{HeardSince, IsExchange, IsLater, IsReplyTo, WasAnswered}
 use Rattle.pc_world.specs.Known.{Known}
 use Rattle.pc_world.specs.Known.Transactions.{is_final_view}
 use Rattle.pc_world.specs.Send.Settling.{IsFateOf, MaySendResolve, ShowsFate}
