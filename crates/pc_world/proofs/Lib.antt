@@ -1,4 +1,6 @@
+pub mod Anywhere
 pub mod Each
+pub mod Exchange
 pub mod Kept
 pub mod Knowing
 pub mod Prefixes

@@ -4,6 +4,7 @@ pub mod CommitOrder
 pub mod Committed
 pub mod Evaluation
 pub mod Follows
+pub mod Exchange
 pub mod Caused
 pub mod Counting
 pub mod Decisions

@@ -1,0 +1,4 @@
+pub mod Going
+pub mod Marks
+pub mod Replies
+pub mod Stepping

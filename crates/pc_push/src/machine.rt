@@ -1,0 +1,201 @@
+ghost use Rattle.std.specs.Prelude.{◌≡◌, ◌<◌, ℕ, true, IfOk, IfSome, OnErr, OnOk, List};
+ghost use Rattle.pc_base.specs.declared.actor.ActorId.{ActorId};
+ghost use Rattle.pc_base.specs.Timestamp.{greatest};
+ghost use Rattle.pc_proto.specs.declared.request.Request.{Request};
+ghost use Rattle.pc_push.specs.Pushing.{IsStart, after_recovery, after_push, after_reply, fate_after, final_fate, goal_of, next_of, push_of, resolving, with_progress};
+ghost use Rattle.pc_push.specs.PushKnows.{Asks, MayCome, MayPush, PushKnows};
+ghost use Rattle.pc_world.specs.declared.machine.MachineNext.TheVariants as nexts;
+ghost use Rattle.pc_world.specs.Exchange.{IsReplyTo, WasAnswered};
+ghost use Rattle.pc_world.specs.Known.{Known};
+ghost use Rattle.pc_world.specs.Send.Recovery.{is_conflict};
+
+use crate::progress::Progress;
+use pc_base::{Key, NoMemory, Priority, Timestamp, TryCopy, Who};
+use pc_proto::{Fate, Goal, Reply, Request, TxnMeta, View};
+use pc_world::MachineNext;
+use std::marker::Model;
+
+/// Pushes the holder of an intent that stood in the way, and settles the intent as the push came out.
+///
+/// A reader moves the holder past its read, a writer aborts it. Where the push met a staging record, `next` gives it as settled;
+/// the caller runs a recovery then, and tells the machine the reply to its `Recover`.
+#[derive(Drop)]
+pub struct PushMachine {
+    holder: TxnMeta,
+    key: Key,
+    by: Who,
+    level: Priority,
+    /// The call's reading of the clock, in nanoseconds.
+    reading: u64,
+    goal: Goal,
+    progress: Progress,
+}
+
+impl Model for PushMachine {
+    ghost use Rattle.pc_push.specs.Pushing.{Pushing};
+
+    ghost Value = { Pushing };
+
+    ghost view = { λ s. record { holder = s.holder; key = s.key; by = s.by; level = s.level; reading = s.reading; goal = s.goal; progress = s.progress } };
+}
+
+impl PushMachine {
+    /// The round of this conflict. A reader's is told at which timestamp it reads.
+    pub fn new(
+        conflict: Reply,
+        by: Who,
+        level: Priority,
+        now: u64,
+        reader: Option<Timestamp>,
+    ) -> PushMachine
+        requires conflict { is_conflict conflict ≡ true }
+        requires reader { IfSome reader (λ ts. ts < greatest) }
+        ensures made { IsStart conflict by level now reader result }
+        ensures knows { (actor : ActorId) (k : Known) → MayPush actor k result → PushKnows actor k k result }
+    {
+        let goal = goal_for(reader);
+        match conflict {
+            Reply::Conflict { holder, key, .. } => PushMachine {
+                holder,
+                key,
+                by,
+                level,
+                reading: now,
+                goal,
+                progress: Progress::Push,
+            },
+            _ => unreachable!(),
+        }
+    }
+
+    /// What is due.
+    pub fn next(&self) -> Result<MachineNext, NoMemory>
+        ensures due { IfOk result (λ next. next ≡ next_of self.now) }
+        ensures may { (splits : List (List ℕ)) (actor : ActorId) (start k : Known) → PushKnows actor start k self.now → IfOk result (MayCome splits actor start k self.now) }
+    {
+        self.next_due()
+    }
+
+    fn next_due(&self) -> Result<MachineNext, NoMemory>
+        ensures { IfOk result (λ next. next ≡ next_of self.now) }
+    {
+        match &self.progress {
+            Progress::Push => self.push(),
+            Progress::Refused => Ok(MachineNext::Refused(self.holder.id)),
+            Progress::Unsure(view) => Ok(MachineNext::Settled(view.copy()?)),
+            Progress::Resolve(fate) => Ok(MachineNext::Send(Request::Resolve {
+                id: self.holder.id,
+                key: self.key.copy()?,
+                fate: *fate,
+            })),
+            Progress::Over => Ok(MachineNext::Finished),
+        }
+    }
+
+    fn push(&self) -> Result<MachineNext, NoMemory>
+        ensures { IfOk result (λ next. next ≡ nexts.Send (push_of self.now)) }
+    {
+        Ok(MachineNext::Send(Request::Push {
+            holder: self.holder.copy()?,
+            by: self.by,
+            level: self.level,
+            now: self.reading,
+            goal: self.goal,
+        }))
+    }
+
+    /// This reply was heard: to the request that `next` gave, or, once it gave a staging record, to a recovery of that.
+    pub fn heard(&mut self, reply: &Reply) -> Result<(), NoMemory>
+        ensures made { OnOk result (self.new ≡ after_reply reply.now self.old) }
+        ensures err { OnErr result (self.new ≡ self.old) }
+        ensures knows { (actor : ActorId) (start k later : Known) (request : Request) → PushKnows actor start k self.old → Asks self.old request → WasAnswered k later request reply.now → IsReplyTo request reply.now → OnOk result (PushKnows actor start later self.new) }
+    {
+        self.hear(reply)
+    }
+
+    fn hear(&mut self, reply: &Reply) -> Result<(), NoMemory>
+        ensures ok { OnOk result (self.new ≡ after_reply reply.now self.old) }
+        ensures err { OnErr result (self.new ≡ self.old) }
+    {
+        match &self.progress {
+            Progress::Push => self.push_heard(reply),
+            Progress::Unsure(_) => {
+                self.recovery_heard(reply);
+                Ok(())
+            }
+            Progress::Resolve(_) => {
+                self.progress = Progress::Over;
+                Ok(())
+            }
+            Progress::Refused | Progress::Over => Ok(()),
+        }
+    }
+
+    fn push_heard(&mut self, reply: &Reply) -> Result<(), NoMemory>
+        ensures ok { OnOk result (self.new ≡ after_push reply.now self.old) }
+        ensures err { OnErr result (self.new ≡ self.old) }
+    {
+        self.progress = match reply {
+            Reply::Status(view) => resolving(fate_after(self.goal, view), Progress::Push),
+            Reply::Refused(_) => Progress::Refused,
+            Reply::Unsure(view) => Progress::Unsure(view.copy()?),
+            _ => Progress::Push,
+        };
+        Ok(())
+    }
+
+    fn recovery_heard(&mut self, reply: &Reply)
+        ensures { self.new ≡ after_recovery reply.now self.old }
+    {
+        self.progress = match reply {
+            Reply::Status(view) => resolving(final_fate(view), Progress::Over),
+            _ => Progress::Over,
+        };
+    }
+}
+
+/// A reader moves the holder past its read, a writer aborts it.
+fn goal_for(reader: Option<Timestamp>) -> Goal
+    requires { IfSome reader (λ ts. ts < greatest) }
+    ensures { result ≡ goal_of reader }
+{
+    match reader {
+        Some(ts) => Goal::Move(ts.next()),
+        None => Goal::Abort,
+    }
+}
+
+/// The intent is settled with this fate, if there is one.
+fn resolving(fate: Option<Fate>, otherwise: Progress) -> Progress
+    ensures { result ≡ resolving fate otherwise }
+{
+    match fate {
+        Some(fate) => Progress::Resolve(fate),
+        None => otherwise,
+    }
+}
+
+/// The fate of a final view.
+fn final_fate(view: &View) -> Option<Fate>
+    ensures { result ≡ final_fate view.now }
+{
+    match view {
+        View::Committed { epoch, ts, .. } => Some(Fate::Committed {
+            epoch: *epoch,
+            ts: *ts,
+        }),
+        View::Aborted { .. } => Some(Fate::Aborted),
+        View::Nothing | View::Pending { .. } | View::Staging { .. } => None,
+    }
+}
+
+/// The fate after a push: that of a final view, or the move that the push asked for.
+fn fate_after(goal: Goal, view: &View) -> Option<Fate>
+    ensures { result ≡ fate_after goal view.now }
+{
+    match (final_fate(view), goal) {
+        (Some(fate), _) => Some(fate),
+        (None, Goal::Move(ts)) => Some(Fate::Pending { ts }),
+        (None, Goal::Abort) => None,
+    }
+}
