@@ -1,6 +1,7 @@
 -- When the program ends in which way. Own profile.
-use Rattle.std.specs.Prelude.{◌≡◌, ℕ, ◌≤◌, ◌↔◌, ◌⊎◌, List, [], ◌∷◌, Option, Some, None, IfSome, IsSome, ⊤, codes, length, take}
+use Rattle.std.specs.Prelude.{◌≡◌, ℕ, Bool, ◌≤◌, ◌↔◌, ◌⊎◌, List, [], ◌∷◌, Option, Some, None, IfSome, IsSome, ⊤, codes, length, take}
 use Rattle.std.specs.Io.KnownBytes.{Appends}
+use Rattle.pc_base.specs.declared.actor.ActorId.{ActorId}
 use Rattle.pc_program.specs.declared.status.Status.{Status}
 use Rattle.pc_program.specs.declared.status.Status.TheVariants as statuses
 use Rattle.pc_program.specs.Output.{IsOutput}
@@ -83,17 +84,17 @@ IsBuilt (statuses.Workload number) = ⊤
 IsBuilt (statuses.TooLong bytes) = ⊤
 IsBuilt statuses.NoMemory = ⊤
 
--- A part of an output of a workload was appended to what the sink had taken.
-pub record HasWrittenOf (work : Workload) (old new : Option (List ℕ)) (part : List ℕ → List ℕ) : Type 0 where
+-- A part of an output of a workload, by these rules of the clocks, was appended to what the sink had taken.
+pub record HasWrittenOf (work : Workload) (rules : ActorId → ℕ → ℕ → Bool) (old new : Option (List ℕ)) (part : List ℕ → List ℕ) : Type 0 where
   pub text : List ℕ
-  pub output : IsOutput work text
+  pub output : IsOutput work rules text
   pub written : Appends old new (part text)
 
 -- A part of an output was appended to what the sink had taken: of the workload that the source's bytes state, where it tells them.
-pub record HasWritten (left old new : Option (List ℕ)) (part : List ℕ → List ℕ) : Type 0 where
+pub record HasWritten (rules : ActorId → ℕ → ℕ → Bool) (left old new : Option (List ℕ)) (part : List ℕ → List ℕ) : Type 0 where
   pub work : Workload
   pub stated : IfSome left (λ bytes. workload_in bytes ≡ Some work)
-  pub appended : HasWrittenOf work old new part
+  pub appended : HasWrittenOf work rules old new part
 
 -- The status is one that comes once the source was read to its end.
 abbrev pub IsAfterReading : Status → Type 0

@@ -20,7 +20,7 @@ pub(crate) fn output<M: Clocks, G: Gate>(
     gate: &G,
 ) -> Result<Vec<u8>, NoMemory>
     requires { IsBuilt work.now }
-    ensures { IfOk result (λ out. IsOutput work.now out.items) }
+    ensures { IfOk result (λ out. IsOutput work.now (M.rules clocks.old) out.items) }
 {
     let entries = run_turns(alloc, work, clocks, gate)?;
     let report = report(alloc, &work.splits, &entries)?;

@@ -53,9 +53,9 @@ pub fn pcommit<S: Source, K: Sink, M: Clocks, G: Gate>(
         IsWriting result ↔ (IsJson bytes × IsSome (workload_in bytes)))) }
 
     // Done is the whole output behind what the sink had taken; a write fault is a part of it. Else nothing was written.
-    ensures done { IfDone result (HasWritten (S.left source.old) (K.taken sink.old) (K.taken sink.new) (λ text. text)) }
+    ensures done { IfDone result (HasWritten (M.rules clocks.old) (S.left source.old) (K.taken sink.old) (K.taken sink.new) (λ text. text)) }
     ensures part { IfWriteFault result (λ written.
-        HasWritten (S.left source.old) (K.taken sink.old) (K.taken sink.new) (take written)) }
+        HasWritten (M.rules clocks.old) (S.left source.old) (K.taken sink.old) (K.taken sink.new) (take written)) }
     ensures unwritten { UnlessWriting result (sink.new ≡ sink.old) }
     ensures built { IsBuilt result }
 {
@@ -93,8 +93,8 @@ fn run<K: Sink, M: Clocks, G: Gate>(
     ensures no_json { IfRead result ((result ≡ Status.Workload 1) ↔ ¬ (IsJson bytes.now)) }
     ensures other_form { IfRead result ((result ≡ Status.Workload 10) ↔ (IsJson bytes.now × (workload_in bytes.now ≡ None))) }
     ensures accepted { IfRead result (IsWriting result ↔ (IsJson bytes.now × IsSome (workload_in bytes.now))) }
-    ensures done { IfDone result (HasWritten (Some bytes.now) (K.taken sink.old) (K.taken sink.new) (λ text. text)) }
-    ensures part { IfWriteFault result (λ written. HasWritten (Some bytes.now) (K.taken sink.old) (K.taken sink.new) (take written)) }
+    ensures done { IfDone result (HasWritten (M.rules clocks.old) (Some bytes.now) (K.taken sink.old) (K.taken sink.new) (λ text. text)) }
+    ensures part { IfWriteFault result (λ written. HasWritten (M.rules clocks.old) (Some bytes.now) (K.taken sink.old) (K.taken sink.new) (take written)) }
     ensures write_fault { IfWriteFault result (λ written. Rose (K.faults sink.old) (K.faults sink.new)) }
     ensures write_count { K.faults sink.old ≤ K.faults sink.new }
     ensures unwritten { UnlessWriting result (sink.new ≡ sink.old) }
@@ -116,8 +116,8 @@ fn write_output<K: Sink, M: Clocks, G: Gate>(
     gate: &G,
 ) -> Status
     requires { IsBuiltWork work.now }
-    ensures done { IfDone result (HasWrittenOf work.now (K.taken sink.old) (K.taken sink.new) (λ text. text)) }
-    ensures part { IfWriteFault result (λ written. HasWrittenOf work.now (K.taken sink.old) (K.taken sink.new) (take written)) }
+    ensures done { IfDone result (HasWrittenOf work.now (M.rules clocks.old) (K.taken sink.old) (K.taken sink.new) (λ text. text)) }
+    ensures part { IfWriteFault result (λ written. HasWrittenOf work.now (M.rules clocks.old) (K.taken sink.old) (K.taken sink.new) (take written)) }
     ensures write_fault { IfWriteFault result (λ written. Rose (K.faults sink.old) (K.faults sink.new)) }
     ensures write_count { K.faults sink.old ≤ K.faults sink.new }
     ensures unwritten { UnlessWriting result (sink.new ≡ sink.old) }

@@ -32,7 +32,9 @@ const RANGE: u32 = 0;
 /// The first session and the only range, and what happened at them.
 #[derive(Drop)]
 pub(crate) struct SessionRun<'a> {
+    /// What the history follows. Contracts alone speak of it.
     work: &'a Workload,
+    /// The session's part of it.
     session: &'a SessionWork,
     script: ScriptRun<'a>,
     clock: Stepped,
