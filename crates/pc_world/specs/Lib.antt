@@ -15,6 +15,7 @@ pub mod Local
 pub mod MayTell
 pub mod Named
 pub mod Operations
+pub mod PutsAndCommits
 pub mod RangeOf
 pub mod RangeState
 pub mod Run
