@@ -4,5 +4,6 @@ pub mod Exchange
 pub mod Kept
 pub mod Knowing
 pub mod Prefixes
+pub mod PutsAndCommits
 pub mod Stamps
 pub mod World

@@ -17,6 +17,7 @@ pub mod Local
 pub mod MayTell
 pub mod Named
 pub mod Operations
+pub mod PutsAndCommits
 pub mod RangeOf
 pub mod RangeState
 pub mod Run
