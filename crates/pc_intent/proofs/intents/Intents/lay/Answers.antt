@@ -1,4 +1,4 @@
-use Rattle.std.proofs.Common.{◌≡◌, ℕ, List, None, Some, position, slice_index_or, sym, subst, OnOk, arith}
+use Rattle.std.proofs.Common.{◌≡◌, ℕ, List, None, Some, position, slice_index_or, sym, subst, arith}
 use Rattle.std.proofs.lemmas.Grind.{common_steps}
 use Rattle.pc_base.specs.Span.{same_key}
 use Rattle.pc_proto.specs.declared.record.Intent.{Intent}
