@@ -2,7 +2,7 @@ ghost use Rattle.std.specs.Prelude.{◌≡◌, ◌<◌, ℕ, true, IfOk, IfSome,
 ghost use Rattle.pc_base.specs.declared.actor.ActorId.{ActorId};
 ghost use Rattle.pc_base.specs.Timestamp.{greatest};
 ghost use Rattle.pc_proto.specs.declared.request.Request.{Request};
-ghost use Rattle.pc_push.specs.Pushing.{IsStart, after_recovery, after_push, after_reply, fate_after, final_fate, goal_of, next_of, push_of, resolving, with_progress};
+ghost use Rattle.pc_push.specs.Pushing.{IsStart, after_recovery, after_push, after_reply, fate_after, final_fate, goal_of, next_of, push_of, resolving};
 ghost use Rattle.pc_push.specs.PushKnows.{Asks, MayCome, MayPush, PushKnows};
 ghost use Rattle.pc_world.specs.declared.machine.MachineNext.TheVariants as nexts;
 ghost use Rattle.pc_world.specs.Exchange.{IsReplyTo, WasAnswered};
