@@ -94,7 +94,7 @@ fn committed_rows(
 }
 
 /// The last write of each key, in key order.
-fn last_writes(alloc: Global, puts: &[Put]) -> Result<LastWrites, NoMemory>
+pub(crate) fn last_writes(alloc: Global, puts: &[Put]) -> Result<LastWrites, NoMemory>
     ensures { IfOk result (λ last. last ≡ last_puts puts.now) }
 {
     let mut last = BTreeMap::new(alloc);
