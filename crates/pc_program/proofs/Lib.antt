@@ -1,2 +1,3 @@
 pub mod OneWord
 pub mod Ends
+pub mod Headline

@@ -6,11 +6,14 @@ use Rattle.pc_journal.specs.Journal.{journal_text}
 use Rattle.pc_proto.specs.declared.event.Event.{Event}
 use Rattle.pc_report.specs.declared.rows.Report.{Report}
 use Rattle.pc_report.specs.Report.{report_text}
+use Rattle.pc_report.specs.ReportOf.{report_of}
 use Rattle.pc_runner.specs.Follows.{Follows}
 use Rattle.pc_runner.specs.History.{head_of}
+use Rattle.pc_serial.specs.Laws.{OrdersCommits}
 use Rattle.pc_work.specs.declared.workload.Workload.{Workload}
+use Rattle.pc_world.specs.Decisions.{HasOneDecision}
+use Rattle.pc_world.specs.Legal.{IsLegal}
 use Rattle.pc_world.specs.Local.{Head}
-use Rattle.pc_world.specs.PutsAndCommits.{OnlyPutsAndCommits}
 use Rattle.pc_world.specs.Run.{IsRun}
 
 -- The journal of a history under the head of this workload, and below it a report.
@@ -21,12 +24,18 @@ output_text work entries report = journal_text work.splits (length work.sessions
 abbrev pub head_in : Workload → Head
 head_in work = head_of work.splits (length work.sessions)
 
--- The text is such an output, of a history that is a run of the protocol and follows the workload, where these are the rules of the
--- clocks that were handed in; so far only puts and commits are sent in it.
-pub record IsOutput (work : Workload) (rules : ActorId → ℕ → ℕ → Bool) (text : List ℕ) : Type 0 where
-  pub entries : List (Entry Event)
+-- The history is the run that the workload asks for, where these are the rules of the clocks that were handed in: a run of the protocol
+-- that follows the workload. In it no two decisions differ, each committed transaction stands in the commit order once, and they are
+-- one legal history of a map.
+pub record IsRunOf (work : Workload) (rules : ActorId → ℕ → ℕ → Bool) (entries : List (Entry Event)) : Type 0 where
   pub run : IsRun (head_in work) entries
   pub follows : Follows work rules (head_in work) entries
-  pub only : OnlyPutsAndCommits entries
-  pub report : Report
-  pub whole : text ≡ output_text work entries report
+  pub decisions : HasOneDecision (head_in work) entries
+  pub ordered : OrdersCommits (head_in work) entries
+  pub legal : IsLegal (head_in work) entries
+
+-- The text is the journal and the report of one such history.
+pub record IsOutput (work : Workload) (rules : ActorId → ℕ → ℕ → Bool) (text : List ℕ) : Type 0 where
+  pub entries : List (Entry Event)
+  pub is : IsRunOf work rules entries
+  pub whole : text ≡ output_text work entries (report_of (head_in work) entries)
