@@ -1,5 +1,5 @@
 -- A call puts a write.
-use Rattle.std.proofs.Common.{◌≡◌, ℕ, ◌+◌, ◌<◌, ◌≤◌, Bool, true, ◌&&◌, ◌==◌, inl, List, [], ◌∷◌, ◌++◌, length, map, Option, Some, None, refl, sym, ap, ◌∙◌, subst, arith, All, IsTrue, unwrap_or, length-append}
+use Rattle.std.proofs.Common.{◌≡◌, ℕ, ◌+◌, ◌<◌, ◌≤◌, Bool, true, false, ◌&&◌, ◌==◌, inl, List, [], ◌∷◌, ◌++◌, length, map, Option, Some, None, refl, sym, ap, ◌∙◌, subst, arith, All, IsTrue, unwrap_or, length-append}
 use Rattle.std.specs.List.{Any, list_any}
 use Rattle.std.specs.Option.{option_or}
 use Rattle.std.proofs.lemmas.List.Elements.{All-cons, All-nil, All-push, All-weaker}
@@ -15,17 +15,18 @@ use Rattle.pc_coord.specs.Coordination.{Coordination, with_put}
 use Rattle.pc_coord.specs.declared.due.Wait.TheVariants as waits
 use Rattle.pc_coord.specs.declared.transaction.Transaction.{Transaction}
 use Rattle.pc_coord.specs.Events.{IsAsked}
-use Rattle.pc_coord.specs.Knows.{Awaits, IsCounted, IsHeld, IsOpenAs, IsOwnSent, IsSettled, Knows, SendsNow}
+use Rattle.pc_coord.specs.Knows.{Awaits, IsCounted, IsHeld, IsOpenAs, IsOwnSent, IsSettled, Knows, SendsNow, write_call}
 use Rattle.pc_coord.specs.Transaction.{put_of, transaction_of, with_write}
 use Rattle.pc_history.specs.declared.pair.Pair.{Pair}
 use Rattle.pc_proto.specs.declared.answer.Answer.TheVariants as answers
-use Rattle.pc_proto.specs.declared.call.Call.TheVariants as calls
 use Rattle.pc_proto.specs.declared.event.Event.{Event}
 use Rattle.pc_proto.specs.declared.request.Request.{Request}
 use Rattle.pc_world.specs.Known.{Known, learn, next_number}
 use Rattle.pc_world.specs.Known.Traffic.{Sent}
 use Rattle.pc_world.specs.Known.Transactions.{Txn, txn_sent, with_lock}
 use Rattle.pc_world.specs.Known.Writes.{IsProvedBy, Write, is_proved, last_seq_of}
+use Rattle.pc_world.specs.MayTell.{is_past_range, needs_txn}
+use Rattle.pc_world.specs.Send.Put.{AsksFor}
 use Rattle.pc_world.specs.StageFate.{IsDead, IsRefused, OnCommit}
 
 proofs-some : (ts : ℕ) (proofs : List ℕ) → Any (λ n. n ≤ ts) proofs → list_any (λ n. true) proofs ≡ true
@@ -37,21 +38,21 @@ pub all_are_proved : (ts : ℕ) (key : List ℕ) (writes : List Write) (same : W
 all_are_proved ts key writes same a =
     All-weaker (IsProvedBy ts) (λ w. IsTrue (same w) → IsTrue (is_proved w)) (λ w p other. proofs-some ts w.proofs p) writes a
 
-abbrev pub new_write : ℕ → ℕ → List ℕ → List ℕ → Write
-new_write seq ts key value = record { key = key; seq = seq; value = Some value; asked = ts ∷ []; proofs = [] }
+abbrev pub new_write : ℕ → ℕ → List ℕ → Option (List ℕ) → Write
+new_write seq ts key value = record { key = key; seq = seq; value = value; asked = ts ∷ []; proofs = [] }
 
 -- The transaction once its put was sent.
-abbrev pub written : List ℕ → List ℕ → Txn → Txn
+abbrev pub written : List ℕ → Option (List ℕ) → Txn → Txn
 written key value t = record t {
   anchor = option_or t.anchor (Some key);
   locks = with_lock key t.locks;
   writes = t.writes ++ new_write (last_seq_of t.writes + 1) t.write_ts key value ∷ [];
 }
 
-abbrev pub first_put : List ℕ → List ℕ → Txn → Request
+abbrev pub first_put : List ℕ → Option (List ℕ) → Txn → Request
 first_put key value t = put_of (with_write key (transaction_of t)) (unwrap_or t.anchor key) key value
 
-pub sent-put : (key value : List ℕ) (t : Txn) → txn_sent (first_put key value t) t ≡ written key value t
+pub sent-put : (key : List ℕ) (value : Option (List ℕ)) (t : Txn) → txn_sent (first_put key value t) t ≡ written key value t
 sent-put key value t =
     let F : Option (List ℕ) → List (List ℕ) → List Write → Txn = λ a l w. record t { anchor = a; locks = l; writes = w } in
     let r = first_put key value t in
@@ -59,10 +60,10 @@ sent-put key value t =
     ∙ ap (λ l. F (option_or t.anchor (Some key)) l (txn_sent r t).writes) (if_true (same_txn t.id t.id) (with_lock key t.locks) t.locks (same_txn-self t.id))
     ∙ ap (F (option_or t.anchor (Some key)) (with_lock key t.locks))
     (if_true (same_txn t.id t.id && (t.epoch == t.epoch)) _ t.writes (same_epoch-self t.id t.epoch)
-    ∙ put-new (last_seq_of t.writes + 1) t.write_ts key (Some value) t.writes refl)
+    ∙ put-new (last_seq_of t.writes + 1) t.write_ts key value t.writes refl)
 
 -- it is what the coordinator made of its own
-pub written-same : (key value : List ℕ) (t : Txn) → with_write key (transaction_of t) ≡ transaction_of (written key value t)
+pub written-same : (key : List ℕ) (value : Option (List ℕ)) (t : Txn) → with_write key (transaction_of t) ≡ transaction_of (written key value t)
 written-same key value t =
     let F : ℕ → Transaction = λ n. record (transaction_of (written key value t)) { seq = n } in
     let w = new_write (last_seq_of t.writes + 1) t.write_ts key value in
@@ -73,21 +74,33 @@ anchor-some : (anchor : Option (List ℕ)) (key : List ℕ) → option_or anchor
 anchor-some None key = refl
 anchor-some (Some a) key = refl
 
-module _ (c : Coordination) (k : Known) (key value : List ℕ) (reading : ℕ) (t : Txn) (counted : IsCounted c.clock c.begun k) where
+pub asks_for : (key : List ℕ) (value : Option (List ℕ)) → AsksFor (Some (write_call key value)) key value
+asks_for key None = refl
+asks_for key (Some value) = refl
+
+needs : (key : List ℕ) (value : Option (List ℕ)) → needs_txn (write_call key value) ≡ true
+needs key None = refl
+needs key (Some value) = refl
+
+pub write_within : (key : List ℕ) (value : Option (List ℕ)) (reading : ℕ) → is_past_range (record { call = write_call key value; reading = reading }) ≡ false
+write_within key None reading = refl
+write_within key (Some value) reading = refl
+
+module _ (c : Coordination) (k : Known) (key : List ℕ) (value : Option (List ℕ)) (reading : ℕ) (t : Txn) (counted : IsCounted c.clock c.begun k) where
   abbrev k2 : Known
-  k2 = asked (calls.Put key value) reading k
+  k2 = asked (write_call key value) reading k
 
   module _ (open_as : IsOpenAs (transaction_of t) k t) (settled : IsSettled k t) where
     may_send : SendsNow (with_put key value (transaction_of t) c) k2 (first_put key value t) waits.Put
     may_send =
         let plain = settled.plain in
-        let rc = counted-asked c.clock c.begun k counted (calls.Put key value) reading in
+        let rc = counted-asked c.clock c.begun k counted (write_call key value) reading in
         record {
           may = record {
             row = inl (record {
               t = t;
               opened = open_is k t open_as.others open_as.is_open open_as.first;
-              asked = refl;
+              asked = asks_for key value;
               whose = refl;
               next = refl;
               at_write_ts = refl;
@@ -156,20 +169,20 @@ module _ (c : Coordination) (k : Known) (key value : List ℕ) (reading : ℕ) (
     put_sends : Knows (with_put key value (transaction_of t) c) k2
     put_sends = record { stands = may_send }
 
-put_by : (c : Coordination) (k : Known) (key value : List ℕ) (reading : ℕ) (txn : Option Transaction) → c.txn ≡ txn → IsCounted c.clock c.begun k → IsHeld txn k → Knows (put_in key value txn c) (asked (calls.Put key value) reading k)
+put_by : (c : Coordination) (k : Known) (key : List ℕ) (value : Option (List ℕ)) (reading : ℕ) (txn : Option Transaction) → c.txn ≡ txn → IsCounted c.clock c.begun k → IsHeld txn k → Knows (put_in key value txn c) (asked (write_call key value) reading k)
 put_by c k key value reading None none counted closed =
-    let k2 = asked (calls.Put key value) reading k in
+    let k2 = asked (write_call key value) reading k in
     record {
       stands = (
-        no_txn c.splits c.session k2 (record { call = calls.Put key value; reading = reading }) refl refl closed,
-        closed_told c.clock c.begun k2 answers.NoTxn (counted-asked c.clock c.begun k counted (calls.Put key value) reading) closed refl refl,
+        no_txn c.splits c.session k2 (record { call = write_call key value; reading = reading }) refl (needs key value) closed,
+        closed_told c.clock c.begun k2 answers.NoTxn (counted-asked c.clock c.begun k counted (write_call key value) reading) closed refl refl,
       );
     }
 put_by c k key value reading (Some x) is counted (t, open_as, settled) =
-    subst (λ x. Knows (with_put key value x c) (asked (calls.Put key value) reading k)) (sym open_as.same)
+    subst (λ x. Knows (with_put key value x c) (asked (write_call key value) reading k)) (sym open_as.same)
     (put_sends c k key value reading t counted (record { others = open_as.others; is_open = open_as.is_open; first = open_as.first; same = refl }) settled)
 
-pub put_asked : (c : Coordination) (k : Known) (p : Pair Event) (key value : List ℕ) (reading : ℕ) → Knows c k → IsAsked (calls.Put key value) reading k p → Knows (after_put key value c) (learn p k)
+pub put_asked : (c : Coordination) (k : Known) (p : Pair Event) (key : List ℕ) (value : Option (List ℕ)) (reading : ℕ) → Knows c k → IsAsked (write_call key value) reading k p → Knows (after_put key value c) (learn p k)
 put_asked c k p key value reading knows is =
     let r = rests c k knows is.none_open in
-    asked_knows (after_put key value c) k p (calls.Put key value) reading is (put_by c k key value reading c.txn refl r.counted r.held)
+    asked_knows (after_put key value c) k p (write_call key value) reading is (put_by c k key value reading c.txn refl r.counted r.held)

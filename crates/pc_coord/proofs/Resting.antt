@@ -1,6 +1,7 @@
 -- A coordinator at rest: no statement is open.
 use Rattle.std.proofs.Common.{◌≡◌, ℕ, Bool, true, false, not, ◌&&◌, List, ◌∷◌, Option, Some, None, refl, sym, ap, ◌∙◌, subst}
 use Rattle.std.specs.Bool.{MatchBool}
+use Rattle.pc_base.specs.declared.actor.ActorId.{ActorId}
 use Rattle.pc_base.specs.declared.actor.ActorId.TheVariants as actors
 use Rattle.pc_coord.proofs.Learned.{learn_own}
 use Rattle.pc_coord.proofs.Steps.{asked, asked_is, counted-told, told_is}
@@ -22,7 +23,7 @@ use Rattle.pc_world.specs.Known.{Known, first_if, learn, next_number}
 use Rattle.pc_world.specs.Known.Clock.{high_told}
 use Rattle.pc_world.specs.Known.Statements.{Statement, begun_told, is_open_told}
 use Rattle.pc_world.specs.Known.Transactions.{Txn}
-use Rattle.pc_world.specs.MayTell.{MayTell, needs_txn}
+use Rattle.pc_world.specs.MayTell.{MayTell, MayTellIn, MayTellRow, is_past_range, needs_txn}
 
 waiting : (k : Known) (txn : Option Transaction) (number : ℕ) (wait : Wait) → AwaitsReply k txn number wait → k.statement ≡ None → ⊥
 waiting k txn number waits.Put a none = let e = sym a.call ∙ none in cc
@@ -60,6 +61,15 @@ pub closed_told : (latest count : ℕ) (k : Known) (answer : Answer) → IsCount
 closed_told latest count k answer counted closed high begun =
     subst (λ k. Rests latest count None k) (sym (told_is answer k))
     (record { counted = counted-told latest count k counted answer high begun; none_open = refl; held = closed })
+
+kept_open : (needs is_open : Bool) → is_open ≡ true → (needs && not is_open) ≡ false
+kept_open true is_open e = ap not e
+kept_open false is_open e = refl
+
+-- where a transaction is open, a call is told what its row allows
+pub told_in : (splits : List (List ℕ)) (actor : ActorId) (k : Known) (s : Statement) (answer : Answer) → k.is_open ≡ true → is_past_range s ≡ false → MayTellRow splits actor k s answer → MayTellIn splits actor k s answer
+told_in splits actor k s answer opened within row =
+    match_false (needs_txn s.call && not k.is_open) _ _ (kept_open (needs_txn s.call) k.is_open opened) (match_false (is_past_range s) _ _ within row)
 
 -- a call that needs a transaction is told that there is none
 pub no_txn : (splits : List (List ℕ)) (session : ℕ) (k : Known) (s : Statement) → k.statement ≡ Some s → needs_txn s.call ≡ true → k.is_open ≡ false → MayTell splits (actors.Session session) k answers.NoTxn

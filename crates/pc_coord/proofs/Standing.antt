@@ -135,7 +135,8 @@ not_waited number due none is = cc
 
 call_asked : (c : Coordination) (k : Known) (p : Pair Event) (call : Call) (reading : ℕ) → Knows c k → IsAsked call reading k p → Knows (after_call call reading c) (learn p k)
 call_asked c k p (calls.Begin priority) reading knows is = begin_asked c k p priority reading knows is
-call_asked c k p (calls.Put key value) reading knows is = put_asked c k p key value reading knows is
+call_asked c k p (calls.Put key value) reading knows is = put_asked c k p key (Some value) reading knows is
+call_asked c k p (calls.Delete key) reading knows is = put_asked c k p key None reading knows is
 call_asked c k p calls.Commit reading knows is = commit_asked c k p reading knows is
 call_asked c k p call reading knows is = stuck_asked c k p call reading knows is
 

@@ -27,11 +27,11 @@ after_begin priority reading c =
     if nat_lt (2 ^ 62) reading then with_due (dues.Tell (answers.Clock reading)) c
     else with_begun priority reading (clock_now reading c.clock) c
 
-abbrev pub put_in : List ℕ → List ℕ → Option Transaction → Coordination → Coordination
+abbrev pub put_in : List ℕ → Option (List ℕ) → Option Transaction → Coordination → Coordination
 put_in key value txn c = record c { txn = option_map (with_write key) txn; due = due_of_put key value txn }
 
--- After a put.
-abbrev pub after_put : List ℕ → List ℕ → Coordination → Coordination
+-- After a put, or a deletion.
+abbrev pub after_put : List ℕ → Option (List ℕ) → Coordination → Coordination
 after_put key value c = put_in key value c.txn c
 
 abbrev pub end_in : Option Transaction → Coordination → Coordination
@@ -107,6 +107,7 @@ FewRefused (waits.Commit ts refusals) = refusals < 8
 -- After a call.
 abbrev pub after_call : Call → ℕ → Coordination → Coordination
 after_call (calls.Begin priority) reading c = after_begin priority reading c
-after_call (calls.Put key value) reading c = after_put key value c
+after_call (calls.Put key value) reading c = after_put key (Some value) c
+after_call (calls.Delete key) reading c = after_put key None c
 after_call calls.Commit reading c = after_commit_call c
 after_call _ reading c = with_due dues.Stuck c

@@ -52,12 +52,12 @@ with_begun priority reading ts c =
       due = dues.Tell (answers.Begun id ts);
     }
 
--- What is due once a transaction of this anchor wrote this value last.
-abbrev pub put_due : List ℕ → List ℕ → List ℕ → Transaction → Due
+-- What is due once a transaction of this anchor wrote this value last; no value is a deletion.
+abbrev pub put_due : List ℕ → List ℕ → Option (List ℕ) → Transaction → Due
 put_due anchor key value x = dues.Send (put_of x anchor key value) waits.Put
 
 -- The transaction writes this value.
-abbrev pub with_put : List ℕ → List ℕ → Transaction → Coordination → Coordination
+abbrev pub with_put : List ℕ → Option (List ℕ) → Transaction → Coordination → Coordination
 with_put key value x c = record c { txn = Some (with_write key x); due = put_due (unwrap_or x.anchor key) key value (with_write key x) }
 
 -- What is due once a transaction of this anchor commits, after so many refusals.

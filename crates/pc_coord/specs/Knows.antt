@@ -10,6 +10,7 @@ use Rattle.pc_coord.specs.declared.next.Next.{Next}
 use Rattle.pc_coord.specs.declared.next.Next.TheVariants as nexts
 use Rattle.pc_coord.specs.declared.transaction.Transaction.{Transaction}
 use Rattle.pc_coord.specs.Transaction.{transaction_of}
+use Rattle.pc_proto.specs.declared.call.Call.{Call}
 use Rattle.pc_proto.specs.declared.call.Call.TheVariants as calls
 use Rattle.pc_proto.specs.declared.event.Event.{Event}
 use Rattle.pc_proto.specs.declared.event.Event.TheVariants as events
@@ -98,6 +99,11 @@ pub record IsLastSent (k : Known) (number : ℕ) (before : List Sent) (m : Sent)
   pub earlier : All (λ other. other.number < number) before
   pub unheard : All (λ h. h.number < number) k.heard
 
+-- The call that asks for this write; no value is a deletion.
+abbrev pub write_call : List ℕ → Option (List ℕ) → Call
+write_call key None = calls.Delete key
+write_call key (Some value) = calls.Put key value
+
 -- The put of a call was sent and not heard; the transaction's other writes are proved.
 pub record AwaitsPut (k : Known) (txn : Option Transaction) (number : ℕ) : Type 0 where
   pub x : Transaction
@@ -109,17 +115,17 @@ pub record AwaitsPut (k : Known) (txn : Option Transaction) (number : ℕ) : Typ
   pub last : IsLastSent k number before m
   pub sent_now : k.sent_now ≡ m ∷ []
   pub key : List ℕ
-  pub value : List ℕ
+  pub value : Option (List ℕ)
   pub reading : ℕ
-  pub call : k.statement ≡ Some (record { call = calls.Put key value; reading = reading })
+  pub call : k.statement ≡ Some (record { call = write_call key value; reading = reading })
   pub anchor : List ℕ
   pub ts : ℕ
   pub seq : ℕ
   pub anchored : t.anchor ≡ Some anchor
-  pub said : m.request ≡ requests.Put (meta_of t anchor) seq ts key (Some value)
+  pub said : m.request ≡ requests.Put (meta_of t anchor) seq ts key value
   pub older : List Write
   pub next : seq ≡ last_seq_of older + 1
-  pub writes : t.writes ≡ older ++ record { key = key; seq = seq; value = Some value; asked = ts ∷ []; proofs = [] } ∷ []
+  pub writes : t.writes ≡ older ++ record { key = key; seq = seq; value = value; asked = ts ∷ []; proofs = [] } ∷ []
   pub proved : All (IsProvedBy t.write_ts) older
   pub puts : All (PutsUpTo t (last_seq_of older)) before
   pub plain : IsPlain k t k.sent

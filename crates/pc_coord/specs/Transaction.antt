@@ -1,5 +1,5 @@
 -- The coordinator's transaction beside the one that its session knows, and the messages that it makes.
-use Rattle.std.specs.Prelude.{ℕ, ◌+◌, max, Some, List}
+use Rattle.std.specs.Prelude.{ℕ, ◌+◌, max, Option, Some, List}
 use Rattle.std.specs.Option.{option_or}
 use Rattle.pc_coord.specs.declared.transaction.Transaction.{Transaction}
 use Rattle.pc_proto.specs.declared.meta.TxnMeta.{TxnMeta}
@@ -44,8 +44,8 @@ abbrev pub meta_in : Transaction → List ℕ → TxnMeta
 meta_in x anchor = record { id = x.id; epoch = x.epoch; priority = x.priority; born = x.born; anchor = anchor }
 
 -- Its last write, at its write timestamp.
-abbrev pub put_of : Transaction → List ℕ → List ℕ → List ℕ → Request
-put_of x anchor key value = requests.Put (meta_in x anchor) x.seq x.write_ts key (Some value)
+abbrev pub put_of : Transaction → List ℕ → List ℕ → Option (List ℕ) → Request
+put_of x anchor key value = requests.Put (meta_in x anchor) x.seq x.write_ts key value
 
 -- Its commit, at its write timestamp.
 abbrev pub commit_of : Transaction → List ℕ → Request

@@ -9,7 +9,7 @@ use Rattle.pc_coord.specs.Transaction.{refreshed, with_write}
 use Rattle.pc_proto.specs.declared.answer.Answer.TheVariants as answers
 
 -- What is due after a put was asked.
-abbrev pub due_of_put : List ℕ → List ℕ → Option Transaction → Due
+abbrev pub due_of_put : List ℕ → Option (List ℕ) → Option Transaction → Due
 due_of_put key value None = dues.Tell answers.NoTxn
 due_of_put key value (Some x) = put_due (unwrap_or x.anchor key) key value (with_write key x)
 

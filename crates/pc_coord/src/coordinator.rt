@@ -37,7 +37,7 @@ const GREATEST: Timestamp = Timestamp {
 /// Runs the transactions of one session, one after another: it is asked calls, says which messages go out, hears the
 /// replies, and says what the call is told.
 ///
-/// So far it begins, puts without pipelining, and commits with no write in flight; any other call, and a reply that asks
+/// So far it begins, puts and deletes without pipelining, and commits with no write in flight; any other call, and a reply that asks
 /// for a round, leaves it with nothing due. After a refusal for want of memory nothing is promised of it any more.
 #[derive(Drop)]
 pub struct Coordinator<'a> {
@@ -104,7 +104,8 @@ impl<'a> Coordinator<'a> {
     {
         match call {
             Call::Begin(priority) => self.begin(*priority, reading),
-            Call::Put(key, value) => self.put(key, value),
+            Call::Put(key, value) => self.write(key, Some(value.copy()?)),
+            Call::Delete(key) => self.write(key, None),
             Call::Commit => self.commit(),
             _ => {
                 self.set_due(Due::Stuck);
@@ -148,8 +149,8 @@ impl<'a> Coordinator<'a> {
         self.due = Due::Tell(Answer::Begun { id, ts });
     }
 
-    fn put(&mut self, key: &Key, value: &Value) -> Result<(), NoMemory>
-        ensures made { OnOk result (self.new ≡ after_put key.now value.now self.old) }
+    fn write(&mut self, key: &Key, value: Option<Value>) -> Result<(), NoMemory>
+        ensures made { OnOk result (self.new ≡ after_put key.now value self.old) }
         ensures session { self.new.session ≡ self.old.session }
         ensures splits { self.new.splits ≡ self.old.splits }
     {

@@ -72,8 +72,8 @@ impl Transaction {
     }
 
     /// Takes the write in, and makes the message that lays it at the write timestamp.
-    pub fn put(&mut self, key: &Key, value: &Value) -> Result<Due, NoMemory>
-        ensures due { IfOk result (λ due. due ≡ put_due (unwrap_or self.old.anchor key.now) key.now value.now (with_write key.now self.old)) }
+    pub fn put(&mut self, key: &Key, value: Option<Value>) -> Result<Due, NoMemory>
+        ensures due { IfOk result (λ due. due ≡ put_due (unwrap_or self.old.anchor key.now) key.now value (with_write key.now self.old)) }
         ensures wrote { OnOk result (self.new ≡ with_write key.now self.old) }
     {
         let anchor = anchor_or(&self.anchor, key)?;
@@ -85,19 +85,23 @@ impl Transaction {
         })
     }
 
-    fn put_request(&self, anchor: Key, key: &Key, value: &Value) -> Result<Request, NoMemory>
-        ensures { IfOk result (λ made. made ≡ put_of self.now anchor key.now value.now) }
+    fn put_request(
+        &self,
+        anchor: Key,
+        key: &Key,
+        value: Option<Value>,
+    ) -> Result<Request, NoMemory>
+        ensures { IfOk result (λ made. made ≡ put_of self.now anchor key.now value) }
     {
         let meta = self.meta(anchor);
         let key = key.copy()?;
-        let value = value.copy()?;
         let (seq, ts) = (self.seq, self.write_ts);
         Ok(Request::Put {
             meta,
             seq,
             ts,
             key,
-            value: Some(value),
+            value,
         })
     }
 

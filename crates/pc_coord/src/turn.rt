@@ -12,9 +12,13 @@ use pc_proto::Answer;
 /// How many refused commits of one statement make it give up.
 const REFUSALS: u32 = 8;
 
-/// The open transaction puts.
-pub fn put(txn: &mut Option<Transaction>, key: &Key, value: &Value) -> Result<Due, NoMemory>
-    ensures due { IfOk result (λ due. due ≡ due_of_put key.now value.now txn.old) }
+/// The open transaction puts; no value is a deletion.
+pub fn put(
+    txn: &mut Option<Transaction>,
+    key: &Key,
+    value: Option<Value>,
+) -> Result<Due, NoMemory>
+    ensures due { IfOk result (λ due. due ≡ due_of_put key.now value txn.old) }
     ensures txn { OnOk result (txn.new ≡ option_map (with_write key.now) txn.old) }
 {
     match txn {
