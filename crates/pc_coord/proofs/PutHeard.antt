@@ -92,9 +92,9 @@ no_put t low seq (m ∷ sent) h a =
     by true e = let l : seq ≤ low = All-head (PutsUpTo t low) m sent a seq e in absurd (omega arith)
     by false e = refl
 
-placed-same : (key : List ℕ) (seq at : ℕ) (t : Txn) → raised at (transaction_of t) ≡ transaction_of (record (placed key seq at t) { restart = None })
-placed-same key seq at t =
-    let F : ℕ → Transaction = λ n. record (raised at (transaction_of t)) { seq = n } in
+placed-same : (read : Bool) (key : List ℕ) (seq at : ℕ) (t : Txn) → raised at (transaction_of read t) ≡ transaction_of read (record (placed key seq at t) { restart = None })
+placed-same read key seq at t =
+    let F : ℕ → Transaction = λ n. record (raised at (transaction_of read t)) { seq = n } in
     ap F (sym (proved-last_seq key seq at t.writes))
 
 module _ (c : Coordination) (k : Known) (number step at : ℕ) (counted : IsCounted c.clock c.begun k) (a : AwaitsPut k c.txn number) where
@@ -178,7 +178,9 @@ module _ (c : Coordination) (k : Known) (number step at : ℕ) (counted : IsCoun
         number = p.number;
         reads = p.reads;
         restart = refl;
-        begun = omega (arith, p.begun);
+        begun = p.begun;
+        behind = omega (arith, p.behind);
+        at_begin = p.at_begin;
         below = omega (arith, p.below);
         refused = on_commits-more a.t.id k.heard h k.sent p.refused;
       }
@@ -190,7 +192,8 @@ module _ (c : Coordination) (k : Known) (number step at : ℕ) (counted : IsCoun
       others = map (txn_heard k.sent (Some h)) a.open_as.others;
       is_open = a.open_as.is_open;
       first = still_open k3 answers.Written t3 (map (txn_heard k.sent (Some h)) a.open_as.others) a.open_as.is_open first;
-      same = ap (raised at) a.open_as.same ∙ placed-same a.key a.seq at a.t;
+      same = ap (raised at) a.open_as.same ∙ placed-same a.x.has_read a.key a.seq at a.t;
+      unread = a.open_as.unread;
     },
     record { plain = plain; proved = proved; puts = puts },
   )

@@ -49,13 +49,13 @@ written key value t = record t {
   writes = t.writes ++ new_write (last_seq_of t.writes + 1) t.write_ts key value ∷ [];
 }
 
-abbrev pub first_put : List ℕ → Option (List ℕ) → Txn → Request
-first_put key value t = put_of (with_write key (transaction_of t)) (unwrap_or t.anchor key) key value
+abbrev pub first_put : Bool → List ℕ → Option (List ℕ) → Txn → Request
+first_put read key value t = put_of (with_write key (transaction_of read t)) (unwrap_or t.anchor key) key value
 
-pub sent-put : (key : List ℕ) (value : Option (List ℕ)) (t : Txn) → txn_sent (first_put key value t) t ≡ written key value t
-sent-put key value t =
+pub sent-put : (read : Bool) (key : List ℕ) (value : Option (List ℕ)) (t : Txn) → txn_sent (first_put read key value t) t ≡ written key value t
+sent-put read key value t =
     let F : Option (List ℕ) → List (List ℕ) → List Write → Txn = λ a l w. record t { anchor = a; locks = l; writes = w } in
-    let r = first_put key value t in
+    let r = first_put read key value t in
     ap (λ a. F a (txn_sent r t).locks (txn_sent r t).writes) (if_true (same_txn t.id t.id) (option_or t.anchor (Some key)) t.anchor (same_txn-self t.id))
     ∙ ap (λ l. F (option_or t.anchor (Some key)) l (txn_sent r t).writes) (if_true (same_txn t.id t.id) (with_lock key t.locks) t.locks (same_txn-self t.id))
     ∙ ap (F (option_or t.anchor (Some key)) (with_lock key t.locks))
@@ -63,9 +63,9 @@ sent-put key value t =
     ∙ put-new (last_seq_of t.writes + 1) t.write_ts key value t.writes refl)
 
 -- it is what the coordinator made of its own
-pub written-same : (key : List ℕ) (value : Option (List ℕ)) (t : Txn) → with_write key (transaction_of t) ≡ transaction_of (written key value t)
-written-same key value t =
-    let F : ℕ → Transaction = λ n. record (transaction_of (written key value t)) { seq = n } in
+pub written-same : (read : Bool) (key : List ℕ) (value : Option (List ℕ)) (t : Txn) → with_write key (transaction_of read t) ≡ transaction_of read (written key value t)
+written-same read key value t =
+    let F : ℕ → Transaction = λ n. record (transaction_of read (written key value t)) { seq = n } in
     let w = new_write (last_seq_of t.writes + 1) t.write_ts key value in
     let e : last_seq_of t.writes + 1 ≡ last_seq_of (t.writes ++ w ∷ []) = omega (arith, last_seq-push t.writes w) in
     ap F e
@@ -86,12 +86,12 @@ pub write_within : (key : List ℕ) (value : Option (List ℕ)) (reading : ℕ) 
 write_within key None reading = refl
 write_within key (Some value) reading = refl
 
-module _ (c : Coordination) (k : Known) (key : List ℕ) (value : Option (List ℕ)) (reading : ℕ) (t : Txn) (counted : IsCounted c.clock c.begun k) where
+module _ (c : Coordination) (k : Known) (key : List ℕ) (value : Option (List ℕ)) (reading : ℕ) (read : Bool) (t : Txn) (counted : IsCounted c.clock c.begun k) where
   abbrev k2 : Known
   k2 = asked (write_call key value) reading k
 
-  module _ (open_as : IsOpenAs (transaction_of t) k t) (settled : IsSettled k t) where
-    may_send : SendsNow (with_put key value (transaction_of t) c) k2 (first_put key value t) waits.Put
+  module _ (open_as : IsOpenAs (transaction_of read t) k t) (settled : IsSettled k t) where
+    may_send : SendsNow (with_put key value (transaction_of read t) c) k2 (first_put read key value t) waits.Put
     may_send =
         let plain = settled.plain in
         let rc = counted-asked c.clock c.begun k counted (write_call key value) reading in
@@ -112,22 +112,23 @@ module _ (c : Coordination) (k : Known) (key : List ℕ) (value : Option (List �
           };
           after = λ range.
               let n = next_number k in
-              let request = first_put key value t in
+              let request = first_put read key value t in
               let m : Sent = record { number = n; range = range; request = request } in
               let k3 = sent n range request k2 in
               let longer : length (k.sent ++ m ∷ []) ≡ length k.sent + 1 = omega (arith, length-append k.sent (m ∷ [])) in
               let t2 = written key value t in
-              let now : Awaits c.clock c.begun (Some (with_write key (transaction_of t))) n waits.Put k3 = record {
+              let now : Awaits c.clock c.begun (Some (with_write key (transaction_of read t))) n waits.Put k3 = record {
                 counted = counted-sent c.clock c.begun k2 rc range request plain.number;
                 reply = record {
-                  x = with_write key (transaction_of t);
+                  x = with_write key (transaction_of read t);
                   held = refl;
                   t = t2;
                   open_as = record {
                     others = map (txn_sent request) open_as.others;
                     is_open = open_as.is_open;
-                    first = ap (map (txn_sent request)) open_as.first ∙ ap (λ t. t ∷ map (txn_sent request) open_as.others) (sent-put key value t);
-                    same = written-same key value t;
+                    first = ap (map (txn_sent request)) open_as.first ∙ ap (λ t. t ∷ map (txn_sent request) open_as.others) (sent-put read key value t);
+                    same = written-same read key value t;
+                    unread = open_as.unread;
                   };
                   before = k.sent;
                   m = m;
@@ -156,6 +157,8 @@ module _ (c : Coordination) (k : Known) (key : List ℕ) (value : Option (List �
                   plain = record {
                     number = plain.number;
                     reads = plain.reads;
+                    behind = plain.behind;
+                    at_begin = λ none. let e : Some (unwrap_or t.anchor key) ≡ None = sym (anchor-some t.anchor key) ∙ none in absurd cc;
                     restart = plain.restart;
                     begun = plain.begun;
                     below = plain.below;
@@ -163,10 +166,10 @@ module _ (c : Coordination) (k : Known) (key : List ℕ) (value : Option (List �
                   };
                 };
               } in
-              subst (λ k. Awaits c.clock c.begun (Some (with_write key (transaction_of t))) n waits.Put k) (sym (sent_is n range request k2)) now;
+              subst (λ k. Awaits c.clock c.begun (Some (with_write key (transaction_of read t))) n waits.Put k) (sym (sent_is n range request k2)) now;
         }
 
-    put_sends : Knows (with_put key value (transaction_of t) c) k2
+    put_sends : Knows (with_put key value (transaction_of read t) c) k2
     put_sends = record { stands = may_send }
 
 put_by : (c : Coordination) (k : Known) (key : List ℕ) (value : Option (List ℕ)) (reading : ℕ) (txn : Option Transaction) → c.txn ≡ txn → IsCounted c.clock c.begun k → IsHeld txn k → Knows (put_in key value txn c) (asked (write_call key value) reading k)
@@ -180,7 +183,7 @@ put_by c k key value reading None none counted closed =
     }
 put_by c k key value reading (Some x) is counted (t, open_as, settled) =
     subst (λ x. Knows (with_put key value x c) (asked (write_call key value) reading k)) (sym open_as.same)
-    (put_sends c k key value reading t counted (record { others = open_as.others; is_open = open_as.is_open; first = open_as.first; same = refl }) settled)
+    (put_sends c k key value reading x.has_read t counted (record { others = open_as.others; is_open = open_as.is_open; first = open_as.first; same = refl; unread = open_as.unread }) settled)
 
 pub put_asked : (c : Coordination) (k : Known) (p : Pair Event) (key : List ℕ) (value : Option (List ℕ)) (reading : ℕ) → Knows c k → IsAsked (write_call key value) reading k p → Knows (after_put key value c) (learn p k)
 put_asked c k p key value reading knows is =

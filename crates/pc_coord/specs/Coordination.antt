@@ -1,5 +1,5 @@
 -- A coordinator as contracts see it, and what it does of itself.
-use Rattle.std.specs.Prelude.{ℕ, ◌+◌, Bool, false, ◌==◌, Option, None, Some, List, unwrap_or}
+use Rattle.std.specs.Prelude.{ℕ, ◌+◌, Bool, false, ◌==◌, if◌then◌else◌, Option, None, Some, List, unwrap_or}
 use Rattle.std.specs.Option.{option_map}
 use Rattle.pc_base.specs.declared.transaction.Priority.{Priority}
 use Rattle.pc_base.specs.declared.transaction.TxnId.{TxnId}
@@ -9,7 +9,7 @@ use Rattle.pc_coord.specs.declared.due.Wait.TheVariants as waits
 use Rattle.pc_coord.specs.declared.next.Next.{Next}
 use Rattle.pc_coord.specs.declared.next.Next.TheVariants as nexts
 use Rattle.pc_coord.specs.declared.transaction.Transaction.{Transaction}
-use Rattle.pc_coord.specs.Transaction.{commit_of, put_of, raised, refreshed, transaction_of, with_write}
+use Rattle.pc_coord.specs.Transaction.{commit_of, needs_refresh, put_of, raised, refreshed, transaction_of, with_write}
 use Rattle.pc_proto.specs.declared.answer.Answer.{Answer}
 use Rattle.pc_proto.specs.declared.answer.Answer.TheVariants as answers
 use Rattle.pc_world.specs.Known.Transactions.{begun}
@@ -48,7 +48,7 @@ with_begun priority reading ts c =
     record c {
       clock = ts;
       begun = c.begun + 1;
-      txn = Some (transaction_of (begun id priority reading ts));
+      txn = Some (transaction_of false (begun id priority reading ts));
       due = dues.Tell (answers.Begun id ts);
     }
 
@@ -60,10 +60,10 @@ put_due anchor key value x = dues.Send (put_of x anchor key value) waits.Put
 abbrev pub with_put : List ℕ → Option (List ℕ) → Transaction → Coordination → Coordination
 with_put key value x c = record c { txn = Some (with_write key x); due = put_due (unwrap_or x.anchor key) key value (with_write key x) }
 
--- What is due once a transaction of this anchor commits, after so many refusals.
+-- What is due once a transaction of this anchor commits, after so many refusals. Refreshing is not built.
 abbrev pub commit_due : ℕ → Option (List ℕ) → Transaction → Due
 commit_due refusals None x = dues.Stuck
-commit_due refusals (Some anchor) x = dues.Send (commit_of x anchor) (waits.Commit x.write_ts refusals)
+commit_due refusals (Some anchor) x = if needs_refresh x then dues.Stuck else dues.Send (commit_of x anchor) (waits.Commit x.write_ts refusals)
 
 -- The transaction commits at its write timestamp.
 abbrev pub with_commit : ℕ → List ℕ → Transaction → Coordination → Coordination

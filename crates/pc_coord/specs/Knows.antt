@@ -58,12 +58,14 @@ pub record IsCounted (latest count : ℕ) (k : Known) : Type 0 where
 abbrev pub PutsUpTo : Txn → ℕ → Sent → Type 0
 PutsUpTo t last m = (seq : ℕ) → IsTrue (is_put_of t.id t.epoch seq m.request) → seq ≤ last
 
--- A transaction that read nothing, whose commits up to now were refused.
+-- A transaction that read at its read timestamp alone, whose commits up to now were refused.
 pub record IsPlain (k : Known) (t : Txn) (sent : List Sent) : Type 0 where
   pub number : t.id.number ≤ k.begun
-  pub reads : t.reads ≡ []
+  pub reads : All (λ r. r.ts ≡ t.read_ts) t.reads
   pub restart : t.restart ≡ None
-  pub begun : t.begin ≤ t.write_ts
+  pub begun : t.begin ≤ t.read_ts
+  pub behind : t.read_ts ≤ t.write_ts
+  pub at_begin : t.anchor ≡ None → t.read_ts ≡ t.begin
   pub below : t.write_ts ≤ k.high
   pub refused : EachCommit t.id sent (IsRefused k.heard)
 
@@ -78,7 +80,8 @@ pub record IsOpenAs (x : Transaction) (k : Known) (t : Txn) : Type 0 where
   pub others : List Txn
   pub is_open : k.is_open ≡ true
   pub first : k.txns ≡ t ∷ others
-  pub same : x ≡ transaction_of t
+  pub same : x ≡ transaction_of x.has_read t
+  pub unread : x.has_read ≡ false → t.reads ≡ []
 
 -- No transaction is open; or the coordinator's is, and it is settled.
 abbrev pub IsHeld : Option Transaction → Known → Type 0

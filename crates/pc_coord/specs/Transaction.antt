@@ -1,5 +1,5 @@
 -- The coordinator's transaction beside the one that its session knows, and the messages that it makes.
-use Rattle.std.specs.Prelude.{ℕ, ◌+◌, max, Option, Some, List}
+use Rattle.std.specs.Prelude.{ℕ, ◌+◌, max, nat_lt, Bool, ◌&&◌, Option, Some, List}
 use Rattle.std.specs.Option.{option_or}
 use Rattle.pc_coord.specs.declared.transaction.Transaction.{Transaction}
 use Rattle.pc_proto.specs.declared.meta.TxnMeta.{TxnMeta}
@@ -8,9 +8,9 @@ use Rattle.pc_proto.specs.declared.request.Request.TheVariants as requests
 use Rattle.pc_world.specs.Known.Transactions.{Txn, with_lock}
 use Rattle.pc_world.specs.Known.Writes.{last_seq_of}
 
--- What a coordinator keeps of a transaction that its session knows.
-abbrev pub transaction_of : Txn → Transaction
-transaction_of t = record {
+-- What a coordinator keeps of a transaction that its session knows, and whether it read.
+abbrev pub transaction_of : Bool → Txn → Transaction
+transaction_of has_read t = record {
   id = t.id;
   priority = t.priority;
   born = t.born;
@@ -21,6 +21,7 @@ transaction_of t = record {
   write_ts = t.write_ts;
   anchor = t.anchor;
   locks = t.locks;
+  has_read = has_read;
 }
 
 -- The transaction with one more write of this key.
@@ -38,6 +39,10 @@ raised ts x = record x { write_ts = max x.write_ts ts }
 -- The transaction whose reads were moved to its write timestamp.
 abbrev pub refreshed : Transaction → Transaction
 refreshed x = record x { read_ts = max x.read_ts x.write_ts }
+
+-- What it read would have to be refreshed before it commits: its write timestamp moved past its reads.
+abbrev pub needs_refresh : Transaction → Bool
+needs_refresh x = x.has_read && nat_lt x.read_ts x.write_ts
 
 -- Its meta, with this anchor.
 abbrev pub meta_in : Transaction → List ℕ → TxnMeta

@@ -1,5 +1,5 @@
-ghost use Rattle.std.specs.Prelude.{◌≡◌, ◌+◌, IfOk, OnOk, unwrap_or};
-ghost use Rattle.pc_coord.specs.Transaction.{commit_of, meta_in, put_of, refreshed, transaction_of, with_write};
+ghost use Rattle.std.specs.Prelude.{◌≡◌, false, ◌+◌, IfOk, OnOk, unwrap_or};
+ghost use Rattle.pc_coord.specs.Transaction.{commit_of, meta_in, needs_refresh, put_of, refreshed, transaction_of, with_write};
 ghost use Rattle.pc_coord.specs.Coordination.{commit_due, put_due};
 ghost use Rattle.pc_world.specs.Known.Transactions.{begun};
 
@@ -27,11 +27,13 @@ pub struct Transaction {
     pub anchor: Option<Key>,
     /// Each key that it wrote in any epoch, in key order.
     pub locks: Keys,
+    /// Whether it was told a value or rows in this epoch.
+    pub has_read: bool,
 }
 
 impl Transaction {
     pub fn new(alloc: Global, id: TxnId, priority: Priority, born: u64, ts: Timestamp) -> Self
-        ensures { result ≡ transaction_of (begun id priority born ts) }
+        ensures { result ≡ transaction_of false (begun id priority born ts) }
     {
         Transaction {
             id,
@@ -44,6 +46,7 @@ impl Transaction {
             write_ts: ts,
             anchor: None,
             locks: Items::new(alloc),
+            has_read: false,
         }
     }
 
@@ -121,6 +124,7 @@ impl Transaction {
     {
         match &self.anchor {
             None => Ok(Due::Stuck),
+            Some(_) if self.needs_refresh() => Ok(Due::Stuck),
             Some(anchor) => {
                 let request = self.commit_request(anchor)?;
                 let ts = self.write_ts;
@@ -130,6 +134,12 @@ impl Transaction {
                 })
             }
         }
+    }
+
+    fn needs_refresh(&self) -> bool
+        ensures { result ≡ needs_refresh self.now }
+    {
+        self.has_read && self.read_ts < self.write_ts
     }
 
     fn commit_request(&self, anchor: &Key) -> Result<Request, NoMemory>
