@@ -1,12 +1,11 @@
 -- A call commits: a transaction that wrote nothing at once, any other by a message.
-use Rattle.std.proofs.Common.{◌≡◌, ◌≢◌, ℕ, ◌+◌, ◌<◌, ◌≤◌, max, nat_lt, cond, Bool, true, false, not, ◌&&◌, ◌||◌, ◌==◌, inl, List, [], ◌∷◌, ◌++◌, length, map, Option, Some, None, refl, sym, ap, ◌∙◌, subst, arith, All, Contains, length-append}
-use Rattle.std.specs.List.{list_any}
+use Rattle.std.proofs.Common.{◌≡◌, ◌≢◌, ℕ, ◌+◌, ◌<◌, ◌≤◌, max, nat_lt, cond, Bool, true, false, not, ◌&&◌, ◌==◌, inl, List, [], ◌∷◌, ◌++◌, length, map, Option, Some, None, refl, sym, ap, ◌∙◌, subst, arith, All, Contains, length-append}
 use Rattle.std.proofs.lemmas.List.Elements.{All-cons, All-nil, All-push, All-weaker}
 use Rattle.std.proofs.lemmas.Bool.{ltb-false}
 use Rattle.pc_base.specs.Transaction.{same_txn}
 use Rattle.pc_coord.proofs.Ids.{no_stages, on_commits-if}
-use Rattle.pc_coord.proofs.Lists.{at_least-weaker}
-use Rattle.pc_coord.proofs.Resting.{asked_knows, closed_told, match_false, no_txn, open_is, rests}
+use Rattle.pc_coord.proofs.Lists.{any_true_kept, at_least-weaker}
+use Rattle.pc_coord.proofs.Resting.{asked_knows, closed_told, match_false, no_txn, open_is, rests, settled_asked}
 use Rattle.pc_coord.proofs.Same.{if_true, same_txn-self}
 use Rattle.pc_coord.proofs.Steps.{asked, counted-asked, counted-sent, sent, sent_is}
 use Rattle.pc_coord.specs.Coordinating.{after_commit_call, end_in}
@@ -68,14 +67,6 @@ sent-commit : (read : Bool) (anchor : List ℕ) (t : Txn) → txn_sent (commit_o
 sent-commit read anchor t =
     let F : ℕ → Txn = λ n. record t { read_ts = n } in
     ap F (if_true (same_txn t.id t.id) (max t.read_ts t.write_ts) t.read_ts (same_txn-self t.id))
-
-or-kept : (b c d : Bool) → (c ≡ true → d ≡ true) → (b || c) ≡ true → (b || d) ≡ true
-or-kept true c d on h = refl
-or-kept false c d on h = on h
-
-any_true_kept : {X : Type 0} (p : X → Bool) (xs ys : List X) → list_any p xs ≡ true → list_any p (xs ++ ys) ≡ true
-any_true_kept p [] ys h = absurd cc
-any_true_kept p (x ∷ xs) ys h = or-kept (p x) (list_any p xs) (list_any p (xs ++ ys)) (any_true_kept p xs ys) h
 
 both-kept : (a b c : Bool) → (a ≡ true → b ≡ true) → (a && c) ≡ true → (b && c) ≡ true
 both-kept true b c on h = ap (λ b. b && c) (on refl) ∙ h
@@ -181,7 +172,7 @@ module _ (c : Coordination) (k : Known) (read : Bool) (t : Txn) (anchor : List �
     may = record {
       row = may_send;
       stamps = All-cons (λ ts. ts ≤ k.top + 1) t.write_ts [] (omega (arith, may.settled.plain.below, counted.below)) (All-nil (λ ts. ts ≤ k.top + 1));
-      kind = tt;
+      kind = record { s = record { call = calls.Commit; reading = may.reading }; opened = may.call; kind = tt };
     };
     after = λ range.
         subst (λ k2. Awaits c.clock c.begun (Some (refreshed (transaction_of read t))) (next_number k) (waits.Commit t.write_ts refusals) k2) (sym (sent_is (next_number k) range request k)) (awaits range);
@@ -204,16 +195,6 @@ commit_sends c k x t anchor refusals counted open_as may =
     subst (λ x. Knows (with_commit refusals anchor x c) k) (sym open_as.same)
     (commit_or_not c k x.has_read t anchor refusals counted (record { others = open_as.others; is_open = open_as.is_open; first = open_as.first; same = refl; unread = open_as.unread }) may
     (needs_refresh (transaction_of x.has_read t)) refl)
-
--- what holds between statements holds when the next call is asked
-settled-asked : (k : Known) (t : Txn) (reading : ℕ) → IsSettled k t → IsSettled (asked calls.Commit reading k) t
-settled-asked k t reading s =
-    let p = s.plain in
-    record {
-      plain = record { number = p.number; reads = p.reads; restart = p.restart; begun = p.begun; behind = p.behind; at_begin = p.at_begin; below = p.below; refused = p.refused };
-      proved = s.proved;
-      puts = s.puts;
-    }
 
 end_by : (c : Coordination) (k : Known) (x : Transaction) (t : Txn) (reading : ℕ) (anchor : Option (List ℕ)) → x.anchor ≡ anchor → IsCounted c.clock c.begun k → IsOpenAs x k t → IsSettled k t
     → Knows (record c { txn = txn_at_end anchor x; due = due_at_end anchor x }) (asked calls.Commit reading k)
@@ -250,7 +231,7 @@ end_by c k x t reading (Some anchor) some counted open_as settled =
       reading = reading;
       call = refl;
       anchored = sym (ap anchor_of open_as.same) ∙ some;
-      settled = settled-asked k t reading settled;
+      settled = settled_asked calls.Commit reading k t settled;
       few = omega arith;
       moved = tt;
     })

@@ -15,7 +15,7 @@ use Rattle.pc_coord.specs.Coordination.{Coordination, with_put}
 use Rattle.pc_coord.specs.declared.due.Wait.TheVariants as waits
 use Rattle.pc_coord.specs.declared.transaction.Transaction.{Transaction}
 use Rattle.pc_coord.specs.Events.{IsAsked}
-use Rattle.pc_coord.specs.Knows.{Awaits, IsCounted, IsHeld, IsOpenAs, IsOwnSent, IsSettled, Knows, SendsNow, write_call}
+use Rattle.pc_coord.specs.Knows.{Awaits, IsBuiltFor, IsCounted, IsHeld, IsOpenAs, IsOwnSent, IsSettled, Knows, SendsNow, write_call}
 use Rattle.pc_coord.specs.Transaction.{put_of, transaction_of, with_write}
 use Rattle.pc_history.specs.declared.pair.Pair.{Pair}
 use Rattle.pc_proto.specs.declared.answer.Answer.TheVariants as answers
@@ -26,6 +26,7 @@ use Rattle.pc_world.specs.Known.Traffic.{Sent}
 use Rattle.pc_world.specs.Known.Transactions.{Txn, txn_sent, with_lock}
 use Rattle.pc_world.specs.Known.Writes.{IsProvedBy, Write, is_proved, last_seq_of}
 use Rattle.pc_world.specs.MayTell.{is_past_range, needs_txn}
+use Rattle.pc_world.specs.PutsAndCommits.{IsPutOrCommit}
 use Rattle.pc_world.specs.Send.Put.{AsksFor}
 use Rattle.pc_world.specs.StageFate.{IsDead, IsRefused, OnCommit}
 
@@ -86,6 +87,10 @@ pub write_within : (key : List ℕ) (value : Option (List ℕ)) (reading : ℕ) 
 write_within key None reading = refl
 write_within key (Some value) reading = refl
 
+built : (key : List ℕ) (value : Option (List ℕ)) (request : Request) → IsPutOrCommit request → IsBuiltFor (write_call key value) request
+built key None request is = is
+built key (Some value) request is = is
+
 module _ (c : Coordination) (k : Known) (key : List ℕ) (value : Option (List ℕ)) (reading : ℕ) (read : Bool) (t : Txn) (counted : IsCounted c.clock c.begun k) where
   abbrev k2 : Known
   k2 = asked (write_call key value) reading k
@@ -108,7 +113,7 @@ module _ (c : Coordination) (k : Known) (key : List ℕ) (value : Option (List �
               uncommitted = record { stages = no_stages t.id (IsDead k.heard) k.begun (length k.sent) k.sent counted.sent; commits = plain.refused };
             });
             stamps = All-cons (λ ts. ts ≤ k2.top + 1) t.write_ts [] (omega (arith, plain.below, counted.below)) (All-nil (λ ts. ts ≤ k2.top + 1));
-            kind = tt;
+            kind = record { s = record { call = write_call key value; reading = reading }; opened = refl; kind = built key value (first_put read key value t) tt };
           };
           after = λ range.
               let n = next_number k in

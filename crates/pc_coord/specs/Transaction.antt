@@ -1,10 +1,12 @@
 -- The coordinator's transaction beside the one that its session knows, and the messages that it makes.
 use Rattle.std.specs.Prelude.{ℕ, ◌+◌, max, nat_lt, Bool, ◌&&◌, Option, Some, List}
 use Rattle.std.specs.Option.{option_or}
+use Rattle.pc_base.specs.declared.span.Span.{Span}
 use Rattle.pc_coord.specs.declared.transaction.Transaction.{Transaction}
 use Rattle.pc_proto.specs.declared.meta.TxnMeta.{TxnMeta}
 use Rattle.pc_proto.specs.declared.request.Request.{Request}
 use Rattle.pc_proto.specs.declared.request.Request.TheVariants as requests
+use Rattle.pc_proto.specs.declared.why.Why.TheVariants as whys
 use Rattle.pc_world.specs.Known.Transactions.{Txn, with_lock}
 use Rattle.pc_world.specs.Known.Writes.{last_seq_of}
 
@@ -51,6 +53,18 @@ meta_in x anchor = record { id = x.id; epoch = x.epoch; priority = x.priority; b
 -- Its last write, at its write timestamp.
 abbrev pub put_of : Transaction → List ℕ → List ℕ → Option (List ℕ) → Request
 put_of x anchor key value = requests.Put (meta_in x anchor) x.seq x.write_ts key value
+
+-- Its get of a key, at its read timestamp.
+abbrev pub get_of : Transaction → List ℕ → Request
+get_of x key = requests.Get x.id x.epoch x.seq x.read_ts key
+
+-- Its scan of a span, at its read timestamp.
+abbrev pub scan_of : Transaction → Span → Request
+scan_of x span = requests.Scan x.id x.epoch x.seq x.read_ts span
+
+-- Its abort, which the client asked for.
+abbrev pub abort_of : Transaction → List ℕ → Request
+abort_of x anchor = requests.Abort (meta_in x anchor) whys.Client x.locks
 
 -- Its commit, at its write timestamp.
 abbrev pub commit_of : Transaction → List ℕ → Request

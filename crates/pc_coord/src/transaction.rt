@@ -1,12 +1,12 @@
 ghost use Rattle.std.specs.Prelude.{◌≡◌, false, ◌+◌, IfOk, OnOk, unwrap_or};
-ghost use Rattle.pc_coord.specs.Transaction.{commit_of, meta_in, needs_refresh, put_of, refreshed, transaction_of, with_write};
-ghost use Rattle.pc_coord.specs.Coordination.{commit_due, put_due};
+ghost use Rattle.pc_coord.specs.Transaction.{abort_of, commit_of, get_of, meta_in, needs_refresh, put_of, refreshed, scan_of, transaction_of, with_write};
+ghost use Rattle.pc_coord.specs.Coordination.{abort_due, commit_due, put_due};
 ghost use Rattle.pc_world.specs.Known.Transactions.{begun};
 
 use crate::due::{Due, Wait};
 use crate::locks::with_lock;
-use pc_base::{Items, Key, NoMemory, Priority, Timestamp, TryCopy, TxnId, Value};
-use pc_proto::{Keys, Request, TxnMeta};
+use pc_base::{Items, Key, NoMemory, Priority, Span, Timestamp, TryCopy, TxnId, Value};
+use pc_proto::{Keys, Request, TxnMeta, Why};
 use std::alloc::Global;
 
 /// The open transaction, as its session knows it.
@@ -27,7 +27,7 @@ pub struct Transaction {
     pub anchor: Option<Key>,
     /// Each key that it wrote in any epoch, in key order.
     pub locks: Keys,
-    /// Whether it was told a value or rows in this epoch.
+    /// Whether it was asked to read in this epoch.
     pub has_read: bool,
 }
 
@@ -88,12 +88,7 @@ impl Transaction {
         })
     }
 
-    fn put_request(
-        &self,
-        anchor: Key,
-        key: &Key,
-        value: Option<Value>,
-    ) -> Result<Request, NoMemory>
+    fn put_request(&self, anchor: Key, key: &Key, value: Option<Value>) -> Result<Request, NoMemory>
         ensures { IfOk result (λ made. made ≡ put_of self.now anchor key.now value) }
     {
         let meta = self.meta(anchor);
@@ -133,6 +128,61 @@ impl Transaction {
                     wait: Wait::Commit { ts, refusals },
                 })
             }
+        }
+    }
+
+    /// The message that makes the record aborted.
+    pub fn abort(&self) -> Result<Due, NoMemory>
+        ensures { IfOk result (λ due. due ≡ abort_due self.now.anchor self.now) }
+    {
+        match &self.anchor {
+            None => Ok(Due::Stuck),
+            Some(anchor) => {
+                let request = self.abort_request(anchor)?;
+                Ok(Due::Send {
+                    request,
+                    wait: Wait::Abort,
+                })
+            }
+        }
+    }
+
+    fn abort_request(&self, anchor: &Key) -> Result<Request, NoMemory>
+        ensures { IfOk result (λ made. made ≡ abort_of self.now anchor.now) }
+    {
+        let meta = self.meta(anchor.copy()?);
+        let held = self.locks.copy()?;
+        Ok(Request::Abort {
+            meta,
+            why: Why::Client,
+            locks: held,
+        })
+    }
+
+    /// The message that reads a key, at the read timestamp.
+    pub fn get_request(&self, key: &Key) -> Result<Request, NoMemory>
+        ensures { IfOk result (λ made. made ≡ get_of self.now key.now) }
+    {
+        let key = key.copy()?;
+        Ok(Request::Get {
+            id: self.id,
+            epoch: self.epoch,
+            seq: self.seq,
+            ts: self.read_ts,
+            key,
+        })
+    }
+
+    /// The message that reads a span which lies in one range.
+    pub fn scan_request(&self, span: Span) -> Request
+        ensures { result ≡ scan_of self.now span }
+    {
+        Request::Scan {
+            id: self.id,
+            epoch: self.epoch,
+            seq: self.seq,
+            ts: self.read_ts,
+            span,
         }
     }
 

@@ -16,7 +16,9 @@ use Rattle.pc_coord.specs.declared.due.Wait.TheVariants as waits
 use Rattle.pc_coord.specs.declared.next.Next.TheVariants as nexts
 use Rattle.pc_coord.specs.declared.transaction.Transaction.{Transaction}
 use Rattle.pc_coord.specs.Events.{IsAsked, IsHeard, IsSent, IsTold}
-use Rattle.pc_coord.specs.Knows.{Awaits, AwaitsReply, IsCounted, IsLastSent, IsPutOrCommit, IsSendable, Knows, KnowsAt, Rests, learned}
+use Rattle.pc_coord.specs.declared.messages.Message.{Message}
+use Rattle.pc_coord.specs.Knows.{AreReadsOf, Awaits, AwaitsReply, IsAbort, IsBuiltFor, IsCounted, IsLastSent, IsSendable, Knows, KnowsAt, Rests, learned}
+use Rattle.pc_world.specs.PutsAndCommits.{IsPutOrCommit}
 use Rattle.pc_history.proofs.Histories.{named-none}
 use Rattle.pc_history.proofs.Lists.{contains_head}
 use Rattle.pc_history.specs.declared.pair.Pair.{Pair}
@@ -98,8 +100,9 @@ still_waiting (Some request) count h g place event more none w = record {
 on : (c d : Coordination) (s : RangeState) (count next_count : ℕ) (u v : Option Request) (h g : History) (place : ℕ) (event : Event)
     → Follows c s count u h → HasOneMore place h g me event → d.session ≡ c.session → d.splits ≡ c.splits
     → Knows d (learn (next_pair h event) (known_by 1 h)) → next_count ≡ length ((known_by 1 h).sent ++ sent_by event) → IsWaiting v next_count g
+    → HasNoRead (statement_after event (known_by 1 h).statement)
     → Follows d s next_count v g
-on c d s count next_count u v h g place event f more session splits knows counted waiting = record {
+on c d s count next_count u v h g place event f more session splits knows counted waiting no_read = record {
   session = session ∙ f.session;
   splits = splits ∙ (f.splits ∙ sym (ap (λ (x : History). x.head.splits) more.behind));
   one_range = ap (λ (x : History). x.head.splits) more.behind ∙ f.one_range;
@@ -110,6 +113,7 @@ on c d s count next_count u v h g place event f more session splits knows counte
   knows = subst (λ (k : Known). Knows d k) (sym (knows_next h g place event more)) knows;
   counted = counted ∙ sym (ap (λ (k : Known). length k.sent) (knows_next h g place event more));
   waiting = waiting;
+  no_read = subst (λ (k : Known). HasNoRead k.statement) (sym (knows_next h g place event more)) no_read;
 }
 
 silent : (count : ℕ) (sent : List Sent) → count ≡ length sent → count ≡ length (sent ++ [])
@@ -145,6 +149,7 @@ Last k number = (before : List Sent) × (m : Sent) × IsLastSent k number before
 last_waited : (k : Known) (txn : Option Transaction) (number : ℕ) (wait : Wait) → AwaitsReply k txn number wait → Last k number
 last_waited k txn number waits.Put a = (a.before, a.m, a.last)
 last_waited k txn number (waits.Commit ts refusals) a = (a.before, a.m, a.last)
+last_waited k txn number waits.Abort a = (a.before, a.m, a.last)
 
 may_hear : (k : Known) (number : ℕ) (before : List Sent) (m : Sent) → k.sent ≡ before ++ m ∷ [] → m.number ≡ number → All (λ (x : Heard). x.number < number) k.heard → MayHear k number
 may_hear k number before m last is unheard = record {
@@ -155,13 +160,22 @@ may_hear k number before m last is unheard = record {
       ap not none;
 }
 
-heard_next : (c : Coordination) (k : Known) (due : Due) (count : ℕ) (before : List Sent) (m : Sent) → KnowsAt c k due → next_of due ≡ nexts.Wave → k.sent ≡ before ++ m ∷ [] → m.number ≡ count
+-- a call that reads nothing has no reads
+not_reading : (splits : List (List ℕ)) (x : Transaction) (call : Call) (asked : List Request) → ReadsNothing call → AreReadsOf splits x call asked → ⊥
+not_reading splits x (calls.Get key) asked no is = absurd no
+not_reading splits x (calls.Scan span) asked no is = absurd no
+not_reading splits x call asked no is = absurd is
+
+heard_next : (c : Coordination) (k : Known) (due : Due) (count : ℕ) (before : List Sent) (m : Sent) → HasNoRead k.statement → KnowsAt c k due → next_of due ≡ nexts.Wave → k.sent ≡ before ++ m ∷ [] → m.number ≡ count
     → (waits_for count due ≡ true) × MayHear k count
-heard_next c k dues.Nothing count before m stands wave last is = absurd cc
-heard_next c k dues.Stuck count before m stands wave last is = absurd cc
-heard_next c k (dues.Send request wait) count before m stands wave last is = absurd cc
-heard_next c k (dues.Tell answer) count before m stands wave last is = absurd cc
-heard_next c k (dues.Hear number wait) count before m stands wave last is =
+heard_next c k dues.Nothing count before m no stands wave last is = absurd cc
+heard_next c k dues.Stuck count before m no stands wave last is = absurd cc
+heard_next c k (dues.Send request wait) count before m no stands wave last is = absurd cc
+heard_next c k (dues.Tell answer) count before m no stands wave last is = absurd cc
+heard_next c k (dues.Read messages) count before m no stands wave last is =
+    let r = stands.reads in
+    absurd (not_reading c.splits r.x r.call (map (λ (m : Message). m.request) messages) (subst (λ (s : Option Statement). HasNoRead s) r.opened no) r.asked)
+heard_next c k (dues.Hear number wait) count before m no stands wave last is =
     let l = last_waited k c.txn number wait stands.reply in
     let same : l.1 ≡ m = same_last l.0 before l.1 m (sym l.2.sent ∙ last) in
     let at : number ≡ count = sym l.2.numbered ∙ (ap (λ (x : Sent). x.number) same ∙ is) in
@@ -172,7 +186,7 @@ pub waited : (c : Coordination) (s : RangeState) (count : ℕ) (request : Reques
     → (waits_for count c.due ≡ true) × MayHear (known_by 1 h) count
 waited c s count request h f wave =
     let w : IsLast request count h = f.waiting in
-    heard_next c (known_by 1 h) c.due count w.before (record { number = count; range = 0; request = request }) f.knows.stands wave w.last refl
+    heard_next c (known_by 1 h) c.due count w.before (record { number = count; range = 0; request = request }) f.no_read f.knows.stands wave w.last refl
 
 pub known_kept : (h g : History) (place count : ℕ) (said : Reply) → HasOneMore place h g it (events.Eval me count said) → known_by 1 g ≡ known_by 1 h
 known_kept h g place count said more = ap (known_by 1) more.behind ∙ known_other h.head me h.entries (next_entry h it (events.Eval me count said)) range_no_session
@@ -191,26 +205,37 @@ begun c splits sessions knows session is none some = record {
   knows = knows;
   counted = refl;
   waiting = tt;
+  no_read = tt;
 }
 
 pub may_ask : (h : History) (call : Call) → (known_by 1 h).statement ≡ None → is_round call ≡ false → (is_outside call ≡ true → (known_by 1 h).is_open ≡ false) → MayAsk me (known_by 1 h) call
 may_ask h call none whose outside = record { none_open = none; whose = whose; outside = outside }
 
 pub asked : (c d : Coordination) (s : RangeState) (count : ℕ) (u : Option Request) (h g : History) (place : ℕ) (call : Call) (reading : ℕ)
-    → Follows c s count u h → (known_by 1 h).statement ≡ None → (is_outside call ≡ true → (known_by 1 h).is_open ≡ false)
+    → ReadsNothing call → Follows c s count u h → (known_by 1 h).statement ≡ None → (is_outside call ≡ true → (known_by 1 h).is_open ≡ false)
     → HasOneMore place h g me (events.Ask call reading)
     → ((k : Known) (p : Pair Event) → Knows c k → IsAsked call reading k p → Knows d (learn p k))
     → d.session ≡ c.session → d.splits ≡ c.splits → Follows d s count u g
-asked c d s count u h g place call reading f none outside more learns session splits =
+asked c d s count u h g place call reading plain f none outside more learns session splits =
     let event = events.Ask call reading in
     let knows = learns (known_by 1 h) (next_pair h event) f.knows
     (record { is = record { says = refl; names = named-none (protocol h.head) h.entries event (λ e. refl) }; none_open = none; outside = outside }) in
-    on c d s count count u u h g place event f more session splits knows (silent count (known_by 1 h).sent f.counted) (still_waiting u count h g place event more refl f.waiting)
+    on c d s count count u u h g place event f more session splits knows (silent count (known_by 1 h).sent f.counted) (still_waiting u count h g place event more refl f.waiting) plain
 
 goes : (request : Request) → IsPutOrCommit request → GoesTo [] request 0
 goes (requests.Put meta seq ts key value) kind = refl
 goes (requests.Commit meta ts locks) kind = refl
 goes _ kind = absurd kind
+
+goes_abort : (request : Request) → IsAbort request → GoesTo [] request 0
+goes_abort (requests.Abort meta why locks) kind = refl
+goes_abort _ kind = absurd kind
+
+goes_for : (call : Call) (request : Request) → ReadsNothing call → IsBuiltFor call request → GoesTo [] request 0
+goes_for (calls.Get key) request no kind = absurd no
+goes_for (calls.Scan span) request no kind = absurd no
+goes_for calls.Rollback request no kind = goes_abort request kind
+goes_for call request no kind = goes request kind
 
 pub may_send : (c : Coordination) (s : RangeState) (count number : ℕ) (u : Option Request) (h : History) (request : Request)
     → Follows c s count u h → IsSendable c.splits c.session (known_by 1 h) request → number ≡ count + 1
@@ -219,7 +244,7 @@ may_send c s count number u h request f may next =
     let row : MaySendRow c.splits me (known_by 1 h) request = subst (λ n. MaySendRow c.splits (actors.Session n) (known_by 1 h) request) f.session may.row in
     record {
       next = next ∙ ap (λ n. n + 1) f.counted;
-      there = subst (λ splits. GoesTo splits request 0) (sym f.one_range) (goes request may.kind);
+      there = subst (λ splits. GoesTo splits request 0) (sym f.one_range) (goes_for may.kind.s.call request (subst (λ (s : Option Statement). HasNoRead s) may.kind.opened f.no_read) may.kind.kind);
       stamps = may.stamps;
       row = subst (λ splits. MaySendRow splits me (known_by 1 h) request) f.splits row;
     }
@@ -244,6 +269,7 @@ sent c d s count number u h g place request f due next more learns session split
       whose = refl;
       says = refl;
     })
+    f.no_read
 
 pub told : (c d : Coordination) (s : RangeState) (count : ℕ) (u : Option Request) (h g : History) (place : ℕ) (answer : Answer)
     → Follows c s count u h → next_of c.due ≡ nexts.Tell answer → HasOneMore place h g me (events.Tell answer)
@@ -253,7 +279,7 @@ told c d s count u h g place answer f due more learns session splits =
     let event = events.Tell answer in
     let knows = learns (known_by 1 h) (next_pair h event) answer f.knows
     (record { due = due; is = record { says = refl; names = named-none (protocol h.head) h.entries event (λ e. refl) } }) in
-    on c d s count count u u h g place event f more session splits knows (silent count (known_by 1 h).sent f.counted) (still_waiting u count h g place event more refl f.waiting)
+    on c d s count count u u h g place event f more session splits knows (silent count (known_by 1 h).sent f.counted) (still_waiting u count h g place event more refl f.waiting) tt
 
 pub closed : (h g : History) (place : ℕ) (answer : Answer) → HasOneMore place h g me (events.Tell answer) → (known_by 1 g).statement ≡ None
 closed h g place answer more = ap (λ (k : Known). k.statement) (knows_next h g place (events.Tell answer) more)
@@ -299,6 +325,7 @@ served c s count request h g place said f more =
       knows = subst (λ (x : Known). Knows c x) (sym k) f.knows;
       counted = f.counted ∙ sym (ap (λ (x : Known). length x.sent) k);
       waiting = tt;
+      no_read = subst (λ (x : Known). HasNoRead x.statement) (sym k) f.no_read;
     }
 
 pub answered : (h g : History) (place count : ℕ) (said : Reply) → HasOneMore place h g it (events.Eval me count said) → IsAnswered g me count place said
@@ -313,19 +340,19 @@ heard c d s count h g place step said f waited a more learns session splits =
     let event = events.Hear count step in
     let knows = learns (known_by 1 h) (next_pair h event) f.knows
     (record { waited = waited; event = refl; evaluation = a.evaluation; actor = me; asked = count; named = hear_names h me count step said a f.run; told = a.says }) in
-    on c d s count count None None h g place event f more session splits knows (silent count (known_by 1 h).sent f.counted) tt
+    on c d s count count None None h g place event f more session splits knows (silent count (known_by 1 h).sent f.counted) tt f.no_read
 
 pub on_ok : {T F : Type 0} (r : Result T F) (P : Type 0) → P → OnOk r P
 on_ok (Ok x) P p = p
 on_ok (Err e) P p = tt
 
 pub asked_ok : {T F : Type 0} (r : Result T F) (c d : Coordination) (s : RangeState) (count : ℕ) (u : Option Request) (h g : History) (place : ℕ) (call : Call) (reading : ℕ)
-    → Follows c s count u h → (known_by 1 h).statement ≡ None → (is_outside call ≡ true → (known_by 1 h).is_open ≡ false)
+    → ReadsNothing call → Follows c s count u h → (known_by 1 h).statement ≡ None → (is_outside call ≡ true → (known_by 1 h).is_open ≡ false)
     → HasOneMore place h g me (events.Ask call reading)
     → ((k : Known) (p : Pair Event) → Knows c k → IsAsked call reading k p → OnOk r (Knows d (learn p k)))
     → d.session ≡ c.session → d.splits ≡ c.splits → OnOk r (Follows d s count u g)
-asked_ok (Ok x) c d s count u h g place call reading f none outside more learns session splits = asked c d s count u h g place call reading f none outside more learns session splits
-asked_ok (Err e) c d s count u h g place call reading f none outside more learns session splits = tt
+asked_ok (Ok x) c d s count u h g place call reading plain f none outside more learns session splits = asked c d s count u h g place call reading plain f none outside more learns session splits
+asked_ok (Err e) c d s count u h g place call reading plain f none outside more learns session splits = tt
 
 pub heard_now : (c d : Coordination) (s : RangeState) (count : ℕ) (u : Option Request) (h g : History) (place step : ℕ) (said : Reply)
     → Follows c s count None h → u ≡ None → waits_for count c.due ≡ true → IsAnswered h me count step said → HasOneMore place h g me (events.Hear count step)

@@ -4,9 +4,12 @@ use Rattle.pc_base.specs.declared.actor.ActorId.TheVariants as actors
 use Rattle.pc_base.specs.declared.entry.Entry.{Entry}
 use Rattle.pc_coord.specs.Coordination.{Coordination}
 use Rattle.pc_coord.specs.Knows.{Knows}
+use Rattle.pc_proto.specs.declared.call.Call.{Call}
+use Rattle.pc_proto.specs.declared.call.Call.TheVariants as calls
 use Rattle.pc_proto.specs.declared.event.Event.{Event}
 use Rattle.pc_proto.specs.declared.event.Event.TheVariants as events
 use Rattle.pc_proto.specs.declared.request.Request.{Request}
+use Rattle.pc_world.specs.Known.Statements.{Statement}
 use Rattle.pc_world.specs.Known.Traffic.{Sent}
 use Rattle.pc_world.specs.Local.{IsActorOf}
 use Rattle.pc_world.specs.RangeState.{RangeState}
@@ -27,6 +30,17 @@ abbrev pub IsWaiting : Option Request → ℕ → History → Type 0
 IsWaiting None count h = ⊤
 IsWaiting (Some request) count h = IsLast request count h
 
+-- The call reads nothing.
+abbrev pub ReadsNothing : Call → Type 0
+ReadsNothing (calls.Get key) = ⊥
+ReadsNothing (calls.Scan span) = ⊥
+ReadsNothing _ = ⊤
+
+-- The open call, if there is one, reads nothing.
+abbrev pub HasNoRead : Option Statement → Type 0
+HasNoRead None = ⊤
+HasNoRead (Some s) = ReadsNothing s.call
+
 -- The history is a run of one range; the coordinator knows what its session knows in it, the range is what its evaluations made of
 -- it, and the messages that the session sent are counted.
 pub record Follows (c : Coordination) (s : RangeState) (count : ℕ) (unheard : Option Request) (h : History) : Type 0 where
@@ -40,6 +54,7 @@ pub record Follows (c : Coordination) (s : RangeState) (count : ℕ) (unheard : 
   pub knows : Knows c (known_by 1 h)
   pub counted : count ≡ length (known_by 1 h).sent
   pub waiting : IsWaiting unheard count h
+  pub no_read : HasNoRead (known_by 1 h).statement
 
 -- The runner stands so now.
 abbrev pub IsFollowing : SessionRun → Type 0

@@ -4,7 +4,7 @@ ghost use Rattle.pc_coord.specs.Coordination.{next_of};
 ghost use Rattle.pc_coord.specs.declared.next.Next.TheVariants as nexts;
 ghost use Rattle.pc_coord.specs.Coordination.{waits_for};
 ghost use Rattle.pc_coord.specs.Knows.{MayCome};
-ghost use Rattle.pc_runner.specs.Following.{Follows, HasNoCall, HasNoTxn, HasSameHead, IsFollowing};
+ghost use Rattle.pc_runner.specs.Following.{Follows, HasNoCall, HasNoTxn, HasSameHead, IsFollowing, ReadsNothing};
 ghost use Rattle.pc_runner.specs.History.{head_of, known_by};
 ghost use Rattle.pc_runner.specs.Journal.{IsAnswered};
 ghost use Rattle.pc_runner.specs.Progress.{IsAfterStep};
@@ -158,6 +158,7 @@ impl<'a> SessionRun<'a> {
         requires follows { IsFollowing self.old }
         requires idle { HasNoCall self.old }
         requires whose { is_round call ≡ false }
+        requires plain { ReadsNothing call }
         requires outside { is_outside call ≡ true → HasNoTxn self.old }
         ensures follows { IfOk result (λ told. told ≡ true → IsFollowing self.new) }
         ensures idle { IfOk result (λ told. told ≡ true → HasNoCall self.new) }
@@ -178,6 +179,7 @@ impl<'a> SessionRun<'a> {
         requires follows { IsFollowing self.old }
         requires idle { HasNoCall self.old }
         requires whose { is_round call ≡ false }
+        requires plain { ReadsNothing call }
         requires outside { is_outside call ≡ true → HasNoTxn self.old }
         ensures follows { OnOk result (IsFollowing self.new) }
         ensures head { OnOk result (HasSameHead self.old self.new) }
