@@ -273,3 +273,31 @@ hear_at c k number due h is = absurd cc
 -- what is waited for may be heard
 pub may_hear : (c : Coordination) (k : Known) (number : ℕ) → Knows c k → waits_for number c.due ≡ true → MayHear k number
 may_hear c k number knows is = hear_at c k number c.due knows.stands is
+
+-- what was due to be sent is waited for
+pub sent_made : (c new : Coordination) (number : ℕ) (given wait : Wait) (request : Request) → Some given ≡ sending_of c.due → new ≡ with_due (dues.Hear number given) c → c.due ≡ dues.Send request wait
+    → new ≡ with_due (dues.Hear number wait) c
+sent_made c new number given wait request sending made due =
+    let same : Some given ≡ Some wait = sending ∙ ap sending_of due in
+    let w : given ≡ wait = cc in
+    made ∙ ap (λ w. with_due (dues.Hear number w) c) w
+
+pub not_sent_made : (c new : Coordination) (number : ℕ) (wait : Wait) (request : Request) → None ≡ sending_of c.due → c.due ≡ dues.Send request wait → new ≡ with_due (dues.Hear number wait) c
+not_sent_made c new number wait request none due =
+    let no : None ≡ Some wait = none ∙ ap sending_of due in
+    absurd cc
+
+-- the coordinator goes on by the reply that it waited for
+pub heard_made : (c heard new : Coordination) (k : Known) (number : ℕ) (reply : Reply) (given wait : Wait) (r : Result (Unit {0}) NoMemory) → Some given ≡ awaited_at number c.due → heard ≡ with_heard reply c
+    → (FewRefused given → OnOk r (new ≡ after_reply given reply heard)) → Knows c k → awaited_at number c.due ≡ Some wait → OnOk r (new ≡ after_reply wait reply (with_heard reply c))
+heard_made c heard new k number reply given wait r waited hear made knows at =
+    let same : Some given ≡ Some wait = waited ∙ at in
+    let w : given ≡ wait = cc in
+    on_ok r (new ≡ after_reply given reply heard) (new ≡ after_reply wait reply (with_heard reply c))
+    (λ e. e ∙ (ap (after_reply given reply) hear ∙ ap (λ w. after_reply w reply (with_heard reply c)) w))
+    (made (reply_few c k number given waited knows))
+
+pub not_heard_ok : (c new other : Coordination) (number : ℕ) (wait : Wait) (r : Result (Unit {0}) NoMemory) → None ≡ awaited_at number c.due → awaited_at number c.due ≡ Some wait → OnOk r (new ≡ other)
+not_heard_ok c new other number wait r none at =
+    let no : None ≡ Some wait = none ∙ at in
+    absurd cc

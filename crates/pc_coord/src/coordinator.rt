@@ -1,8 +1,9 @@
-ghost use Rattle.std.specs.Prelude.{◌≡◌, ℕ, ◌+◌, ◌*◌, ◌^◌, ◌<◌, ◌≤◌, nat_lt, max, if◌then◌else◌, true, is_some, IfOk, OnOk, None};
+ghost use Rattle.std.specs.Prelude.{◌≡◌, ℕ, ◌+◌, ◌*◌, ◌^◌, ◌<◌, ◌≤◌, nat_lt, max, if◌then◌else◌, true, is_some, IfOk, OnOk, None, Some};
 ghost use Rattle.pc_base.specs.Timestamp.{greatest};
 ghost use Rattle.pc_coord.specs.Coordination.{next_of, waits_for, with_begun, with_due, with_end, with_raise};
 ghost use Rattle.pc_coord.specs.Coordinating.{FewRefused, after_abort_reply, after_begin, after_call, after_commit_call, after_commit_reply, after_committed, after_get, after_put, after_put_reply, after_read, after_refused, after_reply, after_rollback, after_scan, after_view, due_after_send, awaited_at, sending_of, with_heard};
 ghost use Rattle.pc_coord.specs.declared.due.Due.TheVariants as dues;
+ghost use Rattle.pc_coord.specs.declared.due.Wait.{Wait as AwaitedReply};
 ghost use Rattle.pc_coord.specs.declared.next.Next.TheVariants as nexts;
 ghost use Rattle.pc_coord.specs.Events.{IsAsked, IsHeard, IsSent, IsTold};
 ghost use Rattle.pc_coord.specs.Knows.{Knows, MayCome};
@@ -91,6 +92,7 @@ impl<'a> Coordinator<'a> {
     ///
     /// Refused for want of memory, and where the session's numbers or timestamps are used up.
     pub fn ask(&mut self, call: Call, reading: u64) -> Result<(), NoMemory>
+        ensures made { OnOk result (self.new ≡ after_call call reading self.old) }
         ensures knows { (k : Known) (p : Pair Event) → Knows self.old k → IsAsked call reading k p → OnOk result (Knows self.new (learn p k)) }
         ensures session { self.new.session ≡ self.old.session }
         ensures splits { self.new.splits ≡ self.old.splits }
@@ -233,6 +235,7 @@ impl<'a> Coordinator<'a> {
 
     /// The message that `next` gave went out under this number.
     pub fn sent(&mut self, number: u64) -> Result<(), NoMemory>
+        ensures made { (request : Request) (wait : AwaitedReply) → self.old.due ≡ dues.Send request wait → OnOk result (self.new ≡ with_due (dues.Hear number wait) self.old) }
         ensures knows { (k : Known) (p : Pair Event) (range : ℕ) (request : Request) → Knows self.old k → IsSent self.old number range request k p → OnOk result (Knows self.new (learn p k)) }
         ensures waits { (request : Request) → next_of self.old.due ≡ nexts.Send request → OnOk result (waits_for number self.new.due ≡ true) }
         ensures session { self.new.session ≡ self.old.session }
@@ -264,6 +267,7 @@ impl<'a> Coordinator<'a> {
 
     /// The reply to the message of this number was heard; it was evaluated at this step.
     pub fn heard(&mut self, number: u64, step: u64, reply: &Reply) -> Result<(), NoMemory>
+        ensures made { (k : Known) (wait : AwaitedReply) → Knows self.old k → awaited_at number self.old.due ≡ Some wait → OnOk result (self.new ≡ after_reply wait reply.now (with_heard reply.now self.old)) }
         ensures knows { (k : Known) (p : Pair Event) → Knows self.old k → IsHeard self.old number step reply.now p → OnOk result (Knows self.new (learn p k)) }
         ensures session { self.new.session ≡ self.old.session }
         ensures splits { self.new.splits ≡ self.old.splits }
@@ -413,6 +417,7 @@ impl<'a> Coordinator<'a> {
 
     /// The answer that `next` gave was told, and the statement is over.
     pub fn told(&mut self)
+        ensures made { self.new ≡ with_due dues.Nothing self.old }
         ensures knows { (k : Known) (p : Pair Event) (answer : Answer) → Knows self.old k → IsTold self.old answer p → Knows self.new (learn p k) }
         ensures session { self.new.session ≡ self.old.session }
         ensures splits { self.new.splits ≡ self.old.splits }

@@ -16,9 +16,7 @@ use Rattle.pc_coord.specs.declared.due.Wait.TheVariants as waits
 use Rattle.pc_coord.specs.declared.next.Next.TheVariants as nexts
 use Rattle.pc_coord.specs.declared.transaction.Transaction.{Transaction}
 use Rattle.pc_coord.specs.Events.{IsAsked, IsHeard, IsSent, IsTold}
-use Rattle.pc_coord.specs.declared.messages.Message.{Message}
-use Rattle.pc_coord.specs.Knows.{AreReadsOf, Awaits, AwaitsReply, IsAbort, IsBuiltFor, IsCounted, IsLastSent, IsSendable, Knows, KnowsAt, Rests, learned}
-use Rattle.pc_world.specs.PutsAndCommits.{IsPutOrCommit}
+use Rattle.pc_coord.specs.Knows.{Awaits, AwaitsReply, IsCounted, IsLastSent, IsSendable, Knows, KnowsAt, Rests, learned}
 use Rattle.pc_history.proofs.Histories.{named-none}
 use Rattle.pc_history.proofs.Lists.{contains_head}
 use Rattle.pc_history.specs.declared.pair.Pair.{Pair}
@@ -40,13 +38,14 @@ use Rattle.pc_world.specs.Local.{Head, IsActorOf, MayAsk, MayHear, is_outside, i
 use Rattle.pc_world.specs.MaySend.{MaySend, MaySendRow}
 use Rattle.pc_world.specs.MayTell.{MayTell}
 use Rattle.pc_world.specs.Named.{request_in, request_named}
+use Rattle.pc_world.specs.PutsAndCommits.{IsPutOrCommit}
 use Rattle.pc_world.specs.RangeOf.{GoesTo}
 use Rattle.pc_world.specs.RangeState.{RangeState, no_state}
 use Rattle.pc_world.specs.Run.{IsRun, clock_end, protocol}
 use Rattle.pc_world.specs.Stamps.{HasRoom}
 use Rattle.pc_world.specs.StateOf.{state_with}
 use Rattle.pc_runner.proofs.Entering.{eval_names, hear_names}
-use Rattle.pc_runner.specs.Following.{Follows, IsLast, IsWaiting}
+use Rattle.pc_runner.specs.Following.{StandsBy, IsLast, IsWaiting}
 use Rattle.pc_runner.specs.History.{History, IsRunSoFar, head_of, known_by, state_in}
 use Rattle.pc_runner.specs.Journal.{AnswersNow, HasOneMore, IsAnswered, next_entry, with_entry}
 
@@ -61,13 +60,13 @@ abbrev pub next_pair : History → Event → Pair Event
 next_pair h event = pair (next_entry h me event) (named_in (protocol h.head) h.entries event)
 
 -- one more entry of the session
-knows_next : (h g : History) (place : ℕ) (event : Event) → HasOneMore place h g me event → known_by 1 g ≡ learn (next_pair h event) (known_by 1 h)
+pub knows_next : (h g : History) (place : ℕ) (event : Event) → HasOneMore place h g me event → known_by 1 g ≡ learn (next_pair h event) (known_by 1 h)
 knows_next h g place event more = ap (known_by 1) more.behind ∙ known_same h.head me h.entries (next_entry h me event) refl
 
 session_no_range : me ≢ it
 session_no_range e = absurd cc
 
-range_no_session : it ≢ me
+pub range_no_session : it ≢ me
 range_no_session e = absurd cc
 
 same_state : (h g : History) (place : ℕ) (event : Event) → HasOneMore place h g me event → state_in 0 g ≡ state_in 0 h
@@ -98,11 +97,10 @@ still_waiting (Some request) count h g place event more none w = record {
 
 -- After one more entry of the session, of which its coordinator learnt.
 on : (c d : Coordination) (s : RangeState) (count next_count : ℕ) (u v : Option Request) (h g : History) (place : ℕ) (event : Event)
-    → Follows c s count u h → HasOneMore place h g me event → d.session ≡ c.session → d.splits ≡ c.splits
+    → StandsBy c s count u h → HasOneMore place h g me event → d.session ≡ c.session → d.splits ≡ c.splits
     → Knows d (learn (next_pair h event) (known_by 1 h)) → next_count ≡ length ((known_by 1 h).sent ++ sent_by event) → IsWaiting v next_count g
-    → HasNoRead (statement_after event (known_by 1 h).statement)
-    → Follows d s next_count v g
-on c d s count next_count u v h g place event f more session splits knows counted waiting no_read = record {
+    → StandsBy d s next_count v g
+on c d s count next_count u v h g place event f more session splits knows counted waiting = record {
   session = session ∙ f.session;
   splits = splits ∙ (f.splits ∙ sym (ap (λ (x : History). x.head.splits) more.behind));
   one_range = ap (λ (x : History). x.head.splits) more.behind ∙ f.one_range;
@@ -113,7 +111,6 @@ on c d s count next_count u v h g place event f more session splits knows counte
   knows = subst (λ (k : Known). Knows d k) (sym (knows_next h g place event more)) knows;
   counted = counted ∙ sym (ap (λ (k : Known). length k.sent) (knows_next h g place event more));
   waiting = waiting;
-  no_read = subst (λ (k : Known). HasNoRead k.statement) (sym (knows_next h g place event more)) no_read;
 }
 
 silent : (count : ℕ) (sent : List Sent) → count ≡ length sent → count ≡ length (sent ++ [])
@@ -135,7 +132,7 @@ unfolding last_or
 last_or-push m [] x = refl
 last_or-push m (y ∷ ys) x = last_or-push y ys x
 
-same_last : (xs ys : List Sent) (x y : Sent) → xs ++ x ∷ [] ≡ ys ++ y ∷ [] → x ≡ y
+pub same_last : (xs ys : List Sent) (x y : Sent) → xs ++ x ∷ [] ≡ ys ++ y ∷ [] → x ≡ y
 same_last xs ys x y e = sym (last_or-push x xs x) ∙ (ap (last_or x) e ∙ last_or-push x ys y)
 
 any_last : (number : ℕ) (before : List Sent) (m : Sent) → m.number ≡ number → list_any (λ x. x.number == number) (before ++ m ∷ []) ≡ true
@@ -146,7 +143,7 @@ any_last number (x ∷ xs) m e = let rest = any_last number xs m e in grind arit
 abbrev Last : Known → ℕ → Type 0
 Last k number = (before : List Sent) × (m : Sent) × IsLastSent k number before m
 
-last_waited : (k : Known) (txn : Option Transaction) (number : ℕ) (wait : Wait) → AwaitsReply k txn number wait → Last k number
+pub last_waited : (k : Known) (txn : Option Transaction) (number : ℕ) (wait : Wait) → AwaitsReply k txn number wait → Last k number
 last_waited k txn number waits.Put a = (a.before, a.m, a.last)
 last_waited k txn number (waits.Commit ts refusals) a = (a.before, a.m, a.last)
 last_waited k txn number waits.Abort a = (a.before, a.m, a.last)
@@ -160,40 +157,37 @@ may_hear k number before m last is unheard = record {
       ap not none;
 }
 
--- a call that reads nothing has no reads
-not_reading : (splits : List (List ℕ)) (x : Transaction) (call : Call) (asked : List Request) → ReadsNothing call → AreReadsOf splits x call asked → ⊥
-not_reading splits x (calls.Get key) asked no is = absurd no
-not_reading splits x (calls.Scan span) asked no is = absurd no
-not_reading splits x call asked no is = absurd is
+-- No messages that read are due.
+abbrev pub ReadsNothing : Due → Type 0
+ReadsNothing (dues.Read messages) = ⊥
+ReadsNothing _ = Unit {0}
 
-heard_next : (c : Coordination) (k : Known) (due : Due) (count : ℕ) (before : List Sent) (m : Sent) → HasNoRead k.statement → KnowsAt c k due → next_of due ≡ nexts.Wave → k.sent ≡ before ++ m ∷ [] → m.number ≡ count
+heard_next : (c : Coordination) (k : Known) (due : Due) (count : ℕ) (before : List Sent) (m : Sent) → ReadsNothing due → KnowsAt c k due → next_of due ≡ nexts.Wave → k.sent ≡ before ++ m ∷ [] → m.number ≡ count
     → (waits_for count due ≡ true) × MayHear k count
-heard_next c k dues.Nothing count before m no stands wave last is = absurd cc
-heard_next c k dues.Stuck count before m no stands wave last is = absurd cc
-heard_next c k (dues.Send request wait) count before m no stands wave last is = absurd cc
-heard_next c k (dues.Tell answer) count before m no stands wave last is = absurd cc
-heard_next c k (dues.Read messages) count before m no stands wave last is =
-    let r = stands.reads in
-    absurd (not_reading c.splits r.x r.call (map (λ (m : Message). m.request) messages) (subst (λ (s : Option Statement). HasNoRead s) r.opened no) r.asked)
-heard_next c k (dues.Hear number wait) count before m no stands wave last is =
+heard_next c k dues.Nothing count before m none stands wave last is = absurd cc
+heard_next c k dues.Stuck count before m none stands wave last is = absurd cc
+heard_next c k (dues.Send request wait) count before m none stands wave last is = absurd cc
+heard_next c k (dues.Tell answer) count before m none stands wave last is = absurd cc
+heard_next c k (dues.Read messages) count before m none stands wave last is = absurd none
+heard_next c k (dues.Hear number wait) count before m none stands wave last is =
     let l = last_waited k c.txn number wait stands.reply in
     let same : l.1 ≡ m = same_last l.0 before l.1 m (sym l.2.sent ∙ last) in
     let at : number ≡ count = sym l.2.numbered ∙ (ap (λ (x : Sent). x.number) same ∙ is) in
     (same-number number count at, may_hear k count before m last is (subst (λ n. All (λ (x : Heard). x.number < n) k.heard) at l.2.unheard))
 
 -- The reply that is waited for is that to the last message.
-pub waited : (c : Coordination) (s : RangeState) (count : ℕ) (request : Request) (h : History) → Follows c s count (Some request) h → next_of c.due ≡ nexts.Wave
+pub waited : (c : Coordination) (s : RangeState) (count : ℕ) (request : Request) (h : History) → ReadsNothing c.due → StandsBy c s count (Some request) h → next_of c.due ≡ nexts.Wave
     → (waits_for count c.due ≡ true) × MayHear (known_by 1 h) count
-waited c s count request h f wave =
+waited c s count request h none f wave =
     let w : IsLast request count h = f.waiting in
-    heard_next c (known_by 1 h) c.due count w.before (record { number = count; range = 0; request = request }) f.no_read f.knows.stands wave w.last refl
+    heard_next c (known_by 1 h) c.due count w.before (record { number = count; range = 0; request = request }) none f.knows.stands wave w.last refl
 
 pub known_kept : (h g : History) (place count : ℕ) (said : Reply) → HasOneMore place h g it (events.Eval me count said) → known_by 1 g ≡ known_by 1 h
 known_kept h g place count said more = ap (known_by 1) more.behind ∙ known_other h.head me h.entries (next_entry h it (events.Eval me count said)) range_no_session
 
 -- Before the first entry.
 pub begun : (c : Coordination) (splits : List (List ℕ)) (sessions : ℕ) → Knows c nothing_known → c.session ≡ 1 → c.splits ≡ splits → splits ≡ [] → 1 ≤ sessions
-    → Follows c no_state 0 None (record { head = head_of splits sessions; entries = [] })
+    → StandsBy c no_state 0 None (record { head = head_of splits sessions; entries = [] })
 begun c splits sessions knows session is none some = record {
   session = session;
   splits = is;
@@ -205,55 +199,44 @@ begun c splits sessions knows session is none some = record {
   knows = knows;
   counted = refl;
   waiting = tt;
-  no_read = tt;
 }
 
 pub may_ask : (h : History) (call : Call) → (known_by 1 h).statement ≡ None → is_round call ≡ false → (is_outside call ≡ true → (known_by 1 h).is_open ≡ false) → MayAsk me (known_by 1 h) call
 may_ask h call none whose outside = record { none_open = none; whose = whose; outside = outside }
 
 pub asked : (c d : Coordination) (s : RangeState) (count : ℕ) (u : Option Request) (h g : History) (place : ℕ) (call : Call) (reading : ℕ)
-    → ReadsNothing call → Follows c s count u h → (known_by 1 h).statement ≡ None → (is_outside call ≡ true → (known_by 1 h).is_open ≡ false)
+    → StandsBy c s count u h → (known_by 1 h).statement ≡ None → (is_outside call ≡ true → (known_by 1 h).is_open ≡ false)
     → HasOneMore place h g me (events.Ask call reading)
     → ((k : Known) (p : Pair Event) → Knows c k → IsAsked call reading k p → Knows d (learn p k))
-    → d.session ≡ c.session → d.splits ≡ c.splits → Follows d s count u g
-asked c d s count u h g place call reading plain f none outside more learns session splits =
+    → d.session ≡ c.session → d.splits ≡ c.splits → StandsBy d s count u g
+asked c d s count u h g place call reading f none outside more learns session splits =
     let event = events.Ask call reading in
     let knows = learns (known_by 1 h) (next_pair h event) f.knows
     (record { is = record { says = refl; names = named-none (protocol h.head) h.entries event (λ e. refl) }; none_open = none; outside = outside }) in
-    on c d s count count u u h g place event f more session splits knows (silent count (known_by 1 h).sent f.counted) (still_waiting u count h g place event more refl f.waiting) plain
+    on c d s count count u u h g place event f more session splits knows (silent count (known_by 1 h).sent f.counted) (still_waiting u count h g place event more refl f.waiting)
 
 goes : (request : Request) → IsPutOrCommit request → GoesTo [] request 0
 goes (requests.Put meta seq ts key value) kind = refl
 goes (requests.Commit meta ts locks) kind = refl
 goes _ kind = absurd kind
 
-goes_abort : (request : Request) → IsAbort request → GoesTo [] request 0
-goes_abort (requests.Abort meta why locks) kind = refl
-goes_abort _ kind = absurd kind
-
-goes_for : (call : Call) (request : Request) → ReadsNothing call → IsBuiltFor call request → GoesTo [] request 0
-goes_for (calls.Get key) request no kind = absurd no
-goes_for (calls.Scan span) request no kind = absurd no
-goes_for calls.Rollback request no kind = goes_abort request kind
-goes_for call request no kind = goes request kind
-
 pub may_send : (c : Coordination) (s : RangeState) (count number : ℕ) (u : Option Request) (h : History) (request : Request)
-    → Follows c s count u h → IsSendable c.splits c.session (known_by 1 h) request → number ≡ count + 1
+    → IsPutOrCommit request → StandsBy c s count u h → IsSendable c.splits c.session (known_by 1 h) request → number ≡ count + 1
     → MaySend h.head.splits me (known_by 1 h) number 0 request
-may_send c s count number u h request f may next =
+may_send c s count number u h request kind f may next =
     let row : MaySendRow c.splits me (known_by 1 h) request = subst (λ n. MaySendRow c.splits (actors.Session n) (known_by 1 h) request) f.session may.row in
     record {
       next = next ∙ ap (λ n. n + 1) f.counted;
-      there = subst (λ splits. GoesTo splits request 0) (sym f.one_range) (goes_for may.kind.s.call request (subst (λ (s : Option Statement). HasNoRead s) may.kind.opened f.no_read) may.kind.kind);
+      there = subst (λ splits. GoesTo splits request 0) (sym f.one_range) (goes request kind);
       stamps = may.stamps;
       row = subst (λ splits. MaySendRow splits me (known_by 1 h) request) f.splits row;
     }
 
 pub sent : (c d : Coordination) (s : RangeState) (count number : ℕ) (u : Option Request) (h g : History) (place : ℕ) (request : Request)
-    → Follows c s count u h → next_of c.due ≡ nexts.Send request → number ≡ count + 1
+    → StandsBy c s count u h → next_of c.due ≡ nexts.Send request → number ≡ count + 1
     → HasOneMore place h g me (events.Send number 0 request)
     → ((k : Known) (p : Pair Event) (range : ℕ) (request : Request) → Knows c k → IsSent c number range request k p → Knows d (learn p k))
-    → d.session ≡ c.session → d.splits ≡ c.splits → Follows d s number (Some request) g
+    → d.session ≡ c.session → d.splits ≡ c.splits → StandsBy d s number (Some request) g
 sent c d s count number u h g place request f due next more learns session splits =
     let event = events.Send number 0 request in
     let k = known_by 1 h in
@@ -269,41 +252,40 @@ sent c d s count number u h g place request f due next more learns session split
       whose = refl;
       says = refl;
     })
-    f.no_read
 
 pub told : (c d : Coordination) (s : RangeState) (count : ℕ) (u : Option Request) (h g : History) (place : ℕ) (answer : Answer)
-    → Follows c s count u h → next_of c.due ≡ nexts.Tell answer → HasOneMore place h g me (events.Tell answer)
+    → StandsBy c s count u h → next_of c.due ≡ nexts.Tell answer → HasOneMore place h g me (events.Tell answer)
     → ((k : Known) (p : Pair Event) (answer : Answer) → Knows c k → IsTold c answer p → Knows d (learn p k))
-    → d.session ≡ c.session → d.splits ≡ c.splits → Follows d s count u g
+    → d.session ≡ c.session → d.splits ≡ c.splits → StandsBy d s count u g
 told c d s count u h g place answer f due more learns session splits =
     let event = events.Tell answer in
     let knows = learns (known_by 1 h) (next_pair h event) answer f.knows
     (record { due = due; is = record { says = refl; names = named-none (protocol h.head) h.entries event (λ e. refl) } }) in
-    on c d s count count u u h g place event f more session splits knows (silent count (known_by 1 h).sent f.counted) (still_waiting u count h g place event more refl f.waiting) tt
+    on c d s count count u u h g place event f more session splits knows (silent count (known_by 1 h).sent f.counted) (still_waiting u count h g place event more refl f.waiting)
 
 pub closed : (h g : History) (place : ℕ) (answer : Answer) → HasOneMore place h g me (events.Tell answer) → (known_by 1 g).statement ≡ None
 closed h g place answer more = ap (λ (k : Known). k.statement) (knows_next h g place (events.Tell answer) more)
 
 pub may_tell : (c : Coordination) (s : RangeState) (count : ℕ) (u : Option Request) (h : History) (answer : Answer)
-    → Follows c s count u h → MayTell c.splits (actors.Session c.session) (known_by 1 h) answer → MayTell h.head.splits me (known_by 1 h) answer
+    → StandsBy c s count u h → MayTell c.splits (actors.Session c.session) (known_by 1 h) answer → MayTell h.head.splits me (known_by 1 h) answer
 may_tell c s count u h answer f may =
     let mine : MayTell c.splits me (known_by 1 h) answer = subst (λ n. MayTell c.splits (actors.Session n) (known_by 1 h) answer) f.session may in
     subst (λ splits. MayTell splits me (known_by 1 h) answer) f.splits mine
 
-pub room : (c : Coordination) (s : RangeState) (count : ℕ) (request : Request) (h : History) → Follows c s count (Some request) h → HasRoom request s
+pub room : (c : Coordination) (s : RangeState) (count : ℕ) (request : Request) (h : History) → StandsBy c s count (Some request) h → HasRoom request s
 room c s count request h f =
     let w : IsLast request count h = f.waiting in
     subst (λ (x : RangeState). HasRoom request x) (sym f.state)
     (run_has_room h.head it h.entries w.send request f.run f.short w.stands (ap request_in w.says))
 
-pub answers : (c : Coordination) (s : RangeState) (count : ℕ) (request : Request) (h : History) (said : Reply) → Follows c s count (Some request) h → said ≡ reply request s → AnswersNow h 0 me count said
+pub answers : (c : Coordination) (s : RangeState) (count : ℕ) (request : Request) (h : History) (said : Reply) → StandsBy c s count (Some request) h → said ≡ reply request s → AnswersNow h 0 me count said
 answers c s count request h said f is =
     let w : IsLast request count h = f.waiting in
     record { there = omega arith; send = w.send; request = request; stands = w.stands; whose = w.whose; says = w.says; is = is ∙ ap (reply request) f.state }
 
 -- After the range evaluated the last message.
 pub served : (c : Coordination) (s : RangeState) (count : ℕ) (request : Request) (h g : History) (place : ℕ) (said : Reply)
-    → Follows c s count (Some request) h → HasOneMore place h g it (events.Eval me count said) → Follows c (state_after request s) count None g
+    → StandsBy c s count (Some request) h → HasOneMore place h g it (events.Eval me count said) → StandsBy c (state_after request s) count None g
 served c s count request h g place said f more =
     let w : IsLast request count h = f.waiting in
     let event = events.Eval me count said in
@@ -325,7 +307,6 @@ served c s count request h g place said f more =
       knows = subst (λ (x : Known). Knows c x) (sym k) f.knows;
       counted = f.counted ∙ sym (ap (λ (x : Known). length x.sent) k);
       waiting = tt;
-      no_read = subst (λ (x : Known). HasNoRead x.statement) (sym k) f.no_read;
     }
 
 pub answered : (h g : History) (place count : ℕ) (said : Reply) → HasOneMore place h g it (events.Eval me count said) → IsAnswered g me count place said
@@ -333,47 +314,35 @@ answered h g place count said more =
     record { evaluation = next_entry h it (events.Eval me count said); stands = contained_now h g place it (events.Eval me count said) more; at = sym more.numbered; says = refl }
 
 pub heard : (c d : Coordination) (s : RangeState) (count : ℕ) (h g : History) (place step : ℕ) (said : Reply)
-    → Follows c s count None h → waits_for count c.due ≡ true → IsAnswered h me count step said → HasOneMore place h g me (events.Hear count step)
+    → StandsBy c s count None h → waits_for count c.due ≡ true → IsAnswered h me count step said → HasOneMore place h g me (events.Hear count step)
     → ((k : Known) (p : Pair Event) → Knows c k → IsHeard c count step said p → Knows d (learn p k))
-    → d.session ≡ c.session → d.splits ≡ c.splits → Follows d s count None g
+    → d.session ≡ c.session → d.splits ≡ c.splits → StandsBy d s count None g
 heard c d s count h g place step said f waited a more learns session splits =
     let event = events.Hear count step in
     let knows = learns (known_by 1 h) (next_pair h event) f.knows
     (record { waited = waited; event = refl; evaluation = a.evaluation; actor = me; asked = count; named = hear_names h me count step said a f.run; told = a.says }) in
-    on c d s count count None None h g place event f more session splits knows (silent count (known_by 1 h).sent f.counted) tt f.no_read
-
-pub on_ok : {T F : Type 0} (r : Result T F) (P : Type 0) → P → OnOk r P
-on_ok (Ok x) P p = p
-on_ok (Err e) P p = tt
-
-pub asked_ok : {T F : Type 0} (r : Result T F) (c d : Coordination) (s : RangeState) (count : ℕ) (u : Option Request) (h g : History) (place : ℕ) (call : Call) (reading : ℕ)
-    → ReadsNothing call → Follows c s count u h → (known_by 1 h).statement ≡ None → (is_outside call ≡ true → (known_by 1 h).is_open ≡ false)
-    → HasOneMore place h g me (events.Ask call reading)
-    → ((k : Known) (p : Pair Event) → Knows c k → IsAsked call reading k p → OnOk r (Knows d (learn p k)))
-    → d.session ≡ c.session → d.splits ≡ c.splits → OnOk r (Follows d s count u g)
-asked_ok (Ok x) c d s count u h g place call reading plain f none outside more learns session splits = asked c d s count u h g place call reading plain f none outside more learns session splits
-asked_ok (Err e) c d s count u h g place call reading plain f none outside more learns session splits = tt
+    on c d s count count None None h g place event f more session splits knows (silent count (known_by 1 h).sent f.counted) tt
 
 pub heard_now : (c d : Coordination) (s : RangeState) (count : ℕ) (u : Option Request) (h g : History) (place step : ℕ) (said : Reply)
-    → Follows c s count None h → u ≡ None → waits_for count c.due ≡ true → IsAnswered h me count step said → HasOneMore place h g me (events.Hear count step)
+    → StandsBy c s count None h → u ≡ None → waits_for count c.due ≡ true → IsAnswered h me count step said → HasOneMore place h g me (events.Hear count step)
     → ((k : Known) (p : Pair Event) → Knows c k → IsHeard c count step said p → Knows d (learn p k))
-    → d.session ≡ c.session → d.splits ≡ c.splits → Follows d s count u g
+    → d.session ≡ c.session → d.splits ≡ c.splits → StandsBy d s count u g
 heard_now c d s count u h g place step said f none waited a more learns session splits =
-    subst (λ v. Follows d s count v g) (sym none) (heard c d s count h g place step said f waited a more learns session splits)
+    subst (λ v. StandsBy d s count v g) (sym none) (heard c d s count h g place step said f waited a more learns session splits)
 
 -- After the range evaluated the last message, as its code leaves it.
 pub served_now : (c : Coordination) (s t : RangeState) (count : ℕ) (request : Request) (h g : History) (place : ℕ) (said : Reply)
-    → Follows c s count (Some request) h → t ≡ state_after request s → HasOneMore place h g it (events.Eval me count said) → Follows c t count None g
-served_now c s t count request h g place said f is more = subst (λ x. Follows c x count None g) (sym is) (served c s count request h g place said f more)
+    → StandsBy c s count (Some request) h → t ≡ state_after request s → HasOneMore place h g it (events.Eval me count said) → StandsBy c t count None g
+served_now c s t count request h g place said f is more = subst (λ x. StandsBy c x count None g) (sym is) (served c s count request h g place said f more)
 
 pub may_hear_now : (c : Coordination) (s : RangeState) (count : ℕ) (request : Request) (h g : History) (place : ℕ) (said : Reply)
-    → Follows c s count (Some request) h → next_of c.due ≡ nexts.Wave → HasOneMore place h g it (events.Eval me count said) → MayHear (known_by 1 g) count
-may_hear_now c s count request h g place said f wave more =
-    subst (λ k. MayHear k count) (sym (known_kept h g place count said more)) (waited c s count request h f wave).1
+    → ReadsNothing c.due → StandsBy c s count (Some request) h → next_of c.due ≡ nexts.Wave → HasOneMore place h g it (events.Eval me count said) → MayHear (known_by 1 g) count
+may_hear_now c s count request h g place said none f wave more =
+    subst (λ k. MayHear k count) (sym (known_kept h g place count said more)) (waited c s count request h none f wave).1
 
 pub begun_now : (c : Coordination) (s : RangeState) (h : History) (splits : List (List ℕ)) (sessions count : ℕ) → Knows c nothing_known → c.session ≡ 1 → c.splits ≡ splits → s ≡ no_state
-    → h ≡ record { head = head_of splits sessions; entries = [] } → splits ≡ [] → sessions ≡ count → count ≡ 1 → Follows c s 0 None h
+    → h ≡ record { head = head_of splits sessions; entries = [] } → splits ≡ [] → sessions ≡ count → count ≡ 1 → StandsBy c s 0 None h
 begun_now c s h splits sessions count knows session is state fresh none same one =
-    let first : Follows c no_state 0 None (record { head = head_of splits sessions; entries = [] }) = begun c splits sessions knows session is none (omega arith) in
-    let there : Follows c no_state 0 None h = subst (λ (x : History). Follows c no_state 0 None x) (sym fresh) first in
-    subst (λ (x : RangeState). Follows c x 0 None h) (sym state) there
+    let first : StandsBy c no_state 0 None (record { head = head_of splits sessions; entries = [] }) = begun c splits sessions knows session is none (omega arith) in
+    let there : StandsBy c no_state 0 None h = subst (λ (x : History). StandsBy c no_state 0 None x) (sym fresh) first in
+    subst (λ (x : RangeState). StandsBy c x 0 None h) (sym state) there

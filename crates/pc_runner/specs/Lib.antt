@@ -1,4 +1,9 @@
+pub mod Due
 pub mod Following
+pub mod Follows
 pub mod History
 pub mod Journal
+pub mod Keeping
 pub mod Progress
+pub mod Script
+pub mod Turns

@@ -1,12 +1,10 @@
 -- What a step of a call leaves behind.
-use Rattle.std.specs.Prelude.{⊤}
 use Rattle.pc_runner.specs.declared.session.Progress.{Progress}
-use Rattle.pc_runner.specs.declared.session.Progress.TheVariants.{Goes, Told, Stuck}
+use Rattle.pc_runner.specs.declared.session.Progress.TheVariants.{Goes, Told}
 use Rattle.pc_runner.specs.declared.session.SessionRun.{SessionRun}
-use Rattle.pc_runner.specs.Following.{HasNoCall, IsFollowing}
+use Rattle.pc_runner.specs.Following.{IsFollowing, IsIdle, IsInCall}
 
--- The runner can go on, unless it is stuck; and once the call was told its answer, no call is open.
+-- The runner follows its workload, in the call, or after it was told its answer.
 abbrev pub IsAfterStep : SessionRun → Progress → Type 0
-IsAfterStep r Goes = IsFollowing r
-IsAfterStep r Told = IsFollowing r × HasNoCall r
-IsAfterStep r Stuck = ⊤
+IsAfterStep r Goes = IsFollowing r × IsInCall r
+IsAfterStep r Told = IsFollowing r × IsIdle r

@@ -2,6 +2,7 @@
 #![tactic(auto)]
 
 mod journal;
+mod script;
 mod session;
 mod turns;
 

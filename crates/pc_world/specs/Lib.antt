@@ -3,6 +3,7 @@ pub mod After
 pub mod CommitOrder
 pub mod Committed
 pub mod Evaluation
+pub mod Follows
 pub mod Caused
 pub mod Counting
 pub mod Decisions

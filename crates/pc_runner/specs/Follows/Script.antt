@@ -1,0 +1,91 @@
+-- Script: a session asks the calls of its script in order, and after a refusal some of them again.
+use Rattle.std.specs.Prelude.{◌≡◌, ℕ, zero, suc, Bool, true, false, Option, None, Some, List, [], ◌∷◌, ◌++◌, drop, fold, slice_get, ⊤}
+use Rattle.std.specs.List.{flat_map}
+use Rattle.pc_history.specs.declared.pair.Pair.{Pair}
+use Rattle.pc_proto.specs.declared.answer.Answer.{Answer}
+use Rattle.pc_proto.specs.declared.answer.Answer.TheVariants as answers
+use Rattle.pc_proto.specs.declared.call.Call.{Call}
+use Rattle.pc_proto.specs.declared.call.Call.TheVariants as calls
+use Rattle.pc_proto.specs.declared.event.Event.{Event}
+use Rattle.pc_proto.specs.declared.event.Event.TheVariants as events
+use Rattle.pc_work.specs.declared.item.Item.{Item}
+use Rattle.pc_work.specs.declared.item.Item.TheVariants.{Learn, Txn}
+use Rattle.pc_work.specs.declared.statement.Statement.{Statement}
+use Rattle.pc_work.specs.declared.statement.Statement.TheVariants as statements
+
+-- Where a session is in its script: the items behind the running one, all calls of the running one, those of them that are still
+-- ahead, how many reruns each item has, and how many are left to this one.
+pub record Position : Type 0 where
+  pub items : List Item
+  pub calls : List Call
+  pub ahead : List Call
+  pub reruns : ℕ
+  pub left : ℕ
+
+-- The calls of a statement; an add has none, since it is not built.
+abbrev pub statement_calls : Statement → List Call
+statement_calls (statements.Get key) = calls.Get key ∷ []
+statement_calls (statements.Scan span) = calls.Scan span ∷ []
+statement_calls (statements.Put key value) = calls.Put key value ∷ []
+statement_calls (statements.Delete key) = calls.Delete key ∷ []
+statement_calls (statements.Add key amount) = []
+
+-- The call that ends a transaction.
+abbrev pub end_call : Bool → Call
+end_call true = calls.Commit
+end_call false = calls.Rollback
+
+-- The calls of an item: a transaction's begin, its statements and its end; or one learn.
+abbrev pub calls_of : Item → List Call
+calls_of (Txn priority statements commits) =
+    calls.Begin priority ∷ (flat_map statement_calls statements ++ end_call commits ∷ [])
+calls_of (Learn id) = calls.Learn id ∷ []
+
+-- At the first call of the first of these items, or at the end where there is none.
+abbrev pub opened : List Item → ℕ → Position
+opened [] reruns = record { items = []; calls = []; ahead = []; reruns = reruns; left = reruns }
+opened (item ∷ items) reruns =
+    record { items = items; calls = calls_of item; ahead = calls_of item; reruns = reruns; left = reruns }
+
+-- The call that comes next, if one does.
+abbrev pub next_call : Position → Option Call
+next_call at = slice_get at.ahead 0
+
+-- These calls once more, where a rerun is left; else the transaction is rolled back.
+abbrev pub rerun : List Call → ℕ → Position → Position
+rerun again zero at = record at { ahead = calls.Rollback ∷ [] }
+rerun again (suc left) at = record at { ahead = again; left = left }
+
+-- After an answer: the next call; the same call or the transaction's statements once more; or the next item.
+abbrev pub after_told : Answer → Position → Position
+after_told (answers.Begun id ts) at = record at { ahead = drop 1 at.ahead }
+after_told (answers.Value value) at = record at { ahead = drop 1 at.ahead }
+after_told (answers.Rows rows) at = record at { ahead = drop 1 at.ahead }
+after_told answers.Written at = record at { ahead = drop 1 at.ahead }
+after_told (answers.Blocked holder) at = rerun at.ahead at.left at
+after_told (answers.Unavailable faults) at = rerun at.ahead at.left at
+after_told (answers.Moved ts) at = rerun at.ahead at.left at
+after_told (answers.Restart key ts) at = rerun (drop 1 at.calls) at.left at
+after_told answers.Learnt at = opened at.items at.reruns
+after_told answers.NotYet at = opened at.items at.reruns
+after_told (answers.Committed id ts) at = opened at.items at.reruns
+after_told (answers.RolledBack id why) at = opened at.items at.reruns
+after_told (answers.Aborted why) at = opened at.items at.reruns
+after_told (answers.Unknown id) at = opened at.items at.reruns
+after_told (answers.Clock reading) at = opened at.items at.reruns
+after_told answers.NoTxn at = at
+after_told answers.Done at = at
+
+-- An answer moves a session on in its script, and nothing else does.
+abbrev pub moved : Event → Position → Position
+moved (events.Tell answer) at = after_told answer at
+moved _ at = at
+
+-- Where a session of this script is, after its own list.
+abbrev pub position : ℕ → List Item → List (Pair Event) → Position
+position reruns script own = fold (λ at p. moved p.entry.event at) (opened script reruns) own
+
+-- A call that is asked is the next one.
+abbrev pub AsksNext : Position → Event → Type 0
+AsksNext at (events.Ask call reading) = next_call at ≡ Some call
+AsksNext at _ = ⊤

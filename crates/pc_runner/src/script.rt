@@ -1,0 +1,214 @@
+ghost use Rattle.std.specs.Prelude.{◌≡◌, ◌++◌, IfOk, OnOk, drop};
+ghost use Rattle.std.specs.List.{flat_map};
+ghost use Rattle.pc_runner.specs.Follows.Script.{after_told, calls_of, next_call, opened, rerun, statement_calls};
+ghost use Rattle.pc_runner.specs.Script.{txn_calls, with_ahead};
+
+use pc_base::{Items, NoMemory, Priority, TryCopy};
+use pc_proto::{Answer, Call};
+use pc_work::{Item, Script, Statement, Statements};
+use std::alloc::Global;
+use std::marker::Model;
+
+/// The calls of one item of a script, in order.
+type Calls = Items<Call>;
+
+/// Where a session is in its script. Contracts see it as that position.
+#[derive(Drop)]
+pub(crate) struct ScriptRun<'a> {
+    alloc: Global,
+    /// The items behind the running one.
+    items: &'a [Item],
+    /// All calls of the running item.
+    calls: Calls,
+    /// How many of them are over.
+    over: usize,
+    /// Whether the transaction is rolled back in place of what is ahead.
+    gives_up: bool,
+    /// How many reruns each item has.
+    reruns: u32,
+    /// How many are left to this one.
+    left: u32,
+}
+
+impl<'a> Model for ScriptRun<'a> {
+    ghost use Rattle.pc_runner.specs.Follows.Script.{Position};
+    ghost use Rattle.pc_runner.specs.Script.{ahead_of};
+
+    ghost Value = { Position };
+
+    ghost view = { λ s. record { items = s.items.now; calls = s.calls; ahead = ahead_of s.gives_up s.over s.calls; reruns = s.reruns; left = s.left } };
+}
+
+impl<'a> ScriptRun<'a> {
+    /// At the script's first call.
+    pub fn new(alloc: Global, script: &'a Script, reruns: u32) -> Result<ScriptRun<'a>, NoMemory>
+        ensures { IfOk result (λ made. made ≡ opened script.now reruns) }
+    {
+        let mut run = ScriptRun {
+            alloc,
+            items: script.as_slice(),
+            calls: Items::new(alloc),
+            over: 0,
+            gives_up: false,
+            reruns,
+            left: reruns,
+        };
+        run.open()?;
+        Ok(run)
+    }
+
+    /// The call that comes next. None at the script's end.
+    pub fn next(&self) -> Result<Option<Call>, NoMemory>
+        ensures { IfOk result (λ call. call ≡ next_call self.now) }
+    {
+        if self.gives_up {
+            return Ok(Some(Call::Rollback));
+        }
+        match self.calls.get(self.over) {
+            None => Ok(None),
+            Some(call) => Ok(Some(call.copy()?)),
+        }
+    }
+
+    /// The call was told this.
+    pub fn told(&mut self, answer: &Answer) -> Result<(), NoMemory>
+        ensures { OnOk result (self.new ≡ after_told answer.now self.old) }
+    {
+        match answer {
+            Answer::Begun { .. } | Answer::Value(_) | Answer::Rows(_) | Answer::Written => {
+                self.go_on();
+                Ok(())
+            }
+            Answer::Blocked { .. } | Answer::Unavailable { .. } | Answer::Moved { .. } => {
+                self.ask_again();
+                Ok(())
+            }
+            Answer::Restart { .. } => {
+                self.start_again();
+                Ok(())
+            }
+            Answer::NoTxn | Answer::Done => Ok(()),
+            Answer::Learnt
+            | Answer::NotYet
+            | Answer::Committed { .. }
+            | Answer::RolledBack { .. }
+            | Answer::Aborted { .. }
+            | Answer::Unknown { .. }
+            | Answer::Clock { .. } => self.open(),
+        }
+    }
+
+    /// The first call that is ahead is over.
+    fn go_on(&mut self)
+        ensures { self.new ≡ with_ahead (drop 1 self.old.ahead) self.old }
+    {
+        if self.gives_up {
+            self.gives_up = false;
+            self.over = self.calls.len();
+        } else if self.over < self.calls.len() {
+            self.over += 1;
+        }
+    }
+
+    /// The same call once more.
+    fn ask_again(&mut self)
+        ensures { self.new ≡ rerun self.old.ahead self.old.left self.old }
+    {
+        if self.left == 0 {
+            self.gives_up = true;
+        } else {
+            self.left -= 1;
+        }
+    }
+
+    /// The transaction's statements once more.
+    fn start_again(&mut self)
+        ensures { self.new ≡ rerun (drop 1 self.old.calls) self.old.left self.old }
+    {
+        if self.left == 0 {
+            self.gives_up = true;
+        } else {
+            self.left -= 1;
+            self.gives_up = false;
+            self.over = 1;
+        }
+    }
+
+    /// The next item, from its first call.
+    fn open(&mut self) -> Result<(), NoMemory>
+        ensures { OnOk result (self.new ≡ opened self.old.items self.old.reruns) }
+    {
+        self.calls = match self.items.split_first() {
+            None => Items::new(self.alloc),
+            Some((item, items)) => {
+                self.items = items;
+                item_calls(self.alloc, item)?
+            }
+        };
+        self.over = 0;
+        self.gives_up = false;
+        self.left = self.reruns;
+        Ok(())
+    }
+}
+
+fn item_calls(alloc: Global, item: &Item) -> Result<Calls, NoMemory>
+    ensures { IfOk result (λ made. made ≡ calls_of item.now) }
+{
+    match item {
+        Item::Txn {
+            priority,
+            statements,
+            commits,
+        } => txn_calls(alloc, *priority, statements, *commits),
+        Item::Learn(id) => {
+            let mut calls = Items::new(alloc);
+            calls.add(Call::Learn(*id))?;
+            Ok(calls)
+        }
+    }
+}
+
+fn txn_calls(
+    alloc: Global,
+    priority: Priority,
+    statements: &Statements,
+    commits: bool,
+) -> Result<Calls, NoMemory>
+    ensures { IfOk result (λ made. made ≡ txn_calls priority statements.now commits) }
+{
+    let mut calls = Items::new(alloc);
+    calls.add(Call::Begin(priority))?;
+    add_statements(&mut calls, statements.as_slice())?;
+    calls.add(if commits {
+        Call::Commit
+    } else {
+        Call::Rollback
+    })?;
+    Ok(calls)
+}
+
+fn add_statements(calls: &mut Calls, statements: &[Statement]) -> Result<(), NoMemory>
+    ensures { OnOk result (calls.new ≡ calls.old ++ flat_map statement_calls statements.now) }
+{
+    for statement in statements {
+        add_statement(calls, statement)?;
+    }
+    Ok(())
+}
+
+fn add_statement(calls: &mut Calls, statement: &Statement) -> Result<(), NoMemory>
+    ensures { OnOk result (calls.new ≡ calls.old ++ statement_calls statement.now) }
+{
+    match statement {
+        Statement::Get(key) => calls.add(Call::Get(key.copy()?)),
+        Statement::Scan(span) => calls.add(Call::Scan(span.copy()?)),
+        Statement::Put(key, value) => {
+            let key = key.copy()?;
+            let value = value.copy()?;
+            calls.add(Call::Put(key, value))
+        }
+        Statement::Delete(key) => calls.add(Call::Delete(key.copy()?)),
+        Statement::Add(..) => Ok(()),
+    }
+}
