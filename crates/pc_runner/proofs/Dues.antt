@@ -1,5 +1,5 @@
 -- What is due after each event, while one session runs one transaction of puts.
-use Rattle.std.proofs.Common.{◌≡◌, ℕ, ◌+◌, ◌^◌, nat_lt, Bool, true, false, ◌&&◌, ◌||◌, ◌==◌, if◌then◌else◌, inl, inr, List, [], ◌∷◌, ◌++◌, drop, slice_get, Option, Some, None, All, IsTrue, refl, sym, ap, subst, ◌∙◌, arith}
+use Rattle.std.proofs.Common.{◌≡◌, ℕ, ◌+◌, ◌^◌, nat_lt, Bool, true, false, ◌&&◌, ◌||◌, ◌==◌, if◌then◌else◌, inl, inr, List, [], ◌∷◌, ◌++◌, drop, slice_get, Option, Some, None, All, IsTrue, refl, sym, ap, subst, ◌∙◌}
 use Rattle.std.proofs.lemmas.Bool.{eq-eqb}
 use Rattle.std.proofs.lemmas.List.Elements.{All-cons, All-nil}
 use Rattle.std.specs.List.{AllByRecursion as Each}
@@ -31,7 +31,7 @@ use Rattle.pc_world.specs.Known.Traffic.{Heard, Sent}
 use Rattle.pc_world.specs.RangeState.{RangeState}
 use Rattle.pc_world.specs.Tell.Begin.{clock_now}
 use Rattle.pc_world.specs.Tell.Refusal.{is_heard}
-use Rattle.pc_runner.specs.Due.{HeardAll, IsAtRest, IsAwaited, IsDue, IsDueAt, IsFresh, IsGoodReply, IsNext, IsOneSent, IsOpen, IsSilent, IsToHear, IsToTell, IsUndecided, PutsOrCommits, first_txn}
+use Rattle.pc_runner.specs.Due.{IsAtRest, IsAwaited, IsDue, IsDueAt, IsFresh, IsGoodReply, IsNext, IsOneSent, IsOpen, IsSilent, IsToHear, IsToTell, IsUndecided, PutsOrCommits, first_txn}
 use Rattle.pc_runner.specs.Follows.Script.{Position, after_told, next_call, opened}
 
 undecided_on : (s : RangeState) (k next : Known) → next.heard ≡ k.heard → IsUndecided s k → IsUndecided s next

@@ -1,8 +1,7 @@
 -- The runner before its first step, and at the end of its script.
-use Rattle.std.proofs.Common.{◌≡◌, ℕ, ◌+◌, ◌-◌, ◌*◌, ◌<◌, ◌≤◌, ◌^◌, Bool, true, false, All, List, [], ◌∷◌, ◌++◌, length, slice_get, zero, suc, Option, Some, None, IsSome, IsSomeAnd, IfOk, Result, Ok, Err, inl, inr, refl, sym, ap, subst, ◌∙◌, arith}
+use Rattle.std.proofs.Common.{◌≡◌, ℕ, ◌-◌, ◌≤◌, Bool, true, false, All, List, [], ◌∷◌, ◌++◌, length, slice_get, zero, suc, Option, Some, None, IsSome, IsSomeAnd, IfOk, Result, Ok, Err, inl, inr, refl, sym, ap, subst, ◌∙◌, arith}
 use Rattle.std.proofs.lemmas.List.Elements.{All-head, All-nil, All-tail, All-weaker}
 use Rattle.std.specs.List.{AllByRecursion as Each, flat_map}
-use Rattle.pc_base.specs.declared.actor.ActorId.{ActorId}
 use Rattle.pc_base.specs.declared.actor.ActorId.TheVariants as actors
 use Rattle.pc_base.specs.declared.entry.Entry.{Entry}
 use Rattle.pc_base.specs.declared.transaction.Priority.{Priority}
@@ -38,7 +37,7 @@ use Rattle.pc_world.specs.Run.{IsRun, protocol}
 use Rattle.pc_runner.specs.Due.{IsAtRest, IsDue, IsDueAt, IsFresh, IsTied, PutsOrCommits}
 use Rattle.pc_runner.specs.Following.{StandsBy}
 use Rattle.pc_runner.specs.Follows.{Follows, FollowsAlone}
-use Rattle.pc_runner.specs.Follows.Script.{Position, calls_of, end_call, next_call, opened, statement_calls}
+use Rattle.pc_runner.specs.Follows.Script.{Position, next_call, opened, statement_calls}
 use Rattle.pc_runner.specs.Follows.Wire.{evaluations}
 use Rattle.pc_runner.specs.History.{History, head_of, known_by}
 use Rattle.pc_runner.specs.Keeping.{AreDelivered, IsClockOf, IsNumbered, IsStatedBy, KeepsSoFar, evaluated, own_by}

@@ -1,13 +1,12 @@
 -- What each step makes of a runner that follows its session.
-use Rattle.std.proofs.Common.{◌≡◌, ◌≢◌, ℕ, ◌+◌, ◌<◌, ◌≤◌, ◌^◌, Bool, true, false, ◌==◌, not, All, Contains, List, [], ◌∷◌, ◌++◌, length, Option, Some, None, Result, Ok, Err, OnOk, refl, sym, ap, subst, ◌∙◌, arith, length-append}
+use Rattle.std.proofs.Common.{◌≡◌, ◌≢◌, ℕ, ◌+◌, ◌<◌, ◌≤◌, true, false, ◌==◌, not, All, Contains, List, [], ◌∷◌, ◌++◌, length, Option, Some, None, refl, sym, ap, subst, ◌∙◌, arith, length-append}
 use Rattle.std.proofs.lemmas.List.{append-nil}
 use Rattle.std.proofs.lemmas.List.Elements.{All-weaker, Contains-append_left, Contains-append_right}
-use Rattle.std.proofs.lemmas.List.Folds.{list_any_none, list_any-append}
+use Rattle.std.proofs.lemmas.List.Folds.{list_any_none}
 use Rattle.std.specs.List.{list_any}
 use Rattle.pc_base.specs.declared.actor.ActorId.{ActorId}
 use Rattle.pc_base.specs.declared.actor.ActorId.TheVariants as actors
 use Rattle.pc_base.specs.declared.entry.Entry.{Entry}
-use Rattle.pc_base.specs.Timestamp.{greatest}
 use Rattle.pc_coord.specs.Coordination.{Coordination, next_of, waits_for}
 use Rattle.pc_coord.specs.declared.due.Due.{Due}
 use Rattle.pc_coord.specs.declared.due.Due.TheVariants as dues
@@ -16,11 +15,11 @@ use Rattle.pc_coord.specs.declared.due.Wait.TheVariants as waits
 use Rattle.pc_coord.specs.declared.next.Next.TheVariants as nexts
 use Rattle.pc_coord.specs.declared.transaction.Transaction.{Transaction}
 use Rattle.pc_coord.specs.Events.{IsAsked, IsHeard, IsSent, IsTold}
-use Rattle.pc_coord.specs.Knows.{Awaits, AwaitsReply, IsCounted, IsLastSent, IsSendable, Knows, KnowsAt, Rests, learned}
+use Rattle.pc_coord.specs.Knows.{AwaitsReply, IsLastSent, IsSendable, Knows, KnowsAt}
 use Rattle.pc_history.proofs.Histories.{named-none}
 use Rattle.pc_history.proofs.Lists.{contains_head}
 use Rattle.pc_history.specs.declared.pair.Pair.{Pair}
-use Rattle.pc_history.specs.Own.{named_in, own, pair}
+use Rattle.pc_history.specs.Own.{named_in, pair}
 use Rattle.pc_proto.specs.declared.answer.Answer.{Answer}
 use Rattle.pc_proto.specs.declared.call.Call.{Call}
 use Rattle.pc_proto.specs.declared.event.Event.{Event}
@@ -28,26 +27,25 @@ use Rattle.pc_proto.specs.declared.event.Event.TheVariants as events
 use Rattle.pc_proto.specs.declared.reply.Reply.{Reply}
 use Rattle.pc_proto.specs.declared.request.Request.{Request}
 use Rattle.pc_proto.specs.declared.request.Request.TheVariants as requests
-use Rattle.pc_world.proofs.Kept.{run_has_room, run_top}
+use Rattle.pc_world.proofs.Kept.{run_has_room}
 use Rattle.pc_world.proofs.Knowing.{known_other, known_same, state_other, state_same}
 use Rattle.pc_world.specs.Evaluation.{reply, state_after}
-use Rattle.pc_world.specs.Known.{Known, known, learn, next_number, nothing_known}
-use Rattle.pc_world.specs.Known.Statements.{Statement}
+use Rattle.pc_world.specs.Known.{Known, learn, nothing_known}
 use Rattle.pc_world.specs.Known.Traffic.{Heard, Sent, sent_by}
-use Rattle.pc_world.specs.Local.{Head, IsActorOf, MayAsk, MayHear, is_outside, is_round}
+use Rattle.pc_world.specs.Local.{IsActorOf, MayAsk, MayHear, is_outside, is_round}
 use Rattle.pc_world.specs.MaySend.{MaySend, MaySendRow}
 use Rattle.pc_world.specs.MayTell.{MayTell}
 use Rattle.pc_world.specs.Named.{request_in, request_named}
 use Rattle.pc_world.specs.PutsAndCommits.{IsPutOrCommit}
 use Rattle.pc_world.specs.RangeOf.{GoesTo}
 use Rattle.pc_world.specs.RangeState.{RangeState, no_state}
-use Rattle.pc_world.specs.Run.{IsRun, clock_end, protocol}
+use Rattle.pc_world.specs.Run.{protocol}
 use Rattle.pc_world.specs.Stamps.{HasRoom}
 use Rattle.pc_world.specs.StateOf.{state_with}
 use Rattle.pc_runner.proofs.Entering.{eval_names, hear_names}
 use Rattle.pc_runner.specs.Following.{StandsBy, IsLast, IsWaiting}
-use Rattle.pc_runner.specs.History.{History, IsRunSoFar, head_of, known_by, state_in}
-use Rattle.pc_runner.specs.Journal.{AnswersNow, HasOneMore, IsAnswered, next_entry, with_entry}
+use Rattle.pc_runner.specs.History.{History, head_of, known_by, state_in}
+use Rattle.pc_runner.specs.Journal.{AnswersNow, HasOneMore, IsAnswered, next_entry}
 
 abbrev pub me : ActorId
 me = actors.Session 1

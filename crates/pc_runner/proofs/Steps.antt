@@ -1,9 +1,8 @@
 -- What each event of a session keeps of its workload.
-use Rattle.std.proofs.Common.{◌≡◌, ℕ, ◌≤◌, Bool, true, false, ◌&&◌, ◌||◌, not, ◌==◌, ◌⊎◌, inl, inr, List, [], ◌∷◌, ◌++◌, Option, Some, None, All, Any, Contains, IsTrue, refl, sym, ap, subst, ◌∙◌, arith}
+use Rattle.std.proofs.Common.{◌≡◌, ℕ, Bool, true, false, ◌&&◌, ◌||◌, not, ◌⊎◌, inl, inr, List, [], ◌∷◌, Option, Some, None, All, Any, Contains, IsTrue, refl, sym, ap, subst, ◌∙◌}
 use Rattle.std.proofs.lemmas.List.Elements.{All-cons, All-contains, All-nil, All-weaker}
 use Rattle.std.specs.Bool.{MatchBool}
 use Rattle.std.specs.List.{AllByRecursion as Each, list_any}
-use Rattle.std.specs.Option.{option_map_or}
 use Rattle.pc_base.specs.declared.actor.ActorId.{ActorId}
 use Rattle.pc_base.specs.declared.transaction.TxnId.{TxnId}
 use Rattle.pc_coord.specs.Coordination.{Coordination}
@@ -16,27 +15,23 @@ use Rattle.pc_proto.specs.declared.answer.Answer.{Answer}
 use Rattle.pc_proto.specs.declared.answer.Answer.TheVariants as answers
 use Rattle.pc_proto.specs.declared.call.Call.{Call}
 use Rattle.pc_proto.specs.declared.call.Call.TheVariants as calls
-use Rattle.pc_proto.specs.declared.event.Event.{Event}
 use Rattle.pc_proto.specs.declared.event.Event.TheVariants as events
-use Rattle.pc_proto.specs.declared.reply.Reply.{Reply}
 use Rattle.pc_proto.specs.declared.request.Request.{Request}
 use Rattle.pc_proto.specs.declared.request.Request.TheVariants as requests
 use Rattle.pc_world.specs.Follows.EarlyProof.{ProvesNothingEarly, has_staged_now, is_put, is_stage_or_commit}
 use Rattle.pc_world.specs.Follows.EarlyTell.{IsDecided}
 use Rattle.pc_world.specs.Follows.PipelinedPuts.{HearsOnlyItsPuts, IsHeardOf, IsPutWaitedFor, IsToOwnPut, TellsWritten, WaitsFor, is_written}
-use Rattle.pc_world.specs.Follows.Resends.{MaySendNow}
-use Rattle.pc_world.specs.Known.{Known, call_in, call_of, open_txn}
+use Rattle.pc_world.specs.Known.{Known, call_in, open_txn}
 use Rattle.pc_world.specs.Known.Statements.{Statement}
 use Rattle.pc_world.specs.Known.Traffic.{Heard, Sent}
 use Rattle.pc_world.specs.Known.Transactions.{Txn}
 use Rattle.pc_world.specs.RangeState.{RangeState}
-use Rattle.pc_world.specs.MayTell.{MayTell, MayTellIn, MayTellRow, is_past_range, needs_txn}
+use Rattle.pc_world.specs.MayTell.{MayTell, MayTellIn, is_past_range, needs_txn}
 use Rattle.pc_world.specs.Tell.Data.{IsFirstPut, MayTellWritten}
-use Rattle.pc_world.specs.Tell.End.{shows_staging}
 use Rattle.pc_world.specs.Tell.Refusal.{is_heard}
-use Rattle.pc_world.specs.Views.{is_about, shows_committed}
+use Rattle.pc_world.specs.Views.{is_about}
 use Rattle.pc_runner.proofs.Dues.{heard_all}
-use Rattle.pc_runner.specs.Due.{HeardAll, HeardWritten, IsAwaited, IsOneSent, IsSilent, IsToTell, IsUndecided}
+use Rattle.pc_runner.specs.Due.{HeardAll, HeardWritten, IsAwaited, IsOneSent, IsSilent, IsToTell}
 use Rattle.pc_runner.specs.Follows.{KeepsStep}
 use Rattle.pc_runner.specs.Follows.Script.{Position, next_call}
 use Rattle.pc_runner.specs.Follows.Wire.{HearsAll, MayStayUnheard}

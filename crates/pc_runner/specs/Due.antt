@@ -1,5 +1,5 @@
 -- What can be due while one session runs one transaction of puts, and how the script, the range and what is known stand then.
-use Rattle.std.specs.Prelude.{◌≡◌, ℕ, Bool, true, false, ◌⊎◌, Option, None, Some, List, [], ◌∷◌, drop, All, IsTrue, ⊤}
+use Rattle.std.specs.Prelude.{◌≡◌, ℕ, true, false, ◌⊎◌, Option, None, Some, List, [], ◌∷◌, drop, All, IsTrue, ⊤}
 use Rattle.std.specs.List.{AllByRecursion as Each}
 use Rattle.pc_base.specs.declared.transaction.Priority.{Priority}
 use Rattle.pc_base.specs.declared.transaction.TxnId.{TxnId}
