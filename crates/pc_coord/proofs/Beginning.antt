@@ -67,16 +67,18 @@ module _ (c : Coordination) (k : Known) (priority : Priority) (reading : ℕ) (r
       let settled : IsSettled k3 t = record {
         plain = record {
           number = omega (arith, rc.begun);
-          reads = refl;
+          reads = All-nil (λ r. r.ts ≡ ts);
           restart = refl;
           begun = omega arith;
+          behind = omega arith;
+          at_begin = λ none. refl;
           below = omega arith;
           refused = new_commits id (IsRefused k.heard) k.begun (length k.sent) k.sent new rc.sent;
         };
         proved = All-nil (IsProvedBy ts);
         puts = new_puts t 0 k.begun (length k.sent) k.sent new rc.sent;
       } in
-      let held : IsHeld (Some (transaction_of t)) k3 = (t, record { others = k.txns; is_open = refl; first = refl; same = refl }, settled) in
+      let held : IsHeld (Some (transaction_of false t)) k3 = (t, record { others = k.txns; is_open = refl; first = refl; same = refl; unread = λ none. refl }, settled) in
       record {
         stands = (
           record {
@@ -84,7 +86,7 @@ module _ (c : Coordination) (k : Known) (priority : Priority) (reading : ℕ) (r
             opened = refl;
             told = match_false (nat_lt (2 ^ 62) reading) _ _ within (record { priority = priority; asked = refl; next = (refl, ap (λ n. n + 1) rc.begun); at = ap (clock_now reading) rc.clock });
           },
-          subst (λ k. Rests ts (c.begun + 1) (Some (transaction_of t)) k) (sym (told_is answer k2)) (record { counted = counted; none_open = refl; held = held }),
+          subst (λ k. Rests ts (c.begun + 1) (Some (transaction_of false t)) k) (sym (told_is answer k2)) (record { counted = counted; none_open = refl; held = held }),
         );
       }
 

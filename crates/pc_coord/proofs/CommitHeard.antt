@@ -128,11 +128,11 @@ module _ (c : Coordination) (k : Known) (number step ts refusals : ℕ) (view : 
     first3 : k3.txns ≡ raised_txn ∷ others3
     first3 = first ∙ ap (λ t. t ∷ others3) heard-commit
 
-    same3 : raised recorded a.x ≡ transaction_of raised_txn
+    same3 : raised recorded a.x ≡ transaction_of a.x.has_read raised_txn
     same3 = ap (raised recorded) a.open_as.same
 
     open3 : IsOpenAs (raised recorded a.x) k3 raised_txn
-    open3 = record { others = others3; is_open = a.open_as.is_open; first = first3; same = same3 }
+    open3 = record { others = others3; is_open = a.open_as.is_open; first = first3; same = same3; unread = a.open_as.unread }
 
     is_refused : OnCommit a.t.id (IsRefused k3.heard) a.m.request
     is_refused =
@@ -160,7 +160,16 @@ module _ (c : Coordination) (k : Known) (number step ts refusals : ℕ) (view : 
     settled3 =
         let p = a.plain in
         record {
-          plain = record { number = p.number; reads = p.reads; restart = p.restart; begun = omega (arith, p.begun); below = omega (arith, p.below, below3); refused = refused };
+          plain = record {
+            number = p.number;
+            reads = p.reads;
+            restart = p.restart;
+            begun = p.begun;
+            behind = omega (arith, p.behind);
+            at_begin = p.at_begin;
+            below = omega (arith, p.below, below3);
+            refused = refused;
+          };
           proved = all_proved-more a.t.write_ts (max a.t.write_ts recorded) a.t.writes (omega arith) a.proved;
           puts = a.puts;
         }
@@ -201,9 +210,10 @@ module _ (c : Coordination) (k : Known) (number step ts refusals : ℕ) (view : 
             is_open = a.open_as.is_open;
             first = still_open k3 answer raised_txn others3 a.open_as.is_open first3;
             same = same3;
+            unread = a.open_as.unread;
           },
           record {
-            plain = record { number = p.number; reads = p.reads; restart = refl; begun = p.begun; below = p.below; refused = refused };
+            plain = record { number = p.number; reads = p.reads; restart = refl; begun = p.begun; behind = p.behind; at_begin = p.at_begin; below = p.below; refused = refused };
             proved = settled3.proved;
             puts = a.puts;
           },

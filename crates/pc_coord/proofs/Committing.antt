@@ -1,21 +1,22 @@
 -- A call commits: a transaction that wrote nothing at once, any other by a message.
-use Rattle.std.proofs.Common.{◌≡◌, ◌≢◌, ℕ, ◌+◌, ◌<◌, ◌≤◌, max, Bool, true, false, not, ◌&&◌, ◌||◌, ◌==◌, inl, List, [], ◌∷◌, ◌++◌, length, map, Option, Some, None, refl, sym, ap, ◌∙◌, subst, arith, All, Contains, length-append}
-use Rattle.std.specs.List.{list_any}
+use Rattle.std.proofs.Common.{◌≡◌, ◌≢◌, ℕ, ◌+◌, ◌<◌, ◌≤◌, max, nat_lt, cond, Bool, true, false, not, ◌&&◌, ◌==◌, inl, List, [], ◌∷◌, ◌++◌, length, map, Option, Some, None, refl, sym, ap, ◌∙◌, subst, arith, All, Contains, length-append}
 use Rattle.std.proofs.lemmas.List.Elements.{All-cons, All-nil, All-push, All-weaker}
+use Rattle.std.proofs.lemmas.Bool.{ltb-false}
 use Rattle.pc_base.specs.Transaction.{same_txn}
 use Rattle.pc_coord.proofs.Ids.{no_stages, on_commits-if}
-use Rattle.pc_coord.proofs.Lists.{at_least-weaker}
-use Rattle.pc_coord.proofs.Resting.{asked_knows, closed_told, match_false, no_txn, open_is, rests}
+use Rattle.pc_coord.proofs.Lists.{any_true_kept, at_least-weaker}
+use Rattle.pc_coord.proofs.Resting.{asked_knows, closed_told, match_false, no_txn, open_is, rests, settled_asked}
 use Rattle.pc_coord.proofs.Same.{if_true, same_txn-self}
 use Rattle.pc_coord.proofs.Steps.{asked, counted-asked, counted-sent, sent, sent_is}
 use Rattle.pc_coord.specs.Coordinating.{after_commit_call, end_in}
 use Rattle.pc_coord.specs.Turning.{due_at_end, txn_at_end}
 use Rattle.pc_coord.specs.Coordination.{Coordination, with_commit}
+use Rattle.pc_coord.specs.declared.due.Due.TheVariants as dues
 use Rattle.pc_coord.specs.declared.due.Wait.TheVariants as waits
 use Rattle.pc_coord.specs.declared.transaction.Transaction.{Transaction}
 use Rattle.pc_coord.specs.Events.{IsAsked}
-use Rattle.pc_coord.specs.Knows.{Awaits, IsCounted, IsHeld, IsOpenAs, IsOwnSent, IsSettled, Knows, PutsUpTo, SendsNow}
-use Rattle.pc_coord.specs.Transaction.{commit_of, refreshed, transaction_of}
+use Rattle.pc_coord.specs.Knows.{Awaits, IsCounted, IsHeld, IsOpenAs, IsOwnSent, IsPlain, IsSettled, Knows, PutsUpTo, SendsNow}
+use Rattle.pc_coord.specs.Transaction.{commit_of, needs_refresh, refreshed, transaction_of}
 use Rattle.pc_history.specs.declared.pair.Pair.{Pair}
 use Rattle.pc_proto.specs.declared.answer.Answer.TheVariants as answers
 use Rattle.pc_proto.specs.declared.call.Call.TheVariants as calls
@@ -24,6 +25,7 @@ use Rattle.pc_proto.specs.declared.request.Request.{Request}
 use Rattle.pc_world.specs.Counting.{AtLeast}
 use Rattle.pc_world.specs.Known.{Known, call_in, learn, next_number}
 use Rattle.pc_world.specs.Known.Reads.{IsGoodAt}
+use Rattle.pc_world.specs.Known.Reads.IsGoodTo.{AtOnce}
 use Rattle.pc_world.specs.Known.Traffic.{Heard, Sent, is_reply_to}
 use Rattle.pc_world.specs.Known.Transactions.{IsGood, Txn, meta_of, txn_sent}
 use Rattle.pc_world.specs.Known.Writes.{last_seq_of}
@@ -32,24 +34,39 @@ use Rattle.pc_world.specs.StageFate.{IsLate}
 use Rattle.pc_world.specs.Tell.Refusal.{WasMoved, is_moved}
 
 -- where nothing was read, every timestamp from the begin timestamp on is good
-pub good_unread : (heard : List Heard) (t : Txn) (ts : ℕ) → t.begin ≤ ts → t.reads ≡ [] → IsGood heard t ts
+good_unread : (heard : List Heard) (t : Txn) (ts : ℕ) → t.begin ≤ ts → t.reads ≡ [] → IsGood heard t ts
 good_unread heard t ts low none = record { begun = low; reads = subst (λ r. All (IsGoodAt t.id heard ts) r) (sym none) (All-nil (IsGoodAt t.id heard ts)) }
+
+-- what was read at a timestamp is good there
+good_at : (heard : List Heard) (t : Txn) (ts : ℕ) → t.begin ≤ ts → All (λ r. r.ts ≡ ts) t.reads → IsGood heard t ts
+good_at heard t ts low a = record {
+  begun = low;
+  reads = All-weaker (λ r. r.ts ≡ ts) (IsGoodAt t.id heard ts) (λ r is. record { not_below = omega (arith, is); up_to = (r.ts, AtOnce, omega (arith, is)) }) t.reads a;
+}
+
+-- what was read where the transaction now writes is good there
+good_by : (heard : List Heard) (t : Txn) (k : Known) (read : Bool) → IsPlain k t k.sent → (read ≡ false → t.reads ≡ []) → (read && nat_lt t.read_ts t.write_ts) ≡ false → IsGood heard t t.write_ts
+good_by heard t k false p none free = good_unread heard t t.write_ts (omega (arith, p.begun, p.behind)) (none refl)
+good_by heard t k true p none free =
+    let high : t.write_ts ≤ t.read_ts = ltb-false t.read_ts t.write_ts free in
+    let same : t.read_ts ≡ t.write_ts = omega (arith, p.behind) in
+    good_at heard t t.write_ts (omega (arith, p.begun)) (subst (λ n. All (λ r. r.ts ≡ n) t.reads) same p.reads)
+
+-- where the reads are moved on there are none, or they stay where they are
+moved_on : (t : Txn) (k : Known) (read : Bool) → IsPlain k t k.sent → (read ≡ false → t.reads ≡ []) → (read && nat_lt t.read_ts t.write_ts) ≡ false → All (λ r. r.ts ≡ max t.read_ts t.write_ts) t.reads
+moved_on t k false p none free = subst (λ rs. All (λ r. r.ts ≡ max t.read_ts t.write_ts) rs) (sym (none refl)) (All-nil (λ r. r.ts ≡ max t.read_ts t.write_ts))
+moved_on t k true p none free =
+    let high : t.write_ts ≤ t.read_ts = ltb-false t.read_ts t.write_ts free in
+    let same : t.read_ts ≡ max t.read_ts t.write_ts = omega arith in
+    subst (λ n. All (λ r. r.ts ≡ n) t.reads) same p.reads
 
 abbrev pub moved_reads : Txn → Txn
 moved_reads t = record t { read_ts = max t.read_ts t.write_ts }
 
-sent-commit : (anchor : List ℕ) (t : Txn) → txn_sent (commit_of (transaction_of t) anchor) t ≡ moved_reads t
-sent-commit anchor t =
+sent-commit : (read : Bool) (anchor : List ℕ) (t : Txn) → txn_sent (commit_of (transaction_of read t) anchor) t ≡ moved_reads t
+sent-commit read anchor t =
     let F : ℕ → Txn = λ n. record t { read_ts = n } in
     ap F (if_true (same_txn t.id t.id) (max t.read_ts t.write_ts) t.read_ts (same_txn-self t.id))
-
-or-kept : (b c d : Bool) → (c ≡ true → d ≡ true) → (b || c) ≡ true → (b || d) ≡ true
-or-kept true c d on h = refl
-or-kept false c d on h = on h
-
-any_true_kept : {X : Type 0} (p : X → Bool) (xs ys : List X) → list_any p xs ≡ true → list_any p (xs ++ ys) ≡ true
-any_true_kept p [] ys h = absurd cc
-any_true_kept p (x ∷ xs) ys h = or-kept (p x) (list_any p xs) (list_any p (xs ++ ys)) (any_true_kept p xs ys) h
 
 both-kept : (a b c : Bool) → (a ≡ true → b ≡ true) → (a && c) ≡ true → (b && c) ≡ true
 both-kept true b c on h = ap (λ b. b && c) (on refl) ∙ h
@@ -70,12 +87,13 @@ pub record MayCommitNow (k : Known) (t : Txn) (anchor : List ℕ) (refusals : �
   pub few : refusals < 8
   pub moved : AtLeast (WasMoved k) refusals k.heard_now
 
-module _ (c : Coordination) (k : Known) (t : Txn) (anchor : List ℕ) (refusals : ℕ) (counted : IsCounted c.clock c.begun k) (open_as : IsOpenAs (transaction_of t) k t) (may : MayCommitNow k t anchor refusals) where
+module _ (c : Coordination) (k : Known) (read : Bool) (t : Txn) (anchor : List ℕ) (refusals : ℕ) (counted : IsCounted c.clock c.begun k) (open_as : IsOpenAs (transaction_of read t) k t) (may : MayCommitNow k t anchor refusals)
+    (free : needs_refresh (transaction_of read t) ≡ false) where
   abbrev request : Request
-  request = commit_of (transaction_of t) anchor
+  request = commit_of (transaction_of read t) anchor
 
   good : IsGood k.heard t t.write_ts
-  good = good_unread k.heard t t.write_ts may.settled.plain.begun may.settled.plain.reads
+  good = good_by k.heard t k read may.settled.plain open_as.unread free
 
   may_send : MaySendCommit k (record { meta = meta_of t anchor; ts = t.write_ts; locks = t.locks })
   may_send = record {
@@ -93,7 +111,7 @@ module _ (c : Coordination) (k : Known) (t : Txn) (anchor : List ℕ) (refusals 
     });
   }
 
-  awaits : (range : ℕ) → Awaits c.clock c.begun (Some (refreshed (transaction_of t))) (next_number k) (waits.Commit t.write_ts refusals) (sent (next_number k) range request k)
+  awaits : (range : ℕ) → Awaits c.clock c.begun (Some (refreshed (transaction_of read t))) (next_number k) (waits.Commit t.write_ts refusals) (sent (next_number k) range request k)
   awaits range =
       let n = next_number k in
       let m : Sent = record { number = n; range = range; request = request } in
@@ -103,14 +121,15 @@ module _ (c : Coordination) (k : Known) (t : Txn) (anchor : List ℕ) (refusals 
       record {
         counted = counted-sent c.clock c.begun k counted range request plain.number;
         reply = record {
-          x = refreshed (transaction_of t);
+          x = refreshed (transaction_of read t);
           held = refl;
           t = t2;
           open_as = record {
             others = map (txn_sent request) open_as.others;
             is_open = open_as.is_open;
-            first = ap (map (txn_sent request)) open_as.first ∙ ap (λ t. t ∷ map (txn_sent request) open_as.others) (sent-commit anchor t);
+            first = ap (map (txn_sent request)) open_as.first ∙ ap (λ t. t ∷ map (txn_sent request) open_as.others) (sent-commit read anchor t);
             same = refl;
+            unread = open_as.unread;
           };
           before = k.sent;
           m = m;
@@ -130,41 +149,52 @@ module _ (c : Coordination) (k : Known) (t : Txn) (anchor : List ℕ) (refusals 
           said = refl;
           proved = may.settled.proved;
           puts = All-push (PutsUpTo t (last_seq_of t.writes)) k.sent m may.settled.puts (λ seq is. absurd cc);
-          plain = record { number = plain.number; reads = plain.reads; restart = plain.restart; begun = plain.begun; below = plain.below; refused = plain.refused };
+          plain = record {
+            number = plain.number;
+            reads = moved_on t k read plain open_as.unread free;
+            restart = plain.restart;
+            begun = omega (arith, plain.begun);
+            behind = omega (arith, plain.behind);
+            at_begin = λ none. let e : Some anchor ≡ None = sym may.anchored ∙ none in absurd cc;
+            below = plain.below;
+            refused = plain.refused;
+          };
           few = may.few;
           moved = at_least-weaker (WasMoved k) (WasMoved (sent n range request k)) (moved-kept k range request) refusals k.heard_now may.moved;
         };
       }
 
-  sends_now : SendsNow (with_commit refusals anchor (transaction_of t) c) k request (waits.Commit t.write_ts refusals)
+  abbrev committing : Coordination
+  committing = record c { txn = Some (refreshed (transaction_of read t)); due = dues.Send request (waits.Commit t.write_ts refusals) }
+
+  sends_now : SendsNow committing k request (waits.Commit t.write_ts refusals)
   sends_now = record {
     may = record {
       row = may_send;
       stamps = All-cons (λ ts. ts ≤ k.top + 1) t.write_ts [] (omega (arith, may.settled.plain.below, counted.below)) (All-nil (λ ts. ts ≤ k.top + 1));
-      kind = tt;
+      kind = record { s = record { call = calls.Commit; reading = may.reading }; opened = may.call; kind = tt };
     };
     after = λ range.
-        subst (λ k2. Awaits c.clock c.begun (Some (refreshed (transaction_of t))) (next_number k) (waits.Commit t.write_ts refusals) k2) (sym (sent_is (next_number k) range request k)) (awaits range);
+        subst (λ k2. Awaits c.clock c.begun (Some (refreshed (transaction_of read t))) (next_number k) (waits.Commit t.write_ts refusals) k2) (sym (sent_is (next_number k) range request k)) (awaits range);
   }
 
-  commit_here : Knows (with_commit refusals anchor (transaction_of t) c) k
+  commit_here : Knows committing k
   commit_here = record { stands = sends_now }
 
--- the open transaction is committed by a message
+-- where a refresh is needed it stays so
+commit_or_not : (c : Coordination) (k : Known) (read : Bool) (t : Txn) (anchor : List ℕ) (refusals : ℕ) → IsCounted c.clock c.begun k → IsOpenAs (transaction_of read t) k t → MayCommitNow k t anchor refusals
+    → (needs : Bool) → needs_refresh (transaction_of read t) ≡ needs
+    → Knows (record c { txn = Some (refreshed (transaction_of read t)); due = cond needs dues.Stuck (dues.Send (commit_of (transaction_of read t) anchor) (waits.Commit t.write_ts refusals)) }) k
+commit_or_not c k read t anchor refusals counted open_as may true needs =
+    record { stands = record { counted = counted; s = record { call = calls.Commit; reading = may.reading }; opened = may.call } }
+commit_or_not c k read t anchor refusals counted open_as may false free = commit_here c k read t anchor refusals counted open_as may free
+
+-- the open transaction is committed by a message, where it may be
 pub commit_sends : (c : Coordination) (k : Known) (x : Transaction) (t : Txn) (anchor : List ℕ) (refusals : ℕ) → IsCounted c.clock c.begun k → IsOpenAs x k t → MayCommitNow k t anchor refusals → Knows (with_commit refusals anchor x c) k
 commit_sends c k x t anchor refusals counted open_as may =
     subst (λ x. Knows (with_commit refusals anchor x c) k) (sym open_as.same)
-    (commit_here c k t anchor refusals counted (record { others = open_as.others; is_open = open_as.is_open; first = open_as.first; same = refl }) may)
-
--- what holds between statements holds when the next call is asked
-settled-asked : (k : Known) (t : Txn) (reading : ℕ) → IsSettled k t → IsSettled (asked calls.Commit reading k) t
-settled-asked k t reading s =
-    let p = s.plain in
-    record {
-      plain = record { number = p.number; reads = p.reads; restart = p.restart; begun = p.begun; below = p.below; refused = p.refused };
-      proved = s.proved;
-      puts = s.puts;
-    }
+    (commit_or_not c k x.has_read t anchor refusals counted (record { others = open_as.others; is_open = open_as.is_open; first = open_as.first; same = refl; unread = open_as.unread }) may
+    (needs_refresh (transaction_of x.has_read t)) refl)
 
 end_by : (c : Coordination) (k : Known) (x : Transaction) (t : Txn) (reading : ℕ) (anchor : Option (List ℕ)) → x.anchor ≡ anchor → IsCounted c.clock c.begun k → IsOpenAs x k t → IsSettled k t
     → Knows (record c { txn = txn_at_end anchor x; due = due_at_end anchor x }) (asked calls.Commit reading k)
@@ -185,7 +215,7 @@ end_by c k x t reading None none counted open_as settled =
             why = inl (record {
               no_put = sym (ap anchor_of open_as.same) ∙ none;
               at_begin = ap (λ x. x.begin) open_as.same;
-              good = subst (λ n. IsGood k.heard t n) (sym (ap (λ x. x.begin) open_as.same)) (good_unread k.heard t t.begin (omega arith) settled.plain.reads);
+              good = subst (λ n. IsGood k.heard t n) (sym (ap (λ x. x.begin) open_as.same)) (good_at k.heard t t.begin (omega arith) (subst (λ n. All (λ r. r.ts ≡ n) t.reads) (settled.plain.at_begin (sym (ap anchor_of open_as.same) ∙ none)) settled.plain.reads));
             });
           });
         },
@@ -196,12 +226,12 @@ end_by c k x t reading (Some anchor) some counted open_as settled =
     let k2 = asked calls.Commit reading k in
     let anchor_of : Transaction → Option (List ℕ) = λ x. x.anchor in
     commit_sends c k2 x t anchor 0 (counted-asked c.clock c.begun k counted calls.Commit reading)
-    (record { others = open_as.others; is_open = open_as.is_open; first = open_as.first; same = open_as.same })
+    (record { others = open_as.others; is_open = open_as.is_open; first = open_as.first; same = open_as.same; unread = open_as.unread })
     (record {
       reading = reading;
       call = refl;
       anchored = sym (ap anchor_of open_as.same) ∙ some;
-      settled = settled-asked k t reading settled;
+      settled = settled_asked calls.Commit reading k t settled;
       few = omega arith;
       moved = tt;
     })

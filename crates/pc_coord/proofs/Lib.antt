@@ -1,4 +1,5 @@
 pub mod Beginning
+pub mod Changes
 pub mod CommitHeard
 pub mod Committing
 pub mod Ids
@@ -8,8 +9,14 @@ pub mod Lists
 pub mod Places
 pub mod PutHeard
 pub mod Putting
+pub mod Quiet
+pub mod ReadsAsked
+pub mod ReadsOf
+pub mod ReadsTold
 pub mod Resting
+pub mod RollingBack
 pub mod Same
 pub mod Standing
 pub mod Steps
+pub mod Wave
 pub mod Writes

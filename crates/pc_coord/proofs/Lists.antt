@@ -66,3 +66,11 @@ module _ {X : Type 0} (number : X → ℕ) (n : ℕ) where
 
 pub take_front : {X : Type 0} (xs : List X) (x : X) → take (length (xs ++ x ∷ []) - 1) (xs ++ x ∷ []) ≡ xs
 take_front xs x = let e : length (xs ++ x ∷ []) - 1 ≡ length xs = omega (arith, length-append xs (x ∷ [])) in ap (λ n. take n (xs ++ x ∷ [])) e ∙ take-append_seam xs (x ∷ [])
+
+or-kept : (b c d : Bool) → (c ≡ true → d ≡ true) → (b || c) ≡ true → (b || d) ≡ true
+or-kept true c d on h = refl
+or-kept false c d on h = on h
+
+pub any_true_kept : {X : Type 0} (p : X → Bool) (xs ys : List X) → list_any p xs ≡ true → list_any p (xs ++ ys) ≡ true
+any_true_kept p [] ys h = absurd cc
+any_true_kept p (x ∷ xs) ys h = or-kept (p x) (list_any p xs) (list_any p (xs ++ ys)) (any_true_kept p xs ys) h

@@ -1,5 +1,5 @@
 -- The reply to a put.
-use Rattle.std.proofs.Common.{◌≡◌, ℕ, ◌-◌, ◌<◌, ◌≤◌, max, Bool, true, false, cond, not, ◌&&◌, ◌||◌, ◌==◌, List, [], ◌∷◌, length, map, Some, None, refl, sym, ap, ◌∙◌, subst, arith, All, take}
+use Rattle.std.proofs.Common.{◌≡◌, ℕ, ◌-◌, ◌<◌, ◌≤◌, max, Bool, true, false, cond, not, ◌&&◌, ◌||◌, ◌==◌, List, [], ◌∷◌, length, map, Option, Some, None, refl, sym, ap, ◌∙◌, subst, arith, All, take}
 use Rattle.std.specs.List.{Any, list_any}
 use Rattle.std.specs.Option.{option_map}
 use Rattle.std.proofs.lemmas.List.Elements.{All-head, All-push, All-tail}
@@ -9,7 +9,8 @@ use Rattle.pc_base.specs.Transaction.{same_txn}
 use Rattle.pc_coord.proofs.Ids.{on_commits-more, puts-more, puts-one}
 use Rattle.pc_coord.proofs.Learned.{learn_heard, request_of}
 use Rattle.pc_coord.proofs.Lists.{any_head, take_front}
-use Rattle.pc_coord.proofs.Resting.{match_false, open_is}
+use Rattle.pc_coord.proofs.Resting.{open_is, told_in}
+use Rattle.pc_coord.proofs.Putting.{asks_for, write_within}
 use Rattle.pc_coord.proofs.Same.{if_true, same_epoch-self, same_txn-self}
 use Rattle.pc_coord.proofs.Steps.{counted-heard, counted-told, heard, heard_is, told, told_is}
 use Rattle.pc_coord.proofs.Writes.{all_proved, last_seq-push, proved-last_seq}
@@ -19,12 +20,11 @@ use Rattle.pc_coord.specs.declared.due.Due.TheVariants as dues
 use Rattle.pc_coord.specs.declared.due.Wait.TheVariants as waits
 use Rattle.pc_coord.specs.declared.transaction.Transaction.{Transaction}
 use Rattle.pc_coord.specs.Events.{IsHeard}
-use Rattle.pc_coord.specs.Knows.{Awaits, AwaitsPut, IsCounted, IsHeld, IsLastSent, IsPlain, Knows, PutsUpTo, Rests, learned}
+use Rattle.pc_coord.specs.Knows.{Awaits, AwaitsPut, IsCounted, IsHeld, IsLastSent, IsPlain, Knows, PutsUpTo, Rests, learned, write_call}
 use Rattle.pc_coord.specs.Transaction.{raised, transaction_of}
 use Rattle.pc_history.specs.declared.pair.Pair.{Pair}
 use Rattle.pc_proto.specs.declared.answer.Answer.{Answer}
 use Rattle.pc_proto.specs.declared.answer.Answer.TheVariants as answers
-use Rattle.pc_proto.specs.declared.call.Call.TheVariants as calls
 use Rattle.pc_proto.specs.declared.event.Event.{Event}
 use Rattle.pc_proto.specs.declared.event.Event.TheVariants as events
 use Rattle.pc_proto.specs.declared.reply.Reply.{Reply}
@@ -74,8 +74,8 @@ heard_stuck c k number step request reply s counted low opened = record {
 abbrev pub placed : List ℕ → ℕ → ℕ → Txn → Txn
 placed key seq at t = record t { write_ts = max t.write_ts at; writes = map (proved_at key seq at) t.writes }
 
-heard-put : (t : Txn) (sent : List Sent) (anchor : List ℕ) (seq ts : ℕ) (key value : List ℕ) (at number step : ℕ)
-    → txn_heard sent (Some (record { number = number; request = requests.Put (meta_of t anchor) seq ts key (Some value); reply = replies.Written at; step = step })) t ≡ placed key seq at t
+heard-put : (t : Txn) (sent : List Sent) (anchor : List ℕ) (seq ts : ℕ) (key : List ℕ) (value : Option (List ℕ)) (at number step : ℕ)
+    → txn_heard sent (Some (record { number = number; request = requests.Put (meta_of t anchor) seq ts key value; reply = replies.Written at; step = step })) t ≡ placed key seq at t
 heard-put t sent anchor seq ts key value at number step =
     let F : ℕ → List Write → Txn = λ n w. record t { write_ts = max t.write_ts n; writes = w } in
     let both = map (proved_at key seq at) t.writes in
@@ -92,14 +92,14 @@ no_put t low seq (m ∷ sent) h a =
     by true e = let l : seq ≤ low = All-head (PutsUpTo t low) m sent a seq e in absurd (omega arith)
     by false e = refl
 
-placed-same : (key : List ℕ) (seq at : ℕ) (t : Txn) → raised at (transaction_of t) ≡ transaction_of (record (placed key seq at t) { restart = None })
-placed-same key seq at t =
-    let F : ℕ → Transaction = λ n. record (raised at (transaction_of t)) { seq = n } in
+placed-same : (read : Bool) (key : List ℕ) (seq at : ℕ) (t : Txn) → raised at (transaction_of read t) ≡ transaction_of read (record (placed key seq at t) { restart = None })
+placed-same read key seq at t =
+    let F : ℕ → Transaction = λ n. record (raised at (transaction_of read t)) { seq = n } in
     ap F (sym (proved-last_seq key seq at t.writes))
 
 module _ (c : Coordination) (k : Known) (number step at : ℕ) (counted : IsCounted c.clock c.begun k) (a : AwaitsPut k c.txn number) where
   abbrev put : Request
-  put = requests.Put (meta_of a.t a.anchor) a.seq a.ts a.key (Some a.value)
+  put = requests.Put (meta_of a.t a.anchor) a.seq a.ts a.key a.value
 
   abbrev h : Heard
   h = record { number = number; request = put; reply = replies.Written at; step = step }
@@ -126,13 +126,13 @@ module _ (c : Coordination) (k : Known) (number step at : ℕ) (counted : IsCoun
       ∙ ap (λ s. take (length s - 1) s) a.last.sent
       ∙ take_front a.before a.m
 
-  first_put : IsFirstPut k3 (record { call = calls.Put a.key a.value; reading = a.reading }) t3 a.m
+  first_put : IsFirstPut k3 (record { call = write_call a.key a.value; reading = a.reading }) t3 a.m
   first_put = record {
     seq = a.seq;
     key = a.key;
-    value = Some a.value;
-    asked = refl;
-    put = subst (λ r. IsPutFor t3 a.key (Some a.value) a.seq r) (sym a.said) (refl, refl, refl, refl, refl);
+    value = a.value;
+    asked = asks_for a.key a.value;
+    put = subst (λ r. IsPutFor t3 a.key a.value a.seq r) (sym a.said) (refl, refl, refl, refl, refl);
     first =
         ap not (ap (list_any (λ other. is_put_of a.t.id a.t.epoch a.seq other.request)) before_is
         ∙ no_put a.t (last_seq_of a.older) a.seq a.before (omega (arith, a.next)) a.puts);
@@ -140,12 +140,12 @@ module _ (c : Coordination) (k : Known) (number step at : ℕ) (counted : IsCoun
 
   may_tell : MayTell c.splits (actors.Session c.session) k3 answers.Written
   may_tell = record {
-    s = record { call = calls.Put a.key a.value; reading = a.reading };
+    s = record { call = write_call a.key a.value; reading = a.reading };
     opened = a.call;
-    told = match_false (not k.is_open) _ _ (ap not a.open_as.is_open) (record {
+    told = told_in c.splits (actors.Session c.session) k3 (record { call = write_call a.key a.value; reading = a.reading }) answers.Written a.open_as.is_open (write_within a.key a.value a.reading) (record {
       t = t3;
       opened = open_is k3 t3 (map (txn_heard k.sent (Some h)) a.open_as.others) a.open_as.is_open first;
-      sent = subst (λ s. Any (IsFirstPut k3 (record { call = calls.Put a.key a.value; reading = a.reading }) t3) s) (sym a.sent_now) (any_head (IsFirstPut k3 (record { call = calls.Put a.key a.value; reading = a.reading }) t3) a.m [] first_put);
+      sent = subst (λ s. Any (IsFirstPut k3 (record { call = write_call a.key a.value; reading = a.reading }) t3) s) (sym a.sent_now) (any_head (IsFirstPut k3 (record { call = write_call a.key a.value; reading = a.reading }) t3) a.m [] first_put);
     });
   }
 
@@ -156,7 +156,7 @@ module _ (c : Coordination) (k : Known) (number step at : ℕ) (counted : IsCoun
   k4 = told answers.Written k3
 
   last_is : last_seq_of t4.writes ≡ max (last_seq_of a.older) a.seq
-  last_is = proved-last_seq a.key a.seq at a.t.writes ∙ ap last_seq_of a.writes ∙ last_seq-push a.older (record { key = a.key; seq = a.seq; value = Some a.value; asked = a.ts ∷ []; proofs = [] })
+  last_is = proved-last_seq a.key a.seq at a.t.writes ∙ ap last_seq_of a.writes ∙ last_seq-push a.older (record { key = a.key; seq = a.seq; value = a.value; asked = a.ts ∷ []; proofs = [] })
 
   puts : All (PutsUpTo t4 (last_seq_of t4.writes)) k.sent
   puts =
@@ -169,7 +169,7 @@ module _ (c : Coordination) (k : Known) (number step at : ℕ) (counted : IsCoun
   proved : All (IsProvedBy t4.write_ts) t4.writes
   proved =
       subst (λ w. All (IsProvedBy t4.write_ts) (map (proved_at a.key a.seq at) w)) (sym a.writes)
-      (all_proved a.t.write_ts t4.write_ts a.key a.seq at a.older (record { key = a.key; seq = a.seq; value = Some a.value; asked = a.ts ∷ []; proofs = [] }) (omega arith) (omega arith) refl refl a.proved)
+      (all_proved a.t.write_ts t4.write_ts a.key a.seq at a.older (record { key = a.key; seq = a.seq; value = a.value; asked = a.ts ∷ []; proofs = [] }) (omega arith) (omega arith) refl refl a.proved)
 
   plain : IsPlain k4 t4 k.sent
   plain =
@@ -178,7 +178,9 @@ module _ (c : Coordination) (k : Known) (number step at : ℕ) (counted : IsCoun
         number = p.number;
         reads = p.reads;
         restart = refl;
-        begun = omega (arith, p.begun);
+        begun = p.begun;
+        behind = omega (arith, p.behind);
+        at_begin = p.at_begin;
         below = omega (arith, p.below);
         refused = on_commits-more a.t.id k.heard h k.sent p.refused;
       }
@@ -190,7 +192,8 @@ module _ (c : Coordination) (k : Known) (number step at : ℕ) (counted : IsCoun
       others = map (txn_heard k.sent (Some h)) a.open_as.others;
       is_open = a.open_as.is_open;
       first = still_open k3 answers.Written t3 (map (txn_heard k.sent (Some h)) a.open_as.others) a.open_as.is_open first;
-      same = ap (raised at) a.open_as.same ∙ placed-same a.key a.seq at a.t;
+      same = ap (raised at) a.open_as.same ∙ placed-same a.x.has_read a.key a.seq at a.t;
+      unread = a.open_as.unread;
     },
     record { plain = plain; proved = proved; puts = puts },
   )
@@ -209,15 +212,15 @@ module _ (c : Coordination) (k : Known) (number step at : ℕ) (counted : IsCoun
       }
 
 put_reply : (c : Coordination) (k : Known) (number step : ℕ) (reply : Reply) → IsCounted c.clock c.begun k → (a : AwaitsPut k c.txn number)
-    → Knows (after_put_reply reply (with_heard reply c)) (reply_known number step (requests.Put (meta_of a.t a.anchor) a.seq a.ts a.key (Some a.value)) reply k)
+    → Knows (after_put_reply reply (with_heard reply c)) (reply_known number step (requests.Put (meta_of a.t a.anchor) a.seq a.ts a.key a.value) reply k)
 put_reply c k number step (replies.Written at) counted a = written_told c k number step at counted a
 put_reply c k number step reply counted a =
-    heard_stuck c k number step (requests.Put (meta_of a.t a.anchor) a.seq a.ts a.key (Some a.value)) reply (record { call = calls.Put a.key a.value; reading = a.reading }) counted a.last.counted a.call
+    heard_stuck c k number step (requests.Put (meta_of a.t a.anchor) a.seq a.ts a.key a.value) reply (record { call = write_call a.key a.value; reading = a.reading }) counted a.last.counted a.call
 
 pub put_heard : (c : Coordination) (k : Known) (p : Pair Event) (number step : ℕ) (reply : Reply) → IsHeard c number step reply p → Awaits c.clock c.begun c.txn number waits.Put k
     → Knows (after_put_reply reply (with_heard reply c)) (learn p k)
 put_heard c k p number step reply is awaits =
     let a = awaits.reply in
     subst (λ k. Knows (after_put_reply reply (with_heard reply c)) k)
-    (sym (learned_reply c k p number step reply (requests.Put (meta_of a.t a.anchor) a.seq a.ts a.key (Some a.value)) a.before a.m is a.last a.said))
+    (sym (learned_reply c k p number step reply (requests.Put (meta_of a.t a.anchor) a.seq a.ts a.key a.value) a.before a.m is a.last a.said))
     (put_reply c k number step reply awaits.counted a)

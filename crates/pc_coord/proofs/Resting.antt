@@ -1,6 +1,7 @@
 -- A coordinator at rest: no statement is open.
 use Rattle.std.proofs.Common.{◌≡◌, ℕ, Bool, true, false, not, ◌&&◌, List, ◌∷◌, Option, Some, None, refl, sym, ap, ◌∙◌, subst}
 use Rattle.std.specs.Bool.{MatchBool}
+use Rattle.pc_base.specs.declared.actor.ActorId.{ActorId}
 use Rattle.pc_base.specs.declared.actor.ActorId.TheVariants as actors
 use Rattle.pc_coord.proofs.Learned.{learn_own}
 use Rattle.pc_coord.proofs.Steps.{asked, asked_is, counted-told, told_is}
@@ -11,7 +12,7 @@ use Rattle.pc_coord.specs.declared.due.Wait.{Wait}
 use Rattle.pc_coord.specs.declared.due.Wait.TheVariants as waits
 use Rattle.pc_coord.specs.declared.transaction.Transaction.{Transaction}
 use Rattle.pc_coord.specs.Events.{IsAsked}
-use Rattle.pc_coord.specs.Knows.{AwaitsReply, IsCounted, Knows, KnowsAt, Rests, learned}
+use Rattle.pc_coord.specs.Knows.{AwaitsReply, IsCounted, IsSettled, Knows, KnowsAt, Rests, learned}
 use Rattle.pc_history.specs.declared.pair.Pair.{Pair}
 use Rattle.pc_proto.specs.declared.answer.Answer.{Answer}
 use Rattle.pc_proto.specs.declared.answer.Answer.TheVariants as answers
@@ -22,11 +23,12 @@ use Rattle.pc_world.specs.Known.{Known, first_if, learn, next_number}
 use Rattle.pc_world.specs.Known.Clock.{high_told}
 use Rattle.pc_world.specs.Known.Statements.{Statement, begun_told, is_open_told}
 use Rattle.pc_world.specs.Known.Transactions.{Txn}
-use Rattle.pc_world.specs.MayTell.{MayTell, needs_txn}
+use Rattle.pc_world.specs.MayTell.{MayTell, MayTellIn, MayTellRow, is_past_range, needs_txn}
 
 waiting : (k : Known) (txn : Option Transaction) (number : ℕ) (wait : Wait) → AwaitsReply k txn number wait → k.statement ≡ None → ⊥
 waiting k txn number waits.Put a none = let e = sym a.call ∙ none in cc
 waiting k txn number (waits.Commit ts refusals) a none = let e = sym a.call ∙ none in cc
+waiting k txn number waits.Abort a none = let e = sym a.call ∙ none in cc
 
 rests_at : (c : Coordination) (k : Known) (due : Due) → KnowsAt c k due → k.statement ≡ None → Rests c.clock c.begun c.txn k
 rests_at c k dues.Nothing h none = h
@@ -34,6 +36,7 @@ rests_at c k dues.Stuck h none = let e = sym h.opened ∙ none in absurd cc
 rests_at c k (dues.Send request wait) h none =
     absurd (waiting (learned (events.Send (next_number k) 0 request) k) c.txn (next_number k) wait (h.after 0).reply none)
 rests_at c k (dues.Hear number wait) h none = absurd (waiting k c.txn number wait h.reply none)
+rests_at c k (dues.Read messages) h none = let e = sym h.reads.opened ∙ none in absurd cc
 rests_at c k (dues.Tell answer) h none = let e = sym h.0.opened ∙ none in absurd cc
 
 -- where no statement is open, nothing is due
@@ -60,6 +63,25 @@ pub closed_told : (latest count : ℕ) (k : Known) (answer : Answer) → IsCount
 closed_told latest count k answer counted closed high begun =
     subst (λ k. Rests latest count None k) (sym (told_is answer k))
     (record { counted = counted-told latest count k counted answer high begun; none_open = refl; held = closed })
+
+-- what holds between statements holds when the next call is asked
+pub settled_asked : (call : Call) (reading : ℕ) (k : Known) (t : Txn) → IsSettled k t → IsSettled (asked call reading k) t
+settled_asked call reading k t s =
+    let p = s.plain in
+    record {
+      plain = record { number = p.number; reads = p.reads; restart = p.restart; begun = p.begun; behind = p.behind; at_begin = p.at_begin; below = p.below; refused = p.refused };
+      proved = s.proved;
+      puts = s.puts;
+    }
+
+kept_open : (needs is_open : Bool) → is_open ≡ true → (needs && not is_open) ≡ false
+kept_open true is_open e = ap not e
+kept_open false is_open e = refl
+
+-- where a transaction is open, a call is told what its row allows
+pub told_in : (splits : List (List ℕ)) (actor : ActorId) (k : Known) (s : Statement) (answer : Answer) → k.is_open ≡ true → is_past_range s ≡ false → MayTellRow splits actor k s answer → MayTellIn splits actor k s answer
+told_in splits actor k s answer opened within row =
+    match_false (needs_txn s.call && not k.is_open) _ _ (kept_open (needs_txn s.call) k.is_open opened) (match_false (is_past_range s) _ _ within row)
 
 -- a call that needs a transaction is told that there is none
 pub no_txn : (splits : List (List ℕ)) (session : ℕ) (k : Known) (s : Statement) → k.statement ≡ Some s → needs_txn s.call ≡ true → k.is_open ≡ false → MayTell splits (actors.Session session) k answers.NoTxn

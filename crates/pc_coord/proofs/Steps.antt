@@ -82,7 +82,8 @@ heard_is h k =
 own-more : (low high : ℕ) (request : Request) → low ≤ high → IsOwn low request → IsOwn high request
 own-more low high (requests.Put meta seq ts key value) h own = omega arith
 own-more low high (requests.Commit meta ts locks) h own = omega arith
-own-more low high request h own = absurd own
+own-more low high (requests.Stage meta ts now writes locks) h own = absurd own
+own-more low high request h own = tt
 
 own_sent-more : (low high few many : ℕ) (m : Sent) → low ≤ high → few ≤ many → IsOwnSent low few m → IsOwnSent high many m
 own_sent-more low high few many m h l own = record { numbered = omega (arith, own.numbered); own = own-more low high m.request h own.own }

@@ -1,6 +1,7 @@
 -- What a coordinator does: how it stands after each call and reply.
 use Rattle.std.specs.Prelude.{ℕ, ◌+◌, ◌^◌, ◌<◌, max, nat_lt, Bool, true, false, ◌==◌, if◌then◌else◌, Option, None, Some, List}
 use Rattle.std.specs.Option.{option_map}
+use Rattle.pc_base.specs.declared.span.Span.{Span}
 use Rattle.pc_base.specs.declared.transaction.Priority.{Priority}
 use Rattle.pc_coord.specs.Coordination.{Coordination, with_begun, with_due, with_end, with_raise}
 use Rattle.pc_coord.specs.declared.due.Due.{Due}
@@ -8,8 +9,10 @@ use Rattle.pc_coord.specs.declared.due.Due.TheVariants as dues
 use Rattle.pc_coord.specs.declared.due.Wait.{Wait}
 use Rattle.pc_coord.specs.declared.due.Wait.TheVariants as waits
 use Rattle.pc_coord.specs.declared.transaction.Transaction.{Transaction}
+use Rattle.pc_coord.specs.Messages.{change_first, due_of_reads, heard_as, is_unsent, sent_as, waits_at}
+use Rattle.pc_coord.specs.Reading.{due_of_get, due_of_scan, reading}
 use Rattle.pc_coord.specs.Transaction.{raised, with_write}
-use Rattle.pc_coord.specs.Turning.{due_of_committed, due_of_end, due_of_put, due_of_retry, txn_of_end, txn_of_retry}
+use Rattle.pc_coord.specs.Turning.{cause_of, due_of_committed, due_of_end, due_of_put, due_of_retry, due_of_rollback, due_of_rolled_back, txn_of_end, txn_of_retry, txn_of_rollback}
 use Rattle.pc_proto.specs.declared.answer.Answer.TheVariants as answers
 use Rattle.pc_proto.specs.declared.call.Call.{Call}
 use Rattle.pc_proto.specs.declared.call.Call.TheVariants as calls
@@ -17,6 +20,7 @@ use Rattle.pc_proto.specs.declared.reply.Reply.{Reply}
 use Rattle.pc_proto.specs.declared.reply.Reply.TheVariants as replies
 use Rattle.pc_proto.specs.declared.view.View.{View}
 use Rattle.pc_proto.specs.declared.view.View.TheVariants as views
+use Rattle.pc_proto.specs.declared.why.Why.{Why}
 use Rattle.pc_proto.specs.Stamps.{reply_stamps}
 use Rattle.pc_world.specs.Known.Clock.{last_of}
 use Rattle.pc_world.specs.Tell.Begin.{clock_now}
@@ -27,11 +31,11 @@ after_begin priority reading c =
     if nat_lt (2 ^ 62) reading then with_due (dues.Tell (answers.Clock reading)) c
     else with_begun priority reading (clock_now reading c.clock) c
 
-abbrev pub put_in : List ℕ → List ℕ → Option Transaction → Coordination → Coordination
+abbrev pub put_in : List ℕ → Option (List ℕ) → Option Transaction → Coordination → Coordination
 put_in key value txn c = record c { txn = option_map (with_write key) txn; due = due_of_put key value txn }
 
--- After a put.
-abbrev pub after_put : List ℕ → List ℕ → Coordination → Coordination
+-- After a put, or a deletion.
+abbrev pub after_put : List ℕ → Option (List ℕ) → Coordination → Coordination
 after_put key value c = put_in key value c.txn c
 
 abbrev pub end_in : Option Transaction → Coordination → Coordination
@@ -40,6 +44,41 @@ end_in txn c = record c { txn = txn_of_end txn; due = due_of_end txn }
 -- After a commit is asked.
 abbrev pub after_commit_call : Coordination → Coordination
 after_commit_call c = end_in c.txn c
+
+abbrev pub get_in : List ℕ → Option Transaction → Coordination → Coordination
+get_in key txn c = record c { txn = option_map reading txn; due = due_of_get key txn }
+
+-- After a get.
+abbrev pub after_get : List ℕ → Coordination → Coordination
+after_get key c = get_in key c.txn c
+
+abbrev pub scan_in : Span → Option Transaction → Coordination → Coordination
+scan_in span txn c = record c { txn = option_map reading txn; due = due_of_scan c.splits span txn }
+
+-- After a scan.
+abbrev pub after_scan : Span → Coordination → Coordination
+after_scan span c = scan_in span c.txn c
+
+abbrev pub rollback_in : Option Transaction → Coordination → Coordination
+rollback_in txn c = record c { txn = txn_of_rollback txn; due = due_of_rollback txn }
+
+-- After a rollback is asked.
+abbrev pub after_rollback : Coordination → Coordination
+after_rollback c = rollback_in c.txn c
+
+-- What is due once the message that was due next was sent, where it reads.
+abbrev pub due_after_send : ℕ → Due → Due
+due_after_send number (dues.Read messages) = dues.Read (change_first is_unsent (sent_as number) messages)
+due_after_send number due = due
+
+-- What is due once this was replied to the message of this number, where it reads.
+abbrev pub due_after_read : ℕ → Reply → Due → Due
+due_after_read number reply (dues.Read messages) = due_of_reads (change_first (waits_at number) (heard_as reply) messages)
+due_after_read number reply _ = dues.Stuck
+
+-- After the reply to a message that reads.
+abbrev pub after_read : ℕ → Reply → Coordination → Coordination
+after_read number reply c = with_due (due_after_read number reply c.due) c
 
 -- What is waited for once the request that is due was sent.
 abbrev pub sending_of : Due → Option Wait
@@ -94,19 +133,32 @@ abbrev pub after_commit_reply : ℕ → ℕ → Reply → Coordination → Coord
 after_commit_reply ts refusals (replies.Status view) c = after_view ts refusals view c
 after_commit_reply ts refusals _ c = with_due dues.Stuck c
 
+abbrev pub rolled_back_in : Why → Option Transaction → Coordination → Coordination
+rolled_back_in why txn c = record c { txn = None; due = due_of_rolled_back why txn }
+
+-- After the reply to an abort.
+abbrev pub after_abort_reply : Reply → Coordination → Coordination
+after_abort_reply reply c = rolled_back_in (cause_of reply) c.txn c
+
 -- After the reply that was waited for.
 abbrev pub after_reply : Wait → Reply → Coordination → Coordination
 after_reply waits.Put reply c = after_put_reply reply c
 after_reply (waits.Commit ts refusals) reply c = after_commit_reply ts refusals reply c
+after_reply waits.Abort reply c = after_abort_reply reply c
 
 -- Fewer than eight commits of the statement were refused.
 abbrev pub FewRefused : Wait → Type 0
 FewRefused waits.Put = Unit {0}
+FewRefused waits.Abort = Unit {0}
 FewRefused (waits.Commit ts refusals) = refusals < 8
 
 -- After a call.
 abbrev pub after_call : Call → ℕ → Coordination → Coordination
 after_call (calls.Begin priority) reading c = after_begin priority reading c
-after_call (calls.Put key value) reading c = after_put key value c
+after_call (calls.Put key value) reading c = after_put key (Some value) c
+after_call (calls.Delete key) reading c = after_put key None c
 after_call calls.Commit reading c = after_commit_call c
+after_call (calls.Get key) reading c = after_get key c
+after_call (calls.Scan span) reading c = after_scan span c
+after_call calls.Rollback reading c = after_rollback c
 after_call _ reading c = with_due dues.Stuck c

@@ -2,6 +2,8 @@ pub mod Coordinating
 pub mod Coordination
 pub mod Events
 pub mod Knows
+pub mod Messages
 pub mod Place
+pub mod Reading
 pub mod Transaction
 pub mod Turning

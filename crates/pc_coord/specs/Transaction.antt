@@ -1,16 +1,18 @@
 -- The coordinator's transaction beside the one that its session knows, and the messages that it makes.
-use Rattle.std.specs.Prelude.{ℕ, ◌+◌, max, Some, List}
+use Rattle.std.specs.Prelude.{ℕ, ◌+◌, max, nat_lt, Bool, ◌&&◌, Option, Some, List}
 use Rattle.std.specs.Option.{option_or}
+use Rattle.pc_base.specs.declared.span.Span.{Span}
 use Rattle.pc_coord.specs.declared.transaction.Transaction.{Transaction}
 use Rattle.pc_proto.specs.declared.meta.TxnMeta.{TxnMeta}
 use Rattle.pc_proto.specs.declared.request.Request.{Request}
 use Rattle.pc_proto.specs.declared.request.Request.TheVariants as requests
+use Rattle.pc_proto.specs.declared.why.Why.TheVariants as whys
 use Rattle.pc_world.specs.Known.Transactions.{Txn, with_lock}
 use Rattle.pc_world.specs.Known.Writes.{last_seq_of}
 
--- What a coordinator keeps of a transaction that its session knows.
-abbrev pub transaction_of : Txn → Transaction
-transaction_of t = record {
+-- What a coordinator keeps of a transaction that its session knows, and whether it read.
+abbrev pub transaction_of : Bool → Txn → Transaction
+transaction_of has_read t = record {
   id = t.id;
   priority = t.priority;
   born = t.born;
@@ -21,6 +23,7 @@ transaction_of t = record {
   write_ts = t.write_ts;
   anchor = t.anchor;
   locks = t.locks;
+  has_read = has_read;
 }
 
 -- The transaction with one more write of this key.
@@ -39,13 +42,29 @@ raised ts x = record x { write_ts = max x.write_ts ts }
 abbrev pub refreshed : Transaction → Transaction
 refreshed x = record x { read_ts = max x.read_ts x.write_ts }
 
+-- What it read would have to be refreshed before it commits: its write timestamp moved past its reads.
+abbrev pub needs_refresh : Transaction → Bool
+needs_refresh x = x.has_read && nat_lt x.read_ts x.write_ts
+
 -- Its meta, with this anchor.
 abbrev pub meta_in : Transaction → List ℕ → TxnMeta
 meta_in x anchor = record { id = x.id; epoch = x.epoch; priority = x.priority; born = x.born; anchor = anchor }
 
 -- Its last write, at its write timestamp.
-abbrev pub put_of : Transaction → List ℕ → List ℕ → List ℕ → Request
-put_of x anchor key value = requests.Put (meta_in x anchor) x.seq x.write_ts key (Some value)
+abbrev pub put_of : Transaction → List ℕ → List ℕ → Option (List ℕ) → Request
+put_of x anchor key value = requests.Put (meta_in x anchor) x.seq x.write_ts key value
+
+-- Its get of a key, at its read timestamp.
+abbrev pub get_of : Transaction → List ℕ → Request
+get_of x key = requests.Get x.id x.epoch x.seq x.read_ts key
+
+-- Its scan of a span, at its read timestamp.
+abbrev pub scan_of : Transaction → Span → Request
+scan_of x span = requests.Scan x.id x.epoch x.seq x.read_ts span
+
+-- Its abort, which the client asked for.
+abbrev pub abort_of : Transaction → List ℕ → Request
+abort_of x anchor = requests.Abort (meta_in x anchor) whys.Client x.locks
 
 -- Its commit, at its write timestamp.
 abbrev pub commit_of : Transaction → List ℕ → Request

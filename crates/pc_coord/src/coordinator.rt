@@ -1,7 +1,7 @@
 ghost use Rattle.std.specs.Prelude.{◌≡◌, ℕ, ◌+◌, ◌*◌, ◌^◌, ◌<◌, ◌≤◌, nat_lt, max, if◌then◌else◌, true, is_some, IfOk, OnOk, None, Some};
 ghost use Rattle.pc_base.specs.Timestamp.{greatest};
 ghost use Rattle.pc_coord.specs.Coordination.{next_of, waits_for, with_begun, with_due, with_end, with_raise};
-ghost use Rattle.pc_coord.specs.Coordinating.{FewRefused, after_begin, after_call, after_commit_call, after_commit_reply, after_committed, after_put, after_put_reply, after_refused, after_reply, after_view, awaited_at, sending_of, with_heard};
+ghost use Rattle.pc_coord.specs.Coordinating.{FewRefused, after_abort_reply, after_begin, after_call, after_commit_call, after_commit_reply, after_committed, after_get, after_put, after_put_reply, after_read, after_refused, after_reply, after_rollback, after_scan, after_view, due_after_send, awaited_at, sending_of, with_heard};
 ghost use Rattle.pc_coord.specs.declared.due.Due.TheVariants as dues;
 ghost use Rattle.pc_coord.specs.declared.due.Wait.{Wait as AwaitedReply};
 ghost use Rattle.pc_coord.specs.declared.next.Next.TheVariants as nexts;
@@ -21,11 +21,12 @@ use crate::due::{Due, Wait};
 use crate::next::Next;
 use crate::stamps::last_stamp;
 use crate::transaction::{Transaction, following};
-use crate::turn;
-use pc_base::{Key, NoMemory, Priority, Timestamp, TryCopy, TxnId, Value};
+use crate::{reads, turn};
+use pc_base::{Key, NoMemory, Priority, Span, Timestamp, TryCopy, TxnId, Value};
 use pc_proto::{Answer, Call, Keys, Reply, View, Why};
 use std::alloc::Global;
 use std::marker::Model;
+use std::mem;
 
 /// The greatest reading of a clock at which a transaction begins.
 const GREATEST_READING: u64 = 1 << 62;
@@ -38,8 +39,8 @@ const GREATEST: Timestamp = Timestamp {
 /// Runs the transactions of one session, one after another: it is asked calls, says which messages go out, hears the
 /// replies, and says what the call is told.
 ///
-/// So far it begins, puts without pipelining, and commits with no write in flight; any other call, and a reply that asks
-/// for a round, leaves it with nothing due. After a refusal for want of memory nothing is promised of it any more.
+/// So far it begins, reads, writes without pipelining, commits with no write in flight, and rolls back. A learn, a reply that
+/// asks for a round, and a commit whose reads would have to be refreshed leave it with nothing due. After a refusal for want of memory nothing is promised of it any more.
 #[derive(Drop)]
 pub struct Coordinator<'a> {
     alloc: Global,
@@ -106,8 +107,12 @@ impl<'a> Coordinator<'a> {
     {
         match call {
             Call::Begin(priority) => self.begin(*priority, reading),
-            Call::Put(key, value) => self.put(key, value),
+            Call::Put(key, value) => self.write(key, Some(value.copy()?)),
+            Call::Delete(key) => self.write(key, None),
             Call::Commit => self.commit(),
+            Call::Get(key) => self.get(key),
+            Call::Scan(span) => self.scan(span),
+            Call::Rollback => self.rollback(),
             _ => {
                 self.set_due(Due::Stuck);
                 Ok(())
@@ -150,8 +155,8 @@ impl<'a> Coordinator<'a> {
         self.due = Due::Tell(Answer::Begun { id, ts });
     }
 
-    fn put(&mut self, key: &Key, value: &Value) -> Result<(), NoMemory>
-        ensures made { OnOk result (self.new ≡ after_put key.now value.now self.old) }
+    fn write(&mut self, key: &Key, value: Option<Value>) -> Result<(), NoMemory>
+        ensures made { OnOk result (self.new ≡ after_put key.now value self.old) }
         ensures session { self.new.session ≡ self.old.session }
         ensures splits { self.new.splits ≡ self.old.splits }
     {
@@ -165,6 +170,33 @@ impl<'a> Coordinator<'a> {
         ensures splits { self.new.splits ≡ self.old.splits }
     {
         self.due = turn::end(&mut self.txn)?;
+        Ok(())
+    }
+
+    fn get(&mut self, key: &Key) -> Result<(), NoMemory>
+        ensures made { OnOk result (self.new ≡ after_get key.now self.old) }
+        ensures session { self.new.session ≡ self.old.session }
+        ensures splits { self.new.splits ≡ self.old.splits }
+    {
+        self.due = reads::get(self.alloc, &mut self.txn, key)?;
+        Ok(())
+    }
+
+    fn scan(&mut self, span: &Span) -> Result<(), NoMemory>
+        ensures made { OnOk result (self.new ≡ after_scan span.now self.old) }
+        ensures session { self.new.session ≡ self.old.session }
+        ensures splits { self.new.splits ≡ self.old.splits }
+    {
+        self.due = reads::scan(self.alloc, self.splits, &mut self.txn, span)?;
+        Ok(())
+    }
+
+    fn rollback(&mut self) -> Result<(), NoMemory>
+        ensures made { OnOk result (self.new ≡ after_rollback self.old) }
+        ensures session { self.new.session ≡ self.old.session }
+        ensures splits { self.new.splits ≡ self.old.splits }
+    {
+        self.due = turn::rollback(&mut self.txn)?;
         Ok(())
     }
 
@@ -197,6 +229,7 @@ impl<'a> Coordinator<'a> {
             Due::Hear { .. } => Ok(Next::Wave),
             Due::Send { request, .. } => Ok(Next::Send(request.copy()?)),
             Due::Tell(answer) => Ok(Next::Tell(answer.copy()?)),
+            Due::Read(messages) => messages.next(),
         }
     }
 
@@ -208,10 +241,19 @@ impl<'a> Coordinator<'a> {
         ensures session { self.new.session ≡ self.old.session }
         ensures splits { self.new.splits ≡ self.old.splits }
     {
-        if let Some(wait) = self.sending() {
-            self.set_due(Due::Hear { number, wait });
+        match self.sending() {
+            Some(wait) => self.set_due(Due::Hear { number, wait }),
+            None => self.read_sent(number),
         }
         Ok(())
+    }
+
+    fn read_sent(&mut self, number: u64)
+        ensures { self.new ≡ with_due (due_after_send number self.old.due) self.old }
+    {
+        if let Due::Read(messages) = &mut self.due {
+            messages.sent(number);
+        }
     }
 
     fn sending(&self) -> Option<Wait>
@@ -233,9 +275,20 @@ impl<'a> Coordinator<'a> {
         let wait = self.awaited(number);
         self.hear(reply);
         match &wait {
-            None => Ok(()),
+            None => self.read_heard(number, reply),
             Some(wait) => self.reply_heard(wait, reply),
         }
+    }
+
+    fn read_heard(&mut self, number: u64, reply: &Reply) -> Result<(), NoMemory>
+        ensures made { OnOk result (self.new ≡ after_read number reply.now self.old) }
+        ensures session { self.new.session ≡ self.old.session }
+        ensures splits { self.new.splits ≡ self.old.splits }
+    {
+        let reply = reply.copy()?;
+        let due = mem::replace(&mut self.due, Due::Stuck);
+        self.due = reads::heard(due, number, reply)?;
+        Ok(())
     }
 
     fn awaited(&self, number: u64) -> Option<Wait>
@@ -267,6 +320,7 @@ impl<'a> Coordinator<'a> {
                 Ok(())
             }
             Wait::Commit { ts, refusals } => self.commit_heard(*ts, *refusals, reply),
+            Wait::Abort => self.abort_heard(reply),
         }
     }
 
@@ -284,6 +338,17 @@ impl<'a> Coordinator<'a> {
     {
         turn::raise(&mut self.txn, ts);
         self.due = Due::Tell(Answer::Written);
+    }
+
+    fn abort_heard(&mut self, reply: &Reply) -> Result<(), NoMemory>
+        ensures made { OnOk result (self.new ≡ after_abort_reply reply.now self.old) }
+        ensures session { self.new.session ≡ self.old.session }
+        ensures splits { self.new.splits ≡ self.old.splits }
+    {
+        let why = turn::cause_of(reply)?;
+        self.due = turn::rolled_back(&self.txn, why);
+        self.txn = None;
+        Ok(())
     }
 
     fn commit_heard(&mut self, ts: Timestamp, refusals: u32, reply: &Reply) -> Result<(), NoMemory>

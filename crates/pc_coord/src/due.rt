@@ -1,3 +1,4 @@
+use crate::messages::Messages;
 use pc_base::Timestamp;
 use pc_proto::{Answer, Request};
 
@@ -8,6 +9,8 @@ pub enum Wait {
     Put,
     /// That to its commit at this timestamp, after so many that were refused.
     Commit { ts: Timestamp, refusals: u32 },
+    /// That to its abort.
+    Abort,
 }
 
 /// What the open statement waits for.
@@ -21,6 +24,8 @@ pub enum Due {
     Send { request: Request, wait: Wait },
     /// The reply to the message of this number is to be heard.
     Hear { number: u64, wait: Wait },
+    /// These messages are to be sent and heard, to read what is asked.
+    Read(Messages),
     /// The open call is to be told this.
     Tell(Answer),
 }

@@ -4,7 +4,9 @@
 mod coordinator;
 mod due;
 mod locks;
+mod messages;
 mod next;
+mod reads;
 mod stamps;
 mod transaction;
 mod turn;

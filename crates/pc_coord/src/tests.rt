@@ -1,8 +1,8 @@
 ghost use Rattle.std.specs.Prelude.{◌<◌};
 
 use crate::{Coordinator, Next};
-use pc_base::{Items, Key, Priority, Timestamp, TxnId, Value};
-use pc_proto::{Answer, Call, Keys, Reply, Request, TxnMeta, View};
+use pc_base::{Items, Key, Priority, Span, Timestamp, TxnId, Value, Who};
+use pc_proto::{Answer, Call, Keys, Origin, Reply, Request, Rows, TxnMeta, View, Why};
 use std::alloc::Global;
 use std::test::Fail;
 
@@ -132,5 +132,163 @@ fn eight_refused_commits_give_up(rt: HostRuntime) -> Result<(), Fail> {
         coordinator.next()?,
         Next::Tell(Answer::Moved { ts: at(18) })
     );
+    Ok(())
+}
+
+#[test]
+fn a_get_reads_where_the_transaction_began(rt: HostRuntime) -> Result<(), Fail> {
+    let splits = Items::new(rt.alloc());
+    let mut coordinator = Coordinator::new(rt.alloc(), 1, 3, false, &splits);
+    let _begun = begin(&mut coordinator)?;
+    coordinator.ask(Call::Get(Key::new(rt.alloc(), b"a")?), 11)?;
+    let get = Request::Get {
+        id: ID,
+        epoch: 0,
+        seq: 0,
+        ts: at(10),
+        key: Key::new(rt.alloc(), b"a")?,
+    };
+    assert_eq!(rt; coordinator.next()?, Next::Send(get));
+    coordinator.sent(1)?;
+    assert_eq!(rt; coordinator.next()?, Next::Wave);
+    let found = Reply::Value {
+        origin: Origin::Nothing,
+        value: None,
+    };
+    coordinator.heard(1, 4, &found)?;
+    assert_eq!(rt; coordinator.next()?, Next::Tell(Answer::Value(None)));
+    coordinator.told();
+    coordinator.ask(Call::Commit, 12)?;
+    let told = Next::Tell(Answer::Committed { id: ID, ts: at(10) });
+    assert_eq!(rt; coordinator.next()?, told);
+    Ok(())
+}
+
+fn write(coordinator: &mut Coordinator, call: Call, number: u64) -> Result<(), Fail>
+    requires { number < 100 }
+{
+    coordinator.ask(call, number + 10)?;
+    coordinator.sent(number)?;
+    coordinator.heard(number, number * 2, &Reply::Written { ts: at(10) })?;
+    coordinator.told();
+    Ok(())
+}
+
+fn scan_of(span: Span) -> Next {
+    Next::Send(Request::Scan {
+        id: ID,
+        epoch: 0,
+        seq: 3,
+        ts: at(10),
+        span,
+    })
+}
+
+fn three_writes(coordinator: &mut Coordinator, alloc: Global) -> Result<(), Fail> {
+    let _begun = begin(coordinator)?;
+    let first = Call::Put(Key::new(alloc, b"a")?, Value::new(alloc, b"1")?);
+    write(coordinator, first, 1)?;
+    let second = Call::Put(Key::new(alloc, b"n")?, Value::new(alloc, b"2")?);
+    write(coordinator, second, 2)?;
+    write(coordinator, Call::Delete(Key::new(alloc, b"a")?), 3)
+}
+
+fn rows(alloc: Global, origin: Origin) -> Result<Rows, Fail> {
+    let mut rows = Items::new(alloc);
+    rows.add((Key::new(alloc, b"n")?, origin, Value::new(alloc, b"2")?))?;
+    Ok(rows)
+}
+
+#[test]
+fn a_scan_goes_to_each_range(rt: HostRuntime) -> Result<(), Fail> {
+    let mut splits = Items::new(rt.alloc());
+    splits.add(Key::new(rt.alloc(), b"m")?)?;
+    let mut coordinator = Coordinator::new(rt.alloc(), 1, 3, false, &splits);
+    three_writes(&mut coordinator, rt.alloc())?;
+    let all = Span::Between {
+        from: None,
+        to: None,
+    };
+    coordinator.ask(Call::Scan(all), 14)?;
+    let first = Span::Between {
+        from: None,
+        to: Some(Key::new(rt.alloc(), b"m")?),
+    };
+    assert_eq!(rt; coordinator.next()?, scan_of(first));
+    coordinator.sent(4)?;
+    let second = Span::Between {
+        from: Some(Key::new(rt.alloc(), b"m")?),
+        to: None,
+    };
+    assert_eq!(rt; coordinator.next()?, scan_of(second));
+    coordinator.sent(5)?;
+    assert_eq!(rt; coordinator.next()?, Next::Wave);
+    coordinator.heard(4, 12, &Reply::Rows(Items::new(rt.alloc())))?;
+    let found = Reply::Rows(rows(rt.alloc(), Origin::Own)?);
+    coordinator.heard(5, 13, &found)?;
+    let told = Answer::Rows(rows(rt.alloc(), Origin::Nothing)?);
+    assert_eq!(rt; coordinator.next()?, Next::Tell(told));
+    Ok(())
+}
+
+fn two_locks(alloc: Global) -> Result<Keys, Fail> {
+    let mut keys = locks(alloc)?;
+    keys.add(Key::new(alloc, b"n")?)?;
+    Ok(keys)
+}
+
+#[test]
+fn a_rollback_aborts_with_all_locks(rt: HostRuntime) -> Result<(), Fail> {
+    let splits = Items::new(rt.alloc());
+    let mut coordinator = Coordinator::new(rt.alloc(), 1, 3, false, &splits);
+    three_writes(&mut coordinator, rt.alloc())?;
+    coordinator.ask(Call::Rollback, 15)?;
+    let abort = Request::Abort {
+        meta: meta(rt.alloc())?,
+        why: Why::Client,
+        locks: two_locks(rt.alloc())?,
+    };
+    assert_eq!(rt; coordinator.next()?, Next::Send(abort));
+    coordinator.sent(4)?;
+    let aborted = View::Aborted {
+        epoch: 0,
+        why: Why::Client,
+        locks: two_locks(rt.alloc())?,
+    };
+    coordinator.heard(4, 16, &Reply::Status(aborted))?;
+    let told = Answer::RolledBack {
+        id: ID,
+        why: Why::Client,
+    };
+    assert_eq!(rt; coordinator.next()?, Next::Tell(told));
+    Ok(())
+}
+
+fn pushed() -> Why {
+    Why::Pushed {
+        by: Who::Txn(TxnId {
+            session: 2,
+            number: 1,
+        }),
+    }
+}
+
+#[test]
+fn a_commit_hears_that_it_was_pushed(rt: HostRuntime) -> Result<(), Fail> {
+    let splits = Items::new(rt.alloc());
+    let mut coordinator = Coordinator::new(rt.alloc(), 1, 3, false, &splits);
+    let _begun = begin(&mut coordinator)?;
+    let _put = ask_put(&mut coordinator, rt.alloc())?;
+    let _written = hear_put(&mut coordinator)?;
+    coordinator.ask(Call::Commit, 12)?;
+    coordinator.sent(2)?;
+    let aborted = View::Aborted {
+        epoch: 0,
+        why: pushed(),
+        locks: Items::new(rt.alloc()),
+    };
+    coordinator.heard(2, 9, &Reply::Status(aborted))?;
+    let told = Answer::Aborted { why: pushed() };
+    assert_eq!(rt; coordinator.next()?, Next::Tell(told));
     Ok(())
 }

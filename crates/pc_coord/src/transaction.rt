@@ -1,12 +1,12 @@
-ghost use Rattle.std.specs.Prelude.{◌≡◌, ◌+◌, IfOk, OnOk, unwrap_or};
-ghost use Rattle.pc_coord.specs.Transaction.{commit_of, meta_in, put_of, refreshed, transaction_of, with_write};
-ghost use Rattle.pc_coord.specs.Coordination.{commit_due, put_due};
+ghost use Rattle.std.specs.Prelude.{◌≡◌, false, ◌+◌, IfOk, OnOk, unwrap_or};
+ghost use Rattle.pc_coord.specs.Transaction.{abort_of, commit_of, get_of, meta_in, needs_refresh, put_of, refreshed, scan_of, transaction_of, with_write};
+ghost use Rattle.pc_coord.specs.Coordination.{abort_due, commit_due, put_due};
 ghost use Rattle.pc_world.specs.Known.Transactions.{begun};
 
 use crate::due::{Due, Wait};
 use crate::locks::with_lock;
-use pc_base::{Items, Key, NoMemory, Priority, Timestamp, TryCopy, TxnId, Value};
-use pc_proto::{Keys, Request, TxnMeta};
+use pc_base::{Items, Key, NoMemory, Priority, Span, Timestamp, TryCopy, TxnId, Value};
+use pc_proto::{Keys, Request, TxnMeta, Why};
 use std::alloc::Global;
 
 /// The open transaction, as its session knows it.
@@ -27,11 +27,13 @@ pub struct Transaction {
     pub anchor: Option<Key>,
     /// Each key that it wrote in any epoch, in key order.
     pub locks: Keys,
+    /// Whether it was asked to read in this epoch.
+    pub has_read: bool,
 }
 
 impl Transaction {
     pub fn new(alloc: Global, id: TxnId, priority: Priority, born: u64, ts: Timestamp) -> Self
-        ensures { result ≡ transaction_of (begun id priority born ts) }
+        ensures { result ≡ transaction_of false (begun id priority born ts) }
     {
         Transaction {
             id,
@@ -44,6 +46,7 @@ impl Transaction {
             write_ts: ts,
             anchor: None,
             locks: Items::new(alloc),
+            has_read: false,
         }
     }
 
@@ -72,8 +75,8 @@ impl Transaction {
     }
 
     /// Takes the write in, and makes the message that lays it at the write timestamp.
-    pub fn put(&mut self, key: &Key, value: &Value) -> Result<Due, NoMemory>
-        ensures due { IfOk result (λ due. due ≡ put_due (unwrap_or self.old.anchor key.now) key.now value.now (with_write key.now self.old)) }
+    pub fn put(&mut self, key: &Key, value: Option<Value>) -> Result<Due, NoMemory>
+        ensures due { IfOk result (λ due. due ≡ put_due (unwrap_or self.old.anchor key.now) key.now value (with_write key.now self.old)) }
         ensures wrote { OnOk result (self.new ≡ with_write key.now self.old) }
     {
         let anchor = anchor_or(&self.anchor, key)?;
@@ -85,19 +88,18 @@ impl Transaction {
         })
     }
 
-    fn put_request(&self, anchor: Key, key: &Key, value: &Value) -> Result<Request, NoMemory>
-        ensures { IfOk result (λ made. made ≡ put_of self.now anchor key.now value.now) }
+    fn put_request(&self, anchor: Key, key: &Key, value: Option<Value>) -> Result<Request, NoMemory>
+        ensures { IfOk result (λ made. made ≡ put_of self.now anchor key.now value) }
     {
         let meta = self.meta(anchor);
         let key = key.copy()?;
-        let value = value.copy()?;
         let (seq, ts) = (self.seq, self.write_ts);
         Ok(Request::Put {
             meta,
             seq,
             ts,
             key,
-            value: Some(value),
+            value,
         })
     }
 
@@ -117,6 +119,7 @@ impl Transaction {
     {
         match &self.anchor {
             None => Ok(Due::Stuck),
+            Some(_) if self.needs_refresh() => Ok(Due::Stuck),
             Some(anchor) => {
                 let request = self.commit_request(anchor)?;
                 let ts = self.write_ts;
@@ -126,6 +129,67 @@ impl Transaction {
                 })
             }
         }
+    }
+
+    /// The message that makes the record aborted.
+    pub fn abort(&self) -> Result<Due, NoMemory>
+        ensures { IfOk result (λ due. due ≡ abort_due self.now.anchor self.now) }
+    {
+        match &self.anchor {
+            None => Ok(Due::Stuck),
+            Some(anchor) => {
+                let request = self.abort_request(anchor)?;
+                Ok(Due::Send {
+                    request,
+                    wait: Wait::Abort,
+                })
+            }
+        }
+    }
+
+    fn abort_request(&self, anchor: &Key) -> Result<Request, NoMemory>
+        ensures { IfOk result (λ made. made ≡ abort_of self.now anchor.now) }
+    {
+        let meta = self.meta(anchor.copy()?);
+        let held = self.locks.copy()?;
+        Ok(Request::Abort {
+            meta,
+            why: Why::Client,
+            locks: held,
+        })
+    }
+
+    /// The message that reads a key, at the read timestamp.
+    pub fn get_request(&self, key: &Key) -> Result<Request, NoMemory>
+        ensures { IfOk result (λ made. made ≡ get_of self.now key.now) }
+    {
+        let key = key.copy()?;
+        Ok(Request::Get {
+            id: self.id,
+            epoch: self.epoch,
+            seq: self.seq,
+            ts: self.read_ts,
+            key,
+        })
+    }
+
+    /// The message that reads a span which lies in one range.
+    pub fn scan_request(&self, span: Span) -> Request
+        ensures { result ≡ scan_of self.now span }
+    {
+        Request::Scan {
+            id: self.id,
+            epoch: self.epoch,
+            seq: self.seq,
+            ts: self.read_ts,
+            span,
+        }
+    }
+
+    fn needs_refresh(&self) -> bool
+        ensures { result ≡ needs_refresh self.now }
+    {
+        self.has_read && self.read_ts < self.write_ts
     }
 
     fn commit_request(&self, anchor: &Key) -> Result<Request, NoMemory>

@@ -1,5 +1,5 @@
 -- What is due after each event, while one session runs one transaction of puts.
-use Rattle.std.proofs.Common.{◌≡◌, ℕ, ◌+◌, ◌^◌, nat_lt, Bool, true, false, ◌||◌, ◌==◌, if◌then◌else◌, inl, inr, List, [], ◌∷◌, ◌++◌, drop, slice_get, Option, Some, None, All, IsTrue, refl, sym, ap, subst, ◌∙◌, arith}
+use Rattle.std.proofs.Common.{◌≡◌, ℕ, ◌+◌, ◌^◌, nat_lt, Bool, true, false, ◌&&◌, ◌||◌, ◌==◌, if◌then◌else◌, inl, inr, List, [], ◌∷◌, ◌++◌, drop, slice_get, Option, Some, None, All, IsTrue, refl, sym, ap, subst, ◌∙◌}
 use Rattle.std.proofs.lemmas.Bool.{eq-eqb}
 use Rattle.std.proofs.lemmas.List.Elements.{All-cons, All-nil}
 use Rattle.std.specs.List.{AllByRecursion as Each}
@@ -12,7 +12,7 @@ use Rattle.pc_coord.specs.declared.due.Due.TheVariants as dues
 use Rattle.pc_coord.specs.declared.due.Wait.{Wait}
 use Rattle.pc_coord.specs.declared.due.Wait.TheVariants as waits
 use Rattle.pc_coord.specs.declared.transaction.Transaction.{Transaction}
-use Rattle.pc_coord.specs.Transaction.{raised, refreshed, with_write}
+use Rattle.pc_coord.specs.Transaction.{commit_of, needs_refresh, raised, refreshed, with_write}
 use Rattle.pc_coord.specs.Turning.{due_at_end, txn_at_end}
 use Rattle.pc_proto.specs.declared.answer.Answer.{Answer}
 use Rattle.pc_proto.specs.declared.answer.Answer.TheVariants as answers
@@ -31,7 +31,7 @@ use Rattle.pc_world.specs.Known.Traffic.{Heard, Sent}
 use Rattle.pc_world.specs.RangeState.{RangeState}
 use Rattle.pc_world.specs.Tell.Begin.{clock_now}
 use Rattle.pc_world.specs.Tell.Refusal.{is_heard}
-use Rattle.pc_runner.specs.Due.{HeardAll, IsAtRest, IsAwaited, IsDue, IsDueAt, IsFresh, IsGoodReply, IsNext, IsOneSent, IsOpen, IsSilent, IsToHear, IsToTell, IsUndecided, PutsOrCommits, first_txn}
+use Rattle.pc_runner.specs.Due.{IsAtRest, IsAwaited, IsDue, IsDueAt, IsFresh, IsGoodReply, IsNext, IsOneSent, IsOpen, IsSilent, IsToHear, IsToTell, IsUndecided, PutsOrCommits, first_txn}
 use Rattle.pc_runner.specs.Follows.Script.{Position, after_told, next_call, opened}
 
 undecided_on : (s : RangeState) (k next : Known) → next.heard ≡ k.heard → IsUndecided s k → IsUndecided s next
@@ -39,9 +39,9 @@ undecided_on s k next e u = record { intents = u.intents; table = u.table; heard
 
 -- the transaction stays open
 open_on : (txn later : Option Transaction) (s : RangeState) (ahead left : List Call) (k next : Known) (y : Transaction) (o : IsOpen txn s ahead k)
-    → later ≡ Some y → y.id ≡ o.x.id → next.heard ≡ k.heard → Each PutsOrCommits left → IsOpen later s left next
-open_on txn later s ahead left k next y o held same e ahead_puts =
-    record { x = y; held = held; first = same ∙ o.first; undecided = undecided_on s k next e o.undecided; calls = ahead_puts }
+    → later ≡ Some y → y.id ≡ o.x.id → y.has_read ≡ false → next.heard ≡ k.heard → Each PutsOrCommits left → IsOpen later s left next
+open_on txn later s ahead left k next y o held same unread e ahead_puts =
+    record { x = y; held = held; first = same ∙ o.first; undecided = undecided_on s k next e o.undecided; calls = ahead_puts; unread = unread }
 
 each_drop : (ahead : List Call) → Each PutsOrCommits ahead → Each PutsOrCommits (drop 1 ahead)
 each_drop [] a = tt
@@ -69,6 +69,7 @@ begun_by false c s ahead k priority reading ts one none fresh d =
           first = first;
           undecided = undecided_on s k (asked (calls.Begin priority) reading k) refl fresh.undecided;
           calls = subst (λ l. Each PutsOrCommits (drop 1 l)) (sym fresh.begins) fresh.calls;
+          unread = refl;
         },
         silent_asked (calls.Begin priority) reading k,
       );
@@ -77,16 +78,16 @@ begun_by false c s ahead k priority reading ts one none fresh d =
     }
 
 -- a put
-put_by : (txn : Option Transaction) (c : Coordination) (s : RangeState) (ahead : List Call) (k : Known) (key value : List ℕ) (reading : ℕ) (x : Transaction) → txn ≡ Some x → x.id ≡ first_txn → IsUndecided s k → Each PutsOrCommits ahead
-    → IsNext (put_in key value txn c) s ahead (asked (calls.Put key value) reading k) None
-put_by None c s ahead k key value reading x held first u ahead_puts = absurd cc
-put_by (Some y) c s ahead k key value reading x held first u ahead_puts =
+put_by : (txn : Option Transaction) (c : Coordination) (s : RangeState) (ahead : List Call) (k : Known) (key value : List ℕ) (reading : ℕ) (x : Transaction) → txn ≡ Some x → x.id ≡ first_txn → x.has_read ≡ false → IsUndecided s k → Each PutsOrCommits ahead
+    → IsNext (put_in key (Some value) txn c) s ahead (asked (calls.Put key value) reading k) None
+put_by None c s ahead k key value reading x held first unread u ahead_puts = absurd cc
+put_by (Some y) c s ahead k key value reading x held first unread u ahead_puts =
     let same : y ≡ x = cc in
     let id : y.id ≡ first_txn = ap (λ (z : Transaction). z.id) same ∙ first in
     record {
       now = (
         id,
-        record { x = with_write key y; held = refl; first = id; undecided = undecided_on s k (asked (calls.Put key value) reading k) refl u; calls = ahead_puts },
+        record { x = with_write key y; held = refl; first = id; undecided = undecided_on s k (asked (calls.Put key value) reading k) refl u; calls = ahead_puts; unread = ap (λ (z : Transaction). z.has_read) same ∙ unread },
         silent_asked (calls.Put key value) reading k,
       );
       tied = refl;
@@ -94,29 +95,32 @@ put_by (Some y) c s ahead k key value reading x held first u ahead_puts =
     }
 
 -- a commit
-end_by : (anchor : Option (List ℕ)) (c : Coordination) (s : RangeState) (ahead : List Call) (k : Known) (reading : ℕ) (x : Transaction) → x.id ≡ first_txn → IsUndecided s k → Each PutsOrCommits ahead
+end_by : (anchor : Option (List ℕ)) (c : Coordination) (s : RangeState) (ahead : List Call) (k : Known) (reading : ℕ) (x : Transaction) → x.id ≡ first_txn → x.has_read ≡ false → IsUndecided s k → Each PutsOrCommits ahead
     → IsNext (record c { txn = txn_at_end anchor x; due = due_at_end anchor x }) s ahead (asked calls.Commit reading k) None
-end_by None c s ahead k reading x first u ahead_puts = record { now = (refl, All-nil _); tied = refl; busy = tt }
-end_by (Some anchor) c s ahead k reading x first u ahead_puts = record {
-  now = (
-    first,
-    record { x = refreshed x; held = refl; first = first; undecided = undecided_on s k (asked calls.Commit reading k) refl u; calls = ahead_puts },
-    silent_asked calls.Commit reading k,
-  );
-  tied = refl;
-  busy = tt;
-}
+end_by None c s ahead k reading x first unread u ahead_puts = record { now = (refl, All-nil _); tied = refl; busy = tt }
+end_by (Some anchor) c s ahead k reading x first unread u ahead_puts =
+    let free : needs_refresh x ≡ false = ap (λ b. b && nat_lt x.read_ts x.write_ts) unread in
+    let N : Bool → Type 0 = λ b. IsNext (record c { txn = Some (refreshed x); due = if b then dues.Stuck else dues.Send (commit_of x anchor) (waits.Commit x.write_ts 0) }) s ahead (asked calls.Commit reading k) None in
+    subst N (sym free) (record {
+      now = (
+        first,
+        record { x = refreshed x; held = refl; first = first; undecided = undecided_on s k (asked calls.Commit reading k) refl u; calls = ahead_puts; unread = unread },
+        silent_asked calls.Commit reading k,
+      );
+      tied = refl;
+      busy = tt;
+    })
 
-commit_by : (txn : Option Transaction) (c : Coordination) (s : RangeState) (ahead : List Call) (k : Known) (reading : ℕ) (x : Transaction) → txn ≡ Some x → x.id ≡ first_txn → IsUndecided s k → Each PutsOrCommits ahead
+commit_by : (txn : Option Transaction) (c : Coordination) (s : RangeState) (ahead : List Call) (k : Known) (reading : ℕ) (x : Transaction) → txn ≡ Some x → x.id ≡ first_txn → x.has_read ≡ false → IsUndecided s k → Each PutsOrCommits ahead
     → IsNext (end_in txn c) s ahead (asked calls.Commit reading k) None
-commit_by None c s ahead k reading x held first u ahead_puts = absurd cc
-commit_by (Some y) c s ahead k reading x held first u ahead_puts =
+commit_by None c s ahead k reading x held first unread u ahead_puts = absurd cc
+commit_by (Some y) c s ahead k reading x held first unread u ahead_puts =
     let same : y ≡ x = cc in
-    end_by y.anchor c s ahead k reading y (ap (λ (z : Transaction). z.id) same ∙ first) u ahead_puts
+    end_by y.anchor c s ahead k reading y (ap (λ (z : Transaction). z.id) same ∙ first) (ap (λ (z : Transaction). z.has_read) same ∙ unread) u ahead_puts
 
 open_asked : (c : Coordination) (s : RangeState) (ahead : List Call) (k : Known) (call : Call) (reading : ℕ) → IsOpen c.txn s ahead k → PutsOrCommits call → IsNext (after_call call reading c) s ahead (asked call reading k) None
-open_asked c s ahead k (calls.Put key value) reading o may = put_by c.txn c s ahead k key value reading o.x o.held o.first o.undecided o.calls
-open_asked c s ahead k calls.Commit reading o may = commit_by c.txn c s ahead k reading o.x o.held o.first o.undecided o.calls
+open_asked c s ahead k (calls.Put key value) reading o may = put_by c.txn c s ahead k key value reading o.x o.held o.first o.unread o.undecided o.calls
+open_asked c s ahead k calls.Commit reading o may = commit_by c.txn c s ahead k reading o.x o.held o.first o.unread o.undecided o.calls
 open_asked c s ahead k call reading o may = absurd may
 
 asked_by : (txn : Option Transaction) (c : Coordination) (s : RangeState) (ahead : List Call) (k : Known) (call : Call) (reading : ℕ) → c.txn ≡ txn → c.session ≡ 1 → IsAtRest c s ahead k txn → slice_get ahead 0 ≡ Some call
@@ -145,7 +149,7 @@ sent_next c d s ahead k number range request wait is made =
     subst (λ (d : Coordination). IsNext d s ahead (sent number range request k) (Some request)) (sym made)
     (record {
       now = (
-        open_on c.txn c.txn s ahead ahead k (sent number range request k) o.x o o.held refl refl o.calls,
+        open_on c.txn c.txn s ahead ahead k (sent number range request k) o.x o o.held refl o.unread refl o.calls,
         record { m = m; sent = ap (λ (l : List Sent). l ++ m ∷ []) is.2.sent; numbered = refl; kind = is.0; heard = is.2.heard },
       );
       tied = (request, refl, is.0);
@@ -159,7 +163,7 @@ opened_end c s k at last none =
 
 opened_on : (c : Coordination) (s : RangeState) (k next : Known) (ahead left : List Call) → next.heard ≡ k.heard → Each PutsOrCommits left → IsOpen c.txn s ahead k → IsAtRest (with_due dues.Nothing c) s left next c.txn
 opened_on c s k next ahead left e ahead_puts o =
-    let still : IsOpen c.txn s left next = open_on c.txn c.txn s ahead left k next o.x o o.held refl e ahead_puts in
+    let still : IsOpen c.txn s left next = open_on c.txn c.txn s ahead left k next o.x o o.held refl o.unread e ahead_puts in
     subst (IsAtRest (with_due dues.Nothing c) s left next) (sym o.held) still
 
 -- what is told moves the script on
@@ -188,11 +192,11 @@ heard_all sent_now heard_now m h s r to =
     (subst (λ l. All (λ m. IsTrue (is_heard l m)) (m ∷ [])) (sym r) (All-cons (λ m. IsTrue (is_heard (h ∷ []) m)) m [] here (All-nil _)))
 
 -- a write that was told to be written
-written_by : (txn : Option Transaction) (c : Coordination) (s : RangeState) (ahead : List Call) (k : Known) (h : Heard) (number ts : ℕ) (x : Transaction) → txn ≡ Some x → x.id ≡ first_txn → h.number ≡ number → h.reply ≡ replies.Written ts
+written_by : (txn : Option Transaction) (c : Coordination) (s : RangeState) (ahead : List Call) (k : Known) (h : Heard) (number ts : ℕ) (x : Transaction) → txn ≡ Some x → x.id ≡ first_txn → x.has_read ≡ false → h.number ≡ number → h.reply ≡ replies.Written ts
     → is_put h.request ≡ true → IsOneSent waits.Put number k → Each PutsOrCommits ahead → IsUndecided s k
     → IsNext (with_due (dues.Tell answers.Written) (with_raise ts (record c { txn = txn }))) s ahead (heard h k) None
-written_by None c s ahead k h number ts x held first to is put one ahead_puts u = absurd cc
-written_by (Some y) c s ahead k h number ts x held first to is put one ahead_puts u =
+written_by None c s ahead k h number ts x held first unread to is put one ahead_puts u = absurd cc
+written_by (Some y) c s ahead k h number ts x held first unread to is put one ahead_puts u =
     let same : y ≡ x = cc in
     record {
       now = (
@@ -202,6 +206,7 @@ written_by (Some y) c s ahead k h number ts x held first to is put one ahead_put
           first = ap (λ (z : Transaction). z.id) same ∙ first;
           undecided = record { intents = u.intents; table = u.table; heard = each-append (λ (h : Heard). is_put h.request ≡ true) k.heard (h ∷ []) u.heard (put, tt) };
           calls = ahead_puts;
+          unread = ap (λ (z : Transaction). z.has_read) same ∙ unread;
         },
         record {
           m = one.m;
@@ -231,16 +236,17 @@ put_awaited : (request : Request) → IsAwaited waits.Put request → is_put req
 put_awaited (requests.Put meta seq ts key value) is = refl
 put_awaited request is = absurd is
 
-heard_by : (wait : Wait) (reply : Reply) (c : Coordination) (s : RangeState) (ahead : List Call) (k : Known) (h : Heard) (number : ℕ) (x : Transaction) → IsGoodReply wait reply → c.txn ≡ Some x → x.id ≡ first_txn
+heard_by : (wait : Wait) (reply : Reply) (c : Coordination) (s : RangeState) (ahead : List Call) (k : Known) (h : Heard) (number : ℕ) (x : Transaction) → IsGoodReply wait reply → c.txn ≡ Some x → x.id ≡ first_txn → x.has_read ≡ false
     → h.number ≡ number → h.reply ≡ reply → (one : IsOneSent wait number k) → h.request ≡ one.m.request → Each PutsOrCommits ahead → (wait ≡ waits.Put → IsUndecided s k)
     → IsNext (after_reply wait reply (with_heard reply c)) s ahead (heard h k) None
-heard_by waits.Put (replies.Written ts) c s ahead k h number x good held first to is one said ahead_puts u =
-    written_by c.txn (with_heard (replies.Written ts) c) s ahead k h number ts x held first to is (put_awaited h.request (subst (IsAwaited waits.Put) (sym said) one.kind)) one ahead_puts (u refl)
-heard_by waits.Put reply c s ahead k h number x good held first to is one said ahead_puts u = absurd good
-heard_by (waits.Commit ts refusals) (replies.Status (views.Committed epoch at locks)) c s ahead k h number x good held first to is one said ahead_puts u =
+heard_by waits.Put (replies.Written ts) c s ahead k h number x good held first unread to is one said ahead_puts u =
+    written_by c.txn (with_heard (replies.Written ts) c) s ahead k h number ts x held first unread to is (put_awaited h.request (subst (IsAwaited waits.Put) (sym said) one.kind)) one ahead_puts (u refl)
+heard_by waits.Put reply c s ahead k h number x good held first unread to is one said ahead_puts u = absurd good
+heard_by (waits.Commit ts refusals) (replies.Status (views.Committed epoch at locks)) c s ahead k h number x good held first unread to is one said ahead_puts u =
     committed_by c.txn (with_heard (replies.Status (views.Committed epoch at locks)) c) s ahead k h number at (waits.Commit ts refusals) x held to one
-heard_by (waits.Commit ts refusals) (replies.Status view) c s ahead k h number x good held first to is one said ahead_puts u = absurd good
-heard_by (waits.Commit ts refusals) reply c s ahead k h number x good held first to is one said ahead_puts u = absurd good
+heard_by (waits.Commit ts refusals) (replies.Status view) c s ahead k h number x good held first unread to is one said ahead_puts u = absurd good
+heard_by (waits.Commit ts refusals) reply c s ahead k h number x good held first unread to is one said ahead_puts u = absurd good
+heard_by waits.Abort reply c s ahead k h number x good held first unread to is one said ahead_puts u = absurd good
 
 -- after a reply was heard
 pub heard_next : (c d : Coordination) (s : RangeState) (ahead : List Call) (k : Known) (number step : ℕ) (request : Request) (reply : Reply) (ready : IsToHear c s ahead k number reply) → request ≡ ready.one.m.request
@@ -248,4 +254,4 @@ pub heard_next : (c d : Coordination) (s : RangeState) (ahead : List Call) (k : 
 heard_next c d s ahead k number step request reply ready said made =
     let h : Heard = record { number = number; request = request; reply = reply; step = step } in
     subst (λ (d : Coordination). IsNext d s ahead (heard h k) None) (sym made)
-    (heard_by ready.wait reply c s ahead k h number ready.x ready.good ready.held ready.first refl refl ready.one said ready.calls ready.undecided)
+    (heard_by ready.wait reply c s ahead k h number ready.x ready.good ready.held ready.first ready.unread refl refl ready.one said ready.calls ready.undecided)

@@ -1,8 +1,7 @@
 -- The runner before its first step, and at the end of its script.
-use Rattle.std.proofs.Common.{◌≡◌, ℕ, ◌+◌, ◌-◌, ◌*◌, ◌<◌, ◌≤◌, ◌^◌, Bool, true, false, All, List, [], ◌∷◌, ◌++◌, length, slice_get, zero, suc, Option, Some, None, IsSome, IsSomeAnd, IfOk, Result, Ok, Err, inl, inr, refl, sym, ap, subst, ◌∙◌, arith}
+use Rattle.std.proofs.Common.{◌≡◌, ℕ, ◌-◌, ◌≤◌, Bool, true, false, All, List, [], ◌∷◌, ◌++◌, length, slice_get, zero, suc, Option, Some, None, IsSome, IsSomeAnd, IfOk, Result, Ok, Err, inl, inr, refl, sym, ap, subst, ◌∙◌, arith}
 use Rattle.std.proofs.lemmas.List.Elements.{All-head, All-nil, All-tail, All-weaker}
 use Rattle.std.specs.List.{AllByRecursion as Each, flat_map}
-use Rattle.pc_base.specs.declared.actor.ActorId.{ActorId}
 use Rattle.pc_base.specs.declared.actor.ActorId.TheVariants as actors
 use Rattle.pc_base.specs.declared.entry.Entry.{Entry}
 use Rattle.pc_base.specs.declared.transaction.Priority.{Priority}
@@ -38,7 +37,7 @@ use Rattle.pc_world.specs.Run.{IsRun, protocol}
 use Rattle.pc_runner.specs.Due.{IsAtRest, IsDue, IsDueAt, IsFresh, IsTied, PutsOrCommits}
 use Rattle.pc_runner.specs.Following.{StandsBy}
 use Rattle.pc_runner.specs.Follows.{Follows, FollowsAlone}
-use Rattle.pc_runner.specs.Follows.Script.{Position, calls_of, end_call, next_call, opened, statement_calls}
+use Rattle.pc_runner.specs.Follows.Script.{Position, next_call, opened, statement_calls}
 use Rattle.pc_runner.specs.Follows.Wire.{evaluations}
 use Rattle.pc_runner.specs.History.{History, head_of, known_by}
 use Rattle.pc_runner.specs.Keeping.{AreDelivered, IsClockOf, IsNumbered, IsStatedBy, KeepsSoFar, evaluated, own_by}
@@ -47,6 +46,7 @@ use Rattle.pc_runner.specs.Turns.{IsWhole}
 waiting : (k : Known) (txn : Option Transaction) (number : ℕ) (wait : Wait) → AwaitsReply k txn number wait → k.statement ≡ None → ⊥
 waiting k txn number waits.Put a none = let e = sym a.call ∙ none in cc
 waiting k txn number (waits.Commit ts refusals) a none = let e = sym a.call ∙ none in cc
+waiting k txn number waits.Abort a none = let e = sym a.call ∙ none in cc
 
 nothing_due : (c : Coordination) (k : Known) (due : Due) → KnowsAt c k due → k.statement ≡ None → due ≡ dues.Nothing
 nothing_due c k dues.Nothing h none = refl
@@ -54,6 +54,7 @@ nothing_due c k dues.Stuck h none = let e = sym h.opened ∙ none in absurd cc
 nothing_due c k (dues.Send request wait) h none =
     absurd (waiting (learned (events.Send (next_number k) 0 request) k) c.txn (next_number k) wait (h.after 0).reply none)
 nothing_due c k (dues.Hear number wait) h none = absurd (waiting k c.txn number wait h.reply none)
+nothing_due c k (dues.Read messages) h none = let e = sym h.reads.opened ∙ none in absurd cc
 nothing_due c k (dues.Tell answer) h none = let e = sym h.0.opened ∙ none in absurd cc
 
 -- a coordinator of which nothing is known has nothing due

@@ -1,12 +1,12 @@
 -- What an entry needs so that it may follow a run.
-use Rattle.std.proofs.Common.{◌≡◌, ℕ, ◌+◌, ◌<◌, ◌≤◌, ◌^◌, Bool, true, ◌&&◌, ◌==◌, List, [], ◌∷◌, ◌++◌, length, Contains, Any, Option, Some, None, refl, sym, ap, subst, ◌∙◌, arith, length-append}
+use Rattle.std.proofs.Common.{◌≡◌, ℕ, ◌+◌, ◌<◌, ◌^◌, Bool, true, ◌&&◌, ◌==◌, List, [], ◌∷◌, ◌++◌, length, Contains, Any, Option, Some, refl, sym, ap, subst, ◌∙◌, arith, length-append}
 use Rattle.pc_base.specs.declared.actor.ActorId.{ActorId}
 use Rattle.pc_base.specs.declared.actor.ActorId.TheVariants as actors
 use Rattle.pc_base.specs.declared.entry.Entry.{Entry}
-use Rattle.pc_history.proofs.Histories.{named-none, named-one}
+use Rattle.pc_history.proofs.Histories.{named-one}
 use Rattle.pc_history.proofs.Ids.{same_id-equal}
 use Rattle.pc_history.specs.History.{MayFollow}
-use Rattle.pc_history.specs.Own.{named_in, own, same_id}
+use Rattle.pc_history.specs.Own.{named_in, same_id}
 use Rattle.pc_proto.specs.declared.answer.Answer.{Answer}
 use Rattle.pc_proto.specs.declared.call.Call.{Call}
 use Rattle.pc_proto.specs.declared.event.Event.{Event}
@@ -15,13 +15,11 @@ use Rattle.pc_proto.specs.declared.reply.Reply.{Reply}
 use Rattle.pc_proto.specs.declared.request.Request.{Request}
 use Rattle.pc_world.proofs.Knowing.{run_push}
 use Rattle.pc_world.proofs.World.{names_one}
-use Rattle.pc_world.specs.Caused.{IsEvalOf, IsSendTo, SendsTo, Evaluates}
-use Rattle.pc_world.specs.Evaluation.{reply}
-use Rattle.pc_world.specs.Local.{Head, IsActorOf, IsAnswer, IsLocal, MayAsk, MayHear}
+use Rattle.pc_world.specs.Caused.{IsEvalOf, SendsTo, Evaluates}
+use Rattle.pc_world.specs.Local.{Head, IsActorOf, IsAnswer, MayAsk, MayHear}
 use Rattle.pc_world.specs.MaySend.{MaySend}
 use Rattle.pc_world.specs.MayTell.{MayTell}
 use Rattle.pc_world.specs.Named.{is_eval, is_send_of, request_in, request_named}
-use Rattle.pc_world.specs.RangeState.{RangeState}
 use Rattle.pc_world.specs.Run.{IsRun, protocol}
 use Rattle.pc_runner.specs.History.{History, IsRunSoFar, known_by, state_in}
 use Rattle.pc_runner.specs.Journal.{AnswersNow, HasOneMore, IsAnswered, next_entry}

@@ -1,17 +1,16 @@
 -- What a range answers while its intents are of one transaction and that has no record.
-use Rattle.std.proofs.Common.{◌≡◌, ℕ, Bool, true, false, not, ◌==◌, if◌then◌else◌, cond, List, [], ◌∷◌, Option, Some, None, IfSome, refl, sym, ap, subst, ◌∙◌}
+use Rattle.std.proofs.Common.{◌≡◌, ℕ, Bool, true, false, not, ◌==◌, if◌then◌else◌, List, Option, Some, None, IfSome, refl, sym, ap, subst, ◌∙◌}
 use Rattle.std.proofs.lemmas.Bool.{eqb-true}
 use Rattle.std.specs.List.{AllByRecursion as Each}
 use Rattle.pc_base.specs.declared.transaction.TxnId.{TxnId}
 use Rattle.pc_base.specs.Span.{same_key}
 use Rattle.pc_base.specs.Transaction.{same_txn}
 use Rattle.pc_coord.proofs.Same.{same_txn-self}
-use Rattle.pc_coord.specs.Coordination.{Coordination, next_of, waits_for}
+use Rattle.pc_coord.specs.Coordination.{Coordination, waits_for}
 use Rattle.pc_coord.specs.declared.due.Due.{Due}
 use Rattle.pc_coord.specs.declared.due.Due.TheVariants as dues
 use Rattle.pc_coord.specs.declared.due.Wait.{Wait}
 use Rattle.pc_coord.specs.declared.due.Wait.TheVariants as waits
-use Rattle.pc_coord.specs.declared.next.Next.TheVariants as nexts
 use Rattle.pc_proto.specs.declared.call.Call.{Call}
 use Rattle.pc_proto.specs.declared.meta.TxnMeta.{TxnMeta}
 use Rattle.pc_proto.specs.declared.record.Intent.{Intent}
@@ -22,12 +21,12 @@ use Rattle.pc_proto.specs.Intents.{fresh, grown, intent_at, kept_if, other_at, o
 use Rattle.pc_proto.specs.RecordRows.{record_reply}
 use Rattle.pc_proto.specs.Table.{Table, no_table}
 use Rattle.pc_world.proofs.Each.{each-at, each-set_at}
-use Rattle.pc_world.specs.Evaluation.{intents_after, reply, state_after}
+use Rattle.pc_world.specs.Evaluation.{reply, state_after}
 use Rattle.pc_world.specs.Evaluation.IntentChange.{intents_with}
 use Rattle.pc_world.specs.Evaluation.Put.{PutOutcome, Lands, Meets, Stands, first_outcome, laid, own_outcome, overtaken, put_change, put_outcome, put_reply, write_ts}
 use Rattle.pc_world.specs.Known.{Known}
 use Rattle.pc_world.specs.RangeState.{RangeState}
-use Rattle.pc_runner.specs.Due.{IsAwaited, IsDue, IsDueAt, IsGoodReply, IsOneSent, IsOpen, IsTied, IsToHear, IsUndecided, first_txn}
+use Rattle.pc_runner.specs.Due.{IsAwaited, IsDue, IsDueAt, IsGoodReply, IsOneSent, IsTied, IsToHear, IsUndecided, first_txn}
 use Rattle.pc_runner.specs.Follows.Script.{Position}
 
 -- The intent is the first transaction's.
@@ -111,6 +110,7 @@ good waits.Put (requests.Put meta seq ts key value) s k first u = good_write key
 good (waits.Commit at refusals) (requests.Commit meta ts locks) s k first u = committed_nothing meta ts locks s.table at refusals u.table
 good waits.Put request s k first u = absurd first
 good (waits.Commit at refusals) request s k first u = absurd first
+good waits.Abort request s k first u = absurd first
 
 to_hear : (due : Due) (c : Coordination) (s : RangeState) (ahead : List Call) (k : Known) (number : ℕ) (request : Request) → c.due ≡ due → IsDue c s ahead k due → IsTied due (Some request) → waits_for number due ≡ true
     → IsToHear c (state_after request s) ahead k number (reply request s)
@@ -127,8 +127,10 @@ to_hear (dues.Hear awaited wait) c s ahead k number request is d tied waits =
       held = d.0.held;
       first = d.0.first;
       calls = d.0.calls;
+      unread = d.0.unread;
       undecided = λ put. put_undecided request s k (subst (λ w. IsAwaited w request) put kind) d.0.undecided;
     }
+to_hear (dues.Read messages) c s ahead k number request is d tied waits = absurd d
 to_hear due c s ahead k number request is d tied waits = absurd cc
 
 -- once the message that waits was evaluated, its reply is ready to be heard

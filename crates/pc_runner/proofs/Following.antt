@@ -1,13 +1,12 @@
 -- What each step makes of a runner that follows its session.
-use Rattle.std.proofs.Common.{◌≡◌, ◌≢◌, ℕ, ◌+◌, ◌<◌, ◌≤◌, ◌^◌, Bool, true, false, ◌==◌, not, All, Contains, List, [], ◌∷◌, ◌++◌, length, Option, Some, None, Result, Ok, Err, OnOk, refl, sym, ap, subst, ◌∙◌, arith, length-append}
+use Rattle.std.proofs.Common.{◌≡◌, ◌≢◌, ℕ, ◌+◌, ◌<◌, ◌≤◌, true, false, ◌==◌, not, All, Contains, List, [], ◌∷◌, ◌++◌, length, Option, Some, None, refl, sym, ap, subst, ◌∙◌, arith, length-append}
 use Rattle.std.proofs.lemmas.List.{append-nil}
 use Rattle.std.proofs.lemmas.List.Elements.{All-weaker, Contains-append_left, Contains-append_right}
-use Rattle.std.proofs.lemmas.List.Folds.{list_any_none, list_any-append}
+use Rattle.std.proofs.lemmas.List.Folds.{list_any_none}
 use Rattle.std.specs.List.{list_any}
 use Rattle.pc_base.specs.declared.actor.ActorId.{ActorId}
 use Rattle.pc_base.specs.declared.actor.ActorId.TheVariants as actors
 use Rattle.pc_base.specs.declared.entry.Entry.{Entry}
-use Rattle.pc_base.specs.Timestamp.{greatest}
 use Rattle.pc_coord.specs.Coordination.{Coordination, next_of, waits_for}
 use Rattle.pc_coord.specs.declared.due.Due.{Due}
 use Rattle.pc_coord.specs.declared.due.Due.TheVariants as dues
@@ -16,11 +15,11 @@ use Rattle.pc_coord.specs.declared.due.Wait.TheVariants as waits
 use Rattle.pc_coord.specs.declared.next.Next.TheVariants as nexts
 use Rattle.pc_coord.specs.declared.transaction.Transaction.{Transaction}
 use Rattle.pc_coord.specs.Events.{IsAsked, IsHeard, IsSent, IsTold}
-use Rattle.pc_coord.specs.Knows.{Awaits, AwaitsReply, IsCounted, IsLastSent, IsSendable, Knows, KnowsAt, Rests, learned}
+use Rattle.pc_coord.specs.Knows.{AwaitsReply, IsLastSent, IsSendable, Knows, KnowsAt}
 use Rattle.pc_history.proofs.Histories.{named-none}
 use Rattle.pc_history.proofs.Lists.{contains_head}
 use Rattle.pc_history.specs.declared.pair.Pair.{Pair}
-use Rattle.pc_history.specs.Own.{named_in, own, pair}
+use Rattle.pc_history.specs.Own.{named_in, pair}
 use Rattle.pc_proto.specs.declared.answer.Answer.{Answer}
 use Rattle.pc_proto.specs.declared.call.Call.{Call}
 use Rattle.pc_proto.specs.declared.event.Event.{Event}
@@ -28,26 +27,25 @@ use Rattle.pc_proto.specs.declared.event.Event.TheVariants as events
 use Rattle.pc_proto.specs.declared.reply.Reply.{Reply}
 use Rattle.pc_proto.specs.declared.request.Request.{Request}
 use Rattle.pc_proto.specs.declared.request.Request.TheVariants as requests
-use Rattle.pc_world.proofs.Kept.{run_has_room, run_top}
+use Rattle.pc_world.proofs.Kept.{run_has_room}
 use Rattle.pc_world.proofs.Knowing.{known_other, known_same, state_other, state_same}
 use Rattle.pc_world.specs.Evaluation.{reply, state_after}
-use Rattle.pc_world.specs.Known.{Known, known, learn, next_number, nothing_known}
-use Rattle.pc_world.specs.Known.Statements.{Statement}
+use Rattle.pc_world.specs.Known.{Known, learn, nothing_known}
 use Rattle.pc_world.specs.Known.Traffic.{Heard, Sent, sent_by}
-use Rattle.pc_world.specs.Local.{Head, IsActorOf, MayAsk, MayHear, is_outside, is_round}
+use Rattle.pc_world.specs.Local.{IsActorOf, MayAsk, MayHear, is_outside, is_round}
 use Rattle.pc_world.specs.MaySend.{MaySend, MaySendRow}
 use Rattle.pc_world.specs.MayTell.{MayTell}
 use Rattle.pc_world.specs.Named.{request_in, request_named}
 use Rattle.pc_world.specs.PutsAndCommits.{IsPutOrCommit}
 use Rattle.pc_world.specs.RangeOf.{GoesTo}
 use Rattle.pc_world.specs.RangeState.{RangeState, no_state}
-use Rattle.pc_world.specs.Run.{IsRun, clock_end, protocol}
+use Rattle.pc_world.specs.Run.{protocol}
 use Rattle.pc_world.specs.Stamps.{HasRoom}
 use Rattle.pc_world.specs.StateOf.{state_with}
 use Rattle.pc_runner.proofs.Entering.{eval_names, hear_names}
 use Rattle.pc_runner.specs.Following.{StandsBy, IsLast, IsWaiting}
-use Rattle.pc_runner.specs.History.{History, IsRunSoFar, head_of, known_by, state_in}
-use Rattle.pc_runner.specs.Journal.{AnswersNow, HasOneMore, IsAnswered, next_entry, with_entry}
+use Rattle.pc_runner.specs.History.{History, head_of, known_by, state_in}
+use Rattle.pc_runner.specs.Journal.{AnswersNow, HasOneMore, IsAnswered, next_entry}
 
 abbrev pub me : ActorId
 me = actors.Session 1
@@ -146,6 +144,7 @@ Last k number = (before : List Sent) × (m : Sent) × IsLastSent k number before
 pub last_waited : (k : Known) (txn : Option Transaction) (number : ℕ) (wait : Wait) → AwaitsReply k txn number wait → Last k number
 last_waited k txn number waits.Put a = (a.before, a.m, a.last)
 last_waited k txn number (waits.Commit ts refusals) a = (a.before, a.m, a.last)
+last_waited k txn number waits.Abort a = (a.before, a.m, a.last)
 
 may_hear : (k : Known) (number : ℕ) (before : List Sent) (m : Sent) → k.sent ≡ before ++ m ∷ [] → m.number ≡ number → All (λ (x : Heard). x.number < number) k.heard → MayHear k number
 may_hear k number before m last is unheard = record {
@@ -156,24 +155,30 @@ may_hear k number before m last is unheard = record {
       ap not none;
 }
 
-heard_next : (c : Coordination) (k : Known) (due : Due) (count : ℕ) (before : List Sent) (m : Sent) → KnowsAt c k due → next_of due ≡ nexts.Wave → k.sent ≡ before ++ m ∷ [] → m.number ≡ count
+-- No messages that read are due.
+abbrev pub ReadsNothing : Due → Type 0
+ReadsNothing (dues.Read messages) = ⊥
+ReadsNothing _ = Unit {0}
+
+heard_next : (c : Coordination) (k : Known) (due : Due) (count : ℕ) (before : List Sent) (m : Sent) → ReadsNothing due → KnowsAt c k due → next_of due ≡ nexts.Wave → k.sent ≡ before ++ m ∷ [] → m.number ≡ count
     → (waits_for count due ≡ true) × MayHear k count
-heard_next c k dues.Nothing count before m stands wave last is = absurd cc
-heard_next c k dues.Stuck count before m stands wave last is = absurd cc
-heard_next c k (dues.Send request wait) count before m stands wave last is = absurd cc
-heard_next c k (dues.Tell answer) count before m stands wave last is = absurd cc
-heard_next c k (dues.Hear number wait) count before m stands wave last is =
+heard_next c k dues.Nothing count before m none stands wave last is = absurd cc
+heard_next c k dues.Stuck count before m none stands wave last is = absurd cc
+heard_next c k (dues.Send request wait) count before m none stands wave last is = absurd cc
+heard_next c k (dues.Tell answer) count before m none stands wave last is = absurd cc
+heard_next c k (dues.Read messages) count before m none stands wave last is = absurd none
+heard_next c k (dues.Hear number wait) count before m none stands wave last is =
     let l = last_waited k c.txn number wait stands.reply in
     let same : l.1 ≡ m = same_last l.0 before l.1 m (sym l.2.sent ∙ last) in
     let at : number ≡ count = sym l.2.numbered ∙ (ap (λ (x : Sent). x.number) same ∙ is) in
     (same-number number count at, may_hear k count before m last is (subst (λ n. All (λ (x : Heard). x.number < n) k.heard) at l.2.unheard))
 
 -- The reply that is waited for is that to the last message.
-pub waited : (c : Coordination) (s : RangeState) (count : ℕ) (request : Request) (h : History) → StandsBy c s count (Some request) h → next_of c.due ≡ nexts.Wave
+pub waited : (c : Coordination) (s : RangeState) (count : ℕ) (request : Request) (h : History) → ReadsNothing c.due → StandsBy c s count (Some request) h → next_of c.due ≡ nexts.Wave
     → (waits_for count c.due ≡ true) × MayHear (known_by 1 h) count
-waited c s count request h f wave =
+waited c s count request h none f wave =
     let w : IsLast request count h = f.waiting in
-    heard_next c (known_by 1 h) c.due count w.before (record { number = count; range = 0; request = request }) f.knows.stands wave w.last refl
+    heard_next c (known_by 1 h) c.due count w.before (record { number = count; range = 0; request = request }) none f.knows.stands wave w.last refl
 
 pub known_kept : (h g : History) (place count : ℕ) (said : Reply) → HasOneMore place h g it (events.Eval me count said) → known_by 1 g ≡ known_by 1 h
 known_kept h g place count said more = ap (known_by 1) more.behind ∙ known_other h.head me h.entries (next_entry h it (events.Eval me count said)) range_no_session
@@ -214,13 +219,13 @@ goes (requests.Commit meta ts locks) kind = refl
 goes _ kind = absurd kind
 
 pub may_send : (c : Coordination) (s : RangeState) (count number : ℕ) (u : Option Request) (h : History) (request : Request)
-    → StandsBy c s count u h → IsSendable c.splits c.session (known_by 1 h) request → number ≡ count + 1
+    → IsPutOrCommit request → StandsBy c s count u h → IsSendable c.splits c.session (known_by 1 h) request → number ≡ count + 1
     → MaySend h.head.splits me (known_by 1 h) number 0 request
-may_send c s count number u h request f may next =
+may_send c s count number u h request kind f may next =
     let row : MaySendRow c.splits me (known_by 1 h) request = subst (λ n. MaySendRow c.splits (actors.Session n) (known_by 1 h) request) f.session may.row in
     record {
       next = next ∙ ap (λ n. n + 1) f.counted;
-      there = subst (λ splits. GoesTo splits request 0) (sym f.one_range) (goes request may.kind);
+      there = subst (λ splits. GoesTo splits request 0) (sym f.one_range) (goes request kind);
       stamps = may.stamps;
       row = subst (λ splits. MaySendRow splits me (known_by 1 h) request) f.splits row;
     }
@@ -329,9 +334,9 @@ pub served_now : (c : Coordination) (s t : RangeState) (count : ℕ) (request : 
 served_now c s t count request h g place said f is more = subst (λ x. StandsBy c x count None g) (sym is) (served c s count request h g place said f more)
 
 pub may_hear_now : (c : Coordination) (s : RangeState) (count : ℕ) (request : Request) (h g : History) (place : ℕ) (said : Reply)
-    → StandsBy c s count (Some request) h → next_of c.due ≡ nexts.Wave → HasOneMore place h g it (events.Eval me count said) → MayHear (known_by 1 g) count
-may_hear_now c s count request h g place said f wave more =
-    subst (λ k. MayHear k count) (sym (known_kept h g place count said more)) (waited c s count request h f wave).1
+    → ReadsNothing c.due → StandsBy c s count (Some request) h → next_of c.due ≡ nexts.Wave → HasOneMore place h g it (events.Eval me count said) → MayHear (known_by 1 g) count
+may_hear_now c s count request h g place said none f wave more =
+    subst (λ k. MayHear k count) (sym (known_kept h g place count said more)) (waited c s count request h none f wave).1
 
 pub begun_now : (c : Coordination) (s : RangeState) (h : History) (splits : List (List ℕ)) (sessions count : ℕ) → Knows c nothing_known → c.session ≡ 1 → c.splits ≡ splits → s ≡ no_state
     → h ≡ record { head = head_of splits sessions; entries = [] } → splits ≡ [] → sessions ≡ count → count ≡ 1 → StandsBy c s 0 None h

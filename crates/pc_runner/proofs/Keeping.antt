@@ -1,40 +1,36 @@
 -- What one more entry adds to how far the runner's history follows its workload.
-use Rattle.std.proofs.Common.{◌≡◌, ◌≢◌, ℕ, ◌+◌, ◌-◌, ◌*◌, ◌<◌, ◌≤◌, ◌^◌, Bool, true, false, cond, ◌&&◌, ◌==◌, All, IsTrue, List, [], ◌∷◌, ◌++◌, length, slice_get, Option, Some, None, min, refl, sym, ap, subst, ◌∙◌, arith, length-append, count_by, sum_by}
+use Rattle.std.proofs.Common.{◌≡◌, ◌≢◌, ℕ, ◌+◌, ◌-◌, ◌*◌, ◌≤◌, Bool, true, false, cond, ◌==◌, All, List, [], ◌∷◌, ◌++◌, length, Option, Some, None, refl, sym, ap, subst, ◌∙◌, arith, length-append, count_by, sum_by}
 use Rattle.std.proofs.lemmas.Bool.{eq-eqb, eqb-true, ne_eqb}
 use Rattle.std.proofs.lemmas.Grind.{fold-append}
 use Rattle.std.proofs.lemmas.List.{append-nil, append_assoc}
-use Rattle.std.proofs.lemmas.List.Elements.{All-nil, All-push, All-weaker}
+use Rattle.std.proofs.lemmas.List.Elements.{All-push, All-weaker}
 use Rattle.std.proofs.lemmas.List.Sums.{sum_by-append, sum_by-cons}
 use Rattle.pc_base.specs.declared.actor.ActorId.{ActorId}
-use Rattle.pc_base.specs.declared.actor.ActorId.TheVariants as actors
 use Rattle.pc_base.specs.declared.entry.Entry.{Entry}
 use Rattle.pc_history.proofs.Histories.{own-push_other, own-push_same}
 use Rattle.pc_history.specs.declared.pair.Pair.{Pair}
-use Rattle.pc_history.specs.Own.{named_in, pair}
-use Rattle.pc_proto.specs.declared.answer.Answer.{Answer}
-use Rattle.pc_proto.specs.declared.call.Call.{Call}
+use Rattle.pc_history.specs.Own.{named_in}
 use Rattle.pc_proto.specs.declared.event.Event.{Event}
 use Rattle.pc_proto.specs.declared.event.Event.TheVariants as events
 use Rattle.pc_proto.specs.declared.reply.Reply.{Reply}
 use Rattle.pc_proto.specs.declared.request.Request.{Request}
-use Rattle.pc_session.specs.Counts.{raised}
-use Rattle.pc_session.specs.Stepped.{SteppedState, stepped_rule}
+use Rattle.pc_session.specs.Stepped.{SteppedState}
 use Rattle.pc_work.specs.declared.item.Item.{Item}
 use Rattle.pc_work.specs.declared.session.SessionWork.{SessionWork}
 use Rattle.pc_work.specs.declared.workload.Workload.{Workload}
 use Rattle.pc_world.specs.Known.{Known}
-use Rattle.pc_world.specs.Known.Statements.{Statement, statement_after}
-use Rattle.pc_world.specs.Known.Traffic.{Heard, Sent, heard_by, sent_by}
-use Rattle.pc_world.specs.PutsAndCommits.{IsPutOrCommit, OnlyPutsAndCommits, SendsPutOrCommit}
+use Rattle.pc_world.specs.Known.Statements.{statement_after}
+use Rattle.pc_world.specs.Known.Traffic.{Heard, Sent, heard_by}
+use Rattle.pc_world.specs.PutsAndCommits.{OnlyPutsAndCommits, SendsPutOrCommit}
 use Rattle.pc_world.specs.Run.{protocol}
 use Rattle.pc_runner.proofs.Following.{it, known_kept, knows_next, me, next_pair, range_no_session}
 use Rattle.pc_runner.specs.Follows.{EachAfter, KeepsStep, KeepsWork}
-use Rattle.pc_runner.specs.Follows.Clocks.{ReadsClock, asks_in, clock_rule, is_ask}
+use Rattle.pc_runner.specs.Follows.Clocks.{asks_in, clock_rule, is_ask}
 use Rattle.pc_runner.specs.Follows.Script.{Position, moved, opened, position}
 use Rattle.pc_runner.specs.Follows.Wire.{evaluates, evaluations}
 use Rattle.pc_runner.specs.History.{History, known_by}
 use Rattle.pc_runner.specs.Journal.{HasOneMore, next_entry}
-use Rattle.pc_runner.specs.Keeping.{AreDelivered, IsClockOf, IsNumbered, IsStatedBy, KeepsSoFar, evaluated, open_calls, own_by}
+use Rattle.pc_runner.specs.Keeping.{AreDelivered, IsClockOf, IsNumbered, KeepsSoFar, evaluated, open_calls, own_by}
 
 -- one more that is so, after those before it
 pub each_after-push : (P : List (Pair Event) → Pair Event → Type 0) (before xs : List (Pair Event)) (p : Pair Event) → EachAfter P before xs → P (before ++ xs) p → EachAfter P before (xs ++ p ∷ [])

@@ -1,7 +1,6 @@
 -- Each step of the runner leaves it following its workload.
-use Rattle.std.proofs.Common.{◌≡◌, ◌≢◌, ℕ, ◌+◌, ◌-◌, ◌*◌, ◌<◌, ◌≤◌, ◌^◌, Bool, true, false, cond, ◌&&◌, ◌==◌, All, IsTrue, List, [], ◌∷◌, ◌++◌, length, slice_get, Option, Some, None, min, inl, inr, refl, sym, ap, subst, ◌∙◌, arith, length-append}
+use Rattle.std.proofs.Common.{find, ◌≡◌, ℕ, ◌+◌, ◌-◌, ◌≤◌, true, false, IsTrue, List, [], ◌∷◌, length, slice_get, Option, Some, None, inl, inr, refl, sym, ap, subst, ◌∙◌, arith, length-append}
 use Rattle.std.proofs.lemmas.Bool.{eq-eqb}
-use Rattle.std.proofs.lemmas.List.{append-nil}
 use Rattle.std.specs.List.{AllByRecursion as Each}
 use Rattle.pc_base.specs.declared.actor.ActorId.TheVariants as actors
 use Rattle.pc_coord.proofs.Learned.{learn_own, request_of}
@@ -14,10 +13,12 @@ use Rattle.pc_coord.specs.declared.due.Due.{Due}
 use Rattle.pc_coord.specs.declared.due.Due.TheVariants as dues
 use Rattle.pc_coord.specs.declared.due.Wait.{Wait}
 use Rattle.pc_coord.specs.declared.due.Wait.TheVariants as waits
+use Rattle.pc_coord.specs.declared.messages.Message.{Message}
 use Rattle.pc_coord.specs.declared.next.Next.TheVariants as nexts
+use Rattle.pc_coord.specs.Messages.{is_unsent, next_by}
 use Rattle.pc_coord.specs.declared.transaction.Transaction.{Transaction}
 use Rattle.pc_coord.specs.Events.{IsHeard, IsOf}
-use Rattle.pc_coord.specs.Knows.{Awaits, AwaitsReply, IsHeld, IsLastSent, IsSendable, Knows, KnowsAt}
+use Rattle.pc_coord.specs.Knows.{AwaitsReply, IsHeld, IsLastSent, Knows, KnowsAt}
 use Rattle.pc_history.proofs.Histories.{named-none}
 use Rattle.pc_history.specs.Own.{named_in}
 use Rattle.pc_proto.specs.declared.answer.Answer.{Answer}
@@ -27,13 +28,13 @@ use Rattle.pc_proto.specs.declared.event.Event.{Event}
 use Rattle.pc_proto.specs.declared.event.Event.TheVariants as events
 use Rattle.pc_proto.specs.declared.reply.Reply.{Reply}
 use Rattle.pc_proto.specs.declared.request.Request.{Request}
+use Rattle.pc_proto.specs.declared.request.Request.TheVariants as requests
 use Rattle.pc_session.specs.Counts.{raised}
 use Rattle.pc_session.specs.Stepped.{SteppedState, stepped_rule}
-use Rattle.pc_work.specs.Built.{IsBuilt}
 use Rattle.pc_work.specs.declared.session.SessionWork.{SessionWork}
 use Rattle.pc_work.specs.declared.workload.Workload.{Workload}
 use Rattle.pc_world.specs.Known.{Known}
-use Rattle.pc_world.specs.Known.Statements.{Statement, statement_after}
+use Rattle.pc_world.specs.Known.Statements.{Statement}
 use Rattle.pc_world.specs.Known.Traffic.{Heard, Sent, heard_as, reply_in, reply_named, request_sent}
 use Rattle.pc_world.specs.Local.{is_outside, is_round}
 use Rattle.pc_world.specs.MayTell.{MayTell}
@@ -42,17 +43,17 @@ use Rattle.pc_world.specs.RangeState.{RangeState}
 use Rattle.pc_world.specs.Run.{protocol}
 use Rattle.pc_runner.proofs.Dues.{asked_next, heard_next, sent_next, told_next}
 use Rattle.pc_runner.proofs.Entering.{hear_names}
-use Rattle.pc_runner.proofs.Following.{knows_next, may_tell, me, next_pair, same_last}
+use Rattle.pc_runner.proofs.Following.{ReadsNothing, knows_next, me, next_pair, same_last}
 use Rattle.pc_runner.proofs.Keeping.{brought, delivered_same, delivered_sent, keeps_on}
 use Rattle.pc_runner.proofs.Steps.{said_by, step_asked, step_heard, step_sent, step_told}
-use Rattle.pc_runner.specs.Due.{IsAtRest, IsBusy, IsDue, IsDueAt, IsNext, IsOneSent, IsOpen, IsSilent, IsTied, IsToHear, IsToTell, PutsOrCommits}
+use Rattle.pc_runner.specs.Due.{IsAtRest, IsAwaited, IsDue, IsDueAt, IsNext, IsOneSent, IsOpen, IsSilent, IsTied, IsToHear, IsToTell, PutsOrCommits}
 use Rattle.pc_runner.specs.Following.{StandsBy}
 use Rattle.pc_runner.specs.Follows.{KeepsStep}
 use Rattle.pc_runner.specs.Follows.Clocks.{clock_rule}
 use Rattle.pc_runner.specs.Follows.Script.{Position, after_told, next_call}
 use Rattle.pc_runner.specs.History.{History, known_by}
 use Rattle.pc_runner.specs.Journal.{HasOneMore, IsAnswered}
-use Rattle.pc_runner.specs.Keeping.{AreDelivered, IsClockOf, KeepsSoFar, evaluated, open_calls}
+use Rattle.pc_runner.specs.Keeping.{AreDelivered, KeepsSoFar, evaluated, open_calls}
 
 module _ (h g : History) (place : ℕ) where
   own_event : (event : Event) → named_in (protocol h.head) h.entries event ≡ None → IsOf event (next_pair h event)
@@ -162,6 +163,7 @@ to_send c s at k u request next is tied = by c.due refl next is.now tied
         let same : said ≡ request = cc in
         let d : IsDue c s at.ahead k (dues.Send request wait) = subst (λ r. IsDue c s at.ahead k (dues.Send r wait)) same now in
         record { wait = wait; due = e ∙ ap (λ r. dues.Send r wait) same; open_now = now.1; silent = now.2; now = d; none = tied }
+    by (dues.Read messages) e next now tied = absurd now
     by due e next now tied = absurd cc
 
 pub sent_due : (c d : Coordination) (s : RangeState) (at : Position) (u : Option Request) (h g : History) (place number : ℕ) (request : Request) (t : IsToSend c s at.ahead (known_by 1 h) u request)
@@ -169,6 +171,23 @@ pub sent_due : (c d : Coordination) (s : RangeState) (at : Position) (u : Option
 sent_due c d s at u h g place number request t more made =
     subst (λ (k : Known). IsNext d s at.ahead k (Some request)) (sym (known_sent h g place number request more))
     (sent_next c d s at.ahead (known_by 1 h) number 0 request t.wait t.now made)
+
+awaited_kind : (wait : Wait) (request : Request) → IsAwaited wait request → IsPutOrCommit request
+awaited_kind waits.Put (requests.Put meta seq ts key value) is = tt
+awaited_kind (waits.Commit at refusals) (requests.Commit meta ts locks) is = tt
+awaited_kind wait request is = absurd is
+
+-- what is due to be sent puts or commits
+pub to_send_kind : (c : Coordination) (s : RangeState) (ahead : List Call) (k : Known) (u : Option Request) (request : Request) → IsToSend c s ahead k u request → IsPutOrCommit request
+to_send_kind c s ahead k u request t = awaited_kind t.wait request t.now.0
+
+reads_none : (c : Coordination) (s : RangeState) (ahead : List Call) (k : Known) (due : Due) → IsDue c s ahead k due → ReadsNothing due
+reads_none c s ahead k (dues.Read messages) is = is
+reads_none c s ahead k due is = tt
+
+-- nothing is read
+pub no_reads : (c : Coordination) (s : RangeState) (at : Position) (k : Known) → IsDueAt c s at k → ReadsNothing c.due
+no_reads c s at k is = reads_none c s at.ahead k c.due is.now
 
 zero-plus : (n : ℕ) → n ≡ n + 0
 zero-plus n = omega arith
@@ -191,8 +210,13 @@ sent_keeps work session at clock c s count u h g place request keeps more t kind
     minus-one n = omega arith
 
 -- what is due after an answer was told
+not_told : (o : Option Message) (answer : Answer) → next_by o ≡ nexts.Tell answer → ⊥
+not_told None answer next = cc
+not_told (Some m) answer next = cc
+
 tell_is : (c : Coordination) (due : Due) (answer : Answer) → next_of due ≡ nexts.Tell answer → due ≡ dues.Tell answer
 tell_is c (dues.Tell said) answer next = let same : said ≡ answer = cc in ap dues.Tell same
+tell_is c (dues.Read messages) answer next = absurd (not_told (find is_unsent messages) answer next)
 tell_is c due answer next = absurd cc
 
 pub told_due : (c d : Coordination) (s : RangeState) (at next : Position) (h g : History) (place : ℕ) (answer : Answer) → IsDueAt c s at (known_by 1 h) → next_of c.due ≡ nexts.Tell answer
@@ -228,10 +252,12 @@ told_keeps work session at next clock c s count u h g place answer keeps f more 
 last_said : (wait : Wait) (k : Known) (txn : Option Transaction) (number : ℕ) (a : AwaitsReply k txn number wait) → (before : List Sent) × (m : Sent) × IsLastSent k number before m × (m.request ≡ said_by wait k txn number a)
 last_said waits.Put k txn number a = (a.before, a.m, a.last, refl)
 last_said (waits.Commit ts refusals) k txn number a = (a.before, a.m, a.last, refl)
+last_said waits.Abort k txn number a = (a.before, a.m, a.last, refl)
 
 one_said : (wait : Wait) (k : Known) (txn : Option Transaction) (number : ℕ) (a : AwaitsReply k txn number wait) (one : IsOneSent wait number k) → said_by wait k txn number a ≡ one.m.request
 one_said waits.Put k txn number a one = ap (λ (m : Sent). m.request) (same_last [] [] a.m one.m (sym a.sent_now ∙ one.sent))
 one_said (waits.Commit ts refusals) k txn number a one = ap (λ (m : Sent). m.request) (same_last a.before_now [] a.m one.m (sym a.sent_now ∙ one.sent))
+one_said waits.Abort k txn number a one = absurd one.kind
 
 module _ (c : Coordination) (s : RangeState) (at : Position) (count step : ℕ) (h g : History) (place : ℕ) (said : Reply) (f : StandsBy c s count None h) (ready : IsToHear c s at.ahead (known_by 1 h) count said)
     (answer : IsAnswered h me count step said) (waited : waits_for count c.due ≡ true) where

@@ -1,13 +1,12 @@
 -- What each event of a session keeps of its workload.
-use Rattle.std.proofs.Common.{◌≡◌, ℕ, ◌≤◌, Bool, true, false, ◌&&◌, ◌||◌, not, ◌==◌, ◌⊎◌, inl, inr, List, [], ◌∷◌, ◌++◌, Option, Some, None, All, Any, Contains, IsTrue, refl, sym, ap, subst, ◌∙◌, arith}
+use Rattle.std.proofs.Common.{◌≡◌, ℕ, Bool, true, false, ◌&&◌, ◌||◌, not, ◌⊎◌, inl, inr, List, [], ◌∷◌, Option, Some, None, All, Any, Contains, IsTrue, refl, sym, ap, subst, ◌∙◌}
 use Rattle.std.proofs.lemmas.List.Elements.{All-cons, All-contains, All-nil, All-weaker}
 use Rattle.std.specs.Bool.{MatchBool}
 use Rattle.std.specs.List.{AllByRecursion as Each, list_any}
-use Rattle.std.specs.Option.{option_map_or}
 use Rattle.pc_base.specs.declared.actor.ActorId.{ActorId}
 use Rattle.pc_base.specs.declared.transaction.TxnId.{TxnId}
 use Rattle.pc_coord.specs.Coordination.{Coordination}
-use Rattle.pc_coord.specs.Knows.{AwaitsReply}
+use Rattle.pc_coord.specs.Knows.{AwaitsReply, write_call}
 use Rattle.pc_coord.specs.declared.due.Wait.{Wait}
 use Rattle.pc_coord.specs.declared.due.Wait.TheVariants as waits
 use Rattle.pc_coord.specs.declared.transaction.Transaction.{Transaction}
@@ -16,27 +15,23 @@ use Rattle.pc_proto.specs.declared.answer.Answer.{Answer}
 use Rattle.pc_proto.specs.declared.answer.Answer.TheVariants as answers
 use Rattle.pc_proto.specs.declared.call.Call.{Call}
 use Rattle.pc_proto.specs.declared.call.Call.TheVariants as calls
-use Rattle.pc_proto.specs.declared.event.Event.{Event}
 use Rattle.pc_proto.specs.declared.event.Event.TheVariants as events
-use Rattle.pc_proto.specs.declared.reply.Reply.{Reply}
 use Rattle.pc_proto.specs.declared.request.Request.{Request}
 use Rattle.pc_proto.specs.declared.request.Request.TheVariants as requests
 use Rattle.pc_world.specs.Follows.EarlyProof.{ProvesNothingEarly, has_staged_now, is_put, is_stage_or_commit}
 use Rattle.pc_world.specs.Follows.EarlyTell.{IsDecided}
-use Rattle.pc_world.specs.Follows.PipelinedPuts.{HearsOnlyItsPuts, IsHeardOf, IsPutWaitedFor, IsToOwnPut, TellsWritten, is_written}
-use Rattle.pc_world.specs.Follows.Resends.{MaySendNow}
-use Rattle.pc_world.specs.Known.{Known, call_in, call_of, open_txn}
+use Rattle.pc_world.specs.Follows.PipelinedPuts.{HearsOnlyItsPuts, IsHeardOf, IsPutWaitedFor, IsToOwnPut, TellsWritten, WaitsFor, is_written}
+use Rattle.pc_world.specs.Known.{Known, call_in, open_txn}
 use Rattle.pc_world.specs.Known.Statements.{Statement}
 use Rattle.pc_world.specs.Known.Traffic.{Heard, Sent}
 use Rattle.pc_world.specs.Known.Transactions.{Txn}
 use Rattle.pc_world.specs.RangeState.{RangeState}
-use Rattle.pc_world.specs.MayTell.{MayTell, MayTellIn, MayTellRow, is_past_range, needs_txn}
+use Rattle.pc_world.specs.MayTell.{MayTell, MayTellIn, is_past_range, needs_txn}
 use Rattle.pc_world.specs.Tell.Data.{IsFirstPut, MayTellWritten}
-use Rattle.pc_world.specs.Tell.End.{shows_staging}
 use Rattle.pc_world.specs.Tell.Refusal.{is_heard}
-use Rattle.pc_world.specs.Views.{is_about, shows_committed}
+use Rattle.pc_world.specs.Views.{is_about}
 use Rattle.pc_runner.proofs.Dues.{heard_all}
-use Rattle.pc_runner.specs.Due.{HeardAll, HeardWritten, IsAwaited, IsOneSent, IsSilent, IsToTell, IsUndecided}
+use Rattle.pc_runner.specs.Due.{HeardAll, HeardWritten, IsAwaited, IsOneSent, IsSilent, IsToTell}
 use Rattle.pc_runner.specs.Follows.{KeepsStep}
 use Rattle.pc_runner.specs.Follows.Script.{Position, next_call}
 use Rattle.pc_runner.specs.Follows.Wire.{HearsAll, MayStayUnheard}
@@ -162,24 +157,36 @@ staged_now k at refusals number one =
 abbrev pub said_by : (wait : Wait) (k : Known) (txn : Option Transaction) (number : ℕ) → AwaitsReply k txn number wait → Request
 said_by waits.Put k txn number a = a.m.request
 said_by (waits.Commit at refusals) k txn number a = a.m.request
+said_by waits.Abort k txn number a = a.m.request
+
+not_commit : (key : List ℕ) (value : Option (List ℕ)) → write_call key value ≡ calls.Commit → ⊥
+not_commit key None e = cc
+not_commit key (Some value) e = cc
+
+waits_write : (k : Known) (key : List ℕ) (value : Option (List ℕ)) → WaitsFor k key (write_call key value)
+waits_write k key None = inl refl
+waits_write k key (Some value) = inl refl
 
 -- a reply to a put is heard in its own call
 early_heard : (wait : Wait) (k : Known) (txn : Option Transaction) (number : ℕ) (h : Heard) → AwaitsReply k txn number wait → IsOneSent wait number k → ProvesNothingEarly k (Some h)
 early_heard waits.Put k txn number h a one = λ asked none.
-    let e : Some (calls.Put a.key a.value) ≡ Some calls.Commit = sym (ap call_in a.call) ∙ asked in
-    absurd cc
+    let e : Some (write_call a.key a.value) ≡ Some calls.Commit = sym (ap call_in a.call) ∙ asked in
+    let same : write_call a.key a.value ≡ calls.Commit = cc in
+    absurd (not_commit a.key a.value same)
 early_heard (waits.Commit at refusals) k txn number h a one = λ asked none.
     let e : true ≡ false = sym (staged_now k at refusals number one) ∙ none in
     absurd cc
+early_heard waits.Abort k txn number h a one = absurd one.kind
 
 puts_heard : (wait : Wait) (k : Known) (txn : Option Transaction) (number : ℕ) (h : Heard) (a : AwaitsReply k txn number wait) → IsOneSent wait number k → h.request ≡ said_by wait k txn number a → HearsOnlyItsPuts k (Some h)
 puts_heard waits.Put k txn number h a one said = λ call asked.
-    let e : Some (calls.Put a.key a.value) ≡ Some call = sym (ap call_in a.call) ∙ asked in
-    let same : calls.Put a.key a.value ≡ call = cc in
+    let e : Some (write_call a.key a.value) ≡ Some call = sym (ap call_in a.call) ∙ asked in
+    let same : write_call a.key a.value ≡ call = cc in
     subst (λ c. IsPutWaitedFor k c h.request) same
-    (subst (IsPutWaitedFor k (calls.Put a.key a.value)) (sym (said ∙ a.said)) (inl refl))
+    (subst (IsPutWaitedFor k (write_call a.key a.value)) (sym (said ∙ a.said)) (waits_write k a.key a.value))
 puts_heard (waits.Commit at refusals) k txn number h a one said = λ call asked.
     subst (IsPutWaitedFor k call) (sym (said ∙ a.said)) tt
+puts_heard waits.Abort k txn number h a one said = absurd one.kind
 
 -- a reply is heard
 pub step_heard : (pipelining : Bool) (rule : ℕ → ℕ → Bool) (asks : ℕ) (at : Position) (k : Known) (txn : Option Transaction) (number step : ℕ) (wait : Wait) (h : Heard) (a : AwaitsReply k txn number wait) → IsOneSent wait number k

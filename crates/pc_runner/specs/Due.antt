@@ -1,5 +1,5 @@
 -- What can be due while one session runs one transaction of puts, and how the script, the range and what is known stand then.
-use Rattle.std.specs.Prelude.{◌≡◌, ℕ, Bool, true, false, ◌⊎◌, Option, None, Some, List, [], ◌∷◌, drop, All, IsTrue, ⊤}
+use Rattle.std.specs.Prelude.{◌≡◌, ℕ, true, false, ◌⊎◌, Option, None, Some, List, [], ◌∷◌, drop, All, IsTrue, ⊤}
 use Rattle.std.specs.List.{AllByRecursion as Each}
 use Rattle.pc_base.specs.declared.transaction.Priority.{Priority}
 use Rattle.pc_base.specs.declared.transaction.TxnId.{TxnId}
@@ -44,13 +44,14 @@ pub record IsUndecided (s : RangeState) (k : Known) : Type 0 where
   pub table : s.table ≡ no_table
   pub heard : Each (λ h. is_put h.request ≡ true) k.heard
 
--- The first transaction is open, and what is ahead of it puts or commits.
+-- The first transaction is open and has not read, and what is ahead of it puts or commits.
 pub record IsOpen (txn : Option Transaction) (s : RangeState) (ahead : List Call) (k : Known) : Type 0 where
   pub x : Transaction
   pub held : txn ≡ Some x
   pub first : x.id ≡ first_txn
   pub undecided : IsUndecided s k
   pub calls : Each PutsOrCommits ahead
+  pub unread : x.has_read ≡ false
 
 -- Nothing has happened yet, and the script begins the first transaction.
 pub record IsFresh (begun : ℕ) (s : RangeState) (ahead : List Call) (k : Known) : Type 0 where
@@ -123,6 +124,7 @@ IsDue c s ahead k dues.Nothing = IsAtRest c s ahead k c.txn
 IsDue c s ahead k dues.Stuck = ⊥
 IsDue c s ahead k (dues.Send request wait) = IsAwaited wait request × IsOpen c.txn s ahead k × IsSilent k
 IsDue c s ahead k (dues.Hear number wait) = IsOpen c.txn s ahead k × IsOneSent wait number k
+IsDue c s ahead k (dues.Read messages) = ⊥
 IsDue c s ahead k (dues.Tell answer) = IsToTell c s ahead k answer
 
 -- The running item is the script's last one, and what is due stands so.
@@ -156,4 +158,5 @@ pub record IsToHear (c : Coordination) (s : RangeState) (ahead : List Call) (k :
   pub held : c.txn ≡ Some x
   pub first : x.id ≡ first_txn
   pub calls : Each PutsOrCommits ahead
+  pub unread : x.has_read ≡ false
   pub undecided : wait ≡ waits.Put → IsUndecided s k

@@ -1,5 +1,5 @@
 -- How the runner of the first session stands beside the history that it makes.
-use Rattle.std.specs.Prelude.{◌≡◌, ℕ, ◌≤◌, ◌^◌, Option, None, Some, List, [], ◌∷◌, ◌++◌, length, slice_get, Contains, ⊤}
+use Rattle.std.specs.Prelude.{◌≡◌, ℕ, ◌≤◌, ◌^◌, Option, None, Some, List, [], ◌∷◌, ◌++◌, length, Contains, ⊤}
 use Rattle.pc_base.specs.declared.actor.ActorId.TheVariants as actors
 use Rattle.pc_base.specs.declared.entry.Entry.{Entry}
 use Rattle.pc_coord.specs.Coordination.{Coordination}
@@ -8,9 +8,6 @@ use Rattle.pc_coord.specs.Knows.{Knows}
 use Rattle.pc_proto.specs.declared.event.Event.{Event}
 use Rattle.pc_proto.specs.declared.event.Event.TheVariants as events
 use Rattle.pc_proto.specs.declared.request.Request.{Request}
-use Rattle.pc_work.specs.Built.{IsBuilt}
-use Rattle.pc_work.specs.declared.session.SessionWork.{SessionWork}
-use Rattle.pc_work.specs.declared.workload.Workload.{Workload}
 use Rattle.pc_world.specs.Known.Traffic.{Sent}
 use Rattle.pc_world.specs.Local.{IsActorOf}
 use Rattle.pc_world.specs.RangeState.{RangeState}
@@ -18,7 +15,7 @@ use Rattle.pc_runner.specs.declared.session.SessionRun.{SessionRun}
 use Rattle.pc_runner.specs.Due.{IsBusy, IsDueAt, IsTied}
 use Rattle.pc_runner.specs.Follows.Script.{next_call}
 use Rattle.pc_runner.specs.History.{History, IsRunSoFar, known_by, state_in}
-use Rattle.pc_runner.specs.Keeping.{IsStatedBy, KeepsSoFar}
+use Rattle.pc_runner.specs.Keeping.{KeepsSoFar}
 
 -- The session's last message has this number, said this and went to the first range; it stands in the history.
 pub record IsLast (request : Request) (count : ℕ) (h : History) : Type 0 where

@@ -1,6 +1,5 @@
 -- A history and its actors, and what each of them has in it.
-use Rattle.std.specs.Prelude.{ℕ, List, []}
-use Rattle.pc_base.specs.declared.actor.ActorId.{ActorId}
+use Rattle.std.specs.Prelude.{ℕ, List}
 use Rattle.pc_base.specs.declared.actor.ActorId.TheVariants as actors
 use Rattle.pc_base.specs.declared.entry.Entry.{Entry}
 use Rattle.pc_history.specs.Own.{own}

@@ -1,9 +1,11 @@
 use Rattle.std.proofs.Common.{sym, ◌∙◌}
-use Rattle.pc_coord.proofs.Standing.{heard_made, heard_ok, not_heard, not_heard_made}
+use Rattle.pc_coord.proofs.Standing.{heard_made, heard_ok, not_heard_ok, read_heard_ok}
 use Rattle.pc_coord.proofs.coordinator.Coordinator.heard.Goals as goal
 
 pub returns-in-None-clause-knows : goal.returns-in-None-clause-knows
-returns-in-None-clause-knows c = λ k p knows is. not_heard c.args.self.now c.hear.new.self k p c.args.number c.args.step c.args.reply.now (sym c.in-None.is ∙ c.awaited-wait.ensures) is
+returns-in-None-clause-knows c = λ k p knows is.
+    read_heard_ok c.args.self.now c.hear.new.self c.read_heard.new.self k p c.args.number c.args.step c.args.reply.now c.read_heard.result
+    (sym c.in-None.is ∙ c.awaited-wait.ensures) c.hear.ensures c.read_heard.ensures.made knows is
 
 pub returns-in-Some-clause-knows : goal.returns-in-Some-clause-knows
 returns-in-Some-clause-knows c = λ k p knows is.
@@ -11,7 +13,7 @@ returns-in-Some-clause-knows c = λ k p knows is.
     (sym c.in-Some.is ∙ c.awaited-wait.ensures) c.hear.ensures c.reply_heard.ensures.made knows is
 
 pub returns-in-None-clause-made : goal.returns-in-None-clause-made
-returns-in-None-clause-made c = λ k wait knows at. not_heard_made c.args.self.now c.hear.new.self _ c.args.number wait (sym c.in-None.is ∙ c.awaited-wait.ensures) at
+returns-in-None-clause-made c = λ k wait knows at. not_heard_ok c.args.self.now c.read_heard.new.self _ c.args.number wait c.read_heard.result (sym c.in-None.is ∙ c.awaited-wait.ensures) at
 
 pub returns-in-Some-clause-made : goal.returns-in-Some-clause-made
 returns-in-Some-clause-made c = λ k wait knows at.

@@ -1,8 +1,6 @@
-use Rattle.std.proofs.Common.{◌≡◌, ℕ, ◌<◌, ◌^◌, length, arith, rules}
-use Rattle.pc_world.specs.Run.{IsRun}
+use Rattle.std.proofs.Common.{◌≡◌, ◌<◌, ◌^◌, length, arith, rules}
 use Rattle.pc_runner.proofs.Entering.{entered}
 use Rattle.pc_runner.specs.History.{head_of}
-use Rattle.pc_runner.specs.Journal.{HasOneMore}
 use Rattle.pc_runner.proofs.journal.Journal.enter.Goals as goal
 
 pub invariant_of-self-2 : goal.invariant_of-self-2

@@ -1,4 +1,4 @@
-use Rattle.std.proofs.Common.{◌≡◌, ℕ, zero, suc, ◌+◌, Bool, true, false, List, [], ◌∷◌, drop, refl, ap, subst, ◌∙◌, sym, arith}
+use Rattle.std.proofs.Common.{◌≡◌, ℕ, zero, suc, ◌+◌, Bool, true, false, List, [], ◌∷◌, drop, refl, ap, subst, ◌∙◌, arith}
 use Rattle.pc_proto.specs.declared.call.Call.{Call}
 use Rattle.pc_work.specs.declared.item.Item.{Item}
 use Rattle.pc_runner.specs.Follows.Script.{Position}

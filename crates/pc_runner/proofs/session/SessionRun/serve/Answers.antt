@@ -2,7 +2,7 @@ use Rattle.std.proofs.Common.{subst, sym}
 use Rattle.pc_runner.proofs.Evaluating.{ready}
 use Rattle.pc_runner.proofs.Following.{answered, answers, known_kept, may_hear_now, room, served_now, waited}
 use Rattle.pc_runner.proofs.Keeping.{keeps_served}
-use Rattle.pc_runner.proofs.Running.{some_sent}
+use Rattle.pc_runner.proofs.Running.{no_reads, some_sent}
 use Rattle.pc_runner.specs.Due.{IsToHear}
 use Rattle.pc_runner.specs.History.{known_by}
 use Rattle.pc_runner.proofs.session.SessionRun.serve.Goals as goal
@@ -31,7 +31,7 @@ hear-requires-clause-last c = c.requires.at.last_item
 pub hear-requires-clause-ready : goal.hear-requires-clause-ready
 hear-requires-clause-ready c =
     let r = c.args.self.now in
-    let waits = (waited r.coordinator r.state r.sends c.args.request.now r.journal c.requires.stands c.requires.due).0 in
+    let waits = (waited r.coordinator r.state r.sends c.args.request.now r.journal (no_reads r.coordinator r.state r.script (known_by 1 r.journal) c.requires.at) c.requires.stands c.requires.due).0 in
     subst (λ k. IsToHear r.coordinator c.eval.new.self r.script.ahead k r.sends c.in_ok-reply.reply)
     (sym (known_kept r.journal c.eval-2.new.self c.in_ok-step.step r.sends c.in_ok-reply.reply c.in_ok-step.ensures))
     (ready r.coordinator r.state c.eval.new.self r.script (known_by 1 r.journal) r.sends c.args.request.now c.in_ok-reply.reply
@@ -41,13 +41,13 @@ pub hear-requires-clause-none : goal.hear-requires-clause-none
 hear-requires-clause-none c = c.requires.none
 
 pub hear-requires-clause-waited : goal.hear-requires-clause-waited
-hear-requires-clause-waited c = let r = c.args.self.now in (waited r.coordinator r.state r.sends c.args.request.now r.journal c.requires.stands c.requires.due).0
+hear-requires-clause-waited c = let r = c.args.self.now in (waited r.coordinator r.state r.sends c.args.request.now r.journal (no_reads r.coordinator r.state r.script (known_by 1 r.journal) c.requires.at) c.requires.stands c.requires.due).0
 
 pub hear-requires-clause-may : goal.hear-requires-clause-may
 hear-requires-clause-may c =
     let r = c.args.self.now in
     may_hear_now r.coordinator r.state r.sends c.args.request.now r.journal c.eval-2.new.self c.in_ok-step.step c.in_ok-reply.reply
-    c.requires.stands c.requires.due c.in_ok-step.ensures
+    (no_reads r.coordinator r.state r.script (known_by 1 r.journal) c.requires.at) c.requires.stands c.requires.due c.in_ok-step.ensures
 
 pub hear-requires-clause-answered : goal.hear-requires-clause-answered
 hear-requires-clause-answered c = answered c.args.self.now.journal c.eval-2.new.self c.in_ok-step.step c.args.self.now.sends c.in_ok-reply.reply c.in_ok-step.ensures
