@@ -1,7 +1,7 @@
 -- The form of a workload that is built so far, as a fact about the workload itself: what runs a workload may rest on it.
 use Rattle.std.specs.Prelude.{◌≡◌, ◌≤◌, ◌<◌, false, true, [], length, sum_by, Some, IsSomeAnd, All}
 use Rattle.pc_base.specs.declared.transaction.Priority.TheVariants.{Normal}
-use Rattle.pc_work.specs.Clock.{greatest_start}
+use Rattle.pc_work.specs.Accepted.{greatest_start}
 use Rattle.pc_work.specs.Count.{session_count, statement_limit}
 use Rattle.pc_work.specs.declared.statement.Statement.{Statement}
 use Rattle.pc_work.specs.declared.statement.Statement.TheVariants.{Get, Scan, Put, Delete, Add}

@@ -1,19 +1,49 @@
--- An item of a session's script. So far a transaction of at least one statement is accepted, which commits at the normal
--- priority.
-use Rattle.std.specs.Prelude.{[], ◌∷◌, length, true, ◌==◌, Option, Some, None, codes, if◌then◌else◌}
+-- An item of a session's script: a transaction, which only reads or only writes, and then commits or rolls back.
+use Rattle.std.specs.Prelude.{ℕ, Bool, true, false, ◌||◌, List, [], ◌∷◌, Option, Some, None, codes, if◌then◌else◌}
+use Rattle.std.specs.List.{list_all}
 use Rattle.serde_json.specs.Data.{Data}
 use Rattle.serde_json.specs.Find.{get}
 use Rattle.pc_base.specs.declared.transaction.Priority.TheVariants.{Normal}
 use Rattle.pc_work.specs.Reading.{◌>>=◌}
-use Rattle.pc_work.specs.Members.{has_only}
+use Rattle.pc_work.specs.Members.{has_only, member_or}
 use Rattle.pc_work.specs.Lists.{list_by}
+use Rattle.pc_work.specs.Priority.{priority_of}
+use Rattle.pc_work.specs.Ending.{commits_of}
 use Rattle.pc_work.specs.Statement.{statement_of}
+use Rattle.pc_work.specs.declared.statement.Statement.{Statement}
+use Rattle.pc_work.specs.declared.statement.Statement.TheVariants.{Get, Scan, Put, Delete, Add}
 use Rattle.pc_work.specs.declared.item.Item.{Item}
 use Rattle.pc_work.specs.declared.item.Item.TheVariants.{Txn}
 
--- The item that a value states: an object with exactly its statements.
+-- The names of a transaction's members, of which the statements are required.
+abbrev pub item_names : List (List ℕ)
+item_names = codes "do" ∷ codes "priority" ∷ codes "end" ∷ []
+
+-- The statement reads, and writes nothing.
+abbrev pub only_reads : Statement → Bool
+only_reads (Get key) = true
+only_reads (Scan span) = true
+only_reads (Put key value) = false
+only_reads (Delete key) = false
+only_reads (Add key amount) = false
+
+-- The statement writes, and reads nothing.
+abbrev pub only_writes : Statement → Bool
+only_writes (Get key) = false
+only_writes (Scan span) = false
+only_writes (Put key value) = true
+only_writes (Delete key) = true
+only_writes (Add key amount) = false
+
+-- The statements all read, or all write; where there are none, they do both.
+abbrev pub are_alike : List Statement → Bool
+are_alike statements = list_all only_reads statements || list_all only_writes statements
+
+-- The item that a value states: an object with its statements, at the normal priority and committed unless it states otherwise.
 unfoldable pub item_of : Data → Option Item
-item_of value = if has_only (codes "do" ∷ []) value then (do
+item_of value = if has_only item_names value then (do
   found ← get (codes "do") value
   statements ← list_by statement_of found
-  if length statements == 0 then None else Some (Txn Normal statements true)) else None
+  priority ← member_or Normal priority_of (codes "priority") value
+  commits ← member_or true commits_of (codes "end") value
+  if are_alike statements then Some (Txn priority statements commits) else None) else None

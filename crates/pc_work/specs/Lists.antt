@@ -1,6 +1,7 @@
--- Lists in JSON: a list is read item by item, and all of its items have to be read.
+-- Lists in JSON: a list is read item by item, and all of its items have to be read; or it is a pair.
 use Rattle.std.specs.Prelude.{List, [], ◌∷◌, Option, Some, None}
 use Rattle.serde_json.specs.Data.{Data, null, boolean, number, string, array, object, Items, no_items, item}
+use Rattle.serde_json.specs.Find.{as_array}
 use Rattle.pc_work.specs.Reading.{◌>>=◌}
 
 -- Each item as it is read, in order.
@@ -19,3 +20,14 @@ list_by read (number n) = None
 list_by read (string s) = None
 list_by read (array values) = items_by read values
 list_by read (object fields) = None
+
+-- The two items of a list that has exactly two.
+abbrev pub two_of : Items → Option (Data × Data)
+two_of no_items = None
+two_of (item first no_items) = None
+two_of (item first (item second no_items)) = Some (first, second)
+two_of (item first (item second (item third others))) = None
+
+-- The two items of a value that is a list of exactly two.
+unfoldable pub pair_of : Data → Option (Data × Data)
+pair_of value = as_array value >>= two_of

@@ -1,10 +1,11 @@
 -- The members of a JSON object. A member that stands twice in the text counts once, with its last value, as the JSON reader
 -- has it.
-use Rattle.std.specs.Prelude.{ℕ, Bool, true, false, ◌&&◌, List, Option, option_and_then}
+use Rattle.std.specs.Prelude.{ℕ, Bool, true, false, ◌&&◌, List, Option, Some, None, nat_le, option_and_then, if◌then◌else◌}
 use Rattle.std.specs.List.{list_any}
 use Rattle.std.specs.Str.{bytes_eq}
 use Rattle.serde_json.specs.Data.{Data, null, boolean, number, string, array, object, Members, no_members, member}
 use Rattle.serde_json.specs.Find.{get, as_number, as_u64}
+use Rattle.pc_work.specs.Reading.{◌>>=◌}
 
 -- The name is one of these.
 abbrev pub is_among : List (List ℕ) → List ℕ → Bool
@@ -31,3 +32,16 @@ whole_of value = option_and_then as_u64 (as_number value)
 -- The whole number in the member of this name.
 abbrev pub whole_in : List ℕ → Data → Option ℕ
 whole_in name value = option_and_then whole_of (get name value)
+
+-- A whole number that is at most this.
+abbrev pub whole_up_to : ℕ → Data → Option ℕ
+whole_up_to most value = whole_of value >>= λ number. if nat_le number most then Some number else None
+
+-- What was found as it is read, and the default where nothing was found.
+abbrev pub read_or : {X : Type 0} → X → (Data → Option X) → Option Data → Option X
+read_or default read None = Some default
+read_or default read (Some value) = read value
+
+-- The member of this name as it is read, and the default where the member is absent.
+abbrev pub member_or : {X : Type 0} → X → (Data → Option X) → List ℕ → Data → Option X
+member_or default read name value = read_or default read (get name value)

@@ -1,5 +1,5 @@
--- A session of a workload. So far it has a clock and a script of one item.
-use Rattle.std.specs.Prelude.{ℕ, List, [], ◌∷◌, length, ◌==◌, Option, Some, None, codes, if◌then◌else◌}
+-- A session of a workload: a script of any number of items, and the clock that the session reads.
+use Rattle.std.specs.Prelude.{ℕ, List, [], ◌∷◌, Option, Some, None, codes, if◌then◌else◌}
 use Rattle.serde_json.specs.Data.{Data}
 use Rattle.serde_json.specs.Find.{get}
 use Rattle.pc_work.specs.Reading.{◌>>=◌}
@@ -20,4 +20,4 @@ session_of value = if has_only session_names value then (do
   clock ← clock_of stated
   found ← get (codes "script") value
   script ← list_by item_of found
-  if length script == 1 then Some (record { script = script; clock = Some clock }) else None) else None
+  Some (record { script = script; clock = Some clock })) else None

@@ -1,23 +1,22 @@
--- A statement of a transaction. So far a put alone is accepted.
+-- A statement of a transaction: a get, a scan, a put or a delete.
 use Rattle.std.specs.Prelude.{[], ◌∷◌, Option, Some, None, codes, if◌then◌else◌}
-use Rattle.serde_json.specs.Data.{Data, Items, no_items, item}
-use Rattle.serde_json.specs.Find.{get, as_array}
+use Rattle.serde_json.specs.Data.{Data}
+use Rattle.serde_json.specs.Find.{get}
 use Rattle.pc_work.specs.Reading.{◌>>=◌}
 use Rattle.pc_work.specs.Members.{has_only}
+use Rattle.pc_work.specs.Lists.{pair_of}
 use Rattle.pc_work.specs.Texts.{key_of, value_of}
+use Rattle.pc_work.specs.Span.{span_of}
 use Rattle.pc_work.specs.declared.statement.Statement.{Statement}
-use Rattle.pc_work.specs.declared.statement.Statement.TheVariants.{Put}
+use Rattle.pc_work.specs.declared.statement.Statement.TheVariants.{Get, Scan, Put, Delete}
 
--- The two items of a list that has exactly two.
-abbrev pub two_of : Items → Option (Data × Data)
-two_of no_items = None
-two_of (item first no_items) = None
-two_of (item first (item second no_items)) = Some (first, second)
-two_of (item first (item second (item third others))) = None
+-- A get: its key.
+abbrev pub get_of : Data → Option Statement
+get_of value = key_of value >>= λ key. Some (Get key)
 
--- The two items of a value that is a list of exactly two.
-unfoldable pub pair_of : Data → Option (Data × Data)
-pair_of value = as_array value >>= two_of
+-- A scan: its span.
+abbrev pub scan_of : Data → Option Statement
+scan_of value = span_of value >>= λ span. Some (Scan span)
 
 -- A put: a list of its key and its value.
 unfoldable pub put_of : Data → Option Statement
@@ -27,6 +26,15 @@ put_of value = do
   written ← value_of both.1
   Some (Put key written)
 
+-- A delete: its key.
+abbrev pub delete_of : Data → Option Statement
+delete_of value = key_of value >>= λ key. Some (Delete key)
+
 -- The statement that a value states: an object with exactly one member, which is named by what the statement does.
 unfoldable pub statement_of : Data → Option Statement
-statement_of value = if has_only (codes "put" ∷ []) value then (get (codes "put") value >>= put_of) else None
+statement_of value =
+    if has_only (codes "get" ∷ []) value then (get (codes "get") value >>= get_of)
+    else (if has_only (codes "scan" ∷ []) value then (get (codes "scan") value >>= scan_of)
+    else (if has_only (codes "put" ∷ []) value then (get (codes "put") value >>= put_of)
+    else (if has_only (codes "delete" ∷ []) value then (get (codes "delete") value >>= delete_of)
+    else None)))

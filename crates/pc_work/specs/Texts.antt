@@ -16,11 +16,13 @@ is_key bytes = nat_le 1 (length bytes) && nat_le (length bytes) KEY_BYTES && lis
 abbrev pub is_value : List ℕ → Bool
 is_value bytes = nat_le (length bytes) VALUE_BYTES && list_all is_value_byte bytes
 
+-- The key that a text spells.
+abbrev pub key_in : List ℕ → Option (List ℕ)
+key_in bytes = if is_key bytes then Some bytes else None
+
 -- The key that a JSON value spells.
 unfoldable pub key_of : Data → Option (List ℕ)
-key_of value = do
-  bytes ← as_str value
-  if is_key bytes then Some bytes else None
+key_of value = as_str value >>= key_in
 
 -- The value that a JSON value spells.
 unfoldable pub value_of : Data → Option (List ℕ)

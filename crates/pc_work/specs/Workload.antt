@@ -1,50 +1,89 @@
--- What bytes are as a workload, and where they are none. So far one form is accepted: a workload in turns without pipelining,
--- of one session with one transaction of puts, and with no turns stated.
-use Rattle.std.specs.Prelude.{ℕ, Bool, ◌&&◌, ◌==◌, not, List, [], ◌∷◌, length, sum_by, nat_le, Option, Some, None, IsSome, Result, Ok, Err, codes, option_and_then, IsUtf8, if◌then◌else◌}
+-- What bytes are as a workload, and where they are none. What can be read is a workload in stated turns without pipelining, of up to 64
+-- sessions that state their clocks. Of those, only what can be run is accepted so far.
+use Rattle.std.specs.Prelude.{ℕ, Bool, false, ◌&&◌, ◌==◌, not, List, [], ◌∷◌, length, sum_by, nat_le, Option, Some, None, IsSome, Result, Ok, Err, codes, option_and_then, IsUtf8, if◌then◌else◌}
+use Rattle.std.specs.List.{list_all}
 use Rattle.serde_json.specs.Data.{Data}
 use Rattle.serde_json.specs.Find.{get, as_bool}
 use Rattle.serde_json.specs.Read.{read}
 use Rattle.pc_work.specs.Reading.{◌>>=◌}
-use Rattle.pc_work.specs.Members.{has_only, whole_in}
+use Rattle.pc_work.specs.Members.{has_only, whole_of, whole_up_to, whole_in, member_or}
 use Rattle.pc_work.specs.Lists.{list_by}
 use Rattle.pc_work.specs.Count.{session_count, statement_limit}
 use Rattle.pc_work.specs.Session.{session_of}
-use Rattle.pc_work.specs.Turn.{turn_of}
+use Rattle.pc_work.specs.Splits.{splits_of}
+use Rattle.pc_work.specs.Turn.{turn_of, is_there}
+use Rattle.pc_work.specs.Accepted.{is_accepted}
 use Rattle.pc_work.specs.declared.fault.WorkFault.{WorkFault}
 use Rattle.pc_work.specs.declared.fault.WorkFault.TheVariants as faults
 use Rattle.pc_work.specs.declared.session.SessionWork.{SessionWork}
+use Rattle.pc_work.specs.declared.turn.Turn.{Turn}
 use Rattle.pc_work.specs.declared.workload.Workload.{Workload}
 
--- The names of a workload's members, each of which is required so far.
+-- The names of a workload's members.
 abbrev pub workload_names : List (List ℕ)
-workload_names = codes "version" ∷ codes "pipelining" ∷ codes "turns" ∷ codes "sessions" ∷ []
+workload_names = codes "version" ∷ codes "pipelining" ∷ codes "splits" ∷ codes "reruns" ∷ codes "opening" ∷ codes "turns" ∷ codes "sessions" ∷ []
 
--- The workload is of the form that is built: version 1, no pipelining, one session, and no more statements than the limit.
-abbrev pub is_built : ℕ → Bool → List SessionWork → Bool
-is_built version pipelining sessions =
-    version == 1 && not pipelining && length sessions == 1 && nat_le (sum_by session_count sessions) statement_limit
+-- The most reruns that a workload allows.
+abbrev pub rerun_limit : ℕ
+rerun_limit = 64
 
--- The workload that a JSON value states: an object with exactly these members, and what is not stated is at its default.
-unfoldable pub workload_of : Data → Option Workload
-workload_of value = if has_only workload_names value then (do
+-- The most sessions that a workload has.
+abbrev pub session_limit : ℕ
+session_limit = 64
+
+-- The most turns that a workload has.
+abbrev pub turn_limit : ℕ
+turn_limit = 1000000
+
+-- How many items the first session has.
+abbrev pub first_items : List SessionWork → ℕ
+first_items [] = 0
+first_items (first ∷ others) = length first.script
+
+-- From one session to the limit, with no more statements than the limit.
+abbrev pub are_sessions : List SessionWork → Bool
+are_sessions sessions =
+    nat_le 1 (length sessions) && nat_le (length sessions) session_limit && nat_le (sum_by session_count sessions) statement_limit
+
+-- No more turns than the limit, and each is that of one that is there.
+abbrev pub are_turns : List SessionWork → List Turn → Bool
+are_turns sessions turns = nat_le (length turns) turn_limit && list_all (is_there (length sessions)) turns
+
+-- Version 1 without pipelining, and sessions, turns and an opening within their limits.
+abbrev pub is_within : ℕ → Bool → ℕ → List SessionWork → List Turn → Bool
+is_within version pipelining opening sessions turns =
+    version == 1 && not pipelining && are_sessions sessions && are_turns sessions turns && nat_le opening (first_items sessions)
+
+-- The workload that a JSON value states, in the form that is read: what is absent is at its default.
+unfoldable pub stated_by : Data → Option Workload
+stated_by value = if has_only workload_names value then (do
   version ← whole_in (codes "version") value
   asked ← get (codes "pipelining") value
   pipelining ← as_bool asked
+  splits ← member_or [] splits_of (codes "splits") value
+  reruns ← member_or 8 (whole_up_to rerun_limit) (codes "reruns") value
+  opening ← member_or 0 whole_of (codes "opening") value
   listed ← get (codes "turns") value
   turns ← list_by turn_of listed
   found ← get (codes "sessions") value
   sessions ← list_by session_of found
-  if is_built version pipelining sessions then Some (record {
+  if is_within version pipelining opening sessions turns then Some (record {
     version = 1;
-    pipelining = pipelining;
-    splits = [];
+    pipelining = false;
+    splits = splits;
     limit = 1000000;
     tries = 4;
-    reruns = 8;
-    opening = 0;
+    reruns = reruns;
+    opening = opening;
     sessions = sessions;
     turns = Some turns;
   }) else None) else None
+
+-- The workload that a JSON value states, where it is accepted so far.
+unfoldable pub workload_of : Data → Option Workload
+workload_of value = do
+  work ← stated_by value
+  if is_accepted value work then Some work else None
 
 -- The bytes have a reading as JSON: they are text, and the text has a value, nested at most 127 deep.
 pub record IsJson (bytes : List ℕ) : Type 0 where

@@ -14,9 +14,6 @@ pub struct ClockWork {
     pub step: u64,
 }
 
-/// The greatest start that is accepted.
-const GREATEST_START: u64 = 1 << 62;
-
 #[tactic(auto, unfolding(crate::specs::Clock::clock_of))]
 pub(crate) fn clock_of(json: &Json) -> Result<ClockWork, Misfit>
     ensures { Gives result (clock_of (view json.now)) }
@@ -26,8 +23,5 @@ pub(crate) fn clock_of(json: &Json) -> Result<ClockWork, Misfit>
     }
     let start = whole_member(json, "start")?;
     let step = whole_member(json, "step")?;
-    if start > GREATEST_START {
-        return Err(Misfit::OtherForm);
-    }
     Ok(ClockWork { start, step })
 }

@@ -5,8 +5,8 @@ ghost use Rattle.serde_json.specs.Data.{Data};
 ghost use Rattle.serde_json.specs.Find.{get, as_bool};
 ghost use Rattle.serde_json.specs.View.{view, items_view};
 ghost use Rattle.pc_work.specs.Reading.{Gives, GivesBy};
-ghost use Rattle.pc_work.specs.Lists.{items_by, list_by};
-ghost use Rattle.pc_work.specs.Members.{is_among, has_only, whole_in};
+ghost use Rattle.pc_work.specs.Lists.{items_by, list_by, two_of, pair_of};
+ghost use Rattle.pc_work.specs.Members.{is_among, has_only, whole_of, whole_up_to, whole_in};
 
 use crate::fault::Misfit;
 use pc_base::Items;
@@ -43,11 +43,29 @@ pub(crate) fn member<'a>(json: &'a Json, name: &str) -> Result<&'a Json, Misfit>
     json.get(name).ok_or(Misfit::OtherForm)
 }
 
+/// The whole number that this is.
+pub(crate) fn whole(json: &Json) -> Result<u64, Misfit>
+    ensures { Gives result (whole_of (view json.now)) }
+{
+    json.as_u64().ok_or(Misfit::OtherForm)
+}
+
+/// The whole number that this is, where it is at most `most`.
+pub(crate) fn whole_up_to(json: &Json, most: u32) -> Result<u32, Misfit>
+    ensures { Gives result (whole_up_to most (view json.now)) }
+{
+    let number = whole(json)?;
+    if number > u64::from(most) {
+        return Err(Misfit::OtherForm);
+    }
+    Ok(number as u32)
+}
+
 /// The whole number in the member of this name.
 pub(crate) fn whole_member(json: &Json, name: &str) -> Result<u64, Misfit>
     ensures { Gives result (whole_in name.now (view json.now)) }
 {
-    member(json, name)?.as_u64().ok_or(Misfit::OtherForm)
+    whole(member(json, name)?)
 }
 
 /// The truth value that this is.
@@ -82,4 +100,22 @@ fn all_of<T: FromJson>(alloc: Global, values: &[Json]) -> Result<Vec<T>, Misfit>
         items.push(T::from_json(alloc, value)?)?;
     }
     Ok(items)
+}
+
+/// The two items of a list of exactly two.
+#[tactic(auto, unfolding(crate::specs::Lists::pair_of))]
+pub(crate) fn pair(json: &Json) -> Result<(&Json, &Json), Misfit>
+    ensures { GivesBy (λ both. (view both.0.now, view both.1.now)) result (pair_of (view json.now)) }
+{
+    two(json.as_array().ok_or(Misfit::OtherForm)?.as_slice())
+}
+
+#[tactic(auto, using(crate::proofs::Pairs::two_of_none))]
+fn two(values: &[Json]) -> Result<(&Json, &Json), Misfit>
+    ensures { GivesBy (λ both. (view both.0.now, view both.1.now)) result (two_of (items_view values.now)) }
+{
+    if values.len() != 2 {
+        return Err(Misfit::OtherForm);
+    }
+    Ok((&values[0], &values[1]))
 }

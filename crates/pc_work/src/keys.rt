@@ -1,4 +1,5 @@
-ghost use Rattle.pc_work.specs.Texts.{key_of, value_of};
+ghost use Rattle.pc_work.specs.Reading.{Gives};
+ghost use Rattle.pc_work.specs.Texts.{key_in, key_of, value_of};
 
 use crate::fault::Misfit;
 use crate::json::FromJson;
@@ -11,12 +12,18 @@ impl FromJson for Key {
 
     #[tactic(auto, unfolding(crate::specs::Texts::key_of))]
     fn from_json(alloc: Global, json: &Json) -> Result<Key, Misfit> {
-        let text = json.as_str().ok_or(Misfit::OtherForm)?;
-        match Key::new(alloc, text.as_bytes()) {
-            Ok(key) => Ok(key),
-            Err(BaseFault::KeyLength | BaseFault::KeyByte) => Err(Misfit::OtherForm),
-            Err(_) => Err(Misfit::NoMemory),
-        }
+        key_in(alloc, json.as_str().ok_or(Misfit::OtherForm)?)
+    }
+}
+
+/// The key that a text spells.
+pub(crate) fn key_in(alloc: Global, text: &str) -> Result<Key, Misfit>
+    ensures { Gives result (key_in text.now) }
+{
+    match Key::new(alloc, text.as_bytes()) {
+        Ok(key) => Ok(key),
+        Err(BaseFault::KeyLength | BaseFault::KeyByte) => Err(Misfit::OtherForm),
+        Err(_) => Err(Misfit::NoMemory),
     }
 }
 

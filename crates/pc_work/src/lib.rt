@@ -1,13 +1,18 @@
 //! The workload: what the sessions do, read from JSON, and the one refusal that applies where it is not accepted.
 #![tactic(auto)]
 
+mod accepted;
 mod clock;
 mod count;
+mod ending;
 mod fault;
 mod item;
 mod json;
 mod keys;
+mod priority;
 mod session;
+mod span;
+mod splits;
 mod statement;
 #[cfg(test)]
 mod tests;

@@ -29,9 +29,6 @@ impl FromJson for SessionWork {
         }
         let clock = clock_of(member(json, "clock")?)?;
         let script: Script = list(alloc, member(json, "script")?)?;
-        if script.len() != 1 {
-            return Err(Misfit::OtherForm);
-        }
         Ok(SessionWork {
             script,
             clock: Some(clock),

@@ -1,9 +1,12 @@
-ghost use Rattle.serde_json.specs.View.{view, items_view};
-ghost use Rattle.pc_work.specs.Reading.{Gives, GivesBy};
-ghost use Rattle.pc_work.specs.Statement.{two_of, pair_of, put_of, statement_of};
+ghost use Rattle.std.specs.Prelude.{◌≡◌};
+ghost use Rattle.serde_json.specs.View.{view};
+ghost use Rattle.pc_work.specs.Reading.{Gives};
+ghost use Rattle.pc_work.specs.Item.{only_reads, only_writes};
+ghost use Rattle.pc_work.specs.Statement.{get_of, scan_of, put_of, delete_of, statement_of};
 
 use crate::fault::Misfit;
-use crate::json::{FromJson, has_only, member};
+use crate::json::{FromJson, has_only, member, pair};
+use crate::span::span_of;
 use pc_base::{Items, Key, Span, Value};
 use serde_json::Value as Json;
 use std::alloc::Global;
@@ -22,16 +25,49 @@ pub enum Statement {
 /// The statements of one transaction, in order.
 pub type Statements = Items<Statement>;
 
+impl Statement {
+    pub(crate) fn only_reads(&self) -> bool
+        ensures { result ≡ only_reads self.now }
+    {
+        matches!(self, Statement::Get(_) | Statement::Scan(_))
+    }
+
+    pub(crate) fn only_writes(&self) -> bool
+        ensures { result ≡ only_writes self.now }
+    {
+        matches!(self, Statement::Put(_, _) | Statement::Delete(_))
+    }
+}
+
 impl FromJson for Statement {
     ghost found_in = { statement_of };
 
     #[tactic(auto, unfolding(crate::specs::Statement::statement_of))]
     fn from_json(alloc: Global, json: &Json) -> Result<Statement, Misfit> {
-        if !has_only(json, &["put"]) {
-            return Err(Misfit::OtherForm);
+        if has_only(json, &["get"]) {
+            get(alloc, member(json, "get")?)
+        } else if has_only(json, &["scan"]) {
+            scan(alloc, member(json, "scan")?)
+        } else if has_only(json, &["put"]) {
+            put(alloc, member(json, "put")?)
+        } else if has_only(json, &["delete"]) {
+            delete(alloc, member(json, "delete")?)
+        } else {
+            Err(Misfit::OtherForm)
         }
-        put(alloc, member(json, "put")?)
     }
+}
+
+fn get(alloc: Global, json: &Json) -> Result<Statement, Misfit>
+    ensures { Gives result (get_of (view json.now)) }
+{
+    Ok(Statement::Get(Key::from_json(alloc, json)?))
+}
+
+fn scan(alloc: Global, json: &Json) -> Result<Statement, Misfit>
+    ensures { Gives result (scan_of (view json.now)) }
+{
+    Ok(Statement::Scan(span_of(alloc, json)?))
 }
 
 #[tactic(auto, unfolding(crate::specs::Statement::put_of))]
@@ -44,19 +80,8 @@ fn put(alloc: Global, json: &Json) -> Result<Statement, Misfit>
     Ok(Statement::Put(key, value))
 }
 
-#[tactic(auto, unfolding(crate::specs::Statement::pair_of))]
-fn pair(json: &Json) -> Result<(&Json, &Json), Misfit>
-    ensures { GivesBy (λ both. (view both.0.now, view both.1.now)) result (pair_of (view json.now)) }
+fn delete(alloc: Global, json: &Json) -> Result<Statement, Misfit>
+    ensures { Gives result (delete_of (view json.now)) }
 {
-    two(json.as_array().ok_or(Misfit::OtherForm)?.as_slice())
-}
-
-#[tactic(auto, using(crate::proofs::Pairs::two_of_none))]
-fn two(values: &[Json]) -> Result<(&Json, &Json), Misfit>
-    ensures { GivesBy (λ both. (view both.0.now, view both.1.now)) result (two_of (items_view values.now)) }
-{
-    if values.len() != 2 {
-        return Err(Misfit::OtherForm);
-    }
-    Ok((&values[0], &values[1]))
+    Ok(Statement::Delete(Key::from_json(alloc, json)?))
 }

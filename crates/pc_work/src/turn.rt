@@ -1,4 +1,8 @@
-ghost use Rattle.pc_work.specs.Turn.{turn_of};
+ghost use Rattle.std.specs.Prelude.{◌≡◌};
+ghost use Rattle.std.specs.Char.{is_ascii_digit};
+ghost use Rattle.std.specs.List.{list_all};
+ghost use Rattle.pc_work.specs.Number.{is_number, number_in};
+ghost use Rattle.pc_work.specs.Turn.{turn_in, turn_of, is_there};
 
 use crate::fault::Misfit;
 use crate::json::FromJson;
@@ -19,10 +23,60 @@ pub enum Turn {
 /// Turns in order.
 pub type Turns = Items<Turn>;
 
+impl Turn {
+    /// Whether it is the turn of one that is there, among so many sessions and no recoverer.
+    pub(crate) fn is_there(self, sessions: usize) -> bool
+        ensures { result ≡ is_there sessions self }
+    {
+        match self {
+            Turn::Session(number) | Turn::Job(number) => number >= 1 && number as usize <= sessions,
+            Turn::Recoverer(_) => false,
+        }
+    }
+}
+
 impl FromJson for Turn {
     ghost found_in = { turn_of };
 
-    fn from_json(_alloc: Global, _json: &Json) -> Result<Turn, Misfit> {
-        Err(Misfit::OtherForm)
+    #[tactic(auto, unfolding(crate::specs::Turn::turn_of))]
+    fn from_json(_alloc: Global, json: &Json) -> Result<Turn, Misfit> {
+        let text = json.as_str().ok_or(Misfit::OtherForm)?;
+        turn_in(text).ok_or(Misfit::OtherForm)
     }
+}
+
+fn turn_in(text: &str) -> Option<Turn>
+    ensures { result ≡ turn_in text.now }
+{
+    if let Some(digits) = text.strip_prefix('s') {
+        Some(Turn::Session(number_in(digits)?))
+    } else if let Some(digits) = text.strip_prefix('b') {
+        Some(Turn::Job(number_in(digits)?))
+    } else {
+        let digits = text.strip_prefix('v')?;
+        Some(Turn::Recoverer(number_in(digits)?))
+    }
+}
+
+/// The number that a text spells. No actor has the greatest number of 32 bits, so greater ones count as that.
+#[tactic(auto, unfolding(crate::specs::Number::number_in))]
+fn number_in(text: &str) -> Option<u32>
+    ensures { result ≡ number_in text.now }
+{
+    if !is_number(text.as_bytes()) {
+        return None;
+    }
+    Some(text.parse().unwrap_or(u32::MAX))
+}
+
+fn is_number(text: &[u8]) -> bool
+    ensures { result ≡ is_number text.now }
+{
+    !text.is_empty() && are_digits(text) && (text.len() == 1 || text[0] != b'0')
+}
+
+fn are_digits(text: &[u8]) -> bool
+    ensures { result ≡ list_all is_ascii_digit text.now }
+{
+    text.iter().all(u8::is_ascii_digit)
 }

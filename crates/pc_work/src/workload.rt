@@ -1,15 +1,19 @@
 ghost use Rattle.std.specs.Prelude.{◌≡◌, ◌↔◌, IsOk, IsSome, IfOk, IsErrOf, Some};
+ghost use Rattle.std.specs.List.{list_all};
 ghost use Rattle.serde_json.specs.View.{view};
 ghost use Rattle.pc_work.specs.Reading.{Gives};
 ghost use Rattle.pc_work.specs.Built.{IsBuilt};
-ghost use Rattle.pc_work.specs.Workload.{is_built, workload_of, IsJson, workload_in, UnlessMemory};
+ghost use Rattle.pc_work.specs.Members.{has_only, member_or, whole_of, whole_up_to};
+ghost use Rattle.pc_work.specs.Turn.{is_there};
+ghost use Rattle.pc_work.specs.Workload.{workload_names, rerun_limit, first_items, are_sessions, are_turns, is_within, stated_by, workload_of, IsJson, workload_in, UnlessMemory};
 
+use crate::accepted::is_accepted;
 use crate::count::Counted;
 use crate::fault::{Misfit, WorkFault};
-use crate::json::{flag, has_only, list, member, whole_member};
+use crate::json::{flag, has_only, list, member, whole, whole_member, whole_up_to};
 use crate::session::Sessions;
-use crate::turn::Turns;
-use pc_base::Items;
+use crate::splits::splits_or_none;
+use crate::turn::{Turn, Turns};
 use pc_proto::Keys;
 use serde_json::Value as Json;
 use std::alloc::Global;
@@ -22,6 +26,12 @@ const OTHER_FORM: u8 = 10;
 
 /// The most statements of a workload, each begin, each end and each learn counted, and an add as two.
 const STATEMENTS: u64 = 100_000;
+
+const RERUNS: u32 = 64;
+
+const SESSIONS: usize = 64;
+
+const TURNS: usize = 1_000_000;
 
 /// What all sessions do, over which ranges, and in which order.
 #[derive(Debug, PartialEq, Eq, Drop)]
@@ -69,35 +79,128 @@ impl Workload {
     }
 }
 
+/// The workload that a value states, where it is accepted so far.
 #[tactic(auto, unfolding(crate::specs::Workload::workload_of))]
 fn workload_of(alloc: Global, json: &Json) -> Result<Workload, Misfit>
     ensures { Gives result (workload_of (view json.now)) }
 {
-    if !has_only(json, &["version", "pipelining", "turns", "sessions"]) {
+    let work = stated_by(alloc, json)?;
+    if !is_accepted(json, &work) {
+        return Err(Misfit::OtherForm);
+    }
+    Ok(work)
+}
+
+/// The workload that a value states, in the form that is read.
+#[tactic(auto, unfolding(crate::specs::Workload::stated_by))]
+pub(crate) fn stated_by(alloc: Global, json: &Json) -> Result<Workload, Misfit>
+    ensures { Gives result (stated_by (view json.now)) }
+{
+    if !has_known_members(json) {
         return Err(Misfit::OtherForm);
     }
     let version = whole_member(json, "version")?;
     let pipelining = flag(member(json, "pipelining")?)?;
+    let splits = splits_or_none(alloc, json, "splits")?;
+    let reruns = reruns_or_default(json, "reruns")?;
+    let opening = opening_or_default(json, "opening")?;
     let turns: Turns = list(alloc, member(json, "turns")?)?;
     let sessions: Sessions = list(alloc, member(json, "sessions")?)?;
-    if !is_built(version, pipelining, &sessions) {
+    if !is_within(version, pipelining, opening, &sessions, &turns) {
         return Err(Misfit::OtherForm);
     }
     Ok(Workload {
         version: 1,
-        pipelining,
-        splits: Items::new(alloc),
+        pipelining: false,
+        splits,
         limit: 1_000_000,
         tries: 4,
-        reruns: 8,
-        opening: 0,
+        reruns,
+        opening: opening as u32,
         sessions,
         turns: Some(turns),
     })
 }
 
-fn is_built(version: u64, pipelining: bool, sessions: &Sessions) -> bool
-    ensures { result ≡ is_built version pipelining sessions.now }
+/// Whether the value is an object in which each member is one of a workload's.
+fn has_known_members(json: &Json) -> bool
+    ensures { result ≡ has_only workload_names (view json.now) }
 {
-    version == 1 && !pipelining && sessions.len() == 1 && sessions.count() <= STATEMENTS
+    has_only(
+        json,
+        &[
+            "version",
+            "pipelining",
+            "splits",
+            "reruns",
+            "opening",
+            "turns",
+            "sessions",
+        ],
+    )
+}
+
+/// How often a transaction may be asked again, by default 8 times.
+fn reruns_or_default(json: &Json, name: &str) -> Result<u32, Misfit>
+    ensures { Gives result (member_or 8 (whole_up_to rerun_limit) name.now (view json.now)) }
+{
+    match json.get(name) {
+        Some(stated) => whole_up_to(stated, RERUNS),
+        None => Ok(8),
+    }
+}
+
+/// How many items of the first session run ahead, by default none.
+fn opening_or_default(json: &Json, name: &str) -> Result<u64, Misfit>
+    ensures { Gives result (member_or 0 whole_of name.now (view json.now)) }
+{
+    match json.get(name) {
+        Some(stated) => whole(stated),
+        None => Ok(0),
+    }
+}
+
+/// Version 1 without pipelining, and sessions, turns and an opening within their limits.
+fn is_within(
+    version: u64,
+    pipelining: bool,
+    opening: u64,
+    sessions: &Sessions,
+    turns: &Turns,
+) -> bool
+    ensures { result ≡ is_within version pipelining opening sessions.now turns.now }
+{
+    version == 1
+        && !pipelining
+        && are_sessions(sessions)
+        && are_turns(sessions, turns)
+        && opening <= first_items(sessions)
+}
+
+/// How many items the first session has.
+fn first_items(sessions: &Sessions) -> u64
+    ensures { result ≡ first_items sessions.now }
+{
+    match sessions.get(0) {
+        Some(first) => first.script.len() as u64,
+        None => 0,
+    }
+}
+
+fn are_sessions(sessions: &Sessions) -> bool
+    ensures { result ≡ are_sessions sessions.now }
+{
+    sessions.len() >= 1 && sessions.len() <= SESSIONS && sessions.count() <= STATEMENTS
+}
+
+fn are_turns(sessions: &Sessions, turns: &Turns) -> bool
+    ensures { result ≡ are_turns sessions.now turns.now }
+{
+    turns.len() <= TURNS && are_there(turns.as_slice(), sessions.len())
+}
+
+fn are_there(turns: &[Turn], sessions: usize) -> bool
+    ensures { result ≡ list_all (is_there sessions) turns.now }
+{
+    turns.iter().all(|turn| turn.is_there(sessions))
 }
