@@ -1,5 +1,5 @@
 -- What the laws of runs say of the history that the program writes.
-use Rattle.std.proofs.Common.{◌≡◌, ℕ, Bool, List, inl, refl, sym, ap, ◌∙◌}
+use Rattle.std.proofs.Common.{◌≡◌, ℕ, ◌+◌, ◌^◌, ◌<◌, Bool, List, [], arith, length, IfOk, Ok, Err, Result, inl, refl, sym, ap, subst, ◌∙◌}
 use Rattle.pc_base.specs.declared.actor.ActorId.{ActorId}
 use Rattle.pc_base.specs.declared.entry.Entry.{Entry}
 use Rattle.pc_implicit.proofs.OneDecision.{decisions_do_not_differ}
@@ -28,16 +28,24 @@ is_run_of work rules entries run follows only =
       legal = is-legal (head_in work) entries run unstaged (inl (puts_and_commits_read_nothing entries only));
     }
 
-pub is_run_over : (work : Workload) (entries : List (Entry Event)) → IsRun (head_in work) entries → IsRunOver work.splits entries
-is_run_over work entries run = record { head = head_in work; cut = refl; run = run }
+-- A workload of the built form has no split.
+pub few_over : (work : Workload) → work.splits ≡ [] → length work.splits + 1 < 2 ^ 32
+few_over work none = subst (λ splits. length splits + 1 < 2 ^ 32) (sym none) (omega arith)
+
+-- The entries are a run over the workload's splits.
+pub run_over : (work : Workload) (entries reported : List (Entry Event)) → IsRun (head_in work) entries → reported ≡ entries → IsRunOver work.splits reported
+run_over work entries reported run same = record { head = head_in work; cut = refl; run = subst (λ es. IsRun (head_in work) es) (sym same) run }
 
 -- The text of such a run and of its report is an output.
-pub is_output : (work : Workload) (rules : ActorId → ℕ → ℕ → Bool) (entries : List (Entry Event)) (report : Report) (text : List ℕ)
+pub output_of : {V E : Type 0} (r : Result V E) (items : V → List ℕ) (work : Workload) (rules : ActorId → ℕ → ℕ → Bool) (entries reported printed : List (Entry Event)) (report : Report)
     → IsRun (head_in work) entries → Follows work rules (head_in work) entries → OnlyPutsAndCommits entries
-    → ((head : Head) → head.splits ≡ work.splits → report ≡ report_of head entries)
-    → text ≡ output_text work entries report → IsOutput work rules text
-is_output work rules entries report text run follows only reported whole = record {
-  entries = entries;
-  is = is_run_of work rules entries run follows only;
-  whole = whole ∙ ap (output_text work entries) (reported (head_in work) refl);
-}
+    → reported ≡ entries → printed ≡ entries → ((head : Head) → head.splits ≡ work.splits → report ≡ report_of head reported)
+    → IfOk r (λ out. items out ≡ output_text work printed report) → IfOk r (λ out. IsOutput work rules (items out))
+output_of (Ok out) items work rules entries reported printed report run follows only same_one same_two is text =
+    let right : report ≡ report_of (head_in work) entries = is (head_in work) refl ∙ ap (report_of (head_in work)) same_one in
+    record {
+      entries = entries;
+      is = is_run_of work rules entries run follows only;
+      whole = text ∙ ap (λ es. output_text work es report) same_two ∙ ap (output_text work entries) right;
+    }
+output_of (Err e) items work rules entries reported printed report run follows only same_one same_two is text = tt
