@@ -184,12 +184,24 @@ fn scan_of(span: Span) -> Next {
     })
 }
 
+fn put_bytes(
+    coordinator: &mut Coordinator,
+    alloc: Global,
+    key: &[u8],
+    value: &[u8],
+    number: u64,
+) -> Result<(), Fail>
+    requires { number < 100 }
+{
+    let key = Key::new(alloc, key)?;
+    let value = Value::new(alloc, value)?;
+    write(coordinator, Call::Put(key, value), number)
+}
+
 fn three_writes(coordinator: &mut Coordinator, alloc: Global) -> Result<(), Fail> {
     let _begun = begin(coordinator)?;
-    let first = Call::Put(Key::new(alloc, b"a")?, Value::new(alloc, b"1")?);
-    write(coordinator, first, 1)?;
-    let second = Call::Put(Key::new(alloc, b"n")?, Value::new(alloc, b"2")?);
-    write(coordinator, second, 2)?;
+    put_bytes(coordinator, alloc, b"a", b"1", 1)?;
+    put_bytes(coordinator, alloc, b"n", b"2", 2)?;
     write(coordinator, Call::Delete(Key::new(alloc, b"a")?), 3)
 }
 
