@@ -198,11 +198,24 @@ fn put_bytes(
     write(coordinator, Call::Put(key, value), number)
 }
 
-fn three_writes(coordinator: &mut Coordinator, alloc: Global) -> Result<(), Fail> {
+fn remove(coordinator: &mut Coordinator, alloc: Global) -> Result<(), Fail> {
+    let key = Key::new(alloc, b"a")?;
+    write(coordinator, Call::Delete(key), 3)
+}
+
+fn first_write(coordinator: &mut Coordinator, alloc: Global) -> Result<(), Fail> {
     let _begun = begin(coordinator)?;
-    put_bytes(coordinator, alloc, b"a", b"1", 1)?;
+    put_bytes(coordinator, alloc, b"a", b"1", 1)
+}
+
+fn further_writes(coordinator: &mut Coordinator, alloc: Global) -> Result<(), Fail> {
     put_bytes(coordinator, alloc, b"n", b"2", 2)?;
-    write(coordinator, Call::Delete(Key::new(alloc, b"a")?), 3)
+    remove(coordinator, alloc)
+}
+
+fn three_writes(coordinator: &mut Coordinator, alloc: Global) -> Result<(), Fail> {
+    first_write(coordinator, alloc)?;
+    further_writes(coordinator, alloc)
 }
 
 fn rows(alloc: Global, origin: Origin) -> Result<Rows, Fail> {
