@@ -2,7 +2,9 @@ pub mod Anywhere
 pub mod Each
 pub mod Exchange
 pub mod Kept
+pub mod KeyOrder
 pub mod Knowing
+pub mod Pieces
 pub mod Prefixes
 pub mod PutsAndCommits
 pub mod Stamps

@@ -1,6 +1,6 @@
 -- The order of the committed transactions: by commit timestamp, and where timestamps are equal by commit point. SIGMOD 2020 paper,
 -- section 3; ties by commit point are this project's own profile.
-use Rattle.std.specs.Prelude.{ℕ, Option, None, Some, List, map}
+use Rattle.std.specs.Prelude.{ℕ, Option, None, Some, List}
 use Rattle.std.specs.List.{filter_map}
 use Rattle.std.specs.Option.{option_map}
 use Rattle.std.specs.Ordering.{nat_cmp, ordering_then}

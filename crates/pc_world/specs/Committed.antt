@@ -1,7 +1,7 @@
 -- When a transaction is committed: its record says so, or its record is staging and every write that it lists is present. SIGMOD
 -- 2020 paper, section 3.1; RFC 20180324, "implicitly committed"; ParallelCommits TLA+, ImplicitCommit. That a removed record leaves
 -- a mark, and that a transaction without a put has no record, is this project's own profile.
-use Rattle.std.specs.Prelude.{◌≡◌, ℕ, Bool, true, false, if◌then◌else◌, Option, None, Some, List, [], ◌∷◌, ◌++◌, length, is_some, slice_get}
+use Rattle.std.specs.Prelude.{◌≡◌, ℕ, Bool, false, if◌then◌else◌, Option, None, Some, List, [], ◌∷◌, ◌++◌, length, is_some, slice_get}
 use Rattle.std.specs.List.{filter_map, list_all}
 use Rattle.pc_base.specs.declared.entry.Entry.{Entry}
 use Rattle.pc_base.specs.declared.transaction.TxnId.{TxnId}

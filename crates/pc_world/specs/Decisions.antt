@@ -1,6 +1,6 @@
 -- No two decisions differ: a commit is acknowledged or recovered only where the transaction is committed, and a transaction that is
 -- committed stays so, at one timestamp. RFC 20180324; ParallelCommits TLA+, ImplicitCommitLeadsToExplicitCommit and AckImpliesCommit.
-use Rattle.std.specs.Prelude.{◌≡◌, ℕ, false, ◌⊎◌, Option, Some, List, [], ◌∷◌, ◌++◌, IsTrue}
+use Rattle.std.specs.Prelude.{◌≡◌, ℕ, false, ◌⊎◌, Some, List, [], ◌∷◌, ◌++◌, IsTrue}
 use Rattle.std.specs.Option.{option_map_or}
 use Rattle.pc_base.specs.declared.entry.Entry.{Entry}
 use Rattle.pc_base.specs.declared.transaction.TxnId.{TxnId}

@@ -2,5 +2,6 @@
 -- event, and the reply that it brings decide it. Own profile.
 pub mod EarlyProof
 pub mod EarlyTell
+pub mod FinishingJobs
 pub mod PipelinedPuts
 pub mod Resends

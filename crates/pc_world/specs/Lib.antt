@@ -1,19 +1,20 @@
 -- The protocol: what ranges answer, what actors know, may send and may tell, and which histories are its runs.
 pub mod After
+pub mod Answering
+pub mod Caused
 pub mod CommitOrder
 pub mod Committed
-pub mod Evaluation
-pub mod Follows
-pub mod Exchange
-pub mod Caused
 pub mod Counting
 pub mod Decisions
+pub mod Evaluation
+pub mod Exchange
+pub mod Follows
 pub mod Known
 pub mod Laws
 pub mod Legal
+pub mod Local
 pub mod MapRun
 pub mod MaySend
-pub mod Local
 pub mod MayTell
 pub mod Named
 pub mod Operations

@@ -1,7 +1,6 @@
 -- Which earlier entry an event names: an evaluation the send of its actor and number, a hearing the evaluation at its step, a
 -- meeting the telling at its step.
 use Rattle.std.specs.Prelude.{ℕ, Bool, true, false, ◌&&◌, ◌==◌, Option, None, Some}
-use Rattle.pc_base.specs.declared.actor.ActorId.{ActorId}
 use Rattle.pc_base.specs.declared.entry.Entry.{Entry}
 use Rattle.pc_history.specs.Own.{same_id}
 use Rattle.pc_proto.specs.declared.event.Event.{Event}

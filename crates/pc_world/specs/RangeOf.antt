@@ -1,10 +1,16 @@
 -- Which range holds a key or a span. Own profile: ranges are fixed, and cut at the split keys.
-use Rattle.std.specs.Prelude.{◌≡◌, ℕ, ◌+◌, ◌≤◌, Bool, if◌then◌else◌, Option, None, Some, List, [], ◌∷◌, ◌++◌, length, count_by}
+use Rattle.std.specs.Prelude.{◌≡◌, ℕ, ◌+◌, ◌≤◌, if◌then◌else◌, Option, None, Some, List, [], ◌∷◌, ◌++◌, length, count_by, All, IsTrue, ⊤}
 use Rattle.pc_base.specs.declared.span.Span.{Span}
 use Rattle.pc_base.specs.declared.span.Span.TheVariants.{One, Between}
 use Rattle.pc_base.specs.Span.{is_empty, key_at_most, key_below}
 use Rattle.pc_proto.specs.declared.request.Request.{Request}
 use Rattle.pc_proto.specs.declared.request.Request.TheVariants as requests
+
+-- The keys rise, each strictly above the one before.
+abbrev pub AreRising : List (List ℕ) → Type 0
+AreRising [] = ⊤
+AreRising (key ∷ []) = ⊤
+AreRising (key ∷ next ∷ keys) = IsTrue (key_below key next) × AreRising (next ∷ keys)
 
 -- How many split keys are not above the key.
 abbrev pub range_of : List (List ℕ) → List ℕ → ℕ
@@ -54,3 +60,24 @@ GoesTo splits (requests.Recover id epoch ts anchor finding) range = range ≡ ra
 GoesTo splits (requests.Resolve id key fate) range = range ≡ range_of splits key
 GoesTo splits (requests.Remove id anchor) range = range ≡ range_of splits anchor
 GoesTo splits requests.Records range = range ≤ length splits
+
+-- The span lies in one range.
+abbrev pub LiesInOne : List (List ℕ) → Span → Type 0
+LiesInOne splits span = (range : ℕ) × (pieces splits span ≡ (range, span) ∷ [])
+
+-- The range of the span's start.
+abbrev pub range_of_start : List (List ℕ) → Span → ℕ
+range_of_start splits (One key) = range_of splits key
+range_of_start splits (Between None to) = 0
+range_of_start splits (Between (Some from) to) = range_of splits from
+
+-- If the request names a span, that lies in one range.
+abbrev pub IsForOne : List (List ℕ) → Request → Type 0
+IsForOne splits (requests.Scan id epoch seq ts span) = LiesInOne splits span
+IsForOne splits (requests.Refresh id from to span) = LiesInOne splits span
+IsForOne splits _ = ⊤
+
+-- No two of the spans are the same.
+abbrev pub AreDistinct : List Span → Type 0
+AreDistinct [] = ⊤
+AreDistinct (span ∷ spans) = All (λ other. span ≡ other → ⊥) spans × AreDistinct spans

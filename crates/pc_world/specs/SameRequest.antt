@@ -1,5 +1,5 @@
 -- When two messages are of one request: they are equal, or they are puts of one transaction, epoch and sequence.
-use Rattle.std.specs.Prelude.{◌≡◌, ℕ, ◌⊎◌}
+use Rattle.std.specs.Prelude.{◌≡◌, ◌⊎◌}
 use Rattle.pc_proto.specs.declared.request.Request.{Request}
 use Rattle.pc_proto.specs.declared.request.Request.TheVariants as requests
 use Rattle.pc_world.specs.Known.Traffic.{Sent}

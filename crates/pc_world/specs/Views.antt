@@ -1,8 +1,10 @@
 -- The views of a transaction that were heard.
-use Rattle.std.specs.Prelude.{◌≡◌, ℕ, Bool, false, ◌&&◌, ◌==◌, not, Option, None, Some, List, find, is_some, Any, IsTrue}
-use Rattle.std.specs.Option.{option_and_then, option_map, option_map_or}
+use Rattle.std.specs.Prelude.{◌≡◌, ℕ, Bool, false, ◌&&◌, ◌==◌, not, if◌then◌else◌, Option, None, Some, List, [], ◌∷◌, find, is_some, Any, IsTrue}
+use Rattle.std.specs.Option.{option_and_then, option_map_or, option_or}
 use Rattle.pc_base.specs.declared.transaction.TxnId.{TxnId}
 use Rattle.pc_base.specs.Transaction.{same_txn}
+use Rattle.pc_proto.specs.declared.fate.Fate.{Fate}
+use Rattle.pc_proto.specs.declared.fate.Fate.TheVariants as fates
 use Rattle.pc_proto.specs.declared.reply.Reply.{Reply}
 use Rattle.pc_proto.specs.declared.reply.Reply.TheVariants as replies
 use Rattle.pc_proto.specs.declared.request.Request.{Request}
@@ -76,3 +78,18 @@ pub record ShowsAborted (id : TxnId) (why : Why) (h : Heard) : Type 0 where
 -- The transaction was heard to be aborted, with this cause.
 abbrev pub WasAborted : List Heard → TxnId → Why → Type 0
 WasAborted heard id why = Any (ShowsAborted id why) heard
+
+-- The fate that a final view shows.
+abbrev pub final_fate : View → Option Fate
+final_fate (views.Committed epoch ts locks) = Some (fates.Committed epoch ts)
+final_fate (views.Aborted epoch why locks) = Some fates.Aborted
+final_fate _ = None
+
+-- The fate of the transaction that a reply shows, where it shows a final view of it.
+abbrev pub fate_shown : TxnId → Heard → Option Fate
+fate_shown id h = if is_about id h.request then option_and_then final_fate (view_in h.reply) else None
+
+-- The fate of the transaction, by the first final view of it that was heard.
+abbrev pub fate_heard : TxnId → List Heard → Option Fate
+fate_heard id [] = None
+fate_heard id (h ∷ heard) = option_or (fate_shown id h) (fate_heard id heard)

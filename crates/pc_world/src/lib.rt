@@ -11,4 +11,4 @@ pub use laws::{
     steps_are_places,
 };
 pub use machine::MachineNext;
-pub use ranges::range_of;
+pub use ranges::{range_for, range_of};

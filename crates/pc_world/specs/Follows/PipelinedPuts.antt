@@ -3,7 +3,6 @@
 use Rattle.std.specs.Prelude.{◌≡◌, ℕ, ◌-◌, ◌≤◌, Bool, true, false, ◌&&◌, not, ◌⊎◌, Option, None, Some, List, [], ◌∷◌, length, take, count_by, All, Any, Contains, IsTrue, ⊤}
 use Rattle.std.specs.List.{list_any}
 use Rattle.pc_base.specs.Span.{contains}
-use Rattle.pc_proto.specs.declared.answer.Answer.{Answer}
 use Rattle.pc_proto.specs.declared.answer.Answer.TheVariants as answers
 use Rattle.pc_proto.specs.declared.call.Call.{Call}
 use Rattle.pc_proto.specs.declared.call.Call.TheVariants as calls

@@ -1,10 +1,8 @@
 -- Commit may be sent: by a commit whose writes are all proved at or below its timestamp and whose reads are good there; after the
 -- transaction was told committed; or where it was heard that it is. SIGMOD 2020 paper, section 3.3; RFC 20180324.
-use Rattle.std.specs.Prelude.{◌≡◌, ◌≢◌, ℕ, ◌⊎◌, Some, List, All, Any, Contains}
-use Rattle.pc_base.specs.declared.transaction.TxnId.{TxnId}
+use Rattle.std.specs.Prelude.{◌≡◌, ◌≢◌, ℕ, ◌⊎◌, Some, All, Contains}
 use Rattle.pc_proto.specs.declared.call.Call.TheVariants as calls
 use Rattle.pc_world.specs.Known.{Known, call_of, open_txn}
-use Rattle.pc_world.specs.Known.Traffic.{Heard}
 use Rattle.pc_world.specs.Known.Transactions.{Txn, IsGood, IsMetaOf}
 use Rattle.pc_world.specs.Known.Writes.{IsProvedBy}
 use Rattle.pc_world.specs.StageFate.{Commit, EachCommit, EachStage, IsLate, IsRefused}

@@ -1,7 +1,7 @@
 -- Push may be sent: by a session against the holder of an intent that stood in the way in the open call, a reader to move it past
 -- the read, a writer to abort it; by a recoverer against a transaction that was listed in the open round. SIGMOD 2020 paper,
 -- section 3.2.
-use Rattle.std.specs.Prelude.{◌≡◌, ℕ, ◌+◌, Some, List, Any, Contains}
+use Rattle.std.specs.Prelude.{◌≡◌, ℕ, ◌+◌, Some, Any, Contains}
 use Rattle.pc_base.specs.declared.actor.ActorId.{ActorId}
 use Rattle.pc_base.specs.declared.actor.ActorId.TheVariants as actors
 use Rattle.pc_base.specs.declared.transaction.Priority.{Priority}

@@ -1,6 +1,6 @@
 -- Get and Scan may be sent: the open transaction reads, at its read timestamp, what the open call asks, once its own writes there
 -- are proved. SIGMOD 2020 paper, sections 3.1 and 3.3.
-use Rattle.std.specs.Prelude.{◌≡◌, ℕ, Bool, Option, Some, List, All, Contains, IsTrue, map}
+use Rattle.std.specs.Prelude.{◌≡◌, ℕ, Some, List, All, Contains, IsTrue, map}
 use Rattle.pc_base.specs.declared.span.Span.{Span}
 use Rattle.pc_base.specs.declared.span.Span.TheVariants.{One}
 use Rattle.pc_base.specs.declared.transaction.TxnId.{TxnId}

@@ -1,6 +1,6 @@
 -- Resolve and Remove may be sent: an intent may be settled as its transaction's record was heard to be, and a final record removed
 -- once each of its locks was settled. SIGMOD 2020 paper, section 3.2; removal by marks is this project's own profile.
-use Rattle.std.specs.Prelude.{◌≡◌, ℕ, ◌≤◌, ◌⊎◌, Some, List, [], All, Any, Contains, IsTrue}
+use Rattle.std.specs.Prelude.{◌≡◌, ℕ, ◌+◌, ◌≤◌, ◌⊎◌, Some, List, All, Any, Contains, IsTrue}
 use Rattle.pc_base.specs.declared.transaction.TxnId.{TxnId}
 use Rattle.pc_proto.specs.declared.fate.Fate.{Fate}
 use Rattle.pc_proto.specs.declared.fate.Fate.TheVariants as fates
@@ -8,6 +8,7 @@ use Rattle.pc_proto.specs.declared.request.Request.TheVariants as requests
 use Rattle.pc_proto.specs.declared.reply.Reply.TheVariants as replies
 use Rattle.pc_proto.specs.declared.view.View.{View}
 use Rattle.pc_proto.specs.declared.view.View.TheVariants as views
+use Rattle.pc_proto.specs.Stamps.{fate_stamps}
 use Rattle.pc_world.specs.Known.{Known}
 use Rattle.pc_world.specs.Known.Traffic.{Heard}
 use Rattle.pc_world.specs.Known.Transactions.{Txn}
@@ -69,3 +70,13 @@ pub record MaySendRemove (k : Known) (id : TxnId) (anchor : List ℕ) : Type 0 w
   pub final : Any (ShowsFinal id shown) k.heard
   pub must : MustSettle k id shown locks
   pub settled : AllResolved k.heard id locks
+
+-- The transaction may be finished with this fate, by these locks under this anchor: what its resolves and its removal ask for, but for
+-- the settling of the locks itself.
+pub record MayFinish (k : Known) (id : TxnId) (anchor : List ℕ) (fate : Fate) (locks : List (List ℕ)) : Type 0 where
+  pub resolve : MaySendResolve k id fate
+  pub stamps : All (λ ts. ts ≤ k.top + 1) (fate_stamps fate)
+  pub anchored : anchor_heard id k.heard ≡ Some anchor
+  pub shown : List (List ℕ)
+  pub final : Any (ShowsFinal id shown) k.heard
+  pub must : MustSettle k id shown locks

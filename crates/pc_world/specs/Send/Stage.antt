@@ -3,11 +3,10 @@
 -- ParallelCommits TLA+, PipelineWritesAndStage.
 use Rattle.std.specs.Prelude.{◌≡◌, ◌≢◌, ℕ, ◌<◌, ◌⊎◌, Some, List, [], All, Any, Contains, IsTrue}
 use Rattle.pc_proto.specs.declared.call.Call.TheVariants as calls
-use Rattle.pc_proto.specs.declared.meta.TxnMeta.{TxnMeta}
 use Rattle.pc_world.specs.Known.{Known, call_of, open_txn, reading_of}
 use Rattle.pc_world.specs.Known.Traffic.{Heard}
 use Rattle.pc_world.specs.Known.Transactions.{Txn, IsGood, IsMetaOf}
-use Rattle.pc_world.specs.Known.Writes.{Write, IsProvedBy, is_proved, listed_as, unproved}
+use Rattle.pc_world.specs.Known.Writes.{IsProvedBy, is_proved, listed_as, unproved}
 use Rattle.pc_world.specs.StageFate.{Stage, EachCommit, EachStage, IsLate, IsLateByRecord, IsRefused, stage_request}
 
 -- An earlier stage does not stand in the way of one at this timestamp.

@@ -1,0 +1,69 @@
+-- The kinds of reply that a range gives to the requests of a session, where nothing is staged.
+use Rattle.std.specs.Prelude.{◌≡◌, true, ⊤}
+use Rattle.pc_base.specs.declared.transaction.TxnId.{TxnId}
+use Rattle.pc_proto.specs.declared.reply.Reply.{Reply}
+use Rattle.pc_proto.specs.declared.reply.Reply.TheVariants as replies
+use Rattle.pc_proto.specs.declared.request.Request.{Request}
+use Rattle.pc_proto.specs.declared.request.Request.TheVariants as requests
+use Rattle.pc_proto.specs.declared.view.View.{View}
+use Rattle.pc_proto.specs.declared.view.View.TheVariants as views
+use Rattle.pc_world.specs.Known.Transactions.{is_final_view}
+
+-- A conflict is with another transaction.
+abbrev pub IsWithAnother : TxnId → Reply → Type 0
+IsWithAnother id (replies.Conflict holder ts key) = holder.id ≡ id → ⊥
+IsWithAnother id _ = ⊥
+
+-- A get is answered by a value, or met an intent of another.
+abbrev pub IsGetReply : TxnId → Reply → Type 0
+IsGetReply id (replies.Value origin value) = ⊤
+IsGetReply id told = IsWithAnother id told
+
+-- A scan is answered by rows, or met an intent of another.
+abbrev pub IsScanReply : TxnId → Reply → Type 0
+IsScanReply id (replies.Rows rows) = ⊤
+IsScanReply id told = IsWithAnother id told
+
+-- A put is answered by where it was written, or met an intent of another.
+abbrev pub IsPutReply : TxnId → Reply → Type 0
+IsPutReply id (replies.Written ts) = ⊤
+IsPutReply id told = IsWithAnother id told
+
+-- The record is there, and stages nothing.
+abbrev pub IsUnstagedView : View → Type 0
+IsUnstagedView (views.Pending epoch ts) = ⊤
+IsUnstagedView (views.Committed epoch ts locks) = ⊤
+IsUnstagedView (views.Aborted epoch why locks) = ⊤
+IsUnstagedView (views.Staging epoch ts writes) = ⊥
+IsUnstagedView views.Nothing = ⊥
+
+-- A commit is answered by its record's status.
+abbrev pub IsCommitReply : Reply → Type 0
+IsCommitReply (replies.Status view) = IsUnstagedView view
+IsCommitReply _ = ⊥
+
+-- An abort is answered by a final status.
+abbrev pub IsAbortReply : Reply → Type 0
+IsAbortReply (replies.Status view) = is_final_view view ≡ true
+IsAbortReply _ = ⊥
+
+-- A push is answered by a status that stages nothing, or refused.
+abbrev pub IsPushReply : Reply → Type 0
+IsPushReply (replies.Status view) = IsUnstagedView view
+IsPushReply (replies.Refused view) = ⊤
+IsPushReply _ = ⊥
+
+abbrev pub IsResolved : Reply → Type 0
+IsResolved replies.Resolved = ⊤
+IsResolved _ = ⊥
+
+-- The request may be answered so.
+abbrev pub MayAnswer : Request → Reply → Type 0
+MayAnswer (requests.Get id epoch seq ts key) told = IsGetReply id told
+MayAnswer (requests.Scan id epoch seq ts span) told = IsScanReply id told
+MayAnswer (requests.Put meta seq ts key value) told = IsPutReply meta.id told
+MayAnswer (requests.Commit meta ts locks) told = IsCommitReply told
+MayAnswer (requests.Abort meta why locks) told = IsAbortReply told
+MayAnswer (requests.Push holder by level now goal) told = IsPushReply told
+MayAnswer (requests.Resolve id key fate) told = IsResolved told
+MayAnswer _ told = ⊤

@@ -1,0 +1,95 @@
+-- Finishing jobs: what a transaction leaves behind when it is over is settled by its own session, between calls: each of its locks in
+-- key order, and then its record is removed. SIGMOD 2020 paper, section 3.2, "asynchronous intent resolution"; the order and the
+-- removal are this project's own profile.
+use Rattle.std.specs.Prelude.{◌≡◌, ℕ, Bool, false, Option, None, Some, List, [], ◌∷◌, ◌++◌, All, Any, IsTrue, map, fold, is_some, if◌then◌else◌, slice_get, ⊤}
+use Rattle.pc_base.specs.declared.transaction.TxnId.{TxnId}
+use Rattle.pc_base.specs.Transaction.{same_txn}
+use Rattle.pc_history.specs.declared.pair.Pair.{Pair}
+use Rattle.pc_proto.specs.declared.answer.Answer.{Answer}
+use Rattle.pc_proto.specs.declared.answer.Answer.TheVariants as answers
+use Rattle.pc_proto.specs.declared.event.Event.{Event}
+use Rattle.pc_proto.specs.declared.event.Event.TheVariants as events
+use Rattle.pc_proto.specs.declared.fate.Fate.{Fate}
+use Rattle.pc_proto.specs.declared.request.Request.{Request}
+use Rattle.pc_proto.specs.declared.request.Request.TheVariants as requests
+use Rattle.pc_world.specs.Known.{Known, learn, nothing_known, open_txn}
+use Rattle.pc_world.specs.Known.Transactions.{Txn}
+use Rattle.pc_world.specs.Tell.Refusal.{is_heard}
+use Rattle.pc_world.specs.Views.{fate_heard}
+
+-- The messages that settle a transaction of this fate and anchor: each of its locks, and then its record.
+abbrev pub settling : Txn → Option Fate → Option (List ℕ) → List Request
+settling t None anchor = []
+settling t (Some fate) None = []
+settling t (Some fate) (Some anchor) = map (λ lock. requests.Resolve t.id lock fate) t.locks ++ requests.Remove t.id anchor ∷ []
+
+-- What is left to be done of a transaction that ends: its settling, where it was heard to be committed or aborted.
+abbrev pub left_of : Known → Txn → List Request
+left_of k t = settling t (fate_heard t.id k.heard) t.anchor
+
+abbrev pub left_if : Known → Option Txn → List Request
+left_if k None = []
+left_if k (Some t) = left_of k t
+
+-- What an answer leaves to be done of the open transaction, which it ends. A commit of which nothing is known leaves nothing.
+abbrev pub left_by : Answer → Known → List Request
+left_by (answers.Committed id ts) k = left_if k (open_txn k)
+left_by (answers.Aborted why) k = left_if k (open_txn k)
+left_by (answers.RolledBack id why) k = left_if k (open_txn k)
+left_by _ k = []
+
+-- The jobs with one more, if there is anything to do in it.
+abbrev pub with_job : List Request → List (List Request) → List (List Request)
+with_job [] jobs = jobs
+with_job (message ∷ messages) jobs = jobs ++ (message ∷ messages) ∷ []
+
+-- The jobs once the next message of the oldest one was sent.
+abbrev pub without_first : List (List Request) → List (List Request)
+without_first [] = []
+without_first ([] ∷ jobs) = jobs
+without_first ((message ∷ []) ∷ jobs) = jobs
+without_first ((message ∷ more ∷ messages) ∷ jobs) = (more ∷ messages) ∷ jobs
+
+-- The jobs that wait after an event: an answer that ends a transaction adds its job, and a message between calls is the next one of
+-- the oldest job.
+abbrev pub jobs_after : Event → Known → List (List Request) → List (List Request)
+jobs_after (events.Tell answer) k jobs = with_job (left_by answer k) jobs
+jobs_after (events.Send number range request) k jobs = if is_some k.statement then jobs else without_first jobs
+jobs_after _ k jobs = jobs
+
+-- What a session knows, and which jobs wait, each by its messages that are still to be sent, the oldest first.
+pub record Duty : Type 0 where
+  pub known : Known
+  pub jobs : List (List Request)
+
+abbrev pub duty_after : Duty → Pair Event → Duty
+duty_after d p = record { known = learn p d.known; jobs = jobs_after p.entry.event d.known d.jobs }
+
+-- The jobs that wait after a session's own list.
+abbrev pub jobs_of : List (Pair Event) → List (List Request)
+jobs_of own = (fold duty_after (record { known = nothing_known; jobs = [] }) own).jobs
+
+-- The next message of the oldest job.
+abbrev pub first_message : List (List Request) → Option Request
+first_message [] = None
+first_message (job ∷ jobs) = slice_get job 0
+
+-- A message that is sent between calls is the next one of the oldest job, and each message before it was heard.
+pub record IsDue (k : Known) (jobs : List (List Request)) (request : Request) : Type 0 where
+  pub next : first_message jobs ≡ Some request
+  pub heard : All (λ m. IsTrue (is_heard k.heard m)) k.sent
+
+abbrev pub DoesJobs : Known → List (List Request) → Event → Type 0
+DoesJobs k jobs (events.Send number range request) = k.statement ≡ None → IsDue k jobs request
+DoesJobs k jobs _ = ⊤
+
+-- The request aborts the transaction.
+abbrev pub is_abort_of : TxnId → Request → Bool
+is_abort_of id (requests.Abort meta why locks) = same_txn meta.id id
+is_abort_of id _ = false
+
+-- A rollback of a transaction that has an anchor is told only once its abort was heard in the call.
+abbrev pub AbortsFirst : Known → Event → Type 0
+AbortsFirst k (events.Tell (answers.RolledBack id why)) =
+    (t : Txn) (anchor : List ℕ) → open_txn k ≡ Some t → t.anchor ≡ Some anchor → Any (λ h. IsTrue (is_abort_of t.id h.request)) k.heard_now
+AbortsFirst k _ = ⊤
