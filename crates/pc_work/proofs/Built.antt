@@ -1,30 +1,80 @@
 -- A workload that is read is of the form that is built.
-use Rattle.std.proofs.Common.{◌≡◌, ℕ, ◌≤◌, ◌==◌, ◌&&◌, not, nat_le, Bool, true, false, cond, List, [], ◌∷◌, length, sum_by, Option, Some, None, refl, ap, subst, arith}
+use Rattle.std.proofs.Common.{◌≡◌, ℕ, ◌≤◌, ◌==◌, ◌&&◌, not, nat_le, Bool, true, false, cond, All, List, [], ◌∷◌, length, sum_by, Option, Some, None, ◌⊎◌, inl, inr, codes, refl, subst, arith}
 use Rattle.std.specs.List.{list_all, AllByRecursion}
-use Rattle.std.specs.Option.{IsSomeAnd}
-use Rattle.std.proofs.lemmas.Bool.{and_parts, not-true, eqb-true, eqb-false, leb-true, false≢true}
-use Rattle.std.proofs.lemmas.List.Elements.{All-from_recursion}
-use Rattle.std.proofs.lemmas.Option.{cond_some, none-some}
-use Rattle.serde_json.specs.Data.{Data}
-use Rattle.pc_base.specs.declared.transaction.Priority.TheVariants.{Low, Normal, High}
+use Rattle.std.proofs.lemmas.Bool.{and_parts, or_cases, leb-true, false≢true}
+use Rattle.std.proofs.lemmas.List.Elements.{All-cons, All-from_recursion, All-nil}
+use Rattle.std.proofs.lemmas.Option.{none-some}
+use Rattle.serde_json.specs.Data.{Data, null, boolean, number, string, array, object, Items, no_items, item}
+use Rattle.serde_json.specs.Find.{get, as_bool}
+use Rattle.pc_base.specs.Span.{key_below}
+use Rattle.pc_base.specs.declared.transaction.Priority.TheVariants.{Normal}
 use Rattle.pc_work.specs.Reading.{◌>>=◌}
+use Rattle.pc_work.specs.Members.{has_only, member_or, read_or, whole_in, whole_of, whole_up_to}
+use Rattle.pc_work.specs.Lists.{items_by, list_by}
 use Rattle.pc_work.specs.Count.{session_count, statement_limit}
-use Rattle.pc_work.specs.Accepted.{is_put, is_built_item, greatest_start, starts_within, is_built_session, has_no_turns, is_built, states_no_default, is_accepted}
-use Rattle.pc_work.specs.Workload.{session_limit, first_items, are_sessions, are_turns, is_within, stated_by, workload_of}
-use Rattle.pc_work.specs.Built.{IsPut, IsBuiltItem, IsBuiltSession, IsBuilt}
-use Rattle.pc_work.specs.declared.clock.ClockWork.{ClockWork}
-use Rattle.pc_work.specs.declared.item.Item.{Item}
-use Rattle.pc_work.specs.declared.item.Item.TheVariants.{Learn, Txn}
+use Rattle.pc_work.specs.Item.{only_reads, only_writes, are_alike, item_names, item_of}
+use Rattle.pc_work.specs.Clock.{clock_of}
+use Rattle.pc_work.specs.Ending.{commits_of}
+use Rattle.pc_work.specs.Priority.{priority_of}
+use Rattle.pc_work.specs.Statement.{statement_of}
+use Rattle.pc_work.specs.Texts.{key_of}
+use Rattle.pc_work.specs.Session.{session_names, session_of}
+use Rattle.pc_work.specs.Splits.{rises, split_limit, splits_of}
+use Rattle.pc_work.specs.Turn.{turn_of, is_there}
+use Rattle.pc_work.specs.Workload.{rerun_limit, session_limit, turn_limit, first_items, are_sessions, are_turns, is_within, workload_names, workload_of}
+use Rattle.pc_work.specs.Built.{IsReadStatement, IsWriteStatement, IsBuiltItem, IsBuiltSession, IsTurnOf, AreTurnsOf, RisesBehind, Rises, IsBuilt}
+use Rattle.pc_work.specs.declared.item.Item.TheVariants.{Txn}
 use Rattle.pc_work.specs.declared.session.SessionWork.{SessionWork}
 use Rattle.pc_work.specs.declared.statement.Statement.{Statement}
 use Rattle.pc_work.specs.declared.statement.Statement.TheVariants.{Get, Scan, Put, Delete, Add}
 use Rattle.pc_work.specs.declared.turn.Turn.{Turn}
+use Rattle.pc_work.specs.declared.turn.Turn.TheVariants.{Session, Job, Recoverer}
 use Rattle.pc_work.specs.declared.workload.Workload.{Workload}
 
--- What was found, where something was found with it.
-taken : {A B : Type 0} (found : Option A) (next : A → Option B) (y : B) → (found >>= next) ≡ Some y → (x : A) × (found ≡ Some x) × (next x ≡ Some y)
-taken (Some x) next y e = (x, refl, e)
-taken None next y e = absurd (none-some y e)
+-- What is found, if anything, has the property.
+record Only {Y : Type 0} (P : Y → Type 0) (found : Option Y) : Type 0 where
+  each : (y : Y) → found ≡ Some y → P y
+
+only_some : {Y : Type 0} (P : Y → Type 0) (y : Y) → P y → Only P (Some y)
+only_some P y has = record { each = λ z e. let same : y ≡ z = cc in subst P same has }
+
+only_none : {Y : Type 0} (P : Y → Type 0) → Only P None
+only_none P = record { each = λ y e. absurd (none-some y e) }
+
+-- Of what was found before, a property is known.
+only_known : {A B : Type 0} (Q : A → Type 0) (P : B → Type 0) (found : Option A) (next : A → Option B) → Only Q found → ((x : A) → Q x → Only P (next x)) → Only P (found >>= next)
+only_known Q P (Some x) next known follows = follows x (known.each x refl)
+only_known Q P None next known follows = only_none P
+
+-- Of what was found before, nothing is known.
+only_behind : {A B : Type 0} (P : B → Type 0) (found : Option A) (next : A → Option B) → ((x : A) → Only P (next x)) → Only P (found >>= next)
+only_behind P (Some x) next follows = follows x
+only_behind P None next follows = only_none P
+
+only_when : {B : Type 0} (P : B → Type 0) (test : Bool) (found : Option B) → (test ≡ true → Only P found) → Only P (cond test found None)
+only_when P true found only = only refl
+only_when P false found only = only_none P
+
+-- A member that is absent is at its default, which has the property too.
+only_read : {X : Type 0} (P : X → Type 0) (default : X) (read : Data → Option X) → P default → ((value : Data) → Only P (read value)) → (found : Option Data) → Only P (read_or default read found)
+only_read P default read has each None = only_some P default has
+only_read P default read has each (Some value) = each value
+
+items_only : {X : Type 0} (P : X → Type 0) (read : Data → Option X) → ((value : Data) → Only P (read value)) → (values : Items) → Only (All P) (items_by read values)
+unfolding items_by
+items_only P read each no_items = only_some (All P) [] (All-nil P)
+items_only P read each (item value values) =
+    only_known P (All P) (read value) (λ first. items_by read values >>= λ others. Some (first ∷ others)) (each value) (λ first one.
+    only_known (All P) (All P) (items_by read values) (λ others. Some (first ∷ others)) (items_only P read each values) (λ others rest.
+    only_some (All P) (first ∷ others) (All-cons P first others one rest)))
+
+list_only : {X : Type 0} (P : X → Type 0) (read : Data → Option X) → ((value : Data) → Only P (read value)) → (value : Data) → Only (All P) (list_by read value)
+list_only P read each null = only_none (All P)
+list_only P read each (boolean b) = only_none (All P)
+list_only P read each (number n) = only_none (All P)
+list_only P read each (string s) = only_none (All P)
+list_only P read each (array values) = items_only P read each values
+list_only P read each (object fields) = only_none (All P)
 
 -- What the test says holds of each.
 each_by : {X : Type 0} (test : X → Bool) (P : X → Type 0) → ((x : X) → test x ≡ true → P x) → (xs : List X) → list_all test xs ≡ true → AllByRecursion P xs
@@ -33,123 +83,142 @@ each_by test P says (x ∷ xs) e =
     let both = and_parts (test x) (list_all test xs) e in
     (says x both.0, each_by test P says xs both.1)
 
-put_is_put : (statement : Statement) → is_put statement ≡ true → IsPut statement
-put_is_put (Get key) e = absurd (false≢true e)
-put_is_put (Scan span) e = absurd (false≢true e)
-put_is_put (Put key value) e = tt
-put_is_put (Delete key) e = absurd (false≢true e)
-put_is_put (Add key amount) e = absurd (false≢true e)
+all_by : {X : Type 0} (test : X → Bool) (P : X → Type 0) → ((x : X) → test x ≡ true → P x) → (xs : List X) → list_all test xs ≡ true → All P xs
+all_by test P says xs e = All-from_recursion P xs (each_by test P says xs e)
 
-item_is_built : (item : Item) → is_built_item item ≡ true → IsBuiltItem item
-item_is_built (Learn id) e = absurd (false≢true e)
-item_is_built (Txn Low statements commits) e = absurd (false≢true e)
-item_is_built (Txn High statements commits) e = absurd (false≢true e)
-item_is_built (Txn Normal statements false) e = absurd (false≢true e)
-item_is_built (Txn Normal statements true) e =
-    let both = and_parts (not (length statements == 0)) (list_all is_put statements) e in
-    let other : length statements ≡ 0 → ⊥ = eqb-false (length statements) 0 (not-true (length statements == 0) both.0) in
-    (refl, refl, omega arith, All-from_recursion IsPut statements (each_by is_put IsPut put_is_put statements both.1))
+reads : (statement : Statement) → only_reads statement ≡ true → IsReadStatement statement
+reads (Get key) e = tt
+reads (Scan span) e = tt
+reads (Put key value) e = absurd (false≢true e)
+reads (Delete key) e = absurd (false≢true e)
+reads (Add key amount) e = absurd (false≢true e)
 
-clock_starts : (clock : Option ClockWork) → starts_within clock ≡ true → IsSomeAnd clock (λ clock. clock.start ≤ greatest_start)
-clock_starts None e = absurd (false≢true e)
-clock_starts (Some clock) e = leb-true clock.start greatest_start e
+writes : (statement : Statement) → only_writes statement ≡ true → IsWriteStatement statement
+writes (Get key) e = absurd (false≢true e)
+writes (Scan span) e = absurd (false≢true e)
+writes (Put key value) e = tt
+writes (Delete key) e = tt
+writes (Add key amount) e = absurd (false≢true e)
 
-session_is_built : (session : SessionWork) → is_built_session session ≡ true → IsBuiltSession session
-session_is_built session e =
-    let all_but_clock = and_parts (length session.script == 1 && list_all is_built_item session.script) (starts_within session.clock) e in
-    let both = and_parts (length session.script == 1) (list_all is_built_item session.script) all_but_clock.0 in
+unmixed : (statements : List Statement) → are_alike statements ≡ true → All IsReadStatement statements ⊎ All IsWriteStatement statements
+unmixed statements e = elim (or_cases (list_all only_reads statements) (list_all only_writes statements) e) [
+  | inl r ↦ inl (all_by only_reads IsReadStatement reads statements r)
+  | inr w ↦ inr (all_by only_writes IsWriteStatement writes statements w)
+]
+
+item_is_built : (value : Data) → Only IsBuiltItem (item_of value)
+unfolding item_of
+item_is_built value =
+    only_when IsBuiltItem (has_only item_names value) _ (λ named.
+    only_behind IsBuiltItem (get (codes "do") value) _ (λ found.
+    only_behind IsBuiltItem (list_by statement_of found) _ (λ statements.
+    only_behind IsBuiltItem (member_or Normal priority_of (codes "priority") value) _ (λ priority.
+    only_behind IsBuiltItem (member_or true commits_of (codes "end") value) _ (λ commits.
+    only_when IsBuiltItem (are_alike statements) _ (λ alike.
+    only_some IsBuiltItem (Txn priority statements commits) (unmixed statements alike)))))))
+
+session_is_built : (value : Data) → Only IsBuiltSession (session_of value)
+unfolding session_of
+session_is_built value =
+    only_when IsBuiltSession (has_only session_names value) _ (λ named.
+    only_behind IsBuiltSession (get (codes "clock") value) _ (λ stated.
+    only_behind IsBuiltSession (clock_of stated) _ (λ clock.
+    only_behind IsBuiltSession (get (codes "script") value) _ (λ found.
+    only_known (All IsBuiltItem) IsBuiltSession (list_by item_of found) _ (list_only IsBuiltItem item_of item_is_built found) (λ script items.
+    only_some IsBuiltSession (record { script = script; clock = Some clock }) (record { clock = refl; items = items }))))))
+
+rises_behind : (key : List ℕ) (keys : List (List ℕ)) → rises (key ∷ keys) ≡ true → RisesBehind key keys
+rises_behind key [] e = tt
+rises_behind key (next ∷ others) e =
+    let both = and_parts (key_below key next) (rises (next ∷ others)) e in
+    (both.0, rises_behind next others both.1)
+
+rises_by : (keys : List (List ℕ)) → rises keys ≡ true → Rises keys
+rises_by [] e = tt
+rises_by (key ∷ keys) e = rises_behind key keys e
+
+-- The splits rise, and are no more than the limit.
+record AreSplits (splits : List (List ℕ)) : Type 0 where
+  rising : Rises splits
+  few : length splits ≤ split_limit
+
+splits_only : (value : Data) → Only AreSplits (splits_of value)
+unfolding splits_of
+splits_only value =
+    only_behind AreSplits (list_by key_of value) _ (λ keys.
+    only_when AreSplits (nat_le (length keys) split_limit && rises keys) (Some keys) (λ within.
+    let both = and_parts (nat_le (length keys) split_limit) (rises keys) within in
+    only_some AreSplits keys (record { rising = rises_by keys both.1; few = leb-true (length keys) split_limit both.0 })))
+
+whole_only : (most : ℕ) (value : Data) → Only (λ n. n ≤ most) (whole_up_to most value)
+whole_only most value =
+    only_behind (λ n. n ≤ most) (whole_of value) (λ n. cond (nat_le n most) (Some n) None) (λ n.
+    only_when (λ n. n ≤ most) (nat_le n most) (Some n) (λ within.
+    only_some (λ n. n ≤ most) n (leb-true n most within)))
+
+turn_is_there : (sessions : ℕ) (turn : Turn) → is_there sessions turn ≡ true → IsTurnOf sessions turn
+turn_is_there sessions (Session n) e =
+    let both = and_parts (nat_le 1 n) (nat_le n sessions) e in
+    (leb-true 1 n both.0, leb-true n sessions both.1)
+turn_is_there sessions (Job n) e =
+    let both = and_parts (nat_le 1 n) (nat_le n sessions) e in
+    (leb-true 1 n both.0, leb-true n sessions both.1)
+turn_is_there sessions (Recoverer n) e = absurd (false≢true e)
+
+turns_are_there : (sessions : List SessionWork) (turns : List Turn) → are_turns sessions turns ≡ true → AreTurnsOf (length sessions) turns
+turns_are_there sessions turns e =
+    let both = and_parts (nat_le (length turns) turn_limit) (list_all (is_there (length sessions)) turns) e in
     record {
-      one_item = eqb-true (length session.script) 1 both.0;
-      items = All-from_recursion IsBuiltItem session.script (each_by is_built_item IsBuiltItem item_is_built session.script both.1);
-      clock = clock_starts session.clock all_but_clock.1;
+      few = leb-true (length turns) turn_limit both.0;
+      each = all_by (is_there (length sessions)) (IsTurnOf (length sessions)) (turn_is_there (length sessions)) turns both.1;
     }
-
-is_nil : {X : Type 0} (xs : List X) → (length xs == 0) ≡ true → xs ≡ []
-is_nil [] e = refl
-is_nil (x ∷ xs) e =
-    let none : length (x ∷ xs) ≡ 0 = eqb-true (length (x ∷ xs)) 0 e in
-    absurd (omega arith)
-
-no_turns : (turns : Option (List Turn)) → has_no_turns turns ≡ true → turns ≡ Some []
-no_turns None e = absurd (false≢true e)
-no_turns (Some turns) e = ap Some (is_nil turns e)
-
--- What a workload that is read has, whatever the value states.
-record IsRead (work : Workload) : Type 0 where
-  version : work.version ≡ 1
-  pipelining : work.pipelining ≡ false
-  limit : work.limit ≡ 1000000
-  tries : work.tries ≡ 4
-  few : sum_by session_count work.sessions ≤ statement_limit
 
 abbrev made : List (List ℕ) → ℕ → ℕ → List Turn → List SessionWork → Workload
 made splits reruns opening turns sessions = record { version = 1; pipelining = false; splits = splits; limit = 1000000; tries = 4; reruns = reruns; opening = opening; sessions = sessions; turns = Some turns }
 
-read_from : (version : ℕ) (pipelining : Bool) (splits : List (List ℕ)) (reruns opening : ℕ) (turns : List Turn) (sessions : List SessionWork) (work : Workload)
-    → cond (is_within version pipelining opening sessions turns) (Some (made splits reruns opening turns sessions)) None ≡ Some work → IsRead work
-read_from version pipelining splits reruns opening turns sessions work e =
-    let read = cond_some (is_within version pipelining opening sessions turns) (made splits reruns opening turns sessions) work e in
-    let all_but_opening = and_parts (version == 1 && not pipelining && are_sessions sessions && are_turns sessions turns) (nat_le opening (first_items sessions)) read.0 in
+made_is_built : (version : ℕ) (pipelining : Bool) (splits : List (List ℕ)) (reruns opening : ℕ) (turns : List Turn) (sessions : List SessionWork) → is_within version pipelining opening sessions turns ≡ true
+    → AreSplits splits → reruns ≤ rerun_limit → All IsBuiltSession sessions → IsBuilt (made splits reruns opening turns sessions)
+made_is_built version pipelining splits reruns opening turns sessions e cut few each =
+    let all_but_opening = and_parts (version == 1 && not pipelining && are_sessions sessions && are_turns sessions turns) (nat_le opening (first_items sessions)) e in
     let all_but_turns = and_parts (version == 1 && not pipelining && are_sessions sessions) (are_turns sessions turns) all_but_opening.0 in
     let all_but_sessions = and_parts (version == 1 && not pipelining) (are_sessions sessions) all_but_turns.0 in
     let counted = and_parts (nat_le 1 (length sessions) && nat_le (length sessions) session_limit) (nat_le (sum_by session_count sessions) statement_limit) all_but_sessions.1 in
-    subst IsRead {x = made splits reruns opening turns sessions} {y = work} read.1 (record {
+    let bounded = and_parts (nat_le 1 (length sessions)) (nat_le (length sessions) session_limit) counted.0 in
+    record {
       version = refl;
       pipelining = refl;
+      splits = cut.rising;
+      few_splits = cut.few;
       limit = refl;
       tries = refl;
-      few = leb-true (sum_by session_count sessions) statement_limit counted.1;
-    })
-
--- What is found, if anything, has the property.
-record Only {Y : Type 0} (P : Y → Type 0) (found : Option Y) : Type 0 where
-  each : (y : Y) → found ≡ Some y → P y
-
-only_behind : {A B : Type 0} (P : B → Type 0) (found : Option A) (next : A → Option B) → ((x : A) → Only P (next x)) → Only P (found >>= next)
-only_behind P (Some x) next follows = follows x
-only_behind P None next follows = record { each = λ y e. absurd (none-some y e) }
-
-only_when : {B : Type 0} (P : B → Type 0) (test : Bool) (found : Option B) → Only P found → Only P (cond test found None)
-only_when P true found only = only
-only_when P false found only = record { each = λ y e. absurd (none-some y e) }
-
-only_read : (version : ℕ) (pipelining : Bool) (splits : List (List ℕ)) (reruns opening : ℕ) (turns : List Turn) (sessions : List SessionWork)
-    → Only IsRead (cond (is_within version pipelining opening sessions turns) (Some (made splits reruns opening turns sessions)) None)
-only_read version pipelining splits reruns opening turns sessions = record { each = read_from version pipelining splits reruns opening turns sessions }
-
-read_only : (value : Data) → Only IsRead (stated_by value)
-unfolding stated_by
-read_only value = search (only_behind, only_when, only_read) depth 16
-
-is_read : (value : Data) (work : Workload) → stated_by value ≡ Some work → IsRead work
-is_read value work e = (read_only value).each work e
-
-work_is_built : (work : Workload) → IsRead work → is_built work ≡ true → IsBuilt work
-work_is_built work read e =
-    let all_but_sessions = and_parts (length work.splits == 0 && work.reruns == 8 && work.opening == 0 && has_no_turns work.turns && length work.sessions == 1) (list_all is_built_session work.sessions) e in
-    let all_but_one = and_parts (length work.splits == 0 && work.reruns == 8 && work.opening == 0 && has_no_turns work.turns) (length work.sessions == 1) all_but_sessions.0 in
-    let all_but_turns = and_parts (length work.splits == 0 && work.reruns == 8 && work.opening == 0) (has_no_turns work.turns) all_but_one.0 in
-    let all_but_opening = and_parts (length work.splits == 0 && work.reruns == 8) (work.opening == 0) all_but_turns.0 in
-    let both = and_parts (length work.splits == 0) (work.reruns == 8) all_but_opening.0 in
-    record {
-      version = read.version;
-      pipelining = read.pipelining;
-      splits = is_nil work.splits both.0;
-      limit = read.limit;
-      tries = read.tries;
-      reruns = eqb-true work.reruns 8 both.1;
-      opening = eqb-true work.opening 0 all_but_opening.1;
-      one_session = eqb-true (length work.sessions) 1 all_but_one.1;
-      sessions = All-from_recursion IsBuiltSession work.sessions (each_by is_built_session IsBuiltSession session_is_built work.sessions all_but_sessions.1);
-      few = read.few;
-      turns = no_turns work.turns all_but_turns.1;
+      reruns = few;
+      opening = leb-true opening (first_items sessions) all_but_opening.1;
+      some_session = leb-true 1 (length sessions) bounded.0;
+      few_sessions = leb-true (length sessions) session_limit bounded.1;
+      sessions = each;
+      few_statements = leb-true (sum_by session_count sessions) statement_limit counted.1;
+      turns = turns_are_there sessions turns all_but_turns.1;
     }
+
+only_built : (value : Data) → Only IsBuilt (workload_of value)
+unfolding workload_of
+only_built value =
+    let cut = only_read AreSplits [] splits_of (record { rising = tt; few = omega arith }) splits_only (get (codes "splits") value) in
+    let asked = only_read (λ n. n ≤ rerun_limit) 8 (whole_up_to rerun_limit) (omega arith) (whole_only rerun_limit) (get (codes "reruns") value) in
+    only_when IsBuilt (has_only workload_names value) _ (λ named.
+    only_behind IsBuilt (whole_in (codes "version") value) _ (λ version.
+    only_behind IsBuilt (get (codes "pipelining") value) _ (λ stated.
+    only_behind IsBuilt (as_bool stated) _ (λ pipelining.
+    only_known AreSplits IsBuilt (member_or [] splits_of (codes "splits") value) _ cut (λ splits rising.
+    only_known (λ n. n ≤ rerun_limit) IsBuilt (member_or 8 (whole_up_to rerun_limit) (codes "reruns") value) _ asked (λ reruns few.
+    only_behind IsBuilt (member_or 0 whole_of (codes "opening") value) _ (λ opening.
+    only_behind IsBuilt (get (codes "turns") value) _ (λ listed.
+    only_behind IsBuilt (list_by turn_of listed) _ (λ turns.
+    only_behind IsBuilt (get (codes "sessions") value) _ (λ found.
+    only_known (All IsBuiltSession) IsBuilt (list_by session_of found) _ (list_only IsBuiltSession session_of session_is_built found) (λ sessions each.
+    only_when IsBuilt (is_within version pipelining opening sessions turns) _ (λ within.
+    only_some IsBuilt (made splits reruns opening turns sessions) (made_is_built version pipelining splits reruns opening turns sessions within rising few each)))))))))))))
 
 -- The workload that a JSON value states is of the form that is built.
 pub value_is_built : (value : Data) (work : Workload) → workload_of value ≡ Some work → IsBuilt work
-unfolding workload_of
-value_is_built value work e =
-    let read = taken (stated_by value) (λ work. cond (is_accepted value work) (Some work) None) work e in
-    let accepted = cond_some (is_accepted value read.0) read.0 work read.2 in
-    let built = and_parts (states_no_default value) (is_built read.0) accepted.0 in
-    subst IsBuilt {x = read.0} {y = work} accepted.1 (work_is_built read.0 (is_read value read.0 read.1) built.1)
+value_is_built value work e = (only_built value).each work e

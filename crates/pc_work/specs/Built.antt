@@ -1,45 +1,90 @@
--- The form of a workload that is built so far, as a fact about the workload itself: what runs a workload may rest on it.
-use Rattle.std.specs.Prelude.{◌≡◌, ◌≤◌, ◌<◌, false, true, [], length, sum_by, Some, IsSomeAnd, All}
-use Rattle.pc_base.specs.declared.transaction.Priority.TheVariants.{Normal}
-use Rattle.pc_work.specs.Accepted.{greatest_start}
+-- The form of a workload that is read, as a fact about the workload itself: what runs a workload may rest on it.
+use Rattle.std.specs.Prelude.{◌≡◌, ◌≤◌, ℕ, false, List, [], ◌∷◌, length, sum_by, IsSome, IsSomeAnd, IsTrue, All, ◌⊎◌, ⊤}
+use Rattle.pc_base.specs.Span.{key_below}
 use Rattle.pc_work.specs.Count.{session_count, statement_limit}
+use Rattle.pc_work.specs.Splits.{split_limit}
+use Rattle.pc_work.specs.Workload.{rerun_limit, session_limit, turn_limit, first_items}
 use Rattle.pc_work.specs.declared.statement.Statement.{Statement}
 use Rattle.pc_work.specs.declared.statement.Statement.TheVariants.{Get, Scan, Put, Delete, Add}
 use Rattle.pc_work.specs.declared.item.Item.{Item}
 use Rattle.pc_work.specs.declared.item.Item.TheVariants.{Learn, Txn}
 use Rattle.pc_work.specs.declared.session.SessionWork.{SessionWork}
+use Rattle.pc_work.specs.declared.turn.Turn.{Turn}
+use Rattle.pc_work.specs.declared.turn.Turn.TheVariants.{Session, Job, Recoverer}
 use Rattle.pc_work.specs.declared.workload.Workload.{Workload}
 
--- The statement is a put.
-abbrev pub IsPut : Statement → Type 0
-IsPut (Get key) = ⊥
-IsPut (Scan span) = ⊥
-IsPut (Put key value) = Unit {0}
-IsPut (Delete key) = ⊥
-IsPut (Add key amount) = ⊥
+-- The statement reads, and writes nothing: a get or a scan.
+abbrev pub IsReadStatement : Statement → Type 0
+IsReadStatement (Get key) = ⊤
+IsReadStatement (Scan span) = ⊤
+IsReadStatement (Put key value) = ⊥
+IsReadStatement (Delete key) = ⊥
+IsReadStatement (Add key amount) = ⊥
 
--- The item is a transaction of one put or more that commits at the normal priority.
+-- The statement writes, and reads nothing: a put or a delete.
+abbrev pub IsWriteStatement : Statement → Type 0
+IsWriteStatement (Get key) = ⊥
+IsWriteStatement (Scan span) = ⊥
+IsWriteStatement (Put key value) = ⊤
+IsWriteStatement (Delete key) = ⊤
+IsWriteStatement (Add key amount) = ⊥
+
+-- The item is a transaction whose statements all read, or all write.
 abbrev pub IsBuiltItem : Item → Type 0
 IsBuiltItem (Learn id) = ⊥
-IsBuiltItem (Txn priority statements commits) =
-    (priority ≡ Normal) × (commits ≡ true) × (0 < length statements) × All IsPut statements
+IsBuiltItem (Txn priority statements commits) = All IsReadStatement statements ⊎ All IsWriteStatement statements
 
--- The session has a clock whose start is in its limit, and one item.
+-- The session states its clock, and each item of its script is a transaction that only reads or only writes.
 pub record IsBuiltSession (session : SessionWork) : Type 0 where
-  pub one_item : length session.script ≡ 1
+  pub clock : IsSome session.clock
   pub items : All IsBuiltItem session.script
-  pub clock : IsSomeAnd session.clock (λ clock. clock.start ≤ greatest_start)
 
--- The workload has one session, in turns of which none is stated, without pipelining, and the rest at its default.
+-- The turn is that of one of so many sessions, or of its finishing job.
+abbrev pub IsTurnOf : ℕ → Turn → Type 0
+IsTurnOf sessions (Session number) = (1 ≤ number) × (number ≤ sessions)
+IsTurnOf sessions (Job number) = (1 ≤ number) × (number ≤ sessions)
+IsTurnOf sessions (Recoverer number) = ⊥
+
+-- The turns are no more than the limit, and each is that of one of so many sessions, or of its finishing job.
+pub record AreTurnsOf (sessions : ℕ) (listed : List Turn) : Type 0 where
+  pub few : length listed ≤ turn_limit
+  pub each : All (IsTurnOf sessions) listed
+
+-- The first of the keys stands behind this one, and each other behind the one before it.
+abbrev pub RisesBehind : List ℕ → List (List ℕ) → Type 0
+RisesBehind key [] = ⊤
+RisesBehind key (next ∷ others) = IsTrue (key_below key next) × RisesBehind next others
+
+-- Each key stands before the one behind it.
+abbrev pub Rises : List (List ℕ) → Type 0
+Rises [] = ⊤
+Rises (key ∷ others) = RisesBehind key others
+
+-- The workload runs in stated turns without pipelining, its sessions within their limits, and what it cannot state is at its default.
 pub record IsBuilt (work : Workload) : Type 0 where
+  -- The version is the one that is known.
   pub version : work.version ≡ 1
+  -- No put goes on before its range has answered.
   pub pipelining : work.pipelining ≡ false
-  pub splits : work.splits ≡ []
+  -- The splits rise strictly, in key order.
+  pub splits : Rises work.splits
+  -- The splits are no more than their limit.
+  pub few_splits : length work.splits ≤ split_limit
+  -- A range keeps the default number of entries.
   pub limit : work.limit ≡ 1000000
+  -- A request is sent the default number of times.
   pub tries : work.tries ≡ 4
-  pub reruns : work.reruns ≡ 8
-  pub opening : work.opening ≡ 0
-  pub one_session : length work.sessions ≡ 1
+  -- The reruns are no more than their limit.
+  pub reruns : work.reruns ≤ rerun_limit
+  -- No more items run ahead than the first session has.
+  pub opening : work.opening ≤ first_items work.sessions
+  -- There is a session.
+  pub some_session : 1 ≤ length work.sessions
+  -- The sessions are no more than their limit.
+  pub few_sessions : length work.sessions ≤ session_limit
+  -- Each session states its clock, and transactions that only read or only write.
   pub sessions : All IsBuiltSession work.sessions
-  pub few : sum_by session_count work.sessions ≤ statement_limit
-  pub turns : work.turns ≡ Some []
+  -- The statements of all sessions are no more than their limit.
+  pub few_statements : sum_by session_count work.sessions ≤ statement_limit
+  -- Turns are stated, and each is that of a session that is there, or of its finishing job.
+  pub turns : IsSomeAnd work.turns (AreTurnsOf (length work.sessions))

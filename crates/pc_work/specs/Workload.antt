@@ -1,5 +1,5 @@
--- What bytes are as a workload, and where they are none. What can be read is a workload in stated turns without pipelining, of up to 64
--- sessions that state their clocks. Of those, only what can be run is accepted so far.
+-- What bytes are as a workload, and where they are none. A workload is in stated turns without pipelining, of up to 64 sessions that
+-- state their clocks.
 use Rattle.std.specs.Prelude.{ℕ, Bool, false, ◌&&◌, ◌==◌, not, List, [], ◌∷◌, length, sum_by, nat_le, Option, Some, None, IsSome, Result, Ok, Err, codes, option_and_then, IsUtf8, if◌then◌else◌}
 use Rattle.std.specs.List.{list_all}
 use Rattle.serde_json.specs.Data.{Data}
@@ -12,7 +12,6 @@ use Rattle.pc_work.specs.Count.{session_count, statement_limit}
 use Rattle.pc_work.specs.Session.{session_of}
 use Rattle.pc_work.specs.Splits.{splits_of}
 use Rattle.pc_work.specs.Turn.{turn_of, is_there}
-use Rattle.pc_work.specs.Accepted.{is_accepted}
 use Rattle.pc_work.specs.declared.fault.WorkFault.{WorkFault}
 use Rattle.pc_work.specs.declared.fault.WorkFault.TheVariants as faults
 use Rattle.pc_work.specs.declared.session.SessionWork.{SessionWork}
@@ -54,9 +53,9 @@ abbrev pub is_within : ℕ → Bool → ℕ → List SessionWork → List Turn �
 is_within version pipelining opening sessions turns =
     version == 1 && not pipelining && are_sessions sessions && are_turns sessions turns && nat_le opening (first_items sessions)
 
--- The workload that a JSON value states, in the form that is read: what is absent is at its default.
-unfoldable pub stated_by : Data → Option Workload
-stated_by value = if has_only workload_names value then (do
+-- The workload that a JSON value states: what is absent is at its default.
+unfoldable pub workload_of : Data → Option Workload
+workload_of value = if has_only workload_names value then (do
   version ← whole_in (codes "version") value
   asked ← get (codes "pipelining") value
   pipelining ← as_bool asked
@@ -78,12 +77,6 @@ stated_by value = if has_only workload_names value then (do
     sessions = sessions;
     turns = Some turns;
   }) else None) else None
-
--- The workload that a JSON value states, where it is accepted so far.
-unfoldable pub workload_of : Data → Option Workload
-workload_of value = do
-  work ← stated_by value
-  if is_accepted value work then Some work else None
 
 -- The bytes have a reading as JSON: they are text, and the text has a value, nested at most 127 deep.
 pub record IsJson (bytes : List ℕ) : Type 0 where

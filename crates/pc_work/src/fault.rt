@@ -6,7 +6,7 @@ use thiserror::Error;
 #[derive(Clone, Copy, Debug, PartialEq, Eq, Error)]
 pub enum WorkFault {
     /// The least number of a refusal that applies: 1 where the bytes are no JSON, 10 where the value is of another form
-    /// than the one that is built.
+    /// than a workload's.
     #[error("workload refused: W{number}")]
     Refused { number: u8 },
     /// Memory ran out before the answer was known.

@@ -1,7 +1,6 @@
 //! The workload: what the sessions do, read from JSON, and the one refusal that applies where it is not accepted.
 #![tactic(auto)]
 
-mod accepted;
 mod clock;
 mod count;
 mod ending;

@@ -1,4 +1,4 @@
 mod accepted;
 mod fixtures;
+mod limits;
 mod parts;
-mod stated;

@@ -5,9 +5,8 @@ ghost use Rattle.pc_work.specs.Reading.{Gives};
 ghost use Rattle.pc_work.specs.Built.{IsBuilt};
 ghost use Rattle.pc_work.specs.Members.{has_only, member_or, whole_of, whole_up_to};
 ghost use Rattle.pc_work.specs.Turn.{is_there};
-ghost use Rattle.pc_work.specs.Workload.{workload_names, rerun_limit, first_items, are_sessions, are_turns, is_within, stated_by, workload_of, IsJson, workload_in, UnlessMemory};
+ghost use Rattle.pc_work.specs.Workload.{workload_names, rerun_limit, first_items, are_sessions, are_turns, is_within, workload_of, IsJson, workload_in, UnlessMemory};
 
-use crate::accepted::is_accepted;
 use crate::count::Counted;
 use crate::fault::{Misfit, WorkFault};
 use crate::json::{flag, has_only, list, member, whole, whole_member, whole_up_to};
@@ -21,7 +20,7 @@ use std::alloc::Global;
 /// The number of the refusal of bytes that are no JSON.
 const NO_JSON: u8 = 1;
 
-/// The number of the refusal of a value of another form than the one that is built.
+/// The number of the refusal of a value of another form than a workload's.
 const OTHER_FORM: u8 = 10;
 
 /// The most statements of a workload, each begin, each end and each learn counted, and an add as two.
@@ -79,22 +78,10 @@ impl Workload {
     }
 }
 
-/// The workload that a value states, where it is accepted so far.
+/// The workload that a value states.
 #[tactic(auto, unfolding(crate::specs::Workload::workload_of))]
 fn workload_of(alloc: Global, json: &Json) -> Result<Workload, Misfit>
     ensures { Gives result (workload_of (view json.now)) }
-{
-    let work = stated_by(alloc, json)?;
-    if !is_accepted(json, &work) {
-        return Err(Misfit::OtherForm);
-    }
-    Ok(work)
-}
-
-/// The workload that a value states, in the form that is read.
-#[tactic(auto, unfolding(crate::specs::Workload::stated_by))]
-pub(crate) fn stated_by(alloc: Global, json: &Json) -> Result<Workload, Misfit>
-    ensures { Gives result (stated_by (view json.now)) }
 {
     if !has_known_members(json) {
         return Err(Misfit::OtherForm);

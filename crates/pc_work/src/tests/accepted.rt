@@ -1,4 +1,4 @@
-//! What is accepted so far, and with which number all else is refused.
+//! What is accepted, and with which number all else is refused.
 
 use super::fixtures::{ONE_PUT, number_of, workload};
 use crate::{ClockWork, Item, Statement, Workload};
@@ -72,9 +72,11 @@ fn lists_nest_at_most_127_deep(rt: HostRuntime) -> Result<(), Fail> {
 fn a_clock_has_a_start_and_a_step_in_their_limits(rt: HostRuntime) -> Result<(), Fail> {
     let alloc = rt.alloc();
     for (clock, number) in [
-        ("{\"start\":4611686018427387904,\"step\":0}", 0),
-        ("{\"start\":4611686018427387905,\"step\":0}", 10),
-        ("{\"start\":0,\"step\":18446744073709551615}", 0),
+        ("{\"start\":4611686018427387905,\"step\":0}", 0),
+        (
+            "{\"start\":18446744073709551615,\"step\":18446744073709551615}",
+            0,
+        ),
         ("{\"start\":0,\"step\":18446744073709551616}", 10),
         ("{\"start\":1.0,\"step\":1}", 10),
         ("{\"start\":-0,\"step\":1}", 10),
@@ -85,6 +87,7 @@ fn a_clock_has_a_start_and_a_step_in_their_limits(rt: HostRuntime) -> Result<(),
         ("{\"start\":1,\"step\":1,\"stop\":1}", 10),
         ("{\"start\":1.0,\"step\":1,\"start\":1}", 0),
         ("{\"start\":1,\"step\":1,\"start\":1.0}", 10),
+        ("null", 10),
     ] {
         let text = workload(alloc, clock, "{\"put\":[\"a\",\"x\"]}")?;
         assert_eq!(rt; number_of(alloc, text.as_bytes())?, number, "{clock}");
@@ -93,14 +96,17 @@ fn a_clock_has_a_start_and_a_step_in_their_limits(rt: HostRuntime) -> Result<(),
 }
 
 #[test]
-fn a_transaction_has_one_put_or_more(rt: HostRuntime) -> Result<(), Fail> {
+fn statements_all_read_or_all_write(rt: HostRuntime) -> Result<(), Fail> {
     let alloc = rt.alloc();
     for (statements, number) in [
-        ("", 10),
-        ("{\"put\":[\"a\",\"\"]},{\"put\":[\"a\",\"y\"]}", 0),
+        ("", 0),
+        ("{\"put\":[\"a\",\"\"]},{\"delete\":\"b\"}", 0),
+        ("{\"get\":\"a\"},{\"scan\":[\"\",\"b\"]}", 0),
         ("{\"put\":[\"\\u0061\",\"x\"]}", 0),
+        ("{\"get\":\"a\"},{\"delete\":\"a\"}", 10),
+        ("{\"put\":[\"a\",\"x\"]},{\"scan\":[\"\",\"\"]}", 10),
+        ("{\"add\":[\"a\",1]}", 10),
         ("{\"put\":[\"a\",\"x\"]},{}", 10),
-        ("{\"get\":\"a\"}", 10),
         ("{\"put\":[\"a\"]}", 10),
         ("{\"put\":[\"a\",\"x\",\"y\"]}", 10),
         ("{\"put\":[\"a\",1]}", 10),
@@ -130,56 +136,26 @@ fn a_key_has_at_most_64_letters(rt: HostRuntime) -> Result<(), Fail> {
     Ok(())
 }
 
-/// All of these can be read. Nobody runs them yet.
 #[test]
-fn other_members_have_10(rt: HostRuntime) -> Result<(), Fail> {
+fn a_script_has_any_number_of_transactions(rt: HostRuntime) -> Result<(), Fail> {
     let alloc = rt.alloc();
-    let session =
-        "{\"clock\":{\"start\":10,\"step\":1},\"script\":[{\"do\":[{\"put\":[\"a\",\"x\"]}]}]}";
-    for members in [
-        "\"turns\":[],\"splits\":[\"m\"]",
-        "\"turns\":[],\"splits\":[]",
-        "\"turns\":[],\"reruns\":8",
-        "\"turns\":[],\"opening\":0",
-        "\"turns\":[\"s1\"]",
+    for (session, number) in [
+        ("\"script\":[]", 0),
+        (
+            "\"script\":[{\"do\":[]},{\"do\":[],\"priority\":\"high\",\"end\":\"rollback\"}]",
+            0,
+        ),
+        ("\"script\":[{\"do\":[]},{\"learn\":\"1.1\"}]", 10),
+        ("\"script\":[{\"priority\":\"high\"}]", 10),
+        ("\"script\":{}", 10),
+        ("\"script\":[],\"stop\":1", 10),
+        ("\"script\":[],\"wire\":{\"list\":[]}", 10),
+        ("\"scripts\":[]", 10),
     ] {
         let text = format!(in alloc;
-            "{{\"version\":1,\"pipelining\":false,{members},\"sessions\":[{session}]}}"
+            "{{\"version\":1,\"pipelining\":false,\"turns\":[],\"sessions\":[{{\"clock\":{{\"start\":10,\"step\":1}},{session}}}]}}"
         )?;
-        assert_eq!(rt; number_of(alloc, text.as_bytes())?, 10, "{members}");
+        assert_eq!(rt; number_of(alloc, text.as_bytes())?, number, "{session}");
     }
-    Ok(())
-}
-
-/// So can these.
-#[test]
-fn other_scripts_have_10(rt: HostRuntime) -> Result<(), Fail> {
-    let alloc = rt.alloc();
-    for script in [
-        "",
-        "{\"do\":[{\"put\":[\"a\",\"x\"]}],\"priority\":\"normal\"}",
-        "{\"do\":[{\"put\":[\"a\",\"x\"]}],\"end\":\"commit\"}",
-        "{\"do\":[{\"put\":[\"a\",\"x\"]}],\"end\":\"rollback\"}",
-        "{\"do\":[{\"put\":[\"a\",\"x\"]}]},{\"do\":[{\"put\":[\"a\",\"x\"]}]}",
-        "{\"do\":[{\"get\":\"a\"}]}",
-        "{\"do\":[{\"scan\":[\"\",\"\"]}]}",
-        "{\"do\":[{\"delete\":\"a\"}]}",
-    ] {
-        let text = format!(in alloc;
-            "{{\"version\":1,\"pipelining\":false,\"turns\":[],\"sessions\":[{{\"clock\":{{\"start\":10,\"step\":1}},\"script\":[{script}]}}]}}"
-        )?;
-        assert_eq!(rt; number_of(alloc, text.as_bytes())?, 10, "{script}");
-    }
-    Ok(())
-}
-
-#[test]
-fn two_sessions_have_10(rt: HostRuntime) -> Result<(), Fail> {
-    let session =
-        "{\"clock\":{\"start\":10,\"step\":1},\"script\":[{\"do\":[{\"put\":[\"a\",\"x\"]}]}]}";
-    let text = format!(in rt.alloc();
-        "{{\"version\":1,\"pipelining\":false,\"turns\":[],\"sessions\":[{session},{session}]}}"
-    )?;
-    assert_eq!(rt; number_of(rt.alloc(), text.as_bytes())?, 10);
     Ok(())
 }

@@ -1,19 +1,12 @@
-//! Whole workloads of the form that is read, past what is accepted so far.
+//! What is absent from a workload, what is stated there, and the limits of both.
 
-use super::fixtures::found;
-use crate::workload::stated_by;
+use super::fixtures::number_of;
 use crate::{Turn, Workload};
-use serde_json::Value as Json;
 use std::alloc::Global;
 use std::test::Fail;
 
 /// A session of one item, without statements.
 const SESSION: &str = "{\"clock\":{\"start\":10,\"step\":1},\"script\":[{\"do\":[]}]}";
-
-fn stated(alloc: Global, text: &str) -> Result<Option<Workload>, Fail> {
-    let json = Json::from_str(alloc, text)?;
-    found(stated_by(alloc, &json))
-}
 
 /// Version 1 without pipelining, with these members and two sessions.
 fn with(alloc: Global, members: &str) -> Result<String, Fail> {
@@ -25,7 +18,7 @@ fn with(alloc: Global, members: &str) -> Result<String, Fail> {
 #[test]
 fn what_is_absent_is_at_its_default(rt: HostRuntime) -> Result<(), Fail> {
     let text = with(rt.alloc(), "\"turns\":[]")?;
-    let work = stated(rt.alloc(), text.as_str())?.ok_or("a workload")?;
+    let work = Workload::read(rt.alloc(), text.as_bytes())?;
     assert_eq!(rt; (work.version, work.pipelining), (1, false));
     assert_eq!(rt;
         (work.limit, work.tries, work.reruns, work.opening),
@@ -39,7 +32,7 @@ fn what_is_absent_is_at_its_default(rt: HostRuntime) -> Result<(), Fail> {
 fn what_is_stated_is_read(rt: HostRuntime) -> Result<(), Fail> {
     let members = "\"splits\":[\"g\",\"m\"],\"reruns\":64,\"opening\":1,\"turns\":[\"s2\",\"b1\"]";
     let text = with(rt.alloc(), members)?;
-    let work = stated(rt.alloc(), text.as_str())?.ok_or("a workload")?;
+    let work = Workload::read(rt.alloc(), text.as_bytes())?;
     assert_eq!(rt; (work.splits.len(), work.reruns, work.opening), (2, 64, 1));
     let turns = work.turns.as_ref().ok_or("turns")?;
     assert_eq!(rt;
@@ -51,31 +44,32 @@ fn what_is_stated_is_read(rt: HostRuntime) -> Result<(), Fail> {
 
 #[test]
 fn members_have_their_limits(rt: HostRuntime) -> Result<(), Fail> {
-    for (members, is_read) in [
-        ("\"turns\":[],\"reruns\":0", true),
-        ("\"turns\":[],\"reruns\":65", false),
-        ("\"turns\":[],\"reruns\":8.0", false),
-        ("\"turns\":[],\"opening\":2", false),
-        ("\"turns\":[],\"opening\":-0", false),
-        ("\"turns\":[],\"splits\":[\"m\",\"g\"]", false),
-        ("\"turns\":[\"s3\"]", false),
-        ("\"turns\":[\"b0\"]", false),
-        ("\"turns\":[\"s1\",\"v1\"]", false),
-        ("\"turns\":[\"s01\"]", false),
-        ("\"turns\":\"s1\"", false),
-        ("\"turns\":null", false),
-        ("\"splits\":[]", false),
-        ("\"turns\":[],\"tries\":4", false),
-        ("\"turns\":[],\"limit\":64", false),
-        ("\"turns\":[],\"recoverers\":[]", false),
-        ("\"turns\":[],\"pipelining\":true", false),
-        ("\"turns\":[],\"version\":2", false),
-        ("\"turns\":[],\"version\":1.0", false),
+    for (members, number) in [
+        ("\"turns\":[],\"reruns\":0", 0),
+        ("\"turns\":[],\"reruns\":65", 10),
+        ("\"turns\":[],\"reruns\":8.0", 10),
+        ("\"turns\":[],\"opening\":2", 10),
+        ("\"turns\":[],\"opening\":-0", 10),
+        ("\"turns\":[],\"splits\":[\"m\",\"g\"]", 10),
+        ("\"turns\":[\"s1\",\"b2\"],\"splits\":[],\"opening\":1", 0),
+        ("\"turns\":[\"s3\"]", 10),
+        ("\"turns\":[\"b0\"]", 10),
+        ("\"turns\":[\"s1\",\"v1\"]", 10),
+        ("\"turns\":[\"s01\"]", 10),
+        ("\"turns\":\"s1\"", 10),
+        ("\"turns\":null", 10),
+        ("\"splits\":[]", 10),
+        ("\"turns\":[],\"tries\":4", 10),
+        ("\"turns\":[],\"limit\":64", 10),
+        ("\"turns\":[],\"recoverers\":[]", 10),
+        ("\"turns\":[],\"pipelining\":true", 10),
+        ("\"turns\":[],\"version\":2", 10),
+        ("\"turns\":[],\"version\":1.0", 10),
     ] {
         let text = with(rt.alloc(), members)?;
         assert_eq!(rt;
-            stated(rt.alloc(), text.as_str())?.is_some(),
-            is_read,
+            number_of(rt.alloc(), text.as_bytes())?,
+            number,
             "{members}"
         );
     }
@@ -97,12 +91,12 @@ fn repeated(alloc: Global, part: &str, count: usize) -> Result<String, Fail> {
 #[test]
 fn sessions_are_1_to_64(rt: HostRuntime) -> Result<(), Fail> {
     let alloc = rt.alloc();
-    for (count, is_read) in [(0, false), (1, true), (64, true), (65, false)] {
+    for (count, number) in [(0, 10), (1, 0), (64, 0), (65, 10)] {
         let sessions = repeated(alloc, SESSION, count)?;
         let text = format!(in alloc;
             "{{\"version\":1,\"pipelining\":false,\"turns\":[],\"sessions\":[{sessions}]}}"
         )?;
-        assert_eq!(rt; stated(alloc, text.as_str())?.is_some(), is_read, "{count}");
+        assert_eq!(rt; number_of(alloc, text.as_bytes())?, number, "{count}");
     }
     Ok(())
 }
@@ -111,12 +105,12 @@ fn sessions_are_1_to_64(rt: HostRuntime) -> Result<(), Fail> {
 #[test]
 fn statements_are_at_most_100000(rt: HostRuntime) -> Result<(), Fail> {
     let alloc = rt.alloc();
-    for (count, is_read) in [(50_000, true), (50_001, false)] {
+    for (count, number) in [(50_000, 0), (50_001, 10)] {
         let items = repeated(alloc, "{\"do\":[]}", count)?;
         let text = format!(in alloc;
             "{{\"version\":1,\"pipelining\":false,\"turns\":[],\"sessions\":[{{\"clock\":{{\"start\":0,\"step\":0}},\"script\":[{items}]}}]}}"
         )?;
-        assert_eq!(rt; stated(alloc, text.as_str())?.is_some(), is_read, "{count}");
+        assert_eq!(rt; number_of(alloc, text.as_bytes())?, number, "{count}");
     }
     Ok(())
 }

@@ -1,6 +1,6 @@
 use Rattle.std.proofs.Common.{◌<◌, ◌^◌, ◌∙◌, sym, rules}
 use Rattle.pc_work.proofs.Opening.{opening_fits}
-use Rattle.pc_work.proofs.workload.stated_by.Goals as goal
+use Rattle.pc_work.proofs.workload.workload_of.Goals as goal
 
 pub overflow_cast-result : goal.overflow_cast-result
 overflow_cast-result c =
