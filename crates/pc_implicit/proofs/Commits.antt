@@ -93,7 +93,7 @@ commits-recorded head history range id ts (Kept r) h is =
     let status : r.status ≡ status_of standings.Committed r.status.epoch ts = λ i. record { standing = b.0 i; epoch = r.status.epoch; ts = b.1 i } in
     ((r.status.epoch, ap (λ s. if is_final s then Some r.status else None) b.0 ∙ ap Some status), b.2)
 commits-recorded head history range id ts (Marked s) h is =
-    let b = backed-commits history range id ts s.ts s.standing false h is in
+    let b = backed-commits history range id ts s.ts s.standing false h.1 is in
     let status : s ≡ status_of standings.Committed s.epoch ts = λ i. record { standing = b.0 i; epoch = s.epoch; ts = b.1 i } in
     ((s.epoch, ap Some status), b.2)
 

@@ -29,3 +29,5 @@ pub mod Pieces
 pub mod Doings
 pub mod Unread
 pub mod Unput
+pub mod Answering
+pub mod Holders

@@ -34,7 +34,7 @@ module _ (history : List (Entry Event)) (range : ℕ) (id : TxnId) (epoch ts : �
       subst (λ (s : Status). IsBacked history range id s.ts s.standing) same h
   decided_sent (Marked s) h decided =
       let same : s ≡ status_of standings.Committed epoch ts = cc in
-      subst (λ (s : Status). IsBacked history range id s.ts s.standing) same h
+      subst (λ (s : Status). IsBacked history range id s.ts s.standing) same h.1
 
   module _ (p : Place) (X : Type 0) (old : decision p ≡ Some (status_of standings.Committed epoch ts) → X) where
     -- A change that makes the record committed gives it.

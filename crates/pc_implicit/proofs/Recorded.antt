@@ -1,4 +1,4 @@
--- Where nothing is staged, what a range has of a transaction is not staging, and committed only by a commit.
+-- Where nothing is staged, what a range has of a transaction is not staging, and committed only by a commit; a mark is final.
 use Rattle.std.proofs.Common.{◌≡◌, ℕ, Bool, true, false, ◌&&◌, ◌==◌, if◌then◌else◌, Some, List, [], ◌∷◌, ◌++◌, Contains, inl, inr, refl, sym, ap, subst, ◌∙◌}
 use Rattle.std.proofs.lemmas.List.Elements.{Contains-append_left}
 use Rattle.std.specs.Prelude.{⊤}
@@ -18,6 +18,7 @@ use Rattle.pc_proto.specs.declared.fate.Finding.{Finding}
 use Rattle.pc_proto.specs.declared.fate.Goal.{Goal}
 use Rattle.pc_proto.specs.declared.fate.Goal.TheVariants as goals
 use Rattle.pc_proto.specs.declared.meta.TxnMeta.{TxnMeta}
+use Rattle.pc_proto.specs.declared.record.Record.{Record}
 use Rattle.pc_proto.specs.declared.record.Standing.{Standing}
 use Rattle.pc_proto.specs.declared.record.Standing.TheVariants as standings
 use Rattle.pc_proto.specs.declared.reply.Reply.{Reply}
@@ -60,11 +61,11 @@ IsBacked history range id ts standings.Staging = ⊥
 IsBacked history range id ts standings.Committed = WasSent history range id ts
 IsBacked history range id ts (standings.Aborted why) = ⊤
 
--- What the range has of the transaction is not staging, and committed only by a commit.
+-- What the range has of the transaction is not staging, and committed only by a commit; a mark is final.
 abbrev pub IsRecorded : List (Entry Event) → ℕ → TxnId → Place → Type 0
 IsRecorded history range id Nothing = ⊤
 IsRecorded history range id (Kept r) = IsBacked history range id r.status.ts r.status.standing
-IsRecorded history range id (Marked s) = IsBacked history range id s.ts s.standing
+IsRecorded history range id (Marked s) = (is_final s.standing ≡ true) × IsBacked history range id s.ts s.standing
 
 was-sent-more : (history : List (Entry Event)) (e : Entry Event) (range : ℕ) (id : TxnId) (ts : ℕ) → WasSent history range id ts → WasSent (history ++ e ∷ []) range id ts
 was-sent-more history e range id ts w = record { send = w.send; listed = Contains-append_left history (e ∷ []) w.send w.listed; number = w.number; meta = w.meta; locks = w.locks; sends = w.sends; whose = w.whose }
@@ -78,9 +79,9 @@ backed-more history e range id ts (standings.Aborted why) h = tt
 recorded-more : (history : List (Entry Event)) (e : Entry Event) (range : ℕ) (id : TxnId) (p : Place) → IsRecorded history range id p → IsRecorded (history ++ e ∷ []) range id p
 recorded-more history e range id Nothing h = tt
 recorded-more history e range id (Kept r) h = backed-more history e range id r.status.ts r.status.standing h
-recorded-more history e range id (Marked s) h = backed-more history e range id s.ts s.standing h
+recorded-more history e range id (Marked s) h = (h.0, backed-more history e range id s.ts s.standing h.1)
 
-backed-unstaged : (history : List (Entry Event)) (range : ℕ) (id : TxnId) (ts : ℕ) (standing : Standing) → IsBacked history range id ts standing → is_staging standing ≡ false
+pub backed-unstaged : (history : List (Entry Event)) (range : ℕ) (id : TxnId) (ts : ℕ) (standing : Standing) → IsBacked history range id ts standing → is_staging standing ≡ false
 backed-unstaged history range id ts standings.Pending h = refl
 backed-unstaged history range id ts standings.Staging h = absurd h
 backed-unstaged history range id ts standings.Committed h = refl
@@ -119,10 +120,15 @@ module _ (history : List (Entry Event)) (range : ℕ) (id : TxnId) where
   push-recorded holder by goals.Abort Do p h = tt
   push-recorded holder by (goals.Move target) Do p h = tt
 
+  finish-recorded : (r : Record) (b : Bool) → is_final r.status.standing ≡ b → Here (Kept r) → Here (after (Kept r) (if b then Finish r.status else Stay))
+  unfolding Here
+  finish-recorded r true final h = (final, h)
+  finish-recorded r false more h = h
+
   remove-recorded : (p : Place) → Here p → Here (after p (remove p))
   unfolding Here
   remove-recorded Nothing h = h
-  remove-recorded (Kept r) h = either (is_final r.status.standing) (Kept r) (Finish r.status) Stay h h
+  remove-recorded (Kept r) h = finish-recorded r (is_final r.status.standing) refl h
   remove-recorded (Marked s) h = h
 
 module _ (history : List (Entry Event)) (range : ℕ) where

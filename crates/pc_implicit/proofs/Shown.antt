@@ -96,7 +96,7 @@ module _ (head : Head) where
   recorded-unstaged : (history : List (Entry Event)) (range : ℕ) (id : TxnId) (p : Place) → IsRecorded history range id p → IsUnstaged (view_of p)
   recorded-unstaged history range id Nothing h = tt
   recorded-unstaged history range id (Kept r) h = status-unstaged history range id r.status.standing r.status.epoch r.status.ts r.writes r.locks h
-  recorded-unstaged history range id (Marked s) h = status-unstaged history range id s.standing s.epoch s.ts [] [] h
+  recorded-unstaged history range id (Marked s) h = status-unstaged history range id s.standing s.epoch s.ts [] [] h.1
 
   -- an evaluation's answer shows what is so after it
   pub answer_shows : (history : List (Entry Event)) (e : Entry Event) (actor : ActorId) (number : ℕ) (reply : Reply) → IsRun head (history ++ e ∷ []) → MayFollow (protocol head) history e

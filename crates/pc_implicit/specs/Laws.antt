@@ -1,19 +1,27 @@
--- Laws of runs: what a range decided stays decided; and where nothing is staged, no two decisions differ.
-use Rattle.std.specs.Prelude.{◌≡◌, ℕ, true, false, Some, List, ◌∷◌, ◌++◌}
+-- Laws of runs: what a range decided stays decided; where nothing is staged, no two decisions differ; and what a range can answer.
+use Rattle.std.specs.Prelude.{◌≡◌, ℕ, ◌≤◌, true, false, Some, List, ◌∷◌, ◌++◌}
+use Rattle.pc_base.specs.declared.actor.ActorId.TheVariants as actors
 use Rattle.pc_base.specs.declared.entry.Entry.{Entry}
 use Rattle.pc_base.specs.declared.transaction.TxnId.{TxnId}
+use Rattle.pc_history.specs.Own.{own}
 use Rattle.pc_implicit.specs.Answers.{Agree, Answers}
 use Rattle.pc_implicit.specs.Decided.{BoundStands, IsNotBelow, StaysTrue, decision}
 use Rattle.pc_proto.specs.declared.event.Event.{Event}
+use Rattle.pc_proto.specs.declared.meta.TxnMeta.{TxnMeta}
 use Rattle.pc_proto.specs.declared.record.Status.{Status}
+use Rattle.pc_proto.specs.declared.reply.Reply.TheVariants as replies
+use Rattle.pc_proto.specs.declared.request.Request.{Request}
 use Rattle.pc_proto.specs.declared.view.View.{View}
 use Rattle.pc_proto.specs.RecordRows.Reached.{is_staged_at}
 use Rattle.pc_world.specs.After.{place_at, state_at}
+use Rattle.pc_world.specs.Answering.{MayAnswer}
 use Rattle.pc_world.specs.Committed.{IsCommitted, commit_point}
 use Rattle.pc_world.specs.Decisions.{HasOneDecision}
+use Rattle.pc_world.specs.Evaluation.{reply}
+use Rattle.pc_world.specs.Known.{known}
 use Rattle.pc_world.specs.Known.Transactions.{is_final_view}
-use Rattle.pc_world.specs.Local.{Head}
-use Rattle.pc_world.specs.Run.{IsRun}
+use Rattle.pc_world.specs.Local.{Head, IsActorOf}
+use Rattle.pc_world.specs.Run.{IsRun, protocol}
 use Rattle.pc_world.specs.Unstaged.{NothingIsStaged}
 
 -- A decision stands: a final record or mark keeps its status for good.
@@ -69,3 +77,23 @@ CommitPointsDiffer =
     (head : Head) (history : List (Entry Event)) (id other : TxnId) (ts later : ℕ)
     → IsRun head history → NothingIsStaged history → IsCommitted head history id ts → IsCommitted head history other later
     → commit_point head history id ≡ commit_point head history other → id ≡ other
+
+-- Where nothing is staged, a range answers each request as the request may be answered, also one that was never sent.
+abbrev pub RepliesAreOfTheirKind : Type 0
+RepliesAreOfTheirKind =
+    (head : Head) (history : List (Entry Event)) (range : ℕ) (request : Request)
+    → IsRun head history → NothingIsStaged history → MayAnswer request (reply request (state_at head range history))
+
+-- A transaction whose intent stands in a request's way is one that its session has begun.
+abbrev pub HoldersWereBegun : Type 0
+HoldersWereBegun =
+    (head : Head) (history : List (Entry Event)) (range : ℕ) (request : Request) (holder : TxnMeta) (ts : ℕ) (key : List ℕ)
+    → IsRun head history → reply request (state_at head range history) ≡ replies.Conflict holder ts key
+    → holder.id.number ≤ (known (own (protocol head) (actors.Session holder.id.session) history)).begun
+
+-- And its session is one of the head's.
+abbrev pub HeadsHaveHolders : Type 0
+HeadsHaveHolders =
+    (head : Head) (history : List (Entry Event)) (range : ℕ) (request : Request) (holder : TxnMeta) (ts : ℕ) (key : List ℕ)
+    → IsRun head history → reply request (state_at head range history) ≡ replies.Conflict holder ts key
+    → IsActorOf head (actors.Session holder.id.session)

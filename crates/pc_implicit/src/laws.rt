@@ -1,4 +1,4 @@
-ghost use Rattle.pc_implicit.specs.Laws.{DecisionsStand, NothingFalls, LeftStagingsStayAway, BoundsStand, ViewsStayTrue, FinalViewsStay, DecisionsDoNotDiffer, CommitPointsDiffer};
+ghost use Rattle.pc_implicit.specs.Laws.{DecisionsStand, NothingFalls, LeftStagingsStayAway, BoundsStand, ViewsStayTrue, FinalViewsStay, DecisionsDoNotDiffer, CommitPointsDiffer, RepliesAreOfTheirKind, HoldersWereBegun, HeadsHaveHolders};
 
 /// A law: a final record or mark keeps its status for good.
 pub fn decisions_stand()
@@ -38,4 +38,19 @@ pub fn decisions_do_not_differ()
 /// A law: where nothing is staged, one entry makes at most one transaction committed.
 pub fn commit_points_differ()
     ensures { CommitPointsDiffer }
+{}
+
+/// A law: where nothing is staged, a range answers each request as the request may be answered.
+pub fn replies_are_of_their_kind()
+    ensures { RepliesAreOfTheirKind }
+{}
+
+/// A law: a transaction whose intent stands in a request's way was begun by its session.
+pub fn holders_were_begun()
+    ensures { HoldersWereBegun }
+{}
+
+/// A law: a transaction whose intent stands in a request's way is of a session of the run.
+pub fn heads_have_holders()
+    ensures { HeadsHaveHolders }
 {}

@@ -1,10 +1,12 @@
-//! Laws of runs: what was decided stays decided, and where nothing is staged, no two decisions differ. Each is a function
-//! that does nothing, whose contract is the law.
+//! Laws of runs: what was decided stays decided; where nothing is staged, no two decisions differ, and a range answers each
+//! request as it may be answered; and whose intents stand in the way. Each is a function that does nothing, whose contract is
+//! the law.
 #![tactic(auto)]
 
 mod laws;
 
 pub use laws::{
     bounds_stand, commit_points_differ, decisions_do_not_differ, decisions_stand, final_views_stay,
-    left_stagings_stay_away, nothing_falls, views_stay_true,
+    heads_have_holders, holders_were_begun, left_stagings_stay_away, nothing_falls,
+    replies_are_of_their_kind, views_stay_true,
 };

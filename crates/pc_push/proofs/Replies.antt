@@ -22,10 +22,11 @@ use Rattle.pc_proto.specs.RecordRows.Reached.{is_staging}
 use Rattle.pc_proto.specs.Table.{place_of}
 use Rattle.pc_push.proofs.Marks.{IsFinalPlace, place_final}
 use Rattle.pc_push.specs.PushKnows.{Recovers}
-use Rattle.pc_push.specs.Pushing.{Pushing, final_fate, push_of}
+use Rattle.pc_push.specs.Pushing.{Pushing, push_of}
 use Rattle.pc_world.specs.Exchange.{IsReplyTo}
 use Rattle.pc_world.specs.Send.Settling.{IsFateOf}
 use Rattle.pc_world.specs.StateOf.{state_of}
+use Rattle.pc_world.specs.Views.{final_fate}
 
 -- The view is a staging one.
 pub record IsStagingView (view : View) : Type 0 where

@@ -22,7 +22,7 @@ use Rattle.pc_push.proofs.Replies.{IsPushReply, IsStatus, push_answers, recovery
 use Rattle.pc_push.specs.declared.progress.Progress.{Progress}
 use Rattle.pc_push.specs.declared.progress.Progress.TheVariants as progress
 use Rattle.pc_push.specs.PushKnows.{Asks, AsksAt, HasMetStaging, MayCome, MayPush, MaySettle, PushKnows, Recovers, StandsAt}
-use Rattle.pc_push.specs.Pushing.{Pushing, after_reply, due_at, fate_after, final_fate, first_of, heard_at, moved_fate, next_of, progress_after_push, progress_after_recovery, push_of, resolve_of, resolving, with_progress}
+use Rattle.pc_push.specs.Pushing.{Pushing, after_reply, due_at, fate_after, first_of, heard_at, moved_fate, next_of, progress_after_push, progress_after_recovery, push_of, resolve_of, resolving, with_progress}
 use Rattle.pc_world.proofs.Anywhere.{any_weaker}
 use Rattle.pc_world.proofs.Exchange.{answered, heard_earlier, heard_ever, later-later}
 use Rattle.pc_world.specs.declared.machine.MachineNext.{MachineNext}
@@ -30,7 +30,7 @@ use Rattle.pc_world.specs.Exchange.{HeardSince, IsExchange, IsLater, IsReplyTo, 
 use Rattle.pc_world.specs.Known.{Known}
 use Rattle.pc_world.specs.Known.Transactions.{is_final_view}
 use Rattle.pc_world.specs.Send.Settling.{IsFateOf, MaySendResolve, ShowsFate}
-use Rattle.pc_world.specs.Views.{is_about, view_in}
+use Rattle.pc_world.specs.Views.{final_fate, is_about, view_in}
 
 -- what is due is allowed
 come_at : (splits : List (List ℕ)) (actor : ActorId) (start k : Known) (m : Pushing) (p : Progress) → MayPush actor k m → StandsAt start k m p → MayCome splits actor start k m (due_at p m)

@@ -12,11 +12,11 @@ use Rattle.pc_proto.specs.declared.reply.Reply.TheVariants as replies
 use Rattle.pc_proto.specs.declared.request.Request.{Request}
 use Rattle.pc_proto.specs.declared.request.Request.TheVariants as requests
 use Rattle.pc_proto.specs.declared.view.View.{View}
-use Rattle.pc_proto.specs.declared.view.View.TheVariants as views
 use Rattle.pc_push.specs.declared.progress.Progress.{Progress}
 use Rattle.pc_push.specs.declared.progress.Progress.TheVariants as progress
 use Rattle.pc_world.specs.declared.machine.MachineNext.{MachineNext}
 use Rattle.pc_world.specs.declared.machine.MachineNext.TheVariants as nexts
+use Rattle.pc_world.specs.Views.{final_fate}
 
 -- A round: whose intent stands in the way, and at which key; who pushes, at which level and reading, and what for; and how far
 -- it has come.
@@ -58,12 +58,6 @@ due_at progress.Over m = nexts.Finished
 -- What is due.
 abbrev pub next_of : Pushing → MachineNext
 next_of m = due_at m.progress m
-
--- The fate that a final view shows.
-abbrev pub final_fate : View → Option Fate
-final_fate (views.Committed epoch ts locks) = Some (fates.Committed epoch ts)
-final_fate (views.Aborted epoch why locks) = Some fates.Aborted
-final_fate _ = None
 
 -- The fate of an intent whose transaction was moved as the push asked.
 abbrev pub moved_fate : Goal → Option Fate

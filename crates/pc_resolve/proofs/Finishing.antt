@@ -11,7 +11,7 @@ use Rattle.pc_proto.specs.declared.event.Event.TheVariants as events
 use Rattle.pc_proto.specs.declared.request.Request.{Request}
 use Rattle.pc_proto.specs.declared.request.Request.TheVariants as requests
 use Rattle.pc_proto.specs.Stamps.{fate_stamps}
-use Rattle.pc_resolve.specs.ResolveKnows.{AreWithoutPuts, IsLaterWithoutPuts, MayFinish, is_put_by, sends_put_by}
+use Rattle.pc_resolve.specs.ResolveKnows.{AreWithoutPuts, IsLaterWithoutPuts, is_put_by, sends_put_by}
 use Rattle.pc_resolve.specs.Resolving.{Resolving}
 use Rattle.pc_world.proofs.Exchange.{ever_later, has_more, top_later}
 use Rattle.pc_world.specs.Exchange.{is_message, known_from}
@@ -19,7 +19,7 @@ use Rattle.pc_world.specs.Known.{Known, known_after, learn}
 use Rattle.pc_world.specs.Known.Clock.{high_after, top_after}
 use Rattle.pc_world.specs.Known.Traffic.{Heard, heard_by}
 use Rattle.pc_world.specs.Known.Transactions.{locks_sent, txn_heard, txn_sent, with_lock}
-use Rattle.pc_world.specs.Send.Settling.{MustSettle, ShowsFate, ShowsFinal}
+use Rattle.pc_world.specs.Send.Settling.{MayFinish, MustSettle, ShowsFate, ShowsFinal}
 use Rattle.pc_world.specs.Views.{anchor_heard, anchor_in, shows_view}
 
 locks_same : (id other : TxnId) (request : Request) (locks : List (List ℕ)) → other ≡ id → is_put_by id request ≡ false → locks_sent other request locks ≡ locks
@@ -63,7 +63,7 @@ module _ (anchor : List ℕ) where
   anchor_kept id (x ∷ xs) more h =
       anchor_when (shows_view id x) x (find (shows_view id) xs) (find (shows_view id) (xs ++ more)) (anchor_kept id xs more) h
 
-pub finish_later : (since now : Known) (m : Resolving) → IsLaterWithoutPuts m.id since now → MayFinish since m → MayFinish now m
+pub finish_later : (since now : Known) (m : Resolving) → IsLaterWithoutPuts m.id since now → MayFinish since m.id m.anchor m.fate m.locks → MayFinish now m.id m.anchor m.fate m.locks
 finish_later since now m is may =
     let more = has_more since now is.later in
     record {

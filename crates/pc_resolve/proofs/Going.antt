@@ -2,11 +2,12 @@
 use Rattle.std.proofs.Common.{◌≡◌, ℕ, false, List, take, sym, subst}
 use Rattle.std.proofs.lemmas.List.Elements.{All-append, All-nil, All-weaker}
 use Rattle.pc_proto.specs.declared.reply.Reply.TheVariants as replies
-use Rattle.pc_resolve.specs.ResolveKnows.{AreSettled, IsLaterWithoutPuts, IsRemoved, MayFinish, ResolveKnows, sends_put_by}
+use Rattle.pc_resolve.specs.ResolveKnows.{AreSettled, IsLaterWithoutPuts, IsRemoved, ResolveKnows, sends_put_by}
 use Rattle.pc_resolve.specs.Resolving.{Resolving, remove_of, resolve_of}
 use Rattle.pc_world.proofs.Exchange.{heard_later, later-itself, later-later}
 use Rattle.pc_world.specs.Exchange.{HeardSince, IsLater}
 use Rattle.pc_world.specs.Known.{Known}
+use Rattle.pc_world.specs.Send.Settling.{MayFinish}
 
 pub settled_later : (start k later : Known) (m : Resolving) (locks : List (List ℕ)) → IsLater k later → AreSettled start k m locks → AreSettled start later m locks
 settled_later start k later m locks is settled =
@@ -36,7 +37,7 @@ goes_on start k later m knows is = record {
 }
 
 -- and from the first
-pub new_knows : (k : Known) (m : Resolving) → m.settled ≡ 0 → m.removed ≡ false → MayFinish k m → ResolveKnows k k m
+pub new_knows : (k : Known) (m : Resolving) → m.settled ≡ 0 → m.removed ≡ false → MayFinish k m.id m.anchor m.fate m.locks → ResolveKnows k k m
 new_knows k m settled removed may = record {
   may = may;
   since = record { later = later-itself k; unwritten = All-nil (λ p. sends_put_by m.id p.entry.event ≡ false) };

@@ -10,7 +10,7 @@ use Rattle.pc_proto.specs.declared.reply.Reply.TheVariants as replies
 use Rattle.pc_proto.specs.declared.request.Request.{Request}
 use Rattle.pc_resolve.proofs.Finishing.{finish_later}
 use Rattle.pc_resolve.proofs.Going.{goes_on}
-use Rattle.pc_resolve.specs.ResolveKnows.{AreSettled, IsLaterWithoutPuts, IsRemoved, MayCome, MayFinish, ResolveKnows, WasAnsweredToIt, sends_put_by}
+use Rattle.pc_resolve.specs.ResolveKnows.{AreSettled, IsLaterWithoutPuts, IsRemoved, MayCome, ResolveKnows, WasAnsweredToIt, sends_put_by}
 use Rattle.pc_resolve.specs.Resolving.{Resolving, after_reply, at_end, due_at, heard_at, next_of, remove_of, resolve_of, unsettled, with_reply}
 use Rattle.pc_world.proofs.Exchange.{answered, heard_earlier, heard_ever, is_hearing, later-push}
 use Rattle.pc_world.proofs.Anywhere.{any_weaker}
@@ -18,7 +18,7 @@ use Rattle.pc_world.specs.declared.machine.MachineNext.{MachineNext}
 use Rattle.pc_world.specs.declared.machine.MachineNext.TheVariants as nexts
 use Rattle.pc_world.specs.Exchange.{HeardSince, IsExchange}
 use Rattle.pc_world.specs.Known.{Known}
-use Rattle.pc_world.specs.Send.Settling.{AllResolved, MaySendRemove, WasResolved}
+use Rattle.pc_world.specs.Send.Settling.{AllResolved, MayFinish, MaySendRemove, WasResolved}
 
 take_all : (xs : List (List ℕ)) (n : ℕ) → length xs ≤ n → take n xs ≡ xs
 take_all [] zero low = refl
@@ -42,7 +42,7 @@ module _ (start k : Known) (m : Resolving) (knows : ResolveKnows start k m) wher
       (λ h is. record { fate = m.fate; asked = is.asked; told = is.told }) k.heard (heard_ever start k (resolve_of m key) replies.Resolved heard))
       m.locks (all_settled none)
 
-  may_now : MayFinish k m
+  may_now : MayFinish k m.id m.anchor m.fate m.locks
   may_now = finish_later start k m knows.since knows.may
 
   may_remove : unsettled m ≡ None → MaySendRemove k m.id m.anchor
@@ -87,16 +87,6 @@ module _ (m : Resolving) (settled : ℕ) (removed : Bool) where
   abbrev on : Resolving
   on = record m { settled = settled; removed = removed }
 
-  may_on : (k : Known) → MayFinish k m → MayFinish k on
-  may_on k may = record {
-    resolve = may.resolve;
-    stamps = may.stamps;
-    anchored = may.anchored;
-    shown = may.shown;
-    final = may.final;
-    must = may.must;
-  }
-
   removed_on : (start k : Known) → IsRemoved start k m → IsRemoved start k on
   removed_on start k is = record { settled = is.settled; reply = is.reply; heard = is.heard }
 
@@ -119,7 +109,7 @@ module _ (start k later : Known) (m : Resolving) (request : Request) (reply : Re
   -- to the request that settles a lock
   lock_heard : (key : List ℕ) → unsettled m ≡ Some key → request ≡ resolve_of m key → reply ≡ replies.Resolved → ResolveKnows start later (record m { settled = m.settled + 1 })
   lock_heard key at asked told = record {
-    may = may_on m (m.settled + 1) m.removed start later_knows.may;
+    may = later_knows.may;
     since = later_knows.since;
     settled =
         settled_more start later m key at later_knows.settled
@@ -130,7 +120,7 @@ module _ (start k later : Known) (m : Resolving) (request : Request) (reply : Re
   -- to the removal
   removal_heard : unsettled m ≡ None → request ≡ remove_of m → ResolveKnows start later (record m { removed = true })
   removal_heard none asked = record {
-    may = may_on m m.settled true start later_knows.may;
+    may = later_knows.may;
     since = later_knows.since;
     settled = later_knows.settled;
     removed = λ over. record {

@@ -1,6 +1,6 @@
 -- How the finishing of a transaction stands beside what its actor knows: a session whose transaction it is, or anybody who heard a
 -- final view of it.
-use Rattle.std.specs.Prelude.{◌≡◌, ℕ, ◌+◌, ◌≤◌, Bool, true, false, Some, List, All, Any, take}
+use Rattle.std.specs.Prelude.{◌≡◌, ℕ, Bool, true, false, List, All, take}
 use Rattle.pc_base.specs.declared.actor.ActorId.{ActorId}
 use Rattle.pc_base.specs.declared.transaction.TxnId.{TxnId}
 use Rattle.pc_base.specs.Transaction.{same_txn}
@@ -11,23 +11,12 @@ use Rattle.pc_proto.specs.declared.reply.Reply.{Reply}
 use Rattle.pc_proto.specs.declared.reply.Reply.TheVariants as replies
 use Rattle.pc_proto.specs.declared.request.Request.{Request}
 use Rattle.pc_proto.specs.declared.request.Request.TheVariants as requests
-use Rattle.pc_proto.specs.Stamps.{fate_stamps}
 use Rattle.pc_resolve.specs.Resolving.{Resolving, remove_of, resolve_of}
 use Rattle.pc_world.specs.declared.machine.MachineNext.{MachineNext}
 use Rattle.pc_world.specs.declared.machine.MachineNext.TheVariants as nexts
 use Rattle.pc_world.specs.Exchange.{HeardSince, IsAllowed, IsLater, WasAnswered}
 use Rattle.pc_world.specs.Known.{Known}
-use Rattle.pc_world.specs.Send.Settling.{MaySendResolve, MustSettle, ShowsFinal}
-use Rattle.pc_world.specs.Views.{anchor_heard}
-
--- The transaction may be finished so: what its resolves and its removal ask for, but for the settling of the locks itself.
-pub record MayFinish (k : Known) (m : Resolving) : Type 0 where
-  pub resolve : MaySendResolve k m.id m.fate
-  pub stamps : All (λ ts. ts ≤ k.top + 1) (fate_stamps m.fate)
-  pub anchored : anchor_heard m.id k.heard ≡ Some m.anchor
-  pub shown : List (List ℕ)
-  pub final : Any (ShowsFinal m.id shown) k.heard
-  pub must : MustSettle k m.id shown m.locks
+use Rattle.pc_world.specs.Send.Settling.{MayFinish}
 
 -- The request puts a write of this transaction.
 abbrev pub is_put_by : TxnId → Request → Bool
@@ -60,7 +49,7 @@ pub record IsRemoved (start k : Known) (m : Resolving) : Type 0 where
 
 -- The machine stands by what its actor knew when it was made, and by what it knows now.
 pub record ResolveKnows (start k : Known) (m : Resolving) : Type 0 where
-  pub may : MayFinish start m
+  pub may : MayFinish start m.id m.anchor m.fate m.locks
   pub since : IsLaterWithoutPuts m.id start k
   pub settled : AreSettled start k m (take m.settled m.locks)
   pub removed : m.removed ≡ true → IsRemoved start k m

@@ -2,9 +2,10 @@ ghost use Rattle.std.specs.Prelude.{◌≡◌, ℕ, Ok, false, IfOk, List};
 ghost use Rattle.pc_base.specs.declared.actor.ActorId.{ActorId};
 ghost use Rattle.pc_proto.specs.declared.request.Request.{Request};
 ghost use Rattle.pc_resolve.specs.Resolving.{after_reply, next_of};
-ghost use Rattle.pc_resolve.specs.ResolveKnows.{MayCome, MayFinish, ResolveKnows, WasAnsweredToIt};
+ghost use Rattle.pc_resolve.specs.ResolveKnows.{MayCome, ResolveKnows, WasAnsweredToIt};
 ghost use Rattle.pc_world.specs.declared.machine.MachineNext.TheVariants as nexts;
 ghost use Rattle.pc_world.specs.Known.{Known};
+ghost use Rattle.pc_world.specs.Send.Settling.{MayFinish};
 
 use pc_base::{Key, NoMemory, TryCopy, TxnId};
 use pc_proto::{Fate, Keys, Reply, Request};
@@ -36,7 +37,7 @@ impl ResolveMachine {
     /// The machine that finishes this transaction. The locks are in key order.
     pub fn new(id: TxnId, anchor: Key, fate: Fate, locks: Keys) -> ResolveMachine
         ensures made { result ≡ record { id = id; anchor = anchor; fate = fate; locks = locks; settled = 0; removed = false } }
-        ensures knows { (k : Known) → MayFinish k result → ResolveKnows k k result }
+        ensures knows { (k : Known) → MayFinish k result.id result.anchor result.fate result.locks → ResolveKnows k k result }
     {
         ResolveMachine {
             id,
