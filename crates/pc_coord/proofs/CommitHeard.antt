@@ -1,284 +1,60 @@
 -- The reply to a commit.
-use Rattle.std.proofs.Common.{◌≡◌, ℕ, suc, ◌+◌, ◌<◌, ◌≤◌, max, nat_lt, Bool, true, false, cond, not, inl, inr, List, [], ◌∷◌, length, map, Option, Some, None, refl, sym, ap, ◌∙◌, subst, arith, IsTrue}
-use Rattle.std.specs.Option.{option_map, option_map_or}
-use Rattle.std.proofs.lemmas.Bool.{and_from, eq-eqb, ltb-false, ltb-true}
-use Rattle.std.proofs.lemmas.List.Elements.{All-push}
-use Rattle.pc_base.specs.Transaction.{same_txn}
-use Rattle.pc_coord.proofs.Committing.{commit_sends}
-use Rattle.pc_coord.proofs.Ids.{no_stages, on_commits-more}
-use Rattle.pc_coord.proofs.Lists.{any_last, any_last_of, at_least-kept, at_least-push, last-push}
-use Rattle.pc_coord.proofs.PutHeard.{heard_stuck, learned_reply, reply_known, still_open}
-use Rattle.pc_coord.proofs.Resting.{closed_told, match_false, open_is}
-use Rattle.pc_coord.proofs.Same.{if_true, same_txn-self}
-use Rattle.pc_coord.proofs.Steps.{counted-heard, counted-told, heard, told, told_is}
-use Rattle.pc_coord.proofs.Writes.{all_proved-more}
-use Rattle.pc_coord.specs.Coordinating.{after_commit_reply, after_refused, after_view, committed_in, refusals_with, with_heard}
-use Rattle.pc_coord.specs.Turning.{due_of_commit}
-use Rattle.pc_coord.specs.Coordination.{Coordination, commit_due, with_end}
+use Rattle.std.proofs.Common.{◌≡◌, ℕ, List, Some, None, refl, sym, subst}
+use Rattle.pc_coord.proofs.CommitDecided.{aborted_told, committed_told}
+use Rattle.pc_coord.proofs.CommitRefused.{refused_on}
+use Rattle.pc_coord.proofs.Ending.{final_aborted, final_committed}
+use Rattle.pc_coord.proofs.Replies.{last_said, learned_to, reply_known}
+use Rattle.pc_coord.specs.Coordinating.{after_commit_reply, after_view, committed_in, with_heard}
+use Rattle.pc_coord.specs.Coordination.{Coordination, job_of, with_end}
 use Rattle.pc_coord.specs.declared.due.Due.TheVariants as dues
 use Rattle.pc_coord.specs.declared.due.Wait.TheVariants as waits
 use Rattle.pc_coord.specs.Events.{IsHeard}
-use Rattle.pc_coord.specs.Knows.{Awaits, AwaitsCommit, IsCounted, IsHeld, IsOpenAs, IsSettled, Knows, Rests, learned}
-use Rattle.pc_coord.specs.Transaction.{raised, refreshed, transaction_of}
+use Rattle.pc_coord.specs.Knows.{Awaits, Knows}
+use Rattle.pc_coord.specs.Knows.Ending.{AwaitsCommit}
+use Rattle.pc_coord.specs.Knows.Held.{IsCounted}
 use Rattle.pc_history.specs.declared.pair.Pair.{Pair}
 use Rattle.pc_proto.specs.declared.answer.Answer.TheVariants as answers
-use Rattle.pc_proto.specs.declared.call.Call.TheVariants as calls
 use Rattle.pc_proto.specs.declared.event.Event.{Event}
-use Rattle.pc_proto.specs.declared.event.Event.TheVariants as events
+use Rattle.pc_proto.specs.declared.fate.Fate.TheVariants as fates
 use Rattle.pc_proto.specs.declared.reply.Reply.{Reply}
 use Rattle.pc_proto.specs.declared.reply.Reply.TheVariants as replies
-use Rattle.pc_proto.specs.declared.request.Request.{Request}
 use Rattle.pc_proto.specs.declared.request.Request.TheVariants as requests
 use Rattle.pc_proto.specs.declared.view.View.{View}
 use Rattle.pc_proto.specs.declared.view.View.TheVariants as views
 use Rattle.pc_proto.specs.declared.why.Why.{Why}
-use Rattle.pc_proto.specs.Stamps.{view_stamps}
-use Rattle.pc_world.specs.Counting.{AtLeast}
+use Rattle.pc_world.specs.Answering.{IsCommitReply, IsUnstagedView}
 use Rattle.pc_world.specs.Known.{Known, learn}
-use Rattle.pc_world.specs.Known.Clock.{last_of}
-use Rattle.pc_world.specs.Known.Traffic.{Heard, is_reply_to}
-use Rattle.pc_world.specs.Known.Transactions.{Txn, is_final_view, meta_of, status_ts, txn_heard, unsettled_ts}
-use Rattle.pc_world.specs.StageFate.{Commit, EachCommit, IsDead, IsRefused, OnCommit, Refuses}
-use Rattle.pc_world.specs.Tell.Refusal.{WasMoved, is_moved}
-use Rattle.pc_world.specs.Views.{AbortsWith, ShowsAborted, is_committed_at, shows_committed}
+use Rattle.pc_world.specs.Known.Transactions.{meta_of}
+use Rattle.pc_world.specs.RangeOf.{AreRising}
 
-module _ (c : Coordination) (k : Known) (number step ts refusals : ℕ) (view : View) (counted : IsCounted c.clock c.begun k) (a : AwaitsCommit k c.txn number ts refusals) where
-  abbrev said : Request
-  said = requests.Commit (meta_of a.t a.anchor) ts a.t.locks
+abort_as : (c : Coordination) (k : Known) (number step ts refusals epoch : ℕ) (why : Why) (locks : List (List ℕ)) → AreRising c.splits → c.job ≡ None → IsCounted c.session c.clock c.begun k → (a : AwaitsCommit k c.txn number ts refusals)
+    → Knows (with_end (Some fates.Aborted) (answers.Aborted why) (with_heard (replies.Status (views.Aborted epoch why locks)) c)) (reply_known number step (requests.Commit (meta_of a.t a.anchor) ts a.t.locks) (replies.Status (views.Aborted epoch why locks)) k)
+abort_as c k number step ts refusals epoch why locks rising handed counted a =
+    let view = views.Aborted epoch why locks in
+    subst (λ txn. Knows (record (with_heard (replies.Status view) c) { txn = None; due = dues.Tell (answers.Aborted why); job = job_of (Some fates.Aborted) txn }) (reply_known number step (requests.Commit (meta_of a.t a.anchor) ts a.t.locks) (replies.Status view) k)) (sym a.held)
+    (aborted_told c k number step ts refusals view rising handed counted a fates.Aborted (final_aborted epoch why locks) why refl)
 
-  abbrev reply : Reply
-  reply = replies.Status view
-
-  abbrev h : Heard
-  h = record { number = number; request = said; reply = reply; step = step }
-
-  abbrev k3 : Known
-  k3 = heard h k
-
-  abbrev latest : ℕ
-  latest = max c.clock (last_of (view_stamps view))
-
-  counted3 : IsCounted latest c.begun k3
-  counted3 = counted-heard c.clock c.begun k counted h a.last.counted
-
-  abbrev others3 : List Txn
-  others3 = map (txn_heard k.sent (Some h)) a.open_as.others
-
-  abbrev t3 : Txn
-  t3 = txn_heard k.sent (Some h) a.t
-
-  first : k3.txns ≡ t3 ∷ others3
-  first = ap (map (txn_heard k.sent (Some h))) a.open_as.first
-
-  about : option_map_or (λ other. same_txn other a.t.id) (Some a.t.id) false ≡ true
-  about = same_txn-self a.t.id
-
-  -- it was told committed
-  shown : (at epoch : ℕ) (locks : List (List ℕ)) → view ≡ views.Committed epoch at locks → IsTrue (shows_committed a.t.id at h)
-  shown at epoch locks is =
-      let b : Bool = option_map_or (is_committed_at at) (Some view) false in
-      and_from (same_txn a.t.id a.t.id) b (same_txn-self a.t.id) (ap (is_committed_at at) is ∙ eq-eqb at at refl)
-
-  pub committed_told : (at epoch : ℕ) (locks : List (List ℕ)) → view ≡ views.Committed epoch at locks → Knows (committed_in at (Some a.x) (with_heard reply c)) k3
-  committed_told at epoch locks is = record {
-    stands = (
-      record {
-        s = record { call = calls.Commit; reading = a.reading };
-        opened = a.call;
-        told = match_false (not k.is_open) _ _ (ap not a.open_as.is_open) (record {
-          t = t3;
-          opened = open_is k3 t3 others3 a.open_as.is_open first;
-          asked = refl;
-          whose = ap (λ x. x.id) a.open_as.same;
-          why = inr (inl (any_last (λ h. IsTrue (shows_committed a.t.id at h)) k.heard h (shown at epoch locks is)));
-        });
-      },
-      closed_told latest c.begun k3 (answers.Committed a.x.id at) counted3 refl refl refl,
-    );
-  }
-
-  pub aborted_told : (why : Why) → AbortsWith why view → Knows (with_end (answers.Aborted why) (with_heard reply c)) k3
-  aborted_told why cause = record {
-    stands = (
-      record {
-        s = record { call = calls.Commit; reading = a.reading };
-        opened = a.call;
-        told = match_false (not k.is_open) _ _ (ap not a.open_as.is_open) (record {
-          t = t3;
-          opened = open_is k3 t3 others3 a.open_as.is_open first;
-          heard = any_last (ShowsAborted a.t.id why) k.heard h (record { about = same_txn-self a.t.id; view = view; told = refl; cause = cause });
-        });
-      },
-      closed_told latest c.begun k3 (answers.Aborted why) counted3 refl refl refl,
-    );
-  }
-
-  module _ (open_view : is_final_view view ≡ false) where
-    abbrev recorded : ℕ
-    recorded = unsettled_ts view
-
-    abbrev raised_txn : Txn
-    raised_txn = record a.t { write_ts = max a.t.write_ts recorded }
-
-    heard-commit : t3 ≡ raised_txn
-    heard-commit =
-        let F : ℕ → Txn = λ n. record a.t { write_ts = max a.t.write_ts n } in
-        ap F (if_true (same_txn a.t.id a.t.id) recorded 0 (same_txn-self a.t.id))
-
-    first3 : k3.txns ≡ raised_txn ∷ others3
-    first3 = first ∙ ap (λ t. t ∷ others3) heard-commit
-
-    same3 : raised recorded a.x ≡ transaction_of a.x.has_read raised_txn
-    same3 = ap (raised recorded) a.open_as.same
-
-    open3 : IsOpenAs (raised recorded a.x) k3 raised_txn
-    open3 = record { others = others3; is_open = a.open_as.is_open; first = first3; same = same3; unread = a.open_as.unread }
-
-    is_refused : OnCommit a.t.id (IsRefused k3.heard) a.m.request
-    is_refused =
-        let now : OnCommit a.t.id (IsRefused k3.heard) said =
-        λ same. let commit : Commit = record { meta = meta_of a.t a.anchor; ts = ts; locks = a.t.locks } in
-        any_last (Refuses commit) k.heard h (record { asked = refl; unsettled = ap not open_view }) in
-        subst (λ r. OnCommit a.t.id (IsRefused k3.heard) r) (sym a.said) now
-
-    refused : EachCommit a.t.id k.sent (IsRefused k3.heard)
-    refused =
-        subst (λ sent. EachCommit a.t.id sent (IsRefused k3.heard)) (sym a.last.sent)
-        (All-push (λ m. OnCommit a.t.id (IsRefused k3.heard) m.request) a.before a.m (on_commits-more a.t.id k.heard h a.before a.plain.refused) is_refused)
-
-    below3 : recorded ≤ last_of (view_stamps view)
-    below3 = stamp_of_view view
-      where
-        stamp_of_view : (v : View) → unsettled_ts v ≤ last_of (view_stamps v)
-        stamp_of_view views.Nothing = omega arith
-        stamp_of_view (views.Pending epoch at) = omega arith
-        stamp_of_view (views.Staging epoch at writes) = omega arith
-        stamp_of_view (views.Committed epoch at locks) = omega arith
-        stamp_of_view (views.Aborted epoch why locks) = omega arith
-
-    settled3 : IsSettled k3 raised_txn
-    settled3 =
-        let p = a.plain in
-        record {
-          plain = record {
-            number = p.number;
-            reads = p.reads;
-            restart = p.restart;
-            begun = p.begun;
-            behind = omega (arith, p.behind);
-            at_begin = p.at_begin;
-            below = omega (arith, p.below, below3);
-            refused = refused;
-          };
-          proved = all_proved-more a.t.write_ts (max a.t.write_ts recorded) a.t.writes (omega arith) a.proved;
-          puts = a.puts;
-        }
-
-    was_moved : nat_lt ts recorded ≡ true → WasMoved k3 h
-    was_moved above =
-        let now : is_reply_to k3.sent_now h ≡ true = ap (λ s. is_reply_to s h) a.sent_now ∙ any_last_of (λ m. m.number) number a.before_now a.m a.last.numbered in
-        and_from (is_reply_to k3.sent_now h) (is_moved said reply) now (and_from (not (is_final_view view)) (nat_lt ts recorded) (ap not open_view) above)
-
-    moved_by : (b : Bool) → nat_lt ts recorded ≡ b → AtLeast (WasMoved k3) (cond b (refusals + 1) refusals) k3.heard_now
-    moved_by true above =
-        let one_more : suc refusals ≡ refusals + 1 = omega arith in
-        subst (λ n. AtLeast (WasMoved k3) n k3.heard_now) one_more
-        (at_least-push (WasMoved k3) refusals k.heard_now h a.moved (was_moved above))
-    moved_by false below = at_least-kept (WasMoved k3) refusals k.heard_now (h ∷ []) a.moved
-
-    -- the commit is tried again where the record stands
-    again : (n : ℕ) → n < 8 → AtLeast (WasMoved k3) n k3.heard_now → (anchor : Option (List ℕ)) → a.x.anchor ≡ anchor
-        → Knows (record (with_heard reply c) { txn = Some (refreshed (raised recorded a.x)); due = commit_due n anchor (raised recorded a.x) }) k3
-    again n few moved None none =
-        let some : Some a.anchor ≡ None = sym a.anchored ∙ sym (ap (λ x. x.anchor) a.open_as.same) ∙ none in absurd cc
-    again n few moved (Some anchor) is =
-        commit_sends (with_heard reply c) k3 (raised recorded a.x) raised_txn anchor n counted3 open3
-        (record { reading = a.reading; call = a.call; anchored = sym (ap (λ x. x.anchor) a.open_as.same) ∙ is; settled = settled3; few = few; moved = moved })
-
-    -- the commit is given up
-    given_up : nat_lt ts recorded ≡ true → AtLeast (WasMoved k3) 8 k3.heard_now → Knows (record (with_heard reply c) { txn = option_map (raised recorded) c.txn; due = dues.Tell (answers.Moved recorded) }) k3
-    given_up above eight =
-        let answer = answers.Moved recorded in
-        let t4 : Txn = record raised_txn { restart = None } in
-        let k4 = told answer k3 in
-        let p = settled3.plain in
-        let txn : option_map (raised recorded) c.txn ≡ Some (raised recorded a.x) = ap (option_map (raised recorded)) a.held in
-        let held : IsHeld (Some (raised recorded a.x)) k4 = (
-          t4,
-          record {
-            others = others3;
-            is_open = a.open_as.is_open;
-            first = still_open k3 answer raised_txn others3 a.open_as.is_open first3;
-            same = same3;
-            unread = a.open_as.unread;
-          },
-          record {
-            plain = record { number = p.number; reads = p.reads; restart = refl; begun = p.begun; behind = p.behind; at_begin = p.at_begin; below = p.below; refused = refused };
-            proved = settled3.proved;
-            puts = a.puts;
-          },
-        ) in
-        record {
-          stands = (
-            record {
-              s = record { call = calls.Commit; reading = a.reading };
-              opened = a.call;
-              told = match_false (not k.is_open) _ _ (ap not a.open_as.is_open) (record {
-                t = raised_txn;
-                opened = open_is k3 raised_txn others3 a.open_as.is_open first3;
-                asked = refl;
-                eight = eight;
-                last = last-push (WasMoved k3) (λ h. status_ts h.reply ≡ recorded) k.heard_now h (was_moved above) refl;
-                uncommitted = record { stages = no_stages a.t.id (IsDead k3.heard) k.begun (length k.sent) k.sent counted.sent; commits = refused };
-              });
-            },
-            subst (λ txn. Rests latest c.begun txn (learned (events.Tell answer) k3)) (sym txn)
-                (subst (λ k. Rests latest c.begun (Some (raised recorded a.x)) k) (sym (told_is answer k3))
-                (record { counted = counted-told latest c.begun k3 counted3 answer refl refl; none_open = refl; held = held })),
-          );
-        }
-
-    tried : (n : ℕ) → n < 8 → AtLeast (WasMoved k3) n k3.heard_now
-        → Knows (record (with_heard reply c) { txn = option_map refreshed (option_map (raised recorded) c.txn); due = due_of_commit n (option_map (raised recorded) c.txn) }) k3
-    tried n few moved =
-        subst (λ txn. Knows (record (with_heard reply c) { txn = option_map refreshed (option_map (raised recorded) txn); due = due_of_commit n (option_map (raised recorded) txn) }) k3) (sym a.held)
-        (again n few moved a.x.anchor refl)
-
-    at_last : (b : Bool) → nat_lt ts recorded ≡ b → (few : Bool) → nat_lt (cond b (refusals + 1) refusals) 8 ≡ few
-        → Knows (record (with_heard reply c) {
-          txn = cond few (option_map refreshed (option_map (raised recorded) c.txn)) (option_map (raised recorded) c.txn);
-          due = cond few (due_of_commit (cond b (refusals + 1) refusals) (option_map (raised recorded) c.txn)) (dues.Tell (answers.Moved recorded));
-        }) k3
-    at_last b e true low = tried (cond b (refusals + 1) refusals) (ltb-true (cond b (refusals + 1) refusals) 8 low) (moved_by b e)
-    at_last true e false high =
-        let eight : refusals + 1 ≡ 8 = let most : 8 ≤ refusals + 1 = ltb-false (refusals + 1) 8 high in omega (arith, a.few) in
-        given_up e (subst (λ n. AtLeast (WasMoved k3) n k3.heard_now) eight (moved_by true e))
-    at_last false e false high = let most : 8 ≤ refusals = ltb-false refusals 8 high in absurd (omega (arith, a.few))
-
-    pub refused_on : Knows (after_refused ts recorded refusals (with_heard reply c)) k3
-    refused_on = at_last (nat_lt ts recorded) refl (nat_lt (refusals_with ts recorded refusals) 8) refl
-
-view_heard : (c : Coordination) (k : Known) (number step ts refusals : ℕ) (view : View) → IsCounted c.clock c.begun k → (a : AwaitsCommit k c.txn number ts refusals)
+view_heard : (c : Coordination) (k : Known) (number step ts refusals : ℕ) (view : View) → AreRising c.splits → c.job ≡ None → IsCounted c.session c.clock c.begun k → (a : AwaitsCommit k c.txn number ts refusals) → IsUnstagedView view
     → Knows (after_view ts refusals view (with_heard (replies.Status view) c)) (reply_known number step (requests.Commit (meta_of a.t a.anchor) ts a.t.locks) (replies.Status view) k)
-view_heard c k number step ts refusals (views.Committed epoch at locks) counted a =
-    subst (λ txn. Knows (committed_in at txn (with_heard (replies.Status (views.Committed epoch at locks)) c)) (reply_known number step (requests.Commit (meta_of a.t a.anchor) ts a.t.locks) (replies.Status (views.Committed epoch at locks)) k)) (sym a.held)
-    (committed_told c k number step ts refusals (views.Committed epoch at locks) counted a at epoch locks refl)
-view_heard c k number step ts refusals (views.Aborted epoch why locks) counted a = aborted_told c k number step ts refusals (views.Aborted epoch why locks) counted a why refl
-view_heard c k number step ts refusals (views.Pending epoch recorded) counted a = refused_on c k number step ts refusals (views.Pending epoch recorded) counted a refl
-view_heard c k number step ts refusals (views.Staging epoch recorded writes) counted a = refused_on c k number step ts refusals (views.Staging epoch recorded writes) counted a refl
-view_heard c k number step ts refusals views.Nothing counted a =
-    heard_stuck c k number step (requests.Commit (meta_of a.t a.anchor) ts a.t.locks) (replies.Status views.Nothing) (record { call = calls.Commit; reading = a.reading }) counted a.last.counted a.call
+view_heard c k number step ts refusals (views.Committed epoch at locks) rising handed counted a kind =
+    let view = views.Committed epoch at locks in
+    subst (λ txn. Knows (committed_in epoch at txn (with_heard (replies.Status view) c)) (reply_known number step (requests.Commit (meta_of a.t a.anchor) ts a.t.locks) (replies.Status view) k)) (sym a.held)
+    (committed_told c k number step ts refusals view rising handed counted a (fates.Committed epoch at) (final_committed epoch at locks) at epoch locks refl refl)
+view_heard c k number step ts refusals (views.Aborted epoch why locks) rising handed counted a kind = abort_as c k number step ts refusals epoch why locks rising handed counted a
+view_heard c k number step ts refusals (views.Pending epoch recorded) rising handed counted a kind = refused_on c k number step ts refusals epoch recorded rising handed counted a
+view_heard c k number step ts refusals (views.Staging epoch recorded writes) rising handed counted a kind = absurd kind
+view_heard c k number step ts refusals views.Nothing rising handed counted a kind = absurd kind
 
-commit_reply : (c : Coordination) (k : Known) (number step ts refusals : ℕ) (reply : Reply) → IsCounted c.clock c.begun k → (a : AwaitsCommit k c.txn number ts refusals)
+commit_reply : (c : Coordination) (k : Known) (number step ts refusals : ℕ) (reply : Reply) → AreRising c.splits → c.job ≡ None → IsCounted c.session c.clock c.begun k → (a : AwaitsCommit k c.txn number ts refusals) → IsCommitReply reply
     → Knows (after_commit_reply ts refusals reply (with_heard reply c)) (reply_known number step (requests.Commit (meta_of a.t a.anchor) ts a.t.locks) reply k)
-commit_reply c k number step ts refusals (replies.Status view) counted a = view_heard c k number step ts refusals view counted a
-commit_reply c k number step ts refusals reply counted a =
-    heard_stuck c k number step (requests.Commit (meta_of a.t a.anchor) ts a.t.locks) reply (record { call = calls.Commit; reading = a.reading }) counted a.last.counted a.call
+commit_reply c k number step ts refusals (replies.Status view) rising handed counted a kind = view_heard c k number step ts refusals view rising handed counted a kind
+commit_reply c k number step ts refusals reply rising handed counted a kind = absurd kind
 
-pub commit_heard : (c : Coordination) (k : Known) (p : Pair Event) (number step ts refusals : ℕ) (reply : Reply) → IsHeard c number step reply p → Awaits c.clock c.begun c.txn number (waits.Commit ts refusals) k
+pub commit_heard : (c : Coordination) (k : Known) (p : Pair Event) (number step ts refusals : ℕ) (reply : Reply) → AreRising c.splits → c.job ≡ None → IsHeard c number step reply k p → Awaits c.session c.clock c.begun c.txn number (waits.Commit ts refusals) k
     → Knows (after_commit_reply ts refusals reply (with_heard reply c)) (learn p k)
-commit_heard c k p number step ts refusals reply is awaits =
+commit_heard c k p number step ts refusals reply rising handed is awaits =
     let a = awaits.reply in
-    subst (λ k. Knows (after_commit_reply ts refusals reply (with_heard reply c)) k)
-    (sym (learned_reply c k p number step reply (requests.Commit (meta_of a.t a.anchor) ts a.t.locks) a.before a.m is a.last a.said))
-    (commit_reply c k number step ts refusals reply awaits.counted a)
+    let request = requests.Commit (meta_of a.t a.anchor) ts a.t.locks in
+    let said = last_said k number request a.before a.m a.last a.said in
+    subst (λ k. Knows (after_commit_reply ts refusals reply (with_heard reply c)) k) (sym (learned_to c k p number step reply request is said))
+    (commit_reply c k number step ts refusals reply rising handed awaits.counted a (is.kind request said))

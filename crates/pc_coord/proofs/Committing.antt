@@ -1,37 +1,46 @@
 -- A call commits: a transaction that wrote nothing at once, any other by a message.
-use Rattle.std.proofs.Common.{◌≡◌, ◌≢◌, ℕ, ◌+◌, ◌<◌, ◌≤◌, max, nat_lt, cond, Bool, true, false, not, ◌&&◌, ◌==◌, inl, List, [], ◌∷◌, ◌++◌, length, map, Option, Some, None, refl, sym, ap, ◌∙◌, subst, arith, All, Contains, length-append}
+use Rattle.std.proofs.Common.{◌≡◌, ◌≢◌, ℕ, ◌+◌, ◌<◌, ◌≤◌, max, Bool, true, false, not, ◌&&◌, ◌==◌, inl, inr, List, [], ◌∷◌, ◌++◌, length, map, Option, Some, None, refl, sym, ap, ◌∙◌, subst, arith, All, Any, Contains, IsTrue, length-append}
 use Rattle.std.proofs.lemmas.List.Elements.{All-cons, All-nil, All-push, All-weaker}
-use Rattle.std.proofs.lemmas.Bool.{ltb-false}
 use Rattle.pc_base.specs.Transaction.{same_txn}
-use Rattle.pc_coord.proofs.Ids.{no_stages, on_commits-if}
-use Rattle.pc_coord.proofs.Lists.{any_true_kept, at_least-weaker}
+use Rattle.pc_coord.proofs.Beginning.{no_messages, none_left}
+use Rattle.pc_coord.proofs.Ids.{no_stages, on_commits-if, views-as}
+use Rattle.pc_coord.proofs.Lists.{any_of, any_true_kept, at_least-weaker}
 use Rattle.pc_coord.proofs.Resting.{asked_knows, closed_told, match_false, no_txn, open_is, rests, settled_asked}
 use Rattle.pc_coord.proofs.Same.{if_true, same_txn-self}
-use Rattle.pc_coord.proofs.Steps.{asked, counted-asked, counted-sent, sent, sent_is}
+use Rattle.pc_coord.proofs.Steps.{asked, counted-asked, counted-sent, sent, sent_is, told}
+use Rattle.pc_coord.proofs.Undecided.{undecided}
 use Rattle.pc_coord.specs.Coordinating.{after_commit_call, end_in}
 use Rattle.pc_coord.specs.Turning.{due_at_end, txn_at_end}
-use Rattle.pc_coord.specs.Coordination.{Coordination, with_commit}
+use Rattle.pc_coord.specs.Coordination.{Coordination, commit_due}
 use Rattle.pc_coord.specs.declared.due.Due.TheVariants as dues
 use Rattle.pc_coord.specs.declared.due.Wait.TheVariants as waits
 use Rattle.pc_coord.specs.declared.transaction.Transaction.{Transaction}
-use Rattle.pc_coord.specs.Events.{IsAsked}
-use Rattle.pc_coord.specs.Knows.{Awaits, IsCounted, IsHeld, IsOpenAs, IsOwnSent, IsPlain, IsSettled, Knows, PutsUpTo, SendsNow}
-use Rattle.pc_coord.specs.Transaction.{commit_of, needs_refresh, refreshed, transaction_of}
+use Rattle.pc_coord.specs.Events.{IsAsked, Suits}
+use Rattle.pc_coord.specs.Knows.{Awaits, Knows, SendsNow}
+use Rattle.pc_coord.specs.Knows.Ending.{IsRefusedNow}
+use Rattle.pc_coord.specs.Knows.Held.{IsCounted, IsHeld, IsOpenAs, IsOwnHeard, IsOwnSent, IsSettled, PutsUpTo}
+use Rattle.pc_coord.specs.Transaction.{commit_of, refreshed, transaction_of}
 use Rattle.pc_history.specs.declared.pair.Pair.{Pair}
 use Rattle.pc_proto.specs.declared.answer.Answer.TheVariants as answers
 use Rattle.pc_proto.specs.declared.call.Call.TheVariants as calls
 use Rattle.pc_proto.specs.declared.event.Event.{Event}
+use Rattle.pc_proto.specs.declared.fate.Fate.{Fate}
 use Rattle.pc_proto.specs.declared.request.Request.{Request}
 use Rattle.pc_world.specs.Counting.{AtLeast}
-use Rattle.pc_world.specs.Known.{Known, call_in, learn, next_number}
+use Rattle.pc_world.specs.Follows.FinishingJobs.{left_if, settling}
+use Rattle.pc_world.specs.Follows.Resends.{MayGoAgain, WasRefusedNow}
+use Rattle.pc_world.specs.Known.{Known, call_in, learn, next_number, open_txn}
 use Rattle.pc_world.specs.Known.Reads.{IsGoodAt}
 use Rattle.pc_world.specs.Known.Reads.IsGoodTo.{AtOnce}
 use Rattle.pc_world.specs.Known.Traffic.{Heard, Sent, is_reply_to}
 use Rattle.pc_world.specs.Known.Transactions.{IsGood, Txn, meta_of, txn_sent}
 use Rattle.pc_world.specs.Known.Writes.{last_seq_of}
+use Rattle.pc_world.specs.RangeOf.{AreRising}
+use Rattle.pc_world.specs.SameRequest.{IsSameRequest}
 use Rattle.pc_world.specs.Send.Commit.{MaySendCommit}
-use Rattle.pc_world.specs.StageFate.{IsLate}
+use Rattle.pc_world.specs.StageFate.{IsLate, is_unsettled_status}
 use Rattle.pc_world.specs.Tell.Refusal.{WasMoved, is_moved}
+use Rattle.pc_world.specs.Views.{fate_heard}
 
 -- where nothing was read, every timestamp from the begin timestamp on is good
 good_unread : (heard : List Heard) (t : Txn) (ts : ℕ) → t.begin ≤ ts → t.reads ≡ [] → IsGood heard t ts
@@ -44,27 +53,11 @@ good_at heard t ts low a = record {
   reads = All-weaker (λ r. r.ts ≡ ts) (IsGoodAt t.id heard ts) (λ r is. record { not_below = omega (arith, is); up_to = (r.ts, AtOnce, omega (arith, is)) }) t.reads a;
 }
 
--- what was read where the transaction now writes is good there
-good_by : (heard : List Heard) (t : Txn) (k : Known) (read : Bool) → IsPlain k t k.sent → (read ≡ false → t.reads ≡ []) → (read && nat_lt t.read_ts t.write_ts) ≡ false → IsGood heard t t.write_ts
-good_by heard t k false p none free = good_unread heard t t.write_ts (omega (arith, p.begun, p.behind)) (none refl)
-good_by heard t k true p none free =
-    let high : t.write_ts ≤ t.read_ts = ltb-false t.read_ts t.write_ts free in
-    let same : t.read_ts ≡ t.write_ts = omega (arith, p.behind) in
-    good_at heard t t.write_ts (omega (arith, p.begun)) (subst (λ n. All (λ r. r.ts ≡ n) t.reads) same p.reads)
-
--- where the reads are moved on there are none, or they stay where they are
-moved_on : (t : Txn) (k : Known) (read : Bool) → IsPlain k t k.sent → (read ≡ false → t.reads ≡ []) → (read && nat_lt t.read_ts t.write_ts) ≡ false → All (λ r. r.ts ≡ max t.read_ts t.write_ts) t.reads
-moved_on t k false p none free = subst (λ rs. All (λ r. r.ts ≡ max t.read_ts t.write_ts) rs) (sym (none refl)) (All-nil (λ r. r.ts ≡ max t.read_ts t.write_ts))
-moved_on t k true p none free =
-    let high : t.write_ts ≤ t.read_ts = ltb-false t.read_ts t.write_ts free in
-    let same : t.read_ts ≡ max t.read_ts t.write_ts = omega arith in
-    subst (λ n. All (λ r. r.ts ≡ n) t.reads) same p.reads
-
 abbrev pub moved_reads : Txn → Txn
 moved_reads t = record t { read_ts = max t.read_ts t.write_ts }
 
-sent-commit : (read : Bool) (anchor : List ℕ) (t : Txn) → txn_sent (commit_of (transaction_of read t) anchor) t ≡ moved_reads t
-sent-commit read anchor t =
+sent-commit : (anchor : List ℕ) (t : Txn) → txn_sent (commit_of (transaction_of false None t) anchor) t ≡ moved_reads t
+sent-commit anchor t =
     let F : ℕ → Txn = λ n. record t { read_ts = n } in
     ap F (if_true (same_txn t.id t.id) (max t.read_ts t.write_ts) t.read_ts (same_txn-self t.id))
 
@@ -83,17 +76,20 @@ pub record MayCommitNow (k : Known) (t : Txn) (anchor : List ℕ) (refusals : �
   pub reading : ℕ
   pub call : k.statement ≡ Some (record { call = calls.Commit; reading = reading })
   pub anchored : t.anchor ≡ Some anchor
-  pub settled : IsSettled k t
+  pub settled : IsSettled k t None
+  pub answered : All (IsRefusedNow k) k.sent_now
   pub few : refusals < 8
   pub moved : AtLeast (WasMoved k) refusals k.heard_now
 
-module _ (c : Coordination) (k : Known) (read : Bool) (t : Txn) (anchor : List ℕ) (refusals : ℕ) (counted : IsCounted c.clock c.begun k) (open_as : IsOpenAs (transaction_of read t) k t) (may : MayCommitNow k t anchor refusals)
-    (free : needs_refresh (transaction_of read t) ≡ false) where
+module _ (c : Coordination) (k : Known) (t : Txn) (anchor : List ℕ) (refusals : ℕ) (counted : IsCounted c.session c.clock c.begun k) (open_as : IsOpenAs (transaction_of false None t) k t) (may : MayCommitNow k t anchor refusals) where
   abbrev request : Request
-  request = commit_of (transaction_of read t) anchor
+  request = commit_of (transaction_of false None t) anchor
 
   good : IsGood k.heard t t.write_ts
-  good = good_by k.heard t k read may.settled.plain open_as.unread free
+  good = good_unread k.heard t t.write_ts (omega (arith, may.settled.plain.begun, may.settled.plain.behind)) (open_as.unread refl)
+
+  opened : open_txn k ≡ Some t
+  opened = open_is k t open_as.others open_as.is_open open_as.first
 
   may_send : MaySendCommit k (record { meta = meta_of t anchor; ts = t.write_ts; locks = t.locks })
   may_send = record {
@@ -102,43 +98,56 @@ module _ (c : Coordination) (k : Known) (read : Bool) (t : Txn) (anchor : List �
     whose = record { anchored = may.anchored; same = refl };
     all_locks = refl;
     decided = inl (record {
-      may = inl (open_is k t open_as.others open_as.is_open open_as.first, ap call_in may.call);
+      may = inl (opened, ap call_in may.call);
       at_write_ts = refl;
       good = good;
       proved = may.settled.proved;
-      stages = no_stages t.id (λ s. s.ts ≢ t.write_ts → IsLate k.heard s) k.begun (length k.sent) k.sent counted.sent;
+      stages = no_stages t.id (λ s. s.ts ≢ t.write_ts → IsLate k.heard s) c.session k.begun (length k.sent) k.sent counted.sent;
       commits = on_commits-if t.id (λ c. c.ts ≢ t.write_ts) k.heard k.sent may.settled.plain.refused;
     });
   }
 
-  awaits : (range : ℕ) → Awaits c.clock c.begun (Some (refreshed (transaction_of read t))) (next_number k) (waits.Commit t.write_ts refusals) (sent (next_number k) range request k)
+  -- it was sent in the call before only where it was refused there
+  again : Any (λ m. IsSameRequest request m.request) k.sent_now → MayGoAgain k request None
+  again was =
+      let f = any_of (IsRefusedNow k) (λ m. IsSameRequest request m.request) k.sent_now may.answered was in
+      inr (inr (by f.0 f.1 f.2))
+    where
+      by : (m : Sent) → IsRefusedNow k m → IsSameRequest request m.request → WasRefusedNow k request
+      by m refused (inl same) = record { commits = refl; refused = subst (λ r. Any (λ h. (h.request ≡ r) × IsTrue (is_unsettled_status h.reply)) k.heard_now) (sym same) refused.heard }
+      by m refused (inr put) = absurd put
+
+  awaits : (range : ℕ) → Awaits c.session c.clock c.begun (Some (refreshed (transaction_of false None t))) (next_number k) (waits.Commit t.write_ts refusals) (sent (next_number k) range request k)
   awaits range =
       let n = next_number k in
       let m : Sent = record { number = n; range = range; request = request } in
+      let k3 = sent n range request k in
       let t2 = moved_reads t in
       let plain = may.settled.plain in
       let longer : length (k.sent ++ m ∷ []) ≡ length k.sent + 1 = omega (arith, length-append k.sent (m ∷ [])) in
       record {
-        counted = counted-sent c.clock c.begun k counted range request plain.number;
+        counted = counted-sent c.session c.clock c.begun k counted range request (record { write = plain.number; record_of = λ id about whose. let e : t.id ≡ id = cc in subst (λ id. id.number ≤ k.begun) e plain.number });
         reply = record {
-          x = refreshed (transaction_of read t);
+          x = refreshed (transaction_of false None t);
           held = refl;
           t = t2;
           open_as = record {
             others = map (txn_sent request) open_as.others;
             is_open = open_as.is_open;
-            first = ap (map (txn_sent request)) open_as.first ∙ ap (λ t. t ∷ map (txn_sent request) open_as.others) (sent-commit read anchor t);
+            first = ap (map (txn_sent request)) open_as.first ∙ ap (λ t. t ∷ map (txn_sent request) open_as.others) (sent-commit anchor t);
             same = refl;
             unread = open_as.unread;
+            unmixed = λ read. absurd cc;
           };
+          none_in_flight = refl;
           before = k.sent;
           m = m;
           last = record {
             sent = refl;
             numbered = refl;
             counted = omega arith;
-            earlier = All-weaker (IsOwnSent k.begun (length k.sent)) (λ other. other.number < n) (λ other own. omega (arith, own.numbered)) k.sent counted.sent;
-            unheard = All-weaker (λ h. h.number ≤ length k.sent) (λ h. h.number < n) (λ h low. omega arith) k.heard counted.heard;
+            earlier = All-weaker (IsOwnSent c.session k.begun (length k.sent)) (λ other. other.number < n) (λ other own. omega (arith, own.numbered)) k.sent counted.sent;
+            unheard = All-weaker (IsOwnHeard c.session k.begun (length k.sent)) (λ h. h.number < n) (λ h own. omega (arith, own.numbered)) k.heard counted.heard;
           };
           before_now = k.sent_now;
           sent_now = refl;
@@ -151,21 +160,23 @@ module _ (c : Coordination) (k : Known) (read : Bool) (t : Txn) (anchor : List �
           puts = All-push (PutsUpTo t (last_seq_of t.writes)) k.sent m may.settled.puts (λ seq is. absurd cc);
           plain = record {
             number = plain.number;
-            reads = moved_on t k read plain open_as.unread free;
+            reads = subst (λ rs. All (λ r. r.ts ≡ max t.read_ts t.write_ts) rs) (sym (open_as.unread refl)) (All-nil (λ r. r.ts ≡ max t.read_ts t.write_ts));
             restart = plain.restart;
             begun = omega (arith, plain.begun);
             behind = omega (arith, plain.behind);
             at_begin = λ none. let e : Some anchor ≡ None = sym may.anchored ∙ none in absurd cc;
             below = plain.below;
             refused = plain.refused;
+            views = views-as t t2 k.heard refl refl plain.views;
           };
+          answered = All-weaker (IsRefusedNow k) (IsRefusedNow k3) (λ m refused. record { heard = refused.heard }) k.sent_now may.answered;
           few = may.few;
-          moved = at_least-weaker (WasMoved k) (WasMoved (sent n range request k)) (moved-kept k range request) refusals k.heard_now may.moved;
+          moved = at_least-weaker (WasMoved k) (WasMoved k3) (moved-kept k range request) refusals k.heard_now may.moved;
         };
       }
 
   abbrev committing : Coordination
-  committing = record c { txn = Some (refreshed (transaction_of read t)); due = dues.Send request (waits.Commit t.write_ts refusals) }
+  committing = record c { txn = Some (refreshed (transaction_of false None t)); due = dues.Send request (waits.Commit t.write_ts refusals) }
 
   sends_now : SendsNow committing k request (waits.Commit t.write_ts refusals)
   sends_now = record {
@@ -173,81 +184,123 @@ module _ (c : Coordination) (k : Known) (read : Bool) (t : Txn) (anchor : List �
       row = may_send;
       stamps = All-cons (λ ts. ts ≤ k.top + 1) t.write_ts [] (omega (arith, may.settled.plain.below, counted.below)) (All-nil (λ ts. ts ≤ k.top + 1));
       kind = record { s = record { call = calls.Commit; reading = may.reading }; opened = may.call; kind = tt };
+      undecided = undecided k t k.sent may.settled.plain opened;
+      again = again;
     };
     after = λ range.
-        subst (λ k2. Awaits c.clock c.begun (Some (refreshed (transaction_of read t))) (next_number k) (waits.Commit t.write_ts refusals) k2) (sym (sent_is (next_number k) range request k)) (awaits range);
+        subst (λ k2. Awaits c.session c.clock c.begun (Some (refreshed (transaction_of false None t))) (next_number k) (waits.Commit t.write_ts refusals) k2) (sym (sent_is (next_number k) range request k)) (awaits range);
   }
 
-  commit_here : Knows committing k
-  commit_here = record { stands = sends_now }
-
--- where a refresh is needed it stays so
-commit_or_not : (c : Coordination) (k : Known) (read : Bool) (t : Txn) (anchor : List ℕ) (refusals : ℕ) → IsCounted c.clock c.begun k → IsOpenAs (transaction_of read t) k t → MayCommitNow k t anchor refusals
-    → (needs : Bool) → needs_refresh (transaction_of read t) ≡ needs
-    → Knows (record c { txn = Some (refreshed (transaction_of read t)); due = cond needs dues.Stuck (dues.Send (commit_of (transaction_of read t) anchor) (waits.Commit t.write_ts refusals)) }) k
-commit_or_not c k read t anchor refusals counted open_as may true needs =
-    record { stands = record { counted = counted; s = record { call = calls.Commit; reading = may.reading }; opened = may.call } }
-commit_or_not c k read t anchor refusals counted open_as may false free = commit_here c k read t anchor refusals counted open_as may free
+-- a transaction that wrote did not read
+unread_of : (x : Transaction) (k : Known) (t : Txn) (anchor : List ℕ) → IsOpenAs x k t → t.anchor ≡ Some anchor → x.has_read ≡ false
+unread_of x k t anchor open_as anchored = by x.has_read open_as.unmixed
+  where
+    by : (b : Bool) → (b ≡ true → t.anchor ≡ None) → b ≡ false
+    by true unmixed = let e : Some anchor ≡ None = sym anchored ∙ unmixed refl in absurd cc
+    by false unmixed = refl
 
 -- the open transaction is committed by a message, where it may be
-pub commit_sends : (c : Coordination) (k : Known) (x : Transaction) (t : Txn) (anchor : List ℕ) (refusals : ℕ) → IsCounted c.clock c.begun k → IsOpenAs x k t → MayCommitNow k t anchor refusals → Knows (with_commit refusals anchor x c) k
-commit_sends c k x t anchor refusals counted open_as may =
-    subst (λ x. Knows (with_commit refusals anchor x c) k) (sym open_as.same)
-    (commit_or_not c k x.has_read t anchor refusals counted (record { others = open_as.others; is_open = open_as.is_open; first = open_as.first; same = refl; unread = open_as.unread }) may
-    (needs_refresh (transaction_of x.has_read t)) refl)
+pub commit_sends : (c : Coordination) (k : Known) (x : Transaction) (t : Txn) (anchor : List ℕ) (refusals : ℕ) → AreRising c.splits → c.job ≡ None → IsCounted c.session c.clock c.begun k → IsOpenAs x k t → x.in_flight ≡ None → MayCommitNow k t anchor refusals
+    → Knows (record c { txn = Some (refreshed x); due = commit_due refusals (Some anchor) x }) k
+commit_sends c k x t anchor refusals rising handed counted open_as none may =
+    let unread = unread_of x k t anchor open_as may.anchored in
+    let same : x ≡ transaction_of false None t = open_as.same ∙ ap (λ b. transaction_of b x.in_flight t) unread ∙ ap (λ w. transaction_of false w t) none in
+    let now : IsOpenAs (transaction_of false None t) k t =
+    record { others = open_as.others; is_open = open_as.is_open; first = open_as.first; same = refl; unread = λ read. open_as.unread unread; unmixed = λ read. absurd cc } in
+    subst (λ x. Knows (record c { txn = Some (refreshed x); due = commit_due refusals (Some anchor) x }) k) (sym same)
+    (record { rising = rising; handed = handed; stands = sends_now c k t anchor refusals counted now may })
 
-end_by : (c : Coordination) (k : Known) (x : Transaction) (t : Txn) (reading : ℕ) (anchor : Option (List ℕ)) → x.anchor ≡ anchor → IsCounted c.clock c.begun k → IsOpenAs x k t → IsSettled k t
-    → Knows (record c { txn = txn_at_end anchor x; due = due_at_end anchor x }) (asked calls.Commit reading k)
-end_by c k x t reading None none counted open_as settled =
+-- a transaction that wrote nothing leaves nothing
+pub unwritten_left : (t : Txn) (fate : Option Fate) (anchor : Option (List ℕ)) → anchor ≡ None → settling t fate anchor ≡ []
+unwritten_left t None anchor none = refl
+unwritten_left t (Some fate) anchor none = ap (settling t (Some fate)) none
+
+module _ (c : Coordination) (k : Known) (x : Transaction) (t : Txn) (reading : ℕ) (rising : AreRising c.splits) (handed : c.job ≡ None) (counted : IsCounted c.session c.clock c.begun k) (open_as : IsOpenAs x k t) (settled : IsSettled k t x.in_flight) where
+  abbrev k2 : Known
+  k2 = asked calls.Commit reading k
+
+  rc : IsCounted c.session c.clock c.begun k2
+  rc = counted-asked c.session c.clock c.begun k counted calls.Commit reading
+
+  anchor_same : t.anchor ≡ x.anchor
+  anchor_same = sym (ap (λ x. x.anchor) open_as.same)
+
+  -- it wrote nothing
+  unwritten : x.anchor ≡ None → Knows (record c { txn = None; due = dues.Tell (answers.Committed x.id x.begin) }) k2
+  unwritten none =
+      let answer = answers.Committed x.id x.begin in
+      let opened : open_txn k2 ≡ Some t = open_is k2 t open_as.others open_as.is_open open_as.first in
+      record {
+        rising = rising;
+        handed = tt;
+        stands = record {
+          may = record {
+            may = record {
+              s = record { call = calls.Commit; reading = reading };
+              opened = refl;
+              told = match_false (not k.is_open) _ _ (ap not open_as.is_open) (record {
+                t = t;
+                opened = opened;
+                asked = refl;
+                whose = ap (λ x. x.id) open_as.same;
+                why = inl (record {
+                  no_put = anchor_same ∙ none;
+                  at_begin = ap (λ x. x.begin) open_as.same;
+                  good =
+                      subst (λ n. IsGood k.heard t n) (sym (ap (λ x. x.begin) open_as.same))
+                      (good_at k.heard t t.begin (omega arith) (subst (λ n. All (λ r. r.ts ≡ n) t.reads) (settled.plain.at_begin (anchor_same ∙ none)) settled.plain.reads));
+                });
+              });
+            };
+            written = tt;
+            aborts = tt;
+            left = no_messages c.job handed ∙ sym (ap (left_if k2) opened ∙ unwritten_left t (fate_heard t.id k.heard) t.anchor (anchor_same ∙ none));
+            suits = λ s is. tt;
+          };
+          after = closed_told c.session c.clock c.begun c.job k2 answer rc refl refl refl (none_left c.job (told answer k2) handed);
+        };
+      }
+
+  -- it commits by a message
+  written : (anchor : List ℕ) → x.anchor ≡ Some anchor → x.in_flight ≡ None → Knows (record c { txn = Some (refreshed x); due = commit_due 0 (Some anchor) x }) k2
+  written anchor some none =
+      commit_sends c k2 x t anchor 0 rising handed rc
+      (record { others = open_as.others; is_open = open_as.is_open; first = open_as.first; same = open_as.same; unread = open_as.unread; unmixed = open_as.unmixed }) none
+      (record {
+        reading = reading;
+        call = refl;
+        anchored = anchor_same ∙ some;
+        settled = subst (λ w. IsSettled k2 t w) none (settled_asked calls.Commit reading k t x.in_flight settled);
+        answered = All-nil (IsRefusedNow k2);
+        few = omega arith;
+        moved = tt;
+      })
+
+  ends : x.in_flight ≡ None → (anchor : Option (List ℕ)) → x.anchor ≡ anchor → Knows (record c { txn = txn_at_end anchor x; due = due_at_end anchor x }) k2
+  ends none None wrote = unwritten wrote
+  ends none (Some anchor) some = written anchor some none
+
+commit_by : (c : Coordination) (k : Known) (reading : ℕ) (txn : Option Transaction) → AreRising c.splits → c.job ≡ None → Suits calls.Commit txn → IsCounted c.session c.clock c.begun k → IsHeld txn k
+    → Knows (end_in txn c) (asked calls.Commit reading k)
+commit_by c k reading None rising handed suits counted closed =
     let k2 = asked calls.Commit reading k in
-    let rc = counted-asked c.clock c.begun k counted calls.Commit reading in
-    let anchor_of : Transaction → Option (List ℕ) = λ x. x.anchor in
     record {
-      stands = (
-        record {
-          s = record { call = calls.Commit; reading = reading };
-          opened = refl;
-          told = match_false (not k.is_open) _ _ (ap not open_as.is_open) (record {
-            t = t;
-            opened = open_is k2 t open_as.others open_as.is_open open_as.first;
-            asked = refl;
-            whose = ap (λ x. x.id) open_as.same;
-            why = inl (record {
-              no_put = sym (ap anchor_of open_as.same) ∙ none;
-              at_begin = ap (λ x. x.begin) open_as.same;
-              good = subst (λ n. IsGood k.heard t n) (sym (ap (λ x. x.begin) open_as.same)) (good_at k.heard t t.begin (omega arith) (subst (λ n. All (λ r. r.ts ≡ n) t.reads) (settled.plain.at_begin (sym (ap anchor_of open_as.same) ∙ none)) settled.plain.reads));
-            });
-          });
-        },
-        closed_told c.clock c.begun k2 (answers.Committed x.id x.begin) rc refl refl refl,
-      );
+      rising = rising;
+      handed = tt;
+      stands = record {
+        may = record {
+          may = no_txn c.splits c.session k2 (record { call = calls.Commit; reading = reading }) refl refl closed;
+          written = tt;
+          aborts = tt;
+          left = no_messages c.job handed;
+          suits = λ s is. tt;
+        };
+        after = closed_told c.session c.clock c.begun c.job k2 answers.NoTxn (counted-asked c.session c.clock c.begun k counted calls.Commit reading) closed refl refl (none_left c.job (told answers.NoTxn k2) handed);
+      };
     }
-end_by c k x t reading (Some anchor) some counted open_as settled =
-    let k2 = asked calls.Commit reading k in
-    let anchor_of : Transaction → Option (List ℕ) = λ x. x.anchor in
-    commit_sends c k2 x t anchor 0 (counted-asked c.clock c.begun k counted calls.Commit reading)
-    (record { others = open_as.others; is_open = open_as.is_open; first = open_as.first; same = open_as.same; unread = open_as.unread })
-    (record {
-      reading = reading;
-      call = refl;
-      anchored = sym (ap anchor_of open_as.same) ∙ some;
-      settled = settled_asked calls.Commit reading k t settled;
-      few = omega arith;
-      moved = tt;
-    })
+commit_by c k reading (Some x) rising handed suits counted (t, open_as, settled) = ends c k x t reading rising handed counted open_as settled suits x.anchor refl
 
-commit_by : (c : Coordination) (k : Known) (reading : ℕ) (txn : Option Transaction) → c.txn ≡ txn → IsCounted c.clock c.begun k → IsHeld txn k → Knows (end_in txn c) (asked calls.Commit reading k)
-commit_by c k reading None none counted closed =
-    let k2 = asked calls.Commit reading k in
-    record {
-      stands = (
-        no_txn c.splits c.session k2 (record { call = calls.Commit; reading = reading }) refl refl closed,
-        closed_told c.clock c.begun k2 answers.NoTxn (counted-asked c.clock c.begun k counted calls.Commit reading) closed refl refl,
-      );
-    }
-commit_by c k reading (Some x) is counted (t, open_as, settled) = end_by c k x t reading x.anchor refl counted open_as settled
-
-pub commit_asked : (c : Coordination) (k : Known) (p : Pair Event) (reading : ℕ) → Knows c k → IsAsked calls.Commit reading k p → Knows (after_commit_call c) (learn p k)
+pub commit_asked : (c : Coordination) (k : Known) (p : Pair Event) (reading : ℕ) → Knows c k → IsAsked c calls.Commit reading k p → Knows (after_commit_call c) (learn p k)
 commit_asked c k p reading knows is =
     let r = rests c k knows is.none_open in
-    asked_knows (after_commit_call c) k p calls.Commit reading is (commit_by c k reading c.txn refl r.counted r.held)
+    asked_knows (after_commit_call c) k p calls.Commit reading is.is (commit_by c k reading c.txn knows.rising is.handed is.suits r.counted r.held)

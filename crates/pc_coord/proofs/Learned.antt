@@ -5,7 +5,8 @@ use Rattle.pc_base.specs.declared.entry.Entry.{Entry}
 use Rattle.pc_coord.proofs.Lists.{find-last}
 use Rattle.pc_coord.specs.Coordination.{Coordination}
 use Rattle.pc_coord.specs.Events.{IsHeard, IsOf}
-use Rattle.pc_coord.specs.Knows.{IsLastSent, learned}
+use Rattle.pc_coord.specs.Knows.Ending.{IsLastSent}
+use Rattle.pc_coord.specs.Knows.Sending.{learned}
 use Rattle.pc_history.specs.declared.pair.Pair.{Pair}
 use Rattle.pc_proto.specs.declared.event.Event.{Event}
 use Rattle.pc_proto.specs.declared.event.Event.TheVariants as events
@@ -36,7 +37,7 @@ request_of k number before m last =
     ap (request_sent number) last.sent
     ∙ ap (option_map (λ s. s.request)) (find-last (λ s. s.number) number before m last.earlier last.numbered)
 
-pub learn_heard : (c : Coordination) (k : Known) (p : Pair Event) (number step : ℕ) (reply : Reply) (request : Request) → IsHeard c number step reply p → request_sent number k.sent ≡ Some request
+pub learn_heard : (c : Coordination) (k : Known) (p : Pair Event) (number step : ℕ) (reply : Reply) (request : Request) → IsHeard c number step reply k p → request_sent number k.sent ≡ Some request
     → learn p k ≡ after_heard (record { number = number; request = request; reply = reply; step = step }) k
 learn_heard c k p number step reply request is said =
     let hear = events.Hear number step in

@@ -39,6 +39,13 @@ module _ {X : Type 0} (P : X → Type 0) where
   last-push Q [] x p q = inr (p, q, All-nil (λ y. P y → ⊥))
   last-push Q (y ∷ ys) x p q = inl (last-push Q ys x p q)
 
+module _ {X : Type 0} (P Q : X → Type 0) where
+  -- one that is so where all are that
+  pub any_of : (xs : List X) → All P xs → Any Q xs → (x : X) × P x × Q x
+  any_of [] a (k, x, there, is, h) = absurd (omega arith)
+  any_of (y ∷ xs) a (zero, x, there, is, h) = (y, All-head P y xs a, subst Q (sym is) h)
+  any_of (y ∷ xs) a (suc k, x, there, is, h) = any_of xs (All-tail P y xs a) (k, x, omega arith, is, h)
+
 module _ {X : Type 0} (P Q : X → Type 0) (on : (x : X) → P x → Q x) where
   pub at_least-weaker : (n : ℕ) (xs : List X) → AtLeast P n xs → AtLeast Q n xs
   at_least-weaker zero xs h = tt

@@ -1,90 +1,159 @@
 -- A call reads.
-use Rattle.std.proofs.Common.{◌≡◌, ℕ, true, false, List, [], ◌∷◌, map, Option, None, Some, refl, ap, All}
+use Rattle.std.proofs.Common.{◌≡◌, ℕ, true, false, inl, List, [], ◌∷◌, map, Option, None, Some, IfSome, refl, sym, ap, ◌∙◌, subst, arith, All, count_by}
 use Rattle.std.proofs.lemmas.List.Elements.{All-cons, All-nil}
 use Rattle.pc_base.specs.declared.span.Span.{Span}
-use Rattle.pc_coord.proofs.ReadsOf.{scans_are, unsent_apart, unsent_stand}
+use Rattle.pc_base.specs.declared.transaction.TxnId.{TxnId}
+use Rattle.pc_coord.proofs.InRead.{Proceeds}
+use Rattle.pc_coord.proofs.ReadsOf.{reads_differ, scans_are}
 use Rattle.pc_coord.proofs.ReadsTold.{reads_on}
 use Rattle.pc_coord.proofs.Resting.{asked_knows, closed_told, no_txn, rests, settled_asked}
-use Rattle.pc_coord.proofs.Steps.{asked, counted-asked}
+use Rattle.pc_coord.proofs.Steps.{asked, counted-asked, told}
 use Rattle.pc_coord.specs.Coordinating.{after_get, after_scan, get_in, scan_in}
 use Rattle.pc_coord.specs.Coordination.{Coordination}
 use Rattle.pc_coord.specs.declared.due.Due.TheVariants as dues
 use Rattle.pc_coord.specs.declared.messages.Message.{Message}
+use Rattle.pc_coord.specs.declared.transaction.InFlight.{InFlight}
 use Rattle.pc_coord.specs.declared.transaction.Transaction.{Transaction}
-use Rattle.pc_coord.specs.Events.{IsAsked}
-use Rattle.pc_coord.specs.Knows.{AreApart, AreReadsOf, AwaitsReads, IsApart, IsCounted, IsHeld, IsOpenAs, IsReadAt, IsSettled, Knows, Stands}
+use Rattle.pc_coord.specs.Events.{IsAsked, Suits}
+use Rattle.pc_coord.specs.Knows.{Knows, MayFinishJob, messages_left}
+use Rattle.pc_coord.specs.Knows.Held.{IsCounted, IsHeld, IsOpenAs, IsSettled}
+use Rattle.pc_coord.specs.Knows.Reading.{AreApart, AreReadsOf, IsApart, IsReadAt, Stands, holders_met}
 use Rattle.pc_coord.specs.Messages.{due_of_reads, unsent}
 use Rattle.pc_coord.specs.Reading.{messages_of, reading, spans_in}
-use Rattle.pc_coord.specs.Transaction.{get_of}
+use Rattle.pc_coord.specs.Rounds.{IsPaced, was_pushed, was_settled}
+use Rattle.pc_coord.specs.Transaction.{get_of, scan_of}
 use Rattle.pc_history.specs.declared.pair.Pair.{Pair}
 use Rattle.pc_proto.specs.declared.answer.Answer.TheVariants as answers
 use Rattle.pc_proto.specs.declared.call.Call.{Call}
 use Rattle.pc_proto.specs.declared.call.Call.TheVariants as calls
 use Rattle.pc_proto.specs.declared.event.Event.{Event}
+use Rattle.pc_proto.specs.declared.request.Request.{Request}
+use Rattle.pc_world.specs.Follows.FinishingJobs.{left_by}
+use Rattle.pc_world.specs.Follows.Resends.{IsUnheardNow}
 use Rattle.pc_world.specs.Known.{Known, learn}
+use Rattle.pc_world.specs.Known.Traffic.{Heard}
 use Rattle.pc_world.specs.Known.Transactions.{Txn}
 use Rattle.pc_world.specs.MayTell.{needs_txn}
+use Rattle.pc_world.specs.RangeOf.{AreRising}
+use Rattle.pc_world.specs.SameRequest.{IsSameRequest}
 
--- the open transaction reads by these messages
-asked_reads : (c : Coordination) (k : Known) (call : Call) (at : ℕ) (x : Transaction) (t : Txn) (messages : List Message) → IsCounted c.clock c.begun k → IsOpenAs x k t → IsSettled k t
-    → AreReadsOf c.splits (reading x) call (map (λ m. m.request) messages) → All (Stands (asked call at k)) messages → AreApart messages
-    → Knows (record c { txn = Some (reading x); due = due_of_reads messages }) (asked call at k)
-asked_reads c k call at x t messages counted open_as settled reads stand apart =
-    let a : AwaitsReads c.splits (asked call at k) (Some (reading x)) messages = record {
-      x = reading x;
-      held = refl;
-      t = t;
-      open_as = record {
-        others = open_as.others;
-        is_open = open_as.is_open;
-        first = open_as.first;
-        same = ap reading open_as.same;
-        unread = λ none. absurd cc;
-      };
-      reads = refl;
-      settled = settled_asked call at k t settled;
-      call = call;
-      reading = at;
-      opened = refl;
-      asked = reads;
-      stand = stand;
-      apart = apart;
-      at_read_ts = All-nil (IsReadAt t.read_ts);
-    } in
-    reads_on (record c { txn = Some (reading x) }) (asked call at k) messages (counted-asked c.clock c.begun k counted call at) a
+-- a transaction that wrote nothing has no write in flight
+none_flies : (k : Known) (t : Txn) (in_flight : Option InFlight) → t.anchor ≡ None → IsSettled k t in_flight → in_flight ≡ None
+none_flies k t None unwritten settled = refl
+none_flies k t (Some w) unwritten settled = let e : None ≡ Some settled.proved.anchor = sym unwritten ∙ settled.proved.anchored in absurd cc
 
--- there is no transaction
-none_reads : (c : Coordination) (k : Known) (call : Call) (at : ℕ) → needs_txn call ≡ true → IsCounted c.clock c.begun k → k.is_open ≡ false
-    → Knows (record c { txn = None; due = dues.Tell answers.NoTxn }) (asked call at k)
-none_reads c k call at needs counted closed =
-    let k2 = asked call at k in
-    record {
-      stands = (
-        no_txn c.splits c.session k2 (record { call = call; reading = at }) refl needs closed,
-        closed_told c.clock c.begun k2 answers.NoTxn (counted-asked c.clock c.begun k counted call at) closed refl refl,
-      );
-    }
+-- where nothing was heard and no holder is to be pushed, no push is made
+paced_new : (k : Known) (holders : List TxnId) → holders ≡ [] → k.heard_now ≡ [] → IsPaced holders k
+paced_new k holders none unheard = subst (λ hs. IsPaced hs k) (sym none) (record {
+  pushes = λ id. let a : count_by (was_pushed id) k.heard_now ≡ 0 = ap (count_by (was_pushed id)) unheard in omega (arith, a);
+  resolves = λ id. let a : count_by (was_settled id) k.heard_now ≡ 0 = ap (count_by (was_settled id)) unheard in omega (arith, a);
+})
 
-get_by : (c : Coordination) (k : Known) (key : List ℕ) (at : ℕ) (txn : Option Transaction) → IsCounted c.clock c.begun k → IsHeld txn k → Knows (get_in key txn c) (asked (calls.Get key) at k)
-get_by c k key at None counted closed = none_reads c k (calls.Get key) at refl counted closed
-get_by c k key at (Some x) counted (t, open_as, settled) =
+unsent_stands : (k : Known) (t : Txn) (r : Request) → k.heard_now ≡ [] → Stands k t (unsent r)
+unsent_stands k t r unheard =
+    let new : IsUnheardNow k r = subst (λ hs. All (λ h. IsSameRequest r h.request → ⊥) hs) (sym unheard) (All-nil (λ (h : Heard). IsSameRequest r h.request → ⊥)) in
+    record { as_far = inl new; met = tt }
+
+all_unsent : (k : Known) (t : Txn) (x : Transaction) (spans : List Span) → k.heard_now ≡ [] → All (Stands k t) (messages_of x spans)
+all_unsent k t x [] unheard = All-nil (Stands k t)
+all_unsent k t x (s ∷ spans) unheard = All-cons (Stands k t) (unsent (scan_of x s)) (messages_of x spans) (unsent_stands k t (scan_of x s) unheard) (all_unsent k t x spans unheard)
+
+unsent_from : (m : Message) (x : Transaction) (spans : List Span) → All (IsApart m) (messages_of x spans)
+unsent_from m x [] = All-nil (IsApart m)
+unsent_from m x (s ∷ spans) = All-cons (IsApart m) (unsent (scan_of x s)) (messages_of x spans) (λ number here there. absurd cc) (unsent_from m x spans)
+
+unsent_apart : (x : Transaction) (spans : List Span) → AreApart (messages_of x spans)
+unsent_apart x [] = tt
+unsent_apart x (s ∷ spans) = (unsent_from (unsent (scan_of x s)) x spans, unsent_apart x spans)
+
+unsent_holders : (x : Transaction) (spans : List Span) → holders_met (messages_of x spans) ≡ []
+unsent_holders x [] = refl
+unsent_holders x (s ∷ spans) = unsent_holders x spans
+
+module _ (c : Coordination) (k : Known) (call : Call) (at : ℕ) (rising : AreRising c.splits) (none_left : c.job ≡ None) (counted : IsCounted c.session c.clock c.begun k) where
+  -- the open transaction reads by these messages
+  asked_reads : (x : Transaction) (t : Txn) (messages : List Message) → IsOpenAs x k t → IsSettled k t x.in_flight → x.anchor ≡ None
+      → AreReadsOf c.splits (reading x) call (map (λ m. m.request) messages) → All (Stands (asked call at k) t) messages → AreApart messages → holders_met messages ≡ []
+      → Knows (record c { txn = Some (reading x); due = due_of_reads messages }) (asked call at k)
+  asked_reads x t messages open_as settled unwritten are stand apart holders =
+      let unmixed : t.anchor ≡ None = sym (ap (λ x. x.anchor) open_as.same) ∙ unwritten in
+      let idle : x.in_flight ≡ None = none_flies k t x.in_flight unmixed settled in
+      let p : Proceeds (record c { txn = Some (reading x) }) (asked call at k) messages = record {
+        within = record {
+          rising = rising;
+          none_left = none_left;
+          counted = counted-asked c.session c.clock c.begun k counted call at;
+          x = reading x;
+          held = refl;
+          t = t;
+          open_as = record {
+            others = open_as.others;
+            is_open = open_as.is_open;
+            first = open_as.first;
+            same = ap reading open_as.same;
+            unread = λ none. absurd cc;
+            unmixed = λ has. unmixed;
+          };
+          reads = refl;
+          settled = settled_asked call at k t None (subst (λ f. IsSettled k t f) idle settled);
+          none_in_flight = idle;
+          call = call;
+          reading = at;
+          opened = refl;
+        };
+        asked = are;
+        different = reads_differ c.splits (reading x) call (map (λ m. m.request) messages) rising are;
+        stand = stand;
+        apart = apart;
+        paced = paced_new (asked call at k) (holders_met messages) holders refl;
+        at_read_ts = All-nil (IsReadAt t.read_ts);
+      } in
+      reads_on (record c { txn = Some (reading x) }) (asked call at k) messages p
+
+  -- there is no transaction
+  none_reads : needs_txn call ≡ true → k.is_open ≡ false → Knows (record c { txn = None; due = dues.Tell answers.NoTxn }) (asked call at k)
+  none_reads needs closed =
+      let k2 = asked call at k in
+      record {
+        rising = rising;
+        handed = tt;
+        stands = record {
+          may = record {
+            may = no_txn c.splits c.session k2 (record { call = call; reading = at }) refl needs closed;
+            written = tt;
+            aborts = tt;
+            left = subst (λ job. messages_left job ≡ left_by answers.NoTxn k2) (sym none_left) refl;
+            suits = λ s is. tt;
+          };
+          after =
+              closed_told c.session c.clock c.begun c.job k2 answers.NoTxn (counted-asked c.session c.clock c.begun k counted call at) closed refl refl
+              (subst (λ job. IfSome job (MayFinishJob (told answers.NoTxn k2))) (sym none_left) tt);
+        };
+      }
+
+get_by : (c : Coordination) (k : Known) (key : List ℕ) (at : ℕ) (txn : Option Transaction) → AreRising c.splits → c.job ≡ None → IsCounted c.session c.clock c.begun k → IsHeld txn k → Suits (calls.Get key) txn
+    → Knows (get_in key txn c) (asked (calls.Get key) at k)
+get_by c k key at None rising none_left counted closed suits = none_reads c k (calls.Get key) at rising none_left counted refl closed
+get_by c k key at (Some x) rising none_left counted (t, open_as, settled) suits =
     let m : Message = unsent (get_of (reading x) key) in
     let k2 = asked (calls.Get key) at k in
-    asked_reads c k (calls.Get key) at x t (m ∷ []) counted open_as settled refl (All-cons (Stands k2) m [] tt (All-nil (Stands k2))) (All-nil (IsApart m), tt)
+    asked_reads c k (calls.Get key) at rising none_left counted x t (m ∷ []) open_as settled suits refl
+    (All-cons (Stands k2 t) m [] (unsent_stands k2 t (get_of (reading x) key) refl) (All-nil (Stands k2 t))) (All-nil (IsApart m), tt) refl
 
-scan_by : (c : Coordination) (k : Known) (span : Span) (at : ℕ) (txn : Option Transaction) → IsCounted c.clock c.begun k → IsHeld txn k → Knows (scan_in span txn c) (asked (calls.Scan span) at k)
-scan_by c k span at None counted closed = none_reads c k (calls.Scan span) at refl counted closed
-scan_by c k span at (Some x) counted (t, open_as, settled) =
+scan_by : (c : Coordination) (k : Known) (span : Span) (at : ℕ) (txn : Option Transaction) → AreRising c.splits → c.job ≡ None → IsCounted c.session c.clock c.begun k → IsHeld txn k → Suits (calls.Scan span) txn
+    → Knows (scan_in span txn c) (asked (calls.Scan span) at k)
+scan_by c k span at None rising none_left counted closed suits = none_reads c k (calls.Scan span) at rising none_left counted refl closed
+scan_by c k span at (Some x) rising none_left counted (t, open_as, settled) suits =
     let spans = spans_in c.splits span in
-    asked_reads c k (calls.Scan span) at x t (messages_of (reading x) spans) counted open_as settled (scans_are c.splits (reading x) span)
-    (unsent_stand (asked (calls.Scan span) at k) (reading x) spans) (unsent_apart (reading x) spans)
+    asked_reads c k (calls.Scan span) at rising none_left counted x t (messages_of (reading x) spans) open_as settled suits (scans_are c.splits (reading x) span)
+    (all_unsent (asked (calls.Scan span) at k) t (reading x) spans refl) (unsent_apart (reading x) spans) (unsent_holders (reading x) spans)
 
-pub get_asked : (c : Coordination) (k : Known) (p : Pair Event) (key : List ℕ) (at : ℕ) → Knows c k → IsAsked (calls.Get key) at k p → Knows (after_get key c) (learn p k)
+pub get_asked : (c : Coordination) (k : Known) (p : Pair Event) (key : List ℕ) (at : ℕ) → Knows c k → IsAsked c (calls.Get key) at k p → Knows (after_get key c) (learn p k)
 get_asked c k p key at knows is =
     let r = rests c k knows is.none_open in
-    asked_knows (after_get key c) k p (calls.Get key) at is (get_by c k key at c.txn r.counted r.held)
+    asked_knows (after_get key c) k p (calls.Get key) at is.is (get_by c k key at c.txn knows.rising is.handed r.counted r.held is.suits)
 
-pub scan_asked : (c : Coordination) (k : Known) (p : Pair Event) (span : Span) (at : ℕ) → Knows c k → IsAsked (calls.Scan span) at k p → Knows (after_scan span c) (learn p k)
+pub scan_asked : (c : Coordination) (k : Known) (p : Pair Event) (span : Span) (at : ℕ) → Knows c k → IsAsked c (calls.Scan span) at k p → Knows (after_scan span c) (learn p k)
 scan_asked c k p span at knows is =
     let r = rests c k knows is.none_open in
-    asked_knows (after_scan span c) k p (calls.Scan span) at is (scan_by c k span at c.txn r.counted r.held)
+    asked_knows (after_scan span c) k p (calls.Scan span) at is.is (scan_by c k span at c.txn knows.rising is.handed r.counted r.held is.suits)

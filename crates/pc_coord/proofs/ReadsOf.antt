@@ -1,40 +1,75 @@
--- The messages of a call that reads, and whether they may be sent.
-use Rattle.std.proofs.Common.{◌≡◌, ℕ, suc, ◌+◌, true, false, cond, List, [], ◌∷◌, ◌++◌, map, Option, None, Some, refl, sym, ap, ◌∙◌, subst, arith, All, Contains}
+-- The requests of a call that reads: what they are, and that they differ.
+use Rattle.std.proofs.Common.{◌≡◌, ℕ, suc, ◌+◌, ◌≤◌, true, false, cond, inl, inr, List, [], ◌∷◌, ◌++◌, map, Option, None, Some, refl, sym, ap, ◌∙◌, subst, arith, All, Contains, IsTrue}
+use Rattle.std.specs.List.{Any, list_any}
 use Rattle.std.proofs.lemmas.List.{map-append}
-use Rattle.std.proofs.lemmas.List.Elements.{All-cons, All-head, All-nil, All-tail}
+use Rattle.std.proofs.lemmas.List.Elements.{All-cons, All-head, All-nil, All-tail, All-weaker}
 use Rattle.pc_base.specs.declared.actor.ActorId.TheVariants as actors
 use Rattle.pc_base.specs.declared.span.Span.{Span}
 use Rattle.pc_base.specs.declared.span.Span.TheVariants.{One, Between}
+use Rattle.pc_base.specs.declared.transaction.TxnId.{TxnId}
 use Rattle.pc_base.specs.Span.{contains, is_empty}
-use Rattle.pc_coord.proofs.Putting.{all_are_proved}
 use Rattle.pc_coord.proofs.Resting.{open_is}
+use Rattle.pc_coord.specs.Beside.{is_beside}
 use Rattle.pc_coord.specs.declared.messages.Message.{Message}
 use Rattle.pc_coord.specs.declared.transaction.Transaction.{Transaction}
-use Rattle.pc_coord.specs.Knows.{AreApart, AreReadsOf, IsApart, IsBuiltFor, IsOpenAs, IsRead, IsReadAt, IsSettled, Stands}
-use Rattle.pc_coord.specs.Messages.{unsent}
+use Rattle.pc_coord.specs.Knows.Held.{IsOpenAs, IsSettled}
+use Rattle.pc_coord.specs.Knows.Reading.{AreDifferent, AreReadsOf, IsRead, IsReadAt, Tells}
+use Rattle.pc_coord.specs.Knows.Sending.{IsFor}
+use Rattle.pc_coord.specs.Messages.{read_at}
 use Rattle.pc_coord.specs.Reading.{messages_of, span_piece, spans_from, spans_in}
+use Rattle.pc_coord.specs.Rounds.{is_resolve_of}
 use Rattle.pc_coord.specs.Transaction.{get_of, scan_of}
-use Rattle.pc_base.specs.declared.transaction.TxnId.{TxnId}
 use Rattle.pc_proto.specs.declared.call.Call.{Call}
 use Rattle.pc_proto.specs.declared.call.Call.TheVariants as calls
+use Rattle.pc_proto.specs.declared.meta.TxnMeta.{TxnMeta}
 use Rattle.pc_proto.specs.declared.reply.Reply.{Reply}
 use Rattle.pc_proto.specs.declared.reply.Reply.TheVariants as replies
 use Rattle.pc_proto.specs.declared.request.Request.{Request}
 use Rattle.pc_proto.specs.declared.request.Request.TheVariants as requests
 use Rattle.pc_proto.specs.Stamps.{request_stamps}
+use Rattle.pc_world.proofs.Pieces.{pieces-differ}
+use Rattle.pc_world.specs.Answering.{MayAnswer}
 use Rattle.pc_world.specs.Known.{Known, call_of}
 use Rattle.pc_world.specs.Known.Reads.{read_heard}
 use Rattle.pc_world.specs.Known.Transactions.{Txn}
+use Rattle.pc_world.specs.Known.Writes.{IsProvedBy, Write, is_proved}
 use Rattle.pc_world.specs.MaySend.{MaySendRow}
-use Rattle.pc_world.specs.RangeOf.{earlier_end, later_start, piece, pieces, pieces_from}
+use Rattle.pc_world.specs.RangeOf.{AreDistinct, AreRising, earlier_end, later_start, piece, pieces, pieces_from}
+use Rattle.pc_world.specs.SameRequest.{IsSameRequest}
+use Rattle.pc_world.specs.Send.Reading.{IsProvedIn}
+use Rattle.pc_world.specs.Send.Recovery.{is_conflict, is_push_of}
+use Rattle.pc_world.specs.Tell.Refusal.{MayBlock}
+use Rattle.pc_world.specs.Views.{is_about}
 
 -- A request that reads, as the call asks for it.
 pub record IsReadOfCall (splits : List (List ℕ)) (x : Transaction) (call : Call) (r : Request) : Type 0 where
   pub kind : IsRead r
-  pub built : IsBuiltFor call r
+  pub built : IsFor call r
   pub stamps : request_stamps r ≡ x.read_ts ∷ []
+  pub reads : read_at r ≡ Some x.read_ts
   pub at : (number step : ℕ) (reply : Reply) → IsReadAt x.read_ts (record { number = number; request = r; reply = reply; step = step })
-  pub row : (k : Known) (session : ℕ) (t : Txn) → IsOpenAs x k t → IsSettled k t → call_of k ≡ Some call → MaySendRow splits (actors.Session session) k r
+  pub tells : (reply : Reply) → is_conflict reply ≡ false → MayAnswer r reply → Tells r reply
+  pub other : (holder : TxnMeta) (ts : ℕ) (key : List ℕ) → MayAnswer r (replies.Conflict holder ts key) → holder.id ≡ x.id → ⊥
+  pub row : (k : Known) (session : ℕ) (t : Txn) → IsOpenAs x k t → IsSettled k t None → call_of k ≡ Some call → MaySendRow splits (actors.Session session) k r
+
+-- A request that is of no round and of no record.
+pub record IsPlainRead (r : Request) : Type 0 where
+  pub coordinated : is_beside r ≡ false
+  pub no_record : (id : TxnId) → is_about id r ≡ false
+  pub no_push : (id : TxnId) → is_push_of id r ≡ false
+  pub no_resolve : (id : TxnId) → is_resolve_of id r ≡ false
+
+pub plain_read : (r : Request) → IsRead r → IsPlainRead r
+plain_read (requests.Get id epoch seq ts key) is = record { coordinated = refl; no_record = λ id. refl; no_push = λ id. refl; no_resolve = λ id. refl }
+plain_read (requests.Scan id epoch seq ts span) is = record { coordinated = refl; no_record = λ id. refl; no_push = λ id. refl; no_resolve = λ id. refl }
+plain_read r is = absurd is
+
+-- a read is of one request with an equal one alone
+pub same_read : (r other : Request) → IsRead r → IsSameRequest r other → r ≡ other
+same_read r other is (inl same) = same
+same_read (requests.Get id epoch seq ts key) other is (inr put) = absurd put
+same_read (requests.Scan id epoch seq ts span) other is (inr put) = absurd put
+same_read r other is (inr put) = absurd is
 
 get_at : (id : TxnId) (epoch seq ts : ℕ) (key : List ℕ) (reply : Reply) → All (λ r. r.ts ≡ ts) (read_heard (requests.Get id epoch seq ts key) reply)
 get_at id epoch seq ts key (replies.Value origin value) = All-cons (λ r. r.ts ≡ ts) (record { span = One key; ts = ts }) [] refl (All-nil (λ r. r.ts ≡ ts))
@@ -44,12 +79,34 @@ scan_at : (id : TxnId) (epoch seq ts : ℕ) (span : Span) (reply : Reply) → Al
 scan_at id epoch seq ts span (replies.Rows rows) = All-cons (λ r. r.ts ≡ ts) (record { span = span; ts = ts }) [] refl (All-nil (λ r. r.ts ≡ ts))
 scan_at id epoch seq ts span reply = All-nil (λ r. r.ts ≡ ts)
 
+get_tells : (x : Transaction) (key : List ℕ) (reply : Reply) → is_conflict reply ≡ false → MayAnswer (get_of x key) reply → Tells (get_of x key) reply
+get_tells x key (replies.Value origin value) unmet may = tt
+get_tells x key (replies.Conflict holder ts at) unmet may = absurd cc
+get_tells x key reply unmet may = absurd may
+
+scan_tells : (x : Transaction) (span : Span) (reply : Reply) → is_conflict reply ≡ false → MayAnswer (scan_of x span) reply → Tells (scan_of x span) reply
+scan_tells x span (replies.Rows rows) unmet may = tt
+scan_tells x span (replies.Conflict holder ts at) unmet may = absurd cc
+scan_tells x span reply unmet may = absurd may
+
+proofs-some : (ts : ℕ) (proofs : List ℕ) → Any (λ n. n ≤ ts) proofs → list_any (λ n. true) proofs ≡ true
+proofs-some ts [] (k, x, there, is, small) = absurd (omega arith)
+proofs-some ts (n ∷ proofs) h = refl
+
+-- a write that is proved at a timestamp is proved
+proved_in : (ts : ℕ) (span : Span) (writes : List Write) → All (IsProvedBy ts) writes → IsProvedIn span writes
+proved_in ts span writes a =
+    All-weaker (IsProvedBy ts) (λ w. IsTrue (contains span w.key) → IsTrue (is_proved w)) (λ w p there. proofs-some ts w.proofs p) writes a
+
 get_of_call : (splits : List (List ℕ)) (x : Transaction) (key : List ℕ) → IsReadOfCall splits x (calls.Get key) (get_of x key)
 get_of_call splits x key = record {
   kind = tt;
   built = tt;
   stamps = refl;
+  reads = refl;
   at = λ number step reply. get_at x.id x.epoch x.seq x.read_ts key reply;
+  tells = get_tells x key;
+  other = λ holder ts key another. another;
   row = λ k session t open_as settled asked. record {
     t = t;
     opened = open_is k t open_as.others open_as.is_open open_as.first;
@@ -59,7 +116,7 @@ get_of_call splits x key = record {
       epoch_now = ap (λ x. x.epoch) open_as.same;
       own_writes = ap (λ x. x.seq) open_as.same;
       at_read_ts = ap (λ x. x.read_ts) open_as.same;
-      proved = all_are_proved t.write_ts key t.writes (λ w. contains (One key) w.key) settled.proved;
+      proved = proved_in t.write_ts (One key) t.writes settled.proved;
     };
   };
 }
@@ -69,7 +126,10 @@ scan_of_call splits x whole span cut = record {
   kind = tt;
   built = tt;
   stamps = refl;
+  reads = refl;
   at = λ number step reply. scan_at x.id x.epoch x.seq x.read_ts span reply;
+  tells = scan_tells x span;
+  other = λ holder ts key another. another;
   row = λ k session t open_as settled asked. record {
     t = t;
     whole = whole;
@@ -81,7 +141,7 @@ scan_of_call splits x whole span cut = record {
       epoch_now = ap (λ x. x.epoch) open_as.same;
       own_writes = ap (λ x. x.seq) open_as.same;
       at_read_ts = ap (λ x. x.read_ts) open_as.same;
-      proved = all_are_proved t.write_ts [] t.writes (λ w. contains span w.key) settled.proved;
+      proved = proved_in t.write_ts span t.writes settled.proved;
     };
   };
 }
@@ -106,6 +166,29 @@ all_reads splits x (calls.Scan span) asked is =
     subst (λ rs. All (IsReadOfCall splits x (calls.Scan span)) rs) (sym is) (all_pieces splits x span (pieces splits span) (λ s there. there))
 all_reads splits x call asked is = absurd is
 
+-- a call that reads does not commit
+pub reads_no_commit : (splits : List (List ℕ)) (x : Transaction) (call : Call) (asked : List Request) → AreReadsOf splits x call asked → call ≡ calls.Commit → ⊥
+reads_no_commit splits x (calls.Get key) asked is e = cc
+reads_no_commit splits x (calls.Scan span) asked is e = cc
+reads_no_commit splits x call asked is e = absurd is
+
+-- nor does it roll back, or make a round
+pub reads_no_rollback : (splits : List (List ℕ)) (x : Transaction) (call : Call) (asked : List Request) → AreReadsOf splits x call asked → call ≡ calls.Rollback → ⊥
+reads_no_rollback splits x (calls.Get key) asked is e = cc
+reads_no_rollback splits x (calls.Scan span) asked is e = cc
+reads_no_rollback splits x call asked is e = absurd is
+
+pub reads_no_round : (splits : List (List ℕ)) (x : Transaction) (call : Call) (asked : List Request) → AreReadsOf splits x call asked → call ≡ calls.Round → ⊥
+reads_no_round splits x (calls.Get key) asked is e = cc
+reads_no_round splits x (calls.Scan span) asked is e = cc
+reads_no_round splits x call asked is e = absurd is
+
+-- it may be blocked
+pub reads_block : (splits : List (List ℕ)) (x : Transaction) (call : Call) (asked : List Request) → AreReadsOf splits x call asked → MayBlock call
+reads_block splits x (calls.Get key) asked is = tt
+reads_block splits x (calls.Scan span) asked is = tt
+reads_block splits x call asked is = absurd is
+
 piece-spans : (r : ℕ) (from to : Option (List ℕ)) → span_piece from to ≡ map (λ p. p.1) (piece r from to)
 piece-spans r from to = elim (is_empty from to) as (λ b. cond b [] (Between from to ∷ []) ≡ map (λ (p : ℕ × Span). p.1) (cond b [] ((r, Between from to) ∷ []))) [ true ↦ refl | false ↦ refl ]
 
@@ -129,17 +212,25 @@ requests-of x (p ∷ ps) = ap (λ rs. scan_of x p.1 ∷ rs) (requests-of x ps)
 pub scans_are : (splits : List (List ℕ)) (x : Transaction) (span : Span) → AreReadsOf splits x (calls.Scan span) (map (λ m. m.request) (messages_of x (spans_in splits span)))
 scans_are splits x span = ap (λ spans. map (λ m. m.request) (messages_of x spans)) (spans-pieces splits span) ∙ requests-of x (pieces splits span)
 
-pub unsent_stand : (k : Known) (x : Transaction) (spans : List Span) → All (Stands k) (messages_of x spans)
-unsent_stand k x [] = All-nil (Stands k)
-unsent_stand k x (s ∷ spans) = All-cons (Stands k) (unsent (scan_of x s)) (messages_of x spans) tt (unsent_stand k x spans)
+other_scan : (x : Transaction) (one other : Span) → (one ≡ other → ⊥) → scan_of x one ≡ scan_of x other → ⊥
+other_scan x one other not same = let e : one ≡ other = cc in not e
 
-unsent_from : (m : Message) (x : Transaction) (spans : List Span) → All (IsApart m) (messages_of x spans)
-unsent_from m x [] = All-nil (IsApart m)
-unsent_from m x (s ∷ spans) = All-cons (IsApart m) (unsent (scan_of x s)) (messages_of x spans) (λ number here there. absurd cc) (unsent_from m x spans)
+other_scans : (x : Transaction) (one : Span) (ps : List (ℕ × Span)) → All (λ other. one ≡ other → ⊥) (map (λ p. p.1) ps) → All (λ other. scan_of x one ≡ other → ⊥) (map (λ p. scan_of x p.1) ps)
+other_scans x one [] a = All-nil (λ other. scan_of x one ≡ other → ⊥)
+other_scans x one (p ∷ ps) a =
+    All-cons (λ other. scan_of x one ≡ other → ⊥) (scan_of x p.1) (map (λ p. scan_of x p.1) ps)
+    (other_scan x one p.1 (All-head (λ other. one ≡ other → ⊥) p.1 (map (λ p. p.1) ps) a))
+    (other_scans x one ps (All-tail (λ other. one ≡ other → ⊥) p.1 (map (λ p. p.1) ps) a))
 
-pub unsent_apart : (x : Transaction) (spans : List Span) → AreApart (messages_of x spans)
-unsent_apart x [] = tt
-unsent_apart x (s ∷ spans) = (unsent_from (unsent (scan_of x s)) x spans, unsent_apart x spans)
+scans_differ : (x : Transaction) (ps : List (ℕ × Span)) → AreDistinct (map (λ p. p.1) ps) → AreDifferent (map (λ p. scan_of x p.1) ps)
+scans_differ x [] d = tt
+scans_differ x (p ∷ ps) d = (other_scans x p.1 ps d.0, scans_differ x ps d.1)
+
+-- no two of the messages ask for the same
+pub reads_differ : (splits : List (List ℕ)) (x : Transaction) (call : Call) (asked : List Request) → AreRising splits → AreReadsOf splits x call asked → AreDifferent asked
+reads_differ splits x (calls.Get key) asked rising is = subst (λ rs. AreDifferent rs) (sym is) (All-nil (λ other. get_of x key ≡ other → ⊥), tt)
+reads_differ splits x (calls.Scan span) asked rising is = subst (λ rs. AreDifferent rs) (sym is) (scans_differ x (pieces splits span) (pieces-differ splits span rising))
+reads_differ splits x call asked rising is = absurd is
 
 pub all_unmap : (P : Request → Type 0) (messages : List Message) → All P (map (λ m. m.request) messages) → All (λ m. P m.request) messages
 all_unmap P [] a = All-nil (λ m. P m.request)

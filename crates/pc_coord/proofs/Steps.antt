@@ -3,7 +3,9 @@ use Rattle.std.proofs.Common.{◌≡◌, ℕ, ◌+◌, ◌≤◌, max, List, [],
 use Rattle.std.proofs.lemmas.List.{append-nil}
 use Rattle.std.proofs.lemmas.List.Elements.{All-push, All-weaker}
 use Rattle.pc_coord.proofs.Learned.{after_heard}
-use Rattle.pc_coord.specs.Knows.{IsCounted, IsOwn, IsOwnSent, learned}
+use Rattle.pc_coord.specs.Beside.{IsOfBegun}
+use Rattle.pc_coord.specs.Knows.Held.{IsCounted, IsOwn, IsOwnHeard, IsOwnSent, IsOwnWrite}
+use Rattle.pc_coord.specs.Knows.Sending.{learned}
 use Rattle.pc_proto.specs.declared.answer.Answer.{Answer}
 use Rattle.pc_proto.specs.declared.call.Call.{Call}
 use Rattle.pc_proto.specs.declared.event.Event.TheVariants as events
@@ -79,23 +81,37 @@ heard_is h k =
     let F : List Sent → List Sent → Known = λ s n. record (heard h k) { sent = s; sent_now = n } in
     ap (λ s. F s (k.sent_now ++ [])) (append-nil k.sent) ∙ ap (F k.sent) (append-nil k.sent_now)
 
-own-more : (low high : ℕ) (request : Request) → low ≤ high → IsOwn low request → IsOwn high request
-own-more low high (requests.Put meta seq ts key value) h own = omega arith
-own-more low high (requests.Commit meta ts locks) h own = omega arith
-own-more low high (requests.Stage meta ts now writes locks) h own = absurd own
-own-more low high request h own = tt
+own_write-more : (low high : ℕ) (request : Request) → low ≤ high → IsOwnWrite low request → IsOwnWrite high request
+own_write-more low high (requests.Put meta seq ts key value) h own = omega arith
+own_write-more low high (requests.Commit meta ts locks) h own = omega arith
+own_write-more low high (requests.Stage meta ts now writes locks) h own = absurd own
+own_write-more low high request h own = tt
 
-own_sent-more : (low high few many : ℕ) (m : Sent) → low ≤ high → few ≤ many → IsOwnSent low few m → IsOwnSent high many m
-own_sent-more low high few many m h l own = record { numbered = omega (arith, own.numbered); own = own-more low high m.request h own.own }
+begun-more : (session low high : ℕ) (request : Request) → low ≤ high → IsOfBegun session low request → IsOfBegun session high request
+begun-more session low high request h begun = λ id about whose. let l : id.number ≤ low = begun id about whose in omega arith
 
-pub all_own-more : (low high few many : ℕ) (sent : List Sent) → low ≤ high → few ≤ many → All (IsOwnSent low few) sent → All (IsOwnSent high many) sent
-all_own-more low high few many sent h l a = All-weaker (IsOwnSent low few) (IsOwnSent high many) (λ m. own_sent-more low high few many m h l) sent a
+pub own-more : (session low high : ℕ) (request : Request) → low ≤ high → IsOwn session low request → IsOwn session high request
+own-more session low high request h own = record { write = own_write-more low high request h own.write; record_of = begun-more session low high request h own.record_of }
 
-module _ (latest count : ℕ) (k : Known) (counted : IsCounted latest count k) where
-  pub counted-asked : (call : Call) (reading : ℕ) → IsCounted latest count (asked call reading k)
+own_sent-more : (session low high few many : ℕ) (m : Sent) → low ≤ high → few ≤ many → IsOwnSent session low few m → IsOwnSent session high many m
+own_sent-more session low high few many m h l own = record { numbered = omega (arith, own.numbered); own = own-more session low high m.request h own.own }
+
+own_heard-more : (session low high few many : ℕ) (m : Heard) → low ≤ high → few ≤ many → IsOwnHeard session low few m → IsOwnHeard session high many m
+own_heard-more session low high few many m h l own = record { numbered = omega (arith, own.numbered); own = own-more session low high m.request h own.own }
+
+pub all_own-more : (session low high few many : ℕ) (sent : List Sent) → low ≤ high → few ≤ many → All (IsOwnSent session low few) sent → All (IsOwnSent session high many) sent
+all_own-more session low high few many sent h l a =
+    All-weaker (IsOwnSent session low few) (IsOwnSent session high many) (λ m. own_sent-more session low high few many m h l) sent a
+
+pub all_heard-more : (session low high few many : ℕ) (heard : List Heard) → low ≤ high → few ≤ many → All (IsOwnHeard session low few) heard → All (IsOwnHeard session high many) heard
+all_heard-more session low high few many heard h l a =
+    All-weaker (IsOwnHeard session low few) (IsOwnHeard session high many) (λ m. own_heard-more session low high few many m h l) heard a
+
+module _ (session latest count : ℕ) (k : Known) (counted : IsCounted session latest count k) where
+  pub counted-asked : (call : Call) (reading : ℕ) → IsCounted session latest count (asked call reading k)
   counted-asked call reading = record { clock = counted.clock; below = omega (arith, counted.below); begun = counted.begun; sent = counted.sent; heard = counted.heard }
 
-  pub counted-sent : (range : ℕ) (request : Request) → IsOwn k.begun request → IsCounted latest count (sent (next_number k) range request k)
+  pub counted-sent : (range : ℕ) (request : Request) → IsOwn session k.begun request → IsCounted session latest count (sent (next_number k) range request k)
   counted-sent range request own =
       let m : Sent = record { number = next_number k; range = range; request = request } in
       let longer : length (k.sent ++ m ∷ []) ≡ length k.sent + 1 = omega (arith, length-append k.sent (m ∷ [])) in
@@ -104,25 +120,25 @@ module _ (latest count : ℕ) (k : Known) (counted : IsCounted latest count k) w
         clock = counted.clock;
         below = omega (arith, counted.below);
         begun = counted.begun;
-        sent = All-push (IsOwnSent k.begun n) k.sent m (all_own-more k.begun k.begun (length k.sent) n k.sent (omega arith) (omega arith) counted.sent) (record { numbered = omega arith; own = own });
-        heard = All-weaker (λ h. h.number ≤ length k.sent) (λ h. h.number ≤ n) (λ h low. omega arith) k.heard counted.heard;
+        sent = All-push (IsOwnSent session k.begun n) k.sent m (all_own-more session k.begun k.begun (length k.sent) n k.sent (omega arith) (omega arith) counted.sent) (record { numbered = omega arith; own = own });
+        heard = all_heard-more session k.begun k.begun (length k.sent) n k.heard (omega arith) (omega arith) counted.heard;
       }
 
-  pub counted-heard : (h : Heard) → h.number ≤ length k.sent → IsCounted (max latest (last_of (reply_stamps h.reply))) count (heard h k)
-  counted-heard h low = record {
+  pub counted-heard : (h : Heard) → h.number ≤ length k.sent → IsOwn session k.begun h.request → IsCounted session (max latest (last_of (reply_stamps h.reply))) count (heard h k)
+  counted-heard h low own = record {
     clock = ap (λ n. max n (last_of (reply_stamps h.reply))) counted.clock;
     below = omega (arith, counted.below);
     begun = counted.begun;
     sent = counted.sent;
-    heard = All-push (λ h. h.number ≤ length k.sent) k.heard h counted.heard low;
+    heard = All-push (IsOwnHeard session k.begun (length k.sent)) k.heard h counted.heard (record { numbered = low; own = own });
   }
 
   -- an answer that gives no begin timestamp
-  pub counted-told : (answer : Answer) → high_told answer k.high ≡ k.high → begun_told answer k.begun ≡ k.begun → IsCounted latest count (told answer k)
+  pub counted-told : (answer : Answer) → high_told answer k.high ≡ k.high → begun_told answer k.begun ≡ k.begun → IsCounted session latest count (told answer k)
   counted-told answer high begun = record {
     clock = counted.clock ∙ sym high;
     below = omega (arith, counted.below, high);
     begun = counted.begun ∙ sym begun;
-    sent = all_own-more k.begun (begun_told answer k.begun) (length k.sent) (length k.sent) k.sent (omega (arith, begun)) (omega arith) counted.sent;
-    heard = counted.heard;
+    sent = all_own-more session k.begun (begun_told answer k.begun) (length k.sent) (length k.sent) k.sent (omega (arith, begun)) (omega arith) counted.sent;
+    heard = all_heard-more session k.begun (begun_told answer k.begun) (length k.sent) (length k.sent) k.heard (omega (arith, begun)) (omega arith) counted.heard;
   }

@@ -1,13 +1,16 @@
 -- What a put and its reply do to the writes of an epoch.
-use Rattle.std.proofs.Common.{◌≡◌, ℕ, ◌+◌, ◌<◌, ◌≤◌, max, true, false, cond, ◌==◌, ◌&&◌, ◌||◌, List, [], ◌∷◌, ◌++◌, fold, map, Option, refl, sym, ap, ◌∙◌, subst, arith, All}
+use Rattle.std.proofs.Common.{◌≡◌, ℕ, ◌+◌, ◌<◌, ◌≤◌, max, Bool, true, false, cond, ◌==◌, ◌&&◌, ◌||◌, List, [], ◌∷◌, ◌++◌, fold, map, Option, refl, sym, ap, ◌∙◌, subst, arith, All}
 use Rattle.std.specs.List.{Any, list_any}
 use Rattle.std.proofs.lemmas.Bool.{eq-eqb, ne_eqb, and_from}
 use Rattle.std.proofs.lemmas.Grind.{fold-append}
 use Rattle.std.proofs.lemmas.List.Elements.{All-cons, All-head, All-nil, All-tail}
-use Rattle.pc_coord.proofs.Lists.{any_kept, any_last}
+use Rattle.pc_coord.proofs.Lists.{any_kept, any_last, any_last_of}
 use Rattle.pc_coord.proofs.Same.{if_false, if_true, same_key-self}
-use Rattle.pc_base.specs.Span.{same_key}
-use Rattle.pc_world.specs.Known.Writes.{IsProvedBy, Write, last_seq_of, proved_at, with_put}
+use Rattle.std.proofs.lemmas.Cmp.{nat_list_cmp_total, tied_itself}
+use Rattle.std.specs.Ordering.{is_lt}
+use Rattle.pc_base.specs.Span.{key_below, same_key}
+use Rattle.pc_world.specs.Known.Transactions.{with_lock}
+use Rattle.pc_world.specs.Known.Writes.{IsProvedBy, Write, asked_again, last_seq_of, proved_at, with_put}
 
 -- The greatest sequence, begun with another number.
 abbrev pub last_from : ℕ → List Write → ℕ
@@ -71,3 +74,55 @@ all_proved low high key seq at (x ∷ older) w h l is_seq is_key a =
     All-cons (IsProvedBy high) (proved_at key seq at x) (map (proved_at key seq at) (older ++ w ∷ []))
     (proved-kept high key seq at x (proved-more low high x h (All-head (IsProvedBy low) x older a)))
     (all_proved low high key seq at older w h l is_seq is_key (All-tail (IsProvedBy low) x older a))
+
+asked-seq : (seq ts : ℕ) (w : Write) → (asked_again seq ts w).seq ≡ w.seq
+asked-seq seq ts w = elim (w.seq == seq) as (λ b. (cond b (record w { asked = w.asked ++ ts ∷ [] }) w).seq ≡ w.seq) [ true ↦ refl | false ↦ refl ]
+
+pub asked-key : (seq ts : ℕ) (w : Write) → (asked_again seq ts w).key ≡ w.key
+asked-key seq ts w = elim (w.seq == seq) as (λ b. (cond b (record w { asked = w.asked ++ ts ∷ [] }) w).key ≡ w.key) [ true ↦ refl | false ↦ refl ]
+
+pub asked-value : (seq ts : ℕ) (w : Write) → (asked_again seq ts w).value ≡ w.value
+asked-value seq ts w = elim (w.seq == seq) as (λ b. (cond b (record w { asked = w.asked ++ ts ∷ [] }) w).value ≡ w.value) [ true ↦ refl | false ↦ refl ]
+
+pub asked-proofs : (seq ts : ℕ) (w : Write) → (asked_again seq ts w).proofs ≡ w.proofs
+asked-proofs seq ts w = elim (w.seq == seq) as (λ b. (cond b (record w { asked = w.asked ++ ts ∷ [] }) w).proofs ≡ w.proofs) [ true ↦ refl | false ↦ refl ]
+
+asked-last_from : (seq ts most : ℕ) (writes : List Write) → last_from most (map (asked_again seq ts) writes) ≡ last_from most writes
+asked-last_from seq ts most [] = refl
+asked-last_from seq ts most (w ∷ writes) =
+    ap (λ n. last_from (max most n) (map (asked_again seq ts) writes)) (asked-seq seq ts w)
+    ∙ asked-last_from seq ts (max most w.seq) writes
+
+-- a write that is sent once more keeps the sequences
+pub asked-last_seq : (seq ts : ℕ) (writes : List Write) → last_seq_of (map (asked_again seq ts) writes) ≡ last_seq_of writes
+asked-last_seq seq ts writes = asked-last_from seq ts 0 writes
+
+pub asked-next : (seq ts : ℕ) (older : List Write) (w : Write) → w.seq ≡ last_seq_of older + 1 → (asked_again seq ts w).seq ≡ last_seq_of (map (asked_again seq ts) older) + 1
+asked-next seq ts older w next = asked-seq seq ts w ∙ next ∙ ap (λ n. n + 1) (sym (asked-last_seq seq ts older))
+
+pub asked-proved : (low seq ts : ℕ) (writes : List Write) → All (IsProvedBy low) writes → All (IsProvedBy low) (map (asked_again seq ts) writes)
+asked-proved low seq ts [] a = All-nil (IsProvedBy low)
+asked-proved low seq ts (w ∷ writes) a =
+    All-cons (IsProvedBy low) (asked_again seq ts w) (map (asked_again seq ts) writes)
+    (subst (λ p. Any (λ n. n ≤ low) p) (sym (asked-proofs seq ts w)) (All-head (IsProvedBy low) w writes a))
+    (asked-proved low seq ts writes (All-tail (IsProvedBy low) w writes a))
+
+-- the last write sent once more
+pub put-again : (seq ts : ℕ) (key : List ℕ) (value : Option (List ℕ)) (writes older : List Write) (last : Write) → writes ≡ older ++ last ∷ [] → last.seq ≡ seq
+    → with_put seq ts key value writes ≡ map (asked_again seq ts) writes
+put-again seq ts key value writes older last is same =
+    if_true _ _ _ (ap (list_any (λ w. w.seq == seq)) is ∙ any_last_of (λ w. w.seq) seq older last same)
+
+key_below-self : (key : List ℕ) → key_below key key ≡ false
+key_below-self key = ap is_lt (tied_itself nat_list_cmp_total key)
+
+locked-at : (key lock : List ℕ) (locks : List (List ℕ)) (below same : Bool) → key_below key lock ≡ below → same_key key lock ≡ same → with_lock key (with_lock key locks) ≡ with_lock key locks
+    → with_lock key (cond below (key ∷ lock ∷ locks) (cond same (lock ∷ locks) (lock ∷ with_lock key locks))) ≡ cond below (key ∷ lock ∷ locks) (cond same (lock ∷ locks) (lock ∷ with_lock key locks))
+locked-at key lock locks true same b s again = if_false _ _ _ (key_below-self key) ∙ if_true _ _ _ (same_key-self key)
+locked-at key lock locks false true b s again = if_false _ _ _ b ∙ if_true _ _ _ s
+locked-at key lock locks false false b s again = if_false _ _ _ b ∙ if_false _ _ _ s ∙ ap (λ locks. lock ∷ locks) again
+
+-- a key that is locked is not locked once more
+pub with_lock-again : (key : List ℕ) (locks : List (List ℕ)) → with_lock key (with_lock key locks) ≡ with_lock key locks
+with_lock-again key [] = if_false _ _ _ (key_below-self key) ∙ if_true _ _ _ (same_key-self key)
+with_lock-again key (lock ∷ locks) = locked-at key lock locks (key_below key lock) (same_key key lock) refl refl (with_lock-again key locks)

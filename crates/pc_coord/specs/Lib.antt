@@ -1,9 +1,14 @@
+pub mod Beside
 pub mod Coordinating
 pub mod Coordination
 pub mod Events
 pub mod Knows
+pub mod Laws
 pub mod Messages
 pub mod Place
+pub mod Pusher
 pub mod Reading
+pub mod Rounds
+pub mod Suiting
 pub mod Transaction
 pub mod Turning

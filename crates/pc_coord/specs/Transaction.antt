@@ -1,7 +1,8 @@
 -- The coordinator's transaction beside the one that its session knows, and the messages that it makes.
-use Rattle.std.specs.Prelude.{ℕ, ◌+◌, max, nat_lt, Bool, ◌&&◌, Option, Some, List}
+use Rattle.std.specs.Prelude.{ℕ, ◌+◌, max, nat_lt, Bool, ◌&&◌, Option, None, Some, List}
 use Rattle.std.specs.Option.{option_or}
 use Rattle.pc_base.specs.declared.span.Span.{Span}
+use Rattle.pc_coord.specs.declared.transaction.InFlight.{InFlight}
 use Rattle.pc_coord.specs.declared.transaction.Transaction.{Transaction}
 use Rattle.pc_proto.specs.declared.meta.TxnMeta.{TxnMeta}
 use Rattle.pc_proto.specs.declared.request.Request.{Request}
@@ -10,9 +11,9 @@ use Rattle.pc_proto.specs.declared.why.Why.TheVariants as whys
 use Rattle.pc_world.specs.Known.Transactions.{Txn, with_lock}
 use Rattle.pc_world.specs.Known.Writes.{last_seq_of}
 
--- What a coordinator keeps of a transaction that its session knows, and whether it read.
-abbrev pub transaction_of : Bool → Txn → Transaction
-transaction_of has_read t = record {
+-- What a coordinator keeps of a transaction that its session knows; and whether it read, and which write of it is in flight.
+abbrev pub transaction_of : Bool → Option InFlight → Txn → Transaction
+transaction_of has_read in_flight t = record {
   id = t.id;
   priority = t.priority;
   born = t.born;
@@ -24,21 +25,27 @@ transaction_of has_read t = record {
   anchor = t.anchor;
   locks = t.locks;
   has_read = has_read;
+  in_flight = in_flight;
 }
 
--- The transaction with one more write of this key.
-abbrev pub with_write : List ℕ → Transaction → Transaction
-with_write key x = record x {
+-- The transaction with one more write, which is in flight; no value is a deletion.
+abbrev pub with_write : List ℕ → Option (List ℕ) → Transaction → Transaction
+with_write key value x = record x {
   anchor = option_or x.anchor (Some key);
   locks = with_lock key x.locks;
   seq = x.seq + 1;
+  in_flight = Some (record { key = key; value = value });
 }
 
 -- The transaction once it was raised to this timestamp.
 abbrev pub raised : ℕ → Transaction → Transaction
 raised ts x = record x { write_ts = max x.write_ts ts }
 
--- The transaction whose reads were moved to its write timestamp.
+-- The transaction once its write in flight was written at this timestamp.
+abbrev pub landed : ℕ → Transaction → Transaction
+landed ts x = record x { write_ts = max x.write_ts ts; in_flight = None }
+
+-- Its reads moved to its write timestamp.
 abbrev pub refreshed : Transaction → Transaction
 refreshed x = record x { read_ts = max x.read_ts x.write_ts }
 

@@ -1,11 +1,17 @@
 -- What becomes of the open transaction, and what is due, by each call and reply.
-use Rattle.std.specs.Prelude.{ℕ, nat_lt, Option, None, Some, List, if◌then◌else◌, unwrap_or}
+use Rattle.std.specs.Prelude.{ℕ, nat_le, nat_lt, Bool, true, false, Option, None, Some, List, if◌then◌else◌}
 use Rattle.std.specs.Option.{option_map}
 use Rattle.pc_coord.specs.Coordination.{abort_due, commit_due, put_due}
 use Rattle.pc_coord.specs.declared.due.Due.{Due}
 use Rattle.pc_coord.specs.declared.due.Due.TheVariants as dues
+use Rattle.pc_coord.specs.declared.due.Wait.TheVariants as waits
+use Rattle.pc_coord.specs.declared.round.Round.{Round}
+use Rattle.pc_coord.specs.declared.round.Round.TheVariants as rounds
+use Rattle.pc_coord.specs.declared.transaction.InFlight.{InFlight}
 use Rattle.pc_coord.specs.declared.transaction.Transaction.{Transaction}
-use Rattle.pc_coord.specs.Transaction.{refreshed, with_write}
+use Rattle.pc_coord.specs.Messages.{holder_in, one_more}
+use Rattle.pc_coord.specs.Transaction.{landed, put_of, refreshed, with_write}
+use Rattle.pc_base.specs.declared.transaction.TxnId.{TxnId}
 use Rattle.pc_proto.specs.declared.answer.Answer.TheVariants as answers
 use Rattle.pc_proto.specs.declared.reply.Reply.{Reply}
 use Rattle.pc_proto.specs.declared.view.View.{View}
@@ -14,10 +20,76 @@ use Rattle.pc_proto.specs.declared.why.Why.{Why}
 use Rattle.pc_proto.specs.declared.why.Why.TheVariants as whys
 use Rattle.pc_world.specs.Views.{view_in}
 
--- What is due after a put was asked.
+-- What is due of the transaction's write, which follows one that is in flight if there is one.
+abbrev pub write_due : Option InFlight → List ℕ → Option (List ℕ) → Transaction → Due
+write_due None key value x = put_due (with_write key value x).anchor key value false (with_write key value x)
+write_due (Some w) key value x = put_due x.anchor w.key w.value true x
+
+abbrev pub write_txn : Option InFlight → List ℕ → Option (List ℕ) → Transaction → Transaction
+write_txn None key value x = with_write key value x
+write_txn (Some w) key value x = x
+
+-- What is due after a put was asked: a write that is in flight is proved first.
 abbrev pub due_of_put : List ℕ → Option (List ℕ) → Option Transaction → Due
 due_of_put key value None = dues.Tell answers.NoTxn
-due_of_put key value (Some x) = put_due (unwrap_or x.anchor key) key value (with_write key x)
+due_of_put key value (Some x) = write_due x.in_flight key value x
+
+-- The transaction after a put was asked.
+abbrev pub txn_of_put : List ℕ → Option (List ℕ) → Option Transaction → Option Transaction
+txn_of_put key value None = None
+txn_of_put key value (Some x) = Some (write_txn x.in_flight key value x)
+
+-- What is due once the write in flight was written at this timestamp: one that was sent in an earlier call is followed by the call's own,
+-- which is the same.
+abbrev pub landed_due : Bool → ℕ → Option InFlight → Transaction → Due
+landed_due again ts None x = dues.Stuck
+landed_due false ts (Some w) x = dues.Tell answers.Written
+landed_due true ts (Some w) x = write_due None w.key w.value (landed ts x)
+
+abbrev pub landed_txn : Bool → ℕ → Option InFlight → Transaction → Transaction
+landed_txn again ts None x = landed ts x
+landed_txn false ts (Some w) x = landed ts x
+landed_txn true ts (Some w) x = with_write w.key w.value (landed ts x)
+
+abbrev pub due_of_written : Bool → ℕ → Option Transaction → Due
+due_of_written again ts None = dues.Stuck
+due_of_written again ts (Some x) = landed_due again ts x.in_flight x
+
+abbrev pub txn_of_written : Bool → ℕ → Option Transaction → Option Transaction
+txn_of_written again ts None = None
+txn_of_written again ts (Some x) = Some (landed_txn again ts x.in_flight x)
+
+abbrev pub met_due : ℕ → ℕ → Bool → Reply → TxnId → Due
+met_due number conflicts again reply holder =
+    if nat_le 8 conflicts then dues.Tell (answers.Blocked holder) else dues.Met number reply conflicts again
+
+abbrev pub due_of_holder : ℕ → ℕ → Bool → Reply → Option TxnId → Due
+due_of_holder number conflicts again reply None = dues.Stuck
+due_of_holder number conflicts again reply (Some holder) = met_due number (one_more conflicts) again reply holder
+
+-- What is due once the put of this number met an intent, after so many: the conflict's round, or the call is blocked.
+abbrev pub due_of_conflict : ℕ → ℕ → Bool → Reply → Due
+due_of_conflict number conflicts again reply = due_of_holder number conflicts again reply (holder_in reply)
+
+abbrev pub resent : ℕ → Bool → Option (List ℕ) → Option InFlight → Transaction → Due
+resent conflicts again None w x = dues.Stuck
+resent conflicts again (Some anchor) None x = dues.Stuck
+resent conflicts again (Some anchor) (Some w) x = dues.Send (put_of x anchor w.key w.value) (waits.Put conflicts again)
+
+-- What is due once the write in flight is to be sent again, after so many conflicts.
+abbrev pub due_of_resend : ℕ → Bool → Option Transaction → Due
+due_of_resend conflicts again None = dues.Stuck
+due_of_resend conflicts again (Some x) = resent conflicts again x.anchor x.in_flight x
+
+abbrev pub blocked_due : Option TxnId → Due
+blocked_due None = dues.Stuck
+blocked_due (Some holder) = dues.Tell (answers.Blocked holder)
+
+-- What is due once the round of the write's conflict ended so.
+abbrev pub due_of_round : Round → Reply → ℕ → Bool → Option Transaction → Due
+due_of_round rounds.Again conflict conflicts again txn = due_of_resend conflicts again txn
+due_of_round rounds.Refused conflict conflicts again txn = blocked_due (holder_in conflict)
+due_of_round (rounds.Lost faults) conflict conflicts again txn = dues.Tell (answers.Unavailable faults)
 
 -- What is due where the open transaction commits by a message, after so many refusals.
 abbrev pub due_of_commit : ℕ → Option Transaction → Due

@@ -1,29 +1,40 @@
-ghost use Rattle.std.specs.Prelude.{◌≡◌, ℕ, ◌+◌, ◌*◌, ◌^◌, ◌<◌, ◌≤◌, nat_lt, max, if◌then◌else◌, true, is_some, IfOk, OnOk, None, Some};
+ghost use Rattle.std.specs.Prelude.{◌≡◌, ℕ, ◌+◌, ◌*◌, ◌^◌, ◌<◌, ◌≤◌, nat_lt, max, if◌then◌else◌, true, false, ◌==◌, ◌||◌, ◌&&◌, not, is_some, IfOk, IfSome, OnOk, None, Some, Option};
 ghost use Rattle.pc_base.specs.Timestamp.{greatest};
-ghost use Rattle.pc_coord.specs.Coordination.{next_of, waits_for, with_begun, with_due, with_end, with_raise};
-ghost use Rattle.pc_coord.specs.Coordinating.{FewRefused, after_abort_reply, after_begin, after_call, after_commit_call, after_commit_reply, after_committed, after_get, after_put, after_put_reply, after_read, after_refused, after_reply, after_rollback, after_scan, after_view, due_after_send, awaited_at, sending_of, with_heard};
+ghost use Rattle.pc_coord.specs.Beside.{IsLaterBeside};
+ghost use Rattle.pc_coord.specs.Coordination.{Coordination, closed_with, next_of, waits_for, with_begun, with_clock, with_due, with_end, without_job};
+ghost use Rattle.pc_coord.specs.Coordinating.{FewRefused, after_abort_reply, after_begin, after_call, after_commit_call, after_commit_reply, after_committed, after_get, after_learn, after_put, after_put_reply, after_read, after_refused, after_reply, after_rollback, after_round, after_scan, after_view, due_after_send, awaited_at, reads_after_round, sending_of, with_heard, written_in};
 ghost use Rattle.pc_coord.specs.declared.due.Due.TheVariants as dues;
 ghost use Rattle.pc_coord.specs.declared.due.Wait.{Wait as AwaitedReply};
 ghost use Rattle.pc_coord.specs.declared.next.Next.TheVariants as nexts;
+ghost use Rattle.pc_coord.specs.declared.transaction.Transaction.{Transaction};
 ghost use Rattle.pc_coord.specs.Events.{IsAsked, IsHeard, IsSent, IsTold};
-ghost use Rattle.pc_coord.specs.Knows.{Knows, MayCome};
+ghost use Rattle.pc_coord.specs.Knows.{Knows, MayCome, MayFinishJob};
+ghost use Rattle.pc_coord.specs.Pusher.{IsPusherOf, pusher_of};
+ghost use Rattle.pc_coord.specs.Rounds.{EndsRound};
+ghost use Rattle.pc_coord.specs.Turning.{due_of_conflict, due_of_round};
 ghost use Rattle.pc_history.specs.declared.pair.Pair.{Pair};
 ghost use Rattle.pc_proto.specs.declared.answer.Answer.{Answer};
 ghost use Rattle.pc_proto.specs.declared.answer.Answer.TheVariants as answers;
 ghost use Rattle.pc_proto.specs.declared.event.Event.{Event};
+ghost use Rattle.pc_proto.specs.declared.fate.Fate.TheVariants as fates;
+ghost use Rattle.pc_proto.specs.declared.reply.Reply.{Reply};
 ghost use Rattle.pc_proto.specs.declared.request.Request.{Request};
 ghost use Rattle.pc_proto.specs.Stamps.{reply_stamps};
 ghost use Rattle.pc_world.specs.Known.{Known, learn, nothing_known};
 ghost use Rattle.pc_world.specs.Known.Clock.{last_of};
+ghost use Rattle.pc_world.specs.RangeOf.{AreRising};
 ghost use Rattle.pc_world.specs.Tell.Begin.{clock_now};
 
 use crate::due::{Due, Wait};
+use crate::job::Job;
 use crate::next::Next;
+use crate::pusher::Pusher;
+use crate::round::Round;
 use crate::stamps::last_stamp;
 use crate::transaction::{Transaction, following};
 use crate::{reads, turn};
 use pc_base::{Key, NoMemory, Priority, Span, Timestamp, TryCopy, TxnId, Value};
-use pc_proto::{Answer, Call, Keys, Reply, View, Why};
+use pc_proto::{Answer, Call, Fate, Keys, Reply, View, Why};
 use std::alloc::Global;
 use std::marker::Model;
 use std::mem;
@@ -39,8 +50,9 @@ const GREATEST: Timestamp = Timestamp {
 /// Runs the transactions of one session, one after another: it is asked calls, says which messages go out, hears the
 /// replies, and says what the call is told.
 ///
-/// So far it begins, reads, writes without pipelining, commits with no write in flight, and rolls back. A learn, a reply that
-/// asks for a round, and a commit whose reads would have to be refreshed leave it with nothing due. After a refusal for want of memory nothing is promised of it any more.
+/// So far it begins, reads, writes without pipelining, commits with no write in flight, and rolls back; a transaction reads or writes,
+/// and does not both. Where a message meets an intent, it asks for the round of that conflict, and the session makes it. After a
+/// refusal for want of memory nothing is promised of it any more.
 #[derive(Drop)]
 pub struct Coordinator<'a> {
     alloc: Global,
@@ -52,6 +64,8 @@ pub struct Coordinator<'a> {
     begun: u32,
     txn: Option<Transaction>,
     due: Due,
+    /// What the last transaction left, until it is handed out.
+    job: Option<Job>,
 }
 
 impl<'a> Model for Coordinator<'a> {
@@ -59,7 +73,7 @@ impl<'a> Model for Coordinator<'a> {
 
     ghost Value = { Coordination };
 
-    ghost view = { λ s. record { session = s.session; splits = s.splits.now; clock = s.clock; begun = s.begun; txn = s.txn; due = s.due } };
+    ghost view = { λ s. record { session = s.session; splits = s.splits.now; clock = s.clock; begun = s.begun; txn = s.txn; due = s.due; job = s.job } };
 }
 
 impl<'a> Coordinator<'a> {
@@ -71,6 +85,8 @@ impl<'a> Coordinator<'a> {
         pipelining: bool,
         splits: &'a Keys,
     ) -> Coordinator<'a>
+        requires rising { AreRising splits.now }
+        requires unpiped { pipelining ≡ false }
         ensures knows { Knows result nothing_known }
         ensures session { result.session ≡ session }
         ensures splits { result.splits ≡ splits.now }
@@ -85,6 +101,7 @@ impl<'a> Coordinator<'a> {
             begun: 0,
             txn: None,
             due: Due::Nothing,
+            job: None,
         }
     }
 
@@ -93,7 +110,8 @@ impl<'a> Coordinator<'a> {
     /// Refused for want of memory, and where the session's numbers or timestamps are used up.
     pub fn ask(&mut self, call: Call, reading: u64) -> Result<(), NoMemory>
         ensures made { OnOk result (self.new ≡ after_call call reading self.old) }
-        ensures knows { (k : Known) (p : Pair Event) → Knows self.old k → IsAsked call reading k p → OnOk result (Knows self.new (learn p k)) }
+        ensures knows { (k : Known) (p : Pair Event) → Knows self.old k → IsAsked self.old call reading k p → OnOk result (Knows self.new (learn p k)) }
+        ensures waits { (number : ℕ) → OnOk result (waits_for number self.new.due ≡ false) }
         ensures session { self.new.session ≡ self.old.session }
         ensures splits { self.new.splits ≡ self.old.splits }
     {
@@ -113,7 +131,11 @@ impl<'a> Coordinator<'a> {
             Call::Get(key) => self.get(key),
             Call::Scan(span) => self.scan(span),
             Call::Rollback => self.rollback(),
-            _ => {
+            Call::Learn(_) => {
+                self.set_due(Due::Tell(Answer::NotYet));
+                Ok(())
+            }
+            Call::Round => {
                 self.set_due(Due::Stuck);
                 Ok(())
             }
@@ -229,15 +251,23 @@ impl<'a> Coordinator<'a> {
             Due::Hear { .. } => Ok(Next::Wave),
             Due::Send { request, .. } => Ok(Next::Send(request.copy()?)),
             Due::Tell(answer) => Ok(Next::Tell(answer.copy()?)),
+            Due::Met {
+                number,
+                conflict,
+                ..
+            } => Ok(Next::Conflict {
+                number: *number,
+                conflict: conflict.copy()?,
+                reader: None,
+            }),
             Due::Read(messages) => messages.next(),
         }
     }
 
     /// The message that `next` gave went out under this number.
     pub fn sent(&mut self, number: u64) -> Result<(), NoMemory>
-        ensures made { (request : Request) (wait : AwaitedReply) → self.old.due ≡ dues.Send request wait → OnOk result (self.new ≡ with_due (dues.Hear number wait) self.old) }
         ensures knows { (k : Known) (p : Pair Event) (range : ℕ) (request : Request) → Knows self.old k → IsSent self.old number range request k p → OnOk result (Knows self.new (learn p k)) }
-        ensures waits { (request : Request) → next_of self.old.due ≡ nexts.Send request → OnOk result (waits_for number self.new.due ≡ true) }
+        ensures waits { (request : Request) (other : ℕ) → next_of self.old.due ≡ nexts.Send request → OnOk result (waits_for other self.new.due ≡ (number == other || waits_for other self.old.due)) }
         ensures session { self.new.session ≡ self.old.session }
         ensures splits { self.new.splits ≡ self.old.splits }
     {
@@ -267,8 +297,8 @@ impl<'a> Coordinator<'a> {
 
     /// The reply to the message of this number was heard; it was evaluated at this step.
     pub fn heard(&mut self, number: u64, step: u64, reply: &Reply) -> Result<(), NoMemory>
-        ensures made { (k : Known) (wait : AwaitedReply) → Knows self.old k → awaited_at number self.old.due ≡ Some wait → OnOk result (self.new ≡ after_reply wait reply.now (with_heard reply.now self.old)) }
-        ensures knows { (k : Known) (p : Pair Event) → Knows self.old k → IsHeard self.old number step reply.now p → OnOk result (Knows self.new (learn p k)) }
+        ensures knows { (k : Known) (p : Pair Event) → Knows self.old k → IsHeard self.old number step reply.now k p → OnOk result (Knows self.new (learn p k)) }
+        ensures waits { (k : Known) (other : ℕ) → Knows self.old k → waits_for number self.old.due ≡ true → OnOk result (waits_for other self.new.due ≡ (waits_for other self.old.due && not (number == other))) }
         ensures session { self.new.session ≡ self.old.session }
         ensures splits { self.new.splits ≡ self.old.splits }
     {
@@ -276,7 +306,7 @@ impl<'a> Coordinator<'a> {
         self.hear(reply);
         match &wait {
             None => self.read_heard(number, reply),
-            Some(wait) => self.reply_heard(wait, reply),
+            Some(wait) => self.reply_heard(number, wait, reply),
         }
     }
 
@@ -309,35 +339,127 @@ impl<'a> Coordinator<'a> {
         self.clock = self.clock.max(last_stamp(reply));
     }
 
-    fn reply_heard(&mut self, wait: &Wait, reply: &Reply) -> Result<(), NoMemory>
-        ensures made { FewRefused wait.now → OnOk result (self.new ≡ after_reply wait.now reply.now self.old) }
+    fn reply_heard(&mut self, number: u64, wait: &Wait, reply: &Reply) -> Result<(), NoMemory>
+        ensures made { FewRefused wait.now → OnOk result (self.new ≡ after_reply number wait.now reply.now self.old) }
         ensures session { self.new.session ≡ self.old.session }
         ensures splits { self.new.splits ≡ self.old.splits }
     {
         match wait {
-            Wait::Put => {
-                self.put_heard(reply);
-                Ok(())
-            }
+            Wait::Put { conflicts, again } => self.put_heard(number, *conflicts, *again, reply),
             Wait::Commit { ts, refusals } => self.commit_heard(*ts, *refusals, reply),
             Wait::Abort => self.abort_heard(reply),
         }
     }
 
-    fn put_heard(&mut self, reply: &Reply)
-        ensures { self.new ≡ after_put_reply reply.now self.old }
+    fn put_heard(
+        &mut self,
+        number: u64,
+        conflicts: u32,
+        again: bool,
+        reply: &Reply,
+    ) -> Result<(), NoMemory>
+        ensures made { OnOk result (self.new ≡ after_put_reply number conflicts again reply.now self.old) }
+        ensures session { self.new.session ≡ self.old.session }
+        ensures splits { self.new.splits ≡ self.old.splits }
     {
         match reply {
-            Reply::Written { ts } => self.written(*ts),
-            _ => self.set_due(Due::Stuck),
+            Reply::Written { ts } => self.written(*ts, again),
+            _ => {
+                self.due = turn::met(number, conflicts, again, reply)?;
+                Ok(())
+            }
         }
     }
 
-    fn written(&mut self, ts: Timestamp)
-        ensures { self.new ≡ with_due (dues.Tell answers.Written) (with_raise ts self.old) }
+    fn written(&mut self, ts: Timestamp, again: bool) -> Result<(), NoMemory>
+        ensures made { OnOk result (self.new ≡ written_in again ts self.old.txn self.old) }
+        ensures session { self.new.session ≡ self.old.session }
+        ensures splits { self.new.splits ≡ self.old.splits }
     {
-        turn::raise(&mut self.txn, ts);
-        self.due = Due::Tell(Answer::Written);
+        self.due = turn::written(&mut self.txn, ts, again)?;
+        Ok(())
+    }
+
+    /// The round of the conflict that the message of this number met was made, and ended so.
+    pub fn settled(&mut self, number: u64, round: Round) -> Result<(), NoMemory>
+        ensures knows { (c : Coordination) (start k : Known) (conflict : Reply) (reader : Option ℕ) → Knows c start → self.old ≡ with_clock k.high c → next_of c.due ≡ nexts.Conflict number conflict reader → IsLaterBeside c start k → EndsRound conflict round start k → OnOk result (Knows self.new k) }
+        ensures waits { (conflict : Reply) (reader : Option ℕ) (other : ℕ) → next_of self.old.due ≡ nexts.Conflict number conflict reader → OnOk result (waits_for other self.new.due ≡ false) }
+        ensures session { self.new.session ≡ self.old.session }
+        ensures splits { self.new.splits ≡ self.old.splits }
+    {
+        self.round_made(number, round)
+    }
+
+    fn round_made(&mut self, number: u64, round: Round) -> Result<(), NoMemory>
+        ensures made { OnOk result (self.new ≡ after_round round number self.old) }
+        ensures session { self.new.session ≡ self.old.session }
+        ensures splits { self.new.splits ≡ self.old.splits }
+    {
+        match &self.due {
+            Due::Met {
+                conflict,
+                conflicts,
+                again,
+                ..
+            } => {
+                self.due = turn::settled(&self.txn, round, conflict, *conflicts, *again)?;
+                Ok(())
+            }
+            _ => self.read_settled(number, round),
+        }
+    }
+
+    fn read_settled(&mut self, number: u64, round: Round) -> Result<(), NoMemory>
+        ensures made { OnOk result (self.new ≡ with_due (reads_after_round round number self.old.due) self.old) }
+        ensures session { self.new.session ≡ self.old.session }
+        ensures splits { self.new.splits ≡ self.old.splits }
+    {
+        let due = mem::replace(&mut self.due, Due::Stuck);
+        self.due = reads::settled(due, number, round)?;
+        Ok(())
+    }
+
+    /// A timestamp stands in a reply that the session heard to a request which the coordinator did not give.
+    pub fn raise(&mut self, ts: Timestamp)
+        ensures { self.new ≡ with_clock (max self.old.clock ts) self.old }
+    {
+        self.clock = self.clock.max(ts);
+    }
+
+    /// Who pushes in the rounds of the open transaction's conflicts.
+    pub fn pusher(&self) -> Option<Pusher>
+        ensures { (k : Known) (number : ℕ) (conflict : Reply) (reader : Option ℕ) → Knows self.now k → next_of self.now.due ≡ nexts.Conflict number conflict reader → IsPusherOf k result }
+    {
+        self.pusher_held()
+    }
+
+    fn pusher_held(&self) -> Option<Pusher>
+        ensures { result ≡ pusher_of self.now.txn }
+    {
+        match &self.txn {
+            None => None,
+            Some(txn) => Some(Pusher {
+                id: txn.id,
+                level: txn.priority,
+            }),
+        }
+    }
+
+    /// What the last transaction left to be done, once, after its last answer was told.
+    pub fn job(&mut self) -> Option<Job>
+        ensures handed { result ≡ self.old.job }
+        ensures made { self.new ≡ without_job self.old }
+        ensures knows { (k : Known) → Knows self.old k → self.old.due ≡ dues.Nothing → Knows self.new k }
+        ensures may { (k : Known) → Knows self.old k → self.old.due ≡ dues.Nothing → IfSome result (MayFinishJob k) }
+    {
+        self.take_job()
+    }
+
+    fn take_job(&mut self) -> Option<Job>
+        ensures handed { result ≡ self.old.job }
+        ensures made { self.new ≡ without_job self.old }
+    {
+        self.job.take()
     }
 
     fn abort_heard(&mut self, reply: &Reply) -> Result<(), NoMemory>
@@ -347,7 +469,7 @@ impl<'a> Coordinator<'a> {
     {
         let why = turn::cause_of(reply)?;
         self.due = turn::rolled_back(&self.txn, why);
-        self.txn = None;
+        self.close(turn::fate_of(reply));
         Ok(())
     }
 
@@ -371,8 +493,8 @@ impl<'a> Coordinator<'a> {
         ensures splits { self.new.splits ≡ self.old.splits }
     {
         match view {
-            View::Committed { ts: at, .. } => {
-                self.committed(*at);
+            View::Committed { epoch, ts: at, .. } => {
+                self.committed(*epoch, *at);
                 Ok(())
             }
             View::Aborted { why, .. } => self.aborted(why),
@@ -385,20 +507,27 @@ impl<'a> Coordinator<'a> {
         }
     }
 
-    fn committed(&mut self, ts: Timestamp)
-        ensures { self.new ≡ after_committed ts self.old }
+    fn committed(&mut self, epoch: u32, ts: Timestamp)
+        ensures { self.new ≡ after_committed epoch ts self.old }
     {
         self.due = turn::committed(&self.txn, ts);
-        self.txn = None;
+        self.close(Some(Fate::Committed { epoch, ts }));
+    }
+
+    /// The transaction is over, with this fate.
+    fn close(&mut self, fate: Option<Fate>)
+        ensures { self.new ≡ closed_with fate self.old }
+    {
+        self.job = turn::job_of(self.txn.take(), fate);
     }
 
     fn aborted(&mut self, why: &Why) -> Result<(), NoMemory>
-        ensures made { OnOk result (self.new ≡ with_end (answers.Aborted why.now) self.old) }
+        ensures made { OnOk result (self.new ≡ with_end (Some fates.Aborted) (answers.Aborted why.now) self.old) }
         ensures session { self.new.session ≡ self.old.session }
         ensures splits { self.new.splits ≡ self.old.splits }
     {
         let why = why.copy()?;
-        self.txn = None;
+        self.close(Some(Fate::Aborted));
         self.due = Due::Tell(Answer::Aborted { why });
         Ok(())
     }

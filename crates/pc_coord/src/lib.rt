@@ -3,16 +3,25 @@
 
 mod coordinator;
 mod due;
+mod job;
+mod laws;
 mod locks;
 mod messages;
 mod next;
+mod pusher;
 mod reads;
+mod round;
 mod stamps;
 mod transaction;
 mod turn;
 
 pub use coordinator::Coordinator;
+pub use job::Job;
+pub use laws::coordinating_goes_on;
 pub use next::Next;
+pub use pusher::Pusher;
+pub use round::Round;
+pub use stamps::last_stamp;
 
 #[cfg(test)]
 mod tests;

@@ -1,20 +1,25 @@
 ghost use Rattle.std.specs.Prelude.{◌≡◌, ◌++◌, [], ◌∷◌, find, map, IfOk, OnOk};
-ghost use Rattle.std.specs.Option.{option_copied};
+ghost use Rattle.std.specs.Option.{option_and_then, option_copied};
 ghost use Rattle.std.specs.List.{flat_map, list_all, list_any, position};
-ghost use Rattle.pc_coord.specs.Messages.{answer_of, change_first, due_of_reads, has_rows, heard_as, is_heard, is_unsent, next_in, rows_told, sent_as, unsent, value_heard, value_in, waits_at};
+ghost use Rattle.pc_coord.specs.Messages.{again, answer_of, blocked_by, change_first, due_by, due_of_reads, first_met, has_rows, heard_as, holder_in, holder_met, is_heard, is_met, is_sent, is_unsent, met_at, next_in, next_of_met, next_unmet, one_more, read_at, rows_told, sent_as, unsent, value_heard, value_in, waits_at};
 ghost use Rattle.pc_world.specs.Tell.Data.{told_row};
 
 use crate::due::Due;
 use crate::next::Next;
-use pc_base::{NoMemory, TryCopy};
+use pc_base::{NoMemory, Timestamp, TryCopy, TxnId};
 use pc_proto::{Answer, Origin, Reply, Request, Rows};
 use std::alloc::Global;
 use std::marker::Model;
+
+/// How many intents a request meets in one call until its holder blocks the call.
+pub const CONFLICTS: u32 = 8;
 
 /// A message of the open statement.
 #[derive(Drop)]
 pub struct Message {
     pub request: Request,
+    /// How many intents it met in this call, counted up to the eighth.
+    pub conflicts: u32,
     pub progress: Progress,
 }
 
@@ -25,6 +30,8 @@ pub enum Progress {
     Unsent,
     /// It went out under this number, and its reply is waited for.
     Sent { number: u64 },
+    /// Under this number it met this conflict, whose round is to be made.
+    Met { number: u64, conflict: Reply },
     /// This was replied.
     Heard { reply: Reply },
 }
@@ -58,19 +65,51 @@ impl Messages {
     {
         self.items.push(Message {
             request,
+            conflicts: 0,
             progress: Progress::Unsent,
         })?;
         Ok(())
     }
 
-    /// The first message that is to be sent; else they are to be delivered.
+    /// The round of the first conflict, else the first message that is to be sent, else they are to be delivered.
     pub fn next(&self) -> Result<Next, NoMemory>
         ensures { IfOk result (λ next. next ≡ next_in self.now) }
+    {
+        match self.first_met() {
+            Some(message) => message.next(),
+            None => self.next_unmet(),
+        }
+    }
+
+    fn next_unmet(&self) -> Result<Next, NoMemory>
+        ensures { IfOk result (λ next. next ≡ next_unmet (find is_unsent self.now)) }
     {
         match self.to_send() {
             Some(message) => Ok(Next::Send(message.request.copy()?)),
             None => Ok(Next::Wave),
         }
+    }
+
+    fn first_met(&self) -> Option<&Message>
+        ensures { option_copied result ≡ first_met self.now }
+    {
+        if self.is_awaited() {
+            return None;
+        }
+        self.met()
+    }
+
+    /// The reply to one of them is waited for.
+    fn is_awaited(&self) -> bool
+        ensures { result ≡ list_any is_sent self.now }
+    {
+        self.items.iter().any(|message| message.is_sent())
+    }
+
+    fn met(&self) -> Option<&Message>
+        ensures { option_copied result ≡ find is_met self.now }
+    {
+        self.items.iter().find(|message| message.is_met())
     }
 
     fn to_send(&self) -> Option<&Message>
@@ -85,7 +124,7 @@ impl Messages {
         ensures { self.new ≡ change_first is_unsent (sent_as number) self.old }
     {
         if let Some(place) = self.first_unsent() {
-            self.items[place].progress = Progress::Sent { number };
+            self.items[place].go_out(number);
         }
     }
 
@@ -98,10 +137,10 @@ impl Messages {
     /// This was replied to the message of this number.
     #[tactic(auto, using(crate::proofs::Changes::heard_first, crate::proofs::Changes::none_heard))]
     pub fn heard(&mut self, number: u64, reply: Reply)
-        ensures { self.new ≡ change_first (waits_at number) (heard_as reply) self.old }
+        ensures { self.new ≡ change_first (waits_at number) (heard_as number reply) self.old }
     {
         if let Some(place) = self.first_waiting(number) {
-            self.items[place].progress = Progress::Heard { reply };
+            self.items[place].hear(number, reply);
         }
     }
 
@@ -113,16 +152,67 @@ impl Messages {
             .position(|message| message.waits_at(number))
     }
 
-    /// What is due: more of the messages, or what the call is told once all are heard.
+    /// The message of this number, whose conflict's round was made, is to be sent again.
+    #[tactic(auto, using(crate::proofs::Changes::again_first, crate::proofs::Changes::none_again))]
+    pub fn again(&mut self, number: u64)
+        ensures { self.new ≡ change_first (met_at number) again self.old }
+    {
+        if let Some(place) = self.place_met(number) {
+            self.items[place].ask_again();
+        }
+    }
+
+    fn place_met(&self, number: u64) -> Option<usize>
+        ensures { result ≡ position (met_at number) self.now }
+    {
+        self.items.iter().position(|message| message.met_at(number))
+    }
+
+    /// Whose intent the message of this number met.
+    pub fn holder(&self, number: u64) -> Option<TxnId>
+        ensures { result ≡ option_and_then (λ m. holder_met m.progress) (find (met_at number) self.now) }
+    {
+        match self.met_at(number) {
+            Some(message) => message.holder(),
+            None => None,
+        }
+    }
+
+    fn met_at(&self, number: u64) -> Option<&Message>
+        ensures { option_copied result ≡ find (met_at number) self.now }
+    {
+        self.items.iter().find(|message| message.met_at(number))
+    }
+
+    /// What is due: more of the messages; or what the call is told, once all are heard, or a conflict is one too many.
     pub fn into_due(self) -> Result<Due, NoMemory>
         ensures { IfOk result (λ due. due ≡ due_of_reads self) }
     {
-        if !self.all_heard() {
-            return Ok(Due::Read(self));
+        if self.all_heard() {
+            return self.told();
         }
+        Ok(match self.blocker() {
+            Some(holder) => Due::Tell(Answer::Blocked { holder }),
+            None => Due::Read(self),
+        })
+    }
+
+    fn told(&self) -> Result<Due, NoMemory>
+        ensures { IfOk result (λ due. due ≡ due_by (answer_of self.now)) }
+    {
         match self.answer()? {
             Some(answer) => Ok(Due::Tell(answer)),
             None => Ok(Due::Stuck),
+        }
+    }
+
+    /// The holder of the intent that is next to be pushed, where the message has met as many as it may.
+    fn blocker(&self) -> Option<TxnId>
+        ensures { result ≡ option_and_then blocked_by (first_met self.now) }
+    {
+        match self.first_met() {
+            Some(message) => message.blocked_by(),
+            None => None,
         }
     }
 
@@ -166,6 +256,90 @@ impl Message {
         ensures { result ≡ is_unsent self.now }
     {
         matches!(self.progress, Progress::Unsent)
+    }
+
+    fn is_sent(&self) -> bool
+        ensures { result ≡ is_sent self.now }
+    {
+        matches!(self.progress, Progress::Sent { .. })
+    }
+
+    fn is_met(&self) -> bool
+        ensures { result ≡ is_met self.now }
+    {
+        matches!(self.progress, Progress::Met { .. })
+    }
+
+    fn met_at(&self, number: u64) -> bool
+        ensures { result ≡ met_at number self.now }
+    {
+        match &self.progress {
+            Progress::Met { number: sent, .. } => *sent == number,
+            _ => false,
+        }
+    }
+
+    /// What is due of a message that met an intent.
+    fn next(&self) -> Result<Next, NoMemory>
+        ensures { IfOk result (λ next. next ≡ next_of_met self.now.request self.now.progress) }
+    {
+        match &self.progress {
+            Progress::Met { number, conflict } => {
+                let conflict = conflict.copy()?;
+                Ok(Next::Conflict {
+                    number: *number,
+                    conflict,
+                    reader: read_at(&self.request),
+                })
+            }
+            _ => Ok(Next::Wave),
+        }
+    }
+
+    fn holder(&self) -> Option<TxnId>
+        ensures { result ≡ holder_met self.now.progress }
+    {
+        match &self.progress {
+            Progress::Met { conflict, .. } => holder_in(conflict),
+            _ => None,
+        }
+    }
+
+    fn blocked_by(&self) -> Option<TxnId>
+        ensures { result ≡ blocked_by self.now }
+    {
+        if self.conflicts >= CONFLICTS {
+            self.holder()
+        } else {
+            None
+        }
+    }
+
+    /// This was replied to it; it went out under this number.
+    fn hear(&mut self, number: u64, reply: Reply)
+        ensures { self.new ≡ heard_as number reply self.old }
+    {
+        if matches!(reply, Reply::Conflict { .. }) {
+            self.conflicts = one_more(self.conflicts);
+            self.progress = Progress::Met {
+                number,
+                conflict: reply,
+            };
+        } else {
+            self.progress = Progress::Heard { reply };
+        }
+    }
+
+    fn go_out(&mut self, number: u64)
+        ensures { self.new ≡ sent_as number self.old }
+    {
+        self.progress = Progress::Sent { number };
+    }
+
+    fn ask_again(&mut self)
+        ensures { self.new ≡ again self.old }
+    {
+        self.progress = Progress::Unsent;
     }
 
     fn waits_at(&self, number: u64) -> bool
@@ -238,4 +412,35 @@ fn add_told(rows: &mut Rows, found: &Rows) -> Result<(), NoMemory>
         rows.add((key, Origin::Nothing, value))?;
     }
     Ok(())
+}
+
+/// One conflict more, counted up to the eighth.
+pub fn one_more(conflicts: u32) -> u32
+    ensures { result ≡ one_more conflicts }
+{
+    if conflicts < CONFLICTS {
+        conflicts + 1
+    } else {
+        CONFLICTS
+    }
+}
+
+/// The transaction that holds the intent, where the reply is a conflict.
+pub fn holder_in(reply: &Reply) -> Option<TxnId>
+    ensures { result ≡ holder_in reply.now }
+{
+    match reply {
+        Reply::Conflict { holder, .. } => Some(holder.id),
+        _ => None,
+    }
+}
+
+/// The timestamp at which the request reads.
+fn read_at(request: &Request) -> Option<Timestamp>
+    ensures { result ≡ read_at request.now }
+{
+    match request {
+        Request::Get { ts, .. } | Request::Scan { ts, .. } => Some(*ts),
+        _ => None,
+    }
 }

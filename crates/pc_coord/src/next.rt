@@ -1,4 +1,5 @@
-use pc_proto::{Answer, Request};
+use pc_base::Timestamp;
+use pc_proto::{Answer, Reply, Request};
 
 /// What is due next.
 #[derive(Debug, PartialEq, Eq, Drop)]
@@ -7,6 +8,12 @@ pub enum Next {
     Send(Request),
     /// The requests that were sent and not heard are to be delivered.
     Wave,
+    /// The message of this number met this conflict, for which a round is to be made. A reader's is told at which timestamp it reads.
+    Conflict {
+        number: u64,
+        conflict: Reply,
+        reader: Option<Timestamp>,
+    },
     /// The open call is to be told this.
     Tell(Answer),
     Idle,

@@ -1,12 +1,15 @@
-ghost use Rattle.std.specs.Prelude.{◌≡◌, ◌++◌, None, Some, IfOk, OnOk};
+ghost use Rattle.std.specs.Prelude.{◌≡◌, ◌++◌, find, None, Some, IfOk, OnOk};
 ghost use Rattle.std.specs.Option.{option_map};
-ghost use Rattle.pc_coord.specs.Coordinating.{due_after_read};
+ghost use Rattle.pc_coord.specs.Coordinating.{due_after_read, read_round, reads_after_round};
+ghost use Rattle.pc_coord.specs.Messages.{met_at};
 ghost use Rattle.pc_coord.specs.Reading.{due_of_get, due_of_scan, messages_of, reading, span_piece, spans_from, spans_in};
 ghost use Rattle.pc_world.specs.RangeOf.{earlier_end, later_start};
 
 use crate::due::Due;
 use crate::messages::Messages;
+use crate::round::Round;
 use crate::transaction::Transaction;
+use crate::turn;
 use pc_base::{Key, NoMemory, Span, TryCopy};
 use pc_proto::{Answer, Keys, Reply};
 use std::alloc::Global;
@@ -57,6 +60,29 @@ pub fn heard(due: Due, number: u64, reply: Reply) -> Result<Due, NoMemory>
             messages.into_due()
         }
         _ => Ok(Due::Stuck),
+    }
+}
+
+/// What is due once the round of the conflict that the message of this number met ended so.
+pub fn settled(due: Due, number: u64, round: Round) -> Result<Due, NoMemory>
+    ensures { IfOk result (λ made. made ≡ reads_after_round round number due) }
+{
+    match due {
+        Due::Read(messages) => round_of(messages, number, round),
+        _ => Ok(Due::Stuck),
+    }
+}
+
+fn round_of(mut messages: Messages, number: u64, round: Round) -> Result<Due, NoMemory>
+    ensures { IfOk result (λ made. made ≡ read_round round number messages (find (met_at number) messages)) }
+{
+    match round {
+        Round::Again => {
+            messages.again(number);
+            messages.into_due()
+        }
+        Round::Refused => Ok(turn::blocked(messages.holder(number))),
+        Round::Lost { faults } => Ok(Due::Tell(Answer::Unavailable { faults })),
     }
 }
 

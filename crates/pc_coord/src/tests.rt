@@ -1,8 +1,8 @@
 ghost use Rattle.std.specs.Prelude.{◌<◌};
 
-use crate::{Coordinator, Next};
+use crate::{Coordinator, Job, Next, Round};
 use pc_base::{Items, Key, Priority, Span, Timestamp, TxnId, Value, Who};
-use pc_proto::{Answer, Call, Keys, Origin, Reply, Request, Rows, TxnMeta, View, Why};
+use pc_proto::{Answer, Call, Fate, Keys, Origin, Reply, Request, Rows, TxnMeta, View, Why};
 use std::alloc::Global;
 use std::test::Fail;
 
@@ -55,12 +55,16 @@ fn hear_put(coordinator: &mut Coordinator) -> Result<Next, Fail> {
 }
 
 fn the_put(alloc: Global) -> Result<Next, Fail> {
+    put_of(alloc, 1)
+}
+
+fn put_of(alloc: Global, seq: u32) -> Result<Next, Fail> {
     let meta = meta(alloc)?;
     let key = Key::new(alloc, b"a")?;
     let value = Value::new(alloc, b"x")?;
     Ok(Next::Send(Request::Put {
         meta,
-        seq: 1,
+        seq,
         ts: at(10),
         key,
         value: Some(value),
@@ -315,5 +319,186 @@ fn a_commit_hears_that_it_was_pushed(rt: HostRuntime) -> Result<(), Fail> {
     coordinator.heard(2, 9, &Reply::Status(aborted))?;
     let told = Answer::Aborted { why: pushed() };
     assert_eq!(rt; coordinator.next()?, Next::Tell(told));
+    Ok(())
+}
+
+const HOLDER: TxnId = TxnId {
+    session: 2,
+    number: 1,
+};
+
+fn holder(alloc: Global) -> Result<TxnMeta, Fail> {
+    let anchor = Key::new(alloc, b"a")?;
+    Ok(TxnMeta {
+        id: HOLDER,
+        epoch: 0,
+        priority: Priority::Normal,
+        born: 5,
+        anchor,
+    })
+}
+
+fn conflict(alloc: Global) -> Result<Reply, Fail> {
+    let holder = holder(alloc)?;
+    let key = Key::new(alloc, b"a")?;
+    Ok(Reply::Conflict {
+        holder,
+        ts: at(7),
+        key,
+    })
+}
+
+fn round_at(alloc: Global, number: u64, reader: Option<Timestamp>) -> Result<Next, Fail> {
+    Ok(Next::Conflict {
+        number,
+        conflict: conflict(alloc)?,
+        reader,
+    })
+}
+
+fn blocked() -> Next {
+    Next::Tell(Answer::Blocked { holder: HOLDER })
+}
+
+fn meet(coordinator: &mut Coordinator, alloc: Global, number: u64) -> Result<Next, Fail>
+    requires { number < 100 }
+{
+    let conflict = conflict(alloc)?;
+    coordinator.sent(number)?;
+    coordinator.heard(number, number * 2, &conflict)?;
+    Ok(coordinator.next()?)
+}
+
+#[test]
+fn a_put_goes_again_after_its_conflicts_round(rt: HostRuntime) -> Result<(), Fail> {
+    let splits = Items::new(rt.alloc());
+    let mut coordinator = Coordinator::new(rt.alloc(), 1, 3, false, &splits);
+    let _begun = begin(&mut coordinator)?;
+    let _put = ask_put(&mut coordinator, rt.alloc())?;
+    assert_eq!(rt;
+        meet(&mut coordinator, rt.alloc(), 1)?,
+        round_at(rt.alloc(), 1, None)?
+    );
+    assert!(rt; coordinator.pusher().is_some());
+    coordinator.settled(1, Round::Again)?;
+    assert_eq!(rt; coordinator.next()?, the_put(rt.alloc())?);
+    coordinator.sent(2)?;
+    coordinator.heard(2, 9, &Reply::Written { ts: at(10) })?;
+    assert_eq!(rt; coordinator.next()?, Next::Tell(Answer::Written));
+    Ok(())
+}
+
+#[test]
+fn a_write_that_was_blocked_is_laid_first(rt: HostRuntime) -> Result<(), Fail> {
+    let splits = Items::new(rt.alloc());
+    let mut coordinator = Coordinator::new(rt.alloc(), 1, 3, false, &splits);
+    let _begun = begin(&mut coordinator)?;
+    let _put = ask_put(&mut coordinator, rt.alloc())?;
+    let _round = meet(&mut coordinator, rt.alloc(), 1)?;
+    coordinator.settled(1, Round::Refused)?;
+    assert_eq!(rt; coordinator.next()?, blocked());
+    coordinator.told();
+    assert_eq!(rt;
+        ask_put(&mut coordinator, rt.alloc())?,
+        the_put(rt.alloc())?
+    );
+    coordinator.sent(2)?;
+    coordinator.heard(2, 9, &Reply::Written { ts: at(10) })?;
+    assert_eq!(rt; coordinator.next()?, put_of(rt.alloc(), 2)?);
+    Ok(())
+}
+
+#[test]
+fn the_eighth_conflict_blocks(rt: HostRuntime) -> Result<(), Fail> {
+    let splits = Items::new(rt.alloc());
+    let mut coordinator = Coordinator::new(rt.alloc(), 1, 3, false, &splits);
+    let _begun = begin(&mut coordinator)?;
+    let _put = ask_put(&mut coordinator, rt.alloc())?;
+    for number in 1..8 {
+        assert_eq!(rt;
+            meet(&mut coordinator, rt.alloc(), number)?,
+            round_at(rt.alloc(), number, None)?
+        );
+        coordinator.settled(number, Round::Again)?;
+    }
+    assert_eq!(rt; meet(&mut coordinator, rt.alloc(), 8)?, blocked());
+    Ok(())
+}
+
+#[test]
+fn a_get_pushes_at_its_timestamp(rt: HostRuntime) -> Result<(), Fail> {
+    let splits = Items::new(rt.alloc());
+    let mut coordinator = Coordinator::new(rt.alloc(), 1, 3, false, &splits);
+    let _begun = begin(&mut coordinator)?;
+    coordinator.ask(Call::Get(Key::new(rt.alloc(), b"a")?), 11)?;
+    assert_eq!(rt;
+        meet(&mut coordinator, rt.alloc(), 1)?,
+        round_at(rt.alloc(), 1, Some(at(10)))?
+    );
+    coordinator.settled(1, Round::Lost { faults: 3 })?;
+    let told = Answer::Unavailable { faults: 3 };
+    assert_eq!(rt; coordinator.next()?, Next::Tell(told));
+    Ok(())
+}
+
+fn commit(coordinator: &mut Coordinator, alloc: Global) -> Result<(), Fail> {
+    coordinator.ask(Call::Commit, 12)?;
+    coordinator.sent(2)?;
+    let committed = View::Committed {
+        epoch: 0,
+        ts: at(10),
+        locks: locks(alloc)?,
+    };
+    coordinator.heard(2, 9, &Reply::Status(committed))?;
+    coordinator.told();
+    Ok(())
+}
+
+fn settles(job: &Option<Job>, meta: &TxnMeta, locks: &Keys) -> bool {
+    match job {
+        None => false,
+        Some(job) => job.meta == *meta && job.locks == *locks,
+    }
+}
+
+fn is_committed(job: &Option<Job>) -> bool {
+    matches!(
+        job,
+        Some(Job {
+            staged: None,
+            fate: Fate::Committed { epoch: 0, .. },
+            ..
+        })
+    )
+}
+
+#[test]
+fn what_a_commit_leaves_is_handed_out_once(rt: HostRuntime) -> Result<(), Fail> {
+    let splits = Items::new(rt.alloc());
+    let mut coordinator = Coordinator::new(rt.alloc(), 1, 3, false, &splits);
+    let _begun = begin(&mut coordinator)?;
+    let _put = ask_put(&mut coordinator, rt.alloc())?;
+    let _written = hear_put(&mut coordinator)?;
+    commit(&mut coordinator, rt.alloc())?;
+    let job = coordinator.job();
+    assert!(rt; settles(&job, &meta(rt.alloc())?, &locks(rt.alloc())?));
+    assert!(rt; is_committed(&job));
+    assert!(rt; coordinator.job().is_none());
+    assert!(rt; !coordinator.has_txn());
+    Ok(())
+}
+
+fn begins_after(coordinator: &mut Coordinator, wall: u64) -> Result<bool, Fail> {
+    coordinator.raise(at(wall));
+    let begun = begin(coordinator)?;
+    let ts = Timestamp::new(wall, 1);
+    Ok(begun == Next::Tell(Answer::Begun { id: ID, ts }))
+}
+
+#[test]
+fn a_raise_moves_the_next_begin(rt: HostRuntime) -> Result<(), Fail> {
+    let splits = Items::new(rt.alloc());
+    let mut coordinator = Coordinator::new(rt.alloc(), 1, 3, false, &splits);
+    assert!(rt; begins_after(&mut coordinator, 30)?);
     Ok(())
 }

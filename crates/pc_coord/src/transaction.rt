@@ -1,13 +1,22 @@
-ghost use Rattle.std.specs.Prelude.{◌≡◌, false, ◌+◌, IfOk, OnOk, unwrap_or};
+ghost use Rattle.std.specs.Prelude.{◌≡◌, false, ◌+◌, IfOk, OnOk, None, Some};
 ghost use Rattle.pc_coord.specs.Transaction.{abort_of, commit_of, get_of, meta_in, needs_refresh, put_of, refreshed, scan_of, transaction_of, with_write};
-ghost use Rattle.pc_coord.specs.Coordination.{abort_due, commit_due, put_due};
+ghost use Rattle.pc_coord.specs.Coordination.{abort_due, commit_due, job_at, put_due};
+ghost use Rattle.pc_coord.specs.Turning.{landed_due, landed_txn, resent, write_due, write_txn};
 ghost use Rattle.pc_world.specs.Known.Transactions.{begun};
 
 use crate::due::{Due, Wait};
+use crate::job::Job;
 use crate::locks::with_lock;
 use pc_base::{Items, Key, NoMemory, Priority, Span, Timestamp, TryCopy, TxnId, Value};
-use pc_proto::{Keys, Request, TxnMeta, Why};
+use pc_proto::{Answer, Fate, Keys, Request, TxnMeta, Why};
 use std::alloc::Global;
+
+/// A write that was sent and is not proved; no value is a deletion. Its sequence is the transaction's last one.
+#[derive(Drop)]
+pub struct InFlight {
+    pub key: Key,
+    pub value: Option<Value>,
+}
 
 /// The open transaction, as its session knows it.
 #[derive(Drop)]
@@ -29,11 +38,13 @@ pub struct Transaction {
     pub locks: Keys,
     /// Whether it was asked to read in this epoch.
     pub has_read: bool,
+    /// Its write that is in flight: the last one.
+    pub in_flight: Option<InFlight>,
 }
 
 impl Transaction {
     pub fn new(alloc: Global, id: TxnId, priority: Priority, born: u64, ts: Timestamp) -> Self
-        ensures { result ≡ transaction_of false (begun id priority born ts) }
+        ensures { result ≡ transaction_of false None (begun id priority born ts) }
     {
         Transaction {
             id,
@@ -47,18 +58,23 @@ impl Transaction {
             anchor: None,
             locks: Items::new(alloc),
             has_read: false,
+            in_flight: None,
         }
     }
 
-    /// Takes one more write of this key in. It is refused too where the sequences are used up.
-    fn write(&mut self, key: &Key) -> Result<(), NoMemory>
-        ensures { OnOk result (self.new ≡ with_write key.now self.old) }
+    /// Takes one more write in, which is in flight. It is refused too where the sequences are used up.
+    fn write(&mut self, key: &Key, value: Option<Value>) -> Result<(), NoMemory>
+        ensures { OnOk result (self.new ≡ with_write key.now value self.old) }
     {
         self.seq = following(self.seq)?;
         self.locks = with_lock(&self.locks, key)?;
         if self.anchor.is_none() {
             self.anchor = Some(key.copy()?);
         }
+        self.in_flight = Some(InFlight {
+            key: key.copy()?,
+            value,
+        });
         Ok(())
     }
 
@@ -74,25 +90,113 @@ impl Transaction {
         }
     }
 
-    /// Takes the write in, and makes the message that lays it at the write timestamp.
+    /// Makes the message that lays the write at the write timestamp; or the one that lays a write in flight first.
     pub fn put(&mut self, key: &Key, value: Option<Value>) -> Result<Due, NoMemory>
-        ensures due { IfOk result (λ due. due ≡ put_due (unwrap_or self.old.anchor key.now) key.now value (with_write key.now self.old)) }
-        ensures wrote { OnOk result (self.new ≡ with_write key.now self.old) }
+        ensures due { IfOk result (λ due. due ≡ write_due self.old.in_flight key.now value self.old) }
+        ensures txn { OnOk result (self.new ≡ write_txn self.old.in_flight key.now value self.old) }
     {
-        let anchor = anchor_or(&self.anchor, key)?;
-        self.write(key)?;
-        let request = self.put_request(anchor, key, value)?;
-        Ok(Due::Send {
-            request,
-            wait: Wait::Put,
-        })
+        if let Some(write) = &self.in_flight {
+            return self.put_due(&write.key, &write.value, true);
+        }
+        self.begin_write(key, value)
     }
 
-    fn put_request(&self, anchor: Key, key: &Key, value: Option<Value>) -> Result<Request, NoMemory>
-        ensures { IfOk result (λ made. made ≡ put_of self.now anchor key.now value) }
+    fn begin_write(&mut self, key: &Key, value: Option<Value>) -> Result<Due, NoMemory>
+        ensures due { IfOk result (λ due. due ≡ write_due None key.now value self.old) }
+        ensures txn { OnOk result (self.new ≡ with_write key.now value self.old) }
     {
-        let meta = self.meta(anchor);
+        self.write(key, value.copy()?)?;
+        self.put_due(key, &value, false)
+    }
+
+    fn put_due(&self, key: &Key, value: &Option<Value>, again: bool) -> Result<Due, NoMemory>
+        ensures { IfOk result (λ due. due ≡ put_due self.now.anchor key.now value.now again self.now) }
+    {
+        match &self.anchor {
+            None => Ok(Due::Stuck),
+            Some(anchor) => {
+                let request = self.put_request(anchor, key, value)?;
+                Ok(Due::Send {
+                    request,
+                    wait: Wait::Put {
+                        conflicts: 0,
+                        again,
+                    },
+                })
+            }
+        }
+    }
+
+    /// The write in flight was written at this timestamp; one of an earlier call is followed by the call's own.
+    pub fn written(&mut self, ts: Timestamp, again: bool) -> Result<Due, NoMemory>
+        ensures due { IfOk result (λ due. due ≡ landed_due again ts self.old.in_flight self.old) }
+        ensures txn { OnOk result (self.new ≡ landed_txn again ts self.old.in_flight self.old) }
+    {
+        self.write_ts = self.write_ts.max(ts);
+        match self.in_flight.take() {
+            None => Ok(Due::Stuck),
+            Some(InFlight { key, value }) if again => self.begin_write(&key, value),
+            Some(_) => Ok(Due::Tell(Answer::Written)),
+        }
+    }
+
+    /// Makes the message that lays the write in flight, after so many conflicts.
+    pub fn resend(&self, conflicts: u32, again: bool) -> Result<Due, NoMemory>
+        ensures { IfOk result (λ due. due ≡ resent conflicts again self.now.anchor self.now.in_flight self.now) }
+    {
+        match (&self.anchor, &self.in_flight) {
+            (Some(anchor), Some(write)) => {
+                let request = self.put_request(anchor, &write.key, &write.value)?;
+                Ok(Due::Send {
+                    request,
+                    wait: Wait::Put { conflicts, again },
+                })
+            }
+            _ => Ok(Due::Stuck),
+        }
+    }
+
+    /// What is left to be done of it, where it has this fate. One that wrote nothing leaves nothing.
+    pub fn into_job(self, fate: Fate) -> Option<Job>
+        ensures { result ≡ job_at (Some fate) self.anchor self }
+    {
+        let Transaction {
+            id,
+            epoch,
+            priority,
+            born,
+            anchor,
+            locks,
+            ..
+        } = self;
+        match anchor {
+            None => None,
+            Some(anchor) => Some(Job {
+                meta: TxnMeta {
+                    id,
+                    epoch,
+                    priority,
+                    born,
+                    anchor,
+                },
+                staged: None,
+                fate,
+                locks,
+            }),
+        }
+    }
+
+    fn put_request(
+        &self,
+        anchor: &Key,
+        key: &Key,
+        value: &Option<Value>,
+    ) -> Result<Request, NoMemory>
+        ensures { IfOk result (λ made. made ≡ put_of self.now anchor.now key.now value.now) }
+    {
+        let meta = self.meta(anchor.copy()?);
         let key = key.copy()?;
+        let value = value.copy()?;
         let (seq, ts) = (self.seq, self.write_ts);
         Ok(Request::Put {
             meta,
@@ -202,16 +306,6 @@ impl Transaction {
             ts: self.write_ts,
             locks,
         })
-    }
-}
-
-/// The anchor, or else the key.
-fn anchor_or(anchor: &Option<Key>, key: &Key) -> Result<Key, NoMemory>
-    ensures { IfOk result (λ made. made ≡ unwrap_or anchor.now key.now) }
-{
-    match anchor {
-        None => key.copy(),
-        Some(anchor) => anchor.copy(),
     }
 }
 

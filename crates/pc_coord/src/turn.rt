@@ -1,25 +1,94 @@
-ghost use Rattle.std.specs.Prelude.{◌≡◌, ◌+◌, ◌<◌, None, Some, IfOk, OnOk, max};
-ghost use Rattle.std.specs.Option.{option_map};
-ghost use Rattle.pc_coord.specs.Transaction.{raised, refreshed, with_write};
+ghost use Rattle.std.specs.Prelude.{◌≡◌, ◌+◌, ◌<◌, ℕ, None, Some, IfOk, OnOk, Option};
+ghost use Rattle.std.specs.Option.{option_and_then, option_map};
+ghost use Rattle.pc_coord.specs.Transaction.{raised, refreshed};
 ghost use Rattle.pc_coord.specs.Coordinating.{refusals_with};
-ghost use Rattle.pc_coord.specs.Turning.{cause_in, cause_of, due_of_commit, due_of_committed, due_of_end, due_of_put, due_of_retry, due_of_rollback, due_of_rolled_back, txn_of_end, txn_of_retry, txn_of_rollback};
+ghost use Rattle.pc_coord.specs.Coordination.{job_of};
+ghost use Rattle.pc_coord.specs.Turning.{blocked_due, cause_in, cause_of, due_of_commit, due_of_committed, due_of_conflict, due_of_end, due_of_put, due_of_resend, due_of_retry, due_of_rollback, due_of_rolled_back, due_of_round, due_of_written, txn_of_end, txn_of_put, txn_of_retry, txn_of_rollback, txn_of_written};
+ghost use Rattle.pc_world.specs.Views.{final_fate, view_in};
 
 use crate::due::Due;
+use crate::job::Job;
+use crate::messages::{CONFLICTS, holder_in, one_more};
+use crate::round::Round;
 use crate::transaction::Transaction;
-use pc_base::{Key, NoMemory, Timestamp, TryCopy, Value};
-use pc_proto::{Answer, Reply, View, Why};
+use pc_base::{Key, NoMemory, Timestamp, TryCopy, TxnId, Value};
+use pc_proto::{Answer, Fate, Reply, View, Why};
 
 /// How many refused commits of one statement make it give up.
 const REFUSALS: u32 = 8;
 
-/// The open transaction puts; no value is a deletion.
+/// The open transaction puts; no value is a deletion. A write of it that is in flight is sent again first.
 pub fn put(txn: &mut Option<Transaction>, key: &Key, value: Option<Value>) -> Result<Due, NoMemory>
     ensures due { IfOk result (λ due. due ≡ due_of_put key.now value txn.old) }
-    ensures txn { OnOk result (txn.new ≡ option_map (with_write key.now) txn.old) }
+    ensures txn { OnOk result (txn.new ≡ txn_of_put key.now value txn.old) }
 {
     match txn {
         None => Ok(Due::Tell(Answer::NoTxn)),
         Some(txn) => txn.put(key, value),
+    }
+}
+
+/// The write in flight was written at this timestamp; one of an earlier call is followed by the call's own.
+pub fn written(txn: &mut Option<Transaction>, ts: Timestamp, again: bool) -> Result<Due, NoMemory>
+    ensures due { IfOk result (λ due. due ≡ due_of_written again ts txn.old) }
+    ensures txn { OnOk result (txn.new ≡ txn_of_written again ts txn.old) }
+{
+    match txn {
+        None => Ok(Due::Stuck),
+        Some(txn) => txn.written(ts, again),
+    }
+}
+
+/// The write in flight met an intent under this number, after so many: a round is made, or the call is blocked.
+pub fn met(number: u64, conflicts: u32, again: bool, reply: &Reply) -> Result<Due, NoMemory>
+    ensures { IfOk result (λ due. due ≡ due_of_conflict number conflicts again reply.now) }
+{
+    let conflicts = one_more(conflicts);
+    match holder_in(reply) {
+        None => Ok(Due::Stuck),
+        Some(holder) if conflicts >= CONFLICTS => Ok(Due::Tell(Answer::Blocked { holder })),
+        Some(_) => Ok(Due::Met {
+            number,
+            conflict: reply.copy()?,
+            conflicts,
+            again,
+        }),
+    }
+}
+
+/// What is due once the round of the write's conflict ended so.
+pub fn settled(
+    txn: &Option<Transaction>,
+    round: Round,
+    conflict: &Reply,
+    conflicts: u32,
+    again: bool,
+) -> Result<Due, NoMemory>
+    ensures { IfOk result (λ due. due ≡ due_of_round round conflict.now conflicts again txn.now) }
+{
+    match round {
+        Round::Again => resend(txn, conflicts, again),
+        Round::Refused => Ok(blocked(holder_in(conflict))),
+        Round::Lost { faults } => Ok(Due::Tell(Answer::Unavailable { faults })),
+    }
+}
+
+fn resend(txn: &Option<Transaction>, conflicts: u32, again: bool) -> Result<Due, NoMemory>
+    ensures { IfOk result (λ due. due ≡ due_of_resend conflicts again txn.now) }
+{
+    match txn {
+        None => Ok(Due::Stuck),
+        Some(txn) => txn.resend(conflicts, again),
+    }
+}
+
+/// The call is told which transaction blocks it.
+pub fn blocked(holder: Option<TxnId>) -> Due
+    ensures { result ≡ blocked_due holder }
+{
+    match holder {
+        None => Due::Stuck,
+        Some(holder) => Due::Tell(Answer::Blocked { holder }),
     }
 }
 
@@ -59,6 +128,16 @@ pub fn rollback(txn: &mut Option<Transaction>) -> Result<Due, NoMemory>
     }
 }
 
+/// What is left to be done of the transaction, which is over with this fate.
+pub fn job_of(txn: Option<Transaction>, fate: Option<Fate>) -> Option<Job>
+    ensures { result ≡ job_of fate txn }
+{
+    match (txn, fate) {
+        (Some(txn), Some(fate)) => txn.into_job(fate),
+        _ => None,
+    }
+}
+
 /// The open transaction was rolled back for this cause, and is over.
 pub fn rolled_back(txn: &Option<Transaction>, why: Why) -> Due
     ensures { result ≡ due_of_rolled_back why txn.now }
@@ -85,6 +164,29 @@ fn cause_in(view: &View) -> Result<Why, NoMemory>
     match view {
         View::Aborted { why, .. } => why.copy(),
         _ => Ok(Why::Client),
+    }
+}
+
+/// The fate that a reply shows, where it shows a final view.
+pub fn fate_of(reply: &Reply) -> Option<Fate>
+    ensures { result ≡ option_and_then final_fate (view_in reply.now) }
+{
+    match reply {
+        Reply::Status(view) | Reply::Refused(view) | Reply::Unsure(view) => final_fate(view),
+        _ => None,
+    }
+}
+
+fn final_fate(view: &View) -> Option<Fate>
+    ensures { result ≡ final_fate view.now }
+{
+    match view {
+        View::Committed { epoch, ts, .. } => Some(Fate::Committed {
+            epoch: *epoch,
+            ts: *ts,
+        }),
+        View::Aborted { .. } => Some(Fate::Aborted),
+        View::Nothing | View::Pending { .. } | View::Staging { .. } => None,
     }
 }
 

@@ -1,4 +1,4 @@
-use Rattle.pc_coord.proofs.Standing.{has_txn_ok}
+use Rattle.pc_coord.proofs.Told.{has_txn_ok}
 use Rattle.pc_coord.proofs.coordinator.Coordinator.has_txn.Goals as goal
 
 pub returns : goal.returns

@@ -1,4 +1,4 @@
-use Rattle.pc_coord.proofs.Standing.{next_ok}
+use Rattle.pc_coord.proofs.Giving.{next_ok}
 use Rattle.pc_coord.proofs.coordinator.Coordinator.next.Goals as goal
 
 pub returns-clause-may : goal.returns-clause-may

@@ -1,4 +1,4 @@
-use Rattle.pc_coord.proofs.Standing.{told_ok}
+use Rattle.pc_coord.proofs.Told.{told_ok}
 use Rattle.pc_coord.proofs.coordinator.Coordinator.told.Goals as goal
 
 pub returns-clause-knows : goal.returns-clause-knows

@@ -1,0 +1,65 @@
+-- A transaction ends with the final view that was heard last.
+use Rattle.std.proofs.Common.{◌≡◌, ℕ, ◌≤◌, List, ◌∷◌, map, Option, Some, IfSome, refl, sym, ap, ◌∙◌, subst, arith, Contains}
+use Rattle.std.proofs.lemmas.Option.{same_Some}
+use Rattle.pc_coord.proofs.Ending.{EndsWith, left_is, may_finish}
+use Rattle.pc_coord.proofs.Resting.{open_is}
+use Rattle.pc_coord.proofs.Steps.{heard, told}
+use Rattle.pc_coord.specs.Coordination.{job_at, job_of}
+use Rattle.pc_coord.specs.declared.job.Job.{Job}
+use Rattle.pc_coord.specs.declared.transaction.Transaction.{Transaction}
+use Rattle.pc_coord.specs.Knows.{MayFinishJob, messages_left}
+use Rattle.pc_coord.specs.Knows.Held.{IsOpenAs}
+use Rattle.pc_coord.specs.Transaction.{transaction_of}
+use Rattle.pc_proto.specs.declared.answer.Answer.{Answer}
+use Rattle.pc_proto.specs.declared.fate.Fate.{Fate}
+use Rattle.pc_proto.specs.declared.reply.Reply.{Reply}
+use Rattle.pc_proto.specs.declared.reply.Reply.TheVariants as replies
+use Rattle.pc_proto.specs.declared.view.View.{View}
+use Rattle.pc_proto.specs.Stamps.{reply_stamps, view_stamps}
+use Rattle.pc_world.specs.Follows.FinishingJobs.{left_if}
+use Rattle.pc_world.specs.Known.{Known, open_txn, txns_told}
+use Rattle.pc_world.specs.Known.Clock.{last_of}
+use Rattle.pc_world.specs.Known.Traffic.{Heard, replies_to}
+use Rattle.pc_world.specs.Known.Transactions.{Txn, txn_heard, txn_told}
+use Rattle.pc_world.specs.Views.{view_in}
+
+view-stamps : (reply : Reply) (view : View) → view_in reply ≡ Some view → reply_stamps reply ≡ view_stamps view
+view-stamps (replies.Status shown) view e = ap view_stamps (same_Some shown view e)
+view-stamps (replies.Refused shown) view e = ap view_stamps (same_Some shown view e)
+view-stamps (replies.Unsure shown) view e = ap view_stamps (same_Some shown view e)
+view-stamps reply view e = absurd cc
+
+module _ (k : Known) (x : Transaction) (t : Txn) (anchor : List ℕ) (fate : Fate) (h : Heard) (open_as : IsOpenAs x k t) (ends : EndsWith t anchor fate k.heard h) where
+  abbrev k3 : Known
+  k3 = heard h k
+
+  abbrev t3 : Txn
+  t3 = txn_heard k.sent (Some h) t
+
+  abbrev others3 : List Txn
+  others3 = map (txn_heard k.sent (Some h)) open_as.others
+
+  abbrev left : Option Job
+  left = job_at (Some fate) (Some anchor) (transaction_of x.has_read x.in_flight t)
+
+  first3 : k3.txns ≡ t3 ∷ others3
+  first3 = ap (map (txn_heard k.sent (Some h))) open_as.first
+
+  pub opened3 : open_txn k3 ≡ Some t3
+  opened3 = open_is k3 t3 others3 open_as.is_open first3
+
+  job_is : job_of (Some fate) (Some x) ≡ left
+  job_is = ap (λ x. job_of (Some fate) (Some x)) open_as.same ∙ ap (λ a. job_at (Some fate) a (transaction_of x.has_read x.in_flight t)) ends.anchored
+
+  -- what is left is its settling
+  pub closing-left : messages_left (job_of (Some fate) (Some x)) ≡ left_if k3 (open_txn k3)
+  closing-left = ap messages_left job_is ∙ left_is t anchor fate k.heard h ends x.has_read x.in_flight ∙ sym (ap (left_if k3) opened3)
+
+  -- which may be done, once the answer is told
+  pub closing-may : (answer : Answer) → txns_told answer k3 ≡ txn_told answer (replies_to k3.sent_now k3.heard_now) t3 ∷ others3 → IfSome (job_of (Some fate) (Some x)) (MayFinishJob (told answer k3))
+  closing-may answer txns =
+      let t4 : Txn = txn_told answer (replies_to k3.sent_now k3.heard_now) t3 in
+      let here : Contains (t4 ∷ others3) t4 = (0, omega arith, refl) in
+      let low : last_of (view_stamps ends.view) ≤ (told answer k3).top = omega (arith, ap last_of (view-stamps h.reply ends.view ends.told)) in
+      subst (λ j. IfSome j (MayFinishJob (told answer k3))) (sym job_is)
+      (may_finish t anchor fate k.heard h ends (told answer k3) x.has_read x.in_flight t4 refl low (subst (λ ts. Contains ts t4) (sym txns) here) refl refl)

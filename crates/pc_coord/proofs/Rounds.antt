@@ -1,0 +1,132 @@
+-- What a conflict's round that was made changes of what its call may do.
+use Rattle.std.proofs.Common.{◌≡◌, ℕ, ◌+◌, ◌≤◌, Bool, true, false, cond, inl, inr, List, [], ◌∷◌, ◌++◌, refl, sym, ap, ◌∙◌, subst, arith, All, Any, IsTrue, count_by}
+use Rattle.std.proofs.lemmas.Bool.{and_parts}
+use Rattle.std.proofs.lemmas.List.{append_assoc}
+use Rattle.std.proofs.lemmas.List.Elements.{All-append, All-cons, All-nil}
+use Rattle.std.proofs.lemmas.List.Sums.{sum_by-append, sum_by-cons}
+use Rattle.pc_base.specs.declared.transaction.TxnId.{TxnId}
+use Rattle.pc_base.specs.Span.{same_key}
+use Rattle.pc_base.specs.Transaction.{same_txn}
+use Rattle.pc_coord.proofs.Ids.{same-is}
+use Rattle.pc_coord.proofs.Lists.{any_head, any_last}
+use Rattle.pc_coord.specs.Beside.{is_beside}
+use Rattle.pc_coord.specs.Rounds.{IsPaced, IsRefusedRound, IsSettledRound, is_resolve_of, was_met, was_pushed, was_settled}
+use Rattle.pc_proto.specs.declared.meta.TxnMeta.{TxnMeta}
+use Rattle.pc_proto.specs.declared.reply.Reply.{Reply}
+use Rattle.pc_proto.specs.declared.reply.Reply.TheVariants as replies
+use Rattle.pc_proto.specs.declared.request.Request.{Request}
+use Rattle.pc_proto.specs.declared.request.Request.TheVariants as requests
+use Rattle.pc_world.specs.Follows.Resends.{MetConflictNow, WasDone, is_resolved}
+use Rattle.pc_world.specs.Known.{Known}
+use Rattle.pc_world.specs.Known.Traffic.{Heard}
+use Rattle.pc_world.specs.SameRequest.{IsSameRequest}
+use Rattle.pc_world.specs.Send.Recovery.{is_push_of, was_refused}
+
+-- One where it is so, else none.
+abbrev pub one_if : Bool → ℕ
+one_if b = cond b 1 0
+
+pub count-append : {X : Type 0} (p : X → Bool) (xs ys : List X) → count_by p (xs ++ ys) ≡ count_by p xs + count_by p ys
+count-append {X = X} p xs ys = let f : X → ℕ = λ y. one_if (p y) in sum_by-append f xs ys
+
+pub count-cons : {X : Type 0} (p : X → Bool) (x : X) (xs : List X) → count_by p (x ∷ xs) ≡ one_if (p x) + count_by p xs
+count-cons {X = X} p x xs = let f : X → ℕ = λ y. one_if (p y) in sum_by-cons f x xs
+
+push_as : (id : TxnId) (request : Request) → is_push_of id request ≡ true → (other : TxnId) → is_push_of other request ≡ same_txn id other
+push_as id (requests.Push holder by level now goal) is other = ap (λ id. same_txn id other) (same-is holder.id id is)
+push_as id request is other = absurd cc
+
+push_settles : (id : TxnId) (request : Request) → is_push_of id request ≡ true → (other : TxnId) → is_resolve_of other request ≡ false
+push_settles id (requests.Push holder by level now goal) is other = refl
+push_settles id request is other = absurd cc
+
+resolve_as : (id : TxnId) (key : List ℕ) (request : Request) (reply : Reply) → is_resolved id key request reply ≡ true → (other : TxnId) → is_resolve_of other request ≡ same_txn id other
+resolve_as id key (requests.Resolve whose at fate) replies.Resolved is other = ap (λ id. same_txn id other) (same-is whose id (and_parts (same_txn whose id) (same_key at key) is).0)
+resolve_as id key request reply is other = absurd cc
+
+resolve_pushes : (id : TxnId) (key : List ℕ) (request : Request) (reply : Reply) → is_resolved id key request reply ≡ true → (other : TxnId) → is_push_of other request ≡ false
+resolve_pushes id key (requests.Resolve whose at fate) replies.Resolved is other = refl
+resolve_pushes id key request reply is other = absurd cc
+
+-- the message of a round is not of one request with one that the coordinator gives
+pub not_beside : (request other : Request) → is_beside request ≡ false → is_beside other ≡ true → IsSameRequest request other → ⊥
+not_beside request other not is (inl same) = let e : is_beside request ≡ true = ap is_beside same ∙ is in cc
+not_beside (requests.Put meta seq ts key value) (requests.Put holder at now lock laid) not is (inr put) = cc
+not_beside request other not is (inr put) = absurd put
+
+push_beside : (id : TxnId) (request : Request) → is_push_of id request ≡ true → is_beside request ≡ true
+push_beside id (requests.Push holder by level now goal) is = refl
+push_beside id request is = absurd cc
+
+resolve_beside : (id : TxnId) (key : List ℕ) (request : Request) (reply : Reply) → is_resolved id key request reply ≡ true → is_beside request ≡ true
+resolve_beside id key (requests.Resolve whose at fate) replies.Resolved is = refl
+resolve_beside id key request reply is = absurd cc
+
+-- Of these transactions no more are the one than of those, but for this one.
+abbrev pub HasLeft : TxnId → List TxnId → List TxnId → Type 0
+HasLeft id pending left = (other : TxnId) → count_by (λ one. same_txn one other) left + one_if (same_txn id other) ≤ count_by (λ one. same_txn one other) pending
+
+pub first-left : (id : TxnId) (left : List TxnId) → HasLeft id (id ∷ left) left
+first-left id left other = omega (arith, count-cons (λ (one : TxnId). same_txn one other) id left)
+
+module _ (id : TxnId) (key : List ℕ) (start k : Known) (round : IsSettledRound id key start k) where
+  abbrev made : List Heard
+  made = round.push ∷ round.resolve ∷ []
+
+  counted : (p : Heard → Bool) → count_by p k.heard_now ≡ count_by p start.heard_now + (one_if (p round.push) + one_if (p round.resolve))
+  counted p =
+      let e : count_by p k.heard_now ≡ count_by p (start.heard_now ++ made) = ap (count_by p) round.more in
+      omega (arith, e, count-append p start.heard_now made, count-cons p round.push (round.resolve ∷ []), count-cons p round.resolve [])
+
+  -- the holder was pushed once more, and its intent was settled once more
+  pub settled-paced : (pending left : List TxnId) → HasLeft id pending left → IsPaced pending start → IsPaced left k
+  settled-paced pending left one paced =
+      let pushes : (other : TxnId) → count_by (was_pushed other) k.heard_now ≡ count_by (was_pushed other) start.heard_now + one_if (same_txn id other) = λ other.
+      let a : one_if (was_pushed other round.push) ≡ one_if (same_txn id other) = ap one_if (push_as id round.push.request round.pushed other) in
+      let b : one_if (was_pushed other round.resolve) ≡ 0 = ap one_if (resolve_pushes id key round.resolve.request round.resolve.reply round.resolved other) in
+      omega (arith, counted (was_pushed other), a, b) in
+      record {
+        pushes = λ other. omega (arith, pushes other, counted (was_met other), one other, paced.pushes other);
+        resolves = λ other.
+            let a : one_if (was_settled other round.push) ≡ 0 = ap one_if (push_settles id round.push.request round.pushed other) in
+            let b : one_if (was_settled other round.resolve) ≡ one_if (same_txn id other) = ap one_if (resolve_as id key round.resolve.request round.resolve.reply round.resolved other) in
+            omega (arith, pushes other, counted (was_settled other), a, b, paced.resolves other);
+      }
+
+  -- the messages of the round are not of one request with this one
+  pub settled-others : (request : Request) → is_beside request ≡ false → All (λ h. IsSameRequest request h.request → ⊥) made
+  settled-others request not =
+      let Other : Heard → Type 0 = λ h. IsSameRequest request h.request → ⊥ in
+      All-cons Other round.push (round.resolve ∷ []) (not_beside request round.push.request not (push_beside id round.push.request round.pushed))
+      (All-cons Other round.resolve [] (not_beside request round.resolve.request not (resolve_beside id key round.resolve.request round.resolve.reply round.resolved)) (All-nil Other))
+
+  -- after the round the request that met the conflict may go again
+  pub settled-again : (request : Request) → is_beside request ≡ false → (before : List Heard) (h : Heard) (later : List Heard) → start.heard_now ≡ before ++ h ∷ later → IsSameRequest request h.request
+      → All (λ h. IsSameRequest request h.request → ⊥) later → (holder : TxnMeta) (ts : ℕ) → holder.id ≡ id → h.reply ≡ replies.Conflict holder ts key → MetConflictNow k request
+  settled-again request not before h later whole same last holder ts whose met = record {
+    before = before;
+    conflict = h;
+    later = later ++ made;
+    whole = round.more ∙ ap (λ hs. hs ++ made) whole ∙ append_assoc before (h ∷ later) made;
+    same = same;
+    last = All-append (λ h. IsSameRequest request h.request → ⊥) later made last (settled-others request not);
+    holder = holder;
+    ts = ts;
+    key = key;
+    met = met;
+    followed = record {
+      before = later;
+      push = round.push;
+      after = round.resolve ∷ [];
+      whole = refl;
+      pushed = subst (λ id. IsTrue (is_push_of id round.push.request)) (sym whose) round.pushed;
+      done =
+          let resolved : Any (λ h. IsTrue (is_resolved id key h.request h.reply)) (round.resolve ∷ []) = any_head (λ h. IsTrue (is_resolved id key h.request h.reply)) round.resolve [] round.resolved in
+          subst (λ id. WasDone id key round.push.reply (round.resolve ∷ [])) (sym whose)
+          (subst (λ r. WasDone id key r (round.resolve ∷ [])) (sym round.told) resolved);
+    };
+  }
+
+-- a push of the holder was refused
+pub refused-heard : (id : TxnId) (start k : Known) → IsRefusedRound id start k → Any (λ h. IsTrue (was_refused id h)) k.heard_now
+refused-heard id start k round = subst (λ hs. Any (λ h. IsTrue (was_refused id h)) hs) (sym round.more) (any_last (λ h. IsTrue (was_refused id h)) start.heard_now round.push round.refused)
