@@ -1,36 +1,43 @@
 -- What the laws of runs say of the history that the program writes.
-use Rattle.std.proofs.Common.{◌≡◌, ℕ, ◌+◌, ◌^◌, ◌<◌, Bool, List, [], arith, length, IfOk, Ok, Err, Result, inl, refl, sym, ap, subst, ◌∙◌}
+use Rattle.std.proofs.Common.{◌≡◌, ℕ, ◌+◌, ◌^◌, ◌<◌, Bool, List, [], arith, length, IfOk, Ok, Err, Result, inl, inr, ◌⊎◌, refl, sym, ap, subst, ◌∙◌}
 use Rattle.pc_base.specs.declared.actor.ActorId.{ActorId}
 use Rattle.pc_base.specs.declared.entry.Entry.{Entry}
 use Rattle.pc_implicit.proofs.OneDecision.{decisions_do_not_differ}
 use Rattle.pc_proto.specs.declared.event.Event.{Event}
 use Rattle.pc_report.specs.declared.rows.Report.{Report}
 use Rattle.pc_report.specs.ReportOf.{IsRunOver, report_of}
+use Rattle.pc_runner.proofs.Readers.{readers_put_nothing}
+use Rattle.pc_runner.proofs.Writers.{writers_read_nothing}
 use Rattle.pc_runner.specs.Follows.{Follows}
+use Rattle.pc_runner.specs.OneKind.{OnlyReads, OnlyWrites}
 use Rattle.pc_serial.proofs.Legal.{is-legal, is-ordered}
+use Rattle.pc_work.specs.Built.{IsBuilt}
 use Rattle.pc_work.specs.declared.workload.Workload.{Workload}
-use Rattle.pc_world.proofs.PutsAndCommits.{puts_and_commits_read_nothing, puts_and_commits_stage_nothing}
 use Rattle.pc_world.specs.Local.{Head}
-use Rattle.pc_world.specs.PutsAndCommits.{OnlyPutsAndCommits}
 use Rattle.pc_world.specs.Run.{IsRun}
+use Rattle.pc_world.specs.Unstaged.{NothingIsPut, NothingIsRead, NothingIsStaged}
 use Rattle.pc_program.specs.Output.{IsOutput, IsRunOf, head_in, output_text}
 
--- A run of the workload in which only puts and commits are sent.
-pub is_run_of : (work : Workload) (rules : ActorId → ℕ → ℕ → Bool) (entries : List (Entry Event)) → IsRun (head_in work) entries → Follows work rules (head_in work) entries → OnlyPutsAndCommits entries
-    → IsRunOf work rules entries
-is_run_of work rules entries run follows only =
-    let unstaged = puts_and_commits_stage_nothing entries only in
-    record {
-      run = run;
-      follows = follows;
-      decisions = decisions_do_not_differ (head_in work) entries run unstaged;
-      ordered = is-ordered (head_in work) entries run unstaged;
-      legal = is-legal (head_in work) entries run unstaged (inl (puts_and_commits_read_nothing entries only));
-    }
+-- A run of a workload of transactions that all read puts nothing, one of transactions that all write reads nothing.
+one_kind : (work : Workload) (rules : ActorId → ℕ → ℕ → Bool) (entries : List (Entry Event)) → IsRun (head_in work) entries → Follows work rules (head_in work) entries → OnlyReads work ⊎ OnlyWrites work
+    → NothingIsRead entries ⊎ NothingIsPut entries
+one_kind work rules entries run follows (inl reads) = inr (readers_put_nothing work rules (head_in work) entries run follows reads)
+one_kind work rules entries run follows (inr writes) = inl (writers_read_nothing work rules (head_in work) entries run follows writes)
 
--- A workload of the built form has no split.
-pub few_over : (work : Workload) → work.splits ≡ [] → length work.splits + 1 < 2 ^ 32
-few_over work none = subst (λ splits. length splits + 1 < 2 ^ 32) (sym none) (omega arith)
+-- A run of the workload in which nothing is staged.
+pub is_run_of : (work : Workload) (rules : ActorId → ℕ → ℕ → Bool) (entries : List (Entry Event)) → IsRun (head_in work) entries → Follows work rules (head_in work) entries → NothingIsStaged entries
+    → IsRunOf work rules entries
+is_run_of work rules entries run follows unstaged = record {
+  run = run;
+  follows = follows;
+  decisions = decisions_do_not_differ (head_in work) entries run unstaged;
+  ordered = is-ordered (head_in work) entries run unstaged;
+  legal = λ kind. is-legal (head_in work) entries run unstaged (one_kind work rules entries run follows kind);
+}
+
+-- A workload of the built form has few splits.
+pub few_over : (work : Workload) → IsBuilt work → length work.splits + 1 < 2 ^ 32
+few_over work built = omega (arith, built.few_splits)
 
 -- The entries are a run over the workload's splits.
 pub run_over : (work : Workload) (entries reported : List (Entry Event)) → IsRun (head_in work) entries → reported ≡ entries → IsRunOver work.splits reported
@@ -38,14 +45,14 @@ run_over work entries reported run same = record { head = head_in work; cut = re
 
 -- The text of such a run and of its report is an output.
 pub output_of : {V E : Type 0} (r : Result V E) (items : V → List ℕ) (work : Workload) (rules : ActorId → ℕ → ℕ → Bool) (entries reported printed : List (Entry Event)) (report : Report)
-    → IsRun (head_in work) entries → Follows work rules (head_in work) entries → OnlyPutsAndCommits entries
+    → IsRun (head_in work) entries → Follows work rules (head_in work) entries → NothingIsStaged entries
     → reported ≡ entries → printed ≡ entries → ((head : Head) → head.splits ≡ work.splits → report ≡ report_of head reported)
     → IfOk r (λ out. items out ≡ output_text work printed report) → IfOk r (λ out. IsOutput work rules (items out))
-output_of (Ok out) items work rules entries reported printed report run follows only same_one same_two is text =
+output_of (Ok out) items work rules entries reported printed report run follows unstaged same_one same_two is text =
     let right : report ≡ report_of (head_in work) entries = is (head_in work) refl ∙ ap (report_of (head_in work)) same_one in
     record {
       entries = entries;
-      is = is_run_of work rules entries run follows only;
+      is = is_run_of work rules entries run follows unstaged;
       whole = text ∙ ap (λ es. output_text work es report) same_two ∙ ap (output_text work entries) right;
     }
-output_of (Err e) items work rules entries reported printed report run follows only same_one same_two is text = tt
+output_of (Err e) items work rules entries reported printed report run follows unstaged same_one same_two is text = tt

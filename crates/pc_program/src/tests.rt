@@ -1,32 +1,13 @@
 use super::*;
 use pc_io::{MemSink, MemSource};
 use pc_session::Stepped;
+use pc_vectors::{ROWS, Row};
 use std::alloc::Global;
 use std::test::Fail;
 
+/// The smallest workload that commits something.
 const ONE_PUT: &str =
     r#"{"version":1,"pipelining":false,"sessions":[{"clock":{"start":10,"step":1},"script":[{"do":[{"put":["a","x"]}]}]}],"turns":[]}"#;
-
-const ONE_PUT_OUTPUT: &str = "journal 1
-ranges 1
-actors 1 0
-0 s1 ask begin normal @10
-1 s1 tell begun 1.1 10.0
-2 s1 ask put a =x @11
-3 s1 send 1 r0 put 1.1:0:normal:10:a 1 10.0 a =x
-4 r0 eval s1 1 written 10.0
-5 s1 hear 1 4
-6 s1 tell written
-7 s1 ask commit @12
-8 s1 send 2 r0 commit 1.1:0:normal:10:a 10.0 a
-9 r0 eval s1 2 status committed 0 10.0 a
-10 s1 hear 2 9
-11 s1 tell committed 1.1 10.0
-report
-committed 1.1 10.0 a=x
-map a=x
-end
-";
 
 /// A call of the program: its words, its input, and which calls of the source and the sink fail.
 #[derive(Drop)]
@@ -79,12 +60,25 @@ fn put_of(alloc: Global, letters: usize) -> Result<String, Fail> {
     )?)
 }
 
+/// Runs the row, and says whether it writes what it is to write.
+fn is_as_written(alloc: Global, row: &Row) -> Result<bool, Fail> {
+    let input = String::from_utf8(row.input.to_vec(alloc)?).ok().ok_or("text")?;
+    let case = Case {
+        words: &["run"],
+        input: input.as_str(),
+        failing_reads: &[],
+        room: 65_536,
+        failing_writes: &[],
+    };
+    let (status, taken) = ended(alloc, &case)?;
+    Ok(status == Status::Done && status.code() == 0 && taken.as_slice() == row.output)
+}
+
 #[test]
-fn one_put_gives_its_journal_and_report(rt: HostRuntime) -> Result<(), Fail> {
-    let (status, taken) = ended(rt.alloc(), &ALL_IS_WELL)?;
-    assert_eq!(rt; status, Status::Done);
-    assert!(rt; taken.as_slice() == ONE_PUT_OUTPUT.as_bytes());
-    assert_eq!(rt; status.code(), 0);
+fn each_worked_row_writes_its_journal_and_report(rt: HostRuntime) -> Result<(), Fail> {
+    for row in ROWS.as_slice() {
+        assert!(rt; is_as_written(rt.alloc(), row)?, "{}", row.name);
+    }
     Ok(())
 }
 
@@ -175,7 +169,7 @@ fn a_failing_write_is_told_with_what_was_written(rt: HostRuntime) -> Result<(), 
         let (status, taken) = ended(rt.alloc(), &case)?;
         assert_eq!(rt; status, Status::WriteFault { written });
         assert_eq!(rt; taken.len(), written);
-        assert!(rt; ONE_PUT_OUTPUT.as_bytes().starts_with(taken.as_slice()));
+        assert!(rt; ROWS[1].output.starts_with(taken.as_slice()));
     }
     Ok(())
 }

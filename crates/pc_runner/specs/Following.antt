@@ -1,73 +1,94 @@
--- How the runner of the first session stands beside the history that it makes.
-use Rattle.std.specs.Prelude.{◌≡◌, ℕ, ◌≤◌, ◌^◌, Option, None, Some, List, [], ◌∷◌, ◌++◌, length, Contains, ⊤}
+-- How a session stands beside the history that all sessions make, between its calls and in one.
+use Rattle.std.specs.Prelude.{◌≡◌, ℕ, ◌+◌, ◌≤◌, true, false, Option, None, Some, List, [], length, All}
 use Rattle.pc_base.specs.declared.actor.ActorId.TheVariants as actors
-use Rattle.pc_base.specs.declared.entry.Entry.{Entry}
 use Rattle.pc_coord.specs.Coordination.{Coordination}
 use Rattle.pc_coord.specs.declared.due.Due.TheVariants as dues
-use Rattle.pc_coord.specs.Knows.{Knows}
-use Rattle.pc_proto.specs.declared.event.Event.{Event}
-use Rattle.pc_proto.specs.declared.event.Event.TheVariants as events
-use Rattle.pc_proto.specs.declared.request.Request.{Request}
-use Rattle.pc_world.specs.Known.Traffic.{Sent}
-use Rattle.pc_world.specs.Local.{IsActorOf}
-use Rattle.pc_world.specs.RangeState.{RangeState}
+use Rattle.pc_coord.specs.declared.job.Job.{Job}
+use Rattle.pc_coord.specs.Knows.{Knows, MayFinishJob}
+use Rattle.pc_proto.specs.declared.call.Call.{Call}
+use Rattle.pc_world.specs.Known.{Known, open_txn}
+use Rattle.pc_world.specs.Known.Transactions.{Txn}
+use Rattle.pc_world.specs.Local.{IsActorOf, is_outside}
+use Rattle.pc_work.specs.Built.{IsBuiltItem}
+use Rattle.pc_runner.specs.declared.outbox.Answered.{Answered}
+use Rattle.pc_runner.specs.declared.outbox.Posted.{Posted}
 use Rattle.pc_runner.specs.declared.session.SessionRun.{SessionRun}
-use Rattle.pc_runner.specs.Due.{IsBusy, IsDueAt, IsTied}
-use Rattle.pc_runner.specs.Follows.Script.{next_call}
-use Rattle.pc_runner.specs.History.{History, IsRunSoFar, known_by, state_in}
-use Rattle.pc_runner.specs.Keeping.{KeepsSoFar}
+use Rattle.pc_runner.specs.Follows.Script.{Position, next_call}
+use Rattle.pc_runner.specs.History.{History, IsSound, known_by}
+use Rattle.pc_runner.specs.Keeping.{AreDelivered, KeepsSoFar}
+use Rattle.pc_runner.specs.Suiting.{Fits, IsCourse}
+use Rattle.pc_runner.specs.Traffic.{AreAnsweredFrom, ArePostedFrom, HasHeard, IsPosted, IsReplied, WaitsFor}
 
--- The session's last message has this number, said this and went to the first range; it stands in the history.
-pub record IsLast (request : Request) (count : ℕ) (h : History) : Type 0 where
-  pub before : List Sent
-  pub last : (known_by 1 h).sent ≡ before ++ record { number = count; range = 0; request = request } ∷ []
-  pub send : Entry Event
-  pub stands : Contains h.entries send
-  pub whose : send.actor ≡ actors.Session 1
-  pub says : send.event ≡ events.Send count 0 request
-
--- A message that was not evaluated yet is the last one.
-abbrev pub IsWaiting : Option Request → ℕ → History → Type 0
-IsWaiting None count h = ⊤
-IsWaiting (Some request) count h = IsLast request count h
-
--- The history is a run of one range; the coordinator knows what its session knows in it, the range is what its evaluations made of
--- it, and the messages that the session sent are counted.
-pub record StandsBy (c : Coordination) (s : RangeState) (count : ℕ) (unheard : Option Request) (h : History) : Type 0 where
-  pub session : c.session ≡ 1
+-- The history is sound; the session is one of it, its coordinator knows what it knows, and its messages are counted.
+pub record StandsBy (number : ℕ) (c : Coordination) (sends : ℕ) (h : History) : Type 0 where
+  pub sound : IsSound h
+  pub there : IsActorOf h.head (actors.Session number)
+  pub session : c.session ≡ number
   pub splits : c.splits ≡ h.head.splits
-  pub one_range : h.head.splits ≡ []
-  pub there : IsActorOf h.head (actors.Session 1)
-  pub run : IsRunSoFar h
-  pub short : length h.entries ≤ 2 ^ 64
-  pub state : s ≡ state_in 0 h
-  pub knows : Knows c (known_by 1 h)
-  pub counted : count ≡ length (known_by 1 h).sent
-  pub waiting : IsWaiting unheard count h
+  pub knows : Knows c (known_by number h)
+  pub counted : sends ≡ length (known_by number h).sent
 
--- The runner stands beside its history, which follows the workload so far, and what is due is of the form that is built.
-pub record IsFollowing (r : SessionRun) : Type 0 where
-  pub stands : StandsBy r.coordinator r.state r.sends r.unheard r.journal
-  pub keeps : KeepsSoFar r.work.now r.session.now r.script r.clock r.sends r.unheard r.journal
-  pub due : IsDueAt r.coordinator r.state r.script (known_by 1 r.journal)
-  pub tied : IsTied r.coordinator.due r.unheard
+-- The job may be done, and its transaction was begun and is not the open one.
+pub record IsLeft (k : Known) (job : Job) : Type 0 where
+  pub may : MayFinishJob k job
+  pub begun : job.meta.id.number ≤ k.begun
+  pub other : (t : Txn) → open_txn k ≡ Some t → job.meta.id ≡ t.id → ⊥
 
--- No call is open.
-abbrev pub IsIdle : SessionRun → Type 0
-IsIdle r = r.coordinator.due ≡ dues.Nothing
+-- The transactions are numbered up to how many were begun, and each job that waits may be done.
+pub record HasJobs (jobs : List Job) (k : Known) : Type 0 where
+  pub numbers : All (λ t. t.id.number ≤ k.begun) k.txns
+  pub left : All (IsLeft k) jobs
 
--- A call is open.
-abbrev pub IsInCall : SessionRun → Type 0
-IsInCall r = IsBusy r.coordinator.due
+-- Between its calls: all that the session sent was evaluated once and heard, nothing is due, its jobs may be done, and the script goes on
+-- with its open transaction.
+pub record IsFollowing (r : SessionRun) (h : History) : Type 0 where
+  pub stands : StandsBy r.number r.coordinator r.sends h
+  pub keeps : KeepsSoFar r.work.now r.number r.session.now r.script r.clock r.jobs.items h
+  pub jobs : HasJobs r.jobs.items (known_by r.number h)
+  pub heard : HasHeard r.sends (known_by r.number h)
+  pub delivered : AreDelivered r.number r.sends h
+  pub idle : r.coordinator.due ≡ dues.Nothing
+  pub handed : r.coordinator.job ≡ None
+  pub outbox : r.outbox.items ≡ []
+  pub fits : Fits r.script r.coordinator.txn
 
--- The runner is at the end of its script.
-pub record HasEnded (r : SessionRun) : Type 0 where
-  pub follows : IsFollowing r
-  pub idle : IsIdle r
-  pub no_next : next_call r.script ≡ None
+-- The call that comes next in the script is open since this reading, a begin or a learn where no transaction is; each later item is of
+-- the form that is built.
+pub record IsOpen (at : Position) (reading : ℕ) (k : Known) : Type 0 where
+  pub call : Call
+  pub next : next_call at ≡ Some call
+  pub opened : k.statement ≡ Some (record { call = call; reading = reading })
+  pub outside : is_outside call ≡ true → k.is_open ≡ false
+  pub course : IsCourse at.ahead
+  pub items : All IsBuiltItem at.items
 
--- The actors and the work are the same.
+-- Of the messages of the open call, those up to a number were heard, the next ones were evaluated with these replies, and the last ones
+-- wait; the coordinator waits for these and those.
+pub record AreOnTheirWay (number : ℕ) (c : Coordination) (sends : ℕ) (replies : List Answered) (outbox : List Posted) (h : History) : Type 0 where
+  pub last : ℕ
+  pub counted : last + (length replies + length outbox) ≡ sends
+  pub heard : HasHeard last (known_by number h)
+  pub delivered : AreDelivered number (last + length replies) h
+  pub answered : AreAnsweredFrom (last + 1) replies
+  pub posted : ArePostedFrom (last + length replies + 1) outbox
+  pub replied : All (IsReplied number h) replies
+  pub waiting : All (IsPosted number h) outbox
+  pub waits : WaitsFor last sends c.due
+
+-- In a call, with these replies that were evaluated and not heard, and these messages that were sent and not evaluated.
+pub record IsCalling (r : SessionRun) (replies : List Answered) (outbox : List Posted) (h : History) : Type 0 where
+  pub stands : StandsBy r.number r.coordinator r.sends h
+  pub keeps : KeepsSoFar r.work.now r.number r.session.now r.script r.clock r.jobs.items h
+  pub jobs : HasJobs r.jobs.items (known_by r.number h)
+  pub open_now : IsOpen r.script r.reading (known_by r.number h)
+  pub way : AreOnTheirWay r.number r.coordinator r.sends replies outbox h
+
+-- In a call, between its steps.
+abbrev pub IsInCall : SessionRun → History → Type 0
+IsInCall r h = IsCalling r [] r.outbox.items h
+
+-- The session and its work are the same.
 pub record HasSameWork (old new : SessionRun) : Type 0 where
-  pub head : new.journal.head ≡ old.journal.head
+  pub number : new.number ≡ old.number
   pub work : new.work.now ≡ old.work.now
   pub session : new.session.now ≡ old.session.now

@@ -1,6 +1,6 @@
--- When a history follows its workload: its head is the workload's, and in each session's own list the calls are the script's, the
--- readings the clock's, the messages go over a quiet wire, and the list goes on to the script's end. So far for workloads whose
--- sessions run alone. Own profile.
+-- When a history follows its workload: its head is the workload's; calls and finishing jobs come in its turns; and in each session's own
+-- list the calls are the script's, the readings the clock's, the messages go over a quiet wire, what is over is finished, and the list
+-- goes on to the script's end. Own profile.
 use Rattle.std.specs.Prelude.{◌≡◌, ℕ, ◌-◌, ◌≤◌, Bool, Option, Some, List, [], ◌∷◌, ◌++◌, length, slice_get}
 use Rattle.pc_base.specs.declared.actor.ActorId.{ActorId}
 use Rattle.pc_base.specs.declared.actor.ActorId.TheVariants as actors
@@ -8,10 +8,12 @@ use Rattle.pc_base.specs.declared.entry.Entry.{Entry}
 use Rattle.pc_history.specs.declared.pair.Pair.{Pair}
 use Rattle.pc_history.specs.Own.{own}
 use Rattle.pc_proto.specs.declared.event.Event.{Event}
+use Rattle.pc_proto.specs.declared.request.Request.{Request}
 use Rattle.pc_work.specs.declared.session.SessionWork.{SessionWork}
 use Rattle.pc_work.specs.declared.workload.Workload.{Workload}
 use Rattle.pc_world.specs.Follows.EarlyProof.{ProvesNothingEarly}
 use Rattle.pc_world.specs.Follows.EarlyTell.{TellsEarly}
+use Rattle.pc_world.specs.Follows.FinishingJobs.{AbortsFirst, DoesJobs, jobs_of}
 use Rattle.pc_world.specs.Follows.PipelinedPuts.{HearsOnlyItsPuts, TellsWritten}
 use Rattle.pc_world.specs.Follows.Resends.{ResendsOnlyUnheard}
 use Rattle.pc_world.specs.Known.{Known, known}
@@ -21,15 +23,17 @@ use Rattle.pc_world.specs.Run.{protocol}
 use Rattle.pc_runner.specs.Follows.Clocks.{ReadsClock, asks_in, clock_rule}
 use Rattle.pc_runner.specs.Follows.End.{IsAtEnd}
 use Rattle.pc_runner.specs.Follows.Script.{AsksNext, Position, position}
+use Rattle.pc_runner.specs.Follows.Turns.{IsInTurns}
 use Rattle.pc_runner.specs.Follows.Wire.{AreEvaluatedOnce, HearsAll}
 pub mod Clocks
 pub mod End
 pub mod Script
+pub mod Turns
 pub mod Wire
 
--- What a session's next event keeps, after so many reads of its clock, at this place of its script, by what it knows and by the
--- reply that the event brings.
-pub record KeepsStep (pipelining : Bool) (rule : ℕ → ℕ → Bool) (asks : ℕ) (at : Position) (k : Known) (event : Event) (h : Option Heard) : Type 0 where
+-- What a session's next event keeps, after so many reads of its clock, at this place of its script, with these jobs that wait, by what
+-- it knows and by the reply that the event brings.
+pub record KeepsStep (pipelining : Bool) (rule : ℕ → ℕ → Bool) (asks : ℕ) (at : Position) (jobs : List (List Request)) (k : Known) (event : Event) (h : Option Heard) : Type 0 where
   pub clock : ReadsClock rule asks event
   pub script : AsksNext at event
   pub wire : HearsAll pipelining k event
@@ -38,12 +42,14 @@ pub record KeepsStep (pipelining : Bool) (rule : ℕ → ℕ → Bool) (asks : �
   pub written : TellsWritten pipelining k event
   pub puts : HearsOnlyItsPuts k h
   pub resends : ResendsOnlyUnheard k event
+  pub finishes : DoesJobs k jobs event
+  pub aborts : AbortsFirst k event
 
 -- The session's next entry, with the one that it names, keeps its workload.
 abbrev pub KeepsWork : Workload → SessionWork → (ℕ → ℕ → Bool) → List (Pair Event) → Pair Event → Type 0
 KeepsWork work session rule before p =
     KeepsStep work.pipelining (clock_rule session.clock rule) (asks_in before) (position work.reruns session.script before)
-    (known before) p.entry.event (heard_by p.entry.event p.named (known before).sent)
+    (jobs_of before) (known before) p.entry.event (heard_by p.entry.event p.named (known before).sent)
 
 module _ (P : List (Pair Event) → Pair Event → Type 0) where
   -- Each of the later pairs is so, after all that come before it.
@@ -62,6 +68,7 @@ pub record Follows (work : Workload) (rules : ActorId → ℕ → ℕ → Bool) 
   pub splits : head.splits ≡ work.splits
   pub sessions : head.sessions ≡ length work.sessions
   pub recoverers : head.recoverers ≡ 0
+  pub turns : IsInTurns head work history
   pub each :
       (number : ℕ) (session : SessionWork) → 1 ≤ number → slice_get work.sessions (number - 1) ≡ Some session
       → FollowsAlone work session (rules (actors.Session number)) (actors.Session number) (own (protocol head) (actors.Session number) history) history

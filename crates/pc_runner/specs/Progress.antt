@@ -1,10 +1,19 @@
 -- What a step of a call leaves behind.
+use Rattle.std.specs.Prelude.{◌≡◌, ℕ, List, [], ◌∷◌}
+use Rattle.pc_base.specs.declared.actor.ActorId.TheVariants as actors
+use Rattle.pc_base.specs.declared.entry.Entry.{Entry}
+use Rattle.pc_proto.specs.declared.answer.Answer.{Answer}
+use Rattle.pc_proto.specs.declared.event.Event.{Event}
+use Rattle.pc_proto.specs.declared.event.Event.TheVariants as events
 use Rattle.pc_runner.specs.declared.session.Progress.{Progress}
 use Rattle.pc_runner.specs.declared.session.Progress.TheVariants.{Goes, Told}
 use Rattle.pc_runner.specs.declared.session.SessionRun.{SessionRun}
-use Rattle.pc_runner.specs.Following.{IsFollowing, IsIdle, IsInCall}
+use Rattle.pc_runner.specs.Following.{HasSameWork, IsFollowing, IsInCall}
+use Rattle.pc_runner.specs.Follows.Turns.{deeds}
+use Rattle.pc_runner.specs.History.{History}
+use Rattle.pc_runner.specs.Parts.{IsInside, IsTelling, TakesPart}
 
--- The runner follows its workload, in the call, or after it was told its answer.
-abbrev pub IsAfterStep : SessionRun → Progress → Type 0
-IsAfterStep r Goes = IsFollowing r × IsInCall r
-IsAfterStep r Told = IsFollowing r × IsIdle r
+-- The session is in its call still, or was told its answer at the part's end.
+abbrev pub IsAfterStep : ℕ → History → SessionRun → History → Progress → Type 0
+IsAfterStep number before r h Goes = IsInCall r h × TakesPart number before h (IsInside number)
+IsAfterStep number before r h Told = IsFollowing r h × TakesPart number before h (IsTelling number)

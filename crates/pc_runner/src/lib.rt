@@ -1,9 +1,19 @@
 //! Runs a workload in turns: the sessions' scripts against the ranges, in one order that the workload decides.
 #![tactic(auto)]
 
+mod database;
+mod exchange;
+mod finish;
 mod journal;
+mod laws;
+mod outbox;
+mod round;
 mod script;
 mod session;
 mod turns;
 
+pub use laws::{readers_put_nothing, writers_read_nothing};
 pub use turns::run_turns;
+
+#[cfg(test)]
+mod tests;

@@ -1,4 +1,4 @@
-ghost use Rattle.std.specs.Prelude.{◌≡◌, ◌++◌, IfOk, OnOk, drop};
+ghost use Rattle.std.specs.Prelude.{◌≡◌, ◌↔◌, ◌+◌, ◌-◌, ◌++◌, None, IfOk, IsTrue, OnOk, drop, length, min};
 ghost use Rattle.std.specs.List.{flat_map};
 ghost use Rattle.pc_runner.specs.Follows.Script.{after_told, calls_of, next_call, opened, rerun, statement_calls};
 ghost use Rattle.pc_runner.specs.Script.{txn_calls, with_ahead};
@@ -68,6 +68,21 @@ impl<'a> ScriptRun<'a> {
             None => Ok(None),
             Some(call) => Ok(Some(call.copy()?)),
         }
+    }
+
+    /// Whether no call comes next.
+    pub fn is_over(&self) -> bool
+        ensures { IsTrue result ↔ (next_call self.now ≡ None) }
+    {
+        !self.gives_up && self.over >= self.calls.len()
+    }
+
+    /// How many items of a script of so many are over.
+    pub fn items_over(&self, items: usize) -> usize
+        ensures { result ≡ items - (length self.now.items + min 1 (length self.now.calls)) }
+    {
+        let running = self.calls.len().min(1);
+        items.saturating_sub(self.items.len() + running)
     }
 
     /// The call was told this.

@@ -1,122 +1,123 @@
-ghost use Rattle.std.specs.Prelude.{◌≡◌, IfOk, OnOk, Some, None, true, [], IsSome, length, slice_get};
-ghost use Rattle.pc_base.specs.declared.actor.ActorId.TheVariants as actors;
-ghost use Rattle.pc_coord.specs.Coordination.{next_of, waits_for};
+ghost use Rattle.std.specs.Prelude.{◌≡◌, ◌↔◌, IfOk, OnOk, IsSome, IsTrue, Some, [], length, not};
+ghost use Rattle.pc_coord.specs.Coordination.{next_of};
 ghost use Rattle.pc_coord.specs.declared.next.Next.TheVariants as nexts;
 ghost use Rattle.pc_coord.specs.Knows.{MayCome};
-ghost use Rattle.pc_runner.specs.Due.{IsDueAt, IsTied, IsToHear};
-ghost use Rattle.pc_runner.specs.Following.{HasEnded, HasSameWork, IsFollowing, IsIdle, IsInCall, StandsBy};
+ghost use Rattle.pc_runner.specs.Following.{HasSameWork, IsCalling, IsFollowing, IsInCall};
 ghost use Rattle.pc_runner.specs.Follows.Script.{next_call};
+ghost use Rattle.pc_runner.specs.Follows.Turns.{CallsNext, IsCall};
 ghost use Rattle.pc_runner.specs.History.{head_of, known_by};
-ghost use Rattle.pc_runner.specs.Journal.{IsAnswered};
-ghost use Rattle.pc_runner.specs.Keeping.{IsClockOf, KeepsSoFar};
+ghost use Rattle.pc_runner.specs.Keeping.{IsClockOf, IsStatedBy};
+ghost use Rattle.pc_runner.specs.Parts.{IsInside, IsUntold, TakesPart};
 ghost use Rattle.pc_runner.specs.Progress.{IsAfterStep};
-ghost use Rattle.pc_work.specs.Built.{IsBuilt};
-ghost use Rattle.pc_world.specs.Local.{MayHear};
 
-use crate::journal::Journal;
+use crate::database::Database;
+use crate::outbox::{Answered, Posted};
 use crate::script::ScriptRun;
-use pc_base::{ActorId, NoMemory};
-use pc_coord::{Coordinator, Next};
-use pc_eval::RangeState;
-use pc_proto::{Answer, Call, Reply, Request};
+use pc_base::NoMemory;
+use pc_coord::{Coordinator, Job, Next};
+use pc_proto::{Answer, Call, Request};
 use pc_session::{Clock, Stepped};
 use pc_work::{SessionWork, Workload};
 use std::alloc::Global;
+use std::collections::VecDeque;
+use std::mem;
 
-/// The session that runs.
-const SESSION: u32 = 1;
-
-/// The range to which all goes.
-const RANGE: u32 = 0;
-
-/// The first session and the only range, and what happened at them.
+/// One session of a workload, beside the history that all of them make.
+///
+/// After a refusal for want of memory nothing is promised of it any more.
 #[derive(Drop)]
 pub(crate) struct SessionRun<'a> {
+    pub(crate) alloc: Global,
+    /// The session's number, from 1.
+    pub(crate) number: u32,
     /// What the history follows. Contracts alone speak of it.
-    work: &'a Workload,
+    pub(crate) work: &'a Workload,
     /// The session's part of it.
-    session: &'a SessionWork,
-    script: ScriptRun<'a>,
-    clock: Stepped,
-    coordinator: Coordinator<'a>,
-    state: RangeState,
-    journal: Journal<'a>,
+    pub(crate) session: &'a SessionWork,
+    pub(crate) script: ScriptRun<'a>,
+    pub(crate) clock: Stepped,
+    pub(crate) coordinator: Coordinator<'a>,
+    /// The reading of the clock at which the last call was asked.
+    pub(crate) reading: u64,
     /// How many messages were sent.
-    sends: u64,
-    /// The message that was sent and not evaluated yet.
-    unheard: Option<Request>,
+    pub(crate) sends: u64,
+    /// The messages that were sent and not evaluated yet.
+    pub(crate) outbox: Vec<Posted>,
+    /// What the transactions that are over left to be done, the oldest first.
+    pub(crate) jobs: VecDeque<Job>,
+}
+
+/// How a step of a call ended.
+#[derive(Clone, Copy)]
+pub(crate) enum Progress {
+    /// There is more to do.
+    Goes,
+    /// The call was told its answer.
+    Told,
 }
 
 impl<'a> SessionRun<'a> {
-    /// The workload's first session, before its first call.
+    /// The session of this number, before its first call.
     pub fn new(
         alloc: Global,
+        number: u32,
         work: &'a Workload,
         session: &'a SessionWork,
     ) -> Result<SessionRun<'a>, NoMemory>
-        requires built { IsBuilt work.now }
-        requires listed { slice_get work.now.sessions 0 ≡ Some session.now }
-        ensures follows { IfOk result IsFollowing }
-        ensures idle { IfOk result IsIdle }
-        ensures head { IfOk result (λ run. run.journal.head ≡ head_of work.now.splits (length work.now.sessions)) }
+        requires { IsStatedBy work.now number session.now }
+        ensures follows { IfOk result (λ run. IsFollowing run (record { head = head_of work.now.splits (length work.now.sessions); entries = [] })) }
+        ensures number { IfOk result (λ run. run.number ≡ number) }
         ensures work { IfOk result (λ run. run.work.now ≡ work.now) }
         ensures session { IfOk result (λ run. run.session.now ≡ session.now) }
     {
         let clock = clock_of(session);
         let script = ScriptRun::new(alloc, &session.script, work.reruns)?;
         Ok(SessionRun {
+            alloc,
+            number,
             work,
             session,
             script,
             clock,
-            coordinator: Coordinator::new(
-                alloc,
-                SESSION,
-                work.tries,
-                work.pipelining,
-                &work.splits,
-            ),
-            state: RangeState::new(alloc),
-            journal: Journal::new(alloc, &work.splits, work.sessions.len()),
+            coordinator: Coordinator::new(alloc, number, work.tries, work.pipelining, &work.splits),
+            reading: 0,
             sends: 0,
-            unheard: None,
+            outbox: Vec::new(alloc),
+            jobs: VecDeque::new(alloc),
         })
     }
 
-    pub fn into_journal(self) -> Journal<'a>
-        ensures { result ≡ self.entry.journal }
+    /// Whether a finishing job waits.
+    pub fn has_job(&self) -> bool
+        ensures { IsTrue (not result) ↔ (self.now.jobs.items ≡ []) }
     {
-        self.journal
+        !self.jobs.is_empty()
     }
 
-    /// Runs the script to its end. It is refused too where the journal's steps are used up.
-    pub fn run(&mut self) -> Result<(), NoMemory>
-        requires follows { IsFollowing self.old }
-        requires idle { IsIdle self.old }
-        ensures ended { OnOk result (HasEnded self.new) }
+    /// Asks the script's next call, and goes on until it is told its answer; nothing where the script is over.
+    pub fn turn(&mut self, db: &mut Database<'_>) -> Result<(), NoMemory>
+        requires { IsFollowing self.old db.old }
+        ensures follows { OnOk result (IsFollowing self.new db.new) }
+        ensures part { OnOk result (TakesPart self.old.number db.old db.new (CallsNext db.old.head self.old.work.now self.old.number (next_call self.old.script))) }
         ensures same { OnOk result (HasSameWork self.old self.new) }
     {
-        for _ in 0..u64::MAX {
-            match self.script.next()? {
-                Some(call) => self.call(call)?,
-                None => return Ok(()),
-            }
+        match self.script.next()? {
+            Some(call) => self.call(db, call),
+            None => Ok(()),
         }
-        Err(NoMemory)
     }
 
     /// Asks a call, and goes on until it is told its answer.
-    fn call(&mut self, call: Call) -> Result<(), NoMemory>
-        requires follows { IsFollowing self.old }
-        requires idle { IsIdle self.old }
+    fn call(&mut self, db: &mut Database<'_>, call: Call) -> Result<(), NoMemory>
+        requires follows { IsFollowing self.old db.old }
         requires next { next_call self.old.script ≡ Some call }
-        ensures follows { OnOk result (IsFollowing self.new) }
-        ensures idle { OnOk result (IsIdle self.new) }
+        ensures follows { OnOk result (IsFollowing self.new db.new) }
+        ensures part { OnOk result (TakesPart self.old.number db.old db.new (IsCall self.old.number)) }
         ensures same { OnOk result (HasSameWork self.old self.new) }
     {
-        self.ask(call)?;
+        self.ask(db, call)?;
         for _ in 0..u64::MAX {
-            match self.step()? {
+            match self.step(db)? {
                 Progress::Goes => {}
                 Progress::Told => return Ok(()),
             }
@@ -124,122 +125,121 @@ impl<'a> SessionRun<'a> {
         Err(NoMemory)
     }
 
-    fn ask(&mut self, call: Call) -> Result<(), NoMemory>
-        requires follows { IsFollowing self.old }
-        requires idle { IsIdle self.old }
+    fn ask(&mut self, db: &mut Database<'_>, call: Call) -> Result<(), NoMemory>
+        requires follows { IsFollowing self.old db.old }
         requires next { next_call self.old.script ≡ Some call }
-        ensures follows { OnOk result (IsFollowing self.new) }
-        ensures busy { OnOk result (IsInCall self.new) }
+        ensures calls { OnOk result (IsInCall self.new db.new) }
+        ensures part { OnOk result (TakesPart self.old.number db.old db.new (IsUntold self.old.number)) }
         ensures same { OnOk result (HasSameWork self.old self.new) }
     {
-        let reading = self.clock.read();
-        self.journal.ask(SESSION, &call, reading)?;
-        self.coordinator.ask(call, reading)?;
+        self.reading = self.clock.read();
+        db.ask(self.number, &call, self.reading)?;
+        self.coordinator.ask(call, self.reading)?;
         Ok(())
     }
 
     /// Does what is due.
-    fn step(&mut self) -> Result<Progress, NoMemory>
-        requires follows { IsFollowing self.old }
-        requires busy { IsInCall self.old }
-        ensures after { IfOk result (IsAfterStep self.new) }
+    fn step(&mut self, db: &mut Database<'_>) -> Result<Progress, NoMemory>
+        requires { IsInCall self.old db.old }
+        ensures after { IfOk result (IsAfterStep self.old.number db.old self.new db.new) }
         ensures same { OnOk result (HasSameWork self.old self.new) }
     {
         match self.coordinator.next()? {
-            Next::Send(request) => self.send(request),
-            Next::Wave => self.wave(),
-            Next::Tell(answer) => self.tell(answer),
+            Next::Send(request) => self.send(db, request),
+            Next::Wave => self.wave(db),
+            Next::Conflict {
+                number,
+                conflict,
+                reader,
+            } => {
+                self.round(db, number, conflict, reader)?;
+                Ok(Progress::Goes)
+            }
+            Next::Tell(answer) => self.tell(db, answer),
             Next::Idle => unreachable!(),
         }
     }
 
     /// It is refused too where the numbers of messages are used up.
-    fn send(&mut self, request: Request) -> Result<Progress, NoMemory>
-        requires follows { IsFollowing self.old }
+    fn send(&mut self, db: &mut Database<'_>, request: Request) -> Result<Progress, NoMemory>
+        requires calls { IsInCall self.old db.old }
         requires due { next_of self.old.coordinator.due ≡ nexts.Send request }
-        requires may { MayCome self.old.coordinator (known_by 1 self.old.journal) (nexts.Send request) }
-        ensures after { IfOk result (IsAfterStep self.new) }
+        requires may { MayCome self.old.coordinator (known_by self.old.number db.old) (nexts.Send request) }
+        ensures after { IfOk result (IsAfterStep self.old.number db.old self.new db.new) }
         ensures same { OnOk result (HasSameWork self.old self.new) }
     {
         if self.sends == u64::MAX {
             return Err(NoMemory);
         }
         let number = self.sends + 1;
-        self.journal.send(SESSION, number, RANGE, &request)?;
+        db.send(self.number, number, &request)?;
         self.coordinator.sent(number)?;
         self.sends = number;
-        self.unheard = Some(request);
+        self.outbox.push(Posted { number, request })?;
         Ok(Progress::Goes)
     }
 
-    fn tell(&mut self, answer: Answer) -> Result<Progress, NoMemory>
-        requires follows { IsFollowing self.old }
+    /// The messages that wait are evaluated, and then their replies heard.
+    fn wave(&mut self, db: &mut Database<'_>) -> Result<Progress, NoMemory>
+        requires { IsInCall self.old db.old }
+        ensures after { IfOk result (IsAfterStep self.old.number db.old self.new db.new) }
+        ensures same { OnOk result (HasSameWork self.old self.new) }
+    {
+        let posted = mem::replace(&mut self.outbox, Vec::new(self.alloc));
+        let replies = self.deliver(db, &posted)?;
+        self.hear(db, &replies)?;
+        Ok(Progress::Goes)
+    }
+
+    /// Each of the messages is evaluated.
+    fn deliver(&self, db: &mut Database<'_>, posted: &[Posted]) -> Result<Vec<Answered>, NoMemory>
+        requires { IsCalling self.now [] posted.now db.old }
+        ensures calls { IfOk result (λ replies. IsCalling self.now replies.items [] db.new) }
+        ensures part { OnOk result (TakesPart self.now.number db.old db.new (IsInside self.now.number)) }
+    {
+        let mut replies = Vec::new(self.alloc);
+        for message in posted {
+            let (step, reply) = db.evaluate(self.number, message.number, &message.request)?;
+            replies.push(Answered {
+                number: message.number,
+                step,
+                reply,
+            })?;
+        }
+        Ok(replies)
+    }
+
+    /// Each of the replies is heard.
+    fn hear(&mut self, db: &mut Database<'_>, replies: &[Answered]) -> Result<(), NoMemory>
+        requires calls { IsCalling self.old replies.now [] db.old }
+        requires none { self.old.outbox.items ≡ [] }
+        ensures calls { OnOk result (IsInCall self.new db.new) }
+        ensures part { OnOk result (TakesPart self.old.number db.old db.new (IsInside self.old.number)) }
+        ensures same { OnOk result (HasSameWork self.old self.new) }
+    {
+        for answered in replies {
+            db.hear(self.number, answered.number, answered.step)?;
+            self.coordinator
+                .heard(answered.number, answered.step, &answered.reply)?;
+        }
+        Ok(())
+    }
+
+    fn tell(&mut self, db: &mut Database<'_>, answer: Answer) -> Result<Progress, NoMemory>
+        requires calls { IsInCall self.old db.old }
         requires due { next_of self.old.coordinator.due ≡ nexts.Tell answer }
-        requires may { MayCome self.old.coordinator (known_by 1 self.old.journal) (nexts.Tell answer) }
-        ensures after { IfOk result (IsAfterStep self.new) }
+        requires may { MayCome self.old.coordinator (known_by self.old.number db.old) (nexts.Tell answer) }
+        ensures after { IfOk result (IsAfterStep self.old.number db.old self.new db.new) }
         ensures same { OnOk result (HasSameWork self.old self.new) }
     {
         self.script.told(&answer)?;
-        self.journal.tell(SESSION, answer)?;
+        db.tell(self.number, answer)?;
         self.coordinator.told();
+        if let Some(job) = self.coordinator.job() {
+            self.jobs.push_back(job)?;
+        }
         Ok(Progress::Told)
     }
-
-    /// The range evaluates the message that was sent, and the session hears the reply.
-    fn wave(&mut self) -> Result<Progress, NoMemory>
-        requires follows { IsFollowing self.old }
-        requires due { next_of self.old.coordinator.due ≡ nexts.Wave }
-        ensures after { IfOk result (IsAfterStep self.new) }
-        ensures same { OnOk result (HasSameWork self.old self.new) }
-    {
-        match self.unheard.take() {
-            Some(request) => self.serve(&request),
-            None => unreachable!(),
-        }
-    }
-
-    fn serve(&mut self, request: &Request) -> Result<Progress, NoMemory>
-        requires stands { StandsBy self.old.coordinator self.old.state self.old.sends (Some request.now) self.old.journal }
-        requires keeps { KeepsSoFar self.old.work.now self.old.session.now self.old.script self.old.clock self.old.sends (Some request.now) self.old.journal }
-        requires at { IsDueAt self.old.coordinator self.old.state self.old.script (known_by 1 self.old.journal) }
-        requires tied { IsTied self.old.coordinator.due (Some request.now) }
-        requires none { self.old.unheard ≡ None }
-        requires due { next_of self.old.coordinator.due ≡ nexts.Wave }
-        ensures after { IfOk result (IsAfterStep self.new) }
-        ensures same { OnOk result (HasSameWork self.old self.new) }
-    {
-        let reply = self.state.eval(request)?;
-        let step = self
-            .journal
-            .eval(RANGE, ActorId::Session(SESSION), self.sends, &reply)?;
-        self.hear(step, &reply)
-    }
-
-    fn hear(&mut self, step: u64, reply: &Reply) -> Result<Progress, NoMemory>
-        requires stands { StandsBy self.old.coordinator self.old.state self.old.sends None self.old.journal }
-        requires keeps { KeepsSoFar self.old.work.now self.old.session.now self.old.script self.old.clock self.old.sends None self.old.journal }
-        requires last { self.old.script.items ≡ [] }
-        requires ready { IsToHear self.old.coordinator self.old.state self.old.script.ahead (known_by 1 self.old.journal) self.old.sends reply.now }
-        requires none { self.old.unheard ≡ None }
-        requires waited { waits_for self.old.sends self.old.coordinator.due ≡ true }
-        requires may { MayHear (known_by 1 self.old.journal) self.old.sends }
-        requires answered { IsAnswered self.old.journal (actors.Session 1) self.old.sends step reply.now }
-        ensures after { IfOk result (IsAfterStep self.new) }
-        ensures same { OnOk result (HasSameWork self.old self.new) }
-    {
-        self.journal.hear(SESSION, self.sends, step)?;
-        self.coordinator.heard(self.sends, step, reply)?;
-        Ok(Progress::Goes)
-    }
-}
-
-/// How a step of a call ended.
-#[derive(Clone, Copy)]
-enum Progress {
-    /// There is more to do.
-    Goes,
-    /// The call was told its answer.
-    Told,
 }
 
 /// The clock that the workload states.

@@ -2,7 +2,7 @@ use Rattle.std.proofs.Common.{◌≡◌, ◌↔◌, None, IsSome, map, string_by
 use Rattle.pc_io.specs.Reading.{IsAllOf, TakesExactly}
 use Rattle.pc_program.specs.declared.status.Status.TheVariants as statuses
 use Rattle.pc_program.specs.Causes.{IsRun, IsWriting}
-use Rattle.pc_program.proofs.Ends.{carried, not_long, unless}
+use Rattle.pc_program.proofs.Ends.{carried, done_carried, not_long, unless}
 use Rattle.pc_work.specs.Workload.{IsJson, workload_in}
 use Rattle.pc_program.proofs.top.pcommit.Goals as goal
 
@@ -30,3 +30,9 @@ pub returns-in-Ok-clause-no_json : goal.returns-in-Ok-clause-no_json
 returns-in-Ok-clause-no_json g c =
     carried c.run.result (g.S.Source.left c.args.source.now) c.deref.result.now (λ bytes. (c.run.result ≡ statuses.Workload 1) ↔ ¬ (IsJson bytes))
     (subst (IsAllOf (g.S.Source.left c.args.source.now)) (sym c.deref.ensures.value) c.in-Ok.ensures.ok) c.run.ensures.no_json
+
+pub returns-in-Ok-clause-done : goal.returns-in-Ok-clause-done
+returns-in-Ok-clause-done g c =
+    done_carried (g.M.Clocks.rules c.args.clocks.now) (g.K.Sink.taken c.args.sink.now) (g.K.Sink.taken c.run.new.sink)
+    (g.S.Source.left c.args.source.now) c.deref.result.now (subst (IsAllOf (g.S.Source.left c.args.source.now)) (sym c.deref.ensures.value) c.in-Ok.ensures.ok)
+    c.run.result c.run.ensures.done

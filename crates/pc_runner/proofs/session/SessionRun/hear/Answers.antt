@@ -1,41 +1,67 @@
-use Rattle.std.proofs.Common.{refl, subst, sym}
+use Rattle.std.proofs.Common.{ℕ, ◌+◌, List, [], ◌∷◌, drop, refl, subst, sym}
+use Rattle.pc_runner.proofs.Calling.{calls_of}
 use Rattle.pc_runner.proofs.Entering.{is_answered}
-use Rattle.pc_runner.proofs.Following.{heard_now, me}
-use Rattle.pc_runner.proofs.Running.{awaited_now, heard_due, heard_keeps}
-use Rattle.pc_runner.specs.Due.{IsTied}
-use Rattle.pc_runner.specs.History.{known_by}
-use Rattle.pc_runner.specs.Keeping.{KeepsSoFar}
+use Rattle.pc_runner.proofs.InTurn.{inside_further, inside_heard, inside_none}
+use Rattle.pc_runner.proofs.Waved.{calls_heard, is, may_be_heard}
+use Rattle.pc_runner.proofs.Waving.{drop_item, drop_none}
+use Rattle.pc_runner.specs.declared.outbox.Answered.{Answered}
+use Rattle.pc_runner.specs.declared.outbox.Posted.{Posted}
+use Rattle.pc_runner.specs.Following.{IsCalling}
+use Rattle.pc_runner.specs.Parts.{IsInside, TakesPart}
 use Rattle.pc_runner.proofs.session.SessionRun.hear.Goals as goal
 
+pub loop-answered-init : goal.loop-answered-init
+loop-answered-init c = (c.requires.calls, inside_none c.args.self.now.number c.args.db.now, record { number = refl; work = refl; session = refl }, c.requires.none)
+
 pub hear-requires-clause-there : goal.hear-requires-clause-there
-hear-requires-clause-there c = c.requires.stands.there
+hear-requires-clause-there c = c.loop-answered.invariant.0.stands.there
 
 pub hear-requires-clause-may : goal.hear-requires-clause-may
-hear-requires-clause-may c = c.requires.may
+hear-requires-clause-may c =
+    let r = c.loop-answered.self in
+    let h = c.loop-answered.db in
+    let a = c.answered-item.result in
+    let later = drop (c.loop-answered.answered-index + 1) c.args.replies.now in
+    let calling = subst (λ (l : List Answered). IsCalling r l [] h) (drop_item c.args.replies.now c.loop-answered.answered-index a c.loop-answered-test.true c.answered-item.is) c.loop-answered.invariant.0 in
+    may_be_heard r.work.now r.number r.session.now r.script r.clock r.reading r.jobs.items r.coordinator r.sends a later h (calls_of r (a ∷ later) [] h calling)
 
 pub hear-requires-clause-answered : goal.hear-requires-clause-answered
-hear-requires-clause-answered c = is_answered c.args.self.now.journal me c.args.self.now.sends c.args.step c.args.reply.now c.requires.answered
+hear-requires-clause-answered c =
+    let r = c.loop-answered.self in
+    let h = c.loop-answered.db in
+    let a = c.answered-item.result in
+    let later = drop (c.loop-answered.answered-index + 1) c.args.replies.now in
+    let calling = subst (λ (l : List Answered). IsCalling r l [] h) (drop_item c.args.replies.now c.loop-answered.answered-index a c.loop-answered-test.true c.answered-item.is) c.loop-answered.invariant.0 in
+    is_answered h r.number a.number a.step a.reply
+    (is r.work.now r.number r.session.now r.script r.clock r.reading r.jobs.items r.coordinator r.sends a later h (calls_of r (a ∷ later) [] h calling)).evaluated
 
-pub returns-clause-after : goal.returns-clause-after
-returns-clause-after c =
-    let r = c.args.self.now in
-    let ready = c.requires.ready in
-    let made = c.in_ok-heard.ensures.made (known_by 1 r.journal) ready.wait c.requires.stands.knows (awaited_now r.coordinator r.sends ready.wait ready.due) in
-    let next = heard_due r.coordinator r.state r.script r.sends c.args.step r.journal c.hear.new.self c.in_ok-hear.field-0 c.args.reply.now
-    c.requires.stands ready c.requires.answered c.requires.waited c.heard.new.self c.in_ok-hear.ensures made in (
-      record {
-        stands =
-            heard_now r.coordinator c.heard.new.self r.state r.sends r.unheard r.journal c.hear.new.self c.in_ok-hear.field-0 c.args.step c.args.reply.now
-            c.requires.stands c.requires.none c.requires.waited c.requires.answered c.in_ok-hear.ensures c.in_ok-heard.ensures.knows c.in_ok-heard.ensures.session c.in_ok-heard.ensures.splits;
-        keeps =
-            subst (λ u. KeepsSoFar r.work.now r.session.now r.script r.clock r.sends u c.hear.new.self) (sym c.requires.none)
-            (heard_keeps r.coordinator r.state r.script r.sends c.args.step r.journal c.hear.new.self c.in_ok-hear.field-0 c.args.reply.now
-            c.requires.stands ready c.requires.answered c.requires.waited r.work.now r.session.now r.clock c.requires.keeps c.in_ok-hear.ensures);
-        due = record { last_item = c.requires.last; now = next.now };
-        tied = subst (IsTied c.heard.new.self.due) (sym c.requires.none) next.tied;
-      },
-      next.busy,
+pub loop-answered-preserved : goal.loop-answered-preserved
+loop-answered-preserved c =
+    let r = c.loop-answered.self in
+    let h = c.loop-answered.db in
+    let g = c.hear.new.self in
+    let a = c.answered-item.result in
+    let later = drop (c.loop-answered.answered-index + 1) c.args.replies.now in
+    let calling = subst (λ (l : List Answered). IsCalling r l [] h) (drop_item c.args.replies.now c.loop-answered.answered-index a c.loop-answered-test.true c.answered-item.is) c.loop-answered.invariant.0 in
+    let heard = c.in_ok-heard.ensures in
+    let calls = calls_heard r.work.now r.number r.session.now r.script r.clock r.reading r.jobs.items r.coordinator r.sends a later h (calls_of r (a ∷ later) [] h calling)
+    g c.in_ok-hear.ensures c.heard.new.self heard.knows heard.waits heard.session heard.splits in
+    let same = c.loop-answered.invariant.2 in (
+      record { stands = calls.stands; keeps = calls.keeps; jobs = calls.jobs_left; open_now = calls.open_now; way = calls.way },
+      inside_further r.number c.args.db.now h g c.loop-answered.invariant.1 (inside_heard r.number h g a.number a.step c.in_ok-hear.ensures),
+      record { number = same.number; work = same.work; session = same.session },
+      c.loop-answered.invariant.3,
     )
 
+pub returns-clause-calls : goal.returns-clause-calls
+returns-clause-calls c =
+    let r = c.loop-answered.self in
+    let h = c.loop-answered.db in
+    subst (λ (l : List Posted). IsCalling r [] l h) (sym c.loop-answered.invariant.3)
+    (subst (λ (l : List Answered). IsCalling r l [] h) (drop_none c.args.replies.now c.loop-answered.answered-index c.loop-answered-test.false) c.loop-answered.invariant.0)
+
+pub returns-clause-part : goal.returns-clause-part
+returns-clause-part c = subst (λ (n : ℕ). TakesPart n c.args.db.now c.loop-answered.db (IsInside n)) c.loop-answered.invariant.2.number c.loop-answered.invariant.1
+
 pub returns-clause-same : goal.returns-clause-same
-returns-clause-same c = record { head = c.in_ok-hear.ensures.head; work = refl; session = refl }
+returns-clause-same c = c.loop-answered.invariant.2

@@ -1,39 +1,41 @@
-use Rattle.std.proofs.Common.{◌+◌, refl}
-use Rattle.pc_runner.proofs.Following.{may_send, sent}
-use Rattle.pc_runner.proofs.Running.{sent_due, sent_keeps, to_send, to_send_kind}
+use Rattle.std.proofs.Common.{◌+◌, List, [], ap, subst, sym}
+use Rattle.pc_runner.proofs.Calling.{calls_of}
+use Rattle.pc_runner.proofs.InTurn.{inside_sent}
+use Rattle.pc_runner.proofs.Sent.{calls_sent, is_allowed, is_unstaged}
+use Rattle.pc_runner.specs.declared.outbox.Posted.{Posted}
+use Rattle.pc_runner.specs.Following.{AreOnTheirWay}
 use Rattle.pc_runner.specs.History.{known_by}
 use Rattle.pc_runner.proofs.session.SessionRun.send.Goals as goal
 
 pub send-requires-clause-there : goal.send-requires-clause-there
-send-requires-clause-there c = c.requires.follows.stands.there
+send-requires-clause-there c = c.requires.calls.stands.there
 
-pub send-requires-clause-may : goal.send-requires-clause-may
-send-requires-clause-may c =
+pub send-requires-clause-next : goal.send-requires-clause-next
+send-requires-clause-next c = ap (λ n. n + 1) c.requires.calls.stands.counted
+
+pub send-requires-clause-allowed : goal.send-requires-clause-allowed
+send-requires-clause-allowed c =
     let r = c.args.self.now in
-    let f = c.requires.follows in
-    let t = to_send r.coordinator r.state r.script (known_by 1 r.journal) r.unheard c.args.request c.requires.due f.due f.tied in
-    may_send r.coordinator r.state r.sends (r.sends + 1) r.unheard r.journal c.args.request
-    (to_send_kind r.coordinator r.state r.script.ahead (known_by 1 r.journal) r.unheard c.args.request t) c.requires.follows.stands c.requires.may refl
+    is_allowed r.number r.coordinator r.sends c.args.db.now c.args.request c.requires.calls.stands c.requires.may
+
+pub send-requires-clause-unstaged : goal.send-requires-clause-unstaged
+send-requires-clause-unstaged c = is_unstaged (known_by c.args.self.now.number c.args.db.now) c.args.request c.requires.may.kind
 
 pub returns-clause-after : goal.returns-clause-after
 returns-clause-after c =
     let r = c.args.self.now in
-    let f = c.requires.follows in
-    let t = to_send r.coordinator r.state r.script (known_by 1 r.journal) r.unheard c.args.request c.requires.due f.due f.tied in
-    let next = sent_due r.coordinator c.sent.new.self r.state r.script r.unheard r.journal c.send.new.self c.in_ok-send.field-0 (r.sends + 1) c.args.request t
-    c.in_ok-send.ensures (c.in_ok-sent.ensures.made c.args.request t.wait t.due) in (
+    let h = c.args.db.now in
+    let g = c.send.new.self in
+    let sent = c.in_ok-sent.ensures in
+    let calls = calls_sent r.work.now r.number r.session.now r.script r.clock r.reading r.jobs.items r.coordinator r.sends r.outbox.items h g c.args.request
+    (calls_of r [] r.outbox.items h c.requires.calls) c.in_ok-send.ensures c.requires.may c.sent.new.self c.requires.due
+    sent.knows (λ other. sent.waits c.args.request other c.requires.due) sent.session sent.splits in (
       record {
-        stands =
-            sent r.coordinator c.sent.new.self r.state r.sends (r.sends + 1) r.unheard r.journal c.send.new.self c.in_ok-send.field-0 c.args.request
-            f.stands c.requires.due refl c.in_ok-send.ensures c.in_ok-sent.ensures.knows c.in_ok-sent.ensures.session c.in_ok-sent.ensures.splits;
-        keeps =
-            sent_keeps r.work.now r.session.now r.script r.clock r.coordinator r.state r.sends r.unheard r.journal c.send.new.self c.in_ok-send.field-0 c.args.request
-            f.keeps c.in_ok-send.ensures t (to_send_kind r.coordinator r.state r.script.ahead (known_by 1 r.journal) r.unheard c.args.request t);
-        due = record { last_item = f.due.last_item; now = next.now };
-        tied = next.tied;
+        stands = calls.stands;
+        keeps = calls.keeps;
+        jobs = calls.jobs_left;
+        open_now = calls.open_now;
+        way = subst (λ (l : List Posted). AreOnTheirWay r.number c.sent.new.self (r.sends + 1) [] l g) (sym c.in_ok-push.ensures.items) calls.way;
       },
-      next.busy,
+      inside_sent r.number h g (r.sends + 1) c.args.request c.in_ok-send.ensures,
     )
-
-pub returns-clause-same : goal.returns-clause-same
-returns-clause-same c = record { head = c.in_ok-send.ensures.head; work = refl; session = refl }

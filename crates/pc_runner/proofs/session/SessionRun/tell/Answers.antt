@@ -1,35 +1,62 @@
-use Rattle.std.proofs.Common.{ap, refl}
-use Rattle.pc_coord.specs.Coordination.{Coordination}
-use Rattle.pc_runner.proofs.Following.{may_tell, told}
-use Rattle.pc_runner.proofs.Running.{told_due, told_keeps, told_tied}
+use Rattle.std.proofs.Common.{[], ◌++◌, Option, ap, sym, ◌∙◌}
+use Rattle.std.proofs.lemmas.List.{append-nil}
+use Rattle.std.specs.Option.{option_to_list}
+use Rattle.pc_coord.specs.declared.job.Job.{Job}
+use Rattle.pc_runner.proofs.Calling.{calls_of}
+use Rattle.pc_runner.proofs.InTurn.{telling_told}
+use Rattle.pc_runner.proofs.Told.{following_told, may_be_told, none_out}
 use Rattle.pc_runner.proofs.session.SessionRun.tell.Goals as goal
 
 pub tell-requires-clause-there : goal.tell-requires-clause-there
-tell-requires-clause-there c = c.requires.follows.stands.there
+tell-requires-clause-there c = c.requires.calls.stands.there
 
 pub tell-requires-clause-may : goal.tell-requires-clause-may
 tell-requires-clause-may c =
     let r = c.args.self.now in
-    may_tell r.coordinator r.state r.sends r.unheard r.journal c.args.answer c.requires.follows.stands c.requires.may
+    may_be_told r.number r.coordinator r.sends c.args.db.now c.args.answer c.requires.calls.stands c.requires.may
 
-pub returns-clause-after : goal.returns-clause-after
-returns-clause-after c =
+pub returns-in_ok-push_back-clause-after : goal.returns-in_ok-push_back-clause-after
+returns-in_ok-push_back-clause-after c =
     let r = c.args.self.now in
-    let f = c.requires.follows in (
+    let h = c.args.db.now in
+    let calls = calls_of r [] r.outbox.items h c.requires.calls in
+    let kept = c.in_ok-push_back.ensures.items ∙ ap (λ (o : Option Job). r.jobs.items ++ option_to_list o) (sym c.in-Some.is) in
+    let rest = following_told r.work.now r.number r.session.now r.script r.clock r.reading r.jobs.items r.coordinator r.sends r.outbox.items h c.tell.new.self c.args.answer
+    calls c.requires.due c.requires.may c.in_ok-tell.ensures c.told.new.self c.push_back.new.self.items c.told-2.new.self c.job.new.self c.job.result
+    c.in_ok-told.ensures kept c.told-2.ensures.made c.job.ensures.made c.job.ensures.handed c.told-2.ensures.knows c.job.ensures.knows c.job.ensures.may in (
       record {
-        stands =
-            told r.coordinator c.told-2.new.self r.state r.sends r.unheard r.journal c.tell.new.self c.in_ok-tell.field-0 c.args.answer
-            f.stands c.requires.due c.in_ok-tell.ensures c.told-2.ensures.knows c.told-2.ensures.session c.told-2.ensures.splits;
-        keeps =
-            told_keeps r.work.now r.session.now r.script c.told.new.self r.clock r.coordinator r.state r.sends r.unheard r.journal c.tell.new.self c.in_ok-tell.field-0 c.args.answer
-            f.keeps f.stands c.in_ok-tell.ensures f.due c.requires.due c.requires.may c.in_ok-told.ensures;
-        due =
-            told_due r.coordinator c.told-2.new.self r.state r.script c.told.new.self r.journal c.tell.new.self c.in_ok-tell.field-0 c.args.answer
-            f.due c.requires.due c.in_ok-tell.ensures c.told-2.ensures.made c.in_ok-told.ensures;
-        tied = told_tied r.coordinator c.told-2.new.self r.unheard c.args.answer c.requires.due c.told-2.ensures.made f.tied;
+        stands = rest.stands;
+        keeps = rest.keeps;
+        jobs = rest.jobs_left;
+        heard = rest.heard_all;
+        delivered = rest.delivered;
+        idle = rest.idle;
+        handed = rest.handed;
+        outbox = none_out r.work.now r.number r.session.now r.script r.clock r.reading r.jobs.items r.coordinator r.sends r.outbox.items h c.tell.new.self c.args.answer calls c.requires.due c.requires.may c.in_ok-tell.ensures;
+        fits = rest.fits;
       },
-      ap (λ (d : Coordination). d.due) c.told-2.ensures.made,
+      telling_told r.number h c.tell.new.self c.args.answer c.in_ok-tell.ensures,
     )
 
-pub returns-clause-same : goal.returns-clause-same
-returns-clause-same c = record { head = c.in_ok-tell.ensures.head; work = refl; session = refl }
+pub returns-in_default-clause-after : goal.returns-in_default-clause-after
+returns-in_default-clause-after c =
+    let r = c.args.self.now in
+    let h = c.args.db.now in
+    let calls = calls_of r [] r.outbox.items h c.requires.calls in
+    let kept = sym (append-nil r.jobs.items) ∙ ap (λ (o : Option Job). r.jobs.items ++ option_to_list o) (sym c.in_default.is) in
+    let rest = following_told r.work.now r.number r.session.now r.script r.clock r.reading r.jobs.items r.coordinator r.sends r.outbox.items h c.tell.new.self c.args.answer
+    calls c.requires.due c.requires.may c.in_ok-tell.ensures c.told.new.self r.jobs.items c.told-2.new.self c.job.new.self c.job.result
+    c.in_ok-told.ensures kept c.told-2.ensures.made c.job.ensures.made c.job.ensures.handed c.told-2.ensures.knows c.job.ensures.knows c.job.ensures.may in (
+      record {
+        stands = rest.stands;
+        keeps = rest.keeps;
+        jobs = rest.jobs_left;
+        heard = rest.heard_all;
+        delivered = rest.delivered;
+        idle = rest.idle;
+        handed = rest.handed;
+        outbox = none_out r.work.now r.number r.session.now r.script r.clock r.reading r.jobs.items r.coordinator r.sends r.outbox.items h c.tell.new.self c.args.answer calls c.requires.due c.requires.may c.in_ok-tell.ensures;
+        fits = rest.fits;
+      },
+      telling_told r.number h c.tell.new.self c.args.answer c.in_ok-tell.ensures,
+    )

@@ -1,0 +1,141 @@
+-- A session's script goes on with its open transaction after each answer.
+use Rattle.std.proofs.Common.{◌≡◌, ℕ, Bool, true, false, ◌&&◌, not, All, Any, List, drop, slice_get, Option, Some, None, IfSome, refl, sym, ap, subst, ◌∙◌}
+use Rattle.std.specs.Bool.{MatchBool}
+use Rattle.pc_base.specs.declared.actor.ActorId.{ActorId}
+use Rattle.pc_coord.specs.declared.transaction.Transaction.{Transaction}
+use Rattle.pc_coord.specs.Events.{Suits}
+use Rattle.pc_coord.specs.Knows.Held.{IsHeld}
+use Rattle.pc_coord.specs.Suiting.{IsReader, IsWriter, SuitsNext}
+use Rattle.pc_proto.specs.declared.answer.Answer.{Answer}
+use Rattle.pc_proto.specs.declared.answer.Answer.TheVariants as answers
+use Rattle.pc_proto.specs.declared.call.Call.{Call}
+use Rattle.pc_proto.specs.declared.call.Call.TheVariants as calls
+use Rattle.pc_work.specs.Built.{IsBuiltItem}
+use Rattle.pc_world.specs.Known.{Known}
+use Rattle.pc_world.specs.Known.Statements.{Statement, is_open_told}
+use Rattle.pc_world.specs.Local.{is_outside, is_round}
+use Rattle.pc_world.specs.MayTell.{MayTellIn, MayTellRow, is_begin, is_past_range, needs_txn}
+use Rattle.pc_world.specs.Send.Put.{AsksFor}
+use Rattle.pc_world.specs.Tell.Begin.{MayTellBegun}
+use Rattle.pc_world.specs.Tell.Data.{MayTellRows, MayTellValue, MayTellWritten}
+use Rattle.pc_runner.proofs.Fitting.{after_begin, again_fits, behind, first_of, opened_fits, reader_suits, reads_get, reads_scan, rerun_fits, writer_suits, writes_delete, writes_put}
+use Rattle.pc_runner.specs.Follows.Script.{Position, after_told, next_call, opened}
+use Rattle.pc_runner.specs.Suiting.{Fits, FitsTxn, IsCallIn, IsCourse}
+
+pub row_by : (needs past : Bool) (none clock row : Type 0) → (none → ⊥) → (clock → ⊥) → MatchBool needs none (MatchBool past clock row) → row
+row_by true past none clock row first second is = absurd (first is)
+row_by false true none clock row first second is = absurd (second is)
+row_by false false none clock row first second is = is
+
+begin_outside : (call : Call) → is_begin call ≡ true → is_outside call ≡ true
+begin_outside (calls.Begin priority) e = refl
+begin_outside call e = absurd cc
+
+left_true : (a b : Bool) → (a && b) ≡ true → a ≡ true
+left_true true b e = refl
+left_true false b e = absurd cc
+
+right_true : (a b : Bool) → (a && b) ≡ true → b ≡ true
+right_true true b e = e
+right_true false b e = absurd cc
+
+not_true : (a : Bool) → not a ≡ true → a ≡ false
+not_true true e = absurd cc
+not_true false e = refl
+
+module _ (splits : List (List ℕ)) (actor : ActorId) (k : Known) (s : Statement) where
+  abbrev needs : Bool
+  needs = needs_txn s.call && not k.is_open
+
+  clock_begins : (reading : ℕ) → MayTellIn splits actor k s (answers.Clock reading) → is_outside s.call ≡ true
+  clock_begins reading is = by needs (is_past_range s) refl is
+    where
+      by : (needs past : Bool) → is_past_range s ≡ past
+          → MatchBool needs (answers.Clock reading ≡ answers.NoTxn) (MatchBool past (answers.Clock reading ≡ answers.Clock s.reading) (MayTellRow splits actor k s (answers.Clock reading))) → is_outside s.call ≡ true
+      by true past e is = absurd cc
+      by false true e is = begin_outside s.call (left_true (is_begin s.call) _ e)
+      by false false e is = absurd is
+
+  none_open : MayTellIn splits actor k s answers.NoTxn → k.is_open ≡ false
+  none_open is = by needs (is_past_range s) refl is
+    where
+      by : (needed past : Bool) → needs ≡ needed
+          → MatchBool needed (answers.NoTxn ≡ answers.NoTxn) (MatchBool past (answers.NoTxn ≡ answers.Clock s.reading) (MayTellRow splits actor k s answers.NoTxn)) → k.is_open ≡ false
+      by true past e is = not_true k.is_open (right_true (needs_txn s.call) (not k.is_open) e)
+      by false true e is = absurd cc
+      by false false e is = absurd is
+
+-- The open call, and what becomes of the transaction by its answer.
+pub record IsAnsweredCall (at : Position) (k : Known) (call : Call) (answer : Answer) (txn : Option Transaction) : Type 0 where
+  pub course : IsCourse at.ahead
+  pub items : All IsBuiltItem at.items
+  pub next : next_call at ≡ Some call
+  pub outside : is_outside call ≡ true → k.is_open ≡ false
+  pub suits : SuitsNext answer call txn
+  pub closed : is_open_told answer k.is_open ≡ false → txn ≡ None
+
+module _ (at : Position) (txn : Option Transaction) where
+  -- the next item, where no transaction is open
+  next_item : All IsBuiltItem at.items → txn ≡ None → Fits (opened at.items at.reruns) txn
+  next_item items none = subst (Fits (opened at.items at.reruns)) (sym none) (opened_fits at.items at.reruns items)
+
+  -- behind a call that reads
+  on_reading : (call : Call) → IsCourse at.ahead → next_call at ≡ Some call → is_outside call ≡ false → ((reads : Bool) → IsCallIn reads call → reads ≡ true) → IfSome txn IsReader → FitsTxn (drop 1 at.ahead) txn
+  on_reading call course next out of suits = behind at.ahead call true txn IsReader ((first_of at.ahead call course next).inside out) next of reader_suits suits
+
+  on_writing : (call : Call) → IsCourse at.ahead → next_call at ≡ Some call → is_outside call ≡ false → ((reads : Bool) → IsCallIn reads call → reads ≡ false) → IfSome txn IsWriter → FitsTxn (drop 1 at.ahead) txn
+  on_writing call course next out of suits = behind at.ahead call false txn IsWriter ((first_of at.ahead call course next).inside out) next of writer_suits suits
+
+  written_by : (call : Call) (key : List ℕ) (value : Option (List ℕ)) → AsksFor (Some call) key value → IsCourse at.ahead → next_call at ≡ Some call → IfSome txn IsWriter → FitsTxn (drop 1 at.ahead) txn
+  written_by call key None asks course next suits =
+      let same : call ≡ calls.Delete key = cc in
+      on_writing call course next (ap is_outside same) (λ reads is. writes_delete reads key (subst (IsCallIn reads) same is)) suits
+  written_by call key (Some value) asks course next suits =
+      let same : call ≡ calls.Put key value = cc in
+      on_writing call course next (ap is_outside same) (λ reads is. writes_put reads key value (subst (IsCallIn reads) same is)) suits
+
+  -- the same call once more
+  once_more : (k : Known) (call : Call) → IsCourse at.ahead → next_call at ≡ Some call → (is_outside call ≡ true → k.is_open ≡ false) → Suits call txn → (k.is_open ≡ false → txn ≡ None) → FitsTxn at.ahead txn
+  once_more k call course next outside suits closed = again_fits at.ahead call txn course next suits (λ out. closed (outside out))
+
+-- after each answer the script goes on with what is open
+pub told_fits : (answer : Answer) (at : Position) (txn : Option Transaction) (splits : List (List ℕ)) (actor : ActorId) (k : Known) (s : Statement) → IsAnsweredCall at k s.call answer txn → MayTellIn splits actor k s answer
+    → Fits (after_told answer at) txn
+told_fits (answers.Begun id ts) at txn splits actor k s a may =
+    let row : MayTellBegun actor k s id ts = row_by _ _ (answers.Begun id ts ≡ answers.NoTxn) (answers.Begun id ts ≡ answers.Clock s.reading) (MayTellBegun actor k s id ts) (λ e. absurd cc) (λ e. absurd cc) may in
+    record { items = a.items; now = after_begin at.ahead s.call row.priority txn a.course a.next row.asked a.suits }
+told_fits (answers.Value value) at txn splits actor k s a may =
+    let row : MayTellValue k s value = row_by _ _ (answers.Value value ≡ answers.NoTxn) (answers.Value value ≡ answers.Clock s.reading) (MayTellValue k s value) (λ e. absurd cc) (λ e. absurd cc) may in
+    record { items = a.items; now = on_reading at txn s.call a.course a.next (ap is_outside row.asked) (λ reads is. reads_get reads row.key (subst (IsCallIn reads) row.asked is)) a.suits }
+told_fits (answers.Rows rows) at txn splits actor k s a may =
+    let row : MayTellRows splits k s rows = row_by _ _ (answers.Rows rows ≡ answers.NoTxn) (answers.Rows rows ≡ answers.Clock s.reading) (MayTellRows splits k s rows) (λ e. absurd cc) (λ e. absurd cc) may in
+    record { items = a.items; now = on_reading at txn s.call a.course a.next (ap is_outside row.asked) (λ reads is. reads_scan reads row.span (subst (IsCallIn reads) row.asked is)) a.suits }
+told_fits answers.Written at txn splits actor k s a may =
+    let row : MayTellWritten k s = row_by _ _ (answers.Written ≡ answers.NoTxn) (answers.Written ≡ answers.Clock s.reading) (MayTellWritten k s) (λ e. absurd cc) (λ e. absurd cc) may in
+    let first = row.sent.4 in
+    record { items = a.items; now = written_by at txn s.call first.key first.value first.asked a.course a.next a.suits }
+told_fits (answers.Blocked holder) at txn splits actor k s a may =
+    rerun_fits at.left at txn a.items (once_more at txn k s.call a.course a.next a.outside a.suits a.closed)
+told_fits (answers.Unavailable faults) at txn splits actor k s a may =
+    rerun_fits at.left at txn a.items (once_more at txn k s.call a.course a.next a.outside a.suits a.closed)
+told_fits (answers.Moved ts) at txn splits actor k s a may =
+    rerun_fits at.left at txn a.items (once_more at txn k s.call a.course a.next a.outside a.suits a.closed)
+told_fits (answers.Restart key ts) at txn splits actor k s a may = absurd a.suits
+told_fits answers.Learnt at txn splits actor k s a may = next_item at txn a.items a.suits
+told_fits answers.NotYet at txn splits actor k s a may = next_item at txn a.items a.suits
+told_fits (answers.Committed id ts) at txn splits actor k s a may = next_item at txn a.items (a.closed refl)
+told_fits (answers.RolledBack id why) at txn splits actor k s a may = next_item at txn a.items (a.closed refl)
+told_fits (answers.Aborted why) at txn splits actor k s a may = next_item at txn a.items (a.closed refl)
+told_fits (answers.Unknown id) at txn splits actor k s a may = next_item at txn a.items (a.closed refl)
+told_fits (answers.Clock reading) at txn splits actor k s a may = next_item at txn a.items (a.closed (a.outside (clock_begins splits actor k s reading may)))
+told_fits answers.NoTxn at txn splits actor k s a may =
+    record { items = a.items; now = subst (FitsTxn at.ahead) (sym (a.closed (none_open splits actor k s may))) a.course }
+told_fits answers.Done at txn splits actor k s a may =
+    let row : s.call ≡ calls.Round = row_by _ _ (answers.Done ≡ answers.NoTxn) (answers.Done ≡ answers.Clock s.reading) (s.call ≡ calls.Round) (λ e. absurd cc) (λ e. absurd cc) may in
+    let e : true ≡ false = sym (ap is_round row) ∙ (first_of at.ahead s.call a.course a.next).round in
+    absurd cc
+
+-- where no transaction is open after an answer, the coordinator holds none
+pub held_none : (txn : Option Transaction) (k : Known) → IsHeld txn k → k.is_open ≡ false → txn ≡ None
+held_none None k held none = refl
+held_none (Some x) k held none = let e : true ≡ false = sym held.1.is_open ∙ none in absurd cc

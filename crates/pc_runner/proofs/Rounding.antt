@@ -1,0 +1,381 @@
+-- A conflict's round, step by step: each of its messages may be sent when it is due, and what was heard is what its machine stands at.
+use Rattle.std.proofs.Common.{◌≡◌, ℕ, zero, suc, ◌+◌, ◌≤◌, ◌<◌, ◌^◌, Bool, true, false, cond, ◌&&◌, find, inl, inr, List, [], ◌∷◌, ◌++◌, length, All, Any, Contains, Option, Some, None, IfSome, IsTrue, refl, sym, ap, ◌∙◌, subst, arith, count_by}
+use Rattle.std.proofs.lemmas.Bool.{and_from}
+use Rattle.std.proofs.lemmas.List.{append_assoc}
+use Rattle.std.proofs.lemmas.List.Elements.{All-cons, All-nil}
+use Rattle.pc_base.specs.declared.actor.ActorId.TheVariants as actors
+use Rattle.pc_base.specs.declared.transaction.Priority.{Priority}
+use Rattle.pc_base.specs.declared.transaction.TxnId.{TxnId}
+use Rattle.pc_base.specs.declared.transaction.Who.{Who}
+use Rattle.pc_base.specs.declared.transaction.Who.TheVariants as whos
+use Rattle.pc_base.specs.Span.{same_key}
+use Rattle.pc_base.specs.Transaction.{same_txn}
+use Rattle.pc_coord.proofs.Ids.{same-is}
+use Rattle.pc_coord.proofs.Rounds.{count-append, count-cons, one_if}
+use Rattle.pc_coord.proofs.Same.{same_key-self, same_txn-self}
+use Rattle.pc_coord.specs.Beside.{IsBeside, IsLaterBeside, IsOfBegun, is_beside}
+use Rattle.pc_coord.specs.Coordination.{Coordination, next_of}
+use Rattle.pc_coord.specs.declared.due.Due.{Due}
+use Rattle.pc_coord.specs.declared.due.Due.TheVariants as dues
+use Rattle.pc_coord.specs.declared.next.Next.TheVariants as nexts
+use Rattle.pc_coord.specs.declared.pusher.Pusher.{Pusher}
+use Rattle.pc_coord.specs.declared.round.Round.TheVariants as rounds
+use Rattle.pc_coord.specs.declared.transaction.Transaction.{Transaction}
+use Rattle.pc_coord.specs.Knows.{Knows, KnowsAt}
+use Rattle.pc_coord.specs.Knows.Held.{IsCounted, IsOpenAs}
+use Rattle.pc_coord.specs.Knows.Reading.{AreReadsOf}
+use Rattle.pc_coord.specs.Knows.Sending.{IsConflictNow}
+use Rattle.pc_coord.specs.Knows.Writing.{write_call}
+use Rattle.pc_coord.specs.Messages.{read_at}
+use Rattle.pc_coord.specs.Pusher.{IsPusherOf}
+use Rattle.pc_coord.specs.Rounds.{EndsRound, IsRefusedRound, IsSettledRound, is_resolve_of, was_met, was_pushed, was_settled}
+use Rattle.pc_proto.specs.declared.call.Call.{Call}
+use Rattle.pc_proto.specs.declared.call.Call.TheVariants as calls
+use Rattle.pc_proto.specs.declared.fate.Fate.{Fate}
+use Rattle.pc_proto.specs.declared.fate.Goal.{Goal}
+use Rattle.pc_proto.specs.declared.meta.TxnMeta.{TxnMeta}
+use Rattle.pc_proto.specs.declared.reply.Reply.{Reply}
+use Rattle.pc_proto.specs.declared.reply.Reply.TheVariants as replies
+use Rattle.pc_proto.specs.declared.request.Request.{Request}
+use Rattle.pc_proto.specs.declared.request.Request.TheVariants as requests
+use Rattle.pc_proto.specs.declared.view.View.{View}
+use Rattle.pc_proto.specs.Stamps.{goal_stamps}
+use Rattle.pc_push.specs.declared.progress.Progress.{Progress}
+use Rattle.pc_push.specs.declared.progress.Progress.TheVariants as progresses
+use Rattle.pc_push.specs.PushKnows.{Asks, AsksAt, MayPush}
+use Rattle.pc_push.specs.Pushing.{Pushing, after_reply, due_at, fate_after, goal_of, heard_at, push_of, resolve_of, resolving}
+use Rattle.pc_world.specs.Answering.{MayAnswer}
+use Rattle.pc_world.specs.Counting.{AtLeast}
+use Rattle.pc_world.specs.declared.machine.MachineNext.TheVariants as machine
+use Rattle.pc_world.specs.Exchange.{IsReplyTo}
+use Rattle.pc_world.specs.Follows.EarlyTell.{IsDecided}
+use Rattle.pc_world.specs.Follows.Resends.{HasMoreConflicts, MayGoAgain, is_resolved, round_of}
+use Rattle.pc_world.specs.Known.{Known, call_in, call_of, first_if, open_txn, reading_in}
+use Rattle.pc_world.specs.Known.Statements.{Statement}
+use Rattle.pc_world.specs.Known.Traffic.{Heard}
+use Rattle.pc_world.specs.Known.Transactions.{Txn}
+use Rattle.pc_world.specs.SameRequest.{IsSameRequest}
+use Rattle.pc_world.specs.Send.Push.{ConflictsWith, SessionPush, StoodInTheWay, goal_for}
+use Rattle.pc_world.specs.Send.Recovery.{is_conflict_with, is_push_of, is_refused}
+use Rattle.pc_world.specs.Views.{is_about}
+use Rattle.pc_runner.proofs.Pushed.{push_decides}
+use Rattle.pc_runner.specs.Exchanging.{IsTimely}
+use Rattle.pc_runner.specs.Rounding.{HasCome, IsOfConflict, WasPushedOnce}
+
+-- ---- counts
+
+module _ {X : Type 0} (P : X → Type 0) (p : X → Bool) where
+  count-yes : (x : X) (xs : List X) → p x ≡ true → count_by p (x ∷ xs) ≡ suc (count_by p xs)
+  count-yes x xs is = let a = count-cons p x xs in let b : one_if (p x) ≡ 1 = ap one_if is in omega (arith, a, b)
+
+  count-low : (x : X) (xs : List X) → count_by p xs ≤ count_by p (x ∷ xs)
+  count-low x xs = let a = count-cons p x xs in omega (arith, a)
+
+  -- as many as are so are counted
+  at_least-count : ((x : X) → P x → p x ≡ true) → (n : ℕ) (xs : List X) → AtLeast P n xs → n ≤ count_by p xs
+  at_least-count on zero xs h = omega arith
+  at_least-count on (suc n) [] h = absurd h
+  at_least-count on (suc n) (x ∷ xs) (inl (is, h)) = let a = at_least-count on n xs h in let b = count-yes x xs (on x is) in omega (arith, a, b)
+  at_least-count on (suc n) (x ∷ xs) (inr h) = let a = at_least-count on (suc n) xs h in let b = count-low x xs in omega (arith, a, b)
+
+  -- as many as are counted are so
+  count-at_least : ((x : X) → p x ≡ true → P x) → (n : ℕ) (xs : List X) → n ≤ count_by p xs → AtLeast P n xs
+  count-at_least on zero xs low = tt
+  count-at_least on (suc n) [] low = absurd (omega arith)
+  count-at_least on (suc n) (x ∷ xs) low = by (p x) refl (λ less. count-at_least on n xs less) (λ less. count-at_least on (suc n) xs less)
+    where
+      by : (b : Bool) → p x ≡ b → (n ≤ count_by p xs → AtLeast P n xs) → (suc n ≤ count_by p xs → AtLeast P (suc n) xs) → AtLeast P (suc n) (x ∷ xs)
+      by true is first later = inl (on x is, first (let a = count-yes x xs is in omega (arith, a, low)))
+      by false not first later = inr (later (let a = count-cons p x xs in let b : one_if (p x) ≡ 0 = ap one_if not in omega (arith, a, b, low)))
+
+same_push : (m : Pushing) (h : Heard) → IsSameRequest (push_of m) h.request → was_pushed m.holder.id h ≡ true
+same_push m h (inl same) = sym (ap (is_push_of m.holder.id) same) ∙ same_txn-self m.holder.id
+same_push m h (inr put) = absurd put
+
+same_resolve : (m : Pushing) (fate : Fate) (h : Heard) → IsSameRequest (resolve_of m fate) h.request → was_settled m.holder.id h ≡ true
+same_resolve m fate h (inl same) = sym (ap (is_resolve_of m.holder.id) same) ∙ same_txn-self m.holder.id
+same_resolve m fate h (inr put) = absurd put
+
+push_settles_none : (id : TxnId) (request : Request) → IsTrue (is_push_of id request) → is_resolve_of id request ≡ false
+push_settles_none id (requests.Push holder by level now goal) is = refl
+push_settles_none id request is = absurd cc
+
+-- ---- what is open where a conflict was met
+
+-- The coordinator's transaction is the open one, and the call is no commit.
+pub record IsMetIn (c : Coordination) (k : Known) : Type 0 where
+  pub x : Transaction
+  pub t : Txn
+  pub held : c.txn ≡ Some x
+  pub open_as : IsOpenAs x k t
+  pub undecided : call_of k ≡ Some calls.Commit → ⊥
+  pub counted : IsCounted c.session c.clock c.begun k
+
+write_no_commit : (key : List ℕ) (value : Option (List ℕ)) → write_call key value ≡ calls.Commit → ⊥
+write_no_commit key None e = cc
+write_no_commit key (Some value) e = cc
+
+read_no_commit : (splits : List (List ℕ)) (x : Transaction) (call : Call) (asked : List Request) → AreReadsOf splits x call asked → call ≡ calls.Commit → ⊥
+read_no_commit splits x (calls.Get key) asked are e = cc
+read_no_commit splits x (calls.Scan span) asked are e = cc
+read_no_commit splits x call asked are e = absurd are
+
+pub met_in : (c : Coordination) (k : Known) (number : ℕ) (conflict : Reply) (reader : Option ℕ) → Knows c k → next_of c.due ≡ nexts.Conflict number conflict reader → IsMetIn c k
+met_in c k number conflict reader knows next = by c.due refl next
+  where
+    by : (due : Due) → c.due ≡ due → next_of due ≡ nexts.Conflict number conflict reader → IsMetIn c k
+    by (dues.Met n met conflicts again) is next =
+        let at = subst (KnowsAt c k) is knows.stands in
+        let w = at.met.writing in
+        record {
+          x = w.x;
+          t = w.t;
+          held = w.held;
+          open_as = w.open_as;
+          undecided = λ e. write_no_commit w.w.key w.w.value (let both = sym (ap call_in w.call) ∙ e in cc both);
+          counted = at.counted;
+        }
+    by (dues.Read messages) is next =
+        let at = subst (KnowsAt c k) is knows.stands in
+        let r = at.reads in
+        record {
+          x = r.x;
+          t = r.t;
+          held = r.held;
+          open_as = r.open_as;
+          undecided = λ e. read_no_commit c.splits r.x r.call _ r.asked (let both = sym (ap call_in r.opened) ∙ e in cc both);
+          counted = at.counted;
+        }
+    by due is next = absurd cc
+
+met_open : (c : Coordination) (k : Known) (m : IsMetIn c k) → open_txn k ≡ Some m.t
+met_open c k m = ap (λ b. first_if b k.txns) m.open_as.is_open ∙ ap (first_if true) m.open_as.first
+
+not_same : (one other : TxnId) → (one ≡ other → ⊥) → same_txn one other ≡ false
+not_same one other differ = by (same_txn one other) refl
+  where
+    by : (b : Bool) → same_txn one other ≡ b → same_txn one other ≡ false
+    by true is = absurd (differ (same-is one other is))
+    by false is = is
+
+-- ---- the messages of the round
+
+module _ (c : Coordination) (start : Known) (number : ℕ) (conflict : Reply) (reader : Option ℕ) (knows : Knows c start) (next : next_of c.due ≡ nexts.Conflict number conflict reader) (met : IsConflictNow start number conflict reader) where
+  -- The machine makes this round, and its holder was begun.
+  pub record IsMade (m : Pushing) : Type 0 where
+    pub holder : m.holder ≡ met.holder
+    pub begun : m.holder.id.session ≡ c.session → m.holder.id.number ≤ c.begun
+
+  open_other : (m : Pushing) → IsMade m → (x : Transaction) → c.txn ≡ Some x → same_txn m.holder.id x.id ≡ false
+  open_other m made x held =
+      let i = met_in c start number conflict reader knows next in
+      let is_x : i.x ≡ x = let both = sym i.held ∙ held in cc both in
+      let is_t : i.t ≡ met.t = let both = sym (met_open c start i) ∙ met.open_is in cc both in
+      let id : x.id ≡ met.t.id = sym (ap (λ (x : Transaction). x.id) is_x) ∙ (ap (λ (x : Transaction). x.id) i.open_as.same ∙ ap (λ (t : Txn). t.id) is_t) in
+      not_same m.holder.id x.id (λ e. met.other (sym (ap (λ (h : TxnMeta). h.id) made.holder) ∙ (e ∙ id)))
+
+  pub push_beside : (m : Pushing) → IsMade m → IsBeside c (push_of m)
+  push_beside m made = record {
+    kind = refl;
+    begun = λ id about whose.
+        let same : m.holder.id ≡ id = cc in
+        subst (λ (id : TxnId). id.number ≤ c.begun) same (made.begun (ap (λ (id : TxnId). id.session) same ∙ whose));
+    other = λ x held. open_other m made x held;
+  }
+
+  pub resolve_beside : (m : Pushing) (fate : Fate) → IsBeside c (resolve_of m fate)
+  resolve_beside m fate = record { kind = refl; begun = λ id about whose. absurd cc; other = λ x held. refl }
+
+  module _ (k : Known) (later : IsLaterBeside c start k) (waiting : List (List Request)) where
+    not_decided : (t : Txn) (ts : ℕ) → IsDecided k t ts → ⊥
+    not_decided t ts d = (met_in c start number conflict reader knows next).undecided (sym (ap call_in later.statement) ∙ d.asked)
+
+    in_call : k.statement ≡ Some met.s
+    in_call = later.statement ∙ met.opened
+
+    timely : (request : Request) (id : TxnId) → round_of request ≡ Some id → HasMoreConflicts k request id → IsTimely k waiting request
+    timely request id round more = record {
+      undecided = not_decided;
+      again = λ s opened any. subst (MayGoAgain k request) (sym round) (inr more);
+      due = λ none. let both = sym in_call ∙ none in absurd cc;
+    }
+
+    -- more conflicts with the holder were heard than pushes of it
+    pub push_timely : (m : Pushing) → IsMade m → k.heard_now ≡ start.heard_now → IsTimely k waiting (push_of m)
+    push_timely m made same =
+        let id = m.holder.id in
+        let is : id ≡ met.holder.id = ap (λ (h : TxnMeta). h.id) made.holder in
+        let low : count_by (was_pushed id) start.heard_now + 1 ≤ count_by (was_met id) start.heard_now =
+        subst (λ id. count_by (was_pushed id) start.heard_now + 1 ≤ count_by (was_met id) start.heard_now) (sym is) met.pushes in
+        timely (push_of m) id refl (λ n many.
+        let a : n ≤ count_by (was_pushed id) k.heard_now = at_least-count (λ h. IsSameRequest (push_of m) h.request) (was_pushed id) (same_push m) n k.heard_now many in
+        let b : count_by (was_pushed id) k.heard_now ≡ count_by (was_pushed id) start.heard_now = ap (count_by (was_pushed id)) same in
+        let d : count_by (was_met id) k.heard_now ≡ count_by (was_met id) start.heard_now = ap (count_by (was_met id)) same in
+        count-at_least (λ h. IsTrue (is_conflict_with id h.reply)) (was_met id) (λ h is. is) (n + 1) k.heard_now (omega (arith, a, b, d, low)))
+
+    -- and than settlings of its intents
+    pub resolve_timely : (m : Pushing) (fate : Fate) → IsMade m → WasPushedOnce m.holder.id start k → IsTimely k waiting (resolve_of m fate)
+    resolve_timely m fate made was =
+        let id = m.holder.id in
+        let is : id ≡ met.holder.id = ap (λ (h : TxnMeta). h.id) made.holder in
+        let low : count_by (was_pushed id) start.heard_now + 1 ≤ count_by (was_met id) start.heard_now =
+        subst (λ id. count_by (was_pushed id) start.heard_now + 1 ≤ count_by (was_met id) start.heard_now) (sym is) met.pushes in
+        let few : count_by (was_settled id) start.heard_now ≤ count_by (was_pushed id) start.heard_now =
+        subst (λ id. count_by (was_settled id) start.heard_now ≤ count_by (was_pushed id) start.heard_now) (sym is) met.resolves in
+        timely (resolve_of m fate) id refl (λ n many.
+        let a : n ≤ count_by (was_settled id) k.heard_now = at_least-count (λ h. IsSameRequest (resolve_of m fate) h.request) (was_settled id) (same_resolve m fate) n k.heard_now many in
+        let on : (p : Heard → Bool) → count_by p k.heard_now ≡ count_by p start.heard_now + one_if (p was.push) = λ p.
+        let e : count_by p k.heard_now ≡ count_by p (start.heard_now ++ was.push ∷ []) = ap (count_by p) was.more in
+        omega (arith, e, count-append p start.heard_now (was.push ∷ []), count-cons p was.push []) in
+        let b : one_if (was_settled id was.push) ≡ 0 = ap one_if (push_settles_none id was.push.request was.pushed) in
+        count-at_least (λ h. IsTrue (is_conflict_with id h.reply)) (was_met id) (λ h is. is) (n + 1) k.heard_now (omega (arith, a, b, on (was_settled id), on (was_met id), low, few)))
+
+-- ---- the machine's beginning
+
+goal_reads : (request : Request) → goal_of (read_at request) ≡ goal_for request
+goal_reads (requests.Get id epoch seq ts key) = refl
+goal_reads (requests.Scan id epoch seq ts span) = refl
+goal_reads request = refl
+
+low_goal : (reader : Option ℕ) (top : ℕ) → IfSome reader (λ ts. ts ≤ top) → All (λ ts. ts ≤ top + 1) (goal_stamps (goal_of reader))
+low_goal None top low = All-nil (λ ts. ts ≤ top + 1)
+low_goal (Some ts) top low = All-cons (λ ts. ts ≤ top + 1) (ts + 1) [] (omega (arith, low)) (All-nil (λ ts. ts ≤ top + 1))
+
+-- the session may push the holder
+pub may_push : (session : ℕ) (k : Known) (number : ℕ) (conflict : Reply) (reader : Option ℕ) (met : IsConflictNow k number conflict reader) (pusher : Pusher) (reading : ℕ) (call : Call) → IsPusherOf k (Some pusher) → k.statement ≡ Some (record { call = call; reading = reading })
+    → (m : Pushing) → m.holder ≡ met.holder → m.by ≡ whos.Txn pusher.id → m.level ≡ pusher.level → m.reading ≡ reading → m.goal ≡ goal_of reader → MayPush (actors.Session session) k m
+may_push session k number conflict reader met pusher reading call pushes opened m holder by level now goal =
+    let who : record { id = met.t.id; level = met.t.priority } ≡ pusher = let both = pushes met.t met.open_is in cc both in
+    let goal_is : m.goal ≡ goal_for met.h.request = goal ∙ (ap goal_of met.reads ∙ goal_reads met.h.request) in
+    let holds : ConflictsWith m.holder met.h.reply = subst (ConflictsWith m.holder) (sym (met.told ∙ met.is)) (sym holder) in
+    record {
+      row = record {
+        t = met.t;
+        opened = met.open_is;
+        conflict = (met.there.0, met.h, met.there.1, met.there.2, record { conflict = holds; for = goal_is });
+        whose = by ∙ sym (ap (λ (p : Pusher). whos.Txn p.id) who);
+        own_level = level ∙ sym (ap (λ (p : Pusher). p.level) who);
+        read_now = ap reading_in opened ∙ sym (ap (λ (n : ℕ). Some n) now);
+      };
+      stamps = subst (λ g. All (λ ts. ts ≤ k.top + 1) (goal_stamps g)) (sym goal) (low_goal reader k.top met.low);
+    }
+
+-- ---- its steps
+
+-- what it asks for
+pub sends_asks : (p : Progress) (m : Pushing) (request : Request) → due_at p m ≡ machine.Send request → AsksAt p m request
+sends_asks progresses.Push m request is = cc
+sends_asks progresses.Refused m request is = absurd cc
+sends_asks (progresses.Unsure view) m request is = absurd cc
+sends_asks (progresses.Resolve fate) m request is = cc
+sends_asks progresses.Over m request is = absurd cc
+
+module _ (m : Pushing) (start k later : Known) (h : Heard) (more : later.heard_now ≡ k.heard_now ++ h ∷ []) where
+  status_come : (view : View) (fate : Option Fate) → fate_after m.goal view ≡ fate → (fate_after m.goal view ≡ None → ⊥) → k.heard_now ≡ start.heard_now → h.request ≡ push_of m → h.reply ≡ replies.Status view
+      → HasCome (resolving fate progresses.Push) m start later
+  status_come view None is not same asked told = absurd (not is)
+  status_come view (Some fate) is not same asked told = record {
+    push = h;
+    view = view;
+    more = more ∙ ap (λ l. l ++ h ∷ []) same;
+    pushed = ap (is_push_of m.holder.id) asked ∙ same_txn-self m.holder.id;
+    told = told;
+  }
+
+  come_push : (reply : Reply) → h.reply ≡ reply → k.heard_now ≡ start.heard_now → h.request ≡ push_of m → MayAnswer (push_of m) reply → IsReplyTo (push_of m) reply → HasCome (heard_at progresses.Push reply m).progress m start later
+  come_push (replies.Status view) told same asked may is = status_come view (fate_after m.goal view) refl (push_decides m view is) same asked told
+  come_push (replies.Refused view) told same asked may is =
+      let pushed : is_push_of m.holder.id h.request ≡ true = ap (is_push_of m.holder.id) asked ∙ same_txn-self m.holder.id in
+      record {
+        push = h;
+        more = more ∙ ap (λ l. l ++ h ∷ []) same;
+        refused = ap (λ r. is_push_of m.holder.id h.request && is_refused r) told ∙ (ap (λ b. b && true) pushed);
+      }
+  come_push reply told same asked may is = absurd may
+
+  come_resolve : (reply : Reply) (fate : Fate) → h.reply ≡ reply → WasPushedOnce m.holder.id start k → h.request ≡ resolve_of m fate → MayAnswer (resolve_of m fate) reply → IsSettledRound m.holder.id m.key start later
+  come_resolve replies.Resolved fate told was asked may = record {
+    push = was.push;
+    view = was.view;
+    resolve = h;
+    more = more ∙ (ap (λ l. l ++ h ∷ []) was.more ∙ append_assoc start.heard_now (was.push ∷ []) (h ∷ []));
+    pushed = was.pushed;
+    told = was.told;
+    resolved =
+        ap (λ r. is_resolved m.holder.id m.key h.request r) told
+        ∙ (ap (λ q. is_resolved m.holder.id m.key q replies.Resolved) asked
+        ∙ and_from (same_txn m.holder.id m.holder.id) (same_key m.key m.key) (same_txn-self m.holder.id) (same_key-self m.key));
+  }
+  come_resolve reply fate told was asked may = absurd may
+
+  come_by : (p : Progress) → HasCome p m start k → AsksAt p m h.request → MayAnswer h.request h.reply → IsReplyTo h.request h.reply → HasCome (heard_at p h.reply m).progress m start later
+  come_by progresses.Push come asks may is =
+      come_push h.reply refl come asks (subst (λ q. MayAnswer q h.reply) asks may) (subst (λ q. IsReplyTo q h.reply) asks is)
+  come_by progresses.Refused come asks may is = absurd asks
+  come_by (progresses.Unsure view) come asks may is = absurd come
+  come_by (progresses.Resolve fate) come asks may is = come_resolve h.reply fate refl come asks (subst (λ q. MayAnswer q h.reply) asks may)
+  come_by progresses.Over come asks may is = absurd asks
+
+  restood : (p progress : Progress) → HasCome p m start later → HasCome p (record m { progress = progress }) start later
+  restood progresses.Push progress come = come
+  restood progresses.Refused progress come = come
+  restood (progresses.Unsure view) progress come = come
+  restood (progresses.Resolve fate) progress come = come
+  restood progresses.Over progress come = come
+
+  on_itself : (p : Progress) (reply : Reply) → HasCome (heard_at p reply m).progress m start later → HasCome (heard_at p reply m).progress (heard_at p reply m) start later
+  on_itself progresses.Push reply come = restood (heard_at progresses.Push reply m).progress (heard_at progresses.Push reply m).progress come
+  on_itself progresses.Refused reply come = come
+  on_itself (progresses.Unsure view) reply come = restood (heard_at (progresses.Unsure view) reply m).progress (heard_at (progresses.Unsure view) reply m).progress come
+  on_itself (progresses.Resolve fate) reply come = restood progresses.Over progresses.Over come
+  on_itself progresses.Over reply come = come
+
+  -- after the reply to what it asked for it stands at what was heard
+  pub come_on : HasCome m.progress m start k → Asks m h.request → MayAnswer h.request h.reply → IsReplyTo h.request h.reply → HasCome (after_reply h.reply m).progress (after_reply h.reply m) start later
+  come_on come asks may is = on_itself m.progress h.reply (come_by m.progress come asks may is)
+
+-- it stays the round of its conflict
+same_round : (p : Progress) (reply : Reply) (m : Pushing) → ((heard_at p reply m).holder ≡ m.holder) × ((heard_at p reply m).key ≡ m.key)
+same_round progresses.Push reply m = (refl, refl)
+same_round progresses.Refused reply m = (refl, refl)
+same_round (progresses.Unsure view) reply m = (refl, refl)
+same_round (progresses.Resolve fate) reply m = (refl, refl)
+same_round progresses.Over reply m = (refl, refl)
+
+pub round_same : (reply : Reply) (m : Pushing) → ((after_reply reply m).holder ≡ m.holder) × ((after_reply reply m).key ≡ m.key)
+round_same reply m = same_round m.progress reply m
+
+-- ---- its end
+
+of_conflict : (conflict : Reply) (m : Pushing) (holder : TxnMeta) (ts : ℕ) (key : List ℕ) → conflict ≡ replies.Conflict holder ts key → m.holder ≡ holder → m.key ≡ key → IsOfConflict conflict m
+of_conflict conflict m holder ts key is one two = subst (λ r. IsOfConflict r m) (sym is) (one, two)
+
+-- a refused push ends it so
+pub ends_refused : (conflict : Reply) (m : Pushing) (start k : Known) → IsOfConflict conflict m → IsRefusedRound m.holder.id start k → EndsRound conflict rounds.Refused start k
+ends_refused (replies.Conflict holder ts key) m start k of ended = subst (λ (h : TxnMeta). IsRefusedRound h.id start k) of.0 ended
+ends_refused conflict m start k of ended = absurd of
+
+-- and the settling of the intent so
+pub ends_settled : (conflict : Reply) (m : Pushing) (start k : Known) → IsOfConflict conflict m → IsSettledRound m.holder.id m.key start k → EndsRound conflict rounds.Again start k
+ends_settled (replies.Conflict holder ts key) m start k of ended =
+    subst (λ key. IsSettledRound holder.id key start k) of.1 (subst (λ (h : TxnMeta). IsSettledRound h.id m.key start k) of.0 ended)
+ends_settled conflict m start k of ended = absurd of
+
+pub at_refused : (p : Progress) (m : Pushing) (id : TxnId) (start k : Known) → due_at p m ≡ machine.Refused id → HasCome p m start k → IsRefusedRound m.holder.id start k
+at_refused progresses.Refused m id start k is come = come
+at_refused p m id start k is come = absurd cc
+
+pub at_finished : (p : Progress) (m : Pushing) (start k : Known) → due_at p m ≡ machine.Finished → HasCome p m start k → IsSettledRound m.holder.id m.key start k
+at_finished progresses.Over m start k is come = come
+at_finished p m start k is come = absurd cc
+
+pub at_settled : (p : Progress) (m : Pushing) (view : View) (start k : Known) → due_at p m ≡ machine.Settled view → HasCome p m start k → ⊥
+at_settled (progresses.Unsure met) m view start k is come = come
+at_settled p m view start k is come = cc
+
+pub at_changed : (p : Progress) (m : Pushing) (view : View) → due_at p m ≡ machine.Changed view → ⊥
+at_changed progresses.Push m view is = cc
+at_changed progresses.Refused m view is = cc
+at_changed (progresses.Unsure met) m view is = cc
+at_changed (progresses.Resolve fate) m view is = cc
+at_changed progresses.Over m view is = cc

@@ -1,0 +1,171 @@
+-- A session in its call, once it sent the message that its coordinator gave.
+use Rattle.std.proofs.Common.{◌≡◌, ℕ, ◌+◌, ◌*◌, ◌≤◌, ◌<◌, Bool, true, false, ◌==◌, ◌||◌, cond, find, if◌then◌else◌, is_some, All, List, [], ◌∷◌, ◌++◌, length, map, Option, Some, None, refl, sym, ap, subst, ◌∙◌, arith, length-append}
+use Rattle.std.proofs.lemmas.List.Elements.{All-nil, All-push, All-weaker}
+use Rattle.std.specs.Option.{option_map}
+use Rattle.pc_base.specs.declared.actor.ActorId.TheVariants as actors
+use Rattle.pc_coord.proofs.Lists.{find-last}
+use Rattle.pc_coord.proofs.Steps.{sent}
+use Rattle.pc_coord.specs.Coordination.{Coordination, next_of, waits_for}
+use Rattle.pc_coord.specs.declared.job.Job.{Job}
+use Rattle.pc_coord.specs.declared.next.Next.TheVariants as nexts
+use Rattle.pc_coord.specs.Events.{IsSent}
+use Rattle.pc_coord.specs.Knows.{Knows, messages_of_job}
+use Rattle.pc_coord.specs.Knows.Sending.{IsForCall, IsSendable}
+use Rattle.pc_history.specs.declared.pair.Pair.{Pair}
+use Rattle.pc_proto.specs.declared.event.Event.TheVariants as events
+use Rattle.pc_proto.specs.declared.request.Request.{Request}
+use Rattle.pc_session.specs.Stepped.{SteppedState}
+use Rattle.pc_work.specs.declared.session.SessionWork.{SessionWork}
+use Rattle.pc_work.specs.declared.workload.Workload.{Workload}
+use Rattle.pc_world.specs.Exchange.{IsAllowed}
+use Rattle.pc_world.specs.Follows.FinishingJobs.{without_first}
+use Rattle.pc_world.specs.Known.{Known, learn, next_number}
+use Rattle.pc_world.specs.Known.Statements.{Statement}
+use Rattle.pc_world.specs.Known.Traffic.{Sent, request_sent}
+use Rattle.pc_world.specs.MaySend.{MaySendRow}
+use Rattle.pc_world.specs.Unstaged.{IsNoStage}
+use Rattle.pc_runner.proofs.Calling.{Calls, delivered_on, stands_on}
+use Rattle.pc_runner.proofs.Going.{known_sent, of_send}
+use Rattle.pc_runner.proofs.Growing.{known_grows, next_pair, sent_now, sent_still}
+use Rattle.pc_runner.proofs.Keeps.{keeps_on}
+use Rattle.pc_runner.proofs.Left.{jobs_sent}
+use Rattle.pc_runner.proofs.OnWay.{heard_sent, posted-push, waits_sent}
+use Rattle.pc_runner.proofs.OwnPuts.{puts_open}
+use Rattle.pc_runner.proofs.Stepping.{plain_for, step_sent}
+use Rattle.pc_runner.specs.Database.{HasSent}
+use Rattle.pc_runner.specs.declared.outbox.Posted.{Posted}
+use Rattle.pc_runner.specs.Following.{AreOnTheirWay, HasJobs, IsOpen, StandsBy}
+use Rattle.pc_runner.specs.Follows.Clocks.{clock_rule}
+use Rattle.pc_runner.specs.Follows.Script.{Position}
+use Rattle.pc_runner.specs.History.{History, known_by}
+use Rattle.pc_runner.specs.Keeping.{AreDelivered, KeepsSoFar}
+use Rattle.pc_runner.specs.Traffic.{HasHeard, IsNumbered, IsPosted, IsReplied}
+
+-- what was sent under a number stays so
+find_on : {X : Type 0} (p : X → Bool) (xs ys : List X) (y : X) → find p xs ≡ Some y → find p (xs ++ ys) ≡ Some y
+find_on p [] ys y e = absurd cc
+find_on p (x ∷ xs) ys y e = by (p x) refl (find_on p xs ys y)
+  where
+    by : (b : Bool) → p x ≡ b → (find p xs ≡ Some y → find p (xs ++ ys) ≡ Some y) → find p ((x ∷ xs) ++ ys) ≡ Some y
+    by true is later = ap (λ b. cond b (Some x) (find p (xs ++ ys))) is ∙ (sym (ap (λ b. cond b (Some x) (find p xs)) is) ∙ e)
+    by false is later = ap (λ b. cond b (Some x) (find p (xs ++ ys))) is ∙ later (sym (ap (λ b. cond b (Some x) (find p xs)) is) ∙ e)
+
+pub said_on : (number : ℕ) (xs ys : List Sent) (request : Request) → request_sent number xs ≡ Some request → request_sent number (xs ++ ys) ≡ Some request
+said_on number xs ys request e = by (find (λ (m : Sent). m.number == number) xs) refl e
+  where
+    by : (found : Option Sent) → find (λ (m : Sent). m.number == number) xs ≡ found → option_map (λ (m : Sent). m.request) found ≡ Some request → request_sent number (xs ++ ys) ≡ Some request
+    by None is e = absurd cc
+    by (Some m) is e = ap (option_map (λ (m : Sent). m.request)) (find_on (λ (m : Sent). m.number == number) xs ys m is) ∙ e
+
+-- the request may go out
+pub is_allowed : (number : ℕ) (c : Coordination) (sends : ℕ) (h : History) (request : Request) → StandsBy number c sends h → IsSendable c.splits c.session (known_by number h) request
+    → IsAllowed h.head.splits (actors.Session number) (known_by number h) request
+is_allowed number c sends h request stands may =
+    let k = known_by number h in
+    let mine : MaySendRow c.splits (actors.Session number) k request = subst (λ n. MaySendRow c.splits (actors.Session n) k request) stands.session may.row in
+    record { row = subst (λ splits. MaySendRow splits (actors.Session number) k request) stands.splits mine; stamps = may.stamps }
+
+pub is_unstaged : (k : Known) (request : Request) → IsForCall k request → IsNoStage request
+is_unstaged k request kind = (plain_for kind.s.call request kind.kind).unstaged
+
+same_jobs : (o : Option Statement) (s : Statement) (jobs : List (List Request)) → o ≡ Some s → (if is_some o then jobs else without_first jobs) ≡ jobs
+same_jobs o s jobs is = ap (λ (o : Option Statement). if is_some o then jobs else without_first jobs) is
+
+plus-none : (n : ℕ) → n ≡ n + 0
+plus-none n = omega arith
+
+module _ (work : Workload) (number : ℕ) (session : SessionWork) (at : Position) (clock : SteppedState) (reading : ℕ) (jobs : List Job) (c : Coordination) (sends : ℕ) (outbox : List Posted) (h g : History) (request : Request)
+    (calls : Calls work number session at clock reading jobs c sends [] outbox h) (made : HasSent h g number (sends + 1) request) (may : IsSendable c.splits c.session (known_by number h) request) where
+  abbrev k : Known
+  k = known_by number h
+
+  abbrev m : Sent
+  m = record { number = next_number k; range = made.range; request = request }
+
+  counted_next : sends + 1 ≡ next_number k
+  counted_next = ap (λ n. n + 1) calls.stands.counted
+
+  known_is : known_by number g ≡ sent (next_number k) made.range request k
+  known_is = known_sent number h g (sends + 1) made.range request made.grown ∙ ap (λ n. sent n made.range request k) counted_next
+
+  earlier : All (λ (m : Sent). m.number < next_number k) k.sent
+  earlier = All-weaker (IsNumbered (length k.sent)) (λ (m : Sent). m.number < next_number k) (λ m n. omega (arith, n.counted)) k.sent calls.way.heard.numbers
+
+  posted_on : (x : Posted) → IsPosted number h x → IsPosted number g x
+  posted_on x is = record {
+    was_sent = sent_still h g (actors.Session number) (events.Send (sends + 1) made.range request) made.grown number x.number x.request is.was_sent;
+    said = ap (λ (k : Known). request_sent x.number k.sent) known_is ∙ said_on x.number k.sent (m ∷ []) x.request is.said;
+    kind = record { s = is.kind.s; opened = ap (λ (k : Known). k.statement) known_is ∙ is.kind.opened; kind = is.kind.kind };
+  }
+
+  abbrev post : Posted
+  post = record { number = sends + 1; request = request }
+
+  posted_now : IsPosted number g post
+  posted_now = record {
+    was_sent = sent_now h g number (sends + 1) request made;
+    said =
+        ap (λ (k : Known). request_sent (sends + 1) k.sent) known_is
+        ∙ (ap (λ n. request_sent n (k.sent ++ m ∷ [])) counted_next
+        ∙ ap (option_map (λ (m : Sent). m.request)) (find-last (λ (m : Sent). m.number) (next_number k) k.sent m earlier refl));
+    kind = record { s = may.kind.s; opened = ap (λ (k : Known). k.statement) known_is ∙ may.kind.opened; kind = may.kind.kind };
+  }
+
+  keeps_sent : KeepsSoFar work number session at clock jobs g
+  keeps_sent =
+      let event = events.Send (sends + 1) made.range request in
+      let keeps = calls.keeps in
+      let reads = keeps.reads in
+      let paired = keeps.paired in
+      keeps_on work number session at clock jobs h g at clock jobs event keeps made.grown refl keeps.clock_of (plus-none clock.reads)
+      (λ rule. step_sent work.pipelining (clock_rule session.clock rule) clock.reads at (map messages_of_job jobs) k (sends + 1) made.range request c.splits c.session may)
+      (omega arith) (same_jobs k.statement may.kind.s (map messages_of_job jobs) may.kind.opened)
+
+  open_sent : IsOpen at reading (known_by number g)
+  open_sent =
+      let o = calls.open_now in
+      record {
+        call = o.call;
+        next = o.next;
+        opened = ap (λ (k : Known). k.statement) known_is ∙ o.opened;
+        outside = λ out. ap (λ (k : Known). k.is_open) known_is ∙ o.outside out;
+        course = o.course;
+        items = o.items;
+      }
+
+  way_sent : (d : Coordination) → ((other : ℕ) → waits_for other d.due ≡ (sends + 1 == other || waits_for other c.due)) → AreOnTheirWay number d (sends + 1) [] (outbox ++ post ∷ []) g
+  way_sent d waits =
+      let way = calls.way in
+      let counts = way.counted in
+      let longer : length (outbox ++ post ∷ []) ≡ length outbox + 1 = length-append outbox (post ∷ []) in
+      record {
+        last = way.last;
+        counted = omega arith;
+        heard = subst (HasHeard way.last) (sym known_is) (heard_sent way.last k made.range request way.heard);
+        delivered = delivered_on number (way.last + 0) h g (actors.Session number) (events.Send (sends + 1) made.range request) way.delivered made.grown (λ sent. refl);
+        answered = tt;
+        posted = posted-push (way.last + 0 + 1) outbox post way.posted (omega arith);
+        replied = All-nil (IsReplied number g);
+        waiting = All-push (IsPosted number g) outbox post (All-weaker (IsPosted number h) (IsPosted number g) posted_on outbox way.waiting) posted_now;
+        waits = waits_sent way.last sends c.due d.due (omega arith) way.waits waits;
+      }
+
+  -- the session is still in its call
+  pub calls_sent : (d : Coordination) → next_of c.due ≡ nexts.Send request
+      → ((k : Known) (p : Pair _) (range : ℕ) (request : Request) → Knows c k → IsSent c (sends + 1) range request k p → Knows d (learn p k))
+      → ((other : ℕ) → waits_for other d.due ≡ (sends + 1 == other || waits_for other c.due)) → d.session ≡ c.session → d.splits ≡ c.splits
+      → Calls work number session at clock reading jobs d (sends + 1) [] (outbox ++ post ∷ []) g
+  calls_sent d due learns waits same_session same_splits =
+      let event = events.Send (sends + 1) made.range request in
+      let p = next_pair number h event in
+      let of = of_send number h (sends + 1) made.range request in
+      record {
+        stands =
+            stands_on number c d sends (sends + 1) h g event calls.stands made.grown same_session same_splits
+            (learns k p made.range request calls.stands.knows (record { due = due; is = of; next = counted_next }))
+            (counted_next ∙ sym (ap (λ (k : Known). length k.sent) known_is ∙ length-append k.sent (m ∷ [])));
+        keeps = keeps_sent;
+        jobs_left = subst (HasJobs jobs) (sym (known_grows h g number event made.grown)) (jobs_sent jobs k p (sends + 1) made.range request of (puts_open c k request earlier may.kind calls.stands.knows due) calls.jobs_left);
+        open_now = open_sent;
+        way = way_sent d waits;
+      }

@@ -1,0 +1,5 @@
+use Rattle.pc_runner.specs.Rounding.{IsInRound}
+use Rattle.pc_runner.proofs.session.SessionRun.push.Given as goal
+
+abbrev pub invariant-loop : goal.invariant-loop
+invariant-loop l = IsInRound l.fn.self l.fn.db l.fn.conflict l.machine l.self l.db

@@ -1,0 +1,29 @@
+use Rattle.std.proofs.Common.{refl}
+use Rattle.pc_runner.proofs.Sessions.{job_is_turn, get_read, get_set_other, gone_on, on_ok, on_ok3}
+use Rattle.pc_runner.proofs.turns.TurnsRun.finish.Goals as goal
+
+pub finish-requires : goal.finish-requires
+finish-requires c =
+    let t = c.args.self.now in
+    let r = c.index_mut.result.now in
+    (c.requires.running.each c.args.index r (get_read t.sessions.items c.args.index r c.requires.there c.index_mut.ensures.value)).follows
+
+pub returns-clause-gone : goal.returns-clause-gone
+returns-clause-gone c =
+    let t = c.args.self.now in
+    let r = c.index_mut.result.now in
+    let at = get_read t.sessions.items c.args.index r c.requires.there c.index_mut.ensures.value in
+    let mine = c.requires.running.each c.args.index r at in
+    on_ok3 c.finish.result _ _ _ _
+    (λ follows same part. record {
+      running = gone_on t.work.now t.sessions.items t.database c.finish.new.db c.args.index r c.finish.new.self part.part c.requires.running at follows same part.goes;
+      work = refl;
+      part = part.part;
+      behind = part.goes.whole;
+      is = job_is_turn t.work.now c.args.index r t.database part.part mine part.is;
+    })
+    c.finish.ensures.follows c.finish.ensures.same c.finish.ensures.part
+
+pub returns-clause-others : goal.returns-clause-others
+returns-clause-others c =
+    on_ok c.finish.result _ _ (λ same other differ. get_set_other c.args.self.now.sessions.items c.args.index other c.finish.new.self differ) c.finish.ensures.same
