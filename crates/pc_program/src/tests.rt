@@ -62,7 +62,9 @@ fn put_of(alloc: Global, letters: usize) -> Result<String, Fail> {
 
 /// Runs the row, and says whether it writes what it is to write.
 fn is_as_written(alloc: Global, row: &Row) -> Result<bool, Fail> {
-    let input = String::from_utf8(row.input.to_vec(alloc)?).ok().ok_or("text")?;
+    let input = String::from_utf8(row.input.to_vec(alloc)?)
+        .ok()
+        .ok_or("text")?;
     let case = Case {
         words: &["run"],
         input: input.as_str(),
