@@ -1,5 +1,6 @@
 -- What comes next is allowed, and after a reply the machine stands by what its actor knows.
 use Rattle.std.proofs.Common.{◌≡◌, ℕ, ◌+◌, ◌≤◌, true, false, ◌==◌, List, inl, inr, All, Option, None, Some, Result, Ok, Err, IfOk, OnOk, refl, sym, ap, ◌∙◌, subst, arith}
+use Rattle.std.specs.Option.{option_or}
 use Rattle.std.proofs.lemmas.Bool.{and_from, eq-eqb}
 use Rattle.std.proofs.lemmas.List.Elements.{All-nil, All-weaker}
 use Rattle.pc_base.specs.declared.actor.ActorId.{ActorId}
@@ -22,7 +23,7 @@ use Rattle.pc_push.proofs.Replies.{IsPushReply, IsStatus, push_answers, recovery
 use Rattle.pc_push.specs.declared.progress.Progress.{Progress}
 use Rattle.pc_push.specs.declared.progress.Progress.TheVariants as progress
 use Rattle.pc_push.specs.PushKnows.{Asks, AsksAt, HasMetStaging, MayCome, MayPush, MaySettle, PushKnows, Recovers, StandsAt}
-use Rattle.pc_push.specs.Pushing.{Pushing, after_reply, due_at, fate_after, first_of, heard_at, moved_fate, next_of, progress_after_push, progress_after_recovery, push_of, resolve_of, resolving, with_progress}
+use Rattle.pc_push.specs.Pushing.{Pushing, after_reply, due_at, heard_at, next_of, progress_after_push, progress_after_recovery, push_of, resolve_of, resolving, with_progress}
 use Rattle.pc_world.proofs.Anywhere.{any_weaker}
 use Rattle.pc_world.proofs.Exchange.{answered, heard_earlier, heard_ever, later-later}
 use Rattle.pc_world.specs.declared.machine.MachineNext.{MachineNext}
@@ -30,7 +31,7 @@ use Rattle.pc_world.specs.Exchange.{HeardSince, IsExchange, IsLater, IsReplyTo, 
 use Rattle.pc_world.specs.Known.{Known}
 use Rattle.pc_world.specs.Known.Transactions.{is_final_view}
 use Rattle.pc_world.specs.Send.Settling.{IsFateOf, MaySendResolve, ShowsFate}
-use Rattle.pc_world.specs.Views.{final_fate, is_about, view_in}
+use Rattle.pc_world.specs.Views.{fate_after, final_fate, is_about, moved_fate, view_in}
 
 -- what is due is allowed
 come_at : (splits : List (List ℕ)) (actor : ActorId) (start k : Known) (m : Pushing) (p : Progress) → MayPush actor k m → StandsAt start k m p → MayCome splits actor start k m (due_at p m)
@@ -95,7 +96,7 @@ module _ (top : ℕ) where
       subst (Suits view) same (record { fits = reply target refl none; stamps = low })
   moved_suits goals.Abort view fate is none reply low = absurd cc
 
-  fate_suits : (goal : Goal) (view : View) (fate : Fate) (final : Option Fate) → final_fate view ≡ final → first_of final (moved_fate goal) ≡ Some fate → IsPushReply goal (replies.Status view) → AreKnown (goal_stamps goal) → AreKnown (view_stamps view) → Suits view fate
+  fate_suits : (goal : Goal) (view : View) (fate : Fate) (final : Option Fate) → final_fate view ≡ final → option_or final (moved_fate goal) ≡ Some fate → IsPushReply goal (replies.Status view) → AreKnown (goal_stamps goal) → AreKnown (view_stamps view) → Suits view fate
   fate_suits goal view fate (Some other) is chosen reply goal_low view_low =
       let same : final_fate view ≡ Some fate = is ∙ chosen in
       record { fits = final_fits view fate same; stamps = final_stamps view fate same view_low }

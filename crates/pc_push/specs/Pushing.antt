@@ -3,7 +3,6 @@ use Rattle.std.specs.Prelude.{◌≡◌, ℕ, ◌+◌, Option, None, Some, List}
 use Rattle.pc_base.specs.declared.transaction.Priority.{Priority}
 use Rattle.pc_base.specs.declared.transaction.Who.{Who}
 use Rattle.pc_proto.specs.declared.fate.Fate.{Fate}
-use Rattle.pc_proto.specs.declared.fate.Fate.TheVariants as fates
 use Rattle.pc_proto.specs.declared.fate.Goal.{Goal}
 use Rattle.pc_proto.specs.declared.fate.Goal.TheVariants as goals
 use Rattle.pc_proto.specs.declared.meta.TxnMeta.{TxnMeta}
@@ -11,12 +10,11 @@ use Rattle.pc_proto.specs.declared.reply.Reply.{Reply}
 use Rattle.pc_proto.specs.declared.reply.Reply.TheVariants as replies
 use Rattle.pc_proto.specs.declared.request.Request.{Request}
 use Rattle.pc_proto.specs.declared.request.Request.TheVariants as requests
-use Rattle.pc_proto.specs.declared.view.View.{View}
 use Rattle.pc_push.specs.declared.progress.Progress.{Progress}
 use Rattle.pc_push.specs.declared.progress.Progress.TheVariants as progress
 use Rattle.pc_world.specs.declared.machine.MachineNext.{MachineNext}
 use Rattle.pc_world.specs.declared.machine.MachineNext.TheVariants as nexts
-use Rattle.pc_world.specs.Views.{final_fate}
+use Rattle.pc_world.specs.Views.{fate_after, final_fate}
 
 -- A round: whose intent stands in the way, and at which key; who pushes, at which level and reading, and what for; and how far
 -- it has come.
@@ -58,19 +56,6 @@ due_at progress.Over m = nexts.Finished
 -- What is due.
 abbrev pub next_of : Pushing → MachineNext
 next_of m = due_at m.progress m
-
--- The fate of an intent whose transaction was moved as the push asked.
-abbrev pub moved_fate : Goal → Option Fate
-moved_fate (goals.Move ts) = Some (fates.Pending ts)
-moved_fate goals.Abort = None
-
-abbrev pub first_of : Option Fate → Option Fate → Option Fate
-first_of (Some fate) other = Some fate
-first_of None other = other
-
--- The fate after a push: that of a final view, or the move that the push asked for.
-abbrev pub fate_after : Goal → View → Option Fate
-fate_after goal view = first_of (final_fate view) (moved_fate goal)
 
 -- The intent is settled with this fate, if there is one.
 abbrev pub resolving : Option Fate → Progress → Progress

@@ -2,13 +2,13 @@ ghost use Rattle.std.specs.Prelude.{◌≡◌, ◌<◌, ℕ, true, IfOk, IfSome,
 ghost use Rattle.pc_base.specs.declared.actor.ActorId.{ActorId};
 ghost use Rattle.pc_base.specs.Timestamp.{greatest};
 ghost use Rattle.pc_proto.specs.declared.request.Request.{Request};
-ghost use Rattle.pc_push.specs.Pushing.{IsStart, after_recovery, after_push, after_reply, fate_after, goal_of, next_of, push_of, resolving};
+ghost use Rattle.pc_push.specs.Pushing.{IsStart, after_recovery, after_push, after_reply, goal_of, next_of, push_of, resolving};
 ghost use Rattle.pc_push.specs.PushKnows.{Asks, MayCome, MayPush, PushKnows};
 ghost use Rattle.pc_world.specs.declared.machine.MachineNext.TheVariants as nexts;
 ghost use Rattle.pc_world.specs.Exchange.{IsReplyTo, WasAnswered};
 ghost use Rattle.pc_world.specs.Known.{Known};
 ghost use Rattle.pc_world.specs.Send.Recovery.{is_conflict};
-ghost use Rattle.pc_world.specs.Views.{final_fate};
+ghost use Rattle.pc_world.specs.Views.{fate_after, final_fate};
 
 use crate::progress::Progress;
 use pc_base::{Key, NoMemory, Priority, Timestamp, TryCopy, Who};

@@ -1,5 +1,5 @@
 -- In a run every timestamp is at most the clock's last one, plus one for each step.
-use Rattle.std.proofs.Common.{◌≡◌, ℕ, ◌+◌, ◌^◌, ◌<◌, ◌≤◌, Bool, true, false, cond, Contains, List, [], ◌∷◌, ◌++◌, length, fold, filter, All, Option, None, Some, IfSome, refl, sym, ap, subst, ◌∙◌, arith, length-append}
+use Rattle.std.proofs.Common.{◌≡◌, ℕ, ◌+◌, ◌^◌, ◌<◌, ◌≤◌, true, false, cond, Contains, List, [], ◌∷◌, ◌++◌, length, fold, filter, All, Option, None, Some, IfSome, sym, subst, arith, length-append}
 use Rattle.std.proofs.lemmas.List.{append_assoc, append-nil}
 use Rattle.std.proofs.lemmas.List.Elements.{All-contains, All-from_recursion, All-nil, All-push, All-weaker, recursion_from_All}
 use Rattle.std.specs.List.{AllByRecursion as Each}
@@ -7,23 +7,20 @@ use Rattle.pc_base.specs.declared.actor.ActorId.{ActorId}
 use Rattle.pc_base.specs.declared.actor.ActorId.TheVariants as actors
 use Rattle.pc_base.specs.declared.entry.Entry.{Entry}
 use Rattle.pc_base.specs.Timestamp.{greatest}
-use Rattle.pc_history.specs.declared.pair.Pair.{Pair}
-use Rattle.pc_history.specs.History.{AllKept, IsFine, IsFineAfter, MayFollow}
-use Rattle.pc_history.specs.Own.{named_in, own, pair, pairs_after, pairs_of, same_id}
+use Rattle.pc_history.specs.History.{AllKept, IsFine, IsFineAfter}
+use Rattle.pc_history.specs.Own.{named_in, own, pair, pairs_after, same_id}
 use Rattle.pc_proto.specs.declared.event.Event.{Event}
 use Rattle.pc_proto.specs.declared.event.Event.TheVariants as events
 use Rattle.pc_proto.specs.declared.reply.Reply.{Reply}
 use Rattle.pc_proto.specs.declared.request.Request.{Request}
 use Rattle.pc_proto.specs.Stamps.{event_stamps, request_stamps, reply_stamps}
 use Rattle.pc_world.proofs.Each.{each-append, each-weaker}
-use Rattle.pc_world.proofs.Kept.Entries.{EntryWithin, PairWithin, named-within, own-within, request-within}
+use Rattle.pc_world.proofs.Kept.Entries.{EntryWithin, named-within, own-within, request-within}
 use Rattle.pc_world.proofs.Kept.Knowledge.{KnownWithin, known-within}
 use Rattle.pc_world.proofs.Kept.Told.{told-within}
 use Rattle.pc_world.proofs.Prefixes.{run_induction}
 use Rattle.pc_world.proofs.Stamps.{after-within, has_room, reply-within}
 use Rattle.pc_world.proofs.Stamps.Within.{AtMost, StateWithin, at_most-more, state-more, state-stamps}
-use Rattle.pc_world.specs.Caused.{IsCaused}
-use Rattle.pc_world.specs.Evaluation.{reply}
 use Rattle.pc_world.specs.Known.{Known, known}
 use Rattle.pc_world.specs.Local.{Head, IsAnswer, IsLocal, MayDo, MayEvaluate}
 use Rattle.pc_world.specs.MaySend.{MaySend}

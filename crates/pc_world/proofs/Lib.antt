@@ -6,6 +6,5 @@ pub mod KeyOrder
 pub mod Knowing
 pub mod Pieces
 pub mod Prefixes
-pub mod PutsAndCommits
 pub mod Stamps
 pub mod World

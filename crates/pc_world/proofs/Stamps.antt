@@ -1,10 +1,8 @@
 -- Evaluation raises timestamps by at most one.
-use Rattle.std.proofs.Common.{ℕ, ◌+◌, ◌≤◌, ◌<◌, List, [], ◌∷◌, ◌++◌, arith}
+use Rattle.std.proofs.Common.{ℕ, ◌+◌, ◌≤◌, ◌<◌, arith}
 use Rattle.std.proofs.lemmas.List.Elements.{All-from_recursion, All-weaker, recursion_from_All}
 use Rattle.std.specs.List.{AllByRecursion as Each}
-use Rattle.pc_base.specs.declared.version.Version.{Version}
 use Rattle.pc_base.specs.Timestamp.{greatest}
-use Rattle.pc_proto.specs.declared.record.Intent.{Intent}
 use Rattle.pc_proto.specs.declared.request.Request.{Request}
 use Rattle.pc_proto.specs.declared.request.Request.TheVariants as requests
 use Rattle.pc_proto.specs.RecordRows.{record_reply}
@@ -12,11 +10,11 @@ use Rattle.pc_proto.specs.Stamps.{reply_stamps, request_stamps}
 use Rattle.pc_world.proofs.Each.{each-front, each-weaker}
 use Rattle.pc_world.proofs.Stamps.Reads.{get-bound, get-within, query-bound, query-within, refresh-bound, refresh-within, scan-bound, scan-within}
 use Rattle.pc_world.proofs.Stamps.Rows.{record-reply, table-within}
-use Rattle.pc_world.proofs.Stamps.Within.{AtMost, StateWithin, at_most-more, state-more, state-stamps, state-within, table-more}
+use Rattle.pc_world.proofs.Stamps.Within.{AtMost, StateWithin, at_most-more, state-stamps, state-within, table-more}
 use Rattle.pc_world.proofs.Stamps.Writes.{put-intents, put-reply, resolve-intents, resolve-versions}
 use Rattle.pc_world.specs.Evaluation.{bound_after, intents_after, reply, state_after, versions_after}
 use Rattle.pc_world.specs.RangeState.{RangeState}
-use Rattle.pc_world.specs.Stamps.{AllAtMost, AllBelowGreatest, HasRoom, all_stamps, cause_stamps, state_stamps}
+use Rattle.pc_world.specs.Stamps.{AllAtMost, HasRoom, all_stamps, cause_stamps, state_stamps}
 pub mod Reads
 pub mod Rows
 pub mod Searches

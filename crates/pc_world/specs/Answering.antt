@@ -1,4 +1,5 @@
--- The kinds of reply that a range gives to the requests of a session, where nothing is staged.
+-- The kinds of reply that a range gives where nothing is staged: to gets, scans, puts, commits, aborts, pushes and resolves. Nothing is
+-- said of the other requests, which no session sends so far but for removals.
 use Rattle.std.specs.Prelude.{◌≡◌, true, ⊤}
 use Rattle.pc_base.specs.declared.transaction.TxnId.{TxnId}
 use Rattle.pc_proto.specs.declared.reply.Reply.{Reply}
@@ -57,7 +58,7 @@ abbrev pub IsResolved : Reply → Type 0
 IsResolved replies.Resolved = ⊤
 IsResolved _ = ⊥
 
--- The request may be answered so.
+-- The request may be answered so, as far as anything is said of it.
 abbrev pub MayAnswer : Request → Reply → Type 0
 MayAnswer (requests.Get id epoch seq ts key) told = IsGetReply id told
 MayAnswer (requests.Scan id epoch seq ts span) told = IsScanReply id told

@@ -69,7 +69,7 @@ pub record WasAnswered (since now : Known) (request : Request) (reply : Reply) :
   pub hears : HearsReply since before hearing request reply
   pub knows : now ≡ learn hearing before
 
--- A range can come to a state in which this is its reply to the request.
+-- Evaluations can make a state in which this is the reply to the request.
 pub record IsReplyTo (request : Request) (told : Reply) : Type 0 where
   pub own : List (Pair Event)
   pub is : told ≡ reply request (state_of own)

@@ -18,7 +18,6 @@ pub mod MaySend
 pub mod MayTell
 pub mod Named
 pub mod Operations
-pub mod PutsAndCommits
 pub mod RangeOf
 pub mod RangeState
 pub mod Run

@@ -1,5 +1,5 @@
--- Histories in which no message of some kind is sent. Parallel commit alone sends stages, so that the laws of decisions and of the
--- legal order are stated for the histories without them until they are proved for all.
+-- Histories in which no stage is sent. Parallel commit alone sends stages, so that the laws of decisions and of the legal order are stated
+-- for the histories without them until they are proved for all.
 use Rattle.std.specs.Prelude.{List, All, ⊤}
 use Rattle.pc_base.specs.declared.entry.Entry.{Entry}
 use Rattle.pc_proto.specs.declared.event.Event.{Event}
@@ -21,25 +21,6 @@ abbrev pub IsNoStage : Request → Type 0
 IsNoStage (requests.Stage meta ts now writes locks) = ⊥
 IsNoStage _ = ⊤
 
--- The request is no get and no scan.
-abbrev pub IsNoRead : Request → Type 0
-IsNoRead (requests.Get id epoch seq ts key) = ⊥
-IsNoRead (requests.Scan id epoch seq ts span) = ⊥
-IsNoRead _ = ⊤
-
--- The request is no put.
-abbrev pub IsNoPut : Request → Type 0
-IsNoPut (requests.Put meta seq ts key value) = ⊥
-IsNoPut _ = ⊤
-
 -- No message that is sent is a stage.
 abbrev pub NothingIsStaged : List (Entry Event) → Type 0
 NothingIsStaged history = EachSent IsNoStage history
-
--- No message that is sent is a get or a scan.
-abbrev pub NothingIsRead : List (Entry Event) → Type 0
-NothingIsRead history = EachSent IsNoRead history
-
--- No message that is sent is a put.
-abbrev pub NothingIsPut : List (Entry Event) → Type 0
-NothingIsPut history = EachSent IsNoPut history

@@ -5,6 +5,8 @@ use Rattle.pc_base.specs.declared.transaction.TxnId.{TxnId}
 use Rattle.pc_base.specs.Transaction.{same_txn}
 use Rattle.pc_proto.specs.declared.fate.Fate.{Fate}
 use Rattle.pc_proto.specs.declared.fate.Fate.TheVariants as fates
+use Rattle.pc_proto.specs.declared.fate.Goal.{Goal}
+use Rattle.pc_proto.specs.declared.fate.Goal.TheVariants as goals
 use Rattle.pc_proto.specs.declared.reply.Reply.{Reply}
 use Rattle.pc_proto.specs.declared.reply.Reply.TheVariants as replies
 use Rattle.pc_proto.specs.declared.request.Request.{Request}
@@ -84,6 +86,15 @@ abbrev pub final_fate : View → Option Fate
 final_fate (views.Committed epoch ts locks) = Some (fates.Committed epoch ts)
 final_fate (views.Aborted epoch why locks) = Some fates.Aborted
 final_fate _ = None
+
+-- The fate of an intent whose transaction was moved as a push asked.
+abbrev pub moved_fate : Goal → Option Fate
+moved_fate (goals.Move ts) = Some (fates.Pending ts)
+moved_fate goals.Abort = None
+
+-- The fate of an intent after a push that showed this view: that of a final view, or the move that the push asked for.
+abbrev pub fate_after : Goal → View → Option Fate
+fate_after goal view = option_or (final_fate view) (moved_fate goal)
 
 -- The fate of the transaction that a reply shows, where it shows a final view of it.
 abbrev pub fate_shown : TxnId → Heard → Option Fate

@@ -79,6 +79,7 @@ pub record IsDue (k : Known) (jobs : List (List Request)) (request : Request) : 
   pub next : first_message jobs ≡ Some request
   pub heard : All (λ m. IsTrue (is_heard k.heard m)) k.sent
 
+-- A message that is sent between calls is due.
 abbrev pub DoesJobs : Known → List (List Request) → Event → Type 0
 DoesJobs k jobs (events.Send number range request) = k.statement ≡ None → IsDue k jobs request
 DoesJobs k jobs _ = ⊤

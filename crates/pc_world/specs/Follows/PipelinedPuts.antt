@@ -64,7 +64,8 @@ was_in_flight k t w =
 abbrev pub IsFull : Known → Type 0
 IsFull k = (t : Txn) × (open_txn k ≡ Some t) × (most_in_flight ≤ count_by (was_in_flight k t) t.writes)
 
--- The call is in the way of writes of this key: it reads the key, or writes it, or writes while no further write may be in flight.
+-- The call waits for writes of this key: it reads the key, or writes it, or writes while no further write may be in flight; a call that
+-- neither reads nor writes waits for all.
 abbrev pub WaitsFor : Known → List ℕ → Call → Type 0
 WaitsFor k key (calls.Get own) = own ≡ key
 WaitsFor k key (calls.Scan span) = IsTrue (contains span key)

@@ -1,13 +1,13 @@
--- Resends: in its call a request is sent again only while nothing was heard to it there; or after it met an intent there, whose holder
--- was pushed since, and as the push said; or, of a commit, after it was told that the record is not final. A message of a conflict's
--- round is sent once for each conflict. Equal requests go to one range, but for the listings of records, which no session asks for.
--- Own profile.
-use Rattle.std.specs.Prelude.{◌≡◌, ℕ, ◌+◌, Bool, true, false, ◌&&◌, ◌⊎◌, Option, None, Some, List, ◌∷◌, ◌++◌, All, Any, IsTrue, ⊤}
+-- Resends: in its call a request is sent again only once each message of it that went out there was answered there, since a quiet wire
+-- loses none; and then only after it met an intent there, whose holder was pushed since, and as the push said; or, of a commit, after it
+-- was told that the record is not final. A message of a conflict's round is sent once for each conflict. Equal requests go to one range,
+-- but for the listings of records, which no session asks for. Own profile.
+use Rattle.std.specs.Prelude.{◌≡◌, ℕ, ◌+◌, Bool, true, false, ◌⊎◌, Option, None, Some, List, ◌∷◌, ◌++◌, All, Any, IsTrue, ⊤}
 use Rattle.pc_base.specs.declared.transaction.TxnId.{TxnId}
-use Rattle.pc_base.specs.Span.{same_key}
-use Rattle.pc_base.specs.Transaction.{same_txn}
 use Rattle.pc_proto.specs.declared.event.Event.{Event}
 use Rattle.pc_proto.specs.declared.event.Event.TheVariants as events
+use Rattle.pc_proto.specs.declared.fate.Fate.{Fate}
+use Rattle.pc_proto.specs.declared.fate.Goal.{Goal}
 use Rattle.pc_proto.specs.declared.meta.TxnMeta.{TxnMeta}
 use Rattle.pc_proto.specs.declared.reply.Reply.{Reply}
 use Rattle.pc_proto.specs.declared.reply.Reply.TheVariants as replies
@@ -18,26 +18,27 @@ use Rattle.pc_world.specs.Counting.{AtLeast}
 use Rattle.pc_world.specs.Known.{Known}
 use Rattle.pc_world.specs.Known.Statements.{Statement}
 use Rattle.pc_world.specs.Known.Traffic.{Heard}
-use Rattle.pc_world.specs.Known.Transactions.{is_final_view}
 use Rattle.pc_world.specs.SameRequest.{IsSameRequest}
 use Rattle.pc_world.specs.Send.Recovery.{is_conflict_with, is_push_of}
 use Rattle.pc_world.specs.StageFate.{is_unsettled_status}
+use Rattle.pc_world.specs.Tell.Refusal.{is_heard}
+use Rattle.pc_world.specs.Views.{fate_after, final_fate}
 
--- No reply to the request was heard since the last call was asked.
-abbrev pub IsUnheardNow : Known → Request → Type 0
-IsUnheardNow k request = All (λ h. IsSameRequest request h.request → ⊥) k.heard_now
+-- Each message of the request that was sent since the last call was asked was answered since.
+abbrev pub AreAnsweredNow : Known → Request → Type 0
+AreAnsweredNow k request = All (λ m. IsSameRequest request m.request → IsTrue (is_heard k.heard_now m)) k.sent_now
 
--- The reply says that the intent at the key was settled for this transaction.
-abbrev pub is_resolved : TxnId → List ℕ → Request → Reply → Bool
-is_resolved id key (requests.Resolve other at fate) replies.Resolved = same_txn other id && same_key at key
-is_resolved id key _ _ = false
+-- The intent at the key was settled for this transaction, with this fate.
+pub record ResolvedTo (id : TxnId) (key : List ℕ) (fate : Fate) (h : Heard) : Type 0 where
+  pub asked : h.request ≡ requests.Resolve id key fate
+  pub told : h.reply ≡ replies.Resolved
 
 -- The reply is to a recovery of the transaction, and shows this view.
 abbrev pub RecoveredTo : TxnId → View → Request → Reply → Type 0
 RecoveredTo id view (requests.Recover other epoch ts anchor finding) (replies.Status shown) = (other ≡ id) × (shown ≡ view)
 RecoveredTo id view _ _ = ⊥
 
--- A recovery of the transaction was heard, and where it is final the intent at the key was settled after that.
+-- A recovery of the transaction was heard, and where it is final the intent at the key was settled after that, with its fate.
 pub record WasRecovered (id : TxnId) (key : List ℕ) (later : List Heard) : Type 0 where
   pub before : List Heard
   pub recovery : Heard
@@ -45,14 +46,25 @@ pub record WasRecovered (id : TxnId) (key : List ℕ) (later : List Heard) : Typ
   pub whole : later ≡ before ++ (recovery ∷ after)
   pub view : View
   pub shown : RecoveredTo id view recovery.request recovery.reply
-  pub settled : is_final_view view ≡ true → Any (λ h. IsTrue (is_resolved id key h.request h.reply)) after
+  pub settled : (fate : Fate) → final_fate view ≡ Some fate → Any (ResolvedTo id key fate) after
 
--- What the reply to a push asks for was done: after a status the intent at the key was settled; after an unsure one the transaction
--- was recovered.
-abbrev pub WasDone : TxnId → List ℕ → Reply → List Heard → Type 0
-WasDone id key (replies.Status view) later = Any (λ h. IsTrue (is_resolved id key h.request h.reply)) later
-WasDone id key (replies.Unsure view) later = WasRecovered id key later
-WasDone id key _ later = ⊥
+-- The intent at the key was settled with the fate that is left to it where a push of this goal showed this view.
+pub record WasSettled (id : TxnId) (key : List ℕ) (goal : Goal) (view : View) (later : List Heard) : Type 0 where
+  pub fate : Fate
+  pub left : fate_after goal view ≡ Some fate
+  pub settled : Any (ResolvedTo id key fate) later
+
+-- What the reply to a push of this goal asks for was done: after a status the intent at the key was settled; after an unsure one the
+-- transaction was recovered.
+abbrev pub WasDone : TxnId → List ℕ → Goal → Reply → List Heard → Type 0
+WasDone id key goal (replies.Status view) later = WasSettled id key goal view later
+WasDone id key goal (replies.Unsure view) later = WasRecovered id key later
+WasDone id key goal _ later = ⊥
+
+-- The goal of a push.
+abbrev pub goal_in : Request → Option Goal
+goal_in (requests.Push holder by level now goal) = Some goal
+goal_in _ = None
 
 -- The holder of the intent at the key was pushed, and what the push's reply asks for was done.
 pub record WasFollowed (id : TxnId) (key : List ℕ) (later : List Heard) : Type 0 where
@@ -61,7 +73,9 @@ pub record WasFollowed (id : TxnId) (key : List ℕ) (later : List Heard) : Type
   pub after : List Heard
   pub whole : later ≡ before ++ (push ∷ after)
   pub pushed : IsTrue (is_push_of id push.request)
-  pub done : WasDone id key push.reply after
+  pub goal : Goal
+  pub aims : goal_in push.request ≡ Some goal
+  pub done : WasDone id key goal push.reply after
 
 -- The request met an intent since the last call was asked, and no reply to it was heard after that; the intent's holder was pushed
 -- since, and as the push said.
@@ -102,13 +116,15 @@ HasMoreConflicts k request id =
     (n : ℕ) → AtLeast (λ h. IsSameRequest request h.request) n k.heard_now
     → AtLeast (λ h. IsTrue (is_conflict_with id h.reply)) (n + 1) k.heard_now
 
--- The request may be sent once more in its call.
+-- There is a reason to send the request once more in its call.
 abbrev pub MayGoAgain : Known → Request → Option TxnId → Type 0
-MayGoAgain k request None = IsUnheardNow k request ⊎ MetConflictNow k request ⊎ WasRefusedNow k request
-MayGoAgain k request (Some id) = IsUnheardNow k request ⊎ HasMoreConflicts k request id
+MayGoAgain k request None = MetConflictNow k request ⊎ WasRefusedNow k request
+MayGoAgain k request (Some id) = HasMoreConflicts k request id
 
--- In an open call a message that goes out, where one of the same request went out in it before, may go again.
-abbrev pub ResendsOnlyUnheard : Known → Event → Type 0
-ResendsOnlyUnheard k (events.Send number range request) =
-    (s : Statement) → k.statement ≡ Some s → Any (λ m. IsSameRequest request m.request) k.sent_now → MayGoAgain k request (round_of request)
-ResendsOnlyUnheard k _ = ⊤
+-- In an open call, where a message of the same request as one that goes out went out in it before, all such were answered, and there is
+-- a reason to send it again.
+abbrev pub ResendsOnlyAnswered : Known → Event → Type 0
+ResendsOnlyAnswered k (events.Send number range request) =
+    (s : Statement) → k.statement ≡ Some s → Any (λ m. IsSameRequest request m.request) k.sent_now
+    → AreAnsweredNow k request × MayGoAgain k request (round_of request)
+ResendsOnlyAnswered k _ = ⊤
