@@ -135,10 +135,10 @@ module _ (head : Head) where
     pub whose : send.actor ≡ actor
     pub sends : send.event ≡ events.Send m.number m.range m.request
 
-  sent-more : (history : List (Entry Event)) (e : Entry Event) (actor : ActorId) (m : Sent) → WasSentBy history actor m → WasSentBy (history ++ e ∷ []) actor m
+  pub sent-more : (history : List (Entry Event)) (e : Entry Event) (actor : ActorId) (m : Sent) → WasSentBy history actor m → WasSentBy (history ++ e ∷ []) actor m
   sent-more history e actor m w = record { send = w.send; listed = Contains-append_left history (e ∷ []) w.send w.listed; whose = w.whose; sends = w.sends }
 
-  sent-now : (history : List (Entry Event)) (e : Entry Event) (actor : ActorId) → e.actor ≡ actor → (event : Event) → e.event ≡ event → Each (WasSentBy (history ++ e ∷ []) actor) (sent_by event)
+  pub sent-now : (history : List (Entry Event)) (e : Entry Event) (actor : ActorId) → e.actor ≡ actor → (event : Event) → e.event ≡ event → Each (WasSentBy (history ++ e ∷ []) actor) (sent_by event)
   sent-now history e actor same (events.Send number range request) is = (record { send = e; listed = Contains-push history e; whose = same; sends = is }, tt)
   sent-now history e actor same event is = tt
 

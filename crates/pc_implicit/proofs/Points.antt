@@ -69,7 +69,7 @@ told-what id ts event h = absurd cc
 
 module _ (head : Head) (front : List (Entry Event)) (e : Entry Event) (run : IsRun head front) (may : MayFollow (protocol head) front e) (only : NothingIsStaged (front ++ e ∷ [])) (id : TxnId) (none : commit_ts head front id ≡ None) where
   -- the range did not have it committed before
-  undecided-before : (range epoch ts : ℕ) → decision (place_at head range id front) ≡ Some (status_of standings.Committed epoch ts) → ⊥
+  pub undecided-before : (range epoch ts : ℕ) → decision (place_at head range id front) ≡ Some (status_of standings.Committed epoch ts) → ⊥
   undecided-before range epoch ts decided =
       let w = decided_sent front range id epoch ts (place_at head range id front) (recorded head front run (unstaged_front front (e ∷ []) only) range id) decided in
       let anchored = commit_anchored head front run w.send w.listed w.number range w.meta ts w.locks w.sends in
@@ -134,7 +134,7 @@ pub record IsPoint (head : Head) (history : List (Entry Event)) (id : TxnId) (po
   pub now : IsCommitted head (front ++ e ∷ []) id ts
 
 module _ (head : Head) (id : TxnId) where
-  point-now : (before later : List (Entry Event)) (ts : ℕ) → commit_ts head before id ≡ Some ts → point_after head id before later ≡ length before
+  pub point-now : (before later : List (Entry Event)) (ts : ℕ) → commit_ts head before id ≡ Some ts → point_after head id before later ≡ length before
   point-now before [] ts is = refl
   point-now before (e ∷ es) ts is = ap (λ o. if is_some o then length before else point_after head id (before ++ e ∷ []) es) is
 

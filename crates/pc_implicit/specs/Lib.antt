@@ -1,3 +1,6 @@
 pub mod Answers
 pub mod Decided
 pub mod Laws
+pub mod Writes
+pub mod Reads
+pub mod Versions
