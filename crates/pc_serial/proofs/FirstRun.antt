@@ -6,6 +6,7 @@ use Rattle.pc_base.specs.declared.entry.Entry.{Entry}
 use Rattle.pc_history.specs.History.{MayFollow}
 use Rattle.pc_history.specs.Own.{own}
 use Rattle.pc_proto.specs.declared.event.Event.{Event}
+use Rattle.pc_serial.proofs.Legal.{is-legal}
 use Rattle.pc_serial.specs.FirstRow.{first_head, first_history, first_ts, first_txn}
 use Rattle.pc_serial.specs.FirstRun.{FirstRowIsARun}
 use Rattle.pc_world.specs.Known.{Known, known}
@@ -13,7 +14,7 @@ use Rattle.pc_world.specs.Known.Writes.{IsProvedBy, Write}
 use Rattle.pc_world.specs.Local.{IsActorOf}
 use Rattle.pc_world.specs.Run.{IsRun, protocol}
 use Rattle.pc_world.specs.StageFate.{IsLate, IsRefused, OnCommit, OnStage}
-use Rattle.pc_world.specs.Unstaged.{IsNoRead, IsNoStage, NothingIsRead, NothingIsStaged, OnSent}
+use Rattle.pc_world.specs.Unstaged.{IsNoStage, NothingIsStaged, OnSent}
 
 -- The entry at this place may follow those before it.
 abbrev Follows : ℕ → Type 0
@@ -138,10 +139,5 @@ unstaged =
     All-from_recursion (λ (e : Entry Event). OnSent IsNoStage e.event) first_history
     (tt, (tt, (tt, (tt, (tt, (tt, (tt, (tt, (tt, (tt, (tt, (tt, tt))))))))))))
 
-unread : NothingIsRead first_history
-unread =
-    All-from_recursion (λ (e : Entry Event). OnSent IsNoRead e.event) first_history
-    (tt, (tt, (tt, (tt, (tt, (tt, (tt, (tt, (tt, (tt, (tt, (tt, tt))))))))))))
-
 pub first_row_is_a_run : FirstRowIsARun
-first_row_is_a_run = record { run = run; unstaged = unstaged; unread = unread }
+first_row_is_a_run = record { run = run; unstaged = unstaged; legal = is-legal first_head first_history run unstaged }

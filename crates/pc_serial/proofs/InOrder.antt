@@ -21,10 +21,10 @@ each-contains P (y ∷ ys) x a c =
 flipped : {K : Type 0} (cmp : K → K → Ordering) → IsTotalOrder cmp → (a b : K) → cmp a b ≡ Greater → cmp b a ≡ Less
 flipped cmp total a b h = total.antisymm b a ∙ ap ordering_reverse h
 
-never-below : {K : Type 0} (cmp : K → K → Ordering) → IsTotalOrder cmp → (k : K) → cmp k k ≡ Less → ⊥
+pub never-below : {K : Type 0} (cmp : K → K → Ordering) → IsTotalOrder cmp → (k : K) → cmp k k ≡ Less → ⊥
 never-below cmp total k h = let e : cmp k k ≡ Equal = tied_itself total k in cc
 
-never-both : {K : Type 0} (cmp : K → K → Ordering) → IsTotalOrder cmp → (a b : K) → cmp a b ≡ Less → cmp b a ≡ Less → ⊥
+pub never-both : {K : Type 0} (cmp : K → K → Ordering) → IsTotalOrder cmp → (a b : K) → cmp a b ≡ Less → cmp b a ≡ Less → ⊥
 never-both cmp total a b h k = never-below cmp total a (total.trans a b a h k)
 
 module _ {K V : Type 0} (cmp : K → K → Ordering) where
@@ -58,7 +58,7 @@ module _ {K V : Type 0} (cmp : K → K → Ordering) where
     below-all k e [] h a = tt
     below-all k e (x ∷ xs) h a = (total.trans k e.0 x.0 h a.0, below-all k e xs h a.1)
 
-    rises-insert : (k : K) (v : V) (es : List (K × V)) → Rises es → Rises (insert_entry cmp es k v)
+    pub rises-insert : (k : K) (v : V) (es : List (K × V)) → Rises es → Rises (insert_entry cmp es k v)
     rises-insert k v [] r = (tt, tt)
     rises-insert k v (e ∷ es) r =
         let rest = rises-insert k v es r.1 in

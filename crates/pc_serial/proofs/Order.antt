@@ -1,20 +1,20 @@
 -- Where commit points differ, the committed transactions stand in the commit order, each once, by their timestamps.
-use Rattle.std.proofs.Common.{map, ◌≡◌, ℕ, ◌<◌, true, List, [], ◌∷◌, filter, filter_map, Option, None, Some, IfSome, Contains, refl, sym, ap, ◌∙◌, arith}
+use Rattle.std.proofs.Common.{map, ◌≡◌, ℕ, ◌<◌, true, List, [], ◌∷◌, filter, filter_map, Option, None, Some, IfSome, Contains, refl, subst, inr, inl, sym, ap, ◌∙◌, arith}
 use Rattle.std.proofs.lemmas.Cmp.{nat_cmp_total, on_total, then_total}
 use Rattle.std.proofs.lemmas.Map.Lookups.{exact_unsigned}
 use Rattle.std.specs.Cmp.{IsTotalOrder, nat_cmp_is}
 use Rattle.std.specs.declared.cmp.Ordering.{Ordering}
 use Rattle.std.specs.declared.cmp.Ordering.TheVariants.{Less, Equal, Greater}
-use Rattle.std.specs.List.{AllByRecursion as Each}
+use Rattle.std.specs.List.{AllByRecursion as Each, cons_option}
 use Rattle.std.specs.List.Sorted.{IsStrictlySortedBy}
 use Rattle.std.specs.Option.{option_map}
 use Rattle.std.specs.Ordering.{nat_cmp, ordering_then}
 use Rattle.pc_base.specs.declared.entry.Entry.{Entry}
 use Rattle.pc_base.specs.declared.transaction.TxnId.{TxnId}
 use Rattle.pc_base.specs.Transaction.{same_txn}
+use Rattle.pc_history.proofs.Lists.{contains_cons, contains_head, contains_nil, contains_tail}
 use Rattle.pc_implicit.proofs.Keyed.{same-is}
 use Rattle.pc_proto.specs.declared.event.Event.{Event}
-use Rattle.pc_serial.proofs.Begun.{mapped-contains}
 use Rattle.pc_serial.proofs.InOrder.{before-in, each-contains, each-in_order, has-in_order, once-in, rises-in_order, rises-sorted}
 use Rattle.pc_world.proofs.Each.{each-filter_map, each-weaker}
 use Rattle.pc_world.specs.CommitOrder.{Rank, all_begun, commit_order, rank_cmp, ranked}
@@ -22,8 +22,19 @@ use Rattle.pc_world.specs.Committed.{IsCommitted, commit_point, commit_ts}
 use Rattle.pc_world.specs.Legal.{StandsBefore, committed_in_order}
 use Rattle.pc_world.specs.Local.{Head}
 
+-- what a function that may give nothing makes of an element of a list stands in what it makes of the list
+mapped-contains : {X Y : Type 0} (f : X → Option Y) (xs : List X) (x : X) (y : Y) → Contains xs x → f x ≡ Some y → Contains (filter_map f xs) y
+mapped-contains f [] x y c is = absurd (contains_nil x c)
+mapped-contains {X} {Y} f (z ∷ zs) x y c is =
+    elim (contains_cons z zs x c) [
+      | inl same ↦ subst (λ o. Contains (cons_option o (filter_map f zs)) y) (sym (ap f same ∙ is)) (contains_head y (filter_map f zs))
+      | inr later ↦
+          let rest : Contains (filter_map f zs) y = mapped-contains f zs x y later is in
+          let by : (o : Option Y) → Contains (cons_option o (filter_map f zs)) y = elim [ None ↦ rest | Some w ↦ contains_tail w (filter_map f zs) y rest ] in by (f z)
+    ]
+
 -- ranks are ordered by timestamp, then by commit point
-rank-total : IsTotalOrder rank_cmp
+pub rank-total : IsTotalOrder rank_cmp
 rank-total = then_total (on_total (λ (r : Rank). r.ts) nat_cmp_total) (on_total (λ (r : Rank). r.point) nat_cmp_total)
 
 then-equal : (a b : Ordering) → ordering_then a b ≡ Equal → (a ≡ Equal) × (b ≡ Equal)
@@ -38,7 +49,7 @@ rank-exact one other h =
     (exact_unsigned one.ts other.ts both.0, exact_unsigned one.point other.point both.1)
 
 -- an earlier timestamp ranks first
-rank-less : (one other : Rank) → one.ts < other.ts → rank_cmp one other ≡ Less
+pub rank-less : (one other : Rank) → one.ts < other.ts → rank_cmp one other ≡ Less
 rank-less one other less = ap (λ o. ordering_then o (nat_cmp one.point other.point)) (sym (nat_cmp_is one.ts other.ts Less less))
 
 module _ (head : Head) (history : List (Entry Event)) where
@@ -50,13 +61,13 @@ module _ (head : Head) (history : List (Entry Event)) where
   abbrev pub entry_of : TxnId → ℕ → Rank × TxnId
   entry_of id ts = (record { ts = ts; point = commit_point head history id }, id)
 
-  ranked-of : (id : TxnId) (o : Option ℕ) (x : Rank × TxnId) → option_map (λ (ts : ℕ). entry_of id ts) o ≡ Some x → (o ≡ Some x.0.ts) × (x.0.point ≡ commit_point head history id) × (x.1 ≡ id)
+  pub ranked-of : (id : TxnId) (o : Option ℕ) (x : Rank × TxnId) → option_map (λ (ts : ℕ). entry_of id ts) o ≡ Some x → (o ≡ Some x.0.ts) × (x.0.point ≡ commit_point head history id) × (x.1 ≡ id)
   ranked-of id None x h = absurd cc
   ranked-of id (Some ts) x h =
       let same : entry_of id ts ≡ x = cc in
       (ap (λ (y : Rank × TxnId). Some y.0.ts) same, ap (λ (y : Rank × TxnId). y.0.point) (sym same), ap (λ (y : Rank × TxnId). y.1) (sym same))
 
-  committed-ranked : (id : TxnId) (ts : ℕ) → IsCommitted head history id ts → ranked head history id ≡ Some (entry_of id ts)
+  pub committed-ranked : (id : TxnId) (ts : ℕ) → IsCommitted head history id ts → ranked head history id ≡ Some (entry_of id ts)
   committed-ranked id ts is = ap (λ o. option_map (λ (ts : ℕ). entry_of id ts) o) is
 
   ranked-itself : (id : TxnId) (o : Option (Rank × TxnId)) → ranked head history id ≡ o → IfSome o IsRanked
@@ -84,10 +95,10 @@ module _ (head : Head) (history : List (Entry Event)) where
         let both : ◌≡◌ {A = Option (Rank × TxnId)} (Some x) (Some y) = sym h ∙ (ap (ranked head history) same ∙ k) in
         cc both
 
-    order-ranked : Each IsRanked (commit_order head history)
+    pub order-ranked : Each IsRanked (commit_order head history)
     order-ranked = each-in_order rank_cmp rank-total IsRanked ranked-exact (filter_map (ranked head history) (all_begun history)) all-ranked
 
-    order-has : (id : TxnId) (ts : ℕ) → Contains (all_begun history) id → IsCommitted head history id ts → Contains (commit_order head history) (entry_of id ts)
+    pub order-has : (id : TxnId) (ts : ℕ) → Contains (all_begun history) id → IsCommitted head history id ts → Contains (commit_order head history) (entry_of id ts)
     order-has id ts begun is =
         has-in_order rank_cmp rank-total IsRanked ranked-exact (filter_map (ranked head history) (all_begun history)) (entry_of id ts) all-ranked
         (mapped-contains (ranked head history) (all_begun history) id (entry_of id ts) begun (committed-ranked id ts is))

@@ -1,5 +1,5 @@
--- The history of the smallest workload: one session begins, puts `x` under `a` and commits, on one range. Its journal is
--- examples/first-commit.expected. It is computed here that its transaction is committed by the evaluation of the commit.
+-- The history of the smallest workload: one session begins, puts `x` under `a` and commits, on one range. Its journal is the first twelve
+-- entries of examples/first-commit.expected. It is computed here that its transaction is committed by the evaluation of the commit.
 use Rattle.std.specs.Prelude.{◌≡◌, ℕ, ◌*◌, ◌^◌, None, Some, List, [], ◌∷◌, codes, fold, map, take}
 use Rattle.pc_base.specs.declared.actor.ActorId.TheVariants as actors
 use Rattle.pc_base.specs.declared.entry.Entry.{Entry}

@@ -1,7 +1,7 @@
--- Laws of runs in which nothing is staged: the commit order is that of the committed transactions; and where nothing is read too, or
--- nothing is put, they are one legal history.
+-- Laws of runs in which nothing is staged: the commit order is that of the committed transactions, and in it they are one legal
+-- history.
 use Rattle.std.specs.List.Sorted.{IsStrictlySortedBy}
-use Rattle.std.specs.Prelude.{◌≡◌, ℕ, ◌⊎◌, All, List, [], ◌∷◌, Contains, filter, map}
+use Rattle.std.specs.Prelude.{◌≡◌, ℕ, All, List, [], ◌∷◌, Contains, filter, map}
 use Rattle.pc_base.specs.declared.entry.Entry.{Entry}
 use Rattle.pc_base.specs.declared.transaction.TxnId.{TxnId}
 use Rattle.pc_base.specs.Transaction.{same_txn}
@@ -12,13 +12,11 @@ use Rattle.pc_world.specs.Decisions.{TellsCommit}
 use Rattle.pc_world.specs.Legal.{IsLegal}
 use Rattle.pc_world.specs.Local.{Head}
 use Rattle.pc_world.specs.Run.{IsRun}
-use Rattle.pc_world.specs.Unstaged.{NothingIsPut, NothingIsRead, NothingIsStaged}
+use Rattle.pc_world.specs.Unstaged.{NothingIsStaged}
 
--- The history of a run is legal, where nothing is staged, and no get and no scan is sent, or no put.
+-- Where nothing is staged, the history of a run is legal.
 abbrev pub HistoriesAreLegal : Type 0
-HistoriesAreLegal =
-    (head : Head) (history : List (Entry Event)) → IsRun head history → NothingIsStaged history → NothingIsRead history ⊎ NothingIsPut history
-    → IsLegal head history
+HistoriesAreLegal = (head : Head) (history : List (Entry Event)) → IsRun head history → NothingIsStaged history → IsLegal head history
 
 -- The transaction stands in the commit order just once, with this timestamp and its commit point.
 abbrev pub StandsOnce : Head → List (Entry Event) → TxnId → ℕ → Type 0

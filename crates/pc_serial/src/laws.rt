@@ -1,6 +1,6 @@
 ghost use Rattle.pc_serial.specs.Laws.{CommitsAreOrdered, CommittedOnce, HistoriesAreLegal};
 
-/// A law: where nothing is staged, and no get and no scan is sent, or no put, the committed transactions are one legal history of a map.
+/// A law: where nothing is staged, the committed transactions are one legal history of a map.
 pub fn histories_are_legal()
     ensures { HistoriesAreLegal }
 {}

@@ -1,5 +1,5 @@
-//! Laws of runs in which nothing is staged: the order of their committed transactions, and where nothing is read or nothing is put,
-//! that they are one legal history. Each is a function that does nothing, whose contract is the law.
+//! Laws of runs in which nothing is staged: the order of their committed transactions, and that in it they are one legal history.
+//! Each is a function that does nothing, whose contract is the law.
 #![tactic(auto)]
 
 mod laws;
