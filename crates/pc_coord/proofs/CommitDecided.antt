@@ -51,8 +51,8 @@ module _ (c : Coordination) (k : Known) (number step ts refusals : ℕ) (view : 
   abbrev latest : ℕ
   latest = max c.clock (last_of (view_stamps view))
 
-  counted3 : IsCounted c.session latest c.begun k3
-  counted3 = counted-heard c.session c.clock c.begun k counted h a.last.counted (record { write = a.plain.number; record_of = λ id about whose. let e : a.t.id ≡ id = cc in subst (λ id. id.number ≤ k.begun) e a.plain.number })
+  pub counted-commit : IsCounted c.session latest c.begun k3
+  counted-commit = counted-heard c.session c.clock c.begun k counted h a.last.counted (record { write = a.plain.number; record_of = λ id about whose. let e : a.t.id ≡ id = cc in subst (λ id. id.number ≤ k.begun) e a.plain.number })
 
   abbrev others3 : List Txn
   others3 = map (txn_heard k.sent (Some h)) a.open_as.others
@@ -102,7 +102,7 @@ module _ (c : Coordination) (k : Known) (number step ts refusals : ℕ) (view : 
               suits = λ s is. tt;
             };
             after =
-                closed_told c.session latest c.begun (job_of (Some fate) (Some a.x)) k3 answer counted3 refl refl refl
+                closed_told c.session latest c.begun (job_of (Some fate) (Some a.x)) k3 answer counted-commit refl refl refl
                 (closing-may k a.x a.t a.anchor fate h a.open_as ends answer (still_open k3 answer t3 others3 a.open_as.is_open first));
           };
         })
@@ -130,7 +130,7 @@ module _ (c : Coordination) (k : Known) (number step ts refusals : ℕ) (view : 
               suits = λ s is. tt;
             };
             after =
-                closed_told c.session latest c.begun (job_of (Some fate) (Some a.x)) k3 answer counted3 refl refl refl
+                closed_told c.session latest c.begun (job_of (Some fate) (Some a.x)) k3 answer counted-commit refl refl refl
                 (closing-may k a.x a.t a.anchor fate h a.open_as ends answer (still_open k3 answer t3 others3 a.open_as.is_open first));
           };
         }

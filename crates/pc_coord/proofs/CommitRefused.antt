@@ -5,13 +5,15 @@ use Rattle.std.proofs.lemmas.Bool.{and_from, ltb-false, ltb-true}
 use Rattle.std.proofs.lemmas.List.Elements.{All-push, All-weaker}
 use Rattle.pc_base.specs.Transaction.{same_txn}
 use Rattle.pc_coord.proofs.Beginning.{no_messages, none_left}
+use Rattle.pc_coord.proofs.CommitDecided.{counted-commit}
 use Rattle.pc_coord.proofs.Committing.{commit_sends}
 use Rattle.pc_coord.proofs.Ids.{no_stages, on_commits-more, views-as}
 use Rattle.pc_coord.proofs.Lists.{any_kept, any_last, any_last_of, at_least-kept, at_least-push, last-push}
 use Rattle.pc_coord.proofs.Replies.{still_open}
 use Rattle.pc_coord.proofs.Resting.{match_false, open_is}
 use Rattle.pc_coord.proofs.Same.{if_true, same_txn-self}
-use Rattle.pc_coord.proofs.Steps.{counted-heard, counted-told, heard, told, told_is}
+use Rattle.pc_coord.proofs.Settled.{settled_told}
+use Rattle.pc_coord.proofs.Steps.{counted-told, heard, told, told_is}
 use Rattle.pc_coord.proofs.Suiting.{suits_now}
 use Rattle.pc_coord.proofs.Writes.{all_proved-more}
 use Rattle.pc_coord.specs.Coordinating.{after_refused, refusals_with, with_heard}
@@ -63,7 +65,7 @@ module _ (c : Coordination) (k : Known) (number step ts refusals epoch recorded 
   latest = max c.clock (last_of (view_stamps view))
 
   counted3 : IsCounted c.session latest c.begun k3
-  counted3 = counted-heard c.session c.clock c.begun k counted h a.last.counted (record { write = a.plain.number; record_of = λ id about whose. let e : a.t.id ≡ id = cc in subst (λ id. id.number ≤ k.begun) e a.plain.number })
+  counted3 = counted-commit c k number step ts refusals view rising handed counted a
 
   abbrev others3 : List Txn
   others3 = map (txn_heard k.sent (Some h)) a.open_as.others
@@ -166,15 +168,10 @@ module _ (c : Coordination) (k : Known) (number step ts refusals epoch recorded 
       let answer = answers.Moved recorded in
       let t4 : Txn = record raised_txn { restart = None } in
       let k4 = told answer k3 in
-      let p = settled3.plain in
       let txn : option_map (raised recorded) c.txn ≡ Some (raised recorded a.x) = ap (option_map (raised recorded)) a.held in
       let open4 : IsOpenAs (raised recorded a.x) k4 t4 =
       record { others = others3; is_open = a.open_as.is_open; first = still_open k3 answer raised_txn others3 a.open_as.is_open first3; same = same3; unread = a.open_as.unread; unmixed = a.open_as.unmixed } in
-      let settled4 : IsSettled k4 t4 None = record {
-        plain = record { number = p.number; reads = p.reads; restart = refl; begun = p.begun; behind = p.behind; at_begin = p.at_begin; below = p.below; refused = refused; views = views-as raised_txn t4 k3.heard refl refl views3 };
-        proved = settled3.proved;
-        puts = a.puts;
-      } in
+      let settled4 : IsSettled k4 t4 None = settled_told answer raised_txn.reads k3 raised_txn None refl refl settled3.plain.reads settled3 in
       let held : IsHeld (Some (raised recorded a.x)) k4 = (t4, open4, subst (λ w. IsSettled k4 t4 w) (sym a.none_in_flight) settled4) in
       record {
         rising = rising;

@@ -5,8 +5,10 @@ use Rattle.pc_base.specs.Transaction.{same_txn}
 use Rattle.pc_coord.proofs.Beginning.{no_messages, none_left}
 use Rattle.pc_coord.proofs.Ids.{no_stages, on_commits-if, views-as}
 use Rattle.pc_coord.proofs.Lists.{any_of, any_true_kept, at_least-weaker}
-use Rattle.pc_coord.proofs.Resting.{asked_knows, closed_told, match_false, no_txn, open_is, rests, settled_asked}
+use Rattle.pc_coord.proofs.NoTxn.{told_no_txn}
+use Rattle.pc_coord.proofs.Resting.{asked_knows, closed_told, match_false, open_is, rests}
 use Rattle.pc_coord.proofs.Same.{if_true, same_txn-self}
+use Rattle.pc_coord.proofs.Settled.{settled_asked}
 use Rattle.pc_coord.proofs.Steps.{asked, counted-asked, counted-sent, sent, sent_is, told}
 use Rattle.pc_coord.proofs.Undecided.{undecided}
 use Rattle.pc_coord.specs.Coordinating.{after_commit_call, end_in}
@@ -111,7 +113,7 @@ module _ (c : Coordination) (k : Known) (t : Txn) (anchor : List ℕ) (refusals 
   again : Any (λ m. IsSameRequest request m.request) k.sent_now → MayGoAgain k request None
   again was =
       let f = any_of (IsRefusedNow k) (λ m. IsSameRequest request m.request) k.sent_now may.answered was in
-      inr (inr (by f.0 f.1 f.2))
+      inr (by f.0 f.1 f.2)
     where
       by : (m : Sent) → IsRefusedNow k m → IsSameRequest request m.request → WasRefusedNow k request
       by m refused (inl same) = record { commits = refl; refused = subst (λ r. Any (λ h. (h.request ≡ r) × IsTrue (is_unsettled_status h.reply)) k.heard_now) (sym same) refused.heard }
@@ -282,22 +284,7 @@ module _ (c : Coordination) (k : Known) (x : Transaction) (t : Txn) (reading : �
 
 commit_by : (c : Coordination) (k : Known) (reading : ℕ) (txn : Option Transaction) → AreRising c.splits → c.job ≡ None → Suits calls.Commit txn → IsCounted c.session c.clock c.begun k → IsHeld txn k
     → Knows (end_in txn c) (asked calls.Commit reading k)
-commit_by c k reading None rising handed suits counted closed =
-    let k2 = asked calls.Commit reading k in
-    record {
-      rising = rising;
-      handed = tt;
-      stands = record {
-        may = record {
-          may = no_txn c.splits c.session k2 (record { call = calls.Commit; reading = reading }) refl refl closed;
-          written = tt;
-          aborts = tt;
-          left = no_messages c.job handed;
-          suits = λ s is. tt;
-        };
-        after = closed_told c.session c.clock c.begun c.job k2 answers.NoTxn (counted-asked c.session c.clock c.begun k counted calls.Commit reading) closed refl refl (none_left c.job (told answers.NoTxn k2) handed);
-      };
-    }
+commit_by c k reading None rising handed suits counted closed = told_no_txn c k calls.Commit reading rising handed counted refl closed
 commit_by c k reading (Some x) rising handed suits counted (t, open_as, settled) = ends c k x t reading rising handed counted open_as settled suits x.anchor refl
 
 pub commit_asked : (c : Coordination) (k : Known) (p : Pair Event) (reading : ℕ) → Knows c k → IsAsked c calls.Commit reading k p → Knows (after_commit_call c) (learn p k)

@@ -26,7 +26,7 @@ use Rattle.pc_world.specs.RangeOf.{AreRising}
 come_at : (c : Coordination) (k : Known) → Knows c k → (due : Due) → c.due ≡ due → KnowsAt c k due → MayCome c k (next_of due)
 come_at c k knows dues.Nothing is h = h.none_open
 come_at c k knows dues.Stuck is h = absurd h
-come_at c k knows (dues.Send request wait) is h = h.may
+come_at c k knows (dues.Send request wait) is h = (h.may, λ number other waits said same. let none : false ≡ true = ap (waits_for number) (sym is) ∙ waits in absurd cc)
 come_at c k knows (dues.Hear number wait) is h = tt
 come_at c k knows (dues.Met number conflict conflicts again) is h = put_comes c k number conflict conflicts again h
 come_at c k knows (dues.Tell answer) is h = h.may

@@ -1,18 +1,18 @@
 -- A call that writes is given up: its write stays in flight.
-use Rattle.std.proofs.Common.{◌≡◌, ℕ, Bool, false, cond, List, [], ◌∷◌, Option, Some, None, IfSome, refl, sym, ap, ◌∙◌, subst, arith}
+use Rattle.std.proofs.Common.{◌≡◌, ℕ, Bool, false, cond, List, [], ◌∷◌, Option, Some, None, IfSome, refl, sym, ap, ◌∙◌, subst}
 use Rattle.pc_base.specs.declared.actor.ActorId.TheVariants as actors
 use Rattle.pc_base.specs.declared.transaction.TxnId.{TxnId}
-use Rattle.pc_coord.proofs.Puts.{pending-same}
+use Rattle.pc_coord.proofs.Replies.{still_open}
 use Rattle.pc_coord.proofs.Resting.{told_in}
+use Rattle.pc_coord.proofs.Settled.{settled_told}
 use Rattle.pc_coord.proofs.Steps.{counted-told, told, told_is}
 use Rattle.pc_coord.proofs.Suiting.{suits_now, writing_suits}
 use Rattle.pc_coord.specs.Coordination.{Coordination}
 use Rattle.pc_coord.specs.declared.due.Due.TheVariants as dues
-use Rattle.pc_coord.specs.declared.transaction.InFlight.{InFlight}
 use Rattle.pc_coord.specs.declared.transaction.Transaction.{Transaction}
 use Rattle.pc_coord.specs.Events.{Suits}
 use Rattle.pc_coord.specs.Knows.{Knows, KnowsAt, LeavesNothing, MayFinishJob, Rests, TellsNow, messages_left}
-use Rattle.pc_coord.specs.Knows.Held.{IsCounted, IsHeld, IsLaying, IsOpenAs, IsSettled}
+use Rattle.pc_coord.specs.Knows.Held.{IsCounted, IsHeld, IsOpenAs, IsSettled}
 use Rattle.pc_coord.specs.Knows.Sending.{learned}
 use Rattle.pc_coord.specs.Knows.Writing.{IsWriting, write_call}
 use Rattle.pc_coord.specs.Suiting.{SuitsNext}
@@ -72,21 +72,6 @@ pub write_within : (key : List ℕ) (value : Option (List ℕ)) (reading : ℕ) 
 write_within key None reading = refl
 write_within key (Some value) reading = refl
 
-laying-told : (t : Txn) (w : InFlight) → IsLaying t w → IsLaying (record t { restart = None }) w
-laying-told t w l = record {
-  anchor = l.anchor;
-  anchored = l.anchored;
-  older = l.older;
-  last = l.last;
-  writes = l.writes;
-  key = l.key;
-  value = l.value;
-  unproved = l.unproved;
-  next = l.next;
-  proved = l.proved;
-  locked = l.locked;
-}
-
 module _ (c : Coordination) (k : Known) (conflicts : ℕ) (again : Bool) (counted : IsCounted c.session c.clock c.begun k) (writing : IsWriting k c.txn conflicts again)
     (answer : Answer) (g : GivesUp answer) (rising : AreRising c.splits) (job : c.job ≡ None)
     (row : MayTellRow c.splits (actors.Session c.session) k (record { call = write_call writing.w.key writing.w.value; reading = writing.reading }) answer) where
@@ -103,38 +88,17 @@ module _ (c : Coordination) (k : Known) (conflicts : ℕ) (again : Bool) (counte
   k2 = told answer k
 
   settled : IsSettled k2 t2 (Some writing.w)
-  settled =
-      let p = writing.settled.plain in
-      let high = g.high k.high in
-      let begun = g.begun k.begun in
-      record {
-        plain = record {
-          number = omega (arith, p.number);
-          reads = p.reads;
-          restart = refl;
-          begun = p.begun;
-          behind = p.behind;
-          at_begin = p.at_begin;
-          below = omega (arith, p.below);
-          refused = p.refused;
-          views = pending-same t t2 k.heard refl refl p.views;
-        };
-        proved = laying-told t writing.w writing.settled.proved;
-        puts = writing.settled.puts;
-      }
+  settled = settled_told answer t.reads k t (Some writing.w) (g.high k.high) (g.begun k.begun) writing.settled.plain.reads writing.settled
 
   open_as : IsOpenAs writing.x k2 t2
   open_as =
       let o = writing.open_as in
-      let replied = replies_to k.sent_now k.heard_now in
       record {
         others = o.others;
         is_open = g.opens k.is_open ∙ o.is_open;
         first =
             g.txns k
-            ∙ ap (λ b. cond b (told_first answer replied k.txns) k.txns) o.is_open
-            ∙ ap (told_first answer replied) o.first
-            ∙ ap (λ t. t ∷ o.others) (g.txn replied t);
+            ∙ (still_open k answer t o.others o.is_open o.first ∙ ap (λ t. t ∷ o.others) (g.txn (replies_to k.sent_now k.heard_now) t));
         same = o.same;
         unread = o.unread;
         unmixed = o.unmixed;

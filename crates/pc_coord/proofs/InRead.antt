@@ -1,9 +1,10 @@
 -- A call that reads, and what becomes of its transaction once it is told.
-use Rattle.std.proofs.Common.{◌≡◌, ℕ, true, false, cond, List, [], ◌∷◌, map, None, Some, IfSome, refl, sym, ap, ◌∙◌, subst, arith, All}
+use Rattle.std.proofs.Common.{◌≡◌, ℕ, true, false, cond, List, [], ◌∷◌, map, None, Some, IfSome, refl, sym, ap, ◌∙◌, subst, All}
 use Rattle.std.specs.Option.{option_and_then}
-use Rattle.std.proofs.lemmas.List.Elements.{All-weaker}
 use Rattle.pc_base.specs.declared.actor.ActorId.TheVariants as actors
+use Rattle.pc_coord.proofs.Replies.{still_open}
 use Rattle.pc_coord.proofs.Resting.{told_in}
+use Rattle.pc_coord.proofs.Settled.{settled_told, with_reads}
 use Rattle.pc_coord.proofs.Suiting.{reader_of, suits_now}
 use Rattle.pc_coord.proofs.Steps.{counted-told, told, told_is}
 use Rattle.pc_coord.specs.Coordination.{Coordination, with_due}
@@ -11,7 +12,7 @@ use Rattle.pc_coord.specs.declared.due.Due.TheVariants as dues
 use Rattle.pc_coord.specs.declared.messages.Message.{Message}
 use Rattle.pc_coord.specs.declared.transaction.Transaction.{Transaction}
 use Rattle.pc_coord.specs.Knows.{Knows, MayFinishJob, Reads, Rests, messages_left}
-use Rattle.pc_coord.specs.Knows.Held.{IsCounted, IsHeld, IsOpenAs, IsPendingOf, IsSettled}
+use Rattle.pc_coord.specs.Knows.Held.{IsCounted, IsHeld, IsOpenAs, IsSettled}
 use Rattle.pc_coord.specs.Knows.Reading.{AreApart, AreDifferent, AreReadsOf, AwaitsReads, IsReadAt, Stands, holders_met}
 use Rattle.pc_coord.specs.Messages.{blocked_by, first_met}
 use Rattle.pc_coord.specs.Rounds.{IsPaced}
@@ -25,7 +26,7 @@ use Rattle.pc_world.specs.Known.{Known, told_first, txns_told}
 use Rattle.pc_world.specs.Known.Clock.{high_told}
 use Rattle.pc_world.specs.Known.Reads.{Read}
 use Rattle.pc_world.specs.Known.Statements.{Statement, begun_told, is_open_told}
-use Rattle.pc_world.specs.Known.Traffic.{Heard, replies_to}
+use Rattle.pc_world.specs.Known.Traffic.{replies_to}
 use Rattle.pc_world.specs.Known.Transactions.{Txn, txn_told}
 use Rattle.pc_world.specs.MayTell.{MayTellRow, is_past_range}
 use Rattle.pc_world.specs.RangeOf.{AreRising}
@@ -114,20 +115,6 @@ awaits c k messages p unblocked =
       };
     }
 
-still_open : (k : Known) (answer : Answer) (t : Txn) (others : List Txn) → k.is_open ≡ true → k.txns ≡ t ∷ others
-    → cond k.is_open (told_first answer (replies_to k.sent_now k.heard_now) k.txns) k.txns ≡ txn_told answer (replies_to k.sent_now k.heard_now) t ∷ others
-still_open k answer t others opened first =
-    ap (λ b. cond b (told_first answer (replies_to k.sent_now k.heard_now) k.txns) k.txns) opened
-    ∙ ap (told_first answer (replies_to k.sent_now k.heard_now)) first
-
--- The transaction with these reads.
-abbrev pub with_reads : List Read → Txn → Txn
-with_reads reads t = record t { reads = reads; restart = None }
-
-views_with : (reads : List Read) (t : Txn) (heard : List Heard) → All (IsPendingOf t) heard → All (IsPendingOf (with_reads reads t)) heard
-views_with reads t heard a =
-    All-weaker (IsPendingOf t) (IsPendingOf (with_reads reads t)) (λ h view about. record { anchored = (view about).anchored; pending = (view about).pending }) heard a
-
 -- The answer leaves the transaction open, with these reads.
 pub record LeavesOpen (k : Known) (s : Statement) (t : Txn) (answer : Answer) (reads : List Read) : Type 0 where
   pub more : txn_told answer (replies_to k.sent_now k.heard_now) t ≡ with_reads reads t
@@ -150,25 +137,6 @@ module _ (c : Coordination) (k : Known) (w : IsInRead c k) (answer : Answer) (re
   t2 = with_reads reads w.t
 
   module _ (l : LeavesOpen k s w.t answer reads) where
-    settled_told : IsSettled (told answer k) t2 None
-    settled_told =
-        let p = w.settled.plain in
-        record {
-          plain = record {
-            number = omega (arith, p.number, l.begun);
-            reads = l.at_read_ts;
-            restart = refl;
-            begun = p.begun;
-            behind = p.behind;
-            at_begin = p.at_begin;
-            below = omega (arith, p.below, l.high);
-            refused = p.refused;
-            views = views_with reads w.t k.heard p.views;
-          };
-          proved = w.settled.proved;
-          puts = w.settled.puts;
-        }
-
     held_told : IsHeld (Some w.x) (told answer k)
     held_told = (
       t2,
@@ -180,7 +148,7 @@ module _ (c : Coordination) (k : Known) (w : IsInRead c k) (answer : Answer) (re
         unread = λ none. let e : true ≡ false = sym w.reads ∙ none in absurd cc;
         unmixed = w.open_as.unmixed;
       },
-      subst (λ f. IsSettled (told answer k) t2 f) (sym w.none_in_flight) settled_told,
+      subst (λ f. IsSettled (told answer k) t2 f) (sym w.none_in_flight) (settled_told answer reads k w.t None l.high l.begun l.at_read_ts w.settled),
     )
 
     rests_told : Rests c.session c.clock c.begun c.txn c.job (told answer k)

@@ -5,8 +5,8 @@ use Rattle.std.specs.Option.{option_or}
 use Rattle.std.proofs.lemmas.List.{map-append}
 use Rattle.std.proofs.lemmas.List.Elements.{All-cons, All-nil, All-push, Contains-push}
 use Rattle.pc_base.specs.Transaction.{same_txn}
-use Rattle.pc_coord.proofs.Ids.{puts-one}
-use Rattle.pc_coord.proofs.Puts.{none_heard_next, own_put, pending-same, put_for, said_last, undecided}
+use Rattle.pc_coord.proofs.Ids.{puts-one, views-as}
+use Rattle.pc_coord.proofs.Puts.{none_heard_next, own_put, put_for, said_last, undecided}
 use Rattle.pc_coord.proofs.Same.{if_true, same_epoch-self, same_txn-self}
 use Rattle.pc_coord.proofs.Steps.{counted-sent, sent, sent_is}
 use Rattle.pc_coord.proofs.Writes.{asked-key, asked-last_seq, asked-next, asked-proofs, asked-proved, asked-value, last_seq-push, put-again}
@@ -156,7 +156,7 @@ module _ (c : Coordination) (k : Known) (conflicts : ℕ) (again : Bool) (counte
           at_begin = plain.at_begin;
           below = plain.below;
           refused = All-push (λ m. OnCommit t.id (IsRefused k.heard) m.request) k.sent m plain.refused tt;
-          views = pending-same t t2 k.heard refl refl plain.views;
+          views = views-as t t2 k.heard refl refl plain.views;
         }
 
     writing2 : IsWriting k2 c.txn conflicts again

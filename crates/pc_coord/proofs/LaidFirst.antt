@@ -10,7 +10,7 @@ use Rattle.pc_coord.proofs.Ids.{no_stages, puts-more, puts-one}
 use Rattle.pc_coord.proofs.Resting.{open_is}
 use Rattle.pc_coord.proofs.Same.{if_true, same_epoch-self, same_txn-self}
 use Rattle.pc_coord.proofs.Steps.{counted-sent, sent, sent_is}
-use Rattle.pc_coord.proofs.Writes.{last_seq-push, put-new, with_lock-again}
+use Rattle.pc_coord.proofs.Writes.{all_are_proved, last_seq-push, put-new, with_lock-again}
 use Rattle.pc_coord.specs.Coordination.{Coordination, put_due}
 use Rattle.pc_coord.specs.declared.due.Due.TheVariants as dues
 use Rattle.pc_coord.specs.declared.due.Wait.TheVariants as waits
@@ -36,7 +36,7 @@ use Rattle.pc_world.specs.SameRequest.{IsSameRequest}
 use Rattle.pc_world.specs.Send.Put.{AsksFor}
 use Rattle.pc_world.specs.StageFate.{IsDead, IsRefused, OnCommit}
 use Rattle.pc_world.specs.Views.{anchor_in, is_about}
-use Rattle.pc_coord.proofs.Puts.{all_are_proved, anchor-some, asks_for, no_put, none_heard_next, own_put, put_for, said_last, same_put, undecided}
+use Rattle.pc_coord.proofs.Puts.{anchor-some, asks_for, no_put, none_heard_next, own_put, put_for, said_last, same_put, undecided}
 
 abbrev pub new_write : ℕ → ℕ → List ℕ → Option (List ℕ) → Write
 new_write seq ts key value = record { key = key; seq = seq; value = value; asked = ts ∷ []; proofs = [] }
@@ -134,7 +134,7 @@ module _ (c : Coordination) (k : Known) (key : List ℕ) (value : Option (List �
           whose = refl;
           next = refl;
           at_write_ts = refl;
-          earlier = all_are_proved t.write_ts key t.writes (λ w. same_key w.key key) settled.proved;
+          earlier = all_are_proved t.write_ts (λ w. same_key w.key key) t.writes settled.proved;
           uncommitted = record { stages = no_stages t.id (IsDead k.heard) c.session k.begun (length k.sent) k.sent counted.sent; commits = plain.refused };
         });
         stamps = All-cons (λ ts. ts ≤ k.top + 1) t.write_ts [] (omega (arith, plain.below, counted.below)) (All-nil (λ ts. ts ≤ k.top + 1));

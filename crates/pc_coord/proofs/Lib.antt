@@ -9,6 +9,7 @@ pub mod CommitDecided
 pub mod CommitHeard
 pub mod CommitRefused
 pub mod Committing
+pub mod Different
 pub mod Ending
 pub mod Giving
 pub mod GivingUp
@@ -18,9 +19,9 @@ pub mod Ids
 pub mod InRead
 pub mod LaidAgain
 pub mod LaidFirst
-pub mod Latest
 pub mod Learned
 pub mod Lists
+pub mod NoTxn
 pub mod Pacing
 pub mod Places
 pub mod PutHeard
@@ -41,6 +42,7 @@ pub mod Resting
 pub mod RollingBack
 pub mod Rounds
 pub mod Same
+pub mod Settled
 pub mod Settling
 pub mod Standings
 pub mod Steps

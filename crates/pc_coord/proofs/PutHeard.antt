@@ -6,14 +6,16 @@ use Rattle.std.proofs.lemmas.List.Elements.{All-push}
 use Rattle.pc_base.specs.declared.actor.ActorId.TheVariants as actors
 use Rattle.pc_base.specs.Transaction.{same_txn}
 use Rattle.pc_coord.proofs.GivingUp.{write_within}
-use Rattle.pc_coord.proofs.Ids.{on_commits-more}
+use Rattle.pc_coord.proofs.Ids.{on_commits-more, views-as}
 use Rattle.pc_coord.proofs.LaidAgain.{last_is}
 use Rattle.pc_coord.proofs.LaidFirst.{first_knows}
-use Rattle.pc_coord.proofs.Puts.{asks_for, pending-same}
+use Rattle.pc_coord.proofs.Puts.{asks_for}
 use Rattle.pc_coord.proofs.Lists.{any_last}
 use Rattle.pc_coord.proofs.Pacing.{paced-heard}
+use Rattle.pc_coord.proofs.Replies.{still_open}
 use Rattle.pc_coord.proofs.Resting.{open_is, told_in}
 use Rattle.pc_coord.proofs.Same.{if_true, same_epoch-self, same_txn-self}
+use Rattle.pc_coord.proofs.Settled.{settled_told}
 use Rattle.pc_coord.proofs.Steps.{counted-told, heard, told, told_is}
 use Rattle.pc_coord.proofs.Writes.{all_proved, proved-last_seq}
 use Rattle.pc_coord.specs.Coordination.{Coordination, put_due}
@@ -31,9 +33,9 @@ use Rattle.pc_proto.specs.declared.answer.Answer.TheVariants as answers
 use Rattle.pc_proto.specs.declared.event.Event.TheVariants as events
 use Rattle.pc_proto.specs.declared.reply.Reply.TheVariants as replies
 use Rattle.pc_world.specs.Follows.PipelinedPuts.{IsHeardOf, IsToOwnPut, is_written}
-use Rattle.pc_world.specs.Known.{Known, open_txn, told_first}
+use Rattle.pc_world.specs.Known.{Known, open_txn}
 use Rattle.pc_world.specs.Known.Statements.{Statement}
-use Rattle.pc_world.specs.Known.Traffic.{Heard, Sent, replies_to}
+use Rattle.pc_world.specs.Known.Traffic.{Heard, Sent}
 use Rattle.pc_world.specs.Known.Transactions.{Txn, txn_heard}
 use Rattle.pc_world.specs.Known.Writes.{IsProvedBy, Write, last_seq_of, proved_at}
 use Rattle.pc_world.specs.MayTell.{MayTell}
@@ -106,7 +108,7 @@ module _ (k : Known) (txn : Option Transaction) (number step at conflicts : ℕ)
         at_begin = p.at_begin;
         below = omega (arith, p.below);
         refused = on_commits-more t.id k.heard h k.sent p.refused;
-        views = All-push (IsPendingOf t2) k.heard h (pending-same t t2 k.heard refl refl p.views) (λ about. absurd cc);
+        views = All-push (IsPendingOf t2) k.heard h (views-as t t2 k.heard refl refl p.views) (λ about. absurd cc);
       }
 
   settled : IsSettled k2 t2 None
@@ -187,32 +189,17 @@ module _ (k : Known) (txn : Option Transaction) (number step at conflicts : ℕ)
 
     held : IsHeld (Some (landed at x)) k3
     held =
-        let p = plain in
         let o = a.writing.open_as in (
           t3,
           record {
             others = others;
             is_open = o.is_open;
-            first = ap (λ b. cond b (told_first answers.Written (replies_to k2.sent_now k2.heard_now) k2.txns) k2.txns) o.is_open ∙ ap (told_first answers.Written (replies_to k2.sent_now k2.heard_now)) first;
+            first = still_open k2 answers.Written t2 others o.is_open first;
             same = landed-same;
             unread = o.unread;
             unmixed = o.unmixed;
           },
-          record {
-            plain = record {
-              number = p.number;
-              reads = p.reads;
-              restart = refl;
-              begun = p.begun;
-              behind = p.behind;
-              at_begin = p.at_begin;
-              below = p.below;
-              refused = p.refused;
-              views = pending-same t2 t3 k2.heard refl refl p.views;
-            };
-            proved = proved;
-            puts = settled.puts;
-          },
+          settled_told answers.Written t2.reads k2 t2 None refl refl plain.reads settled,
         )
 
     rests : c.txn ≡ Some (landed at x) → Rests c.session c.clock c.begun c.txn c.job (learned (events.Tell answers.Written) k2)

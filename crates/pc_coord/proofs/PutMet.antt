@@ -1,21 +1,20 @@
 -- A put met an intent.
 use Rattle.std.proofs.Common.{◌≡◌, ℕ, suc, ◌+◌, ◌<◌, ◌≤◌, max, nat_le, nat_lt, Bool, true, false, cond, ◌&&◌, ◌==◌, inl, inr, List, [], ◌∷◌, map, Option, Some, None, refl, sym, ap, ◌∙◌, subst, arith, IsTrue}
 use Rattle.std.proofs.lemmas.Bool.{leb-false, leb-true, lt-ltb}
-use Rattle.std.proofs.lemmas.List.Elements.{All-push}
 use Rattle.pc_base.specs.declared.actor.ActorId.TheVariants as actors
 use Rattle.pc_base.specs.Transaction.{same_txn}
 use Rattle.pc_coord.proofs.GivingUp.{blocked_gives, gives_up}
-use Rattle.pc_coord.proofs.Ids.{on_commits-more}
 use Rattle.pc_coord.proofs.Lists.{at_least-kept, at_least-push, last-push}
 use Rattle.pc_coord.proofs.Pacing.{paced-met}
 use Rattle.pc_coord.proofs.Same.{if_true, same_epoch-self, same_txn-self}
+use Rattle.pc_coord.proofs.Settled.{settled_heard}
 use Rattle.pc_coord.proofs.Steps.{heard}
 use Rattle.pc_coord.specs.Coordination.{Coordination}
 use Rattle.pc_coord.specs.declared.due.Due.TheVariants as dues
 use Rattle.pc_coord.specs.declared.transaction.InFlight.{InFlight}
 use Rattle.pc_coord.specs.declared.transaction.Transaction.{Transaction}
 use Rattle.pc_coord.specs.Knows.{Knows, KnowsAt, LeavesNothing, Meets}
-use Rattle.pc_coord.specs.Knows.Held.{IsCounted, IsOpenAs, IsPendingOf, IsSettled}
+use Rattle.pc_coord.specs.Knows.Held.{IsCounted, IsOpenAs, IsSettled}
 use Rattle.pc_coord.specs.Knows.Writing.{AwaitsPut, IsWriting, write_call}
 use Rattle.pc_coord.specs.Messages.{one_more}
 use Rattle.pc_coord.specs.Transaction.{put_of, transaction_of}
@@ -94,23 +93,7 @@ module _ (c : Coordination) (k : Known) (number step conflicts : ℕ) (again : B
       }
 
   settled : IsSettled k2 t (Some w)
-  settled =
-      let p = a.writing.settled.plain in
-      record {
-        plain = record {
-          number = p.number;
-          reads = p.reads;
-          restart = p.restart;
-          begun = p.begun;
-          behind = p.behind;
-          at_begin = p.at_begin;
-          below = omega (arith, p.below);
-          refused = on_commits-more t.id k.heard h k.sent p.refused;
-          views = All-push (IsPendingOf t) k.heard h p.views (λ about. absurd cc);
-        };
-        proved = a.writing.settled.proved;
-        puts = a.writing.settled.puts;
-      }
+  settled = settled_heard h k t (Some w) refl a.writing.settled
 
   writing : (n : ℕ) → n < 8 → AtLeast (IsConflictOf put) n k2.heard_now → IsWriting k2 c.txn n again
   writing n few met = record {

@@ -1,6 +1,6 @@
 -- The put of a write: what it says, and when it is one of those that were sent.
-use Rattle.std.proofs.Common.{◌≡◌, ◌≢◌, ℕ, ◌<◌, ◌≤◌, Bool, true, false, ◌&&◌, ◌||◌, ◌==◌, inl, inr, List, [], ◌∷◌, ◌++◌, length, Option, Some, None, refl, sym, ap, ◌∙◌, subst, arith, All, IsTrue, find, unwrap_or}
-use Rattle.std.specs.List.{Any, list_any}
+use Rattle.std.proofs.Common.{◌≡◌, ◌≢◌, ℕ, ◌<◌, ◌≤◌, Bool, true, false, ◌&&◌, ◌||◌, ◌==◌, inl, inr, List, [], ◌∷◌, ◌++◌, length, Option, Some, None, refl, sym, ap, ◌∙◌, subst, arith, All, find, unwrap_or}
+use Rattle.std.specs.List.{list_any}
 use Rattle.std.specs.Option.{option_map, option_or}
 use Rattle.std.proofs.lemmas.Bool.{and_from, eq-eqb}
 use Rattle.std.proofs.lemmas.List.Elements.{All-head, All-tail, All-weaker}
@@ -8,22 +8,20 @@ use Rattle.pc_base.specs.Transaction.{same_txn}
 use Rattle.pc_coord.proofs.Lists.{find-last}
 use Rattle.pc_coord.proofs.Same.{same_txn-self}
 use Rattle.pc_coord.proofs.Steps.{sent}
-use Rattle.pc_coord.specs.Knows.Held.{IsOwnHeard, IsOwnSent, IsPendingOf, PutsUpTo}
-use Rattle.pc_coord.specs.Knows.Sending.{IsFor}
+use Rattle.pc_coord.specs.Knows.Held.{IsOwnHeard, IsOwnSent, PutsUpTo}
 use Rattle.pc_coord.specs.Knows.Writing.{write_call}
 use Rattle.pc_proto.specs.declared.call.Call.TheVariants as calls
 use Rattle.pc_proto.specs.declared.meta.TxnMeta.{TxnMeta}
 use Rattle.pc_proto.specs.declared.request.Request.{Request}
 use Rattle.pc_proto.specs.declared.request.Request.TheVariants as requests
+use Rattle.pc_world.specs.Follows.CallMessages.{IsFor}
 use Rattle.pc_world.specs.Follows.EarlyTell.{IsDecided}
 use Rattle.pc_world.specs.Known.{Known, call_in, next_number}
-use Rattle.pc_world.specs.Known.Traffic.{Heard, Sent}
+use Rattle.pc_world.specs.Known.Traffic.{Sent}
 use Rattle.pc_world.specs.Known.Transactions.{Txn}
-use Rattle.pc_world.specs.Known.Writes.{IsProvedBy, Write, is_proved}
 use Rattle.pc_world.specs.SameRequest.{IsSameRequest}
 use Rattle.pc_world.specs.Send.Put.{AsksFor}
 use Rattle.pc_world.specs.Send.Recovery.{is_put_of}
-use Rattle.pc_world.specs.Views.{is_about}
 
 pub anchor-some : (anchor : Option (List ℕ)) (key : List ℕ) → option_or anchor (Some key) ≡ Some (unwrap_or anchor key)
 anchor-some None key = refl
@@ -69,21 +67,6 @@ no_put t low seq (m ∷ sent) h a =
     by : (b : Bool) → is_put_of t.id t.epoch seq m.request ≡ b → b ≡ false
     by true e = let l : seq ≤ low = All-head (PutsUpTo t low) m sent a seq e in absurd (omega arith)
     by false e = refl
-
-proofs-some : (ts : ℕ) (proofs : List ℕ) → Any (λ n. n ≤ ts) proofs → list_any (λ n. true) proofs ≡ true
-proofs-some ts [] (k, x, there, is, small) = absurd (omega arith)
-proofs-some ts (n ∷ proofs) h = refl
-
--- a write that is proved at a timestamp is proved
-pub all_are_proved : (ts : ℕ) (key : List ℕ) (writes : List Write) (same : Write → Bool) → All (IsProvedBy ts) writes → All (λ w. IsTrue (same w) → IsTrue (is_proved w)) writes
-all_are_proved ts key writes same a =
-    All-weaker (IsProvedBy ts) (λ w. IsTrue (same w) → IsTrue (is_proved w)) (λ w p other. proofs-some ts w.proofs p) writes a
-
--- what was heard of its record stands where its anchor does
-pub pending-same : (t new : Txn) (heard : List Heard) → new.id ≡ t.id → new.anchor ≡ t.anchor → All (IsPendingOf t) heard → All (IsPendingOf new) heard
-pending-same t new heard id anchor a =
-    All-weaker (IsPendingOf t) (IsPendingOf new)
-    (λ h pending about. let v = pending (ap (λ id. is_about id h.request) (sym id) ∙ about) in record { anchored = v.anchored ∙ sym anchor; pending = v.pending }) heard a
 
 -- a message that goes out now has a number that nothing was heard to
 pub none_heard_next : (session begun : ℕ) (k : Known) → All (IsOwnHeard session begun (length k.sent)) k.heard → All (λ h. h.number ≢ next_number k) k.heard

@@ -1,23 +1,24 @@
 -- A call puts a write.
-use Rattle.std.proofs.Common.{◌≡◌, ℕ, true, false, List, Option, Some, None, IfSome, refl, sym, ap, ◌∙◌, subst, arith}
+use Rattle.std.proofs.Common.{◌≡◌, ℕ, true, false, List, Option, Some, None, refl, sym, ap, ◌∙◌, subst, arith}
 use Rattle.std.proofs.lemmas.List.{append-nil}
 use Rattle.pc_coord.proofs.LaidAgain.{again_knows}
 use Rattle.pc_coord.proofs.LaidFirst.{first_knows}
+use Rattle.pc_coord.proofs.NoTxn.{told_no_txn}
 use Rattle.pc_coord.proofs.Pacing.{paced-nothing}
-use Rattle.pc_coord.proofs.Resting.{asked_knows, closed_told, no_txn, rests, settled_asked}
-use Rattle.pc_coord.proofs.Steps.{asked, counted-asked, told}
+use Rattle.pc_coord.proofs.Resting.{asked_knows, rests}
+use Rattle.pc_coord.proofs.Settled.{settled_asked}
+use Rattle.pc_coord.proofs.Steps.{asked, counted-asked}
 use Rattle.pc_coord.specs.Coordinating.{after_put, put_in}
 use Rattle.pc_coord.specs.Coordination.{Coordination, put_due}
 use Rattle.pc_coord.specs.declared.transaction.InFlight.{InFlight}
 use Rattle.pc_coord.specs.declared.transaction.Transaction.{Transaction}
 use Rattle.pc_coord.specs.Events.{IsAsked, IsSameWrite, MayWrite, Suits}
-use Rattle.pc_coord.specs.Knows.{Knows, MayFinishJob, messages_left}
+use Rattle.pc_coord.specs.Knows.{Knows}
 use Rattle.pc_coord.specs.Knows.Held.{IsCounted, IsHeld, IsOpenAs, IsSettled}
 use Rattle.pc_coord.specs.Knows.Writing.{IsWriting, write_call}
 use Rattle.pc_coord.specs.Transaction.{transaction_of, with_write}
 use Rattle.pc_coord.specs.Turning.{write_due, write_txn}
 use Rattle.pc_history.specs.declared.pair.Pair.{Pair}
-use Rattle.pc_proto.specs.declared.answer.Answer.TheVariants as answers
 use Rattle.pc_proto.specs.declared.event.Event.{Event}
 use Rattle.pc_world.specs.Known.{Known, learn}
 use Rattle.pc_world.specs.Known.Transactions.{Txn}
@@ -38,22 +39,6 @@ module _ (c : Coordination) (k : Known) (key : List ℕ) (value : Option (List �
 
   counted2 : IsCounted c.session c.clock c.begun k2
   counted2 = counted-asked c.session c.clock c.begun k counted (write_call key value) reading
-
-  closed : k.is_open ≡ false → Knows (put_in key value None c) k2
-  closed none = record {
-    rising = rising;
-    handed = tt;
-    stands = record {
-      may = record {
-        may = no_txn c.splits c.session k2 (record { call = write_call key value; reading = reading }) refl (needs key value) none;
-        written = tt;
-        aborts = tt;
-        left = ap messages_left job;
-        suits = λ s is. tt;
-      };
-      after = closed_told c.session c.clock c.begun c.job k2 answers.NoTxn counted2 none refl refl (subst (λ j. IfSome j (MayFinishJob (told answers.NoTxn k2))) (sym job) tt);
-    };
-  }
 
   -- with no write in flight the call's own is laid
   lays : (t : Txn) → IsOpenAs (transaction_of false None t) k t → IsSettled k t None
@@ -99,7 +84,7 @@ module _ (c : Coordination) (k : Known) (key : List ℕ) (value : Option (List �
   put_flight x (Some w) t flight open_as settled unread same = lays_again x w t flight unread open_as settled same
 
   put_by : (txn : Option Transaction) → IsHeld txn k → Suits (write_call key value) txn → Knows (put_in key value txn c) k2
-  put_by None none suits = closed none
+  put_by None none suits = told_no_txn c k (write_call key value) reading rising job counted (needs key value) none
   put_by (Some x) (t, open_as, settled) suits =
       let may = may_write key value x suits in
       put_flight x x.in_flight t refl open_as settled may.unread may.same

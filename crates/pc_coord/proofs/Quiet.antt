@@ -29,20 +29,18 @@ quiet_get id epoch seq ts key = record {
   no_put = λ id epoch seq. refl;
 }
 
-quiet_any : (r : Request) → IsRead r → IsQuiet r
-quiet_any (requests.Get id epoch seq ts key) is = quiet_get id epoch seq ts key
-quiet_any (requests.Scan id epoch seq ts span) is = record {
+-- a read is one
+pub quiet_read : (r : Request) → IsRead r → IsQuiet r
+quiet_read (requests.Get id epoch seq ts key) is = quiet_get id epoch seq ts key
+quiet_read (requests.Scan id epoch seq ts span) is = record {
   sent = λ t. refl;
   heard = λ t sent number step reply. ap (λ n. record t { write_ts = n }) (max-zero t.write_ts);
   own = λ session begun. record { write = tt; record_of = λ id about whose. absurd cc };
   no_put = λ id epoch seq. refl;
 }
-quiet_any r is = absurd is
+quiet_read r is = absurd is
 
 pub read_no_commit : (r : Request) → IsRead r → (id : TxnId) (P : Commit → Type 0) → OnCommit id P r
 read_no_commit (requests.Get id epoch seq ts key) is other P = tt
 read_no_commit (requests.Scan id epoch seq ts span) is other P = tt
 read_no_commit r is other P = absurd is
-
-pub quiet_read : (r : Request) → IsRead r → IsQuiet r
-quiet_read r is = quiet_any r is

@@ -1,41 +1,38 @@
 -- A call reads.
-use Rattle.std.proofs.Common.{◌≡◌, ℕ, true, false, inl, List, [], ◌∷◌, map, Option, None, Some, IfSome, refl, sym, ap, ◌∙◌, subst, arith, All, count_by}
+use Rattle.std.proofs.Common.{◌≡◌, ℕ, inl, List, [], ◌∷◌, map, Option, None, Some, refl, sym, ap, ◌∙◌, subst, All}
 use Rattle.std.proofs.lemmas.List.Elements.{All-cons, All-nil}
 use Rattle.pc_base.specs.declared.span.Span.{Span}
 use Rattle.pc_base.specs.declared.transaction.TxnId.{TxnId}
 use Rattle.pc_coord.proofs.InRead.{Proceeds}
+use Rattle.pc_coord.proofs.NoTxn.{told_no_txn}
+use Rattle.pc_coord.proofs.Pacing.{paced-nothing}
 use Rattle.pc_coord.proofs.ReadsOf.{reads_differ, scans_are}
 use Rattle.pc_coord.proofs.ReadsTold.{reads_on}
-use Rattle.pc_coord.proofs.Resting.{asked_knows, closed_told, no_txn, rests, settled_asked}
-use Rattle.pc_coord.proofs.Steps.{asked, counted-asked, told}
+use Rattle.pc_coord.proofs.Resting.{asked_knows, rests}
+use Rattle.pc_coord.proofs.Settled.{settled_asked}
+use Rattle.pc_coord.proofs.Standings.{IsOtherSent}
+use Rattle.pc_coord.proofs.Steps.{asked, counted-asked}
 use Rattle.pc_coord.specs.Coordinating.{after_get, after_scan, get_in, scan_in}
 use Rattle.pc_coord.specs.Coordination.{Coordination}
-use Rattle.pc_coord.specs.declared.due.Due.TheVariants as dues
 use Rattle.pc_coord.specs.declared.messages.Message.{Message}
 use Rattle.pc_coord.specs.declared.transaction.InFlight.{InFlight}
 use Rattle.pc_coord.specs.declared.transaction.Transaction.{Transaction}
 use Rattle.pc_coord.specs.Events.{IsAsked, Suits}
-use Rattle.pc_coord.specs.Knows.{Knows, MayFinishJob, messages_left}
+use Rattle.pc_coord.specs.Knows.{Knows}
 use Rattle.pc_coord.specs.Knows.Held.{IsCounted, IsHeld, IsOpenAs, IsSettled}
-use Rattle.pc_coord.specs.Knows.Reading.{AreApart, AreReadsOf, IsApart, IsReadAt, Stands, holders_met}
+use Rattle.pc_coord.specs.Knows.Reading.{AreApart, AreReadsOf, IsApart, IsReadAt, IsUnsentNow, Stands, holders_met}
 use Rattle.pc_coord.specs.Messages.{due_of_reads, unsent}
 use Rattle.pc_coord.specs.Reading.{messages_of, reading, spans_in}
-use Rattle.pc_coord.specs.Rounds.{IsPaced, was_pushed, was_settled}
+use Rattle.pc_coord.specs.Rounds.{IsPaced}
 use Rattle.pc_coord.specs.Transaction.{get_of, scan_of}
 use Rattle.pc_history.specs.declared.pair.Pair.{Pair}
-use Rattle.pc_proto.specs.declared.answer.Answer.TheVariants as answers
 use Rattle.pc_proto.specs.declared.call.Call.{Call}
 use Rattle.pc_proto.specs.declared.call.Call.TheVariants as calls
 use Rattle.pc_proto.specs.declared.event.Event.{Event}
 use Rattle.pc_proto.specs.declared.request.Request.{Request}
-use Rattle.pc_world.specs.Follows.FinishingJobs.{left_by}
-use Rattle.pc_world.specs.Follows.Resends.{IsUnheardNow}
 use Rattle.pc_world.specs.Known.{Known, learn}
-use Rattle.pc_world.specs.Known.Traffic.{Heard}
 use Rattle.pc_world.specs.Known.Transactions.{Txn}
-use Rattle.pc_world.specs.MayTell.{needs_txn}
 use Rattle.pc_world.specs.RangeOf.{AreRising}
-use Rattle.pc_world.specs.SameRequest.{IsSameRequest}
 
 -- a transaction that wrote nothing has no write in flight
 none_flies : (k : Known) (t : Txn) (in_flight : Option InFlight) → t.anchor ≡ None → IsSettled k t in_flight → in_flight ≡ None
@@ -44,19 +41,16 @@ none_flies k t (Some w) unwritten settled = let e : None ≡ Some settled.proved
 
 -- where nothing was heard and no holder is to be pushed, no push is made
 paced_new : (k : Known) (holders : List TxnId) → holders ≡ [] → k.heard_now ≡ [] → IsPaced holders k
-paced_new k holders none unheard = subst (λ hs. IsPaced hs k) (sym none) (record {
-  pushes = λ id. let a : count_by (was_pushed id) k.heard_now ≡ 0 = ap (count_by (was_pushed id)) unheard in omega (arith, a);
-  resolves = λ id. let a : count_by (was_settled id) k.heard_now ≡ 0 = ap (count_by (was_settled id)) unheard in omega (arith, a);
-})
+paced_new k holders none unheard = subst (λ hs. IsPaced hs k) (sym none) (paced-nothing k unheard)
 
-unsent_stands : (k : Known) (t : Txn) (r : Request) → k.heard_now ≡ [] → Stands k t (unsent r)
-unsent_stands k t r unheard =
-    let new : IsUnheardNow k r = subst (λ hs. All (λ h. IsSameRequest r h.request → ⊥) hs) (sym unheard) (All-nil (λ (h : Heard). IsSameRequest r h.request → ⊥)) in
+unsent_stands : (k : Known) (t : Txn) (r : Request) → k.sent_now ≡ [] → Stands k t (unsent r)
+unsent_stands k t r none =
+    let new : IsUnsentNow k r = subst (λ ms. All (IsOtherSent r) ms) (sym none) (All-nil (IsOtherSent r)) in
     record { as_far = inl new; met = tt }
 
-all_unsent : (k : Known) (t : Txn) (x : Transaction) (spans : List Span) → k.heard_now ≡ [] → All (Stands k t) (messages_of x spans)
-all_unsent k t x [] unheard = All-nil (Stands k t)
-all_unsent k t x (s ∷ spans) unheard = All-cons (Stands k t) (unsent (scan_of x s)) (messages_of x spans) (unsent_stands k t (scan_of x s) unheard) (all_unsent k t x spans unheard)
+all_unsent : (k : Known) (t : Txn) (x : Transaction) (spans : List Span) → k.sent_now ≡ [] → All (Stands k t) (messages_of x spans)
+all_unsent k t x [] none = All-nil (Stands k t)
+all_unsent k t x (s ∷ spans) none = All-cons (Stands k t) (unsent (scan_of x s)) (messages_of x spans) (unsent_stands k t (scan_of x s) none) (all_unsent k t x spans none)
 
 unsent_from : (m : Message) (x : Transaction) (spans : List Span) → All (IsApart m) (messages_of x spans)
 unsent_from m x [] = All-nil (IsApart m)
@@ -110,30 +104,9 @@ module _ (c : Coordination) (k : Known) (call : Call) (at : ℕ) (rising : AreRi
       } in
       reads_on (record c { txn = Some (reading x) }) (asked call at k) messages p
 
-  -- there is no transaction
-  none_reads : needs_txn call ≡ true → k.is_open ≡ false → Knows (record c { txn = None; due = dues.Tell answers.NoTxn }) (asked call at k)
-  none_reads needs closed =
-      let k2 = asked call at k in
-      record {
-        rising = rising;
-        handed = tt;
-        stands = record {
-          may = record {
-            may = no_txn c.splits c.session k2 (record { call = call; reading = at }) refl needs closed;
-            written = tt;
-            aborts = tt;
-            left = subst (λ job. messages_left job ≡ left_by answers.NoTxn k2) (sym none_left) refl;
-            suits = λ s is. tt;
-          };
-          after =
-              closed_told c.session c.clock c.begun c.job k2 answers.NoTxn (counted-asked c.session c.clock c.begun k counted call at) closed refl refl
-              (subst (λ job. IfSome job (MayFinishJob (told answers.NoTxn k2))) (sym none_left) tt);
-        };
-      }
-
 get_by : (c : Coordination) (k : Known) (key : List ℕ) (at : ℕ) (txn : Option Transaction) → AreRising c.splits → c.job ≡ None → IsCounted c.session c.clock c.begun k → IsHeld txn k → Suits (calls.Get key) txn
     → Knows (get_in key txn c) (asked (calls.Get key) at k)
-get_by c k key at None rising none_left counted closed suits = none_reads c k (calls.Get key) at rising none_left counted refl closed
+get_by c k key at None rising none_left counted closed suits = told_no_txn c k (calls.Get key) at rising none_left counted refl closed
 get_by c k key at (Some x) rising none_left counted (t, open_as, settled) suits =
     let m : Message = unsent (get_of (reading x) key) in
     let k2 = asked (calls.Get key) at k in
@@ -142,7 +115,7 @@ get_by c k key at (Some x) rising none_left counted (t, open_as, settled) suits 
 
 scan_by : (c : Coordination) (k : Known) (span : Span) (at : ℕ) (txn : Option Transaction) → AreRising c.splits → c.job ≡ None → IsCounted c.session c.clock c.begun k → IsHeld txn k → Suits (calls.Scan span) txn
     → Knows (scan_in span txn c) (asked (calls.Scan span) at k)
-scan_by c k span at None rising none_left counted closed suits = none_reads c k (calls.Scan span) at rising none_left counted refl closed
+scan_by c k span at None rising none_left counted closed suits = told_no_txn c k (calls.Scan span) at rising none_left counted refl closed
 scan_by c k span at (Some x) rising none_left counted (t, open_as, settled) suits =
     let spans = spans_in c.splits span in
     asked_reads c k (calls.Scan span) at rising none_left counted x t (messages_of (reading x) spans) open_as settled suits (scans_are c.splits (reading x) span)

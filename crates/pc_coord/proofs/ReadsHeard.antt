@@ -9,7 +9,6 @@ use Rattle.pc_base.specs.Transaction.{same_txn}
 use Rattle.pc_coord.proofs.Apart.{idle_apart}
 use Rattle.pc_coord.proofs.Changes.{found_all, found_some, kept_by}
 use Rattle.pc_coord.proofs.Holders.{AreTwo, all_held, all_two, all_with, changed_other, found_passes, held, held-changed, held-heard}
-use Rattle.pc_coord.proofs.Ids.{on_commits-more}
 use Rattle.pc_coord.proofs.InRead.{IsInRead, Proceeds}
 use Rattle.pc_coord.proofs.Learned.{learn_heard}
 use Rattle.pc_coord.proofs.Lists.{any_last}
@@ -18,7 +17,8 @@ use Rattle.pc_coord.proofs.ReadsNext.{read_ts-same, reads_all, reads_of}
 use Rattle.pc_coord.proofs.ReadsOf.{IsPlainRead, IsReadOfCall, plain_read, same_read}
 use Rattle.pc_coord.proofs.ReadsTold.{reads_on}
 use Rattle.pc_coord.proofs.Rounds.{count-append, count-cons, one_if}
-use Rattle.pc_coord.proofs.Standings.{IsOther, at_least-one_more, conflicts-kept, stands-kept}
+use Rattle.pc_coord.proofs.Settled.{settled_heard}
+use Rattle.pc_coord.proofs.Standings.{IsOther, IsOtherSent, at_least-one_more, conflicts-kept, stands-kept}
 use Rattle.pc_coord.proofs.Steps.{counted-heard, heard, heard_is}
 use Rattle.pc_coord.proofs.Waits.{heard_waits, waits_as}
 use Rattle.pc_coord.specs.Coordinating.{with_heard}
@@ -28,7 +28,7 @@ use Rattle.pc_coord.specs.declared.messages.Message.{Message}
 use Rattle.pc_coord.specs.declared.messages.Progress.TheVariants as progresses
 use Rattle.pc_coord.specs.Events.{IsHeard}
 use Rattle.pc_coord.specs.Knows.{Knows}
-use Rattle.pc_coord.specs.Knows.Held.{IsOpenAs, IsPendingOf, IsSettled}
+use Rattle.pc_coord.specs.Knows.Held.{IsOpenAs}
 use Rattle.pc_coord.specs.Knows.Reading.{AreDifferent, AreReadsOf, IsReadAt, IsUnheard, Stands, StandsAs, WasReplied, holders_met}
 use Rattle.pc_coord.specs.Messages.{change_first, due_of_reads, heard_as, met_or_heard, progress_waits, waits_at}
 use Rattle.pc_coord.specs.Rounds.{IsPaced, was_met, was_pushed, was_settled}
@@ -43,7 +43,6 @@ use Rattle.pc_world.specs.Known.Transactions.{txn_heard}
 use Rattle.pc_world.specs.SameRequest.{IsSameRequest}
 use Rattle.pc_world.specs.Send.Recovery.{is_conflict}
 use Rattle.pc_world.specs.Tell.Refusal.{IsConflictOf}
-use Rattle.pc_world.specs.Views.{is_about}
 
 heard_request : (number : ℕ) (reply : Reply) (m : Message) → (heard_as number reply m).request ≡ m.request
 heard_request number reply m = elim (is_conflict reply) as (λ b. (met_or_heard b number reply m).request ≡ m.request) [ true ↦ refl | false ↦ refl ]
@@ -107,7 +106,7 @@ module _ (c : Coordination) (k : Known) (ms : List Message) (p : Proceeds c k ms
         }
 
     other_stands : (y : Message) → Stands k w.t y → (IsSameRequest y.request m.request → ⊥) → (IsTrue (waits_at number y) → ⊥) → Stands kh w.t y
-    other_stands y s other idle = stands-kept k kh [] (h ∷ []) (sym (append-nil k.sent_now)) refl w.t y (All-cons (IsOther y.request) h [] other (All-nil (IsOther y.request))) waits_on s
+    other_stands y s other idle = stands-kept k kh [] (h ∷ []) (sym (append-nil k.sent_now)) refl w.t y (All-nil (IsOtherSent y.request)) (All-cons (IsOther y.request) h [] other (All-nil (IsOther y.request))) waits_on s
       where
         waits_on : (n : ℕ) → y.progress ≡ progresses.Sent n → IsUnheard k n y.request → IsUnheard kh n y.request
         waits_on n e u =
@@ -139,25 +138,6 @@ module _ (c : Coordination) (k : Known) (ms : List Message) (p : Proceeds c k ms
       unread = w.open_as.unread;
       unmixed = w.open_as.unmixed;
     }
-
-    settled_heard : IsSettled kh w.t None
-    settled_heard =
-        let p = w.settled.plain in
-        record {
-          plain = record {
-            number = p.number;
-            reads = p.reads;
-            restart = p.restart;
-            begun = p.begun;
-            behind = p.behind;
-            at_begin = p.at_begin;
-            below = omega (arith, p.below);
-            refused = on_commits-more w.t.id k.heard h k.sent p.refused;
-            views = All-push (IsPendingOf w.t) k.heard h p.views (λ about. let none : is_about w.t.id m.request ≡ false = plain.no_record w.t.id in absurd cc);
-          };
-          proved = w.settled.proved;
-          puts = w.settled.puts;
-        }
 
     counted_now : (test : Heard → Bool) → count_by test kh.heard_now ≡ count_by test k.heard_now + one_if (test h)
     counted_now test = omega (arith, count-append test k.heard_now (h ∷ []), count-cons test h [])
@@ -195,7 +175,7 @@ module _ (c : Coordination) (k : Known) (ms : List Message) (p : Proceeds c k ms
         t = w.t;
         open_as = open_heard;
         reads = w.reads;
-        settled = settled_heard;
+        settled = settled_heard h k w.t None (plain.no_record w.t.id) w.settled;
         none_in_flight = w.none_in_flight;
         call = w.call;
         reading = w.reading;
@@ -211,10 +191,6 @@ module _ (c : Coordination) (k : Known) (ms : List Message) (p : Proceeds c k ms
 
     read_knows : Knows (with_due (due_of_reads answered) (with_heard reply c)) kh
     read_knows = reads_on (with_heard reply c) kh answered proceeds_heard
-
--- the message that is waited for under a number was sent and not heard
-pub waiting_stands : (c : Coordination) (k : Known) (ms : List Message) → Knows c k → c.due ≡ dues.Read ms → (number : ℕ) (m : Message) → find (waits_at number) ms ≡ Some m → IsUnheard k number m.request
-waiting_stands c k ms knows due number m found = unheard_m c k ms (reads_of c k ms knows due) number m found
 
 -- after a message was heard
 pub reads_heard : (c : Coordination) (k : Known) (p : Pair Event) (number step : ℕ) (reply : Reply) (ms : List Message) → Knows c k → c.due ≡ dues.Read ms → IsHeard c number step reply k p

@@ -1,39 +1,38 @@
 -- What comes next of a call that reads is allowed, and its next message is sent.
-use Rattle.std.proofs.Common.{◌≡◌, ℕ, ◌+◌, ◌≤◌, Bool, true, inl, inr, List, [], map, find, Option, None, Some, IfSome, refl, sym, ap, ◌∙◌, subst, arith, All, Contains}
-use Rattle.std.proofs.lemmas.List.Elements.{All-cons, All-nil}
+use Rattle.std.proofs.Common.{◌≡◌, ℕ, ◌+◌, ◌≤◌, Bool, true, inl, inr, List, [], map, find, Option, None, Some, IfSome, refl, sym, ap, ◌∙◌, subst, arith, All, Any, Contains}
+use Rattle.std.proofs.lemmas.List.Elements.{All-cons, All-contains, All-nil}
 use Rattle.pc_base.specs.declared.transaction.TxnId.{TxnId}
 use Rattle.pc_base.specs.Transaction.{same_txn}
-use Rattle.pc_coord.proofs.Changes.{found_all}
+use Rattle.pc_coord.proofs.Changes.{found_all, found_some}
+use Rattle.pc_coord.proofs.Different.{differ-found}
 use Rattle.pc_coord.proofs.Holders.{first_found, found_passes, held, held-found, held-met}
 use Rattle.pc_coord.proofs.InRead.{IsInRead, Proceeds, proceeds}
-use Rattle.pc_coord.proofs.ReadsOf.{IsReadOfCall, all_reads, all_unmap, reads_no_commit}
+use Rattle.pc_coord.proofs.ReadsOf.{IsReadOfCall, all_reads, all_unmap, reads_no_commit, same_read}
 use Rattle.pc_coord.proofs.Resting.{open_is}
 use Rattle.pc_coord.proofs.Rounds.{one_if}
 use Rattle.pc_coord.proofs.Same.{same_txn-self}
-use Rattle.pc_coord.proofs.Standings.{contains-in}
-use Rattle.pc_coord.specs.Coordination.{Coordination}
+use Rattle.pc_coord.proofs.Standings.{IsOtherSent, contains-in}
+use Rattle.pc_coord.proofs.Waits.{unsent_idle, waits_as}
+use Rattle.pc_coord.specs.Coordination.{Coordination, waits_for}
 use Rattle.pc_coord.specs.declared.due.Due.TheVariants as dues
 use Rattle.pc_coord.specs.declared.messages.Message.{Message}
 use Rattle.pc_coord.specs.declared.messages.Progress.{Progress}
 use Rattle.pc_coord.specs.declared.messages.Progress.TheVariants as progresses
 use Rattle.pc_coord.specs.Knows.{Knows, KnowsAt, LeavesNothing, MayCome}
-use Rattle.pc_coord.specs.Knows.Reading.{AreApart, HasMet, Stands, StandsAs}
-use Rattle.pc_coord.specs.Knows.Sending.{IsConflictNow, IsSendable}
-use Rattle.pc_coord.specs.Messages.{first_met, holder_in, holder_met, is_met, is_unsent, next_by, next_in, next_of_met, progress_unsent, read_at}
+use Rattle.pc_coord.specs.Knows.Reading.{HasMet, IsUnheard, Stands, StandsAs}
+use Rattle.pc_coord.specs.Knows.Sending.{AwaitsNone, IsConflictNow, IsSendable}
+use Rattle.pc_coord.specs.Messages.{first_met, holder_in, holder_met, is_met, is_unsent, next_by, next_in, next_of_met, progress_unsent, read_at, waits_at}
 use Rattle.pc_proto.specs.declared.call.Call.TheVariants as calls
 use Rattle.pc_proto.specs.declared.reply.Reply.{Reply}
 use Rattle.pc_proto.specs.declared.request.Request.{Request}
 use Rattle.pc_world.specs.Follows.Resends.{MayGoAgain}
 use Rattle.pc_world.specs.Known.{Known, call_in}
+use Rattle.pc_world.specs.SameRequest.{IsSameRequest}
 
 -- what a coordinator whose messages are due knows
 pub reads_of : (c : Coordination) (k : Known) (ms : List Message) → Knows c k → c.due ≡ dues.Read ms → Proceeds c k ms
 reads_of c k ms knows due =
     proceeds c k ms knows.rising (subst (λ d. LeavesNothing c.job d) due knows.handed) (subst (λ d. KnowsAt c k d) due knows.stands)
-
--- no two of its messages wait under one number
-pub reads_apart : (c : Coordination) (k : Known) (ms : List Message) → Knows c k → c.due ≡ dues.Read ms → AreApart ms
-reads_apart c k ms knows due = (reads_of c k ms knows due).apart
 
 module _ (c : Coordination) (k : Known) (ms : List Message) (p : Proceeds c k ms) where
   abbrev w : IsInRead c k
@@ -48,9 +47,9 @@ module _ (c : Coordination) (k : Known) (ms : List Message) (p : Proceeds c k ms
   read_ts-low : w.x.read_ts ≤ k.top
   read_ts-low = omega (arith, read_ts-same, w.settled.plain.behind, w.settled.plain.below, w.counted.below)
 
-  go_again : (request : Request) → StandsAs k w.t request progresses.Unsent → MayGoAgain k request None
-  go_again request (inl unheard) = inl unheard
-  go_again request (inr met) = inr (inl met)
+  go_again : (request : Request) → StandsAs k w.t request progresses.Unsent → Any (λ m. IsSameRequest request m.request) k.sent_now → MayGoAgain k request None
+  go_again request (inl unsent) (place, m, there, is, same) = absurd (All-contains (IsOtherSent request) k.sent_now m unsent (place, there, is) same)
+  go_again request (inr met) before = inl met
 
   -- a message that is to be sent may be sent
   sendable : (m : Message) → IsReadOfCall c.splits w.x w.call m.request → StandsAs k w.t m.request progresses.Unsent → IsSendable c.splits c.session k m.request
@@ -64,7 +63,7 @@ module _ (c : Coordination) (k : Known) (ms : List Message) (p : Proceeds c k ms
         let e : Some w.call ≡ Some calls.Commit = sym (ap call_in w.opened) ∙ decided.asked in
         let same : w.call ≡ calls.Commit = cc in
         reads_no_commit c.splits w.x w.call (map (λ m. m.request) ms) p.asked same;
-    again = λ before. go_again m.request stands;
+    again = go_again m.request stands;
   }
 
   pub unsent_as : (m : Message) → is_unsent m ≡ true → m.progress ≡ progresses.Unsent
@@ -107,19 +106,30 @@ module _ (c : Coordination) (k : Known) (ms : List Message) (p : Proceeds c k ms
   come_met m found (progresses.Met number conflict) e is stands = conflict_now m number conflict e found is stands
   come_met m found progress e is stands = tt
 
-  come_by : (met unsent : Option Message) → first_met ms ≡ met → find is_unsent ms ≡ unsent → MayCome c k (next_by met unsent)
-  come_by None None first next = tt
-  come_by None (Some m) first next =
-      let stands : Stands k w.t m = found_all is_unsent (Stands k w.t) ms m next p.stand in
-      let e : m.progress ≡ progresses.Unsent = unsent_as m (found_passes is_unsent ms m next) in
-      sendable m (found_all is_unsent (λ m. IsReadOfCall c.splits w.x w.call m.request) ms m next reads_all) (subst (λ progress. StandsAs k w.t m.request progress) e stands.as_far)
-  come_by (Some m) unsent first next =
-      let found : find is_met ms ≡ Some m = first_found ms m first in
-      come_met m found m.progress refl (found_all is_met (λ m. IsReadOfCall c.splits w.x w.call m.request) ms m found reads_all) (found_all is_met (Stands k w.t) ms m found p.stand).as_far
+  module _ (due : c.due ≡ dues.Read ms) where
+    -- and none that is waited for is of the same request
+    none_awaited : (m : Message) → find is_unsent ms ≡ Some m → IsReadOfCall c.splits w.x w.call m.request → AwaitsNone c k m.request
+    none_awaited m next is number other waits said same =
+        let f = found_some (waits_at number) ms (ap (waits_for number) (sym due) ∙ waits) in
+        let stands : Stands k w.t f.0 = found_all (waits_at number) (Stands k w.t) ms f.0 f.1 p.stand in
+        let unheard : IsUnheard k number f.0.request = subst (λ progress. StandsAs k w.t f.0.request progress) (waits_as number f.0.progress f.2) stands.as_far in
+        let this : other ≡ f.0.request = let both : Some other ≡ Some f.0.request = sym said ∙ unheard.said in cc in
+        differ-found is_unsent (waits_at number) (λ z. unsent_idle number z.progress) ms m f.0 next f.1 p.different (same_read m.request other is.kind same ∙ this)
 
-  next_comes : MayCome c k (next_in ms)
-  next_comes = come_by (first_met ms) (find is_unsent ms) refl refl
+    come_by : (met unsent : Option Message) → first_met ms ≡ met → find is_unsent ms ≡ unsent → MayCome c k (next_by met unsent)
+    come_by None None first next = tt
+    come_by None (Some m) first next =
+        let stands : Stands k w.t m = found_all is_unsent (Stands k w.t) ms m next p.stand in
+        let e : m.progress ≡ progresses.Unsent = unsent_as m (found_passes is_unsent ms m next) in
+        let is : IsReadOfCall c.splits w.x w.call m.request = found_all is_unsent (λ m. IsReadOfCall c.splits w.x w.call m.request) ms m next reads_all in
+        (sendable m is (subst (λ progress. StandsAs k w.t m.request progress) e stands.as_far), none_awaited m next is)
+    come_by (Some m) unsent first next =
+        let found : find is_met ms ≡ Some m = first_found ms m first in
+        come_met m found m.progress refl (found_all is_met (λ m. IsReadOfCall c.splits w.x w.call m.request) ms m found reads_all) (found_all is_met (Stands k w.t) ms m found p.stand).as_far
+
+    next_comes : MayCome c k (next_in ms)
+    next_comes = come_by (first_met ms) (find is_unsent ms) refl refl
 
 -- what comes next of the messages is allowed
 pub reads_comes : (c : Coordination) (k : Known) (ms : List Message) → Knows c k → c.due ≡ dues.Read ms → MayCome c k (next_in ms)
-reads_comes c k ms knows due = next_comes c k ms (reads_of c k ms knows due)
+reads_comes c k ms knows due = next_comes c k ms (reads_of c k ms knows due) due

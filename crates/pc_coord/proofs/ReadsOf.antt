@@ -1,20 +1,19 @@
 -- The requests of a call that reads: what they are, and that they differ.
-use Rattle.std.proofs.Common.{◌≡◌, ℕ, suc, ◌+◌, ◌≤◌, true, false, cond, inl, inr, List, [], ◌∷◌, ◌++◌, map, Option, None, Some, refl, sym, ap, ◌∙◌, subst, arith, All, Contains, IsTrue}
-use Rattle.std.specs.List.{Any, list_any}
+use Rattle.std.proofs.Common.{◌≡◌, ℕ, suc, ◌+◌, true, false, cond, inl, inr, List, [], ◌∷◌, ◌++◌, map, Option, None, Some, refl, sym, ap, ◌∙◌, subst, arith, All, Contains}
 use Rattle.std.proofs.lemmas.List.{map-append}
-use Rattle.std.proofs.lemmas.List.Elements.{All-cons, All-head, All-nil, All-tail, All-weaker}
+use Rattle.std.proofs.lemmas.List.Elements.{All-cons, All-head, All-nil, All-tail}
 use Rattle.pc_base.specs.declared.actor.ActorId.TheVariants as actors
 use Rattle.pc_base.specs.declared.span.Span.{Span}
 use Rattle.pc_base.specs.declared.span.Span.TheVariants.{One, Between}
 use Rattle.pc_base.specs.declared.transaction.TxnId.{TxnId}
 use Rattle.pc_base.specs.Span.{contains, is_empty}
 use Rattle.pc_coord.proofs.Resting.{open_is}
+use Rattle.pc_coord.proofs.Writes.{all_are_proved}
 use Rattle.pc_coord.specs.Beside.{is_beside}
 use Rattle.pc_coord.specs.declared.messages.Message.{Message}
 use Rattle.pc_coord.specs.declared.transaction.Transaction.{Transaction}
 use Rattle.pc_coord.specs.Knows.Held.{IsOpenAs, IsSettled}
 use Rattle.pc_coord.specs.Knows.Reading.{AreDifferent, AreReadsOf, IsRead, IsReadAt, Tells}
-use Rattle.pc_coord.specs.Knows.Sending.{IsFor}
 use Rattle.pc_coord.specs.Messages.{read_at}
 use Rattle.pc_coord.specs.Reading.{messages_of, span_piece, spans_from, spans_in}
 use Rattle.pc_coord.specs.Rounds.{is_resolve_of}
@@ -29,14 +28,13 @@ use Rattle.pc_proto.specs.declared.request.Request.TheVariants as requests
 use Rattle.pc_proto.specs.Stamps.{request_stamps}
 use Rattle.pc_world.proofs.Pieces.{pieces-differ}
 use Rattle.pc_world.specs.Answering.{MayAnswer}
+use Rattle.pc_world.specs.Follows.CallMessages.{IsFor}
 use Rattle.pc_world.specs.Known.{Known, call_of}
 use Rattle.pc_world.specs.Known.Reads.{read_heard}
 use Rattle.pc_world.specs.Known.Transactions.{Txn}
-use Rattle.pc_world.specs.Known.Writes.{IsProvedBy, Write, is_proved}
 use Rattle.pc_world.specs.MaySend.{MaySendRow}
 use Rattle.pc_world.specs.RangeOf.{AreDistinct, AreRising, earlier_end, later_start, piece, pieces, pieces_from}
 use Rattle.pc_world.specs.SameRequest.{IsSameRequest}
-use Rattle.pc_world.specs.Send.Reading.{IsProvedIn}
 use Rattle.pc_world.specs.Send.Recovery.{is_conflict, is_push_of}
 use Rattle.pc_world.specs.Tell.Refusal.{MayBlock}
 use Rattle.pc_world.specs.Views.{is_about}
@@ -89,15 +87,6 @@ scan_tells x span (replies.Rows rows) unmet may = tt
 scan_tells x span (replies.Conflict holder ts at) unmet may = absurd cc
 scan_tells x span reply unmet may = absurd may
 
-proofs-some : (ts : ℕ) (proofs : List ℕ) → Any (λ n. n ≤ ts) proofs → list_any (λ n. true) proofs ≡ true
-proofs-some ts [] (k, x, there, is, small) = absurd (omega arith)
-proofs-some ts (n ∷ proofs) h = refl
-
--- a write that is proved at a timestamp is proved
-proved_in : (ts : ℕ) (span : Span) (writes : List Write) → All (IsProvedBy ts) writes → IsProvedIn span writes
-proved_in ts span writes a =
-    All-weaker (IsProvedBy ts) (λ w. IsTrue (contains span w.key) → IsTrue (is_proved w)) (λ w p there. proofs-some ts w.proofs p) writes a
-
 get_of_call : (splits : List (List ℕ)) (x : Transaction) (key : List ℕ) → IsReadOfCall splits x (calls.Get key) (get_of x key)
 get_of_call splits x key = record {
   kind = tt;
@@ -116,7 +105,7 @@ get_of_call splits x key = record {
       epoch_now = ap (λ x. x.epoch) open_as.same;
       own_writes = ap (λ x. x.seq) open_as.same;
       at_read_ts = ap (λ x. x.read_ts) open_as.same;
-      proved = proved_in t.write_ts (One key) t.writes settled.proved;
+      proved = all_are_proved t.write_ts (λ w. contains (One key) w.key) t.writes settled.proved;
     };
   };
 }
@@ -141,7 +130,7 @@ scan_of_call splits x whole span cut = record {
       epoch_now = ap (λ x. x.epoch) open_as.same;
       own_writes = ap (λ x. x.seq) open_as.same;
       at_read_ts = ap (λ x. x.read_ts) open_as.same;
-      proved = proved_in t.write_ts span t.writes settled.proved;
+      proved = all_are_proved t.write_ts (λ w. contains span w.key) t.writes settled.proved;
     };
   };
 }

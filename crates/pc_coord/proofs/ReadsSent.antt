@@ -4,20 +4,20 @@ use Rattle.std.specs.List.{list_any}
 use Rattle.std.specs.Option.{option_and_then, option_map, option_or}
 use Rattle.std.proofs.lemmas.Bool.{eqb-true}
 use Rattle.std.proofs.lemmas.List.{append-nil}
-use Rattle.std.proofs.lemmas.List.Elements.{All-nil, All-push, All-weaker}
+use Rattle.std.proofs.lemmas.List.Elements.{All-cons, All-nil, All-push, All-weaker}
 use Rattle.std.proofs.lemmas.List.Folds.{find-append}
 use Rattle.pc_base.specs.declared.transaction.TxnId.{TxnId}
 use Rattle.pc_base.specs.Transaction.{same_txn}
 use Rattle.pc_coord.proofs.Apart.{apart_kept}
-use Rattle.pc_coord.proofs.Changes.{changed_any, changed_found, found_all, kept_by}
-use Rattle.pc_coord.proofs.Holders.{all_held, found_passes, held, held-changed}
+use Rattle.pc_coord.proofs.Changes.{changed_any, found_all, kept_by}
+use Rattle.pc_coord.proofs.Holders.{AreTwo, all_held, all_two, all_with, changed_other, found_passes, held, held-changed}
 use Rattle.pc_coord.proofs.InRead.{IsInRead, Proceeds, awaits}
 use Rattle.pc_coord.proofs.Learned.{learn_own}
 use Rattle.pc_coord.proofs.Lists.{any_last_of, any_true_kept, find-last}
 use Rattle.pc_coord.proofs.Quiet.{IsQuiet, quiet_read, read_no_commit}
 use Rattle.pc_coord.proofs.ReadsNext.{reads_all, reads_of, unsent_as}
-use Rattle.pc_coord.proofs.ReadsOf.{IsReadOfCall}
-use Rattle.pc_coord.proofs.Standings.{IsOther, stands-kept}
+use Rattle.pc_coord.proofs.ReadsOf.{IsReadOfCall, same_read}
+use Rattle.pc_coord.proofs.Standings.{IsOther, IsOtherSent, stands-kept}
 use Rattle.pc_coord.proofs.Steps.{counted-sent, sent, sent_is}
 use Rattle.pc_coord.proofs.Waits.{unsent_next}
 use Rattle.pc_coord.specs.Coordination.{Coordination, next_of, with_due}
@@ -40,6 +40,7 @@ use Rattle.pc_world.specs.Known.{Known, learn, next_number}
 use Rattle.pc_world.specs.Known.Traffic.{Sent, request_sent}
 use Rattle.pc_world.specs.Known.Transactions.{txn_sent}
 use Rattle.pc_world.specs.Known.Writes.{last_seq_of}
+use Rattle.pc_world.specs.SameRequest.{IsSameRequest}
 use Rattle.pc_world.specs.Send.Recovery.{is_put_of}
 use Rattle.pc_world.specs.StageFate.{IsRefused, OnCommit}
 
@@ -112,8 +113,23 @@ module _ (c : Coordination) (k : Known) (ms : List Message) (p : Proceeds c k ms
     unheard = u.unheard;
   }
 
-  still_stands : (y : Message) → Stands k w.t y → Stands ks w.t y
-  still_stands y s = stands-kept k ks (now ∷ []) [] refl none_more w.t y (All-nil (IsOther y.request)) (λ number e. waits_on y.request number) s
+  still_stands : (y : Message) → (IsSameRequest y.request m.request → ⊥) → Stands k w.t y → Stands ks w.t y
+  still_stands y other s =
+      stands-kept k ks (now ∷ []) [] refl none_more w.t y (All-cons (IsOtherSent y.request) now [] other (All-nil (IsOtherSent y.request))) (All-nil (IsOther y.request))
+      (λ number e. waits_on y.request number) s
+
+  -- A message stands so, and reads.
+  abbrev StandsRead : Message → Type 0
+  StandsRead y = Stands k w.t y × IsReadOfCall c.splits w.x w.call y.request
+
+  stand_all : All (Stands ks w.t) changed
+  stand_all =
+      changed_other AreTwo is_unsent (sent_as n) StandsRead (Stands ks w.t) ms m found
+      (λ y s two. still_stands y (λ same. two.differ (same_read y.request m.request s.1.kind same)) s.0)
+      (λ y s two. still_stands y (λ same. two.differ (sym (same_read y.request m.request s.1.kind same))) s.0)
+      (λ s. new_stands)
+      (all_with (Stands k w.t) (λ y. IsReadOfCall c.splits w.x w.call y.request) ms p.stand (reads_all c k ms p))
+      (all_two ms p.different p.apart)
 
   free_of : (y : Message) → Stands k w.t y → IsFree n y
   free_of y s is =
@@ -184,7 +200,7 @@ module _ (c : Coordination) (k : Known) (ms : List Message) (p : Proceeds c k ms
     };
     asked = subst (λ rs. AreReadsOf c.splits w.x w.call rs) (sym same_requests) p.asked;
     different = subst (λ rs. AreDifferent rs) (sym same_requests) p.different;
-    stand = changed_found is_unsent (sent_as n) (Stands k w.t) (Stands ks w.t) ms m found still_stands new_stands p.stand;
+    stand = stand_all;
     apart = apart_kept is_unsent (sent_as n) (IsFree n)
         (λ one other p q apart number here there. let e : n ≡ number = eqb-true n number here in q (subst (λ i. IsTrue (waits_at i other)) (sym e) there))
         (λ one other p q apart number here there. let e : n ≡ number = eqb-true n number there in p (subst (λ i. IsTrue (waits_at i one)) (sym e) here))

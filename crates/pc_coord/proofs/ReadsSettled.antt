@@ -15,7 +15,7 @@ use Rattle.pc_coord.proofs.ReadsNext.{reads_all, reads_of}
 use Rattle.pc_coord.proofs.ReadsOf.{IsReadOfCall, plain_read}
 use Rattle.pc_coord.proofs.ReadsTold.{reads_on, tells_blocked, tells_lost}
 use Rattle.pc_coord.proofs.Rounds.{HasLeft, not_beside, one_if, refused-heard, settled-again, settled-paced}
-use Rattle.pc_coord.proofs.Standings.{IsOther, conflicts-kept, stands-kept}
+use Rattle.pc_coord.proofs.Standings.{IsOther, IsOtherSent, conflicts-kept, stands-kept}
 use Rattle.pc_coord.proofs.Waits.{all_idle, conflict_idle, met_next}
 use Rattle.pc_coord.specs.Beside.{IsBeside, IsLaterBeside, is_beside}
 use Rattle.pc_coord.specs.Coordinating.{read_round, reads_after_round}
@@ -73,6 +73,10 @@ module _ (c : Coordination) (start k : Known) (ms : List Message) (p : Proceeds 
   others request coordinated =
       All-weaker (λ h. IsBeside c h.request) (IsOther request) (λ h is. not_beside request h.request coordinated is.kind) beside.heard_more beside.heard_beside
 
+  news : (request : Request) → is_beside request ≡ false → All (IsOtherSent request) beside.sent_more
+  news request coordinated =
+      All-weaker (λ m. IsBeside c m.request) (IsOtherSent request) (λ m is. not_beside request m.request coordinated is.kind) beside.sent_more beside.sent_beside
+
   reads_as : All (IsReadAt w.t.read_ts) k.heard_now
   reads_as =
       let more : All (IsReadAt w.t.read_ts) beside.heard_more =
@@ -114,7 +118,8 @@ module _ (c : Coordination) (start k : Known) (ms : List Message) (p : Proceeds 
 
       still_stands : (y : Message) → StandsIdle y → Stands k w.t y
       still_stands y s =
-          stands-kept start k beside.sent_more beside.heard_more beside.sent_now beside.heard_now w.t y (others y.request (plain_read y.request s.0.1.kind).coordinated)
+          stands-kept start k beside.sent_more beside.heard_more beside.sent_now beside.heard_now w.t y (news y.request (plain_read y.request s.0.1.kind).coordinated)
+          (others y.request (plain_read y.request s.0.1.kind).coordinated)
           (λ n e u. let sent : is_sent y ≡ true = ap progress_sent e in absurd cc) s.0.0
 
       stand_all : All (Stands k w.t) asked_again

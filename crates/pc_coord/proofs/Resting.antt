@@ -14,9 +14,8 @@ use Rattle.pc_coord.specs.declared.transaction.Transaction.{Transaction}
 use Rattle.pc_coord.specs.Events.{IsOf}
 use Rattle.pc_coord.specs.declared.job.Job.{Job}
 use Rattle.pc_coord.specs.Knows.{AwaitsReply, Knows, KnowsAt, MayFinishJob, Rests}
-use Rattle.pc_coord.specs.Knows.Held.{IsCounted, IsSettled}
+use Rattle.pc_coord.specs.Knows.Held.{IsCounted}
 use Rattle.pc_coord.specs.Knows.Sending.{learned}
-use Rattle.pc_coord.specs.declared.transaction.InFlight.{InFlight}
 use Rattle.pc_history.specs.declared.pair.Pair.{Pair}
 use Rattle.pc_proto.specs.declared.answer.Answer.{Answer}
 use Rattle.pc_proto.specs.declared.answer.Answer.TheVariants as answers
@@ -68,16 +67,6 @@ pub closed_told : (session latest count : ℕ) (job : Option Job) (k : Known) (a
 closed_told session latest count job k answer counted closed high begun left =
     subst (λ k. Rests session latest count None job k) (sym (told_is answer k))
     (record { counted = counted-told session latest count k counted answer high begun; none_open = refl; held = closed; left = left })
-
--- what holds between statements holds when the next call is asked
-pub settled_asked : (call : Call) (reading : ℕ) (k : Known) (t : Txn) (in_flight : Option InFlight) → IsSettled k t in_flight → IsSettled (asked call reading k) t in_flight
-settled_asked call reading k t in_flight s =
-    let p = s.plain in
-    record {
-      plain = record { number = p.number; reads = p.reads; restart = p.restart; begun = p.begun; behind = p.behind; at_begin = p.at_begin; below = p.below; refused = p.refused; views = p.views };
-      proved = s.proved;
-      puts = s.puts;
-    }
 
 kept_open : (needs is_open : Bool) → is_open ≡ true → (needs && not is_open) ≡ false
 kept_open true is_open e = ap not e

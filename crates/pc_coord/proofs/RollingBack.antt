@@ -7,7 +7,8 @@ use Rattle.pc_base.specs.declared.transaction.TxnId.{TxnId}
 use Rattle.pc_coord.proofs.Beginning.{no_messages, none_left}
 use Rattle.pc_coord.proofs.Committing.{unwritten_left}
 use Rattle.pc_coord.proofs.Ids.{no_stages}
-use Rattle.pc_coord.proofs.Resting.{asked_knows, closed_told, no_txn, open_is, rests, told_in}
+use Rattle.pc_coord.proofs.NoTxn.{told_no_txn}
+use Rattle.pc_coord.proofs.Resting.{asked_knows, closed_told, open_is, rests, told_in}
 use Rattle.pc_coord.proofs.Steps.{asked, counted-asked, counted-sent, sent, sent_is, told}
 use Rattle.pc_coord.specs.Coordinating.{after_rollback, rollback_in}
 use Rattle.pc_coord.specs.Coordination.{Coordination}
@@ -164,22 +165,7 @@ module _ (c : Coordination) (k : Known) (reading : ℕ) (rising : AreRising c.sp
   by_anchor (Some anchor) is = abort_due anchor (anchor_same ∙ is)
 
 rollback_by : (c : Coordination) (k : Known) (reading : ℕ) (txn : Option Transaction) → AreRising c.splits → c.job ≡ None → IsCounted c.session c.clock c.begun k → IsHeld txn k → Knows (rollback_in txn c) (asked calls.Rollback reading k)
-rollback_by c k reading None rising handed counted closed =
-    let k2 = asked calls.Rollback reading k in
-    record {
-      rising = rising;
-      handed = tt;
-      stands = record {
-        may = record {
-          may = no_txn c.splits c.session k2 (record { call = calls.Rollback; reading = reading }) refl refl closed;
-          written = tt;
-          aborts = tt;
-          left = no_messages c.job handed;
-          suits = λ s is. tt;
-        };
-        after = closed_told c.session c.clock c.begun c.job k2 answers.NoTxn (counted-asked c.session c.clock c.begun k counted calls.Rollback reading) closed refl refl (none_left c.job (told answers.NoTxn k2) handed);
-      };
-    }
+rollback_by c k reading None rising handed counted closed = told_no_txn c k calls.Rollback reading rising handed counted refl closed
 rollback_by c k reading (Some x) rising handed counted (t, open_as, settled) = by_anchor c k reading rising handed counted x t open_as settled x.anchor refl
 
 pub rollback_asked : (c : Coordination) (k : Known) (p : Pair Event) (reading : ℕ) → Knows c k → IsAsked c calls.Rollback reading k p → Knows (after_rollback c) (learn p k)

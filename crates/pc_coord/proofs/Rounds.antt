@@ -1,22 +1,20 @@
 -- What a conflict's round that was made changes of what its call may do.
 use Rattle.std.proofs.Common.{◌≡◌, ℕ, ◌+◌, ◌≤◌, Bool, true, false, cond, inl, inr, List, [], ◌∷◌, ◌++◌, refl, sym, ap, ◌∙◌, subst, arith, All, Any, IsTrue, count_by}
-use Rattle.std.proofs.lemmas.Bool.{and_parts}
 use Rattle.std.proofs.lemmas.List.{append_assoc}
 use Rattle.std.proofs.lemmas.List.Elements.{All-append, All-cons, All-nil}
 use Rattle.std.proofs.lemmas.List.Sums.{sum_by-append, sum_by-cons}
 use Rattle.pc_base.specs.declared.transaction.TxnId.{TxnId}
-use Rattle.pc_base.specs.Span.{same_key}
 use Rattle.pc_base.specs.Transaction.{same_txn}
 use Rattle.pc_coord.proofs.Ids.{same-is}
 use Rattle.pc_coord.proofs.Lists.{any_head, any_last}
 use Rattle.pc_coord.specs.Beside.{is_beside}
 use Rattle.pc_coord.specs.Rounds.{IsPaced, IsRefusedRound, IsSettledRound, is_resolve_of, was_met, was_pushed, was_settled}
+use Rattle.pc_proto.specs.declared.fate.Fate.{Fate}
 use Rattle.pc_proto.specs.declared.meta.TxnMeta.{TxnMeta}
-use Rattle.pc_proto.specs.declared.reply.Reply.{Reply}
 use Rattle.pc_proto.specs.declared.reply.Reply.TheVariants as replies
 use Rattle.pc_proto.specs.declared.request.Request.{Request}
 use Rattle.pc_proto.specs.declared.request.Request.TheVariants as requests
-use Rattle.pc_world.specs.Follows.Resends.{MetConflictNow, WasDone, is_resolved}
+use Rattle.pc_world.specs.Follows.Resends.{MetConflictNow, ResolvedTo, WasDone, WasSettled}
 use Rattle.pc_world.specs.Known.{Known}
 use Rattle.pc_world.specs.Known.Traffic.{Heard}
 use Rattle.pc_world.specs.SameRequest.{IsSameRequest}
@@ -40,13 +38,11 @@ push_settles : (id : TxnId) (request : Request) → is_push_of id request ≡ tr
 push_settles id (requests.Push holder by level now goal) is other = refl
 push_settles id request is other = absurd cc
 
-resolve_as : (id : TxnId) (key : List ℕ) (request : Request) (reply : Reply) → is_resolved id key request reply ≡ true → (other : TxnId) → is_resolve_of other request ≡ same_txn id other
-resolve_as id key (requests.Resolve whose at fate) replies.Resolved is other = ap (λ id. same_txn id other) (same-is whose id (and_parts (same_txn whose id) (same_key at key) is).0)
-resolve_as id key request reply is other = absurd cc
+resolve_as : (id : TxnId) (key : List ℕ) (fate : Fate) (h : Heard) → ResolvedTo id key fate h → (other : TxnId) → is_resolve_of other h.request ≡ same_txn id other
+resolve_as id key fate h is other = ap (is_resolve_of other) is.asked
 
-resolve_pushes : (id : TxnId) (key : List ℕ) (request : Request) (reply : Reply) → is_resolved id key request reply ≡ true → (other : TxnId) → is_push_of other request ≡ false
-resolve_pushes id key (requests.Resolve whose at fate) replies.Resolved is other = refl
-resolve_pushes id key request reply is other = absurd cc
+resolve_pushes : (id : TxnId) (key : List ℕ) (fate : Fate) (h : Heard) → ResolvedTo id key fate h → (other : TxnId) → is_push_of other h.request ≡ false
+resolve_pushes id key fate h is other = ap (is_push_of other) is.asked
 
 -- the message of a round is not of one request with one that the coordinator gives
 pub not_beside : (request other : Request) → is_beside request ≡ false → is_beside other ≡ true → IsSameRequest request other → ⊥
@@ -58,9 +54,8 @@ push_beside : (id : TxnId) (request : Request) → is_push_of id request ≡ tru
 push_beside id (requests.Push holder by level now goal) is = refl
 push_beside id request is = absurd cc
 
-resolve_beside : (id : TxnId) (key : List ℕ) (request : Request) (reply : Reply) → is_resolved id key request reply ≡ true → is_beside request ≡ true
-resolve_beside id key (requests.Resolve whose at fate) replies.Resolved is = refl
-resolve_beside id key request reply is = absurd cc
+resolve_beside : (id : TxnId) (key : List ℕ) (fate : Fate) (h : Heard) → ResolvedTo id key fate h → is_beside h.request ≡ true
+resolve_beside id key fate h is = ap is_beside is.asked
 
 -- Of these transactions no more are the one than of those, but for this one.
 abbrev pub HasLeft : TxnId → List TxnId → List TxnId → Type 0
@@ -83,13 +78,13 @@ module _ (id : TxnId) (key : List ℕ) (start k : Known) (round : IsSettledRound
   settled-paced pending left one paced =
       let pushes : (other : TxnId) → count_by (was_pushed other) k.heard_now ≡ count_by (was_pushed other) start.heard_now + one_if (same_txn id other) = λ other.
       let a : one_if (was_pushed other round.push) ≡ one_if (same_txn id other) = ap one_if (push_as id round.push.request round.pushed other) in
-      let b : one_if (was_pushed other round.resolve) ≡ 0 = ap one_if (resolve_pushes id key round.resolve.request round.resolve.reply round.resolved other) in
+      let b : one_if (was_pushed other round.resolve) ≡ 0 = ap one_if (resolve_pushes id key round.fate round.resolve round.resolved other) in
       omega (arith, counted (was_pushed other), a, b) in
       record {
         pushes = λ other. omega (arith, pushes other, counted (was_met other), one other, paced.pushes other);
         resolves = λ other.
             let a : one_if (was_settled other round.push) ≡ 0 = ap one_if (push_settles id round.push.request round.pushed other) in
-            let b : one_if (was_settled other round.resolve) ≡ one_if (same_txn id other) = ap one_if (resolve_as id key round.resolve.request round.resolve.reply round.resolved other) in
+            let b : one_if (was_settled other round.resolve) ≡ one_if (same_txn id other) = ap one_if (resolve_as id key round.fate round.resolve round.resolved other) in
             omega (arith, pushes other, counted (was_settled other), a, b, paced.resolves other);
       }
 
@@ -98,7 +93,7 @@ module _ (id : TxnId) (key : List ℕ) (start k : Known) (round : IsSettledRound
   settled-others request not =
       let Other : Heard → Type 0 = λ h. IsSameRequest request h.request → ⊥ in
       All-cons Other round.push (round.resolve ∷ []) (not_beside request round.push.request not (push_beside id round.push.request round.pushed))
-      (All-cons Other round.resolve [] (not_beside request round.resolve.request not (resolve_beside id key round.resolve.request round.resolve.reply round.resolved)) (All-nil Other))
+      (All-cons Other round.resolve [] (not_beside request round.resolve.request not (resolve_beside id key round.fate round.resolve round.resolved)) (All-nil Other))
 
   -- after the round the request that met the conflict may go again
   pub settled-again : (request : Request) → is_beside request ≡ false → (before : List Heard) (h : Heard) (later : List Heard) → start.heard_now ≡ before ++ h ∷ later → IsSameRequest request h.request
@@ -120,10 +115,13 @@ module _ (id : TxnId) (key : List ℕ) (start k : Known) (round : IsSettledRound
       after = round.resolve ∷ [];
       whole = refl;
       pushed = subst (λ id. IsTrue (is_push_of id round.push.request)) (sym whose) round.pushed;
+      goal = round.goal;
+      aims = round.aims;
       done =
-          let resolved : Any (λ h. IsTrue (is_resolved id key h.request h.reply)) (round.resolve ∷ []) = any_head (λ h. IsTrue (is_resolved id key h.request h.reply)) round.resolve [] round.resolved in
-          subst (λ id. WasDone id key round.push.reply (round.resolve ∷ [])) (sym whose)
-          (subst (λ r. WasDone id key r (round.resolve ∷ [])) (sym round.told) resolved);
+          let settled : WasSettled id key round.goal round.view (round.resolve ∷ []) =
+          record { fate = round.fate; left = round.left; settled = any_head (ResolvedTo id key round.fate) round.resolve [] round.resolved } in
+          subst (λ id. WasDone id key round.goal round.push.reply (round.resolve ∷ [])) (sym whose)
+          (subst (λ r. WasDone id key round.goal r (round.resolve ∷ [])) (sym round.told) settled);
     };
   }
 

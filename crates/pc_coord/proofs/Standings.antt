@@ -10,14 +10,15 @@ use Rattle.pc_coord.proofs.Same.{same_txn-self}
 use Rattle.pc_coord.specs.declared.messages.Message.{Message}
 use Rattle.pc_coord.specs.declared.messages.Progress.{Progress}
 use Rattle.pc_coord.specs.declared.messages.Progress.TheVariants as progresses
-use Rattle.pc_coord.specs.Knows.Reading.{HasMet, IsUnheard, Stands, StandsAs, WasReplied}
+use Rattle.pc_coord.specs.Knows.Reading.{HasMet, IsUnheard, IsUnsentNow, Stands, StandsAs, WasReplied}
 use Rattle.pc_coord.specs.Messages.{holder_in, holder_met, one_more}
+use Rattle.pc_proto.specs.declared.fate.Goal.{Goal}
 use Rattle.pc_proto.specs.declared.meta.TxnMeta.{TxnMeta}
 use Rattle.pc_proto.specs.declared.reply.Reply.{Reply}
 use Rattle.pc_proto.specs.declared.reply.Reply.TheVariants as replies
 use Rattle.pc_proto.specs.declared.request.Request.{Request}
 use Rattle.pc_world.specs.Counting.{AtLeast, LastIs}
-use Rattle.pc_world.specs.Follows.Resends.{IsUnheardNow, MetConflictNow, WasDone, WasFollowed, is_resolved}
+use Rattle.pc_world.specs.Follows.Resends.{MetConflictNow, ResolvedTo, WasDone, WasFollowed}
 use Rattle.pc_world.specs.Known.{Known}
 use Rattle.pc_world.specs.Known.Traffic.{Heard, Sent}
 use Rattle.pc_world.specs.Known.Transactions.{Txn}
@@ -54,18 +55,18 @@ pub contains-in : {X : Type 0} → (before : List X) (x : X) (later : List X) �
 contains-in [] x later = (0, omega arith, refl)
 contains-in (y ∷ before) x later = let at = contains-in before x later in (suc at.0, omega (arith, at.1), at.2)
 
-done-more : (id : TxnId) (key : List ℕ) (reply : Reply) (after more : List Heard) → WasDone id key reply after → WasDone id key reply (after ++ more)
-done-more id key (replies.Status view) after more done = any_kept (λ h. IsTrue (is_resolved id key h.request h.reply)) after more done
-done-more id key (replies.Unsure view) after more done = record {
+done-more : (id : TxnId) (key : List ℕ) (goal : Goal) (reply : Reply) (after more : List Heard) → WasDone id key goal reply after → WasDone id key goal reply (after ++ more)
+done-more id key goal (replies.Status view) after more done = record { fate = done.fate; left = done.left; settled = any_kept (ResolvedTo id key done.fate) after more done.settled }
+done-more id key goal (replies.Unsure view) after more done = record {
   before = done.before;
   recovery = done.recovery;
   after = done.after ++ more;
   whole = ap (λ hs. hs ++ more) done.whole ∙ append_assoc done.before (done.recovery ∷ done.after) more;
   view = done.view;
   shown = done.shown;
-  settled = λ final. any_kept (λ h. IsTrue (is_resolved id key h.request h.reply)) done.after more (done.settled final);
+  settled = λ fate final. any_kept (ResolvedTo id key fate) done.after more (done.settled fate final);
 }
-done-more id key reply after more done = absurd done
+done-more id key goal reply after more done = absurd done
 
 followed-more : (id : TxnId) (key : List ℕ) (later more : List Heard) → WasFollowed id key later → WasFollowed id key (later ++ more)
 followed-more id key later more f = record {
@@ -74,18 +75,24 @@ followed-more id key later more f = record {
   after = f.after ++ more;
   whole = ap (λ hs. hs ++ more) f.whole ∙ append_assoc f.before (f.push ∷ f.after) more;
   pushed = f.pushed;
-  done = done-more id key f.push.reply f.after more f.done;
+  goal = f.goal;
+  aims = f.aims;
+  done = done-more id key f.goal f.push.reply f.after more f.done;
 }
 
 -- A heard reply is to another request.
 abbrev pub IsOther : Request → Heard → Type 0
 IsOther request h = IsSameRequest request h.request → ⊥
 
+-- A message that was sent is of another request.
+abbrev pub IsOtherSent : Request → Sent → Type 0
+IsOtherSent request m = IsSameRequest request m.request → ⊥
+
 -- What was sent and heard since, of other requests.
 module _ (k k2 : Known) (sent_more : List Sent) (more : List Heard) (sent_now : k2.sent_now ≡ k.sent_now ++ sent_more) (heard_now : k2.heard_now ≡ k.heard_now ++ more) where
   module _ (request : Request) (others : All (IsOther request) more) where
-    unheard-kept : IsUnheardNow k request → IsUnheardNow k2 request
-    unheard-kept unheard = subst (λ hs. All (IsOther request) hs) (sym heard_now) (All-append (IsOther request) k.heard_now more unheard others)
+    unsent-kept : All (IsOtherSent request) sent_more → IsUnsentNow k request → IsUnsentNow k2 request
+    unsent-kept news unsent = subst (λ ms. All (IsOtherSent request) ms) (sym sent_now) (All-append (IsOtherSent request) k.sent_now sent_more unsent news)
 
     met-kept : MetConflictNow k request → MetConflictNow k2 request
     met-kept m = record {
@@ -126,21 +133,21 @@ module _ (k k2 : Known) (sent_more : List Sent) (more : List Heard) (sent_now : 
         subst (λ hs. Any (WasReplied k2 request reply) hs) (sym heard_now) (any_kept (WasReplied k2 request reply) k.heard_now more (i, h, low, is, now))
 
     -- the request is as far as before, where it is not waited for
-    pub stands_as-kept : (t : Txn) (p : Progress) → ((number : ℕ) → p ≡ progresses.Sent number → IsUnheard k number request → IsUnheard k2 number request) → StandsAs k t request p → StandsAs k2 t request p
-    stands_as-kept t progresses.Unsent waits (inl unheard) = inl (unheard-kept unheard)
-    stands_as-kept t progresses.Unsent waits (inr met) = inr (met-kept met)
-    stands_as-kept t (progresses.Sent number) waits s = waits number refl s
-    stands_as-kept t (progresses.Met number conflict) waits s = has_met-kept t number conflict s
-    stands_as-kept t (progresses.Heard reply) waits s = replied-kept reply s
+    pub stands_as-kept : All (IsOtherSent request) sent_more → (t : Txn) (p : Progress) → ((number : ℕ) → p ≡ progresses.Sent number → IsUnheard k number request → IsUnheard k2 number request) → StandsAs k t request p → StandsAs k2 t request p
+    stands_as-kept news t progresses.Unsent waits (inl unsent) = inl (unsent-kept news unsent)
+    stands_as-kept news t progresses.Unsent waits (inr met) = inr (met-kept met)
+    stands_as-kept news t (progresses.Sent number) waits s = waits number refl s
+    stands_as-kept news t (progresses.Met number conflict) waits s = has_met-kept t number conflict s
+    stands_as-kept news t (progresses.Heard reply) waits s = replied-kept reply s
 
   -- it met as many intents
   pub conflicts-kept : (request : Request) (n : ℕ) → AtLeast (IsConflictOf request) n k.heard_now → AtLeast (IsConflictOf request) n k2.heard_now
   conflicts-kept request n a = subst (λ hs. AtLeast (IsConflictOf request) n hs) (sym heard_now) (at_least-kept (IsConflictOf request) n k.heard_now more a)
 
   -- the message is as far as before
-  pub stands-kept : (t : Txn) (m : Message) → All (IsOther m.request) more → ((number : ℕ) → m.progress ≡ progresses.Sent number → IsUnheard k number m.request → IsUnheard k2 number m.request) → Stands k t m → Stands k2 t m
-  stands-kept t m others waits s = record {
-    as_far = stands_as-kept m.request others t m.progress waits s.as_far;
+  pub stands-kept : (t : Txn) (m : Message) → All (IsOtherSent m.request) sent_more → All (IsOther m.request) more → ((number : ℕ) → m.progress ≡ progresses.Sent number → IsUnheard k number m.request → IsUnheard k2 number m.request) → Stands k t m → Stands k2 t m
+  stands-kept t m news others waits s = record {
+    as_far = stands_as-kept m.request others news t m.progress waits s.as_far;
     met = conflicts-kept m.request m.conflicts s.met;
   }
 

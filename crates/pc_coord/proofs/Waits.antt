@@ -27,7 +27,8 @@ pub waits_as : (n : ℕ) (p : Progress) → IsTrue (progress_waits n p) → p �
 waits_as n (progresses.Sent number) is = ap progresses.Sent (eqb-true number n is)
 waits_as n p is = absurd cc
 
-unsent_idle : (n : ℕ) (p : Progress) → progress_unsent p ≡ true → progress_waits n p ≡ false
+-- and one that is to be sent waits under none
+pub unsent_idle : (n : ℕ) (p : Progress) → progress_unsent p ≡ true → progress_waits n p ≡ false
 unsent_idle n progresses.Unsent is = refl
 unsent_idle n p is = absurd cc
 
@@ -75,7 +76,7 @@ due_by_waits : (n : ℕ) (made : Option Answer) → waits_for n (due_by made) �
 due_by_waits n None = refl
 due_by_waits n (Some answer) = refl
 
-blocked_waits : (n : ℕ) (holder : Option TxnId) → waits_for n (blocked_due holder) ≡ false
+pub blocked_waits : (n : ℕ) (holder : Option TxnId) → waits_for n (blocked_due holder) ≡ false
 blocked_waits n None = refl
 blocked_waits n (Some holder) = refl
 

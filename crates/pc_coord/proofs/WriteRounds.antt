@@ -1,5 +1,5 @@
 -- The round of a conflict that a write met, and what is due once it ended.
-use Rattle.std.proofs.Common.{◌≡◌, ◌≢◌, ℕ, ◌+◌, ◌≤◌, Bool, inl, inr, List, [], ◌∷◌, ◌++◌, count_by, Option, Some, None, refl, sym, ap, ◌∙◌, subst, arith, append_assoc}
+use Rattle.std.proofs.Common.{◌≡◌, ◌≢◌, ℕ, ◌+◌, ◌≤◌, Bool, inl, List, [], ◌∷◌, ◌++◌, count_by, Option, Some, None, refl, sym, ap, ◌∙◌, subst, arith, append_assoc}
 use Rattle.std.proofs.lemmas.List.Elements.{All-nil, Contains-push}
 use Rattle.std.specs.List.{Contains}
 use Rattle.pc_base.specs.declared.transaction.TxnId.{TxnId}
@@ -118,8 +118,8 @@ module _ (c : Coordination) (start k : Known) (number : ℕ) (conflict : Reply) 
       ∙ ap (λ w. resent conflicts again (Some met.writing.anchor) w met.writing.x) met.writing.in_flight in
       again_knows (with_due (due_of_resend conflicts again c.txn) (with_clock k.high c)) k conflicts again counted writing
       (settled-paced met.holder.id met.key start k round (met.holder.id ∷ []) [] (first-left met.holder.id []) met.paced)
-      (λ any. inr (inl (settled-again met.holder.id met.key start k round (put_of met.writing.x met.writing.anchor met.writing.w.key met.writing.w.value) refl met.heard_before met.h [] met.heard (inl (sym met.asked))
-      (All-nil (λ h. IsSameRequest (put_of met.writing.x met.writing.anchor met.writing.w.key met.writing.w.value) h.request → ⊥)) met.holder met.ts refl (met.told ∙ met.is))))
+      (λ any. inl (settled-again met.holder.id met.key start k round (put_of met.writing.x met.writing.anchor met.writing.w.key met.writing.w.value) refl met.heard_before met.h [] met.heard (inl (sym met.asked))
+      (All-nil (λ h. IsSameRequest (put_of met.writing.x met.writing.anchor met.writing.w.key met.writing.w.value) h.request → ⊥)) met.holder met.ts refl (met.told ∙ met.is)))
       rising job due
 
   -- the holder blocks the call

@@ -1,6 +1,7 @@
 -- What a call that writes waits for.
 use Rattle.std.proofs.Common.{◌≡◌, ℕ, nat_le, Bool, true, false, cond, List, Option, Some, None, refl}
 use Rattle.pc_base.specs.declared.transaction.TxnId.{TxnId}
+use Rattle.pc_coord.proofs.Waits.{blocked_waits}
 use Rattle.pc_coord.specs.Coordinating.{after_put_reply}
 use Rattle.pc_coord.specs.Coordination.{Coordination, put_due, waits_for}
 use Rattle.pc_coord.specs.declared.due.Due.TheVariants as dues
@@ -9,7 +10,7 @@ use Rattle.pc_coord.specs.declared.round.Round.TheVariants as rounds
 use Rattle.pc_coord.specs.declared.transaction.InFlight.{InFlight}
 use Rattle.pc_coord.specs.declared.transaction.Transaction.{Transaction}
 use Rattle.pc_coord.specs.Messages.{holder_in, one_more}
-use Rattle.pc_coord.specs.Turning.{blocked_due, due_of_holder, due_of_resend, due_of_round, due_of_written, landed_due, resent}
+use Rattle.pc_coord.specs.Turning.{due_of_holder, due_of_resend, due_of_round, due_of_written, landed_due, resent}
 use Rattle.pc_proto.specs.declared.answer.Answer.TheVariants as answers
 use Rattle.pc_proto.specs.declared.reply.Reply.{Reply}
 use Rattle.pc_proto.specs.declared.reply.Reply.TheVariants as replies
@@ -49,10 +50,6 @@ resent_waits other conflicts again (Some anchor) (Some w) x = refl
 resend_waits : (other conflicts : ℕ) (again : Bool) (txn : Option Transaction) → waits_for other (due_of_resend conflicts again txn) ≡ false
 resend_waits other conflicts again None = refl
 resend_waits other conflicts again (Some x) = resent_waits other conflicts again x.anchor x.in_flight x
-
-blocked_waits : (other : ℕ) (holder : Option TxnId) → waits_for other (blocked_due holder) ≡ false
-blocked_waits other None = refl
-blocked_waits other (Some holder) = refl
 
 -- nor once the round of its conflict was made
 pub round_waits : (other : ℕ) (round : Round) (conflict : Reply) (conflicts : ℕ) (again : Bool) (txn : Option Transaction) → waits_for other (due_of_round round conflict conflicts again txn) ≡ false

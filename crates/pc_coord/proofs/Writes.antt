@@ -1,16 +1,16 @@
 -- What a put and its reply do to the writes of an epoch.
-use Rattle.std.proofs.Common.{◌≡◌, ℕ, ◌+◌, ◌<◌, ◌≤◌, max, Bool, true, false, cond, ◌==◌, ◌&&◌, ◌||◌, List, [], ◌∷◌, ◌++◌, fold, map, Option, refl, sym, ap, ◌∙◌, subst, arith, All}
+use Rattle.std.proofs.Common.{◌≡◌, ℕ, ◌+◌, ◌<◌, ◌≤◌, max, Bool, true, false, cond, ◌==◌, ◌&&◌, ◌||◌, List, [], ◌∷◌, ◌++◌, fold, map, Option, refl, sym, ap, ◌∙◌, subst, arith, All, IsTrue}
 use Rattle.std.specs.List.{Any, list_any}
 use Rattle.std.proofs.lemmas.Bool.{eq-eqb, ne_eqb, and_from}
 use Rattle.std.proofs.lemmas.Grind.{fold-append}
-use Rattle.std.proofs.lemmas.List.Elements.{All-cons, All-head, All-nil, All-tail}
+use Rattle.std.proofs.lemmas.List.Elements.{All-cons, All-head, All-nil, All-tail, All-weaker}
 use Rattle.pc_coord.proofs.Lists.{any_kept, any_last, any_last_of}
 use Rattle.pc_coord.proofs.Same.{if_false, if_true, same_key-self}
 use Rattle.std.proofs.lemmas.Cmp.{nat_list_cmp_total, tied_itself}
 use Rattle.std.specs.Ordering.{is_lt}
 use Rattle.pc_base.specs.Span.{key_below, same_key}
 use Rattle.pc_world.specs.Known.Transactions.{with_lock}
-use Rattle.pc_world.specs.Known.Writes.{IsProvedBy, Write, asked_again, last_seq_of, proved_at, with_put}
+use Rattle.pc_world.specs.Known.Writes.{IsProvedBy, Write, asked_again, is_proved, last_seq_of, proved_at, with_put}
 
 -- The greatest sequence, begun with another number.
 abbrev pub last_from : ℕ → List Write → ℕ
@@ -57,6 +57,15 @@ proved-kept : (ts : ℕ) (key : List ℕ) (seq at : ℕ) (w : Write) → IsProve
 proved-kept ts key seq at w p =
     elim (w.seq == seq && same_key w.key key) as (λ b. IsProvedBy ts (cond b (record w { proofs = w.proofs ++ at ∷ [] }) w))
     [ true ↦ any_kept (λ n. n ≤ ts) w.proofs (at ∷ []) p | false ↦ p ]
+
+proofs-some : (ts : ℕ) (proofs : List ℕ) → Any (λ n. n ≤ ts) proofs → list_any (λ n. true) proofs ≡ true
+proofs-some ts [] (k, x, there, is, small) = absurd (omega arith)
+proofs-some ts (n ∷ proofs) h = refl
+
+-- writes that are proved at a timestamp are proved, and so are those of them that pass a test
+pub all_are_proved : (ts : ℕ) (test : Write → Bool) (writes : List Write) → All (IsProvedBy ts) writes → All (λ w. IsTrue (test w) → IsTrue (is_proved w)) writes
+all_are_proved ts test writes a =
+    All-weaker (IsProvedBy ts) (λ w. IsTrue (test w) → IsTrue (is_proved w)) (λ w p passes. proofs-some ts w.proofs p) writes a
 
 pub all_proved-more : (low high : ℕ) (writes : List Write) → low ≤ high → All (IsProvedBy low) writes → All (IsProvedBy high) writes
 all_proved-more low high [] h a = All-nil (IsProvedBy high)

@@ -37,6 +37,7 @@ after_begin priority reading c =
     if nat_lt (2 ^ 62) reading then with_due (dues.Tell (answers.Clock reading)) c
     else with_begun priority reading (clock_now reading c.clock) c
 
+-- After a put, or a deletion, with this as the open transaction.
 abbrev pub put_in : List ℕ → Option (List ℕ) → Option Transaction → Coordination → Coordination
 put_in key value txn c = record c { txn = txn_of_put key value txn; due = due_of_put key value txn }
 
@@ -44,6 +45,7 @@ put_in key value txn c = record c { txn = txn_of_put key value txn; due = due_of
 abbrev pub after_put : List ℕ → Option (List ℕ) → Coordination → Coordination
 after_put key value c = put_in key value c.txn c
 
+-- After a commit is asked, with this as the open transaction.
 abbrev pub end_in : Option Transaction → Coordination → Coordination
 end_in txn c = record c { txn = txn_of_end txn; due = due_of_end txn }
 
@@ -51,6 +53,7 @@ end_in txn c = record c { txn = txn_of_end txn; due = due_of_end txn }
 abbrev pub after_commit_call : Coordination → Coordination
 after_commit_call c = end_in c.txn c
 
+-- After a get, with this as the open transaction.
 abbrev pub get_in : List ℕ → Option Transaction → Coordination → Coordination
 get_in key txn c = record c { txn = option_map reading txn; due = due_of_get key txn }
 
@@ -58,6 +61,7 @@ get_in key txn c = record c { txn = option_map reading txn; due = due_of_get key
 abbrev pub after_get : List ℕ → Coordination → Coordination
 after_get key c = get_in key c.txn c
 
+-- After a scan, with this as the open transaction.
 abbrev pub scan_in : Span → Option Transaction → Coordination → Coordination
 scan_in span txn c = record c { txn = option_map reading txn; due = due_of_scan c.splits span txn }
 
@@ -65,6 +69,7 @@ scan_in span txn c = record c { txn = option_map reading txn; due = due_of_scan 
 abbrev pub after_scan : Span → Coordination → Coordination
 after_scan span c = scan_in span c.txn c
 
+-- After a rollback is asked, with this as the open transaction.
 abbrev pub rollback_in : Option Transaction → Coordination → Coordination
 rollback_in txn c = record c { txn = txn_of_rollback txn; due = due_of_rollback txn }
 
@@ -91,6 +96,7 @@ abbrev pub sending_of : Due → Option Wait
 sending_of (dues.Send request wait) = Some wait
 sending_of _ = None
 
+-- What is waited for, if it is that message's.
 abbrev pub awaited_if : Bool → Wait → Option Wait
 awaited_if true wait = Some wait
 awaited_if false wait = None
@@ -113,6 +119,7 @@ abbrev pub after_put_reply : ℕ → ℕ → Bool → Reply → Coordination →
 after_put_reply number conflicts again (replies.Written ts) c = written_in again ts c.txn c
 after_put_reply number conflicts again reply c = with_due (due_of_conflict number conflicts again reply) c
 
+-- After a commit was told committed, with this as the open transaction.
 abbrev pub committed_in : ℕ → ℕ → Option Transaction → Coordination → Coordination
 committed_in epoch ts txn c = record c { txn = None; due = due_of_committed ts txn; job = job_of (Some (fates.Committed epoch ts)) txn }
 
@@ -124,6 +131,7 @@ after_committed epoch ts c = committed_in epoch ts c.txn c
 abbrev pub refusals_with : ℕ → ℕ → ℕ → ℕ
 refusals_with ts recorded refusals = if nat_lt ts recorded then refusals + 1 else refusals
 
+-- After so many refusals of a commit, the last by a record at this timestamp.
 abbrev pub retry_in : ℕ → ℕ → Option Transaction → Coordination → Coordination
 retry_in recorded refusals txn c = record c { txn = txn_of_retry refusals txn; due = due_of_retry recorded refusals txn }
 
@@ -131,6 +139,7 @@ retry_in recorded refusals txn c = record c { txn = txn_of_retry refusals txn; d
 abbrev pub after_refused : ℕ → ℕ → ℕ → Coordination → Coordination
 after_refused ts recorded refusals c = retry_in recorded (refusals_with ts recorded refusals) (option_map (raised recorded) c.txn) c
 
+-- After this view was replied to a commit at this timestamp, after so many refusals.
 abbrev pub after_view : ℕ → ℕ → View → Coordination → Coordination
 after_view ts refusals (views.Committed epoch at locks) c = after_committed epoch at c
 after_view ts refusals (views.Aborted epoch why locks) c = with_end (Some fates.Aborted) (answers.Aborted why) c
@@ -143,6 +152,7 @@ abbrev pub after_commit_reply : ℕ → ℕ → Reply → Coordination → Coord
 after_commit_reply ts refusals (replies.Status view) c = after_view ts refusals view c
 after_commit_reply ts refusals _ c = with_due dues.Stuck c
 
+-- After a rollback of this cause, with this as the open transaction; its record has this fate.
 abbrev pub rolled_back_in : Why → Option Fate → Option Transaction → Coordination → Coordination
 rolled_back_in why fate txn c = record c { txn = None; due = due_of_rolled_back why txn; job = job_of fate txn }
 
@@ -162,11 +172,13 @@ FewRefused (waits.Put conflicts again) = Unit {0}
 FewRefused waits.Abort = Unit {0}
 FewRefused (waits.Commit ts refusals) = refusals < 8
 
+-- What is due of these messages once the round of the conflict that one of them met ended so.
 abbrev pub read_round : Round → ℕ → List Message → Option Message → Due
 read_round rounds.Again number messages met = due_of_reads (change_first (met_at number) again messages)
 read_round rounds.Refused number messages met = blocked_due (option_and_then (λ m. holder_met m.progress) met)
 read_round (rounds.Lost faults) number messages met = dues.Tell (answers.Unavailable faults)
 
+-- What is due once the round of a conflict ended so, where the call reads.
 abbrev pub reads_after_round : Round → ℕ → Due → Due
 reads_after_round round number (dues.Read messages) = read_round round number messages (find (met_at number) messages)
 reads_after_round round number _ = dues.Stuck

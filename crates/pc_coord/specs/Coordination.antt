@@ -1,7 +1,6 @@
 -- A coordinator as contracts see it, and what it does of itself.
 use Rattle.std.specs.Prelude.{ℕ, ◌+◌, Bool, false, ◌==◌, if◌then◌else◌, Option, None, Some, List}
 use Rattle.std.specs.List.{list_any}
-use Rattle.std.specs.Option.{option_map}
 use Rattle.pc_base.specs.declared.transaction.Priority.{Priority}
 use Rattle.pc_base.specs.declared.transaction.TxnId.{TxnId}
 use Rattle.pc_coord.specs.declared.due.Due.{Due}
@@ -12,7 +11,7 @@ use Rattle.pc_coord.specs.declared.next.Next.{Next}
 use Rattle.pc_coord.specs.declared.next.Next.TheVariants as nexts
 use Rattle.pc_coord.specs.declared.transaction.Transaction.{Transaction}
 use Rattle.pc_coord.specs.Messages.{next_in, waits_at}
-use Rattle.pc_coord.specs.Transaction.{abort_of, commit_of, meta_in, needs_refresh, put_of, raised, transaction_of}
+use Rattle.pc_coord.specs.Transaction.{abort_of, commit_of, meta_in, needs_refresh, put_of, transaction_of}
 use Rattle.pc_proto.specs.declared.answer.Answer.{Answer}
 use Rattle.pc_proto.specs.declared.answer.Answer.TheVariants as answers
 use Rattle.pc_proto.specs.declared.fate.Fate.{Fate}
@@ -30,6 +29,10 @@ pub record Coordination : Type 0 where
   pub due : Due
   pub job : Option Job
 
+-- A coordinator that was just made: it heard nothing and began nothing, and nothing is due or left to be done.
+abbrev pub new_coordination : ℕ → List (List ℕ) → Coordination
+new_coordination session splits = record { session = session; splits = splits; clock = 0; begun = 0; txn = None; due = dues.Nothing; job = None }
+
 -- What a coordinator gives next.
 abbrev pub next_of : Due → Next
 next_of dues.Nothing = nexts.Idle
@@ -46,6 +49,7 @@ waits_for number (dues.Hear awaited wait) = awaited == number
 waits_for number (dues.Read messages) = list_any (waits_at number) messages
 waits_for number _ = false
 
+-- This is due.
 abbrev pub with_due : Due → Coordination → Coordination
 with_due due c = record c { due = due }
 
@@ -93,10 +97,6 @@ job_of fate (Some x) = job_at fate x.anchor x
 -- The transaction is over, with this fate, and this is told.
 abbrev pub with_end : Option Fate → Answer → Coordination → Coordination
 with_end fate answer c = record c { txn = None; due = dues.Tell answer; job = job_of fate c.txn }
-
--- A timestamp was heard at which the transaction stands.
-abbrev pub with_raise : ℕ → Coordination → Coordination
-with_raise ts c = record c { txn = option_map (raised ts) c.txn }
 
 -- The transaction is over, with this fate.
 abbrev pub closed_with : Option Fate → Coordination → Coordination

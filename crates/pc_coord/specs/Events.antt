@@ -24,6 +24,7 @@ pub record IsOf (event : Event) (p : Pair Event) : Type 0 where
   pub says : p.entry.event ≡ event
   pub names : p.named ≡ None
 
+-- The write in flight, if there is one, is this one.
 abbrev pub IsSameWrite : List ℕ → Option (List ℕ) → Option InFlight → Type 0
 IsSameWrite key value None = ⊤
 IsSameWrite key value (Some w) = w ≡ record { key = key; value = value }
@@ -33,6 +34,7 @@ pub record MayWrite (key : List ℕ) (value : Option (List ℕ)) (x : Transactio
   pub unread : x.has_read ≡ false
   pub same : IsSameWrite key value x.in_flight
 
+-- The call suits this transaction as far as it is built.
 abbrev pub SuitsTxn : Call → Transaction → Type 0
 SuitsTxn (calls.Get key) x = x.anchor ≡ None
 SuitsTxn (calls.Scan span) x = x.anchor ≡ None

@@ -1,24 +1,25 @@
 -- How a coordinator stands beside what its session knows.
-use Rattle.std.specs.Prelude.{◌≡◌, ℕ, ◌≤◌, ◌<◌, true, false, Option, None, Some, IfSome, List, [], ◌∷◌, ◌++◌, length, map, All, Any, IsTrue, ⊤}
+use Rattle.std.specs.Prelude.{◌≡◌, ℕ, Bool, false, Option, None, Some, IfSome, List, [], ◌∷◌, ◌++◌, map, ⊤}
 use Rattle.pc_base.specs.declared.actor.ActorId.TheVariants as actors
-use Rattle.pc_coord.specs.Beside.{IsOfBegun}
 use Rattle.pc_coord.specs.Coordination.{Coordination}
 use Rattle.pc_coord.specs.declared.due.Due.{Due}
 use Rattle.pc_coord.specs.declared.due.Due.TheVariants as dues
 use Rattle.pc_coord.specs.declared.due.Wait.{Wait}
 use Rattle.pc_coord.specs.declared.due.Wait.TheVariants as waits
 use Rattle.pc_coord.specs.declared.job.Job.{Job}
+use Rattle.pc_coord.specs.declared.messages.Message.{Message}
 use Rattle.pc_coord.specs.declared.next.Next.{Next}
 use Rattle.pc_coord.specs.declared.next.Next.TheVariants as nexts
 use Rattle.pc_coord.specs.declared.transaction.Transaction.{Transaction}
 use Rattle.pc_coord.specs.Knows.Held.{IsCounted, IsHeld}
 use Rattle.pc_coord.specs.Knows.Ending.{AwaitsAbort, AwaitsCommit}
 use Rattle.pc_coord.specs.Knows.Reading.{AwaitsReads}
-use Rattle.pc_coord.specs.Knows.Sending.{IsConflictNow, IsSendable, learned}
+use Rattle.pc_coord.specs.Knows.Sending.{AwaitsNone, IsConflictNow, IsSendable, learned}
 use Rattle.pc_coord.specs.Knows.Writing.{AwaitsPut, HasMetPut}
 use Rattle.pc_coord.specs.Suiting.{SuitsNext}
 use Rattle.pc_proto.specs.declared.answer.Answer.{Answer}
 use Rattle.pc_proto.specs.declared.event.Event.TheVariants as events
+use Rattle.pc_proto.specs.declared.reply.Reply.{Reply}
 use Rattle.pc_proto.specs.declared.request.Request.{Request}
 use Rattle.pc_proto.specs.declared.request.Request.TheVariants as requests
 use Rattle.pc_world.specs.Follows.FinishingJobs.{AbortsFirst, left_by}
@@ -42,6 +43,7 @@ MayFinishJob k job = MayFinish k job.meta.id job.meta.anchor job.fate job.locks
 abbrev pub messages_of_job : Job → List Request
 messages_of_job job = map (λ lock. requests.Resolve job.meta.id lock job.fate) job.locks ++ requests.Remove job.meta.id job.meta.anchor ∷ []
 
+-- The messages that what is left comes to.
 abbrev pub messages_left : Option Job → List Request
 messages_left None = []
 messages_left (Some job) = messages_of_job job
@@ -53,6 +55,7 @@ pub record Rests (session clock begun : ℕ) (txn : Option Transaction) (job : O
   pub held : IsHeld txn k
   pub left : IfSome job (MayFinishJob k)
 
+-- The reply that is waited for is of this kind.
 abbrev pub AwaitsReply : Known → Option Transaction → ℕ → Wait → Type 0
 AwaitsReply k txn number (waits.Put conflicts again) = AwaitsPut k txn number conflicts again
 AwaitsReply k txn number (waits.Commit ts refusals) = AwaitsCommit k txn number ts refusals
@@ -69,12 +72,12 @@ pub record SendsNow (c : Coordination) (k : Known) (request : Request) (wait : W
   pub after : (range : ℕ) → Awaits c.session c.clock c.begun c.txn (next_number k) wait (learned (events.Send (next_number k) range request) k)
 
 -- The messages of a call that reads are sent and heard.
-pub record Reads (c : Coordination) (k : Known) (messages : _) : Type 0 where
+pub record Reads (c : Coordination) (k : Known) (messages : List Message) : Type 0 where
   pub counted : IsCounted c.session c.clock c.begun k
   pub reads : AwaitsReads c.splits k c.txn messages
 
 -- The write met an intent, and waits for the round of that conflict.
-pub record Meets (c : Coordination) (k : Known) (number : ℕ) (conflict : _) (conflicts : ℕ) (again : _) : Type 0 where
+pub record Meets (c : Coordination) (k : Known) (number : ℕ) (conflict : Reply) (conflicts : ℕ) (again : Bool) : Type 0 where
   pub counted : IsCounted c.session c.clock c.begun k
   pub met : HasMetPut k c.txn number conflict conflicts again
 
@@ -91,6 +94,7 @@ pub record TellsNow (c : Coordination) (k : Known) (answer : Answer) : Type 0 wh
   pub may : IsTellable c k answer
   pub after : Rests c.session c.clock c.begun c.txn c.job (learned (events.Tell answer) k)
 
+-- How the coordinator stands beside what its session knows, by what is due.
 abbrev pub KnowsAt : Coordination → Known → Due → Type 0
 KnowsAt c k dues.Nothing = Rests c.session c.clock c.begun c.txn c.job k
 KnowsAt c k dues.Stuck = ⊥
@@ -113,10 +117,10 @@ pub record Knows (c : Coordination) (k : Known) : Type 0 where
   pub handed : LeavesNothing c.job c.due
   pub stands : KnowsAt c k c.due
 
--- What comes next is allowed: a request may be sent, an answer may be told, a conflict was met; and nothing comes only where no call is
--- open.
+-- What comes next is allowed: a request may be sent, and none of the same is waited for; an answer may be told; a conflict was met; and
+-- nothing comes only where no call is open.
 abbrev pub MayCome : Coordination → Known → Next → Type 0
-MayCome c k (nexts.Send request) = IsSendable c.splits c.session k request
+MayCome c k (nexts.Send request) = IsSendable c.splits c.session k request × AwaitsNone c k request
 MayCome c k nexts.Wave = ⊤
 MayCome c k (nexts.Conflict number conflict reader) = IsConflictNow k number conflict reader
 MayCome c k (nexts.Tell answer) = IsTellable c k answer

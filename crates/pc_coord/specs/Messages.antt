@@ -136,10 +136,12 @@ next_by (Some m) unsent = next_of_met m.request m.progress
 abbrev pub next_in : List Message → Next
 next_in messages = next_by (first_met messages) (find is_unsent messages)
 
+-- Whose intent stood in the way, where the reply is a conflict.
 abbrev pub holder_in : Reply → Option TxnId
 holder_in (replies.Conflict holder ts key) = Some holder.id
 holder_in _ = None
 
+-- Whose intent the message met, where its round is still to be made.
 abbrev pub holder_met : Progress → Option TxnId
 holder_met (progresses.Met number conflict) = holder_in conflict
 holder_met _ = None
@@ -188,10 +190,12 @@ value_first (m ∷ ms) = value_in m
 abbrev pub answer_of : List Message → Option Answer
 answer_of messages = if list_all has_rows messages then Some (answers.Rows (flat_map rows_told messages)) else value_first messages
 
+-- What is due once this is to be told, where there is something.
 abbrev pub due_by : Option Answer → Due
 due_by None = dues.Stuck
 due_by (Some answer) = dues.Tell answer
 
+-- More of the messages is due, unless this holder blocks the call.
 abbrev pub due_unless : Option TxnId → List Message → Due
 due_unless None messages = dues.Read messages
 due_unless (Some holder) messages = dues.Tell (answers.Blocked holder)

@@ -5,6 +5,7 @@ use Rattle.pc_coord.specs.declared.transaction.Transaction.{Transaction}
 use Rattle.pc_world.specs.Known.{Known, open_txn}
 use Rattle.pc_world.specs.Known.Transactions.{Txn}
 
+-- Who pushes, with this as the open transaction.
 abbrev pub pusher_of : Option Transaction → Option Pusher
 pusher_of None = None
 pusher_of (Some x) = Some (record { id = x.id; level = x.priority })

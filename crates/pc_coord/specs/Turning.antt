@@ -25,6 +25,7 @@ abbrev pub write_due : Option InFlight → List ℕ → Option (List ℕ) → Tr
 write_due None key value x = put_due (with_write key value x).anchor key value false (with_write key value x)
 write_due (Some w) key value x = put_due x.anchor w.key w.value true x
 
+-- The transaction once it is asked to write: where a write is in flight that one is sent again, and nothing changes.
 abbrev pub write_txn : Option InFlight → List ℕ → Option (List ℕ) → Transaction → Transaction
 write_txn None key value x = with_write key value x
 write_txn (Some w) key value x = x
@@ -46,6 +47,7 @@ landed_due again ts None x = dues.Stuck
 landed_due false ts (Some w) x = dues.Tell answers.Written
 landed_due true ts (Some w) x = write_due None w.key w.value (landed ts x)
 
+-- The transaction once its write in flight was written at this timestamp.
 abbrev pub landed_txn : Bool → ℕ → Option InFlight → Transaction → Transaction
 landed_txn again ts None x = landed ts x
 landed_txn false ts (Some w) x = landed ts x
@@ -59,6 +61,7 @@ abbrev pub txn_of_written : Bool → ℕ → Option Transaction → Option Trans
 txn_of_written again ts None = None
 txn_of_written again ts (Some x) = Some (landed_txn again ts x.in_flight x)
 
+-- What is due once a put met so many intents, the last one of this holder: the conflict's round, or the call is blocked.
 abbrev pub met_due : ℕ → ℕ → Bool → Reply → TxnId → Due
 met_due number conflicts again reply holder =
     if nat_le 8 conflicts then dues.Tell (answers.Blocked holder) else dues.Met number reply conflicts again
@@ -71,6 +74,7 @@ due_of_holder number conflicts again reply (Some holder) = met_due number (one_m
 abbrev pub due_of_conflict : ℕ → ℕ → Bool → Reply → Due
 due_of_conflict number conflicts again reply = due_of_holder number conflicts again reply (holder_in reply)
 
+-- The write in flight is sent again, with this anchor.
 abbrev pub resent : ℕ → Bool → Option (List ℕ) → Option InFlight → Transaction → Due
 resent conflicts again None w x = dues.Stuck
 resent conflicts again (Some anchor) None x = dues.Stuck
@@ -81,6 +85,7 @@ abbrev pub due_of_resend : ℕ → Bool → Option Transaction → Due
 due_of_resend conflicts again None = dues.Stuck
 due_of_resend conflicts again (Some x) = resent conflicts again x.anchor x.in_flight x
 
+-- The call is told which transaction blocks it.
 abbrev pub blocked_due : Option TxnId → Due
 blocked_due None = dues.Stuck
 blocked_due (Some holder) = dues.Tell (answers.Blocked holder)
@@ -96,6 +101,7 @@ abbrev pub due_of_commit : ℕ → Option Transaction → Due
 due_of_commit refusals None = dues.Stuck
 due_of_commit refusals (Some x) = commit_due refusals x.anchor x
 
+-- What is due after a commit was asked, by the anchor.
 abbrev pub due_at_end : Option (List ℕ) → Transaction → Due
 due_at_end None x = dues.Tell (answers.Committed x.id x.begin)
 due_at_end (Some anchor) x = commit_due 0 (Some anchor) x
@@ -105,6 +111,7 @@ abbrev pub due_of_end : Option Transaction → Due
 due_of_end None = dues.Tell answers.NoTxn
 due_of_end (Some x) = due_at_end x.anchor x
 
+-- The transaction after a commit was asked, by its anchor.
 abbrev pub txn_at_end : Option (List ℕ) → Transaction → Option Transaction
 txn_at_end None x = None
 txn_at_end (Some anchor) x = Some (refreshed x)

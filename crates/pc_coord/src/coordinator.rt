@@ -1,17 +1,14 @@
-ghost use Rattle.std.specs.Prelude.{◌≡◌, ℕ, ◌+◌, ◌*◌, ◌^◌, ◌<◌, ◌≤◌, nat_lt, max, if◌then◌else◌, true, false, ◌==◌, ◌||◌, ◌&&◌, not, is_some, IfOk, IfSome, OnOk, None, Some, Option};
-ghost use Rattle.pc_base.specs.Timestamp.{greatest};
+ghost use Rattle.std.specs.Prelude.{◌≡◌, ℕ, ◌+◌, ◌<◌, max, true, false, ◌==◌, ◌||◌, ◌&&◌, not, is_some, IfOk, IfSome, OnOk, None, Some, Option};
 ghost use Rattle.pc_coord.specs.Beside.{IsLaterBeside};
-ghost use Rattle.pc_coord.specs.Coordination.{Coordination, closed_with, next_of, waits_for, with_begun, with_clock, with_due, with_end, without_job};
-ghost use Rattle.pc_coord.specs.Coordinating.{FewRefused, after_abort_reply, after_begin, after_call, after_commit_call, after_commit_reply, after_committed, after_get, after_learn, after_put, after_put_reply, after_read, after_refused, after_reply, after_rollback, after_round, after_scan, after_view, due_after_send, awaited_at, reads_after_round, sending_of, with_heard, written_in};
+ghost use Rattle.pc_coord.specs.Coordination.{Coordination, closed_with, new_coordination, next_of, waits_for, with_begun, with_clock, with_due, with_end, without_job};
+ghost use Rattle.pc_coord.specs.Coordinating.{FewRefused, after_abort_reply, after_begin, after_call, after_commit_call, after_commit_reply, after_committed, after_get, after_put, after_put_reply, after_read, after_refused, after_reply, after_rollback, after_round, after_scan, after_view, due_after_send, awaited_at, reads_after_round, sending_of, with_heard, written_in};
 ghost use Rattle.pc_coord.specs.declared.due.Due.TheVariants as dues;
-ghost use Rattle.pc_coord.specs.declared.due.Wait.{Wait as AwaitedReply};
 ghost use Rattle.pc_coord.specs.declared.next.Next.TheVariants as nexts;
 ghost use Rattle.pc_coord.specs.declared.transaction.Transaction.{Transaction};
 ghost use Rattle.pc_coord.specs.Events.{IsAsked, IsHeard, IsSent, IsTold};
 ghost use Rattle.pc_coord.specs.Knows.{Knows, MayCome, MayFinishJob};
 ghost use Rattle.pc_coord.specs.Pusher.{IsPusherOf, pusher_of};
 ghost use Rattle.pc_coord.specs.Rounds.{EndsRound};
-ghost use Rattle.pc_coord.specs.Turning.{due_of_conflict, due_of_round};
 ghost use Rattle.pc_history.specs.declared.pair.Pair.{Pair};
 ghost use Rattle.pc_proto.specs.declared.answer.Answer.{Answer};
 ghost use Rattle.pc_proto.specs.declared.answer.Answer.TheVariants as answers;
@@ -19,9 +16,7 @@ ghost use Rattle.pc_proto.specs.declared.event.Event.{Event};
 ghost use Rattle.pc_proto.specs.declared.fate.Fate.TheVariants as fates;
 ghost use Rattle.pc_proto.specs.declared.reply.Reply.{Reply};
 ghost use Rattle.pc_proto.specs.declared.request.Request.{Request};
-ghost use Rattle.pc_proto.specs.Stamps.{reply_stamps};
 ghost use Rattle.pc_world.specs.Known.{Known, learn, nothing_known};
-ghost use Rattle.pc_world.specs.Known.Clock.{last_of};
 ghost use Rattle.pc_world.specs.RangeOf.{AreRising};
 ghost use Rattle.pc_world.specs.Tell.Begin.{clock_now};
 
@@ -39,9 +34,10 @@ use std::alloc::Global;
 use std::marker::Model;
 use std::mem;
 
-/// The greatest reading of a clock at which a transaction begins.
+/// The greatest reading of a clock, in nanoseconds, at which a transaction begins.
 const GREATEST_READING: u64 = 1 << 62;
 
+/// The greatest timestamp: none follows it.
 const GREATEST: Timestamp = Timestamp {
     wall: u64::MAX,
     logical: u32::MAX,
@@ -57,10 +53,15 @@ const GREATEST: Timestamp = Timestamp {
 pub struct Coordinator<'a> {
     alloc: Global,
     session: u32,
+    /// How often a request may be sent in all; nothing reads it yet.
     tries: u32,
+    /// Whether writes are sent without waiting for one another; it is off so far.
     pipelining: bool,
+    /// The keys at which the ranges are cut, rising.
     splits: &'a Keys,
+    /// The greatest timestamp that was heard or given.
     clock: Timestamp,
+    /// How many transactions were begun: the number of the last one.
     begun: u32,
     txn: Option<Transaction>,
     due: Due,
@@ -77,7 +78,9 @@ impl<'a> Model for Coordinator<'a> {
 }
 
 impl<'a> Coordinator<'a> {
-    /// The coordinator of the session with this number, from 1.
+    /// The coordinator of the session with this number, from 1: nothing is due. The ranges are cut at `splits`, in rising order.
+    ///
+    /// `tries` is how often a request may be sent in all; it is kept until sends can be lost. Pipelining is not built.
     pub fn new(
         alloc: Global,
         session: u32,
@@ -87,6 +90,7 @@ impl<'a> Coordinator<'a> {
     ) -> Coordinator<'a>
         requires rising { AreRising splits.now }
         requires unpiped { pipelining ≡ false }
+        ensures made { result ≡ new_coordination session splits.now }
         ensures knows { Knows result nothing_known }
         ensures session { result.session ≡ session }
         ensures splits { result.splits ≡ splits.now }
@@ -105,7 +109,8 @@ impl<'a> Coordinator<'a> {
         }
     }
 
-    /// Opens a statement, at this reading of the session's clock in nanoseconds.
+    /// Opens a statement, at this reading of the session's clock in nanoseconds. It is to be called while none is open; `next` then says
+    /// what is due.
     ///
     /// Refused for want of memory, and where the session's numbers or timestamps are used up.
     pub fn ask(&mut self, call: Call, reading: u64) -> Result<(), NoMemory>
@@ -235,7 +240,7 @@ impl<'a> Coordinator<'a> {
         self.txn.is_some()
     }
 
-    /// What is due.
+    /// What is due. It changes nothing: `sent`, `heard`, `settled` or `told` says that it was done. Refused for want of memory alone.
     pub fn next(&self) -> Result<Next, NoMemory>
         ensures due { IfOk result (λ next. next ≡ next_of self.now.due) }
         ensures may { (k : Known) → Knows self.now k → IfOk result (MayCome self.now k) }
@@ -264,7 +269,7 @@ impl<'a> Coordinator<'a> {
         }
     }
 
-    /// The message that `next` gave went out under this number.
+    /// The message that `next` gave went out under this number, the session's next one.
     pub fn sent(&mut self, number: u64) -> Result<(), NoMemory>
         ensures knows { (k : Known) (p : Pair Event) (range : ℕ) (request : Request) → Knows self.old k → IsSent self.old number range request k p → OnOk result (Knows self.new (learn p k)) }
         ensures waits { (request : Request) (other : ℕ) → next_of self.old.due ≡ nexts.Send request → OnOk result (waits_for other self.new.due ≡ (number == other || waits_for other self.old.due)) }
@@ -295,7 +300,8 @@ impl<'a> Coordinator<'a> {
         }
     }
 
-    /// The reply to the message of this number was heard; it was evaluated at this step.
+    /// The reply to the message of this number, which is waited for, was heard; it was evaluated at this step of the history. Refused
+    /// for want of memory, and where the session's sequences are used up.
     pub fn heard(&mut self, number: u64, step: u64, reply: &Reply) -> Result<(), NoMemory>
         ensures knows { (k : Known) (p : Pair Event) → Knows self.old k → IsHeard self.old number step reply.now k p → OnOk result (Knows self.new (learn p k)) }
         ensures waits { (k : Known) (other : ℕ) → Knows self.old k → waits_for number self.old.due ≡ true → OnOk result (waits_for other self.new.due ≡ (waits_for other self.old.due && not (number == other))) }
@@ -380,7 +386,8 @@ impl<'a> Coordinator<'a> {
         Ok(())
     }
 
-    /// The round of the conflict that the message of this number met was made, and ended so.
+    /// The round of the conflict that `next` gave for the message of this number was made, and ended so. Every timestamp that was heard
+    /// in it is to be given to `raise` before.
     pub fn settled(&mut self, number: u64, round: Round) -> Result<(), NoMemory>
         ensures knows { (c : Coordination) (start k : Known) (conflict : Reply) (reader : Option ℕ) → Knows c start → self.old ≡ with_clock k.high c → next_of c.due ≡ nexts.Conflict number conflict reader → IsLaterBeside c start k → EndsRound conflict round start k → OnOk result (Knows self.new k) }
         ensures waits { (conflict : Reply) (reader : Option ℕ) (other : ℕ) → next_of self.old.due ≡ nexts.Conflict number conflict reader → OnOk result (waits_for other self.new.due ≡ false) }
@@ -419,16 +426,18 @@ impl<'a> Coordinator<'a> {
         Ok(())
     }
 
-    /// A timestamp stands in a reply that the session heard to a request which the coordinator did not give.
+    /// A timestamp stands in a reply that the session heard to a request which the coordinator did not give: of a round or of a job. The
+    /// next transaction begins above it.
     pub fn raise(&mut self, ts: Timestamp)
         ensures { self.new ≡ with_clock (max self.old.clock ts) self.old }
     {
         self.clock = self.clock.max(ts);
     }
 
-    /// Who pushes in the rounds of the open transaction's conflicts.
+    /// Who pushes in the rounds of the open transaction's conflicts; none where no transaction is open.
     pub fn pusher(&self) -> Option<Pusher>
-        ensures { (k : Known) (number : ℕ) (conflict : Reply) (reader : Option ℕ) → Knows self.now k → next_of self.now.due ≡ nexts.Conflict number conflict reader → IsPusherOf k result }
+        ensures held { result ≡ pusher_of self.now.txn }
+        ensures pushes { (k : Known) (number : ℕ) (conflict : Reply) (reader : Option ℕ) → Knows self.now k → next_of self.now.due ≡ nexts.Conflict number conflict reader → IsPusherOf k result }
     {
         self.pusher_held()
     }
@@ -445,7 +454,7 @@ impl<'a> Coordinator<'a> {
         }
     }
 
-    /// What the last transaction left to be done, once, after its last answer was told.
+    /// What the last transaction left to be done, once, after its last answer was told. It is to be taken before the next call is asked.
     pub fn job(&mut self) -> Option<Job>
         ensures handed { result ≡ self.old.job }
         ensures made { self.new ≡ without_job self.old }
@@ -544,7 +553,7 @@ impl<'a> Coordinator<'a> {
         Ok(())
     }
 
-    /// The answer that `next` gave was told, and the statement is over.
+    /// The answer that `next` gave was told, and the statement is over. It takes no memory.
     pub fn told(&mut self)
         ensures made { self.new ≡ with_due dues.Nothing self.old }
         ensures knows { (k : Known) (p : Pair Event) (answer : Answer) → Knows self.old k → IsTold self.old answer p → Knows self.new (learn p k) }
@@ -555,7 +564,7 @@ impl<'a> Coordinator<'a> {
     }
 }
 
-/// The reading as a timestamp, or the one after the last where that is not above it.
+/// The reading as a timestamp, or the one after the last where the reading is not past that one's wall time. Refused where none is left.
 fn now(last: Timestamp, reading: u64) -> Result<Timestamp, NoMemory>
     ensures { IfOk result (λ ts. ts ≡ clock_now reading last) }
 {

@@ -5,7 +5,7 @@ use pc_proto::{Fate, Keys, TxnMeta};
 #[derive(Drop)]
 pub struct Job {
     pub meta: TxnMeta,
-    /// The timestamp at which its commit is to be sent first, where it was told committed by its staging.
+    /// The timestamp at which its commit is to be sent first, where it was told committed by its staging: none so far.
     pub staged: Option<Timestamp>,
     pub fate: Fate,
     pub locks: Keys,

@@ -11,7 +11,7 @@ use pc_proto::{Answer, Origin, Reply, Request, Rows};
 use std::alloc::Global;
 use std::marker::Model;
 
-/// How many intents a request meets in one call until its holder blocks the call.
+/// How many intents a request meets in one call until the holder of the last one blocks the call.
 pub const CONFLICTS: u32 = 8;
 
 /// A message of the open statement.

@@ -16,5 +16,6 @@ pub enum Next {
     },
     /// The open call is to be told this.
     Tell(Answer),
+    /// Nothing is due: no call is open.
     Idle,
 }

@@ -104,6 +104,7 @@ fn messages_of(
     }
 }
 
+/// A message for each range in which a key may lie between the two ends.
 fn pieces(
     alloc: Global,
     splits: &Keys,

@@ -1,10 +1,10 @@
 /// How the round of a conflict ended.
 #[derive(Clone, Copy, Debug)]
 pub enum Round {
-    /// The holder's intent was settled, or is left to whoever holds it: the request is sent again.
+    /// The holder was pushed and its intent was settled: the request is sent again.
     Again,
     /// The push of the holder was refused.
     Refused,
-    /// So many sends of one of the round's requests were lost.
+    /// Every send of one of the round's requests was lost, so many in all.
     Lost { faults: u32 },
 }

@@ -1,4 +1,4 @@
-ghost use Rattle.std.specs.Prelude.{◌≡◌, ◌+◌, ◌<◌, ℕ, None, Some, IfOk, OnOk, Option};
+ghost use Rattle.std.specs.Prelude.{◌≡◌, ◌<◌, None, Some, IfOk, OnOk, Option};
 ghost use Rattle.std.specs.Option.{option_and_then, option_map};
 ghost use Rattle.pc_coord.specs.Transaction.{raised, refreshed};
 ghost use Rattle.pc_coord.specs.Coordinating.{refusals_with};

@@ -19,7 +19,7 @@ use Rattle.pc_proto.specs.declared.reply.Reply.TheVariants as replies
 use Rattle.pc_proto.specs.declared.request.Request.{Request}
 use Rattle.pc_proto.specs.declared.request.Request.TheVariants as requests
 use Rattle.pc_world.specs.Counting.{AtLeast}
-use Rattle.pc_world.specs.Follows.Resends.{IsUnheardNow, MetConflictNow}
+use Rattle.pc_world.specs.Follows.Resends.{MetConflictNow}
 use Rattle.pc_world.specs.Known.{Known}
 use Rattle.pc_world.specs.Known.Reads.{read_heard}
 use Rattle.pc_world.specs.Known.Traffic.{Heard, request_sent}
@@ -76,9 +76,13 @@ pub record HasMet (k : Known) (t : Txn) (number : ℕ) (request : Request) (conf
   pub told : h.reply ≡ conflict
   pub last : All (λ h. IsSameRequest request h.request → ⊥) later
 
--- The request is as far as the coordinator has it: where it is to be sent, it may go.
+-- No message of the request was sent since the last call was asked.
+abbrev pub IsUnsentNow : Known → Request → Type 0
+IsUnsentNow k request = All (λ m. IsSameRequest request m.request → ⊥) k.sent_now
+
+-- The request is as far as the coordinator has it: where it is to be sent, it was not sent in the call before, or may go again.
 abbrev pub StandsAs : Known → Txn → Request → Progress → Type 0
-StandsAs k t request progresses.Unsent = IsUnheardNow k request ⊎ MetConflictNow k request
+StandsAs k t request progresses.Unsent = IsUnsentNow k request ⊎ MetConflictNow k request
 StandsAs k t request (progresses.Sent number) = IsUnheard k number request
 StandsAs k t request (progresses.Met number conflict) = HasMet k t number request conflict
 StandsAs k t request (progresses.Heard reply) = Any (WasReplied k request reply) k.heard_now
