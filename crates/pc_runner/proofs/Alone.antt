@@ -4,23 +4,18 @@ use Rattle.std.proofs.lemmas.Bool.{cases_eq}
 use Rattle.std.proofs.lemmas.List.{append-nil}
 use Rattle.std.proofs.lemmas.Option.{get_or_from_slice_get, slice_get_within}
 use Rattle.std.proofs.Math.Seq.{take-suc}
-use Rattle.pc_base.specs.declared.entry.Entry.{Entry}
-use Rattle.pc_proto.specs.declared.event.Event.{Event}
 use Rattle.pc_work.specs.declared.session.SessionWork.{SessionWork}
 use Rattle.pc_work.specs.declared.turn.Turn.{Turn}
 use Rattle.pc_work.specs.declared.workload.Workload.{Workload}
 use Rattle.pc_world.specs.Local.{Head}
-use Rattle.pc_runner.proofs.Sessions.{done_is, get_some, opened_is}
-use Rattle.pc_runner.proofs.Turning.{DoesAlone, does_all, does_more, does_nothing, one_more_out, one_more_turn}
+use Rattle.pc_runner.proofs.Places.{get_some}
+use Rattle.pc_runner.proofs.Sessions.{done_is, opened_is}
+use Rattle.pc_runner.proofs.Turning.{DoesAlone, Entries, does_all, does_more, does_nothing, one_more_out, one_more_turn}
 use Rattle.pc_runner.specs.declared.session.SessionRun.{SessionRun}
 use Rattle.pc_runner.specs.declared.turns.TurnsRun.{TurnsRun}
-use Rattle.pc_runner.specs.Follows.Turns.{AreTurns, IsOver, IsTurn, Opens, RunOut, RunsUntil, jobs_in}
-use Rattle.pc_runner.specs.Follows.Turns.{IsOpened}
+use Rattle.pc_runner.specs.Follows.Turns.{AreTurns, IsOpened, IsOver, IsTurn, Opens, RunOut, RunsUntil, jobs_in}
 use Rattle.pc_runner.specs.History.{head_of}
 use Rattle.pc_runner.specs.Turns.{AreOver, GoesOnAlone, HasGoneOn, IsDone, HasOpened, IsRunning, OthersRest, RunsToEnd, RunsToEndOf}
-
-abbrev Entries : Type 0
-Entries = List (Entry Event)
 
 -- Until when a session goes on by itself.
 abbrev pub Condition : Type 1

@@ -1,26 +1,23 @@
 -- A session follows its work as it did, after a part in which another session went on.
-use Rattle.std.proofs.Common.{◌≡◌, ◌≢◌, ℕ, ◌+◌, ◌*◌, Bool, List, [], ◌++◌, length, sym, ap, subst, ◌∙◌, arith, length-append}
+use Rattle.std.proofs.Common.{◌≡◌, ◌≢◌, ℕ, ◌+◌, List, length, sym, ap, subst, ◌∙◌, arith, length-append}
 use Rattle.pc_base.specs.declared.actor.ActorId.TheVariants as actors
 use Rattle.pc_base.specs.declared.entry.Entry.{Entry}
 use Rattle.pc_coord.specs.Coordination.{Coordination}
 use Rattle.pc_coord.specs.declared.job.Job.{Job}
 use Rattle.pc_coord.specs.Knows.{Knows}
-use Rattle.pc_history.specs.declared.pair.Pair.{Pair}
 use Rattle.pc_proto.specs.declared.event.Event.{Event}
 use Rattle.pc_session.specs.Stepped.{SteppedState}
 use Rattle.pc_work.specs.declared.session.SessionWork.{SessionWork}
 use Rattle.pc_work.specs.declared.workload.Workload.{Workload}
-use Rattle.pc_world.specs.Follows.FinishingJobs.{jobs_of}
 use Rattle.pc_world.specs.Known.{Known}
 use Rattle.pc_world.specs.Local.{Head}
 use Rattle.pc_runner.proofs.GoingOn.{actor_there, evaluated_beside, known_beside, own_beside}
+use Rattle.pc_runner.proofs.Keeps.{keeps_same}
 use Rattle.pc_runner.specs.declared.session.SessionRun.{SessionRun}
 use Rattle.pc_runner.specs.Following.{HasJobs, IsFollowing, StandsBy}
-use Rattle.pc_runner.specs.Follows.{EachAfter, KeepsWork}
-use Rattle.pc_runner.specs.Follows.Clocks.{asks_in}
-use Rattle.pc_runner.specs.Follows.Script.{Position, position}
+use Rattle.pc_runner.specs.Follows.Script.{Position}
 use Rattle.pc_runner.specs.History.{History, IsSound, known_by, own_by}
-use Rattle.pc_runner.specs.Keeping.{KeepsSoFar, open_calls}
+use Rattle.pc_runner.specs.Keeping.{KeepsSoFar}
 use Rattle.pc_runner.specs.Parts.{GoesOnBy}
 use Rattle.pc_runner.specs.Traffic.{HasHeard}
 
@@ -43,19 +40,8 @@ module _ (number mine : ℕ) (h g : History) (part : List (Entry Event)) (goes :
 
   keeps_apart : (work : Workload) (session : SessionWork) (at : Position) (clock : SteppedState) (jobs : List Job) → KeepsSoFar work mine session at clock jobs h → KeepsSoFar work mine session at clock jobs g
   keeps_apart work session at clock jobs f =
-      let asks : asks_in (own_by mine g) ≡ asks_in (own_by mine h) = ap asks_in own_is in
-      let calls : open_calls (known_by mine g).statement ≡ open_calls (known_by mine h).statement = ap (λ (k : Known). open_calls k.statement) known_is in
       let longer : length g.entries ≡ length h.entries + length part = ap length goes.whole ∙ length-append h.entries part in
-      let paired = f.paired in
-      record {
-        stated = f.stated;
-        clock_of = f.clock_of;
-        place = f.place ∙ sym (ap (position work.reruns session.script) own_is);
-        reads = f.reads ∙ sym asks;
-        paired = omega arith;
-        jobs_are = ap jobs_of own_is ∙ f.jobs_are;
-        steps = λ rule. subst (λ (ps : List (Pair Event)). EachAfter (KeepsWork work session rule) [] ps) (sym own_is) (f.steps rule);
-      }
+      keeps_same work mine session at clock jobs h g own_is (omega arith) f
 
 -- a session follows its work after a part of another session
 pub following_apart : (r : SessionRun) (number : ℕ) (h g : History) (part : List (Entry Event)) → r.number ≢ number → GoesOnBy number h g part → IsSound g → IsFollowing r h → IsFollowing r g

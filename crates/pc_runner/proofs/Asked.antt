@@ -1,5 +1,6 @@
 -- A session once it asked its script's next call.
-use Rattle.std.proofs.Common.{◌≡◌, ℕ, ◌+◌, ◌*◌, ◌≤◌, ◌^◌, Bool, true, false, List, [], length, map, Option, Some, None, IsTrue, refl, sym, ap, subst, ◌∙◌, arith, length-append}
+use Rattle.std.proofs.Common.{◌≡◌, ℕ, ◌+◌, false, List, [], length, map, Some, None, IsTrue, refl, sym, ap, subst, ◌∙◌, arith}
+use Rattle.std.proofs.Math.Nat.{add-zero}
 use Rattle.std.proofs.lemmas.List.Elements.{All-nil}
 use Rattle.pc_base.specs.declared.actor.ActorId.TheVariants as actors
 use Rattle.pc_coord.proofs.Resting.{rests}
@@ -34,7 +35,7 @@ use Rattle.pc_runner.specs.History.{History, known_by}
 use Rattle.pc_runner.specs.Journal.{HasGrown}
 use Rattle.pc_runner.specs.Keeping.{AreDelivered, KeepsSoFar, open_calls}
 use Rattle.pc_runner.specs.Suiting.{Fits}
-use Rattle.pc_runner.specs.Traffic.{HasHeard, IsNumbered}
+use Rattle.pc_runner.specs.Traffic.{HasHeard}
 
 -- Between its calls, the session by the parts of its runner.
 pub record Rests (work : Workload) (number : ℕ) (session : SessionWork) (at : Position) (clock : SteppedState) (jobs : List Job) (c : Coordination) (sends : ℕ) (h : History) : Type 0 where
@@ -135,7 +136,7 @@ module _ (work : Workload) (number : ℕ) (session : SessionWork) (at : Position
           last = sends;
           counted = omega arith;
           heard = subst (HasHeard sends) (sym known) (heard_asked sends k call reading rest.heard_all);
-          delivered = subst (λ n. AreDelivered number n g) (plus-none sends) (delivered_on number sends h g (actors.Session number) event rest.delivered grown (λ sent. refl));
+          delivered = subst (λ n. AreDelivered number n g) (sym (add-zero sends)) (delivered_on number sends h g (actors.Session number) event rest.delivered grown (λ sent. refl));
           answered = tt;
           posted = tt;
           replied = All-nil _;
@@ -143,6 +144,3 @@ module _ (work : Workload) (number : ℕ) (session : SessionWork) (at : Position
           waits = waits_none sends d.due quiet;
         };
       }
-    where
-      plus-none : (n : ℕ) → n ≡ n + 0
-      plus-none n = omega arith

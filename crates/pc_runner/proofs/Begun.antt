@@ -18,17 +18,18 @@ use Rattle.pc_work.specs.declared.session.SessionWork.{SessionWork}
 use Rattle.pc_work.specs.declared.workload.Workload.{Workload}
 use Rattle.pc_world.specs.Known.{nothing_known}
 use Rattle.pc_runner.proofs.Built.{built_few, built_items, built_rising}
+use Rattle.pc_runner.proofs.Entering.{first_history, sound_begun}
 use Rattle.pc_runner.proofs.Fitting.{opened_fits}
 use Rattle.pc_runner.specs.Following.{HasJobs, IsLeft, StandsBy}
 use Rattle.pc_runner.specs.Follows.Script.{Position, opened}
-use Rattle.pc_runner.specs.History.{History, IsSound, head_of}
+use Rattle.pc_runner.specs.History.{History, IsSound}
 use Rattle.pc_runner.specs.Keeping.{AreDelivered, IsClockOf, IsStatedBy, KeepsSoFar}
 use Rattle.pc_runner.specs.Suiting.{Fits}
 use Rattle.pc_runner.specs.Traffic.{HasHeard}
 
 -- The history before the first entry.
 abbrev pub fresh : Workload → History
-fresh work = record { head = head_of work.splits (length work.sessions); entries = [] }
+fresh work = first_history work.splits (length work.sessions)
 
 none_waited : (txn : Option Transaction) (number : ℕ) (wait : Wait) → AwaitsReply nothing_known txn number wait → ⊥
 none_waited txn number (waits.Put conflicts again) a = let e : false ≡ true = a.writing.open_as.is_open in cc
@@ -63,13 +64,7 @@ new_closed : (c : Coordination) → Knows c nothing_known → c.txn ≡ None
 new_closed c knows = none_held c.txn (rests c nothing_known knows refl).held
 
 pub fresh_sound : (work : Workload) → IsBuilt work → IsSound (fresh work)
-fresh_sound work built = record {
-  run = tt;
-  short = omega arith;
-  unstaged = All-nil _;
-  rising = built_rising work built;
-  few = built_few work built;
-}
+fresh_sound work built = sound_begun work.splits (length work.sessions) (built_rising work built) (built_few work built)
 
 pub begun_stands : (work : Workload) (number : ℕ) (session : SessionWork) (c : Coordination) → IsStatedBy work number session → Knows c nothing_known → c.session ≡ number → c.splits ≡ work.splits
     → StandsBy number c 0 (fresh work)
@@ -94,7 +89,7 @@ pub begun_jobs : (jobs : List Job) → jobs ≡ [] → HasJobs jobs nothing_know
 begun_jobs jobs none = subst (λ (jobs : List Job). HasJobs jobs nothing_known) (sym none) (record { numbers = All-nil _; left = All-nil (IsLeft nothing_known) })
 
 pub begun_heard : HasHeard 0 nothing_known
-begun_heard = record { sent = omega arith; numbers = All-nil _; numbers_now = All-nil _; all = All-nil _; all_now = All-nil _; none = All-nil _ }
+begun_heard = record { sent = omega arith; numbers = All-nil _; numbers_now = All-nil _; all = All-nil _; all_now = All-nil _; said_now = All-nil _; none = All-nil _ }
 
 pub begun_delivered : (work : Workload) (number : ℕ) → AreDelivered number 0 (fresh work)
 begun_delivered work number = record { once = λ sent from to. absurd (omega arith); never = λ sent above. refl }

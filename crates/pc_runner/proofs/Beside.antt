@@ -1,6 +1,6 @@
 -- What an exchange of one message beside a session's coordinator leaves as it was, and what it adds.
-use Rattle.std.proofs.Common.{◌≡◌, ℕ, ◌+◌, ◌*◌, ◌≤◌, ◌<◌, max, Bool, true, false, ◌&&◌, ◌==◌, List, [], ◌∷◌, ◌++◌, length, All, Any, Option, Some, None, IsTrue, is_some, if◌then◌else◌, refl, sym, ap, ◌∙◌, subst, arith, length-append}
-use Rattle.std.proofs.lemmas.Bool.{eq-eqb}
+use Rattle.std.proofs.Common.{◌≡◌, ℕ, ◌+◌, ◌≤◌, Bool, true, false, List, [], ◌∷◌, ◌++◌, length, Option, Some, None, is_some, if◌then◌else◌, refl, sym, ap, ◌∙◌, subst, arith, length-append}
+use Rattle.std.proofs.Math.Nat.{add-zero}
 use Rattle.std.proofs.lemmas.List.{append-nil, append_assoc}
 use Rattle.std.proofs.lemmas.List.Elements.{All-nil, All-push, All-weaker}
 use Rattle.pc_base.specs.declared.actor.ActorId.{ActorId}
@@ -8,9 +8,8 @@ use Rattle.pc_base.specs.declared.actor.ActorId.TheVariants as actors
 use Rattle.pc_base.specs.declared.transaction.TxnId.{TxnId}
 use Rattle.pc_coord.specs.Beside.{IsBeside, IsLaterBeside, is_beside}
 use Rattle.pc_coord.specs.Coordination.{Coordination}
-use Rattle.pc_history.proofs.Ids.{same_id-refl}
+use Rattle.pc_coord.specs.declared.job.Job.{Job}
 use Rattle.pc_history.specs.declared.pair.Pair.{Pair}
-use Rattle.pc_history.specs.Own.{same_id}
 use Rattle.pc_proto.specs.declared.event.Event.{Event}
 use Rattle.pc_proto.specs.declared.event.Event.TheVariants as events
 use Rattle.pc_proto.specs.declared.reply.Reply.{Reply}
@@ -22,23 +21,31 @@ use Rattle.pc_session.specs.Stepped.{SteppedState}
 use Rattle.pc_work.specs.declared.session.SessionWork.{SessionWork}
 use Rattle.pc_work.specs.declared.workload.Workload.{Workload}
 use Rattle.pc_world.proofs.Exchange.{later-itself, later-push}
-use Rattle.pc_world.proofs.Knowing.{known_push}
 use Rattle.pc_world.specs.Exchange.{WasAnswered}
 use Rattle.pc_world.specs.Follows.EarlyProof.{is_put}
-use Rattle.pc_world.specs.Follows.FinishingJobs.{jobs_after, jobs_of}
+use Rattle.pc_world.specs.Follows.FinishingJobs.{jobs_after, without_first}
 use Rattle.pc_world.specs.Follows.PipelinedPuts.{IsPutWaitedFor}
-use Rattle.pc_world.specs.Known.{Known, known, learn, next_number}
-use Rattle.pc_world.specs.Known.Traffic.{Heard, Sent, heard_as, heard_by, request_sent}
+use Rattle.pc_world.specs.Known.{Known, next_number}
+use Rattle.pc_world.specs.Known.Statements.{Statement}
+use Rattle.pc_world.specs.Known.Traffic.{Heard, Sent, request_sent}
 use Rattle.pc_proto.specs.declared.call.Call.{Call}
-use Rattle.pc_runner.proofs.Exchanging.{AreBefore, heard_pair, it, known_both, known_exchanged, known_sent, own_exchanged, said, sent_pair}
-use Rattle.pc_runner.proofs.Lists.{asks-push, each_after-push, evaluations-push, jobs-push, one_if, position-push}
+use Rattle.pc_runner.proofs.Calling.{delivered_next, delivered_on}
+use Rattle.pc_runner.proofs.Exchanging.{AreBefore, answered_so, heard_known, heard_pair, it, known_answered, known_both, names_it, said, sent_pair, with_sent}
+use Rattle.pc_runner.proofs.Going.{hear_brings, of_send}
+use Rattle.pc_runner.proofs.Growing.{one_longer, own_kept_by_range}
+use Rattle.pc_runner.proofs.InTurn.{inside_evaluated, inside_further, inside_heard, inside_sent}
+use Rattle.pc_runner.proofs.Keeps.{beside_on, beside_same}
+use Rattle.pc_runner.proofs.Left.{jobs_heard, jobs_sent, nothing_put}
+use Rattle.pc_runner.proofs.Stepping.{step_hears, step_timely}
+use Rattle.pc_runner.specs.Database.{HasEvaluated}
+use Rattle.pc_runner.specs.Following.{HasJobs}
+use Rattle.pc_runner.specs.Parts.{IsInside, TakesPart}
 use Rattle.pc_runner.specs.Exchanging.{IsExchanged, IsTimely, KeepsBeside, exchanged}
-use Rattle.pc_runner.specs.Follows.{EachAfter, KeepsStep, KeepsWork}
-use Rattle.pc_runner.specs.Follows.Clocks.{asks_in, clock_rule}
-use Rattle.pc_runner.specs.Follows.Script.{Position, position}
-use Rattle.pc_runner.specs.Follows.Wire.{evaluations}
-use Rattle.pc_runner.specs.History.{History, known_by, own_by}
-use Rattle.pc_runner.specs.Keeping.{AreDelivered, open_calls}
+use Rattle.pc_runner.specs.Follows.{KeepsStep}
+use Rattle.pc_runner.specs.Follows.Clocks.{clock_rule}
+use Rattle.pc_runner.specs.Follows.Script.{Position}
+use Rattle.pc_runner.specs.History.{History, known_by}
+use Rattle.pc_runner.specs.Keeping.{AreDelivered}
 
 -- nothing happened beside it
 pub later_itself : (c : Coordination) (k : Known) → k.high ≤ k.top → IsLaterBeside c k k
@@ -110,43 +117,36 @@ no_wait k call (requests.Resolve id key fate) is = tt
 no_wait k call (requests.Remove id anchor) is = tt
 no_wait k call request is = absurd cc
 
+-- a message beside the coordinator is no put of any transaction
+pub puts_none : (id : TxnId) (request : Request) → is_beside request ≡ true → is_put_by id request ≡ false
+puts_none id (requests.Push holder by level now goal) is = refl
+puts_none id (requests.Resolve other key fate) is = refl
+puts_none id (requests.Remove other anchor) is = refl
+puts_none id request is = absurd cc
+
 -- The messages of the jobs that wait once one was sent.
 abbrev pub left_after : Known → ℕ → ℕ → Request → List (List Request) → List (List Request)
 left_after k number range request waiting = jobs_after (events.Send number range request) k waiting
 
-step_sent : (pipelining : Bool) (rule : ℕ → ℕ → Bool) (asks : ℕ) (at : Position) (jobs : List (List Request)) (k : Known) (number range : ℕ) (request : Request) → IsTimely k jobs request
-    → KeepsStep pipelining rule asks at jobs k (events.Send number range request) None
-step_sent pipelining rule asks at jobs k number range request timely = record {
-  clock = tt;
-  script = tt;
-  wire = tt;
-  early_tell = timely.undecided;
-  early_proof = λ is none. tt;
-  written = tt;
-  puts = tt;
-  resends = timely.again;
-  finishes = timely.due;
-  aborts = tt;
-}
+-- in a call no message of a job is sent
+pub left_open : (k : Known) (s : Statement) (number range : ℕ) (request : Request) (waiting : List (List Request)) → k.statement ≡ Some s → left_after k number range request waiting ≡ waiting
+left_open k s number range request waiting opened = ap (λ (o : Option Statement). if is_some o then waiting else without_first waiting) opened
+
+-- between calls the next message of the oldest job is sent
+pub left_closed : (k : Known) (number range : ℕ) (request : Request) (waiting : List (List Request)) → k.statement ≡ None → left_after k number range request waiting ≡ without_first waiting
+left_closed k number range request waiting none = ap (λ (o : Option Statement). if is_some o then waiting else without_first waiting) none
 
 step_heard : (pipelining : Bool) (rule : ℕ → ℕ → Bool) (asks : ℕ) (at : Position) (jobs : List (List Request)) (k : Known) (number step : ℕ) (h : Heard) → is_beside h.request ≡ true
     → KeepsStep pipelining rule asks at jobs k (events.Hear number step) (Some h)
-step_heard pipelining rule asks at jobs k number step h is = record {
-  clock = tt;
-  script = tt;
-  wire = tt;
-  early_tell = tt;
-  early_proof = λ asked none. no_put h.request is;
-  written = tt;
-  puts = λ call asked. no_wait k call h.request is;
-  resends = tt;
-  finishes = tt;
-  aborts = tt;
-}
+step_heard pipelining rule asks at jobs k number step h is =
+    step_hears pipelining rule asks at jobs k number step h (λ asked none. no_put h.request is) (λ call asked. no_wait k call h.request is)
 
 module _ (session number : ℕ) (request : Request) (reply : Reply) (h g : History) (x : IsExchanged session number request reply h g) (before : AreBefore number (known_by session h).sent) (beside : is_beside request ≡ true) where
   abbrev k : Known
   k = known_by session h
+
+  abbrev me : ActorId
+  me = actors.Session session
 
   abbrev sends : Pair Event
   sends = sent_pair session number request reply h g x
@@ -154,113 +154,66 @@ module _ (session number : ℕ) (request : Request) (reply : Reply) (h g : Histo
   abbrev hears : Pair Event
   hears = heard_pair session number request reply h g x
 
-  abbrev after_send : List (Pair Event)
-  after_send = own_by session h ++ sends ∷ []
-
   abbrev says : Heard
   says = it session number request reply h g x before
 
-  own_is : own_by session g ≡ after_send ++ hears ∷ []
-  own_is = own_exchanged session number request reply h g x
+  said_it : request_sent number (known_by session x.answered).sent ≡ Some request
+  said_it = ap (λ (k : Known). request_sent number k.sent) (known_answered session number request reply h g x) ∙ said session number request reply h g x before
 
-  known_is : known_by session g ≡ exchanged number x.sends.range x.step request reply k
-  known_is = known_exchanged session number request reply h g x before beside
-
+  -- how far the history follows the session's work after each of the three entries
   module _ (work : Workload) (of : SessionWork) (at : Position) (clock : SteppedState) (waiting : List (List Request)) (keeps : KeepsBeside work session of at clock waiting h) (timely : IsTimely k waiting request) where
-    sends_keeps : (rule : ℕ → ℕ → Bool) → KeepsWork work of rule (own_by session h) sends
-    sends_keeps rule =
-        step_sent work.pipelining (clock_rule of.clock rule) (asks_in (own_by session h)) (position work.reruns of.script (own_by session h)) (jobs_of (own_by session h)) k number x.sends.range request
-        (subst (λ jobs. IsTimely k jobs request) (sym keeps.waiting_are) timely)
+    abbrev left : List (List Request)
+    left = left_after k number x.sends.range request waiting
 
-    brought : heard_by (events.Hear number x.step) hears.named (known after_send).sent ≡ Some says
-    brought =
-        let F : Option Request → Option Heard = λ r. heard_as number x.step r (Some reply) in
-        ap (λ (k : Known). F (request_sent number k.sent)) (known_push (own_by session h) sends)
-        ∙ ap F (said session number request reply h g x before)
-
-    hears_keeps : (rule : ℕ → ℕ → Bool) → KeepsWork work of rule after_send hears
-    hears_keeps rule =
-        let P : Option Heard → Type 0 = λ o.
-        KeepsStep work.pipelining (clock_rule of.clock rule) (asks_in after_send) (position work.reruns of.script after_send) (jobs_of after_send) (known after_send) (events.Hear number x.step) o in
-        subst P (sym brought)
-        (step_heard work.pipelining (clock_rule of.clock rule) (asks_in after_send) (position work.reruns of.script after_send) (jobs_of after_send) (known after_send) number x.step says beside)
-
-    steps_on : (rule : ℕ → ℕ → Bool) → EachAfter (KeepsWork work of rule) [] (own_by session g)
-    steps_on rule =
-        let P = KeepsWork work of rule in
-        subst (λ own. EachAfter P [] own) (sym own_is)
-        (each_after-push P [] after_send hears
-        (each_after-push P [] (own_by session h) sends (keeps.steps rule) (sends_keeps rule)) (hears_keeps rule))
-
-    place_on : position work.reruns of.script (own_by session g) ≡ position work.reruns of.script (own_by session h)
-    place_on =
-        ap (position work.reruns of.script) own_is
-        ∙ (position-push work.reruns of.script after_send hears
-        ∙ position-push work.reruns of.script (own_by session h) sends)
-
-    asks_on : asks_in (own_by session g) ≡ asks_in (own_by session h)
-    asks_on =
-        let a = asks-push after_send hears in
-        let b = asks-push (own_by session h) sends in
-        let c : asks_in (own_by session g) ≡ asks_in (after_send ++ hears ∷ []) = ap asks_in own_is in
-        omega (arith, a, b, c)
-
-    jobs_on : jobs_of (own_by session g) ≡ left_after k number x.sends.range request waiting
-    jobs_on =
-        ap jobs_of own_is
-        ∙ (jobs-push after_send hears
-        ∙ (jobs-push (own_by session h) sends
-        ∙ ap (left_after k number x.sends.range request) keeps.waiting_are))
-
-    pub longer_by : length g.entries ≡ length h.entries + 3
-    longer_by =
-        let a : length x.sent.entries ≡ length h.entries + 1 = ap (λ (y : History). length y.entries) x.sends.grown.behind ∙ length-append h.entries _ in
-        let b : length x.answered.entries ≡ length x.sent.entries + 1 = ap (λ (y : History). length y.entries) x.answers.more.grown.behind ∙ length-append x.sent.entries _ in
-        let c : length g.entries ≡ length x.answered.entries + 1 = ap (λ (y : History). length y.entries) x.hears.behind ∙ length-append x.answered.entries _ in
-        omega (arith, a, b, c)
-
-    pub keeps_exchanged : KeepsBeside work session of at clock (left_after k number x.sends.range request waiting) g
-    keeps_exchanged =
+    keeps_sent : KeepsBeside work session of at clock left x.sent
+    keeps_sent =
+        let event = events.Send number x.sends.range request in
+        let reads = keeps.reads in
         let paired = keeps.paired in
-        let opens : open_calls (known_by session g).statement ≡ open_calls k.statement = ap (λ (k : Known). open_calls k.statement) known_is in
-        record {
-          place = keeps.place ∙ sym place_on;
-          reads = keeps.reads ∙ sym asks_on;
-          paired = omega (arith, paired, opens, asks_on, longer_by);
-          waiting_are = jobs_on;
-          steps = steps_on;
-        }
+        beside_on work session of at clock waiting h x.sent at clock left event keeps x.sends.grown refl (sym (add-zero clock.reads))
+        (λ rule. step_timely work.pipelining (clock_rule of.clock rule) clock.reads at waiting k number x.sends.range request timely) (omega arith) refl
+
+    keeps_evaluated : KeepsBeside work session of at clock left x.answered
+    keeps_evaluated =
+        let event = events.Eval me number reply in
+        let longer = one_longer x.sent x.answered (actors.Range x.answers.range) event x.answers.more.grown in
+        beside_same work session of at clock left x.sent x.answered (own_kept_by_range x.sent x.answered x.answers.range session event x.answers.more.grown) (omega arith) keeps_sent
+
+    pub keeps_exchanged : KeepsBeside work session of at clock left g
+    keeps_exchanged =
+        let event = events.Hear number x.step in
+        let known = known_by session x.answered in
+        let reads = keeps_evaluated.reads in
+        let paired = keeps_evaluated.paired in
+        let brings = hear_brings session x.answered number x.step request reply x.answers.more.grown.sound (answered_so session number request reply h g x) said_it in
+        beside_on work session of at clock left x.answered g at clock left event keeps_evaluated x.hears refl (sym (add-zero clock.reads))
+        (λ rule.
+        subst (KeepsStep work.pipelining (clock_rule of.clock rule) clock.reads at left known event) (sym brings)
+        (step_heard work.pipelining (clock_rule of.clock rule) clock.reads at left known number x.step says beside))
+        (omega arith) refl
 
   -- the reply was heard to the message that was sent since
   pub was_answered : number ≡ next_number k → WasAnswered k (known_by session g) request reply
   was_answered next = record {
-    before = known_sent session number request reply h g x;
+    before = with_sent session number request reply h g x;
     later = later-push k k sends (later-itself k) refl;
     hearing = hears;
-    hears = record {
-      number = number;
-      step = x.step;
-      event = refl;
-      sent_since = omega (arith, next);
-      said = said session number request reply h g x before;
-      evaluation = _;
-      sender = actors.Session session;
-      asked = number;
-      named = refl;
-      told = refl;
-    };
+    hears =
+        let answer = answered_so session number request reply h g x in
+        record {
+          number = number;
+          step = x.step;
+          event = refl;
+          sent_since = omega (arith, next);
+          said = said session number request reply h g x before;
+          evaluation = answer.evaluation;
+          sender = me;
+          asked = number;
+          named = names_it session number request reply h g x;
+          told = answer.says;
+        };
     knows = known_both session number request reply h g x;
   }
-
-  -- its message was evaluated once more
-  pub evaluations_on : (n : ℕ) → evaluations (actors.Session session) n g.entries ≡ evaluations (actors.Session session) n h.entries + one_if (number == n)
-  evaluations_on n =
-      let me = actors.Session session in
-      let a : evaluations me n x.sent.entries ≡ evaluations me n h.entries + 0 = ap (λ (y : History). evaluations me n y.entries) x.sends.grown.behind ∙ evaluations-push me n h.entries _ in
-      let b : evaluations me n x.answered.entries ≡ evaluations me n x.sent.entries + one_if (same_id me me && (number == n)) = ap (λ (y : History). evaluations me n y.entries) x.answers.more.grown.behind ∙ evaluations-push me n x.sent.entries _ in
-      let c : evaluations me n g.entries ≡ evaluations me n x.answered.entries + 0 = ap (λ (y : History). evaluations me n y.entries) x.hears.behind ∙ evaluations-push me n x.answered.entries _ in
-      let d : one_if (same_id me me && (number == n)) ≡ one_if (number == n) = ap (λ b. one_if (b && (number == n))) (same_id-refl me) in
-      omega (arith, a, b, c, d)
 
   -- and meanwhile no transaction's put was sent
   pub was_answered_to : number ≡ next_number k → (m : Resolving) → WasAnsweredToIt k (known_by session g) request reply m
@@ -269,9 +222,33 @@ module _ (session number : ℕ) (request : Request) (reply : Reply) (h g : Histo
     answered = was_answered next;
     unwritten = All-push (λ p. sends_put_by m.id p.entry.event ≡ false) [] sends (All-nil (λ p. sends_put_by m.id p.entry.event ≡ false)) (puts_none m.id request beside);
   }
-    where
-      puts_none : (id : TxnId) (request : Request) → is_beside request ≡ true → is_put_by id request ≡ false
-      puts_none id (requests.Push holder by level now goal) is = refl
-      puts_none id (requests.Resolve other key fate) is = refl
-      puts_none id (requests.Remove other anchor) is = refl
-      puts_none id request is = absurd cc
+
+  -- the jobs that wait may be done still
+  pub jobs_exchanged : (jobs : List Job) → HasJobs jobs k → HasJobs jobs (known_by session g)
+  jobs_exchanged jobs has =
+      let of = of_send session h number x.sends.range request in
+      subst (HasJobs jobs) (sym (known_both session number request reply h g x))
+      (jobs_heard jobs (with_sent session number request reply h g x) hears number x.step says refl (heard_known session number request reply h g x before)
+      (jobs_sent jobs k sends number x.sends.range request of (nothing_put k request (λ id. puts_none id request beside)) has))
+
+-- ---- whatever the message
+
+module _ (session number : ℕ) (request : Request) (reply : Reply) (h g : History) (x : IsExchanged session number request reply h g) where
+  -- it was evaluated, as those before it were
+  pub delivered_exchanged : (last : ℕ) → number ≡ last + 1 → AreDelivered session last h → AreDelivered session number g
+  delivered_exchanged last next d =
+      let answers : HasEvaluated x.sent x.answered session (last + 1) request x.step reply = subst (λ n. HasEvaluated x.sent x.answered session n request x.step reply) next x.answers in
+      subst (λ n. AreDelivered session n g) (sym next)
+      (delivered_on session (last + 1) x.answered g (actors.Session session) (events.Hear number x.step)
+      (delivered_next session last x.sent x.answered request x.step reply
+      (delivered_on session last h x.sent (actors.Session session) (events.Send number x.sends.range request) d x.sends.grown (λ sent. refl)) answers)
+      x.hears (λ sent. refl))
+
+  -- and the part of the session goes on by it
+  pub part_exchanged : (before : History) → TakesPart session before h (IsInside session) → TakesPart session before g (IsInside session)
+  part_exchanged before part =
+      inside_further session before x.answered g
+      (inside_further session before x.sent x.answered
+      (inside_further session before h x.sent part (inside_sent session h x.sent number request x.sends))
+      (inside_evaluated session x.sent x.answered number request x.step reply x.answers))
+      (inside_heard session x.answered g number x.step x.hears)

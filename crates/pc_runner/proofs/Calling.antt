@@ -1,5 +1,5 @@
 -- A session in its call, by the parts of its runner; and what one more entry leaves of how it stands beside the history.
-use Rattle.std.proofs.Common.{◌≡◌, ◌≢◌, ℕ, ◌+◌, ◌≤◌, ◌<◌, Bool, true, false, ◌==◌, All, List, [], ◌∷◌, ◌++◌, length, Option, Some, None, refl, sym, ap, subst, ◌∙◌, arith, length-append}
+use Rattle.std.proofs.Common.{◌≡◌, ◌≢◌, ℕ, ◌+◌, ◌≤◌, ◌<◌, Bool, true, false, ◌==◌, List, [], ◌∷◌, length, drop, get_or, refl, sym, ap, subst, ◌∙◌, arith}
 use Rattle.std.proofs.lemmas.Bool.{eq-eqb, eqb-true}
 use Rattle.pc_base.specs.declared.actor.ActorId.{ActorId}
 use Rattle.pc_base.specs.declared.actor.ActorId.TheVariants as actors
@@ -13,8 +13,8 @@ use Rattle.pc_session.specs.Stepped.{SteppedState}
 use Rattle.pc_work.specs.declared.session.SessionWork.{SessionWork}
 use Rattle.pc_work.specs.declared.workload.Workload.{Workload}
 use Rattle.pc_world.specs.Known.{Known, learn}
-use Rattle.pc_world.specs.Local.{IsActorOf}
 use Rattle.pc_runner.proofs.Growing.{actor_kept, evaluations_one, evaluations_rest, evaluations_same, head_same, known_grows, known_same_by, next_pair}
+use Rattle.pc_runner.proofs.Places.{drop_item}
 use Rattle.pc_runner.specs.Database.{HasEvaluated}
 use Rattle.pc_runner.specs.declared.outbox.Answered.{Answered}
 use Rattle.pc_runner.specs.declared.outbox.Posted.{Posted}
@@ -42,6 +42,18 @@ pub calling_of : (r : SessionRun) (replies : List Answered) (outbox : List Poste
     → Calls r.work.now r.number r.session.now r.script r.clock r.reading r.jobs.items r.coordinator r.sends replies outbox h → IsCalling r replies outbox h
 calling_of r replies outbox h is = record { stands = is.stands; keeps = is.keeps; jobs = is.jobs_left; open_now = is.open_now; way = is.way }
 
+-- in a loop over the replies, the next one of those that are still to be heard
+pub at_reply : (r : SessionRun) (replies : List Answered) (index : ℕ) (a : Answered) (h : History) → index < length replies → a ≡ get_or replies index a → IsCalling r (drop index replies) [] h
+    → Calls r.work.now r.number r.session.now r.script r.clock r.reading r.jobs.items r.coordinator r.sends (a ∷ drop (index + 1) replies) [] h
+at_reply r replies index a h within is calling =
+    calls_of r (a ∷ drop (index + 1) replies) [] h (subst (λ (l : List Answered). IsCalling r l [] h) (drop_item replies index a within is) calling)
+
+-- and over the messages, the next one of those that are still to be evaluated
+pub at_message : (r : SessionRun) (replies : List Answered) (posted : List Posted) (index : ℕ) (m : Posted) (h : History) → index < length posted → m ≡ get_or posted index m → IsCalling r replies (drop index posted) h
+    → Calls r.work.now r.number r.session.now r.script r.clock r.reading r.jobs.items r.coordinator r.sends replies (m ∷ drop (index + 1) posted) h
+at_message r replies posted index m h within is calling =
+    calls_of r replies (m ∷ drop (index + 1) posted) h (subst (λ (l : List Posted). IsCalling r replies l h) (drop_item posted index m within is) calling)
+
 -- one more entry of the session, of which its coordinator learnt
 pub stands_on : (number : ℕ) (c d : Coordination) (sends later : ℕ) (h g : History) (event : Event) → StandsBy number c sends h → HasGrown h g (actors.Session number) event
     → d.session ≡ c.session → d.splits ≡ c.splits → Knows d (learn (next_pair number h event) (known_by number h)) → later ≡ length (known_by number g).sent → StandsBy number d later g
@@ -66,6 +78,11 @@ stands_beside number c sends h g actor event stands grown differ =
       knows = subst (Knows c) (sym k) stands.knows;
       counted = stands.counted ∙ sym (ap (λ (k : Known). length k.sent) k);
     }
+
+-- the call is open still where its statement is, and its transaction is as it was
+pub open_on : (at : Position) (reading : ℕ) (k next : Known) → next.statement ≡ k.statement → next.is_open ≡ k.is_open → IsOpen at reading k → IsOpen at reading next
+open_on at reading k next statement is_open o =
+    record { call = o.call; next = o.next; opened = statement ∙ o.opened; outside = λ out. is_open ∙ o.outside out; course = o.course; items = o.items }
 
 -- an entry that evaluates none of the session's messages
 pub delivered_on : (number delivered : ℕ) (h g : History) (actor : ActorId) (event : Event) → AreDelivered number delivered h → HasGrown h g actor event → ((sent : ℕ) → evaluates (actors.Session number) sent event ≡ false)

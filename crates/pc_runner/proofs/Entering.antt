@@ -1,5 +1,6 @@
 -- What an entry needs so that it may follow a run, and that a sound history with one more is sound.
-use Rattle.std.proofs.Common.{◌≡◌, ℕ, ◌<◌, ◌^◌, Bool, true, ◌&&◌, ◌==◌, List, [], ◌∷◌, ◌++◌, length, Any, Option, Some, refl, sym, ap, subst, ◌∙◌, arith, length-append}
+use Rattle.std.proofs.Common.{◌≡◌, ℕ, ◌+◌, ◌<◌, ◌^◌, Bool, true, ◌&&◌, ◌==◌, List, [], ◌∷◌, ◌++◌, length, Any, Option, Some, refl, sym, ap, subst, ◌∙◌, arith, length-append}
+use Rattle.std.proofs.lemmas.Bool.{eq-eqb}
 use Rattle.std.proofs.lemmas.List.Elements.{All-push}
 use Rattle.pc_base.specs.declared.actor.ActorId.{ActorId}
 use Rattle.pc_base.specs.declared.actor.ActorId.TheVariants as actors
@@ -23,15 +24,12 @@ use Rattle.pc_world.specs.Known.{next_number}
 use Rattle.pc_world.specs.Local.{Head, IsActorOf, IsAnswer, MayAsk, MayHear}
 use Rattle.pc_world.specs.MayTell.{MayTell}
 use Rattle.pc_world.specs.Named.{is_eval, is_send_of, request_in, request_named}
-use Rattle.pc_world.specs.RangeOf.{GoesTo}
+use Rattle.pc_world.specs.RangeOf.{AreRising, GoesTo}
 use Rattle.pc_world.specs.RangeState.{RangeState}
 use Rattle.pc_world.specs.Run.{protocol}
 use Rattle.pc_world.specs.Unstaged.{IsNoStage, OnSent}
-use Rattle.pc_runner.specs.History.{History, IsSound, known_by, state_in}
+use Rattle.pc_runner.specs.History.{History, IsSound, head_of, known_by, state_in}
 use Rattle.pc_runner.specs.Journal.{HasOneMore, IsAnswered, WasSentTo, next_entry, with_entry}
-
-same-number : (m n : ℕ) → m ≡ n → (m == n) ≡ true
-same-number m n h = grind arith
 
 both : (a b : Bool) → a ≡ true → b ≡ true → (a && b) ≡ true
 both a b h k = grind arith
@@ -42,7 +40,7 @@ pub eval_names : (h : History) (session number range : ℕ) (told : Reply) (requ
 eval_names h session number range told request s sound =
     let event = events.Eval (actors.Session session) number told in
     let one : same_id (actors.Session session) s.send.actor ≡ true = same_id-equal (actors.Session session) s.send.actor (sym s.whose) in
-    let other : is_send_of number s.send.event ≡ true = subst (λ event. is_send_of number event ≡ true) (sym s.says) (same-number number number refl) in
+    let other : is_send_of number s.send.event ≡ true = subst (λ event. is_send_of number event ≡ true) (sym s.says) (eq-eqb number number refl) in
     named-one (protocol h.head) h.entries event s.send
     (names_one h.head h.entries event sound.run) s.stands (both (same_id (actors.Session session) s.send.actor) (is_send_of number s.send.event) one other)
 
@@ -50,7 +48,7 @@ eval_names h session number range told request s sound =
 pub hear_names : (h : History) (session number step : ℕ) (told : Reply) (a : IsAnswered h session number step told) → IsSound h
     → named_in (protocol h.head) h.entries (events.Hear number step) ≡ Some a.evaluation
 hear_names h session number step told a sound =
-    let one : (a.evaluation.step == step) ≡ true = same-number a.evaluation.step step a.at in
+    let one : (a.evaluation.step == step) ≡ true = eq-eqb a.evaluation.step step a.at in
     let other : is_eval a.evaluation.event ≡ true = subst (λ event. is_eval event ≡ true) (sym a.says) refl in
     named-one (protocol h.head) h.entries (events.Hear number step) a.evaluation
     (names_one h.head h.entries (events.Hear number step) sound.run) a.stands (both (a.evaluation.step == step) (is_eval a.evaluation.event) one other)
@@ -91,6 +89,13 @@ eval_follows h session number range request s sound there sent is =
       local = record { there = there; next = subst (λ (e : Option (Entry Event)). IsAnswer (request_named e) (state_in range h) told) (sym named) says };
       caused = (sent.stands.0, sent.send, sent.stands.1, sent.stands.2, record { whose = sent.whose; send = subst (λ event. SendsTo (actors.Range range) number event) (sym sent.says) (refl, refl) });
     }
+
+-- The history before the first entry.
+abbrev pub first_history : List (List ℕ) → ℕ → History
+first_history splits sessions = record { head = head_of splits sessions; entries = [] }
+
+pub sound_begun : (splits : List (List ℕ)) (sessions : ℕ) → AreRising splits → length splits + 1 < 2 ^ 32 → IsSound (first_history splits sessions)
+sound_begun splits sessions rising few = record { run = tt; short = omega arith; unstaged = λ k d there. absurd (omega arith); rising = rising; few = few }
 
 -- a sound history with one more entry, which may follow it, and which stages nothing
 pub still_sound : (h : History) (actor : ActorId) (event : Event) → IsSound h → MayFollow (protocol h.head) h.entries (next_entry h actor event) → OnSent IsNoStage event → length h.entries < 2 ^ 64

@@ -1,18 +1,14 @@
 -- A session's script beside its open transaction: which call comes next suits it, before a call and after its answer.
-use Rattle.std.proofs.Common.{◌≡◌, ℕ, zero, suc, Bool, true, false, ◌&&◌, not, inl, inr, All, List, [], ◌∷◌, ◌++◌, drop, slice_get, Option, Some, None, IfSome, IsTrue, refl, sym, ap, subst, ◌∙◌}
+use Rattle.std.proofs.Common.{◌≡◌, ℕ, zero, suc, Bool, true, false, inl, inr, All, List, [], ◌∷◌, drop, slice_get, Option, Some, None, IfSome, refl, sym, ap, subst, ◌∙◌}
 use Rattle.std.proofs.lemmas.List.Elements.{All-append, All-cons, All-head, All-nil, All-push, All-tail}
 use Rattle.std.proofs.lemmas.List.Concat.{flat_map-cons}
-use Rattle.std.specs.Bool.{MatchBool}
 use Rattle.std.specs.List.{flat_map}
-use Rattle.pc_base.specs.declared.actor.ActorId.{ActorId}
 use Rattle.pc_base.specs.declared.transaction.Priority.{Priority}
 use Rattle.pc_coord.specs.declared.transaction.InFlight.{InFlight}
 use Rattle.pc_coord.specs.declared.transaction.Transaction.{Transaction}
-use Rattle.pc_coord.specs.Events.{IsSameWrite, MayWrite, Suits, SuitsTxn}
+use Rattle.pc_coord.specs.Events.{IsSameWrite, Suits, SuitsTxn}
 use Rattle.pc_coord.specs.Knows.Held.{IsHeld}
-use Rattle.pc_coord.specs.Suiting.{IsReader, IsUnused, IsWriter, SuitsNext}
-use Rattle.pc_proto.specs.declared.answer.Answer.{Answer}
-use Rattle.pc_proto.specs.declared.answer.Answer.TheVariants as answers
+use Rattle.pc_coord.specs.Suiting.{IsReader, IsUnused, IsWriter}
 use Rattle.pc_proto.specs.declared.call.Call.{Call}
 use Rattle.pc_proto.specs.declared.call.Call.TheVariants as calls
 use Rattle.pc_work.specs.Built.{IsBuiltItem, IsReadStatement, IsWriteStatement}
@@ -21,12 +17,9 @@ use Rattle.pc_work.specs.declared.item.Item.TheVariants.{Learn, Txn}
 use Rattle.pc_work.specs.declared.statement.Statement.{Statement as Step}
 use Rattle.pc_work.specs.declared.statement.Statement.TheVariants as steps
 use Rattle.pc_world.specs.Known.{Known}
-use Rattle.pc_world.specs.Known.Statements.{Statement, is_open_told}
 use Rattle.pc_world.specs.Local.{is_outside, is_round}
-use Rattle.pc_world.specs.MayTell.{MayTell, MayTellIn, MayTellRow, is_begin, is_past_range, needs_txn}
-use Rattle.pc_world.specs.Tell.Refusal.{MayBlock}
-use Rattle.pc_runner.specs.Follows.Script.{Position, after_told, calls_of, end_call, next_call, opened, rerun, statement_calls}
-use Rattle.pc_runner.specs.Suiting.{AreOfOne, Fits, FitsTxn, GoesOnWith, IsCallIn, IsCourse}
+use Rattle.pc_runner.specs.Follows.Script.{Position, calls_of, end_call, opened, rerun, statement_calls}
+use Rattle.pc_runner.specs.Suiting.{AreOfOne, Fits, FitsTxn, IsCallIn, IsCourse}
 
 -- the calls of an item that only reads, or only writes
 end_in : (reads commits : Bool) → IsCallIn reads (end_call commits)

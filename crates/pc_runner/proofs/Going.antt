@@ -4,6 +4,7 @@ use Rattle.pc_base.specs.declared.actor.ActorId.TheVariants as actors
 use Rattle.pc_coord.proofs.Learned.{learn_own}
 use Rattle.pc_coord.proofs.Steps.{asked, asked_is, heard, heard_is, sent, sent_is, told, told_is}
 use Rattle.pc_coord.specs.Events.{IsOf}
+use Rattle.pc_base.specs.declared.entry.Entry.{Entry}
 use Rattle.pc_history.specs.declared.pair.Pair.{Pair}
 use Rattle.pc_proto.specs.declared.answer.Answer.{Answer}
 use Rattle.pc_proto.specs.declared.call.Call.{Call}
@@ -11,11 +12,12 @@ use Rattle.pc_proto.specs.declared.event.Event.{Event}
 use Rattle.pc_proto.specs.declared.event.Event.TheVariants as events
 use Rattle.pc_proto.specs.declared.reply.Reply.{Reply}
 use Rattle.pc_proto.specs.declared.request.Request.{Request}
-use Rattle.pc_proto.specs.Stamps.{event_stamps, reply_stamps}
+use Rattle.pc_proto.specs.Stamps.{event_stamps}
 use Rattle.pc_world.specs.Known.{Known, known_after, learn}
 use Rattle.pc_world.specs.Known.Clock.{last_of}
-use Rattle.pc_world.specs.Known.Traffic.{Heard, heard_as, reply_in, request_sent}
+use Rattle.pc_world.specs.Known.Traffic.{Heard, heard_as, reply_in, reply_named, request_sent}
 use Rattle.pc_runner.proofs.Growing.{ask_names_none, hear_names_answer, known_grows, next_pair, send_names_none, tell_names_none}
+use Rattle.pc_runner.proofs.Keeps.{brought}
 use Rattle.pc_runner.specs.History.{History, IsSound, known_by}
 use Rattle.pc_runner.specs.Journal.{HasGrown, IsAnswered}
 
@@ -48,7 +50,7 @@ module _ (number : ℕ) (h : History) where
   abbrev pub reply_heard : ℕ → ℕ → Request → Reply → Heard
   reply_heard own step request reply = record { number = own; request = request; reply = reply; step = step }
 
-  learn_hear : (p : Pair Event) (k : Known) (own step : ℕ) (request : Request) (reply : Reply) (a : IsAnswered h number own step reply) → p.entry.event ≡ events.Hear own step → p.named ≡ Some a.evaluation
+  pub learn_hear : (p : Pair Event) (k : Known) (own step : ℕ) (request : Request) (reply : Reply) (a : IsAnswered h number own step reply) → p.entry.event ≡ events.Hear own step → p.named ≡ Some a.evaluation
       → request_sent own k.sent ≡ Some request → learn p k ≡ heard (reply_heard own step request reply) k
   learn_hear p k own step request reply a says names said =
       let hear = events.Hear own step in
@@ -66,3 +68,13 @@ module _ (number : ℕ) (h : History) where
       let event = events.Hear own step in
       known_grows h g number event more
       ∙ learn_hear (next_pair number h event) (known_by number h) own step request reply a refl (hear_names_answer number h own step reply a sound) said
+
+  -- what the hearing brings
+  pub hear_brings : (own step : ℕ) (request : Request) (reply : Reply) → IsSound h → IsAnswered h number own step reply → request_sent own (known_by number h).sent ≡ Some request
+      → brought number h (events.Hear own step) ≡ Some (reply_heard own step request reply)
+  hear_brings own step request reply sound a said =
+      let asked = request_sent own (known_by number h).sent in
+      let F : Option (Entry Event) → Option Heard = λ n. heard_as own step asked (reply_named n) in
+      ap F (hear_names_answer number h own step reply a sound)
+      ∙ (ap (λ e. heard_as own step asked (reply_in e)) a.says
+      ∙ ap (λ r. heard_as own step r (Some reply)) said)

@@ -1,30 +1,30 @@
 -- How a history goes on by the part of one session: one more entry of it, one part behind another, and what it leaves to the other
 -- sessions.
-use Rattle.std.proofs.Common.{◌≡◌, ◌≢◌, ℕ, ◌+◌, true, false, ◌==◌, ◌&&◌, List, [], ◌∷◌, ◌++◌, All, Contains, cond, filter, map, refl, sym, ap, subst, ◌∙◌, arith}
+use Rattle.std.proofs.Common.{◌≡◌, ◌≢◌, ℕ, ◌+◌, true, false, ◌==◌, ◌&&◌, List, [], ◌∷◌, ◌++◌, All, cond, filter, map, refl, sym, ap, subst, ◌∙◌, arith}
 use Rattle.std.proofs.lemmas.Bool.{ne_eqb}
 use Rattle.std.proofs.lemmas.List.{append-nil, append_assoc, map-append}
-use Rattle.std.proofs.lemmas.List.Elements.{All-append, All-from_recursion, All-nil, Contains-append_left, filter-append, recursion_from_All}
+use Rattle.std.proofs.lemmas.List.Elements.{All-append, All-from_recursion, All-nil, filter-append, recursion_from_All}
 use Rattle.std.specs.List.{AllByRecursion as Each}
 use Rattle.pc_base.specs.declared.actor.ActorId.{ActorId}
 use Rattle.pc_base.specs.declared.actor.ActorId.TheVariants as actors
 use Rattle.pc_base.specs.declared.entry.Entry.{Entry}
+use Rattle.pc_coord.proofs.Rounds.{one_if}
 use Rattle.pc_history.proofs.Histories.{own-push_other}
 use Rattle.pc_history.proofs.Ids.{same_id-differ, same_id-refl}
 use Rattle.pc_history.specs.Own.{own, same_id}
 use Rattle.pc_proto.specs.declared.event.Event.{Event}
 use Rattle.pc_proto.specs.declared.event.Event.TheVariants as events
 use Rattle.pc_proto.specs.declared.reply.Reply.{Reply}
-use Rattle.pc_proto.specs.declared.request.Request.{Request}
 use Rattle.pc_world.proofs.Each.{each-weaker}
 use Rattle.pc_world.specs.Known.{known}
 use Rattle.pc_world.specs.Local.{Head, IsActorOf}
 use Rattle.pc_world.specs.Run.{protocol}
-use Rattle.pc_runner.proofs.Growing.{count_push, one_if}
-use Rattle.pc_runner.specs.Follows.Turns.{IsItOrRange, deeds}
+use Rattle.pc_runner.proofs.Growing.{count_push}
+use Rattle.pc_runner.specs.Follows.Turns.{EvaluatesOf, IsItOrRange, IsOwnDeed, deeds}
 use Rattle.pc_runner.specs.Follows.Wire.{evaluates, evaluations}
 use Rattle.pc_runner.specs.History.{History, known_by, own_by}
-use Rattle.pc_runner.specs.Journal.{HasGrown, IsAnswered, WasSent, next_entry}
-use Rattle.pc_runner.specs.Parts.{EvaluatesOf, GoesOnBy}
+use Rattle.pc_runner.specs.Journal.{HasGrown, next_entry}
+use Rattle.pc_runner.specs.Parts.{GoesOnBy}
 
 -- ---- deeds
 
@@ -47,22 +47,6 @@ module _ (id : ActorId) where
       let none : same_id id e.actor ≡ false = same_id-differ id e.actor (λ same. differ (sym same)) in
       ap (λ b. map (λ (x : Entry Event). x.event) (cond b (e ∷ []) [])) none
 
--- one more deed of the session
-pub deeds_grow : (number : ℕ) (part : List (Entry Event)) (g : History) (event : Event)
-    → deeds (actors.Session number) (part ++ next_entry g (actors.Session number) event ∷ []) ≡ deeds (actors.Session number) part ++ event ∷ []
-deeds_grow number part g event =
-    let e = next_entry g (actors.Session number) event in
-    deeds_append (actors.Session number) part (e ∷ []) ∙ ap (λ (d : List Event). deeds (actors.Session number) part ++ d) (deeds_own (actors.Session number) e refl)
-
--- and none by an entry of a range
-pub deeds_stay : (number range : ℕ) (part : List (Entry Event)) (g : History) (event : Event)
-    → deeds (actors.Session number) (part ++ next_entry g (actors.Range range) event ∷ []) ≡ deeds (actors.Session number) part
-deeds_stay number range part g event =
-    let e = next_entry g (actors.Range range) event in
-    deeds_append (actors.Session number) part (e ∷ [])
-    ∙ (ap (λ (d : List Event). deeds (actors.Session number) part ++ d) (deeds_other (actors.Session number) e (λ same. absurd cc))
-    ∙ append-nil (deeds (actors.Session number) part))
-
 -- ---- parts
 
 -- nothing
@@ -70,8 +54,7 @@ pub goes_on_none : (number : ℕ) (h : History) → GoesOnBy number h h []
 goes_on_none number h = record {
   head = refl;
   whole = sym (append-nil h.entries);
-  alone = All-nil (λ (e : Entry Event). IsItOrRange number e.actor);
-  evaluates = All-nil (λ (e : Entry Event). EvaluatesOf number e.event);
+  alone = All-nil (IsOwnDeed number);
 }
 
 -- one part behind another
@@ -79,8 +62,7 @@ pub goes_on_further : (number : ℕ) (h g f : History) (part more : List (Entry 
 goes_on_further number h g f part more first second = record {
   head = second.head ∙ first.head;
   whole = second.whole ∙ (ap (λ (es : List (Entry Event)). es ++ more) first.whole ∙ append_assoc h.entries part more);
-  alone = All-append (λ (e : Entry Event). IsItOrRange number e.actor) part more first.alone second.alone;
-  evaluates = All-append (λ (e : Entry Event). EvaluatesOf number e.event) part more first.evaluates second.evaluates;
+  alone = All-append (IsOwnDeed number) part more first.alone second.alone;
 }
 
 module _ (P : Entry Event → Type 0) where
@@ -92,8 +74,7 @@ module _ (number : ℕ) (h g : History) where
   one-entry actor event grown whose evaluates = record {
     head = ap (λ (x : History). x.head) grown.behind;
     whole = ap (λ (x : History). x.entries) grown.behind;
-    alone = all-one (λ (e : Entry Event). IsItOrRange number e.actor) (next_entry h actor event) whose;
-    evaluates = all-one (λ (e : Entry Event). EvaluatesOf number e.event) (next_entry h actor event) evaluates;
+    alone = all-one (IsOwnDeed number) (next_entry h actor event) (record { whose = whose; evaluates = evaluates });
   }
 
   -- one entry of the session, which evaluates nothing
@@ -136,17 +117,6 @@ evaluates-not number other message differ (events.Eval sender sent reply) of =
 evaluates-not number other message differ event of = refl
 
 module _ (number other : ℕ) (h g : History) (part : List (Entry Event)) (goes : GoesOnBy number h g part) where
-  stands-on : (e : Entry Event) → Contains h.entries e → Contains g.entries e
-  stands-on e there = subst (λ es. Contains es e) (sym goes.whole) (Contains-append_left h.entries part e there)
-
-  -- what was sent and what was answered stays so
-  pub sent_kept : (session message : ℕ) (request : Request) → WasSent h session message request → WasSent g session message request
-  sent_kept session message request s =
-      record { range = s.range; to = record { send = s.to.send; stands = stands-on s.to.send s.to.stands; whose = s.to.whose; says = s.to.says } }
-
-  pub answered_kept : (session message step : ℕ) (told : Reply) → IsAnswered h session message step told → IsAnswered g session message step told
-  answered_kept session message step told a = record { evaluation = a.evaluation; stands = stands-on a.evaluation a.stands; at = a.at; says = a.says }
-
   pub actor_there : (id : ActorId) → IsActorOf h.head id → IsActorOf g.head id
   actor_there id there = subst (λ (x : Head). IsActorOf x id) (sym goes.head) there
 
@@ -154,11 +124,11 @@ module _ (number other : ℕ) (h g : History) (part : List (Entry Event)) (goes 
     -- the part of one session leaves the list of each other one
     pub own_beside : own_by other g ≡ own_by other h
     own_beside =
-        let acts : Each (λ (e : Entry Event). IsItOrRange number e.actor) part = recursion_from_All (λ (e : Entry Event). IsItOrRange number e.actor) part goes.alone in
+        let acts : Each (IsOwnDeed number) part = recursion_from_All (IsOwnDeed number) part goes.alone in
         ap (λ (x : Head). own (protocol x) (actors.Session other) g.entries) goes.head
         ∙ (ap (own (protocol h.head) (actors.Session other)) goes.whole
         ∙ own-beside h.head (actors.Session other) h.entries part
-        (each-weaker (λ (e : Entry Event). IsItOrRange number e.actor) (λ e. e.actor ≢ actors.Session other) (λ e whose. acts-not number other differ e.actor whose) part acts))
+        (each-weaker (IsOwnDeed number) (λ e. e.actor ≢ actors.Session other) (λ e is. acts-not number other differ e.actor is.whose) part acts))
 
     -- so what that knows
     pub known_beside : known_by other g ≡ known_by other h
@@ -167,7 +137,7 @@ module _ (number other : ℕ) (h g : History) (part : List (Entry Event)) (goes 
     -- and how often its messages were evaluated
     pub evaluated_beside : (message : ℕ) → evaluations (actors.Session other) message g.entries ≡ evaluations (actors.Session other) message h.entries
     evaluated_beside message =
-        let all : Each (λ (e : Entry Event). EvaluatesOf number e.event) part = recursion_from_All (λ (e : Entry Event). EvaluatesOf number e.event) part goes.evaluates in
+        let all : Each (IsOwnDeed number) part = recursion_from_All (IsOwnDeed number) part goes.alone in
         ap (evaluations (actors.Session other) message) goes.whole
         ∙ evaluations-beside (actors.Session other) message h.entries part
-        (each-weaker (λ (e : Entry Event). EvaluatesOf number e.event) (λ e. evaluates (actors.Session other) message e.event ≡ false) (λ e of. evaluates-not number other message differ e.event of) part all)
+        (each-weaker (IsOwnDeed number) (λ e. evaluates (actors.Session other) message e.event ≡ false) (λ e is. evaluates-not number other message differ e.event is.evaluates) part all)

@@ -1,13 +1,13 @@
 -- What one more entry adds: to what a session has and knows, and to what is counted of a history.
-use Rattle.std.proofs.Common.{◌≡◌, ◌≢◌, ℕ, ◌+◌, Bool, true, false, cond, List, [], ◌∷◌, ◌++◌, length, fold, count_by, sum_by, Contains, Some, None, refl, sym, ap, subst, ◌∙◌, arith, length-append}
+use Rattle.std.proofs.Common.{◌≡◌, ◌≢◌, ℕ, ◌+◌, Bool, true, false, List, [], ◌∷◌, ◌++◌, length, fold, count_by, Contains, Some, None, refl, sym, ap, subst, ◌∙◌, arith, length-append}
 use Rattle.std.proofs.lemmas.Bool.{eq-eqb, ne_eqb}
 use Rattle.std.proofs.lemmas.Grind.{fold-append}
 use Rattle.std.proofs.lemmas.List.{append-nil, append_assoc}
 use Rattle.std.proofs.lemmas.List.Elements.{Contains-append_left, Contains-push}
-use Rattle.std.proofs.lemmas.List.Sums.{sum_by-append, sum_by-cons}
 use Rattle.pc_base.specs.declared.actor.ActorId.{ActorId}
 use Rattle.pc_base.specs.declared.actor.ActorId.TheVariants as actors
 use Rattle.pc_base.specs.declared.entry.Entry.{Entry}
+use Rattle.pc_coord.proofs.Rounds.{count-append, count-cons, one_if}
 use Rattle.pc_history.proofs.Histories.{named-none, own-push_other, own-push_same}
 use Rattle.pc_history.specs.declared.pair.Pair.{Pair}
 use Rattle.pc_history.specs.Own.{named_in, pair}
@@ -40,16 +40,12 @@ each_after_push P before [] p h q = (subst (λ l. P l p) (append-nil before) q, 
 each_after_push P before (x ∷ xs) p h q =
     (h.0, each_after_push P (before ++ x ∷ []) xs p h.1 (subst (λ l. P l p) (sym (append_assoc before (x ∷ []) xs)) q))
 
--- One where it is so, else none.
-abbrev pub one_if : Bool → ℕ
-one_if b = cond b 1 0
-
+-- one more element of a list that is counted
 pub count_push : {X : Type 0} (p : X → Bool) (xs : List X) (x : X) → count_by p (xs ++ x ∷ []) ≡ count_by p xs + one_if (p x)
-count_push {X = X} p xs x =
-    let f : X → ℕ = λ y. one_if (p y) in
-    let a : sum_by f (xs ++ x ∷ []) ≡ sum_by f xs + sum_by f (x ∷ []) = sum_by-append f xs (x ∷ []) in
-    let b : sum_by f (x ∷ []) ≡ f x + sum_by f [] = sum_by-cons f x [] in
-    omega arith
+count_push p xs x =
+    let a = count-append p xs (x ∷ []) in
+    let b = count-cons p x [] in
+    omega (arith, a, b)
 
 module _ (own : List (Pair Event)) (p : Pair Event) where
   pub asks_push : asks_in (own ++ p ∷ []) ≡ asks_in own + one_if (is_ask p.entry.event)
@@ -153,28 +149,15 @@ module _ (h g : History) (actor : ActorId) (event : Event) (session : ℕ) (grow
   pub known_same_by : known_by session g ≡ known_by session h
   known_same_by = ap known own_same
 
-range-no-session : (range session : ℕ) → actors.Range range ≢ actors.Session session
-range-no-session range session same = absurd cc
-
-session-other : (other session : ℕ) → other ≢ session → actors.Session other ≢ actors.Session session
-session-other other session differ same = differ (number-of same)
-  where
-    number-of : actors.Session other ≡ actors.Session session → other ≡ session
-    number-of same = cc
+pub range_no_session : (range session : ℕ) → actors.Range range ≢ actors.Session session
+range_no_session range session same = absurd cc
 
 -- a range's entry leaves each session's list
 pub own_kept_by_range : (h g : History) (range session : ℕ) (event : Event) → HasGrown h g (actors.Range range) event → own_by session g ≡ own_by session h
-own_kept_by_range h g range session event grown = own_same h g (actors.Range range) event session grown (range-no-session range session)
+own_kept_by_range h g range session event grown = own_same h g (actors.Range range) event session grown (range_no_session range session)
 
 pub known_kept_by_range : (h g : History) (range session : ℕ) (event : Event) → HasGrown h g (actors.Range range) event → known_by session g ≡ known_by session h
-known_kept_by_range h g range session event grown = known_same_by h g (actors.Range range) event session grown (range-no-session range session)
-
--- a session's entry leaves the list of each other one
-pub own_kept_by_other : (h g : History) (other session : ℕ) (event : Event) → other ≢ session → HasGrown h g (actors.Session other) event → own_by session g ≡ own_by session h
-own_kept_by_other h g other session event differ grown = own_same h g (actors.Session other) event session grown (session-other other session differ)
-
-pub known_kept_by_other : (h g : History) (other session : ℕ) (event : Event) → other ≢ session → HasGrown h g (actors.Session other) event → known_by session g ≡ known_by session h
-known_kept_by_other h g other session event differ grown = known_same_by h g (actors.Session other) event session grown (session-other other session differ)
+known_kept_by_range h g range session event grown = known_same_by h g (actors.Range range) event session grown (range_no_session range session)
 
 -- ---- of messages
 
@@ -216,11 +199,3 @@ module _ (h g : History) (session number : ℕ) (request : Request) (step : ℕ)
     where
       none : evaluates (actors.Session session) other (events.Eval (actors.Session session) number told) ≡ false
       none = let two = ne_eqb number other differ in grind arith
-
-  -- nor any of another session
-  pub evaluations_beside : (other message : ℕ) → other ≢ session → evaluations (actors.Session other) message g.entries ≡ evaluations (actors.Session other) message h.entries
-  evaluations_beside other message differ =
-      evaluations_same h g (actors.Range done.range) (events.Eval (actors.Session session) number told) done.more.grown (actors.Session other) message none
-    where
-      none : evaluates (actors.Session other) message (events.Eval (actors.Session session) number told) ≡ false
-      none = let one = ne_eqb other session differ in grind arith

@@ -1,6 +1,5 @@
 -- The part of a session's turn, as it grows.
 use Rattle.std.proofs.Common.{◌≡◌, ℕ, All, List, [], ◌∷◌, ◌++◌, refl, sym, ap, subst, ◌∙◌}
-use Rattle.std.proofs.lemmas.List.{append_assoc}
 use Rattle.std.proofs.lemmas.List.Elements.{All-append, All-cons, All-nil}
 use Rattle.pc_base.specs.declared.actor.ActorId.{ActorId}
 use Rattle.pc_base.specs.declared.actor.ActorId.TheVariants as actors
@@ -13,10 +12,10 @@ use Rattle.pc_proto.specs.declared.reply.Reply.{Reply}
 use Rattle.pc_proto.specs.declared.request.Request.{Request}
 use Rattle.pc_runner.proofs.GoingOn.{deeds_append, deeds_other, deeds_own, goes_on_further, goes_on_none, goes_on_own, goes_on_range}
 use Rattle.pc_runner.specs.Database.{HasEvaluated, HasSent}
-use Rattle.pc_runner.specs.Follows.Turns.{IsCall, IsWithin, deeds}
+use Rattle.pc_runner.specs.Follows.Turns.{EvaluatesOf, IsCall, IsWithin, deeds}
 use Rattle.pc_runner.specs.History.{History}
 use Rattle.pc_runner.specs.Journal.{HasGrown, next_entry}
-use Rattle.pc_runner.specs.Parts.{EvaluatesOf, IsInside, IsTelling, IsUntold, TakesPart}
+use Rattle.pc_runner.specs.Parts.{IsInside, IsTelling, IsUntold, TakesPart}
 
 module _ (number : ℕ) where
   abbrev me : ActorId

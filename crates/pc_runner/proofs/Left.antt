@@ -1,5 +1,5 @@
 -- The finishing jobs that wait at a session may be done, whatever it asks, sends and hears meanwhile.
-use Rattle.std.proofs.Common.{◌≡◌, ℕ, ◌+◌, ◌≤◌, max, Bool, true, false, cond, All, List, [], ◌∷◌, map, Option, Some, None, IsTrue, refl, sym, ap, subst, ◌∙◌, arith}
+use Rattle.std.proofs.Common.{◌≡◌, ℕ, ◌+◌, ◌≤◌, max, Bool, true, false, All, List, [], ◌∷◌, map, Some, IsTrue, refl, sym, ap, subst, ◌∙◌, arith}
 use Rattle.std.proofs.lemmas.List.Elements.{All-cons, All-head, All-nil, All-tail, All-weaker}
 use Rattle.pc_base.specs.declared.transaction.TxnId.{TxnId}
 use Rattle.pc_coord.proofs.Learned.{learn_own}
@@ -20,7 +20,6 @@ use Rattle.pc_world.specs.Exchange.{is_message}
 use Rattle.pc_world.specs.Known.{Known, first_if, learn, open_txn}
 use Rattle.pc_world.specs.Known.Traffic.{Heard}
 use Rattle.pc_world.specs.Known.Transactions.{Txn, txn_heard, txn_sent}
-use Rattle.pc_world.specs.Send.Settling.{MayFinish}
 use Rattle.pc_runner.specs.Following.{HasJobs, IsLeft}
 
 -- The transactions have the same names, in the same order.
@@ -66,6 +65,13 @@ same_other id b ts us same other t is named = let s = same_open b ts us t same i
 -- If the request puts a write, it is one of the open transaction.
 abbrev pub PutsOpen : Known → Request → Type 0
 PutsOpen k request = (id : TxnId) → is_put_by id request ≡ true → (t : Txn) × (open_txn k ≡ Some t) × (id ≡ t.id)
+
+-- The request puts nothing.
+abbrev pub PutsNothing : Request → Type 0
+PutsNothing request = (id : TxnId) → is_put_by id request ≡ false
+
+pub nothing_put : (k : Known) (request : Request) → PutsNothing request → PutsOpen k request
+nothing_put k request none id puts = let e : true ≡ false = sym puts ∙ none id in absurd cc
 
 pub puts_no_job : (k : Known) (request : Request) (job : Job) → PutsOpen k request → IsLeft k job → is_put_by job.meta.id request ≡ false
 puts_no_job k request job puts left = by (is_put_by job.meta.id request) refl

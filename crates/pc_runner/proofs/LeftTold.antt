@@ -1,11 +1,9 @@
 -- The finishing jobs that wait at a session may be done after an answer; and one that ends a transaction leaves one more.
-use Rattle.std.proofs.Common.{◌≡◌, ℕ, ◌+◌, ◌≤◌, max, Bool, true, false, cond, All, Contains, List, [], ◌∷◌, ◌++◌, map, Option, Some, None, IfSome, IsTrue, ◌⊎◌, inl, inr, refl, sym, ap, subst, ◌∙◌, arith}
+use Rattle.std.proofs.Common.{◌≡◌, ℕ, ◌+◌, ◌≤◌, max, Bool, true, false, cond, All, Contains, List, [], ◌∷◌, ◌++◌, map, Option, Some, None, IfSome, ◌⊎◌, inl, inr, refl, sym, ap, subst, ◌∙◌, arith}
 use Rattle.std.proofs.lemmas.List.{append-nil}
 use Rattle.std.proofs.lemmas.List.{map-append}
 use Rattle.std.proofs.lemmas.List.Elements.{All-cons, All-head, All-push, All-tail, All-weaker}
 use Rattle.std.specs.Option.{option_to_list}
-use Rattle.pc_base.specs.declared.actor.ActorId.{ActorId}
-use Rattle.pc_base.specs.declared.actor.ActorId.TheVariants as actors
 use Rattle.pc_base.specs.declared.transaction.TxnId.{TxnId}
 use Rattle.pc_coord.proofs.Steps.{told}
 use Rattle.pc_coord.specs.declared.job.Job.{Job}
@@ -17,7 +15,7 @@ use Rattle.pc_proto.specs.declared.fate.Fate.{Fate}
 use Rattle.pc_proto.specs.declared.request.Request.{Request}
 use Rattle.pc_proto.specs.declared.request.Request.TheVariants as requests
 use Rattle.pc_proto.specs.Stamps.{answer_stamps, fate_stamps}
-use Rattle.pc_world.specs.Follows.FinishingJobs.{left_by, left_if, left_of, settling, with_job}
+use Rattle.pc_world.specs.Follows.FinishingJobs.{left_by, left_if, settling, with_job}
 use Rattle.pc_world.specs.Known.{Known, begun_by, first_if, open_txn, told_first, txns_told}
 use Rattle.pc_world.specs.Known.Clock.{last_of}
 use Rattle.pc_world.specs.Known.Statements.{Statement, begun_told, is_open_told}

@@ -10,7 +10,6 @@ mod Calls
 pub mod Entering
 pub mod Evaluating
 pub mod Exchanging
-pub mod Finishing
 pub mod Fitting
 pub mod Going
 pub mod GoingOn
@@ -20,12 +19,11 @@ pub mod InTurn
 pub mod Keeps
 pub mod Left
 pub mod LeftTold
-pub mod Lists
 pub mod OnWay
 pub mod OwnPuts
+pub mod Places
 pub mod Pushed
 pub mod Ranges
-pub mod Readers
 pub mod Refitting
 pub mod Rounding
 pub mod Rounds
@@ -40,6 +38,4 @@ pub mod Stepping
 pub mod Told
 pub mod Turning
 pub mod Waved
-pub mod Waving
 pub mod Whole
-pub mod Writers

@@ -1,23 +1,27 @@
 -- The messages of a session on their way: what each event makes of what was heard, and of what the coordinator waits for.
-use Rattle.std.proofs.Common.{◌≡◌, ◌≢◌, ℕ, ◌+◌, ◌<◌, ◌≤◌, nat_le, nat_lt, Bool, true, false, ◌&&◌, ◌||◌, ◌==◌, not, All, List, [], ◌∷◌, ◌++◌, length, find, Option, Some, None, IsTrue, refl, sym, ap, subst, ◌∙◌, arith, length-append}
+use Rattle.std.proofs.Common.{◌≡◌, ℕ, ◌+◌, ◌<◌, ◌≤◌, nat_le, nat_lt, Bool, true, false, ◌&&◌, ◌||◌, ◌==◌, not, All, List, [], ◌∷◌, ◌++◌, length, find, IsTrue, refl, sym, ap, ◌∙◌, arith, length-append, Option, Some, None}
 use Rattle.std.proofs.lemmas.Bool.{eq-eqb}
 use Rattle.std.proofs.lemmas.Bool.Decides.{nat_tests}
 use Rattle.std.proofs.lemmas.List.Elements.{All-cons, All-head, All-nil, All-push, All-tail, All-weaker}
-use Rattle.std.proofs.lemmas.List.Folds.{list_any-append, list_any_none}
+use Rattle.std.proofs.lemmas.List.Folds.{find-append, list_any-append, list_any_none}
 use Rattle.std.specs.List.{list_any}
+use Rattle.std.specs.Option.{option_map, option_or}
+use Rattle.pc_coord.proofs.Lists.{find-last}
 use Rattle.pc_coord.proofs.Steps.{asked, heard, sent, told}
-use Rattle.pc_coord.specs.Coordination.{next_of, waits_for}
+use Rattle.pc_coord.specs.Coordination.{Coordination, waits_for}
 use Rattle.pc_coord.specs.declared.due.Due.{Due}
+use Rattle.pc_coord.specs.Knows.Sending.{AwaitsNone}
 use Rattle.pc_proto.specs.declared.answer.Answer.{Answer}
 use Rattle.pc_proto.specs.declared.call.Call.{Call}
 use Rattle.pc_proto.specs.declared.request.Request.{Request}
+use Rattle.pc_world.specs.Follows.Resends.{AreAnsweredNow}
 use Rattle.pc_world.specs.Known.{Known, next_number}
-use Rattle.pc_world.specs.Known.Traffic.{Heard, Sent}
-use Rattle.pc_world.specs.Local.{MayHear}
+use Rattle.pc_world.specs.Known.Traffic.{Heard, Sent, request_sent}
+use Rattle.pc_world.specs.SameRequest.{IsSameRequest}
 use Rattle.pc_world.specs.Tell.Refusal.{is_heard}
 use Rattle.pc_runner.specs.declared.outbox.Answered.{Answered}
 use Rattle.pc_runner.specs.declared.outbox.Posted.{Posted}
-use Rattle.pc_runner.specs.Traffic.{AreAnsweredFrom, ArePostedFrom, HasHeard, IsNumbered, WaitsFor}
+use Rattle.pc_runner.specs.Traffic.{AreAnsweredFrom, ArePostedFrom, HasHeard, IsNumbered, IsSaid, WaitsFor}
 
 -- a call is asked
 pub heard_asked : (last : ℕ) (k : Known) (call : Call) (reading : ℕ) → HasHeard last k → HasHeard last (asked call reading k)
@@ -27,16 +31,34 @@ heard_asked last k call reading w = record {
   numbers_now = All-nil (IsNumbered (length k.sent));
   all = w.all;
   all_now = All-nil (λ m. m.number ≤ last → IsTrue (is_heard [] m));
+  said_now = All-nil (IsSaid k.sent);
   none = w.none;
 }
 
 -- an answer is told
 pub heard_told : (last : ℕ) (k : Known) (answer : Answer) → HasHeard last k → HasHeard last (told answer k)
-heard_told last k answer w = record { sent = w.sent; numbers = w.numbers; numbers_now = w.numbers_now; all = w.all; all_now = w.all_now; none = w.none }
+heard_told last k answer w = record { sent = w.sent; numbers = w.numbers; numbers_now = w.numbers_now; all = w.all; all_now = w.all_now; said_now = w.said_now; none = w.none }
 
 numbered_more : (count counted : ℕ) (messages : List Sent) → count ≤ counted → All (IsNumbered count) messages → All (IsNumbered counted) messages
 numbered_more count counted messages le a =
     All-weaker (IsNumbered count) (IsNumbered counted) (λ m n. record { from_one = n.from_one; counted = omega (arith, n.counted) }) messages a
+
+-- what was sent under a number stays so
+pub said_on : (number : ℕ) (xs ys : List Sent) (request : Request) → request_sent number xs ≡ Some request → request_sent number (xs ++ ys) ≡ Some request
+said_on number xs ys request e = by (find is xs) refl e
+  where
+    is : Sent → Bool
+    is m = m.number == number
+
+    by : (found : Option Sent) → find is xs ≡ found → option_map (λ (m : Sent). m.request) found ≡ Some request → request_sent number (xs ++ ys) ≡ Some request
+    by None none e = absurd cc
+    by (Some m) first e = ap (option_map (λ (m : Sent). m.request)) (find-append is xs ys ∙ ap (λ (o : Option Sent). option_or o (find is ys)) first) ∙ e
+
+said_last : (k : Known) (m : Sent) → m.number ≡ next_number k → All (IsNumbered (length k.sent)) k.sent → IsSaid (k.sent ++ m ∷ []) m
+said_last k m next numbers =
+    let earlier : All (λ (other : Sent). other.number < m.number) k.sent =
+    All-weaker (IsNumbered (length k.sent)) (λ (other : Sent). other.number < m.number) (λ other n. omega (arith, n.counted, next)) k.sent numbers in
+    ap (option_map (λ (m : Sent). m.request)) (find-last (λ (m : Sent). m.number) m.number k.sent m earlier refl)
 
 -- a message is sent
 pub heard_sent : (last : ℕ) (k : Known) (range : ℕ) (request : Request) → HasHeard last k → HasHeard last (sent (next_number k) range request k)
@@ -52,6 +74,9 @@ heard_sent last k range request w =
       numbers_now = All-push (IsNumbered n) k.sent_now m (numbered_more (length k.sent) n k.sent_now (omega arith) w.numbers_now) new;
       all = All-push (λ (m : Sent). m.number ≤ last → IsTrue (is_heard k.heard m)) k.sent m w.all (λ le. absurd (omega arith));
       all_now = All-push (λ (m : Sent). m.number ≤ last → IsTrue (is_heard k.heard_now m)) k.sent_now m w.all_now (λ le. absurd (omega arith));
+      said_now =
+          All-push (IsSaid (k.sent ++ m ∷ [])) k.sent_now m
+          (All-weaker (IsSaid k.sent) (IsSaid (k.sent ++ m ∷ [])) (λ x said. said_on x.number k.sent (m ∷ []) x.request said) k.sent_now w.said_now) (said_last k m refl w.numbers);
       none = w.none;
     }
 
@@ -88,33 +113,50 @@ heard_heard last k h w next counted = record {
   numbers_now = w.numbers_now;
   all = up_to_next last k.heard h next k.sent w.all;
   all_now = up_to_next last k.heard_now h next k.sent_now w.all_now;
+  said_now = w.said_now;
   none =
       All-push (λ (x : Heard). x.number ≤ last + 1) k.heard h
       (All-weaker (λ (x : Heard). x.number ≤ last) (λ (x : Heard). x.number ≤ last + 1) (λ x le. omega arith) k.heard w.none) (omega arith);
 }
 
--- Once every message was heard, each that was sent was.
+-- of messages that are numbered up to the last one heard, each was heard
+each_heard : (last count : ℕ) (replies : List Heard) → last ≡ count → (messages : List Sent) → All (IsNumbered count) messages → All (λ m. m.number ≤ last → IsTrue (is_heard replies m)) messages
+    → All (λ m. IsTrue (is_heard replies m)) messages
+each_heard last count replies is [] n a = All-nil (λ (m : Sent). IsTrue (is_heard replies m))
+each_heard last count replies is (m ∷ messages) n a =
+    let low = (All-head (IsNumbered count) m messages n).counted in
+    All-cons (λ (m : Sent). IsTrue (is_heard replies m)) m messages
+    (All-head (λ (m : Sent). m.number ≤ last → IsTrue (is_heard replies m)) m messages a (omega arith))
+    (each_heard last count replies is messages (All-tail (IsNumbered count) m messages n) (All-tail (λ (m : Sent). m.number ≤ last → IsTrue (is_heard replies m)) m messages a))
+
+-- once every message was heard, each that was sent was
 pub all_heard : (last : ℕ) (k : Known) → HasHeard last k → last ≡ length k.sent → All (λ m. IsTrue (is_heard k.heard m)) k.sent
-all_heard last k w is = both k.sent w.numbers w.all
-  where
-    both : (messages : List Sent) → All (IsNumbered (length k.sent)) messages → All (λ m. m.number ≤ last → IsTrue (is_heard k.heard m)) messages → All (λ m. IsTrue (is_heard k.heard m)) messages
-    both [] n a = All-nil (λ (m : Sent). IsTrue (is_heard k.heard m))
-    both (m ∷ messages) n a =
-        let low = (All-head (IsNumbered (length k.sent)) m messages n).counted in
-        All-cons (λ (m : Sent). IsTrue (is_heard k.heard m)) m messages
-        (All-head (λ (m : Sent). m.number ≤ last → IsTrue (is_heard k.heard m)) m messages a (omega arith))
-        (both messages (All-tail (IsNumbered (length k.sent)) m messages n) (All-tail (λ (m : Sent). m.number ≤ last → IsTrue (is_heard k.heard m)) m messages a))
+all_heard last k w is = each_heard last (length k.sent) k.heard is k.sent w.numbers w.all
 
 pub all_heard_now : (last : ℕ) (k : Known) → HasHeard last k → last ≡ length k.sent → All (λ m. IsTrue (is_heard k.heard_now m)) k.sent_now
-all_heard_now last k w is = both k.sent_now w.numbers_now w.all_now
+all_heard_now last k w is = each_heard last (length k.sent) k.heard_now is k.sent_now w.numbers_now w.all_now
+
+is_between : (last n sends : ℕ) → last < n → n ≤ sends → (nat_lt last n && nat_le n sends) ≡ true
+is_between last n sends above low = grind (arith, nat_tests)
+
+-- where the coordinator waits for no message of a request, each of it in the open call was answered there
+pub answered_now : (last sends : ℕ) (k : Known) (c : Coordination) (request : Request) → HasHeard last k → sends ≡ length k.sent → WaitsFor last sends c.due → AwaitsNone c k request → AreAnsweredNow k request
+answered_now last sends k c request w counted waits none = each k.sent_now w.numbers_now w.all_now w.said_now
   where
-    both : (messages : List Sent) → All (IsNumbered (length k.sent)) messages → All (λ m. m.number ≤ last → IsTrue (is_heard k.heard_now m)) messages → All (λ m. IsTrue (is_heard k.heard_now m)) messages
-    both [] n a = All-nil (λ (m : Sent). IsTrue (is_heard k.heard_now m))
-    both (m ∷ messages) n a =
-        let low = (All-head (IsNumbered (length k.sent)) m messages n).counted in
-        All-cons (λ (m : Sent). IsTrue (is_heard k.heard_now m)) m messages
-        (All-head (λ (m : Sent). m.number ≤ last → IsTrue (is_heard k.heard_now m)) m messages a (omega arith))
-        (both messages (All-tail (IsNumbered (length k.sent)) m messages n) (All-tail (λ (m : Sent). m.number ≤ last → IsTrue (is_heard k.heard_now m)) m messages a))
+    by : (m : Sent) → IsNumbered (length k.sent) m → (m.number ≤ last → IsTrue (is_heard k.heard_now m)) → IsSaid k.sent m → IsSameRequest request m.request → (b : Bool) → nat_le m.number last ≡ b → IsTrue (is_heard k.heard_now m)
+    by m n was said same true e = let low : m.number ≤ last = grind (arith, nat_tests) in was low
+    by m n was said same false e =
+        let above : last < m.number = grind (arith, nat_tests) in
+        let low : m.number ≤ sends = omega (arith, n.counted) in
+        absurd (none m.number m.request (waits m.number ∙ is_between last m.number sends above low) said same)
+
+    each : (messages : List Sent) → All (IsNumbered (length k.sent)) messages → All (λ m. m.number ≤ last → IsTrue (is_heard k.heard_now m)) messages → All (IsSaid k.sent) messages
+        → All (λ m. IsSameRequest request m.request → IsTrue (is_heard k.heard_now m)) messages
+    each [] n a s = All-nil (λ (m : Sent). IsSameRequest request m.request → IsTrue (is_heard k.heard_now m))
+    each (m ∷ messages) n a s =
+        All-cons (λ (m : Sent). IsSameRequest request m.request → IsTrue (is_heard k.heard_now m)) m messages
+        (λ same. by m (All-head (IsNumbered (length k.sent)) m messages n) (All-head (λ (m : Sent). m.number ≤ last → IsTrue (is_heard k.heard_now m)) m messages a) (All-head (IsSaid k.sent) m messages s) same (nat_le m.number last) refl)
+        (each messages (All-tail (IsNumbered (length k.sent)) m messages n) (All-tail (λ (m : Sent). m.number ≤ last → IsTrue (is_heard k.heard_now m)) m messages a) (All-tail (IsSaid k.sent) m messages s))
 
 -- a message after the last one heard was not heard
 pub unheard_after : (last number : ℕ) (k : Known) → HasHeard last k → last < number → list_any (λ h. h.number == number) k.heard ≡ false

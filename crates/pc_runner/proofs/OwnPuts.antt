@@ -1,5 +1,5 @@
 -- The puts that a coordinator sends are of the open transaction.
-use Rattle.std.proofs.Common.{◌≡◌, ℕ, ◌<◌, Bool, true, false, All, List, [], ◌∷◌, ◌++◌, map, Option, Some, None, refl, sym, ap, subst, ◌∙◌}
+use Rattle.std.proofs.Common.{◌≡◌, ℕ, ◌<◌, Bool, true, All, List, [], ◌∷◌, map, Option, Some, refl, sym, ap, subst, ◌∙◌}
 use Rattle.std.specs.Option.{option_map}
 use Rattle.pc_base.specs.declared.transaction.TxnId.{TxnId}
 use Rattle.pc_coord.proofs.Ids.{same-is}
@@ -13,7 +13,7 @@ use Rattle.pc_coord.specs.declared.next.Next.TheVariants as nexts
 use Rattle.pc_coord.specs.declared.transaction.Transaction.{Transaction}
 use Rattle.pc_coord.specs.Knows.{AwaitsReply, Knows, KnowsAt}
 use Rattle.pc_coord.specs.Knows.Reading.{AreReadsOf}
-use Rattle.pc_coord.specs.Knows.Sending.{IsAbort, IsCommit, IsFor, IsForCall, IsGet, IsScan, learned}
+use Rattle.pc_coord.specs.Knows.Sending.{learned}
 use Rattle.pc_coord.specs.Transaction.{put_of}
 use Rattle.pc_proto.specs.declared.call.Call.{Call}
 use Rattle.pc_proto.specs.declared.call.Call.TheVariants as calls
@@ -21,15 +21,12 @@ use Rattle.pc_proto.specs.declared.event.Event.TheVariants as events
 use Rattle.pc_proto.specs.declared.request.Request.{Request}
 use Rattle.pc_proto.specs.declared.request.Request.TheVariants as requests
 use Rattle.pc_resolve.specs.ResolveKnows.{is_put_by}
-use Rattle.pc_world.specs.Known.{Known, first_if, next_number, open_txn}
+use Rattle.pc_world.specs.Follows.CallMessages.{IsAbort, IsCommit, IsFor, IsForCall, IsGet, IsScan}
+use Rattle.pc_world.specs.Known.{Known, first_if, next_number}
 use Rattle.pc_world.specs.Known.Statements.{Statement}
 use Rattle.pc_world.specs.Known.Traffic.{Sent, request_sent}
 use Rattle.pc_world.specs.Known.Transactions.{Txn, txn_sent}
-use Rattle.pc_runner.proofs.Left.{PutsOpen}
-
--- The request puts nothing.
-abbrev PutsNothing : Request → Type 0
-PutsNothing request = (id : TxnId) → is_put_by id request ≡ false
+use Rattle.pc_runner.proofs.Left.{PutsNothing, PutsOpen, nothing_put}
 
 gets_nothing : (request : Request) → IsGet request → PutsNothing request
 gets_nothing (requests.Get id epoch seq ts key) is other = refl
@@ -46,9 +43,6 @@ commits_nothing request is other = absurd is
 aborts_nothing : (request : Request) → IsAbort request → PutsNothing request
 aborts_nothing (requests.Abort meta why locks) is other = refl
 aborts_nothing request is other = absurd is
-
-nothing_put : (k : Known) (request : Request) → PutsNothing request → PutsOpen k request
-nothing_put k request none id puts = let e : true ≡ false = sym puts ∙ none id in absurd cc
 
 -- The open call is this one.
 call_is : (k : Known) (s : Statement) (call : Call) (reading : ℕ) → k.statement ≡ Some s → k.statement ≡ Some (record { call = call; reading = reading }) → s.call ≡ call

@@ -1,5 +1,6 @@
 -- What a push that was done leaves to settle: an abort that is answered by a status is final.
 use Rattle.std.proofs.Common.{◌≡◌, ℕ, Bool, true, false, cond, List, Option, Some, None, refl, sym, ap, ◌∙◌, subst}
+use Rattle.std.specs.Option.{option_or}
 use Rattle.pc_base.specs.declared.transaction.Priority.{Priority}
 use Rattle.pc_base.specs.declared.transaction.Who.{Who}
 use Rattle.pc_proto.specs.declared.fate.Fate.{Fate}
@@ -18,10 +19,10 @@ use Rattle.pc_proto.specs.RecordRows.{push_reply}
 use Rattle.pc_proto.specs.RecordRows.Push.{Verdict, There, Refuse, Doubt, Do, is_staged, on_verdict, push, pushed, verdict, wins}
 use Rattle.pc_proto.specs.Table.{place_of}
 use Rattle.pc_push.proofs.Marks.{IsFinalPlace, place_final}
-use Rattle.pc_push.specs.Pushing.{Pushing, fate_after, first_of, push_of}
+use Rattle.pc_push.specs.Pushing.{Pushing, push_of}
 use Rattle.pc_world.specs.Exchange.{IsReplyTo}
 use Rattle.pc_world.specs.StateOf.{state_of}
-use Rattle.pc_world.specs.Views.{final_fate}
+use Rattle.pc_world.specs.Views.{fate_after, final_fate}
 
 final_shows : (s : Standing) (epoch ts : ℕ) (writes : List (List ℕ × ℕ)) (locks : List (List ℕ)) → is_final s ≡ true → final_fate (status_view s epoch ts writes locks) ≡ None → ⊥
 final_shows standings.Pending epoch ts writes locks h none = cc
@@ -69,14 +70,14 @@ push_decides m view is none = by m.goal refl
     moved : (target : ℕ) → fate_after (goals.Move target) view ≡ None → ⊥
     moved target none = by (final_fate view) none
       where
-        by : (o : Option Fate) → first_of o (Some (fates.Pending target)) ≡ None → ⊥
+        by : (o : Option Fate) → option_or o (Some (fates.Pending target)) ≡ None → ⊥
         by None none = cc
         by (Some fate) none = cc
 
     final : fate_after goals.Abort view ≡ None → final_fate view ≡ None
     final none = by (final_fate view) none
       where
-        by : (o : Option Fate) → first_of o None ≡ None → o ≡ None
+        by : (o : Option Fate) → option_or o None ≡ None → o ≡ None
         by None none = refl
         by (Some fate) none = none
 

@@ -1,6 +1,6 @@
 -- The ranges of the database: to which a message goes, and what each of them is once the history has grown.
-use Rattle.std.proofs.Common.{◌≡◌, ◌≢◌, ℕ, zero, suc, ◌+◌, ◌<◌, ◌≤◌, ◌^◌, ◌==◌, ◌⊎◌, Bool, true, false, List, [], ◌∷◌, length, slice_get, slice_set, Contains, Option, Some, None, inl, inr, refl, sym, ap, subst, ◌∙◌, arith}
-use Rattle.std.proofs.lemmas.Bool.{eq-eqb, eqb-true}
+use Rattle.std.proofs.Common.{◌≡◌, ◌≢◌, ℕ, ◌+◌, ◌<◌, ◌≤◌, ◌^◌, ◌⊎◌, List, [], ◌∷◌, length, slice_get, slice_set, Contains, Option, Some, None, inl, inr, refl, sym, ap, subst, ◌∙◌, arith}
+use Rattle.std.proofs.lemmas.Bool.{cases_eq}
 use Rattle.std.proofs.lemmas.List.Elements.{Contains-push_cases}
 use Rattle.std.proofs.lemmas.List.Sums.{count_by-le-length}
 use Rattle.std.specs.Prelude.{⊤}
@@ -33,9 +33,10 @@ use Rattle.pc_world.specs.Run.{IsRun}
 use Rattle.pc_world.specs.Send.Reading.{MaySendScan}
 use Rattle.pc_world.specs.Stamps.{HasRoom}
 use Rattle.pc_world.specs.StateOf.{state_with}
-use Rattle.pc_runner.proofs.Entering.{eval_names}
+use Rattle.pc_runner.proofs.Entering.{eval_names, first_history, sound_begun}
+use Rattle.pc_runner.proofs.Places.{get_set_other, get_set_same}
 use Rattle.pc_runner.specs.Database.{IsForOneOrRefreshes, StandBy}
-use Rattle.pc_runner.specs.History.{History, IsSound, head_of, state_in}
+use Rattle.pc_runner.specs.History.{History, IsSound, state_in}
 use Rattle.pc_runner.specs.Journal.{HasGrown, WasSentTo, next_entry}
 
 -- ---- the range of a request
@@ -163,36 +164,11 @@ sent_to h session number range other request sound sent goes =
 
 -- ---- what the ranges are
 
-get-set_same : {X : Type 0} (xs : List X) (i : ℕ) (x : X) → i < length xs → slice_get (slice_set xs i x) i ≡ Some x
-get-set_same [] i x there = absurd (omega arith)
-get-set_same (y ∷ xs) zero x there = refl
-get-set_same (y ∷ xs) (suc i) x there = get-set_same xs i x (omega arith)
-
-get-set_other : {X : Type 0} (xs : List X) (i j : ℕ) (x : X) → i ≢ j → slice_get (slice_set xs i x) j ≡ slice_get xs j
-get-set_other [] i j x differ = refl
-get-set_other (y ∷ xs) zero zero x differ = absurd (differ refl)
-get-set_other (y ∷ xs) zero (suc j) x differ = refl
-get-set_other (y ∷ xs) (suc i) zero x differ = refl
-get-set_other (y ∷ xs) (suc i) (suc j) x differ = get-set_other xs i j x (λ same. differ (ap suc same))
-
-same-or-not : (m n : ℕ) → (m ≡ n) ⊎ (m ≢ n)
-same-or-not m n = by (m == n) refl
-  where
-    by : (b : Bool) → (m == n) ≡ b → (m ≡ n) ⊎ (m ≢ n)
-    by true is = inl (eqb-true m n is)
-    by false is = inr (λ same. let t = eq-eqb m n same in cc)
-
 module _ (splits : List (List ℕ)) (sessions : ℕ) where
-  abbrev pub first_history : History
-  first_history = record { head = head_of splits sessions; entries = [] }
-
-  pub sound_begun : AreRising splits → length splits + 1 < 2 ^ 32 → IsSound first_history
-  sound_begun rising few = record { run = tt; short = omega arith; unstaged = λ k d there. absurd (omega arith); rising = rising; few = few }
-
   -- ranges on which nothing has happened
   pub stand_begun : (states : List RangeState) → AreRising splits → length splits + 1 < 2 ^ 32 → length states ≡ length splits + 1 → ((range : ℕ) → range < length splits + 1 → slice_get states range ≡ Some no_state)
-      → StandBy states first_history
-  stand_begun states rising few many each = record { sound = sound_begun rising few; many = many; each = λ range there. each range (omega arith) }
+      → StandBy states (first_history splits sessions)
+  stand_begun states rising few many each = record { sound = sound_begun splits sessions rising few; many = many; each = λ range there. each range (omega arith) }
 
 module _ (states : List RangeState) (h g : History) (stands : StandBy states h) where
   many-still : (actor : ActorId) (event : Event) → HasGrown h g actor event → length states ≡ length g.head.splits + 1
@@ -243,14 +219,14 @@ module _ (states : List RangeState) (h g : History) (stands : StandBy states h) 
       each-so : (other : ℕ) → other ≤ length h.head.splits → (range ≡ other) ⊎ (range ≢ other) → slice_get (slice_set states range (state_after request (state_in range h))) other ≡ Some (state_in other g)
       each-so other there (inl same) =
           subst (λ r. slice_get (slice_set states range (state_after request (state_in range h))) r ≡ Some (state_in r g)) same
-          (get-set_same states range (state_after request (state_in range h)) (let m = stands.many in omega arith) ∙ ap Some (sym here))
+          (get_set_same states range (state_after request (state_in range h)) (let m = stands.many in omega arith) ∙ ap Some (sym here))
       each-so other there (inr differ) =
-          get-set_other states range other (state_after request (state_in range h)) differ ∙ (stands.each other there ∙ ap Some (sym (elsewhere other differ)))
+          get_set_other states range other (state_after request (state_in range h)) (λ same. differ (sym same)) ∙ (stands.each other there ∙ ap Some (sym (elsewhere other differ)))
 
       -- the range that evaluated became what the request makes of it, and no other changed
       pub stand_on : StandBy (slice_set states range (state_after request (state_in range h))) g
       stand_on = record {
         sound = grown.sound;
         many = length_set states range (state_after request (state_in range h)) ∙ many-still (actors.Range range) event grown;
-        each = λ other there. each-so other (there-before (actors.Range range) event other grown there) (same-or-not range other);
+        each = λ other there. each-so other (there-before (actors.Range range) event other grown there) (cases_eq range other);
       }

@@ -1,19 +1,15 @@
 -- A conflict's round, step by step: each of its messages may be sent when it is due, and what was heard is what its machine stands at.
-use Rattle.std.proofs.Common.{◌≡◌, ℕ, zero, suc, ◌+◌, ◌≤◌, ◌<◌, ◌^◌, Bool, true, false, cond, ◌&&◌, find, inl, inr, List, [], ◌∷◌, ◌++◌, length, All, Any, Contains, Option, Some, None, IfSome, IsTrue, refl, sym, ap, ◌∙◌, subst, arith, count_by}
-use Rattle.std.proofs.lemmas.Bool.{and_from}
+use Rattle.std.proofs.Common.{◌≡◌, ℕ, zero, suc, ◌+◌, ◌≤◌, Bool, true, false, ◌&&◌, inl, inr, List, [], ◌∷◌, ◌++◌, All, Option, Some, None, IfSome, IsTrue, refl, sym, ap, ◌∙◌, subst, arith, count_by}
 use Rattle.std.proofs.lemmas.List.{append_assoc}
-use Rattle.std.proofs.lemmas.List.Elements.{All-cons, All-nil}
+use Rattle.std.proofs.lemmas.List.Elements.{All-cons, All-nil, All-weaker}
 use Rattle.pc_base.specs.declared.actor.ActorId.TheVariants as actors
-use Rattle.pc_base.specs.declared.transaction.Priority.{Priority}
 use Rattle.pc_base.specs.declared.transaction.TxnId.{TxnId}
-use Rattle.pc_base.specs.declared.transaction.Who.{Who}
 use Rattle.pc_base.specs.declared.transaction.Who.TheVariants as whos
-use Rattle.pc_base.specs.Span.{same_key}
 use Rattle.pc_base.specs.Transaction.{same_txn}
 use Rattle.pc_coord.proofs.Ids.{same-is}
 use Rattle.pc_coord.proofs.Rounds.{count-append, count-cons, one_if}
-use Rattle.pc_coord.proofs.Same.{same_key-self, same_txn-self}
-use Rattle.pc_coord.specs.Beside.{IsBeside, IsLaterBeside, IsOfBegun, is_beside}
+use Rattle.pc_coord.proofs.Same.{same_txn-self}
+use Rattle.pc_coord.specs.Beside.{IsBeside, IsLaterBeside}
 use Rattle.pc_coord.specs.Coordination.{Coordination, next_of}
 use Rattle.pc_coord.specs.declared.due.Due.{Due}
 use Rattle.pc_coord.specs.declared.due.Due.TheVariants as dues
@@ -32,7 +28,6 @@ use Rattle.pc_coord.specs.Rounds.{EndsRound, IsRefusedRound, IsSettledRound, is_
 use Rattle.pc_proto.specs.declared.call.Call.{Call}
 use Rattle.pc_proto.specs.declared.call.Call.TheVariants as calls
 use Rattle.pc_proto.specs.declared.fate.Fate.{Fate}
-use Rattle.pc_proto.specs.declared.fate.Goal.{Goal}
 use Rattle.pc_proto.specs.declared.meta.TxnMeta.{TxnMeta}
 use Rattle.pc_proto.specs.declared.reply.Reply.{Reply}
 use Rattle.pc_proto.specs.declared.reply.Reply.TheVariants as replies
@@ -43,21 +38,21 @@ use Rattle.pc_proto.specs.Stamps.{goal_stamps}
 use Rattle.pc_push.specs.declared.progress.Progress.{Progress}
 use Rattle.pc_push.specs.declared.progress.Progress.TheVariants as progresses
 use Rattle.pc_push.specs.PushKnows.{Asks, AsksAt, MayPush}
-use Rattle.pc_push.specs.Pushing.{Pushing, after_reply, due_at, fate_after, goal_of, heard_at, push_of, resolve_of, resolving}
+use Rattle.pc_push.specs.Pushing.{Pushing, after_reply, due_at, goal_of, heard_at, push_of, resolve_of, resolving}
 use Rattle.pc_world.specs.Answering.{MayAnswer}
 use Rattle.pc_world.specs.Counting.{AtLeast}
 use Rattle.pc_world.specs.declared.machine.MachineNext.TheVariants as machine
 use Rattle.pc_world.specs.Exchange.{IsReplyTo}
 use Rattle.pc_world.specs.Follows.EarlyTell.{IsDecided}
-use Rattle.pc_world.specs.Follows.Resends.{HasMoreConflicts, MayGoAgain, is_resolved, round_of}
+use Rattle.pc_world.specs.Follows.Resends.{HasMoreConflicts, MayGoAgain, goal_in, round_of}
 use Rattle.pc_world.specs.Known.{Known, call_in, call_of, first_if, open_txn, reading_in}
-use Rattle.pc_world.specs.Known.Statements.{Statement}
-use Rattle.pc_world.specs.Known.Traffic.{Heard}
+use Rattle.pc_world.specs.Known.Traffic.{Heard, Sent}
 use Rattle.pc_world.specs.Known.Transactions.{Txn}
 use Rattle.pc_world.specs.SameRequest.{IsSameRequest}
-use Rattle.pc_world.specs.Send.Push.{ConflictsWith, SessionPush, StoodInTheWay, goal_for}
+use Rattle.pc_world.specs.Send.Push.{ConflictsWith, goal_for}
 use Rattle.pc_world.specs.Send.Recovery.{is_conflict_with, is_push_of, is_refused}
-use Rattle.pc_world.specs.Views.{is_about}
+use Rattle.pc_world.specs.Tell.Refusal.{is_heard}
+use Rattle.pc_world.specs.Views.{fate_after}
 use Rattle.pc_runner.proofs.Pushed.{push_decides}
 use Rattle.pc_runner.specs.Exchanging.{IsTimely}
 use Rattle.pc_runner.specs.Rounding.{HasCome, IsOfConflict, WasPushedOnce}
@@ -151,7 +146,8 @@ met_in c k number conflict reader knows next = by c.due refl next
 met_open : (c : Coordination) (k : Known) (m : IsMetIn c k) → open_txn k ≡ Some m.t
 met_open c k m = ap (λ b. first_if b k.txns) m.open_as.is_open ∙ ap (first_if true) m.open_as.first
 
-not_same : (one other : TxnId) → (one ≡ other → ⊥) → same_txn one other ≡ false
+-- two names that differ
+pub not_same : (one other : TxnId) → (one ≡ other → ⊥) → same_txn one other ≡ false
 not_same one other differ = by (same_txn one other) refl
   where
     by : (b : Bool) → same_txn one other ≡ b → same_txn one other ≡ false
@@ -186,7 +182,7 @@ module _ (c : Coordination) (start : Known) (number : ℕ) (conflict : Reply) (r
   pub resolve_beside : (m : Pushing) (fate : Fate) → IsBeside c (resolve_of m fate)
   resolve_beside m fate = record { kind = refl; begun = λ id about whose. absurd cc; other = λ x held. refl }
 
-  module _ (k : Known) (later : IsLaterBeside c start k) (waiting : List (List Request)) where
+  module _ (k : Known) (later : IsLaterBeside c start k) (answered : All (λ m. IsTrue (is_heard k.heard_now m)) k.sent_now) (waiting : List (List Request)) where
     not_decided : (t : Txn) (ts : ℕ) → IsDecided k t ts → ⊥
     not_decided t ts d = (met_in c start number conflict reader knows next).undecided (sym (ap call_in later.statement) ∙ d.asked)
 
@@ -196,7 +192,11 @@ module _ (c : Coordination) (start : Known) (number : ℕ) (conflict : Reply) (r
     timely : (request : Request) (id : TxnId) → round_of request ≡ Some id → HasMoreConflicts k request id → IsTimely k waiting request
     timely request id round more = record {
       undecided = not_decided;
-      again = λ s opened any. subst (MayGoAgain k request) (sym round) (inr more);
+      again = λ s opened any. (
+        All-weaker (λ (m : Sent). IsTrue (is_heard k.heard_now m)) (λ (m : Sent). IsSameRequest request m.request → IsTrue (is_heard k.heard_now m)) (λ m heard same. heard) k.sent_now answered,
+        subst (MayGoAgain k request) (sym round) more,
+      );
+      kind = λ s opened. inr (id, round);
       due = λ none. let both = sym in_call ∙ none in absurd cc;
     }
 
@@ -214,7 +214,7 @@ module _ (c : Coordination) (start : Known) (number : ℕ) (conflict : Reply) (r
         count-at_least (λ h. IsTrue (is_conflict_with id h.reply)) (was_met id) (λ h is. is) (n + 1) k.heard_now (omega (arith, a, b, d, low)))
 
     -- and than settlings of its intents
-    pub resolve_timely : (m : Pushing) (fate : Fate) → IsMade m → WasPushedOnce m.holder.id start k → IsTimely k waiting (resolve_of m fate)
+    pub resolve_timely : (m : Pushing) (fate : Fate) → IsMade m → WasPushedOnce m.holder.id m.goal fate start k → IsTimely k waiting (resolve_of m fate)
     resolve_timely m fate made was =
         let id = m.holder.id in
         let is : id ≡ met.holder.id = ap (λ (h : TxnMeta). h.id) made.holder in
@@ -279,7 +279,9 @@ module _ (m : Pushing) (start k later : Known) (h : Heard) (more : later.heard_n
     view = view;
     more = more ∙ ap (λ l. l ++ h ∷ []) same;
     pushed = ap (is_push_of m.holder.id) asked ∙ same_txn-self m.holder.id;
+    aims = ap goal_in asked;
     told = told;
+    left = is;
   }
 
   come_push : (reply : Reply) → h.reply ≡ reply → k.heard_now ≡ start.heard_now → h.request ≡ push_of m → MayAnswer (push_of m) reply → IsReplyTo (push_of m) reply → HasCome (heard_at progresses.Push reply m).progress m start later
@@ -293,18 +295,19 @@ module _ (m : Pushing) (start k later : Known) (h : Heard) (more : later.heard_n
       }
   come_push reply told same asked may is = absurd may
 
-  come_resolve : (reply : Reply) (fate : Fate) → h.reply ≡ reply → WasPushedOnce m.holder.id start k → h.request ≡ resolve_of m fate → MayAnswer (resolve_of m fate) reply → IsSettledRound m.holder.id m.key start later
+  come_resolve : (reply : Reply) (fate : Fate) → h.reply ≡ reply → WasPushedOnce m.holder.id m.goal fate start k → h.request ≡ resolve_of m fate → MayAnswer (resolve_of m fate) reply → IsSettledRound m.holder.id m.key start later
   come_resolve replies.Resolved fate told was asked may = record {
     push = was.push;
     view = was.view;
+    goal = m.goal;
+    fate = fate;
     resolve = h;
     more = more ∙ (ap (λ l. l ++ h ∷ []) was.more ∙ append_assoc start.heard_now (was.push ∷ []) (h ∷ []));
     pushed = was.pushed;
+    aims = was.aims;
     told = was.told;
-    resolved =
-        ap (λ r. is_resolved m.holder.id m.key h.request r) told
-        ∙ (ap (λ q. is_resolved m.holder.id m.key q replies.Resolved) asked
-        ∙ and_from (same_txn m.holder.id m.holder.id) (same_key m.key m.key) (same_txn-self m.holder.id) (same_key-self m.key));
+    left = was.left;
+    resolved = record { asked = asked; told = told };
   }
   come_resolve reply fate told was asked may = absurd may
 

@@ -1,23 +1,21 @@
 -- A session makes a conflict's round: how it begins, what each exchange of its machine leaves, and how the call goes on.
-use Rattle.std.proofs.Common.{◌≡◌, ℕ, ◌+◌, ◌≤◌, ◌<◌, ◌^◌, nat_le, nat_lt, Bool, true, false, ◌&&◌, List, [], ◌∷◌, ◌++◌, length, map, All, Option, Some, None, IfSome, IsTrue, refl, sym, ap, ◌∙◌, subst, arith}
-use Rattle.std.proofs.lemmas.List.{append-nil, nil_from_length}
-use Rattle.std.proofs.lemmas.List.Elements.{All-nil}
+use Rattle.std.proofs.Common.{◌≡◌, ℕ, ◌≤◌, ◌<◌, nat_le, nat_lt, true, false, ◌&&◌, List, [], map, Option, Some, None, IfSome, refl, sym, ap, ◌∙◌, subst, arith, All, IsTrue}
+use Rattle.std.proofs.lemmas.List.{nil_from_length}
+use Rattle.std.proofs.Math.Nat.{add-zero}
 use Rattle.pc_base.specs.declared.actor.ActorId.{ActorId}
 use Rattle.pc_base.specs.declared.actor.ActorId.TheVariants as actors
-use Rattle.pc_base.specs.declared.entry.Entry.{Entry}
 use Rattle.pc_base.specs.declared.transaction.Who.TheVariants as whos
 use Rattle.pc_base.specs.Timestamp.{greatest}
 use Rattle.pc_coord.proofs.Waits.{reads_conflict_waits}
-use Rattle.pc_coord.specs.Beside.{IsBeside, IsLaterBeside, is_beside}
-use Rattle.pc_coord.specs.Coordination.{Coordination, next_of, waits_for, with_clock}
+use Rattle.pc_coord.specs.Beside.{IsBeside}
+use Rattle.pc_coord.specs.Coordination.{next_of, waits_for, with_clock}
 use Rattle.pc_coord.specs.declared.due.Due.{Due}
 use Rattle.pc_coord.specs.declared.due.Due.TheVariants as dues
 use Rattle.pc_coord.specs.declared.next.Next.TheVariants as nexts
 use Rattle.pc_coord.specs.declared.pusher.Pusher.{Pusher}
-use Rattle.pc_coord.specs.Knows.{Knows, messages_of_job}
+use Rattle.pc_coord.specs.Knows.{messages_of_job}
 use Rattle.pc_coord.specs.Knows.Sending.{IsConflictNow}
 use Rattle.pc_coord.specs.Pusher.{IsPusherOf}
-use Rattle.pc_proto.specs.declared.event.Event.{Event}
 use Rattle.pc_proto.specs.declared.meta.TxnMeta.{TxnMeta}
 use Rattle.pc_proto.specs.declared.reply.Reply.{Reply}
 use Rattle.pc_proto.specs.declared.reply.Reply.TheVariants as replies
@@ -29,24 +27,24 @@ use Rattle.pc_push.specs.Pushing.{IsStart, Pushing, goal_of, next_of as next_due
 use Rattle.pc_world.specs.declared.machine.MachineNext.{MachineNext}
 use Rattle.pc_world.specs.declared.machine.MachineNext.TheVariants as machine
 use Rattle.pc_world.proofs.Kept.{run_top}
-use Rattle.pc_world.specs.Exchange.{IsAllowed, IsReplyTo, WasAnswered}
+use Rattle.pc_world.specs.Exchange.{IsAllowed}
 use Rattle.pc_world.specs.Known.{Known}
-use Rattle.pc_world.specs.Known.Traffic.{Heard}
-use Rattle.pc_world.specs.Run.{clock_end}
 use Rattle.pc_world.specs.Send.Recovery.{is_conflict}
-use Rattle.pc_runner.proofs.Beside.{later_itself, left_after}
-use Rattle.pc_runner.proofs.Besides.{answered_it, besides_on, heard_now_it, may_exchange}
+use Rattle.pc_world.specs.Tell.Refusal.{is_heard}
+use Rattle.pc_runner.proofs.Beside.{later_itself}
+use Rattle.pc_runner.proofs.Besides.{may_exchange}
 use Rattle.pc_runner.proofs.Holding.{holder_begun}
-use Rattle.pc_runner.proofs.Rounding.{IsMade, IsMetIn, come_on, may_push, met_in, push_beside, push_timely, resolve_beside, resolve_timely, sends_asks}
-use Rattle.pc_runner.specs.Beside.{HasExchanged, IsBesides, IsOnlySent, MayExchange, after_exchange}
+use Rattle.pc_runner.proofs.InTurn.{inside_none}
+use Rattle.pc_runner.proofs.Keeps.{beside_of}
+use Rattle.pc_runner.proofs.OnWay.{all_heard_now}
+use Rattle.pc_runner.proofs.Rounding.{IsMade, IsMetIn, may_push, met_in, push_beside, push_timely, resolve_beside, resolve_timely, sends_asks}
+use Rattle.pc_runner.specs.Beside.{IsBesides, MayExchange}
 use Rattle.pc_runner.specs.declared.session.SessionRun.{SessionRun}
-use Rattle.pc_runner.specs.Exchanging.{IsExchanged, IsTimely, KeepsBeside}
-use Rattle.pc_runner.specs.Following.{HasSameWork, IsInCall, IsOpen}
-use Rattle.pc_runner.specs.Follows.Turns.{IsItOrRange, IsWithin}
-use Rattle.pc_runner.specs.History.{History, IsSound, known_by}
-use Rattle.pc_runner.specs.Keeping.{AreDelivered, IsClockOf, IsStatedBy, KeepsSoFar}
-use Rattle.pc_runner.specs.Parts.{EvaluatesOf, IsInside, TakesPart}
-use Rattle.pc_runner.specs.Rounding.{HasCome, HasMadeRound, IsInRound, IsOfConflict}
+use Rattle.pc_runner.specs.Exchanging.{IsTimely}
+use Rattle.pc_runner.specs.Following.{IsInCall}
+use Rattle.pc_runner.specs.History.{History, known_by}
+use Rattle.pc_runner.specs.Keeping.{AreDelivered}
+use Rattle.pc_runner.specs.Rounding.{HasCome, IsInRound, IsOfConflict}
 use Rattle.pc_runner.specs.Traffic.{HasHeard, WaitsFor}
 
 -- nothing is awaited where a conflict's round is due
@@ -57,23 +55,6 @@ conflict_waits n due number conflict reader next = absurd cc
 
 none_between : (last sends : ℕ) → (nat_lt last sends && nat_le sends sends) ≡ false → sends ≤ last
 none_between last sends none = grind arith
-
--- the history went on by nothing
-pub no_part : (number : ℕ) (h : History) → TakesPart number h h (IsInside number)
-no_part number h = record {
-  part = [];
-  goes = record {
-    head = refl;
-    whole = sym (append-nil h.entries);
-    alone = All-nil (λ (e : Entry Event). IsItOrRange number e.actor);
-    evaluates = All-nil (λ (e : Entry Event). EvaluatesOf number e.event);
-  };
-  is = All-nil IsWithin;
-}
-
--- how far the history follows the work, with these jobs
-pub keeps_beside : (r : SessionRun) (h : History) → KeepsSoFar r.work.now r.number r.session.now r.script r.clock r.jobs.items h → KeepsBeside r.work.now r.number r.session.now r.script r.clock (map messages_of_job r.jobs.items) h
-keeps_beside r h keeps = record { place = keeps.place; reads = keeps.reads; paired = keeps.paired; waiting_are = keeps.jobs_are; steps = keeps.steps }
 
 module _ (r : SessionRun) (h : History) (number : ℕ) (conflict : Reply) (reader : Option ℕ) (calls : IsInCall r h) (next : next_of r.coordinator.due ≡ nexts.Conflict number conflict reader) (met : IsConflictNow (known_by r.number h) number conflict reader) where
   -- What the session knows.
@@ -108,14 +89,11 @@ module _ (r : SessionRun) (h : History) (number : ℕ) (conflict : Reply) (reade
         later = later_itself r.coordinator k i.counted.below;
         counted = calls.stands.counted;
         heard = subst (λ n. HasHeard n k) at_last calls.way.heard;
-        delivered = subst (λ n. AreDelivered r.number n h) (plus-zero calls.way.last ∙ at_last) calls.way.delivered;
-        keeps = keeps_beside r h calls.keeps;
+        delivered = subst (λ n. AreDelivered r.number n h) (add-zero calls.way.last ∙ at_last) calls.way.delivered;
+        keeps = beside_of r.work.now r.number r.session.now r.script r.clock r.jobs.items h calls.keeps;
         jobs = calls.jobs;
-        part = no_part r.number h;
+        part = inside_none r.number h;
       }
-    where
-      plus-zero : (n : ℕ) → n + 0 ≡ n
-      plus-zero n = omega arith
 
   -- what the machine's beginning requires
   pub is_conflict_met : is_conflict conflict ≡ true
@@ -167,18 +145,22 @@ module _ (r : SessionRun) (h : History) (number : ℕ) (conflict : Reply) (reade
     of_holder : IsMade r.coordinator k number conflict reader calls.stands.knows next met m
     of_holder = record { holder = (subst (λ reply. IsOfConflict reply m) met.is round.of).0; begun = round.begun }
 
+    -- all that was sent in the call was answered in it
+    answered : All (λ m. IsTrue (is_heard l.heard_now m)) l.sent_now
+    answered = all_heard_now new.sends l round.beside.heard round.beside.counted
+
     pub asked_beside : (p : Progress) (request : Request) → HasCome p m k l → AsksAt p m request → IsBeside r.coordinator request × IsTimely l (map messages_of_job r.jobs.items) request
     asked_beside progresses.Push request come asks =
         subst (λ q. IsBeside r.coordinator q × IsTimely l (map messages_of_job r.jobs.items) q) (sym asks) (
           push_beside r.coordinator k number conflict reader calls.stands.knows next met m of_holder,
-          push_timely r.coordinator k number conflict reader calls.stands.knows next met l round.beside.later (map messages_of_job r.jobs.items) m of_holder come,
+          push_timely r.coordinator k number conflict reader calls.stands.knows next met l round.beside.later answered (map messages_of_job r.jobs.items) m of_holder come,
         )
     asked_beside progresses.Refused request come asks = absurd asks
     asked_beside (progresses.Unsure view) request come asks = absurd come
     asked_beside (progresses.Resolve fate) request come asks =
         subst (λ q. IsBeside r.coordinator q × IsTimely l (map messages_of_job r.jobs.items) q) (sym asks) (
           resolve_beside r.coordinator k number conflict reader calls.stands.knows next met m fate,
-          resolve_timely r.coordinator k number conflict reader calls.stands.knows next met l round.beside.later (map messages_of_job r.jobs.items) m fate of_holder come,
+          resolve_timely r.coordinator k number conflict reader calls.stands.knows next met l round.beside.later answered (map messages_of_job r.jobs.items) m fate of_holder come,
         )
     asked_beside progresses.Over request come asks = absurd asks
 

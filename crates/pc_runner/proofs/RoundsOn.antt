@@ -1,5 +1,6 @@
 -- A conflict's round after one more exchange of its machine, and the call once the round was made.
-use Rattle.std.proofs.Common.{◌≡◌, ℕ, ◌+◌, ◌≤◌, nat_le, nat_lt, Bool, true, false, ◌&&◌, List, [], ◌∷◌, ◌++◌, length, map, All, Option, Some, None, Result, Ok, Err, OnOk, is_some, if◌then◌else◌, refl, sym, ap, ◌∙◌, subst, arith}
+use Rattle.std.proofs.Common.{◌≡◌, ℕ, ◌+◌, ◌≤◌, nat_le, nat_lt, false, ◌&&◌, List, [], ◌∷◌, ◌++◌, map, Option, Some, Result, Ok, Err, OnOk, sym, ap, ◌∙◌, subst, arith}
+use Rattle.std.proofs.Math.Nat.{add-zero}
 use Rattle.std.proofs.lemmas.List.Elements.{All-nil}
 use Rattle.pc_base.specs.declared.actor.ActorId.{ActorId}
 use Rattle.pc_base.specs.declared.actor.ActorId.TheVariants as actors
@@ -18,29 +19,23 @@ use Rattle.pc_proto.specs.declared.request.Request.{Request}
 use Rattle.pc_push.specs.PushKnows.{Asks, PushKnows}
 use Rattle.pc_push.specs.Pushing.{Pushing, after_reply}
 use Rattle.pc_world.specs.Exchange.{IsReplyTo, WasAnswered}
-use Rattle.pc_world.specs.Follows.FinishingJobs.{without_first}
 use Rattle.pc_world.specs.Known.{Known}
-use Rattle.pc_world.specs.Known.Statements.{Statement}
-use Rattle.pc_world.specs.Known.Traffic.{Heard}
-use Rattle.pc_runner.proofs.Beside.{left_after}
+use Rattle.pc_runner.proofs.Beside.{left_open}
 use Rattle.pc_runner.proofs.Besides.{answered_it, besides_on, heard_now_it}
+use Rattle.pc_runner.proofs.Calling.{open_on}
+use Rattle.pc_runner.proofs.Keeps.{so_far_of}
 use Rattle.pc_runner.proofs.Rounding.{come_on, round_same}
 use Rattle.pc_runner.proofs.Rounds.{asked_beside, no_outbox}
-use Rattle.pc_runner.specs.Beside.{HasExchanged, IsBesides, IsOnlySent, after_exchange}
-use Rattle.pc_runner.specs.declared.outbox.Answered.{Answered}
+use Rattle.pc_runner.specs.Beside.{HasExchanged, IsBesides, after_exchange}
 use Rattle.pc_runner.specs.declared.outbox.Posted.{Posted}
 use Rattle.pc_runner.specs.declared.session.SessionRun.{SessionRun}
-use Rattle.pc_runner.specs.Exchanging.{IsExchanged, IsTimely}
+use Rattle.pc_runner.specs.Exchanging.{IsExchanged, IsTimely, KeepsBeside}
 use Rattle.pc_runner.specs.Following.{AreOnTheirWay, HasSameWork, IsInCall, IsOpen}
 use Rattle.pc_runner.specs.History.{History, known_by}
 use Rattle.pc_runner.specs.Keeping.{AreDelivered, IsClockOf, IsStatedBy, KeepsSoFar}
 use Rattle.pc_runner.specs.Parts.{IsInside, TakesPart}
 use Rattle.pc_runner.specs.Rounding.{HasCome, HasMadeRound, IsInRound, IsOfConflict}
-use Rattle.pc_runner.specs.Traffic.{HasHeard, IsPosted, IsReplied}
-
--- In a call no message of a job is sent.
-left_open : (k : Known) (s : Statement) (number range : ℕ) (request : Request) (waiting : List (List Request)) → k.statement ≡ Some s → left_after k number range request waiting ≡ waiting
-left_open k s number range request waiting opened = ap (λ (o : Option Statement). if is_some o then waiting else without_first waiting) opened
+use Rattle.pc_runner.specs.Traffic.{IsPosted, IsReplied}
 
 of_same : (conflict : Reply) (m next : Pushing) → next.holder ≡ m.holder → next.key ≡ m.key → IsOfConflict conflict m → IsOfConflict conflict next
 of_same (replies.Conflict holder ts key) m next one two of = (one ∙ of.0, two ∙ of.1)
@@ -117,29 +112,16 @@ module _ (r : SessionRun) (h : History) (number : ℕ) (conflict : Reply) (reade
 
     keeps_still : KeepsSoFar new.work.now new.number new.session.now new.script new.clock new.jobs.items g
     keeps_still =
-        let keeps = made.beside.keeps in
-        record {
-          stated = subst (λ (s : SessionRun). IsStatedBy s.work.now s.number s.session.now) (sym made.rest) calls.keeps.stated;
-          clock_of = subst (λ (s : SessionRun). IsClockOf s.session.now s.clock) (sym made.rest) calls.keeps.clock_of;
-          place = keeps.place;
-          reads = keeps.reads;
-          paired = keeps.paired;
-          jobs_are = keeps.waiting_are ∙ sym (ap (λ (s : SessionRun). map messages_of_job s.jobs.items) made.rest);
-          steps = keeps.steps;
-        }
+        so_far_of new.work.now new.number new.session.now new.script new.clock new.jobs.items g
+        (subst (λ (s : SessionRun). IsStatedBy s.work.now s.number s.session.now) (sym made.rest) calls.keeps.stated)
+        (subst (λ (s : SessionRun). IsClockOf s.session.now s.clock) (sym made.rest) calls.keeps.clock_of)
+        (subst (λ (s : SessionRun). KeepsBeside new.work.now new.number new.session.now new.script new.clock (map messages_of_job s.jobs.items) g) (sym made.rest) made.beside.keeps)
 
     open_still : IsOpen new.script new.reading (known_by new.number g)
     open_still =
-        let o = calls.open_now in
         let later = made.beside.later in
-        subst (λ (s : SessionRun). IsOpen s.script s.reading (known_by new.number g)) (sym made.rest) (record {
-          call = o.call;
-          next = o.next;
-          opened = later.statement ∙ o.opened;
-          outside = λ out. later.is_open ∙ o.outside out;
-          course = o.course;
-          items = o.items;
-        })
+        subst (λ (s : SessionRun). IsOpen s.script s.reading (known_by new.number g)) (sym made.rest)
+        (open_on r.script r.reading k (known_by new.number g) later.statement later.is_open calls.open_now)
 
     outbox_still : new.outbox.items ≡ []
     outbox_still = ap (λ (s : SessionRun). s.outbox.items) made.rest ∙ no_outbox r h number conflict reader calls due met
@@ -150,7 +132,7 @@ module _ (r : SessionRun) (h : History) (number : ℕ) (conflict : Reply) (reade
           last = new.sends;
           counted = omega arith;
           heard = made.beside.heard;
-          delivered = subst (λ n. AreDelivered new.number n g) (plus-zero new.sends) made.beside.delivered;
+          delivered = subst (λ n. AreDelivered new.number n g) (sym (add-zero new.sends)) made.beside.delivered;
           answered = tt;
           posted = tt;
           replied = All-nil (IsReplied new.number g);
@@ -158,9 +140,6 @@ module _ (r : SessionRun) (h : History) (number : ℕ) (conflict : Reply) (reade
           waits = λ n. none n ∙ sym (none-past n new.sends);
         })
       where
-        plus-zero : (n : ℕ) → n ≡ n + 0
-        plus-zero n = omega arith
-
         none-past : (n sends : ℕ) → (nat_lt sends n && nat_le n sends) ≡ false
         none-past n sends = grind arith
 

@@ -1,5 +1,6 @@
 -- A session in its call, once it sent the message that its coordinator gave.
-use Rattle.std.proofs.Common.{◌≡◌, ℕ, ◌+◌, ◌*◌, ◌≤◌, ◌<◌, Bool, true, false, ◌==◌, ◌||◌, cond, find, if◌then◌else◌, is_some, All, List, [], ◌∷◌, ◌++◌, length, map, Option, Some, None, refl, sym, ap, subst, ◌∙◌, arith, length-append}
+use Rattle.std.proofs.Common.{◌≡◌, ℕ, ◌+◌, ◌<◌, ◌==◌, ◌||◌, All, List, [], ◌∷◌, ◌++◌, length, map, refl, sym, ap, subst, ◌∙◌, arith, length-append}
+use Rattle.std.proofs.Math.Nat.{add-zero}
 use Rattle.std.proofs.lemmas.List.Elements.{All-nil, All-push, All-weaker}
 use Rattle.std.specs.Option.{option_map}
 use Rattle.pc_base.specs.declared.actor.ActorId.TheVariants as actors
@@ -10,7 +11,7 @@ use Rattle.pc_coord.specs.declared.job.Job.{Job}
 use Rattle.pc_coord.specs.declared.next.Next.TheVariants as nexts
 use Rattle.pc_coord.specs.Events.{IsSent}
 use Rattle.pc_coord.specs.Knows.{Knows, messages_of_job}
-use Rattle.pc_coord.specs.Knows.Sending.{IsForCall, IsSendable}
+use Rattle.pc_coord.specs.Knows.Sending.{AwaitsNone, IsSendable}
 use Rattle.pc_history.specs.declared.pair.Pair.{Pair}
 use Rattle.pc_proto.specs.declared.event.Event.TheVariants as events
 use Rattle.pc_proto.specs.declared.request.Request.{Request}
@@ -18,18 +19,19 @@ use Rattle.pc_session.specs.Stepped.{SteppedState}
 use Rattle.pc_work.specs.declared.session.SessionWork.{SessionWork}
 use Rattle.pc_work.specs.declared.workload.Workload.{Workload}
 use Rattle.pc_world.specs.Exchange.{IsAllowed}
-use Rattle.pc_world.specs.Follows.FinishingJobs.{without_first}
+use Rattle.pc_world.specs.Follows.CallMessages.{IsForCall}
+use Rattle.pc_world.specs.Follows.Resends.{AreAnsweredNow}
 use Rattle.pc_world.specs.Known.{Known, learn, next_number}
-use Rattle.pc_world.specs.Known.Statements.{Statement}
 use Rattle.pc_world.specs.Known.Traffic.{Sent, request_sent}
 use Rattle.pc_world.specs.MaySend.{MaySendRow}
 use Rattle.pc_world.specs.Unstaged.{IsNoStage}
-use Rattle.pc_runner.proofs.Calling.{Calls, delivered_on, stands_on}
+use Rattle.pc_runner.proofs.Beside.{left_open}
+use Rattle.pc_runner.proofs.Calling.{Calls, delivered_on, open_on, stands_on}
 use Rattle.pc_runner.proofs.Going.{known_sent, of_send}
 use Rattle.pc_runner.proofs.Growing.{known_grows, next_pair, sent_now, sent_still}
 use Rattle.pc_runner.proofs.Keeps.{keeps_on}
 use Rattle.pc_runner.proofs.Left.{jobs_sent}
-use Rattle.pc_runner.proofs.OnWay.{heard_sent, posted-push, waits_sent}
+use Rattle.pc_runner.proofs.OnWay.{answered_now, heard_sent, posted-push, said_on, waits_sent}
 use Rattle.pc_runner.proofs.OwnPuts.{puts_open}
 use Rattle.pc_runner.proofs.Stepping.{plain_for, step_sent}
 use Rattle.pc_runner.specs.Database.{HasSent}
@@ -38,24 +40,8 @@ use Rattle.pc_runner.specs.Following.{AreOnTheirWay, HasJobs, IsOpen, StandsBy}
 use Rattle.pc_runner.specs.Follows.Clocks.{clock_rule}
 use Rattle.pc_runner.specs.Follows.Script.{Position}
 use Rattle.pc_runner.specs.History.{History, known_by}
-use Rattle.pc_runner.specs.Keeping.{AreDelivered, KeepsSoFar}
+use Rattle.pc_runner.specs.Keeping.{KeepsSoFar}
 use Rattle.pc_runner.specs.Traffic.{HasHeard, IsNumbered, IsPosted, IsReplied}
-
--- what was sent under a number stays so
-find_on : {X : Type 0} (p : X → Bool) (xs ys : List X) (y : X) → find p xs ≡ Some y → find p (xs ++ ys) ≡ Some y
-find_on p [] ys y e = absurd cc
-find_on p (x ∷ xs) ys y e = by (p x) refl (find_on p xs ys y)
-  where
-    by : (b : Bool) → p x ≡ b → (find p xs ≡ Some y → find p (xs ++ ys) ≡ Some y) → find p ((x ∷ xs) ++ ys) ≡ Some y
-    by true is later = ap (λ b. cond b (Some x) (find p (xs ++ ys))) is ∙ (sym (ap (λ b. cond b (Some x) (find p xs)) is) ∙ e)
-    by false is later = ap (λ b. cond b (Some x) (find p (xs ++ ys))) is ∙ later (sym (ap (λ b. cond b (Some x) (find p xs)) is) ∙ e)
-
-pub said_on : (number : ℕ) (xs ys : List Sent) (request : Request) → request_sent number xs ≡ Some request → request_sent number (xs ++ ys) ≡ Some request
-said_on number xs ys request e = by (find (λ (m : Sent). m.number == number) xs) refl e
-  where
-    by : (found : Option Sent) → find (λ (m : Sent). m.number == number) xs ≡ found → option_map (λ (m : Sent). m.request) found ≡ Some request → request_sent number (xs ++ ys) ≡ Some request
-    by None is e = absurd cc
-    by (Some m) is e = ap (option_map (λ (m : Sent). m.request)) (find_on (λ (m : Sent). m.number == number) xs ys m is) ∙ e
 
 -- the request may go out
 pub is_allowed : (number : ℕ) (c : Coordination) (sends : ℕ) (h : History) (request : Request) → StandsBy number c sends h → IsSendable c.splits c.session (known_by number h) request
@@ -68,14 +54,9 @@ is_allowed number c sends h request stands may =
 pub is_unstaged : (k : Known) (request : Request) → IsForCall k request → IsNoStage request
 is_unstaged k request kind = (plain_for kind.s.call request kind.kind).unstaged
 
-same_jobs : (o : Option Statement) (s : Statement) (jobs : List (List Request)) → o ≡ Some s → (if is_some o then jobs else without_first jobs) ≡ jobs
-same_jobs o s jobs is = ap (λ (o : Option Statement). if is_some o then jobs else without_first jobs) is
-
-plus-none : (n : ℕ) → n ≡ n + 0
-plus-none n = omega arith
-
 module _ (work : Workload) (number : ℕ) (session : SessionWork) (at : Position) (clock : SteppedState) (reading : ℕ) (jobs : List Job) (c : Coordination) (sends : ℕ) (outbox : List Posted) (h g : History) (request : Request)
-    (calls : Calls work number session at clock reading jobs c sends [] outbox h) (made : HasSent h g number (sends + 1) request) (may : IsSendable c.splits c.session (known_by number h) request) where
+    (calls : Calls work number session at clock reading jobs c sends [] outbox h) (made : HasSent h g number (sends + 1) request) (may : IsSendable c.splits c.session (known_by number h) request)
+    (none : AwaitsNone c (known_by number h) request) where
   abbrev k : Known
   k = known_by number h
 
@@ -111,27 +92,22 @@ module _ (work : Workload) (number : ℕ) (session : SessionWork) (at : Position
     kind = record { s = may.kind.s; opened = ap (λ (k : Known). k.statement) known_is ∙ may.kind.opened; kind = may.kind.kind };
   }
 
+  -- what was sent of the request in the open call was answered there
+  answered : AreAnsweredNow k request
+  answered = answered_now calls.way.last sends k c request calls.way.heard calls.stands.counted calls.way.waits none
+
   keeps_sent : KeepsSoFar work number session at clock jobs g
   keeps_sent =
       let event = events.Send (sends + 1) made.range request in
       let keeps = calls.keeps in
       let reads = keeps.reads in
       let paired = keeps.paired in
-      keeps_on work number session at clock jobs h g at clock jobs event keeps made.grown refl keeps.clock_of (plus-none clock.reads)
-      (λ rule. step_sent work.pipelining (clock_rule session.clock rule) clock.reads at (map messages_of_job jobs) k (sends + 1) made.range request c.splits c.session may)
-      (omega arith) (same_jobs k.statement may.kind.s (map messages_of_job jobs) may.kind.opened)
+      keeps_on work number session at clock jobs h g at clock jobs event keeps made.grown refl keeps.clock_of (sym (add-zero clock.reads))
+      (λ rule. step_sent work.pipelining (clock_rule session.clock rule) clock.reads at (map messages_of_job jobs) k (sends + 1) made.range request c.splits c.session may answered)
+      (omega arith) (left_open k may.kind.s (sends + 1) made.range request (map messages_of_job jobs) may.kind.opened)
 
   open_sent : IsOpen at reading (known_by number g)
-  open_sent =
-      let o = calls.open_now in
-      record {
-        call = o.call;
-        next = o.next;
-        opened = ap (λ (k : Known). k.statement) known_is ∙ o.opened;
-        outside = λ out. ap (λ (k : Known). k.is_open) known_is ∙ o.outside out;
-        course = o.course;
-        items = o.items;
-      }
+  open_sent = open_on at reading k (known_by number g) (ap (λ (k : Known). k.statement) known_is) (ap (λ (k : Known). k.is_open) known_is) calls.open_now
 
   way_sent : (d : Coordination) → ((other : ℕ) → waits_for other d.due ≡ (sends + 1 == other || waits_for other c.due)) → AreOnTheirWay number d (sends + 1) [] (outbox ++ post ∷ []) g
   way_sent d waits =

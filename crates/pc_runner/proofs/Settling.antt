@@ -1,17 +1,15 @@
 -- A session does its oldest job: how it begins, what each exchange of its machine leaves, and how it ends.
-use Rattle.std.proofs.Common.{◌≡◌, ℕ, zero, suc, ◌+◌, ◌≤◌, ◌<◌, Bool, true, false, cond, List, [], ◌∷◌, ◌++◌, length, map, drop, slice_get, inl, inr, All, Any, Option, Some, None, is_some, IsTrue, if◌then◌else◌, refl, sym, ap, ◌∙◌, subst, arith}
-use Rattle.std.proofs.lemmas.List.Elements.{All-cons, All-head, All-nil, All-tail, All-weaker}
-use Rattle.pc_base.specs.declared.actor.ActorId.TheVariants as actors
+use Rattle.std.proofs.Common.{◌≡◌, ℕ, zero, suc, ◌+◌, ◌≤◌, Bool, true, false, cond, List, [], ◌∷◌, ◌++◌, length, map, drop, slice_get, Option, Some, None, refl, sym, ap, ◌∙◌, subst, arith}
+use Rattle.std.proofs.lemmas.Option.{get_or_from_slice_get, slice_get_within}
 use Rattle.pc_base.specs.declared.transaction.TxnId.{TxnId}
 use Rattle.pc_base.specs.Transaction.{same_txn}
-use Rattle.pc_coord.proofs.Ids.{same-is}
 use Rattle.pc_coord.specs.Beside.{IsBeside, is_beside}
 use Rattle.pc_coord.specs.Coordination.{Coordination}
 use Rattle.pc_coord.specs.declared.due.Due.TheVariants as dues
 use Rattle.pc_coord.specs.declared.job.Job.{Job}
 use Rattle.pc_coord.specs.declared.transaction.Transaction.{Transaction}
 use Rattle.pc_coord.specs.Knows.{Knows, KnowsAt, Rests, messages_of_job}
-use Rattle.pc_coord.specs.Knows.Held.{IsHeld, IsOpenAs}
+use Rattle.pc_coord.specs.Knows.Held.{IsHeld}
 use Rattle.pc_proto.specs.declared.reply.Reply.{Reply}
 use Rattle.pc_proto.specs.declared.reply.Reply.TheVariants as replies
 use Rattle.pc_proto.specs.declared.request.Request.{Request}
@@ -19,38 +17,29 @@ use Rattle.pc_proto.specs.declared.request.Request.TheVariants as requests
 use Rattle.pc_resolve.specs.Resolving.{Resolving, after_reply, at_end, due_at, heard_at, next_of, remove_of, resolve_of, unsettled, with_reply}
 use Rattle.pc_world.specs.Answering.{MayAnswer}
 use Rattle.pc_world.specs.declared.machine.MachineNext.TheVariants as machine
-use Rattle.pc_world.specs.Follows.EarlyTell.{IsDecided}
 use Rattle.pc_world.specs.Follows.FinishingJobs.{first_message, without_first}
 use Rattle.pc_world.specs.Known.{Known, call_in, first_if, open_txn}
-use Rattle.pc_world.specs.Known.Traffic.{Heard, Sent}
 use Rattle.pc_world.specs.Known.Transactions.{Txn}
-use Rattle.pc_world.specs.Tell.Refusal.{is_heard}
-use Rattle.pc_world.specs.Views.{is_about}
+use Rattle.pc_runner.proofs.OnWay.{all_heard}
+use Rattle.pc_runner.proofs.Places.{drop_item}
+use Rattle.pc_runner.proofs.Rounding.{not_same}
 use Rattle.pc_runner.specs.Exchanging.{IsTimely}
 use Rattle.pc_runner.specs.Settling.{messages_of, with_left}
-use Rattle.pc_runner.specs.Traffic.{HasHeard, IsNumbered}
+use Rattle.pc_runner.specs.Traffic.{HasHeard}
 
 -- ---- the messages of a job, one by one
-
-first_left : (message : Request) (tail : List Request) (jobs : List (List Request)) → first_message (with_left (message ∷ tail) jobs) ≡ Some message
-first_left message tail jobs = refl
 
 less_left : (message : Request) (tail : List Request) (jobs : List (List Request)) → without_first (with_left (message ∷ tail) jobs) ≡ with_left tail jobs
 less_left message [] jobs = refl
 less_left message (next ∷ tail) jobs = refl
 
 -- What a message that is due leaves of the job.
-pub record IsFirstOf (m : Resolving) (request : Request) (next : Resolving) : Type 0 where
+pub record IsFirstMessage (m : Resolving) (request : Request) (next : Resolving) : Type 0 where
   pub first : messages_of m ≡ request ∷ messages_of next
   pub beside : is_beside request ≡ true
 
 drop-at : (xs : List (List ℕ)) (n : ℕ) (x : List ℕ) → slice_get xs n ≡ Some x → drop n xs ≡ x ∷ drop (n + 1) xs
-drop-at [] n x at = absurd cc
-drop-at (y ∷ ys) zero x at = let same : y ≡ x = cc in ap (λ z. z ∷ ys) same
-drop-at (y ∷ ys) (suc n) x at = drop-at ys n x at ∙ ap (λ k. x ∷ drop k (y ∷ ys)) (plus n)
-  where
-    plus : (n : ℕ) → suc (n + 1) ≡ suc n + 1
-    plus n = omega arith
+drop-at xs n x at = drop_item xs n x (slice_get_within xs n x at) (sym (get_or_from_slice_get xs n x x at))
 
 drop-past : (xs : List (List ℕ)) (n : ℕ) → slice_get xs n ≡ None → drop n xs ≡ []
 drop-past [] zero none = refl
@@ -58,7 +47,7 @@ drop-past [] (suc n) none = refl
 drop-past (y ∷ ys) zero none = absurd cc
 drop-past (y ∷ ys) (suc n) none = drop-past ys n none
 
-resolve_first : (m : Resolving) (key : List ℕ) → unsettled m ≡ Some key → IsFirstOf m (resolve_of m key) (record m { settled = m.settled + 1 })
+resolve_first : (m : Resolving) (key : List ℕ) → unsettled m ≡ Some key → IsFirstMessage m (resolve_of m key) (record m { settled = m.settled + 1 })
 resolve_first m key at = record {
   first =
       let f : List ℕ → Request = λ lock. requests.Resolve m.id lock m.fate in
@@ -66,7 +55,7 @@ resolve_first m key at = record {
   beside = refl;
 }
 
-remove_first : (m : Resolving) → unsettled m ≡ None → m.removed ≡ false → IsFirstOf m (remove_of m) (record m { removed = true })
+remove_first : (m : Resolving) → unsettled m ≡ None → m.removed ≡ false → IsFirstMessage m (remove_of m) (record m { removed = true })
 remove_first m none not = record {
   first =
       let f : List ℕ → Request = λ lock. requests.Resolve m.id lock m.fate in
@@ -78,23 +67,23 @@ remove_first m none not = record {
 }
 
 -- the message that the machine has due is the job's next one
-sent_by : (m : Resolving) (request : Request) (reply : Reply) (key : Option (List ℕ)) → unsettled m ≡ key → due_at key m ≡ machine.Send request → MayAnswer request reply → IsFirstOf m request (heard_at key reply m)
+sent_by : (m : Resolving) (request : Request) (reply : Reply) (key : Option (List ℕ)) → unsettled m ≡ key → due_at key m ≡ machine.Send request → MayAnswer request reply → IsFirstMessage m request (heard_at key reply m)
 sent_by m request reply (Some key) at due may = by reply (subst (λ q. MayAnswer q reply) (sym same) may)
   where
     same : resolve_of m key ≡ request
     same = cc
 
-    by : (reply : Reply) → MayAnswer (resolve_of m key) reply → IsFirstOf m request (with_reply reply m)
-    by replies.Resolved may = subst (λ q. IsFirstOf m q (record m { settled = m.settled + 1 })) same (resolve_first m key at)
+    by : (reply : Reply) → MayAnswer (resolve_of m key) reply → IsFirstMessage m request (with_reply reply m)
+    by replies.Resolved may = subst (λ q. IsFirstMessage m q (record m { settled = m.settled + 1 })) same (resolve_first m key at)
     by reply may = absurd may
 sent_by m request reply None at due may = by m.removed refl due
   where
-    by : (b : Bool) → m.removed ≡ b → at_end b m ≡ machine.Send request → IsFirstOf m request (record m { removed = true })
+    by : (b : Bool) → m.removed ≡ b → at_end b m ≡ machine.Send request → IsFirstMessage m request (record m { removed = true })
     by true over due = absurd cc
-    by false not due = let same : remove_of m ≡ request = cc in subst (λ q. IsFirstOf m q (record m { removed = true })) same (remove_first m at not)
+    by false not due = let same : remove_of m ≡ request = cc in subst (λ q. IsFirstMessage m q (record m { removed = true })) same (remove_first m at not)
 
-pub is_first : (m next : Resolving) (request : Request) (reply : Reply) → next_of m ≡ machine.Send request → MayAnswer request reply → next ≡ after_reply reply m → IsFirstOf m request next
-is_first m next request reply due may made = subst (IsFirstOf m request) (sym made) (sent_by m request reply (unsettled m) refl due may)
+pub is_first : (m next : Resolving) (request : Request) (reply : Reply) → next_of m ≡ machine.Send request → MayAnswer request reply → next ≡ after_reply reply m → IsFirstMessage m request next
+is_first m next request reply due may made = subst (IsFirstMessage m request) (sym made) (sent_by m request reply (unsettled m) refl due may)
 
 -- what is due to be sent, whatever the reply
 pub due_first : (m : Resolving) (request : Request) → next_of m ≡ machine.Send request → (tail : List Request) × (messages_of m ≡ request ∷ tail) × (is_beside request ≡ true)
@@ -140,13 +129,6 @@ job_left job jobs = by job.locks
 
 -- ---- its messages may go out
 
-not_same : (one other : TxnId) → (one ≡ other → ⊥) → same_txn one other ≡ false
-not_same one other differ = by (same_txn one other) refl
-  where
-    by : (b : Bool) → same_txn one other ≡ b → same_txn one other ≡ false
-    by true is = absurd (differ (same-is one other is))
-    by false is = is
-
 -- a coordinator with nothing due rests
 pub rests_now : (c : Coordination) (k : Known) → Knows c k → c.due ≡ dues.Nothing → Rests c.session c.clock c.begun c.txn c.job k
 rests_now c k knows due = subst (KnowsAt c k) due knows.stands
@@ -191,19 +173,9 @@ pub due_timely : (k : Known) (request : Request) (tail : List Request) (messages
 due_timely k request tail messages jobs sends none is counted heard = record {
   undecided = λ t ts d. let both = sym (ap call_in none) ∙ d.asked in cc both;
   again = λ s opened any. let both = sym none ∙ opened in absurd cc;
-  due = λ closed. record {
-    next = ap (λ l. first_message (with_left l jobs)) is;
-    heard = heard_each k.sent heard.numbers heard.all;
-  };
+  kind = λ s opened. let both = sym none ∙ opened in absurd cc;
+  due = λ closed. record { next = ap (λ l. first_message (with_left l jobs)) is; heard = all_heard sends k heard counted };
 }
-  where
-    heard_each : (sent : List Sent) → All (IsNumbered (length k.sent)) sent → All (λ (m : Sent). m.number ≤ sends → IsTrue (is_heard k.heard m)) sent → All (λ (m : Sent). IsTrue (is_heard k.heard m)) sent
-    heard_each [] a b = All-nil (λ (m : Sent). IsTrue (is_heard k.heard m))
-    heard_each (m ∷ ms) a b =
-        let P : Sent → Type 0 = λ m. m.number ≤ sends → IsTrue (is_heard k.heard m) in
-        let at : IsNumbered (length k.sent) m = All-head (IsNumbered (length k.sent)) m ms a in
-        let on : m.number ≤ sends → IsTrue (is_heard k.heard m) = All-head P m ms b in
-        All-cons (λ (m : Sent). IsTrue (is_heard k.heard m)) m ms (on (omega (arith, at.counted, counted))) (heard_each ms (All-tail (IsNumbered (length k.sent)) m ms a) (All-tail P m ms b))
 
 -- and once it was sent, the rest of its job is left
 pub left_less : (messages tail : List Request) (request : Request) (jobs : List (List Request)) → messages ≡ request ∷ tail → without_first (with_left messages jobs) ≡ with_left tail jobs

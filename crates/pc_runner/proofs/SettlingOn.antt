@@ -1,10 +1,8 @@
 -- A session's oldest job after one more exchange of its machine, and the session once the job is done.
-use Rattle.std.proofs.Common.{◌≡◌, ℕ, ◌+◌, ◌≤◌, Bool, true, false, List, [], ◌∷◌, ◌++◌, length, map, drop, All, Option, Some, None, Result, Ok, Err, OnOk, is_some, if◌then◌else◌, refl, sym, ap, ◌∙◌, subst, arith}
-use Rattle.std.proofs.lemmas.List.{append-nil}
-use Rattle.std.proofs.lemmas.List.Elements.{All-head, All-nil, All-tail}
+use Rattle.std.proofs.Common.{◌≡◌, ℕ, ◌+◌, ◌≤◌, false, List, [], ◌∷◌, ◌++◌, map, drop, All, Option, Some, None, Result, Ok, Err, OnOk, refl, sym, ap, ◌∙◌, subst}
+use Rattle.std.proofs.lemmas.List.Elements.{All-head, All-tail}
 use Rattle.pc_base.specs.declared.actor.ActorId.{ActorId}
 use Rattle.pc_base.specs.declared.actor.ActorId.TheVariants as actors
-use Rattle.pc_base.specs.declared.entry.Entry.{Entry}
 use Rattle.pc_base.specs.declared.memory.NoMemory.{NoMemory}
 use Rattle.pc_base.specs.declared.transaction.TxnId.{TxnId}
 use Rattle.pc_coord.proofs.Beside.{coordinating_goes_on_ok}
@@ -14,7 +12,6 @@ use Rattle.pc_coord.specs.declared.due.Due.TheVariants as dues
 use Rattle.pc_coord.specs.declared.job.Job.{Job}
 use Rattle.pc_coord.specs.Knows.{Knows, messages_of_job}
 use Rattle.pc_history.specs.Own.{own}
-use Rattle.pc_proto.specs.declared.event.Event.{Event}
 use Rattle.pc_proto.specs.declared.reply.Reply.{Reply}
 use Rattle.pc_proto.specs.declared.reply.Reply.TheVariants as replies
 use Rattle.pc_proto.specs.declared.request.Request.{Request}
@@ -23,31 +20,29 @@ use Rattle.pc_resolve.specs.ResolveKnows.{MayCome, ResolveKnows, WasAnsweredToIt
 use Rattle.pc_world.specs.declared.machine.MachineNext.{MachineNext}
 use Rattle.pc_world.specs.declared.machine.MachineNext.TheVariants as machine
 use Rattle.pc_world.specs.Exchange.{IsAllowed}
-use Rattle.pc_world.specs.Follows.FinishingJobs.{jobs_of, without_first}
-use Rattle.pc_world.specs.Known.{Known, next_number, open_txn}
-use Rattle.pc_world.specs.Known.Statements.{Statement}
+use Rattle.pc_world.specs.Follows.FinishingJobs.{jobs_of}
+use Rattle.pc_world.specs.Known.{Known, known, open_txn}
 use Rattle.pc_world.specs.Known.Transactions.{Txn}
 use Rattle.pc_world.specs.Local.{Head}
 use Rattle.pc_world.specs.Run.{protocol}
 use Rattle.pc_world.specs.Send.Settling.{MayFinish}
-use Rattle.pc_runner.proofs.Beside.{later_itself, left_after, was_answered_to}
+use Rattle.pc_runner.proofs.Beside.{later_itself, left_closed, was_answered_to}
 use Rattle.pc_runner.proofs.Besides.{before_it, besides_on, may_exchange}
-use Rattle.pc_runner.proofs.Rounds.{keeps_beside, no_part}
-use Rattle.pc_runner.proofs.Settling.{due_beside, due_first, due_timely, is_first, job_left, left_less, none_left, rests_now}
-use Rattle.pc_runner.specs.Beside.{HasExchanged, IsBesides, IsOnlySent, MayExchange, after_exchange}
+use Rattle.pc_runner.proofs.GoingOn.{goes_on_none}
+use Rattle.pc_runner.proofs.InTurn.{inside_none}
+use Rattle.pc_runner.proofs.Keeps.{beside_of}
+use Rattle.pc_runner.proofs.OnWay.{all_heard}
+use Rattle.pc_runner.proofs.Settling.{due_beside, due_timely, is_first, job_left, left_less, none_left, rests_now}
+use Rattle.pc_runner.specs.Beside.{HasExchanged, IsBesides, MayExchange, after_exchange}
 use Rattle.pc_runner.specs.declared.session.SessionRun.{SessionRun}
 use Rattle.pc_runner.specs.Exchanging.{IsExchanged}
 use Rattle.pc_runner.specs.Following.{HasJobs, HasSameWork, IsFollowing, IsLeft}
-use Rattle.pc_runner.specs.Follows.Turns.{FinishesNext, IsItOrRange, IsJob, jobs_in}
+use Rattle.pc_runner.specs.Follows.Turns.{FinishesNext, HasHeardAll, IsJob, jobs_in, known_in}
 use Rattle.pc_runner.specs.History.{History, known_by, own_by}
-use Rattle.pc_runner.specs.Keeping.{IsClockOf, IsStatedBy, KeepsSoFar}
-use Rattle.pc_runner.specs.Parts.{EvaluatesOf, GoesOnBy, IsInside, TakesPart}
+use Rattle.pc_runner.specs.Keeping.{IsClockOf, IsStatedBy}
+use Rattle.pc_runner.specs.Parts.{IsInside, TakesPart}
 use Rattle.pc_runner.specs.Settling.{IsAtJob, IsSettling, messages_of, with_left}
 use Rattle.pc_runner.specs.Suiting.{Fits}
-
--- Between calls the next message of the oldest job is sent.
-left_closed : (k : Known) (number range : ℕ) (request : Request) (waiting : List (List Request)) → k.statement ≡ None → left_after k number range request waiting ≡ without_first waiting
-left_closed k number range request waiting none = ap (λ (o : Option Statement). if is_some o then waiting else without_first waiting) none
 
 module _ (r : SessionRun) (h : History) (job : Job) (at : IsAtJob r h job) where
   -- The session before the job was taken.
@@ -57,12 +52,6 @@ module _ (r : SessionRun) (h : History) (job : Job) (at : IsAtJob r h job) where
   -- What it knows.
   abbrev k : Known
   k = known_by old.number h
-
-  number_is : r.number ≡ old.number
-  number_is = ap (λ (s : SessionRun). s.number) at.run
-
-  coordinator_is : r.coordinator ≡ old.coordinator
-  coordinator_is = ap (λ (s : SessionRun). s.coordinator) at.run
 
   knows_old : Knows old.coordinator k
   knows_old = at.follows.stands.knows
@@ -81,7 +70,7 @@ module _ (r : SessionRun) (h : History) (job : Job) (at : IsAtJob r h job) where
   besides_old =
       let f = at.follows in
       let rest = rests_now old.coordinator k knows_old f.idle in
-      let keeps = keeps_beside old h f.keeps in
+      let keeps = beside_of old.work.now old.number old.session.now old.script old.clock old.jobs.items h f.keeps in
       record {
         sound = f.stands.sound;
         there = f.stands.there;
@@ -101,7 +90,7 @@ module _ (r : SessionRun) (h : History) (job : Job) (at : IsAtJob r h job) where
           steps = keeps.steps;
         };
         jobs = record { numbers = f.jobs.numbers; left = All-tail (IsLeft k) job r.jobs.items left_all };
-        part = no_part old.number h;
+        part = inside_none old.number h;
       }
 
   -- the machine of the job begins
@@ -257,6 +246,10 @@ module _ (r : SessionRun) (h : History) (job : Job) (at : IsAtJob r h job) (m : 
       let after : jobs_of (own_by r.number g) ≡ map messages_of_job r.jobs.items = subst (λ n. jobs_of (own_by n g) ≡ map messages_of_job r.jobs.items) number waiting_now in
       let before : jobs_in h.head r.number h.entries ≡ messages_of_job job ∷ map messages_of_job r.jobs.items =
       ap (λ n. jobs_of (own_by n h)) old_number ∙ (at.follows.keeps.jobs_are ∙ ap (map messages_of_job) at.listed) in
+      let known_then : known_in h.head r.number (h.entries ++ p.part) ≡ known_by r.number g =
+      ap (λ es. known_in h.head r.number es) (sym p.goes.whole) ∙ ap (λ (head : Head). known (own (protocol head) (actors.Session r.number) g.entries)) (sym p.goes.head) in
+      let heard_then : HasHeardAll (known_by r.number g) =
+      subst (λ n. HasHeardAll (known_by n g)) number (all_heard new.sends (known_by new.number g) settling.beside.heard settling.beside.counted) in
       record {
         part = p.part;
         goes = p.goes;
@@ -264,6 +257,7 @@ module _ (r : SessionRun) (h : History) (job : Job) (at : IsAtJob r h job) (m : 
           alone = p.goes.alone;
           within = p.is;
           done = joined ∙ (after ∙ sym (ap (drop 1) before));
+          heard = subst HasHeardAll (sym known_then) heard_then;
         };
       }
 
@@ -286,26 +280,18 @@ module _ (old : SessionRun) (h : History) (follows : IsFollowing old h) where
 
   -- a job that was done is what finishes next
   pub finished_next : (job : Job) (jobs : List Job) (g : History) → old.jobs.items ≡ job ∷ jobs → TakesPart old.number h g (IsJob h.head old.number h.entries)
-      → TakesPart old.number h g (FinishesNext h.head old.work.now old.number (jobs_in h.head old.number h.entries) h.entries)
+      → TakesPart old.number h g (FinishesNext h.head old.number (jobs_in h.head old.number h.entries) h.entries)
   finished_next job jobs g listed part =
       let are : jobs_in h.head old.number h.entries ≡ messages_of_job job ∷ map messages_of_job jobs = waiting_are ∙ ap (map messages_of_job) listed in
-      subst (λ l. TakesPart old.number h g (FinishesNext h.head old.work.now old.number l h.entries)) (sym are)
+      subst (λ l. TakesPart old.number h g (FinishesNext h.head old.number l h.entries)) (sym are)
       (record { part = part.part; goes = part.goes; is = part.is })
 
   -- where none waits nothing is done
-  pub none_finished : old.jobs.items ≡ [] → TakesPart old.number h h (FinishesNext h.head old.work.now old.number (jobs_in h.head old.number h.entries) h.entries)
+  pub none_finished : old.jobs.items ≡ [] → TakesPart old.number h h (FinishesNext h.head old.number (jobs_in h.head old.number h.entries) h.entries)
   none_finished none =
       let are : jobs_in h.head old.number h.entries ≡ [] = waiting_are ∙ ap (map messages_of_job) none in
-      subst (λ l. TakesPart old.number h h (FinishesNext h.head old.work.now old.number l h.entries)) (sym are)
-      (record { part = []; goes = nothing_goes; is = refl })
-    where
-      nothing_goes : GoesOnBy old.number h h []
-      nothing_goes = record {
-        head = refl;
-        whole = sym (append-nil h.entries);
-        alone = All-nil (λ (e : Entry Event). IsItOrRange old.number e.actor);
-        evaluates = All-nil (λ (e : Entry Event). EvaluatesOf old.number e.event);
-      }
+      subst (λ l. TakesPart old.number h h (FinishesNext h.head old.number l h.entries)) (sym are)
+      (record { part = []; goes = goes_on_none old.number h; is = refl })
 
   follows_with : (r : SessionRun) → r.jobs.items ≡ old.jobs.items → IsFollowing (record old { jobs = r.jobs }) h
   follows_with r same = record {

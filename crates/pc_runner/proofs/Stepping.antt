@@ -1,24 +1,25 @@
 -- What each event of a session keeps of its workload.
-use Rattle.std.proofs.Common.{◌≡◌, ℕ, Bool, true, false, ◌⊎◌, inl, inr, List, Option, Some, None, All, Any, IsTrue, refl, sym, ap, subst, ◌∙◌}
+use Rattle.std.proofs.Common.{◌≡◌, ℕ, Bool, false, ◌⊎◌, inl, List, Some, None, All, IsTrue, refl, sym, ap, subst, ◌∙◌}
 use Rattle.std.proofs.lemmas.List.Elements.{All-weaker}
-use Rattle.pc_base.specs.declared.transaction.TxnId.{TxnId}
 use Rattle.pc_coord.specs.Coordination.{Coordination}
 use Rattle.pc_coord.specs.Knows.{IsTellable}
-use Rattle.pc_coord.specs.Knows.Sending.{IsAbort, IsCommit, IsFor, IsForCall, IsGet, IsPutOn, IsScan, IsSendable}
+use Rattle.pc_coord.specs.Knows.Sending.{IsSendable}
 use Rattle.pc_proto.specs.declared.answer.Answer.{Answer}
 use Rattle.pc_proto.specs.declared.call.Call.{Call}
 use Rattle.pc_proto.specs.declared.call.Call.TheVariants as calls
 use Rattle.pc_proto.specs.declared.event.Event.TheVariants as events
 use Rattle.pc_proto.specs.declared.request.Request.{Request}
 use Rattle.pc_proto.specs.declared.request.Request.TheVariants as requests
+use Rattle.pc_world.specs.Follows.CallMessages.{IsAbort, IsCommit, IsFor, IsForCall, IsGet, IsPutOn, IsScan}
 use Rattle.pc_world.specs.Follows.EarlyProof.{ProvesNothingEarly, is_put}
 use Rattle.pc_world.specs.Follows.PipelinedPuts.{HearsOnlyItsPuts, IsPutWaitedFor, TellsWritten}
-use Rattle.pc_world.specs.Follows.Resends.{MayGoAgain, round_of}
+use Rattle.pc_world.specs.Follows.Resends.{AreAnsweredNow, MayGoAgain, round_of}
 use Rattle.pc_world.specs.Known.{Known, call_in}
 use Rattle.pc_world.specs.Known.Statements.{Statement}
 use Rattle.pc_world.specs.Known.Traffic.{Heard}
 use Rattle.pc_world.specs.Tell.Refusal.{is_heard}
 use Rattle.pc_world.specs.Unstaged.{IsNoStage}
+use Rattle.pc_runner.specs.Exchanging.{IsTimely}
 use Rattle.pc_runner.specs.Follows.{KeepsStep}
 use Rattle.pc_runner.specs.Follows.Script.{Position, next_call}
 use Rattle.pc_runner.specs.Follows.Wire.{MayStayUnheard}
@@ -27,7 +28,7 @@ use Rattle.pc_runner.specs.Follows.Wire.{MayStayUnheard}
 pub step_asked : (pipelining : Bool) (rule : ℕ → ℕ → Bool) (asks : ℕ) (at : Position) (jobs : List (List Request)) (k : Known) (call : Call) (reading : ℕ) → IsTrue (rule asks reading) → next_call at ≡ Some call
     → KeepsStep pipelining rule asks at jobs k (events.Ask call reading) None
 step_asked pipelining rule asks at jobs k call reading right next =
-    record { clock = right; script = next; wire = tt; early_tell = tt; early_proof = λ _ _. tt; written = tt; puts = tt; resends = tt; finishes = tt; aborts = tt }
+    record { clock = right; script = next; wire = tt; early_tell = tt; early_proof = λ _ _. tt; written = tt; puts = tt; resends = tt; calls = tt; finishes = tt; aborts = tt }
 
 -- What the coordinator's requests have in common: they are no messages of a conflict's round, and stage nothing.
 pub record IsPlainRequest (request : Request) : Type 0 where
@@ -63,21 +64,33 @@ plain_for calls.Commit request is = plain_commit request is
 plain_for calls.Rollback request is = plain_abort request is
 plain_for call request is = absurd is
 
--- a message is sent
-pub step_sent : (pipelining : Bool) (rule : ℕ → ℕ → Bool) (asks : ℕ) (at : Position) (jobs : List (List Request)) (k : Known) (number range : ℕ) (request : Request) (splits : List (List ℕ)) (session : ℕ)
-    → IsSendable splits session k request → KeepsStep pipelining rule asks at jobs k (events.Send number range request) None
-step_sent pipelining rule asks at jobs k number range request splits session may = record {
+-- a message is sent, in its time
+pub step_timely : (pipelining : Bool) (rule : ℕ → ℕ → Bool) (asks : ℕ) (at : Position) (jobs : List (List Request)) (k : Known) (number range : ℕ) (request : Request) → IsTimely k jobs request
+    → KeepsStep pipelining rule asks at jobs k (events.Send number range request) None
+step_timely pipelining rule asks at jobs k number range request timely = record {
   clock = tt;
   script = tt;
   wire = tt;
-  early_tell = may.undecided;
+  early_tell = timely.undecided;
   early_proof = λ _ _. tt;
   written = tt;
   puts = tt;
-  resends = λ s opened again. subst (MayGoAgain k request) (sym (plain_for may.kind.s.call request may.kind.kind).no_round) (may.again again);
-  finishes = λ none. let e : Some may.kind.s ≡ None = sym may.kind.opened ∙ none in absurd cc;
+  resends = timely.again;
+  calls = timely.kind;
+  finishes = timely.due;
   aborts = tt;
 }
+
+-- one that the coordinator gave
+pub step_sent : (pipelining : Bool) (rule : ℕ → ℕ → Bool) (asks : ℕ) (at : Position) (jobs : List (List Request)) (k : Known) (number range : ℕ) (request : Request) (splits : List (List ℕ)) (session : ℕ)
+    → IsSendable splits session k request → AreAnsweredNow k request → KeepsStep pipelining rule asks at jobs k (events.Send number range request) None
+step_sent pipelining rule asks at jobs k number range request splits session may answered =
+    step_timely pipelining rule asks at jobs k number range request (record {
+      undecided = may.undecided;
+      again = λ s opened again. (answered, subst (MayGoAgain k request) (sym (plain_for may.kind.s.call request may.kind.kind).no_round) (may.again again));
+      kind = λ s opened. inl may.kind;
+      due = λ none. let e : Some may.kind.s ≡ None = sym may.kind.opened ∙ none in absurd cc;
+    })
 
 -- a put that is answered is one for which its call waits
 waited_get : (k : Known) (key : List ℕ) (request : Request) → IsGet request → IsPutWaitedFor k (calls.Get key) request
@@ -121,20 +134,18 @@ asked_is : (k : Known) (s : Statement) (call : Call) → k.statement ≡ Some s 
 asked_is k s call opened asked = let e : Some s.call ≡ Some call = sym (ap call_in opened) ∙ asked in cc
 
 -- a reply is heard
+pub step_hears : (pipelining : Bool) (rule : ℕ → ℕ → Bool) (asks : ℕ) (at : Position) (jobs : List (List Request)) (k : Known) (number step : ℕ) (h : Heard)
+    → ProvesNothingEarly k (Some h) → HearsOnlyItsPuts k (Some h) → KeepsStep pipelining rule asks at jobs k (events.Hear number step) (Some h)
+step_hears pipelining rule asks at jobs k number step h early puts =
+    record { clock = tt; script = tt; wire = tt; early_tell = tt; early_proof = early; written = tt; puts = puts; resends = tt; calls = tt; finishes = tt; aborts = tt }
+
+-- one to a message that the coordinator gave
 pub step_heard : (pipelining : Bool) (rule : ℕ → ℕ → Bool) (asks : ℕ) (at : Position) (jobs : List (List Request)) (k : Known) (number step : ℕ) (h : Heard)
     → IsForCall k h.request → KeepsStep pipelining rule asks at jobs k (events.Hear number step) (Some h)
-step_heard pipelining rule asks at jobs k number step h kind = record {
-  clock = tt;
-  script = tt;
-  wire = tt;
-  early_tell = tt;
-  early_proof = λ asked none. no_put h.request (subst (λ call. IsFor call h.request) (asked_is k kind.s calls.Commit kind.opened asked) kind.kind);
-  written = tt;
-  puts = λ call asked. waited_for k call h.request (subst (λ call. IsFor call h.request) (asked_is k kind.s call kind.opened asked) kind.kind);
-  resends = tt;
-  finishes = tt;
-  aborts = tt;
-}
+step_heard pipelining rule asks at jobs k number step h kind =
+    step_hears pipelining rule asks at jobs k number step h
+    (λ asked none. no_put h.request (subst (λ call. IsFor call h.request) (asked_is k kind.s calls.Commit kind.opened asked) kind.kind))
+    (λ call asked. waited_for k call h.request (subst (λ call. IsFor call h.request) (asked_is k kind.s call kind.opened asked) kind.kind))
 
 -- an answer is told
 pub step_told : (pipelining : Bool) (rule : ℕ → ℕ → Bool) (asks : ℕ) (at : Position) (jobs : List (List Request)) (k : Known) (c : Coordination) (answer : Answer)
@@ -148,6 +159,7 @@ step_told pipelining rule asks at jobs k c answer unpiped may all = record {
   written = subst (λ b. TellsWritten b k (events.Tell answer)) (sym unpiped) may.written;
   puts = tt;
   resends = tt;
+  calls = tt;
   finishes = tt;
   aborts = may.aborts;
 }

@@ -1,12 +1,12 @@
 -- A session once its call was told its answer.
-use Rattle.std.proofs.Common.{◌≡◌, ℕ, ◌+◌, ◌*◌, ◌≤◌, Bool, true, false, ◌&&◌, not, All, List, [], ◌∷◌, ◌++◌, length, map, Option, Some, None, IfSome, IsTrue, refl, sym, ap, subst, ◌∙◌, arith}
-use Rattle.std.specs.Bool.{MatchBool}
+use Rattle.std.proofs.Common.{◌≡◌, ℕ, ◌+◌, ◌≤◌, All, List, [], ◌++◌, length, map, Option, Some, None, IfSome, IsTrue, refl, sym, ap, subst, ◌∙◌, arith}
+use Rattle.std.proofs.lemmas.List.{nil_from_length}
+use Rattle.std.proofs.Math.Nat.{add-zero}
 use Rattle.std.specs.Option.{option_to_list}
-use Rattle.pc_base.specs.declared.actor.ActorId.{ActorId}
 use Rattle.pc_base.specs.declared.actor.ActorId.TheVariants as actors
 use Rattle.pc_coord.proofs.Resting.{rests}
 use Rattle.pc_coord.proofs.Steps.{told}
-use Rattle.pc_coord.specs.Coordination.{Coordination, next_of, waits_for, with_due, without_job}
+use Rattle.pc_coord.specs.Coordination.{Coordination, next_of, with_due, without_job}
 use Rattle.pc_coord.specs.declared.due.Due.{Due}
 use Rattle.pc_coord.specs.declared.due.Due.TheVariants as dues
 use Rattle.pc_coord.specs.declared.job.Job.{Job}
@@ -81,13 +81,6 @@ begins_next (answers.Begun id ts) splits session k s may =
     row.next.1
 begins_next answer splits session k s may = tt
 
-none_left : {X : Type 0} (xs : List X) → length xs ≡ 0 → xs ≡ []
-none_left [] e = refl
-none_left (x ∷ xs) e = absurd (omega arith)
-
-plus-none : (n : ℕ) → n ≡ n + 0
-plus-none n = omega arith
-
 module _ (work : Workload) (number : ℕ) (session : SessionWork) (at : Position) (clock : SteppedState) (reading : ℕ) (jobs : List Job) (c : Coordination) (sends : ℕ) (outbox : List Posted) (h g : History) (answer : Answer)
     (calls : Calls work number session at clock reading jobs c sends [] outbox h) (due : next_of c.due ≡ nexts.Tell answer) (may : IsTellable c (known_by number h) answer)
     (grown : HasGrown h g (actors.Session number) (events.Tell answer)) where
@@ -108,7 +101,7 @@ module _ (work : Workload) (number : ℕ) (session : SessionWork) (at : Position
 
   -- nothing waits any more
   pub none_out : outbox ≡ []
-  none_out = none_left outbox (let counts = calls.way.counted in let o = over in omega arith)
+  none_out = nil_from_length outbox (let counts = calls.way.counted in let o = over in omega arith)
 
   all_now : All (λ m. IsTrue (is_heard k.heard_now m)) k.sent_now
   all_now = all_heard_now calls.way.last k calls.way.heard (all_over ∙ calls.stands.counted)
@@ -119,7 +112,7 @@ module _ (work : Workload) (number : ℕ) (session : SessionWork) (at : Position
       let reads = keeps.reads in
       let paired = keeps.paired in
       let one : open_calls k.statement ≡ 1 = ap open_calls calls.open_now.opened in
-      keeps_on work number session at clock jobs h g (after_told answer at) clock (jobs ++ option_to_list c.job) tell keeps grown refl keeps.clock_of (plus-none clock.reads)
+      keeps_on work number session at clock jobs h g (after_told answer at) clock (jobs ++ option_to_list c.job) tell keeps grown refl keeps.clock_of (sym (add-zero clock.reads))
       (λ rule. step_told work.pipelining (clock_rule session.clock rule) clock.reads at (map messages_of_job jobs) k c answer keeps.stated.built.pipelining may all_now)
       (omega arith) (jobs_after_told jobs k answer c.job may.left)
 
@@ -167,7 +160,7 @@ module _ (work : Workload) (number : ℕ) (session : SessionWork) (at : Position
             (jobs_told jobs k answer c.job (begins_next answer c.splits c.session k s may.may.told) may.left (subst (λ k. IfSome c.job (MayFinishJob k)) learned_is finish) calls.jobs_left);
         heard_all = subst (HasHeard sends) (sym known_is) (heard_told sends k answer (subst (λ n. HasHeard n k) all_over calls.way.heard));
         delivered =
-            subst (λ n. AreDelivered number n g) (sym (plus-none calls.way.last) ∙ all_over)
+            subst (λ n. AreDelivered number n g) (add-zero calls.way.last ∙ all_over)
             (delivered_on number (calls.way.last + 0) h g (actors.Session number) tell calls.way.delivered grown (λ sent. refl));
         idle = refl;
         handed = refl;

@@ -10,7 +10,8 @@ use Rattle.pc_world.specs.Local.{Head}
 use Rattle.pc_runner.specs.Follows.Turns.{AreTurns, IsOver, IsTurn, RunOut, RunsUntil, jobs_in, own_turn}
 use Rattle.pc_runner.specs.Follows.Turns.RunsUntil.{Over, Onward}
 
-abbrev Entries : Type 0
+-- A history, or a part of one.
+abbrev pub Entries : Type 0
 Entries = List (Entry Event)
 
 -- a part behind a part
@@ -43,7 +44,7 @@ module _ (head : Head) (work : Workload) where
   -- one more thing that the session does by itself
   pub does_more : (number : ℕ) (Until : Entries → Type 0) (before part more : Entries) → DoesAlone number Until before part
       → ((jobs_in head number (before ++ part) ≡ []) → Until (before ++ part) → ⊥)
-      → IsTurn head work (own_turn head work number (jobs_in head number (before ++ part))) (before ++ part) more
+      → IsTurn head work (own_turn number (jobs_in head number (before ++ part))) (before ++ part) more
       → DoesAlone number Until before (part ++ more)
   does_more number Until before part more alone goes is = record {
     on = λ rest runs.

@@ -1,17 +1,15 @@
 -- A session in its call, while the messages that wait are evaluated, and their replies heard.
-use Rattle.std.proofs.Common.{◌≡◌, ◌≢◌, ℕ, ◌+◌, ◌*◌, ◌≤◌, ◌<◌, Bool, true, false, ◌==◌, ◌||◌, ◌&&◌, not, find, cond, All, List, [], ◌∷◌, ◌++◌, length, map, Option, Some, None, refl, sym, ap, subst, ◌∙◌, arith, length-append}
+use Rattle.std.proofs.Common.{◌≡◌, ℕ, ◌+◌, ◌<◌, Bool, true, false, ◌==◌, ◌||◌, ◌&&◌, not, find, cond, List, [], ◌∷◌, ◌++◌, length, map, Some, refl, sym, ap, subst, ◌∙◌, arith, length-append}
+use Rattle.std.proofs.Math.Nat.{add-zero}
 use Rattle.std.proofs.lemmas.List.Elements.{All-head, All-nil, All-push, All-tail, All-weaker}
 use Rattle.std.specs.List.{list_any}
 use Rattle.std.specs.Option.{option_map}
-use Rattle.pc_base.specs.declared.actor.ActorId.{ActorId}
 use Rattle.pc_base.specs.declared.actor.ActorId.TheVariants as actors
-use Rattle.pc_base.specs.declared.entry.Entry.{Entry}
 use Rattle.pc_coord.proofs.Steps.{heard}
 use Rattle.pc_coord.specs.Coordination.{Coordination, waits_for}
 use Rattle.pc_coord.specs.declared.job.Job.{Job}
 use Rattle.pc_coord.specs.Events.{IsHeard}
 use Rattle.pc_coord.specs.Knows.{Knows, messages_of_job}
-use Rattle.pc_coord.specs.Knows.Sending.{IsForCall}
 use Rattle.pc_history.specs.declared.pair.Pair.{Pair}
 use Rattle.pc_proto.specs.declared.event.Event.{Event}
 use Rattle.pc_proto.specs.declared.event.Event.TheVariants as events
@@ -21,12 +19,13 @@ use Rattle.pc_session.specs.Stepped.{SteppedState}
 use Rattle.pc_work.specs.declared.session.SessionWork.{SessionWork}
 use Rattle.pc_work.specs.declared.workload.Workload.{Workload}
 use Rattle.pc_world.specs.Answering.{MayAnswer}
+use Rattle.pc_world.specs.Follows.CallMessages.{IsForCall}
 use Rattle.pc_world.specs.Known.{Known, learn}
-use Rattle.pc_world.specs.Known.Traffic.{Heard, Sent, heard_as, reply_in, reply_named, request_sent}
+use Rattle.pc_world.specs.Known.Traffic.{Heard, Sent, request_sent}
 use Rattle.pc_world.specs.Local.{MayHear}
-use Rattle.pc_runner.proofs.Calling.{Calls, delivered_next, delivered_on, stands_beside, stands_on}
-use Rattle.pc_runner.proofs.Going.{known_heard, reply_heard}
-use Rattle.pc_runner.proofs.Growing.{answered_now, answered_still, hear_names_answer, known_grows, known_kept_by_range, next_pair, sent_still}
+use Rattle.pc_runner.proofs.Calling.{Calls, delivered_next, delivered_on, open_on, stands_beside, stands_on}
+use Rattle.pc_runner.proofs.Going.{hear_brings, known_heard, reply_heard}
+use Rattle.pc_runner.proofs.Growing.{answered_now, answered_still, hear_names_answer, known_grows, known_kept_by_range, next_pair, range_no_session, sent_still}
 use Rattle.pc_runner.proofs.Keeps.{brought, keeps_on, keeps_other}
 use Rattle.pc_runner.proofs.Left.{jobs_heard}
 use Rattle.pc_runner.proofs.OnWay.{answered-push, heard_heard, unheard_after, waits_first, waits_heard}
@@ -42,9 +41,6 @@ use Rattle.pc_runner.specs.History.{History, known_by}
 use Rattle.pc_runner.specs.Journal.{HasGrown}
 use Rattle.pc_runner.specs.Keeping.{AreDelivered, KeepsSoFar}
 use Rattle.pc_runner.specs.Traffic.{ArePostedFrom, HasHeard, IsPosted, IsReplied}
-
-no_session : (range number : ℕ) → actors.Range range ≢ actors.Session number
-no_session range number e = absurd cc
 
 -- ---- a message is evaluated
 
@@ -109,8 +105,8 @@ module _ (work : Workload) (number : ℕ) (session : SessionWork) (at : Position
   -- the session is still in its call
   pub calls_evaluated : Calls work number session at clock reading jobs c sends (replies ++ answer ∷ []) outbox g
   calls_evaluated = record {
-    stands = stands_beside number c sends h g (actors.Range done.range) event calls.stands done.more.grown (no_session done.range number);
-    keeps = keeps_other work number session at clock jobs h g (actors.Range done.range) event calls.keeps done.more.grown (no_session done.range number);
+    stands = stands_beside number c sends h g (actors.Range done.range) event calls.stands done.more.grown (range_no_session done.range number);
+    keeps = keeps_other work number session at clock jobs h g (actors.Range done.range) event calls.keeps done.more.grown (range_no_session done.range number);
     jobs_left = subst (HasJobs jobs) (sym known_same) calls.jobs_left;
     open_now = subst (IsOpen at reading) (sym known_same) calls.open_now;
     way = way_evaluated;
@@ -127,9 +123,6 @@ said_any number (x ∷ xs) request e = by (x.number == number) refl (said_any nu
     by false is later =
         ap (λ b. b || list_any (λ (m : Sent). m.number == number) xs) is
         ∙ later (sym (ap (λ b. option_map (λ (m : Sent). m.request) (cond b (Some x) (find (λ (m : Sent). m.number == number) xs))) is) ∙ e)
-
-plus-none : (n : ℕ) → n ≡ n + 0
-plus-none n = omega arith
 
 module _ (work : Workload) (number : ℕ) (session : SessionWork) (at : Position) (clock : SteppedState) (reading : ℕ) (jobs : List Job) (c : Coordination) (sends : ℕ) (a : Answered) (replies : List Answered) (h : History)
     (calls : Calls work number session at clock reading jobs c sends (a ∷ replies) [] h) where
@@ -186,18 +179,14 @@ module _ (work : Workload) (number : ℕ) (session : SessionWork) (at : Position
     }
 
     brought_is : brought number h hear ≡ Some it
-    brought_is =
-        let F : Option (Entry Event) → Option Heard = λ n. heard_as a.number a.step (request_sent a.number k.sent) (reply_named n) in
-        ap F (hear_names_answer number h a.number a.step a.reply is.evaluated calls.stands.sound)
-        ∙ (ap (λ e. heard_as a.number a.step (request_sent a.number k.sent) (reply_in e)) is.evaluated.says
-        ∙ ap (λ r. heard_as a.number a.step r (Some a.reply)) is.said)
+    brought_is = hear_brings number h a.number a.step is.request a.reply calls.stands.sound is.evaluated is.said
 
     keeps_heard : KeepsSoFar work number session at clock jobs g
     keeps_heard =
         let keeps = calls.keeps in
         let reads = keeps.reads in
         let paired = keeps.paired in
-        keeps_on work number session at clock jobs h g at clock jobs hear keeps grown refl keeps.clock_of (plus-none clock.reads)
+        keeps_on work number session at clock jobs h g at clock jobs hear keeps grown refl keeps.clock_of (sym (add-zero clock.reads))
         (λ rule.
         subst (KeepsStep work.pipelining (clock_rule session.clock rule) clock.reads at (map messages_of_job jobs) k hear) (sym brought_is)
         (step_heard work.pipelining (clock_rule session.clock rule) clock.reads at (map messages_of_job jobs) k a.number a.step it is.kind))
@@ -213,16 +202,7 @@ module _ (work : Workload) (number : ℕ) (session : SessionWork) (at : Position
     }
 
     open_heard : IsOpen at reading (known_by number g)
-    open_heard =
-        let o = calls.open_now in
-        record {
-          call = o.call;
-          next = o.next;
-          opened = ap (λ (k : Known). k.statement) known_is ∙ o.opened;
-          outside = λ out. ap (λ (k : Known). k.is_open) known_is ∙ o.outside out;
-          course = o.course;
-          items = o.items;
-        }
+    open_heard = open_on at reading k (known_by number g) (ap (λ (k : Known). k.statement) known_is) (ap (λ (k : Known). k.is_open) known_is) calls.open_now
 
     way_heard : (d : Coordination) → ((other : ℕ) → waits_for other d.due ≡ (waits_for other c.due && not (a.number == other))) → AreOnTheirWay number d sends replies [] g
     way_heard d waits =

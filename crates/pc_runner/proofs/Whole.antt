@@ -1,11 +1,9 @@
 -- The history of a whole run follows its workload.
-use Rattle.std.proofs.Common.{◌≡◌, ℕ, ◌+◌, ◌-◌, ◌≤◌, ◌<◌, Bool, IfOk, inl, List, [], ◌++◌, length, slice_get, Some, None, Result, Ok, Err, sym, ap, subst, ◌∙◌, arith, append_assoc}
+use Rattle.std.proofs.Common.{◌≡◌, ℕ, ◌+◌, ◌-◌, ◌≤◌, ◌<◌, Bool, IfOk, [], ◌++◌, length, slice_get, Some, None, Result, Ok, Err, sym, ap, subst, ◌∙◌, arith, append_assoc}
 use Rattle.std.proofs.lemmas.List.Elements.{All-weaker}
 use Rattle.std.proofs.lemmas.Option.{slice_get_within}
 use Rattle.pc_base.specs.declared.actor.ActorId.{ActorId}
 use Rattle.pc_base.specs.declared.actor.ActorId.TheVariants as actors
-use Rattle.pc_base.specs.declared.entry.Entry.{Entry}
-use Rattle.pc_proto.specs.declared.event.Event.{Event}
 use Rattle.pc_work.specs.declared.session.SessionWork.{SessionWork}
 use Rattle.pc_work.specs.declared.workload.Workload.{Workload}
 use Rattle.pc_coord.specs.Knows.{KnowsAt}
@@ -13,7 +11,9 @@ use Rattle.pc_world.specs.Known.Traffic.{Sent}
 use Rattle.pc_world.specs.Local.{Head}
 use Rattle.pc_world.specs.Run.{IsRun}
 use Rattle.pc_runner.proofs.Alone.{same_head}
-use Rattle.pc_runner.proofs.Sessions.{get_some, in_place}
+use Rattle.pc_runner.proofs.Places.{get_some}
+use Rattle.pc_runner.proofs.Sessions.{in_place}
+use Rattle.pc_runner.proofs.Turning.{Entries}
 use Rattle.pc_runner.specs.declared.session.SessionRun.{SessionRun}
 use Rattle.pc_runner.specs.declared.turns.TurnsRun.{TurnsRun}
 use Rattle.pc_runner.specs.Following.{IsFollowing}
@@ -23,10 +23,7 @@ use Rattle.pc_runner.specs.Follows.Wire.{evaluations}
 use Rattle.pc_runner.specs.Traffic.{IsNumbered}
 use Rattle.pc_runner.specs.Follows.Turns.{AreTurns, IsInTurns, Opens, RunOut, stated_turns}
 use Rattle.pc_runner.specs.History.{History, IsSound, known_by, own_by}
-use Rattle.pc_runner.specs.Turns.{AreOver, HasGoneOn, IsRunOf, IsRunning, IsWhole}
-
-abbrev Entries : Type 0
-Entries = List (Entry Event)
+use Rattle.pc_runner.specs.Turns.{AreOver, HasGoneOn, IsRunnerOf, IsRunning, IsWhole}
 
 pub if_ok : {X F : Type 0} (r : Result X F) (P Q : X → Type 0) → ((x : X) → P x → Q x) → IfOk r P → IfOk r Q
 if_ok (Ok x) P Q on p = on x p
@@ -42,11 +39,11 @@ ended_alone r h rule f over =
       wire =
           All-weaker (IsNumbered (length k.sent)) (λ (m : Sent). evaluations (actors.Session r.number) m.number h.entries ≡ 1)
           (λ m n. f.delivered.once m.number n.from_one (subst (λ count. m.number ≤ count) (sym f.stands.counted) n.counted)) k.sent f.heard.numbers;
-      end = inl (record { no_next = ap next_call (sym f.keeps.place) ∙ over; none_open = (subst (KnowsAt r.coordinator k) f.idle f.stands.knows.stands).none_open });
+      end = record { no_next = ap next_call (sym f.keeps.place) ∙ over; none_open = (subst (KnowsAt r.coordinator k) f.idle f.stands.knows.stands).none_open };
     }
 
 -- so does that of the session of an index, by the workload
-alone_of : (work : Workload) (index : ℕ) (h : History) (r : SessionRun) (session : SessionWork) (rule : ℕ → ℕ → Bool) → IsRunOf work index h r → slice_get work.sessions index ≡ Some session → next_call r.script ≡ None
+alone_of : (work : Workload) (index : ℕ) (h : History) (r : SessionRun) (session : SessionWork) (rule : ℕ → ℕ → Bool) → IsRunnerOf work index h r → slice_get work.sessions index ≡ Some session → next_call r.script ≡ None
     → FollowsAlone work session rule (actors.Session (index + 1)) (own_by (index + 1) h) h.entries
 alone_of work index h r session rule run listed over =
     subst (λ (s : SessionWork). FollowsAlone work s rule (actors.Session (index + 1)) (own_by (index + 1) h) h.entries) (in_place work index h r session run listed).0
@@ -70,7 +67,7 @@ later : (t u : TurnsRun) (P : Head → Workload → Type 0) → IsRunning t → 
 later t u P was is same p = subst (λ (x : Head). P x u.work.now) (sym (same_head t u was is same)) (subst (λ (w : Workload). P t.database.head w) (sym same) p)
 
 in_turns : (a b c d : TurnsRun) → IsRunning a → a.database.entries ≡ [] → HasGoneOn a b (λ before part. Opens a.database.head a.work.now a.work.now.sessions part)
-    → HasGoneOn b c (AreTurns b.database.head b.work.now (stated_turns b.database.head b.work.now)) → HasGoneOn c d (RunOut c.database.head c.work.now 1 c.work.now.sessions)
+    → HasGoneOn b c (AreTurns b.database.head b.work.now (stated_turns b.work.now)) → HasGoneOn c d (RunOut c.database.head c.work.now 1 c.work.now.sessions)
     → IsInTurns d.database.head d.work.now d.database.entries
 in_turns a b c d running fresh opened taken out =
     let at_b : b.database.entries ≡ opened.part = opened.behind ∙ ap (λ (x : Entries). x ++ opened.part) fresh in
@@ -84,8 +81,8 @@ in_turns a b c d running fresh opened taken out =
       whole = at_d;
       opens = later a d (λ x w. Opens x w w.sessions opened.part) running out.running (out.work ∙ (taken.work ∙ opened.work)) opened.is;
       turns =
-          subst (λ (e : Entries). AreTurns d.database.head d.work.now (stated_turns d.database.head d.work.now) e taken.part) at_b
-          (later b d (λ x w. AreTurns x w (stated_turns x w) b.database.entries taken.part) opened.running out.running (out.work ∙ taken.work) taken.is);
+          subst (λ (e : Entries). AreTurns d.database.head d.work.now (stated_turns d.work.now) e taken.part) at_b
+          (later b d (λ x w. AreTurns x w (stated_turns w) b.database.entries taken.part) opened.running out.running (out.work ∙ taken.work) taken.is);
       runs_out =
           subst (λ (e : Entries). RunOut d.database.head d.work.now 1 d.work.now.sessions e out.part) at_c
           (later c d (λ x w. RunOut x w 1 w.sessions c.database.entries out.part) taken.running out.running out.work out.is);
@@ -104,7 +101,7 @@ follows t rules running turns over = record {
 -- the history after the opening, the turns that are stated, and what is left
 pub whole : (work : Workload) (a b c d : TurnsRun) (entries : Entries) → IsRunning a → a.work.now ≡ work → a.database.entries ≡ []
     → HasGoneOn a b (λ before part. Opens a.database.head a.work.now a.work.now.sessions part)
-    → HasGoneOn b c (AreTurns b.database.head b.work.now (stated_turns b.database.head b.work.now)) → HasGoneOn c d (RunOut c.database.head c.work.now 1 c.work.now.sessions)
+    → HasGoneOn b c (AreTurns b.database.head b.work.now (stated_turns b.work.now)) → HasGoneOn c d (RunOut c.database.head c.work.now 1 c.work.now.sessions)
     → AreOver (length c.work.now.sessions) d → IsSound d.database → entries ≡ d.database.entries → IsWhole work entries
 whole work a b c d entries running states fresh opened taken out over sound is =
     let same : d.work.now ≡ work = out.work ∙ (taken.work ∙ (opened.work ∙ states)) in

@@ -1,5 +1,5 @@
 -- How a session stands while it sends and hears messages beside its coordinator.
-use Rattle.std.specs.Prelude.{◌≡◌, ℕ, ◌+◌, max, true, List, length}
+use Rattle.std.specs.Prelude.{◌≡◌, ◌+◌, max, true, List, length}
 use Rattle.pc_base.specs.declared.actor.ActorId.TheVariants as actors
 use Rattle.pc_coord.specs.Beside.{IsLaterBeside, is_beside}
 use Rattle.pc_coord.specs.Coordination.{Coordination, with_clock}

@@ -1,5 +1,5 @@
 -- What a session does beside its coordinator, one message after another: each is sent, evaluated at once, and its reply heard.
-use Rattle.std.specs.Prelude.{◌≡◌, ℕ, ◌+◌, ◌*◌, ◌≤◌, max, Bool, None, Some, List, [], ◌∷◌, ◌++◌, length, Any}
+use Rattle.std.specs.Prelude.{◌≡◌, ℕ, ◌+◌, ◌*◌, ◌≤◌, max, ◌⊎◌, Bool, None, Some, List, [], ◌∷◌, ◌++◌, length, Any}
 use Rattle.pc_base.specs.declared.actor.ActorId.TheVariants as actors
 use Rattle.pc_proto.specs.declared.event.Event.TheVariants as events
 use Rattle.pc_proto.specs.declared.reply.Reply.{Reply}
@@ -8,9 +8,10 @@ use Rattle.pc_proto.specs.Stamps.{reply_stamps, request_stamps}
 use Rattle.pc_session.specs.Stepped.{SteppedState}
 use Rattle.pc_work.specs.declared.session.SessionWork.{SessionWork}
 use Rattle.pc_work.specs.declared.workload.Workload.{Workload}
+use Rattle.pc_world.specs.Follows.CallMessages.{IsForCall, IsOfRound}
 use Rattle.pc_world.specs.Follows.EarlyTell.{IsDecided}
 use Rattle.pc_world.specs.Follows.FinishingJobs.{IsDue, jobs_of}
-use Rattle.pc_world.specs.Follows.Resends.{MayGoAgain, round_of}
+use Rattle.pc_world.specs.Follows.Resends.{AreAnsweredNow, MayGoAgain, round_of}
 use Rattle.pc_world.specs.Known.{Known}
 use Rattle.pc_world.specs.Known.Clock.{last_of}
 use Rattle.pc_world.specs.Known.Statements.{Statement}
@@ -44,11 +45,13 @@ exchanged number range step request reply k = record k {
   high = max k.high (last_of (reply_stamps reply));
 }
 
--- The message goes out when its session's work has it: in no call that is decided; in a call again only where it may go again; and
--- between calls where it is the next one of the oldest job.
+-- The message goes out when its session's work has it: in no call that is decided; in a call again only once all of the same were
+-- answered and where it may go again; in a call for it, or as one of a conflict's round; and between calls where it is the next one of
+-- the oldest job.
 pub record IsTimely (k : Known) (jobs : List (List Request)) (request : Request) : Type 0 where
   pub undecided : (t : Txn) (ts : ℕ) → IsDecided k t ts → ⊥
-  pub again : (s : Statement) → k.statement ≡ Some s → Any (λ m. IsSameRequest request m.request) k.sent_now → MayGoAgain k request (round_of request)
+  pub again : (s : Statement) → k.statement ≡ Some s → Any (λ m. IsSameRequest request m.request) k.sent_now → AreAnsweredNow k request × MayGoAgain k request (round_of request)
+  pub kind : (s : Statement) → k.statement ≡ Some s → IsForCall k request ⊎ IsOfRound request
   pub due : k.statement ≡ None → IsDue k jobs request
 
 -- How far the history follows the session's work, where these messages of its jobs are still to be sent.

@@ -1,5 +1,5 @@
 -- How a session stands beside the history that all sessions make, between its calls and in one.
-use Rattle.std.specs.Prelude.{◌≡◌, ℕ, ◌+◌, ◌≤◌, true, false, Option, None, Some, List, [], length, All}
+use Rattle.std.specs.Prelude.{◌≡◌, ℕ, ◌+◌, ◌≤◌, true, false, None, Some, List, [], length, All}
 use Rattle.pc_base.specs.declared.actor.ActorId.TheVariants as actors
 use Rattle.pc_coord.specs.Coordination.{Coordination}
 use Rattle.pc_coord.specs.declared.due.Due.TheVariants as dues

@@ -1,5 +1,5 @@
 -- When a history follows its workload: its head is the workload's; calls and finishing jobs come in its turns; and in each session's own
--- list the calls are the script's, the readings the clock's, the messages go over a quiet wire, what is over is finished, and the list
+-- list the calls are the script's, the readings the clock's, the messages are those of its calls and go over a quiet wire, what is over is finished, and the list
 -- goes on to the script's end. Own profile.
 use Rattle.std.specs.Prelude.{◌≡◌, ℕ, ◌-◌, ◌≤◌, Bool, Option, Some, List, [], ◌∷◌, ◌++◌, length, slice_get}
 use Rattle.pc_base.specs.declared.actor.ActorId.{ActorId}
@@ -11,17 +11,18 @@ use Rattle.pc_proto.specs.declared.event.Event.{Event}
 use Rattle.pc_proto.specs.declared.request.Request.{Request}
 use Rattle.pc_work.specs.declared.session.SessionWork.{SessionWork}
 use Rattle.pc_work.specs.declared.workload.Workload.{Workload}
+use Rattle.pc_world.specs.Follows.CallMessages.{SendsForCall}
 use Rattle.pc_world.specs.Follows.EarlyProof.{ProvesNothingEarly}
 use Rattle.pc_world.specs.Follows.EarlyTell.{TellsEarly}
 use Rattle.pc_world.specs.Follows.FinishingJobs.{AbortsFirst, DoesJobs, jobs_of}
 use Rattle.pc_world.specs.Follows.PipelinedPuts.{HearsOnlyItsPuts, TellsWritten}
-use Rattle.pc_world.specs.Follows.Resends.{ResendsOnlyUnheard}
+use Rattle.pc_world.specs.Follows.Resends.{ResendsOnlyAnswered}
 use Rattle.pc_world.specs.Known.{Known, known}
 use Rattle.pc_world.specs.Known.Traffic.{Heard, heard_by}
 use Rattle.pc_world.specs.Local.{Head}
 use Rattle.pc_world.specs.Run.{protocol}
 use Rattle.pc_runner.specs.Follows.Clocks.{ReadsClock, asks_in, clock_rule}
-use Rattle.pc_runner.specs.Follows.End.{IsAtEnd}
+use Rattle.pc_runner.specs.Follows.End.{IsScriptEnd}
 use Rattle.pc_runner.specs.Follows.Script.{AsksNext, Position, position}
 use Rattle.pc_runner.specs.Follows.Turns.{IsInTurns}
 use Rattle.pc_runner.specs.Follows.Wire.{AreEvaluatedOnce, HearsAll}
@@ -41,7 +42,8 @@ pub record KeepsStep (pipelining : Bool) (rule : ℕ → ℕ → Bool) (asks : �
   pub early_proof : ProvesNothingEarly k h
   pub written : TellsWritten pipelining k event
   pub puts : HearsOnlyItsPuts k h
-  pub resends : ResendsOnlyUnheard k event
+  pub resends : ResendsOnlyAnswered k event
+  pub calls : SendsForCall k event
   pub finishes : DoesJobs k jobs event
   pub aborts : AbortsFirst k event
 
@@ -61,7 +63,7 @@ module _ (P : List (Pair Event) → Pair Event → Type 0) where
 pub record FollowsAlone (work : Workload) (session : SessionWork) (rule : ℕ → ℕ → Bool) (actor : ActorId) (list : List (Pair Event)) (history : List (Entry Event)) : Type 0 where
   pub steps : EachAfter (KeepsWork work session rule) [] list
   pub wire : AreEvaluatedOnce actor history (known list)
-  pub end : IsAtEnd work.limit (position work.reruns session.script list) list
+  pub end : IsScriptEnd (position work.reruns session.script list) list
 
 -- The history follows the workload, where these are the rules of the clocks that were handed in.
 pub record Follows (work : Workload) (rules : ActorId → ℕ → ℕ → Bool) (head : Head) (history : List (Entry Event)) : Type 0 where

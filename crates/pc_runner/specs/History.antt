@@ -18,10 +18,6 @@ pub record History : Type 0 where
   pub head : Head
   pub entries : List (Entry Event)
 
--- The history is a run of its actors.
-abbrev pub IsRunSoFar : History → Type 0
-IsRunSoFar h = IsRun h.head h.entries
-
 -- The session's own list.
 abbrev pub own_by : ℕ → History → List (Pair Event)
 own_by session h = own (protocol h.head) (actors.Session session) h.entries
@@ -41,7 +37,7 @@ head_of splits sessions = record { splits = splits; sessions = sessions; recover
 -- The history is a run whose steps are numbers of 64 bits, in which nothing is staged; its ranges are cut at rising keys and
 -- numbered by 32 bits.
 pub record IsSound (h : History) : Type 0 where
-  pub run : IsRunSoFar h
+  pub run : IsRun h.head h.entries
   pub short : length h.entries ≤ 2 ^ 64
   pub unstaged : NothingIsStaged h.entries
   pub rising : AreRising h.head.splits

@@ -6,7 +6,6 @@ pub mod Follows
 pub mod History
 pub mod Journal
 pub mod Keeping
-pub mod OneKind
 pub mod Parts
 pub mod Progress
 pub mod Rounding

@@ -1,5 +1,5 @@
 -- What one session's turn adds to a history.
-use Rattle.std.specs.Prelude.{◌≡◌, ℕ, List, [], ◌∷◌, ◌++◌, All, ⊤}
+use Rattle.std.specs.Prelude.{◌≡◌, ℕ, List, [], ◌∷◌, ◌++◌, All}
 use Rattle.pc_base.specs.declared.actor.ActorId.TheVariants as actors
 use Rattle.pc_base.specs.declared.entry.Entry.{Entry}
 use Rattle.pc_proto.specs.declared.answer.Answer.{Answer}
@@ -9,17 +9,11 @@ use Rattle.pc_proto.specs.declared.event.Event.TheVariants as events
 use Rattle.pc_runner.specs.Follows.Turns.{IsItsOwn, IsWithin, deeds}
 use Rattle.pc_runner.specs.History.{History}
 
--- If the event evaluates a message, that is one of this session.
-abbrev pub EvaluatesOf : ℕ → Event → Type 0
-EvaluatesOf number (events.Eval sender sent reply) = sender ≡ actors.Session number
-EvaluatesOf number _ = ⊤
-
--- The history went on by this part: in it nobody acts but the session and the ranges, and those evaluate the session's messages alone.
+-- The history went on by this part, which is the session's own.
 pub record GoesOnBy (number : ℕ) (before after : History) (part : List (Entry Event)) : Type 0 where
   pub head : after.head ≡ before.head
   pub whole : after.entries ≡ before.entries ++ part
   pub alone : IsItsOwn number part
-  pub evaluates : All (λ e. EvaluatesOf number e.event) part
 
 -- The history went on by a part of the session that is so.
 pub record TakesPart (number : ℕ) (before after : History) (P : List (Entry Event) → Type 0) : Type 0 where

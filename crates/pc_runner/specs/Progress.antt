@@ -1,15 +1,9 @@
 -- What a step of a call leaves behind.
-use Rattle.std.specs.Prelude.{◌≡◌, ℕ, List, [], ◌∷◌}
-use Rattle.pc_base.specs.declared.actor.ActorId.TheVariants as actors
-use Rattle.pc_base.specs.declared.entry.Entry.{Entry}
-use Rattle.pc_proto.specs.declared.answer.Answer.{Answer}
-use Rattle.pc_proto.specs.declared.event.Event.{Event}
-use Rattle.pc_proto.specs.declared.event.Event.TheVariants as events
+use Rattle.std.specs.Prelude.{ℕ}
 use Rattle.pc_runner.specs.declared.session.Progress.{Progress}
 use Rattle.pc_runner.specs.declared.session.Progress.TheVariants.{Goes, Told}
 use Rattle.pc_runner.specs.declared.session.SessionRun.{SessionRun}
-use Rattle.pc_runner.specs.Following.{HasSameWork, IsFollowing, IsInCall}
-use Rattle.pc_runner.specs.Follows.Turns.{deeds}
+use Rattle.pc_runner.specs.Following.{IsFollowing, IsInCall}
 use Rattle.pc_runner.specs.History.{History}
 use Rattle.pc_runner.specs.Parts.{IsInside, IsTelling, TakesPart}
 

@@ -1,10 +1,12 @@
 -- How far a conflict's round has come beside the session that makes it.
-use Rattle.std.specs.Prelude.{◌≡◌, ℕ, ◌≤◌, List, [], ◌∷◌, ◌++◌, map, IsTrue}
+use Rattle.std.specs.Prelude.{◌≡◌, ◌≤◌, Some, [], ◌∷◌, ◌++◌, map, IsTrue}
 use Rattle.pc_base.specs.declared.actor.ActorId.TheVariants as actors
 use Rattle.pc_base.specs.declared.transaction.TxnId.{TxnId}
 use Rattle.pc_coord.specs.declared.round.Round.{Round}
 use Rattle.pc_coord.specs.Knows.{messages_of_job}
 use Rattle.pc_coord.specs.Rounds.{EndsRound, IsRefusedRound, IsSettledRound}
+use Rattle.pc_proto.specs.declared.fate.Fate.{Fate}
+use Rattle.pc_proto.specs.declared.fate.Goal.{Goal}
 use Rattle.pc_proto.specs.declared.reply.Reply.{Reply}
 use Rattle.pc_proto.specs.declared.reply.Reply.TheVariants as replies
 use Rattle.pc_proto.specs.declared.view.View.{View}
@@ -12,27 +14,31 @@ use Rattle.pc_push.specs.declared.progress.Progress.{Progress}
 use Rattle.pc_push.specs.declared.progress.Progress.TheVariants as progresses
 use Rattle.pc_push.specs.PushKnows.{PushKnows}
 use Rattle.pc_push.specs.Pushing.{Pushing}
+use Rattle.pc_world.specs.Follows.Resends.{goal_in}
 use Rattle.pc_world.specs.Known.{Known}
 use Rattle.pc_world.specs.Known.Traffic.{Heard}
 use Rattle.pc_world.specs.Send.Recovery.{is_push_of}
+use Rattle.pc_world.specs.Views.{fate_after}
 use Rattle.pc_runner.specs.Beside.{IsBesides, IsOnlySent}
 use Rattle.pc_runner.specs.declared.session.SessionRun.{SessionRun}
 use Rattle.pc_runner.specs.History.{History, known_by}
 
--- Since then the transaction was pushed, which was answered by its status, and nothing else was heard.
-pub record WasPushedOnce (id : TxnId) (start k : Known) : Type 0 where
+-- Since then the transaction was pushed for this goal, which was answered by a status that leaves this fate, and nothing else was heard.
+pub record WasPushedOnce (id : TxnId) (goal : Goal) (fate : Fate) (start k : Known) : Type 0 where
   pub push : Heard
   pub view : View
   pub more : k.heard_now ≡ start.heard_now ++ push ∷ []
   pub pushed : IsTrue (is_push_of id push.request)
+  pub aims : goal_in push.request ≡ Some goal
   pub told : push.reply ≡ replies.Status view
+  pub left : fate_after goal view ≡ Some fate
 
 -- What was heard since the round began is what its machine stands at. No push is unsure, since nothing is staged.
 abbrev pub HasCome : Progress → Pushing → Known → Known → Type 0
 HasCome progresses.Push m start k = k.heard_now ≡ start.heard_now
 HasCome progresses.Refused m start k = IsRefusedRound m.holder.id start k
 HasCome (progresses.Unsure view) m start k = ⊥
-HasCome (progresses.Resolve fate) m start k = WasPushedOnce m.holder.id start k
+HasCome (progresses.Resolve fate) m start k = WasPushedOnce m.holder.id m.goal fate start k
 HasCome progresses.Over m start k = IsSettledRound m.holder.id m.key start k
 
 -- The machine makes the round of this conflict.

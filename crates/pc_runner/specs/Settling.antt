@@ -1,5 +1,5 @@
 -- How a session stands while it does its oldest job.
-use Rattle.std.specs.Prelude.{◌≡◌, ℕ, ◌≤◌, cond, Some, List, [], ◌∷◌, ◌++◌, drop, map}
+use Rattle.std.specs.Prelude.{◌≡◌, ◌≤◌, cond, Some, List, [], ◌∷◌, ◌++◌, drop, map}
 use Rattle.pc_coord.specs.declared.job.Job.{Job}
 use Rattle.pc_coord.specs.Knows.{messages_of_job}
 use Rattle.pc_proto.specs.declared.request.Request.{Request}

@@ -1,5 +1,5 @@
 -- How a session's script stands beside its open transaction: the call that comes next suits it.
-use Rattle.std.specs.Prelude.{◌≡◌, Bool, true, false, Option, None, Some, List, [], ◌∷◌, All, ⊤, slice_get}
+use Rattle.std.specs.Prelude.{◌≡◌, Bool, true, false, Option, None, Some, List, ◌∷◌, All, ⊤, slice_get}
 use Rattle.pc_coord.specs.declared.transaction.Transaction.{Transaction}
 use Rattle.pc_coord.specs.Events.{SuitsTxn}
 use Rattle.pc_proto.specs.declared.call.Call.{Call}

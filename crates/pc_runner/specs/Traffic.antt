@@ -2,9 +2,9 @@
 use Rattle.std.specs.Prelude.{◌≡◌, ℕ, ◌+◌, ◌≤◌, nat_le, nat_lt, ◌&&◌, Some, List, [], ◌∷◌, length, All, IsTrue, ⊤}
 use Rattle.pc_coord.specs.Coordination.{waits_for}
 use Rattle.pc_coord.specs.declared.due.Due.{Due}
-use Rattle.pc_coord.specs.Knows.Sending.{IsForCall}
 use Rattle.pc_proto.specs.declared.request.Request.{Request}
 use Rattle.pc_world.specs.Answering.{MayAnswer}
+use Rattle.pc_world.specs.Follows.CallMessages.{IsForCall}
 use Rattle.pc_world.specs.Known.{Known}
 use Rattle.pc_world.specs.Known.Traffic.{Sent, request_sent}
 use Rattle.pc_world.specs.Tell.Refusal.{is_heard}
@@ -18,6 +18,10 @@ pub record IsNumbered (count : ℕ) (m : Sent) : Type 0 where
   pub from_one : 1 ≤ m.number
   pub counted : m.number ≤ count
 
+-- Under the message's number stands what it says.
+abbrev pub IsSaid : List Sent → Sent → Type 0
+IsSaid sent m = request_sent m.number sent ≡ Some m.request
+
 -- The session's messages up to this number were heard, those of the open call in it, and none after that.
 pub record HasHeard (last : ℕ) (k : Known) : Type 0 where
   pub sent : last ≤ length k.sent
@@ -25,6 +29,7 @@ pub record HasHeard (last : ℕ) (k : Known) : Type 0 where
   pub numbers_now : All (IsNumbered (length k.sent)) k.sent_now
   pub all : All (λ m. m.number ≤ last → IsTrue (is_heard k.heard m)) k.sent
   pub all_now : All (λ m. m.number ≤ last → IsTrue (is_heard k.heard_now m)) k.sent_now
+  pub said_now : All (IsSaid k.sent) k.sent_now
   pub none : All (λ h. h.number ≤ last) k.heard
 
 -- The messages have numbers that follow one another, from this one on.

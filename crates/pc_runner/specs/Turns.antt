@@ -1,5 +1,5 @@
 -- The run of a whole workload in turns: its sessions' runners beside the history, and how far they go on.
-use Rattle.std.specs.Prelude.{◌≡◌, ◌≢◌, ℕ, ◌+◌, ◌-◌, ◌≤◌, ◌<◌, min, [], Bool, Option, None, Some, List, ◌++◌, length, slice_get}
+use Rattle.std.specs.Prelude.{◌≡◌, ◌≢◌, ℕ, ◌+◌, ◌≤◌, ◌<◌, [], Bool, Option, None, Some, List, ◌++◌, length, slice_get}
 use Rattle.pc_base.specs.declared.actor.ActorId.{ActorId}
 use Rattle.pc_base.specs.declared.entry.Entry.{Entry}
 use Rattle.pc_proto.specs.declared.event.Event.{Event}
@@ -14,11 +14,11 @@ use Rattle.pc_runner.specs.declared.turns.TurnsRun.{TurnsRun}
 use Rattle.pc_runner.specs.Following.{IsFollowing}
 use Rattle.pc_runner.specs.Follows.{Follows}
 use Rattle.pc_runner.specs.Follows.Script.{next_call}
-use Rattle.pc_runner.specs.Follows.Turns.{IsOver, IsTurn, RunsUntil, jobs_in, own_turn}
+use Rattle.pc_runner.specs.Follows.Turns.{IsOver, IsTurn, RunsUntil, items_over, jobs_in, own_turn}
 use Rattle.pc_runner.specs.History.{History, head_of}
 
 -- The runner is that of the session of this index, and follows it in the history.
-pub record IsRunOf (work : Workload) (index : ℕ) (h : History) (r : SessionRun) : Type 0 where
+pub record IsRunnerOf (work : Workload) (index : ℕ) (h : History) (r : SessionRun) : Type 0 where
   pub number : r.number ≡ index + 1
   pub states : r.work.now ≡ work
   pub follows : IsFollowing r h
@@ -28,7 +28,7 @@ pub record AreFollowing (work : Workload) (sessions : List SessionRun) (h : Hist
   pub built : IsBuilt work
   pub head : h.head ≡ head_of work.splits (length work.sessions)
   pub many : length sessions ≡ length work.sessions
-  pub each : (index : ℕ) (r : SessionRun) → slice_get sessions index ≡ Some r → IsRunOf work index h r
+  pub each : (index : ℕ) (r : SessionRun) → slice_get sessions index ≡ Some r → IsRunnerOf work index h r
 
 -- The sessions of the run follow their work.
 abbrev pub IsRunning : TurnsRun → Type 0
@@ -42,7 +42,7 @@ pub record IsDone (r : SessionRun) : Type 0 where
 -- No job waits at the session, and as many items of its script are over as the opening has.
 pub record HasOpened (opening : ℕ) (r : SessionRun) : Type 0 where
   pub none : r.jobs.items ≡ []
-  pub opened : opening ≤ length r.session.now.script - (length r.script.items + min 1 (length r.script.calls))
+  pub opened : opening ≤ items_over (length r.session.now.script) r.script
 
 -- The run went on by a part, which is so after what was there; its sessions follow their work.
 pub record HasGoneOn (old new : TurnsRun) (P : List (Entry Event) → List (Entry Event) → Type 0) : Type 0 where
@@ -55,7 +55,7 @@ pub record HasGoneOn (old new : TurnsRun) (P : List (Entry Event) → List (Entr
 module _ (head : Head) (work : Workload) where
   -- The part is what the session of this index does by itself.
   abbrev pub GoesOnAlone : ℕ → List (Entry Event) → List (Entry Event) → Type 0
-  GoesOnAlone index before part = IsTurn head work (own_turn head work (index + 1) (jobs_in head (index + 1) before)) before part
+  GoesOnAlone index before part = IsTurn head work (own_turn (index + 1) (jobs_in head (index + 1) before)) before part
 
   abbrev pub RunsToEndOf : ℕ → Option SessionWork → List (Entry Event) → List (Entry Event) → Type 0
   RunsToEndOf index None before part = ⊥

@@ -59,6 +59,7 @@ impl<'a> Database<'a> {
         })
     }
 
+    /// The entries of the history, in order.
     pub fn into_entries(self) -> Vec<Entry<Event>>
         ensures entries { result.items ≡ self.entry.entries }
         ensures sound { IsSound self.entry }
@@ -153,7 +154,7 @@ impl<'a> Database<'a> {
         }
     }
 
-    /// The message's range evaluates it, and its reply is entered.
+    /// The message's range evaluates it, and its reply is entered. Gives the entry's step.
     fn serve(&mut self, session: u32, number: u64, request: &Request) -> Result<u64, NoMemory>
         requires { WasSent self.old session number request.now }
         ensures { IfOk result (λ step. (told : Answered) × HasEvaluated self.old self.new session number request.now step told) }

@@ -23,7 +23,7 @@ impl<'a> SessionRun<'a> {
     pub(crate) fn finish(&mut self, db: &mut Database<'_>) -> Result<(), NoMemory>
         requires { IsFollowing self.old db.old }
         ensures follows { OnOk result (IsFollowing self.new db.new) }
-        ensures part { OnOk result (TakesPart self.old.number db.old db.new (FinishesNext db.old.head self.old.work.now self.old.number (jobs_in db.old.head self.old.number db.old.entries) db.old.entries)) }
+        ensures part { OnOk result (TakesPart self.old.number db.old db.new (FinishesNext db.old.head self.old.number (jobs_in db.old.head self.old.number db.old.entries) db.old.entries)) }
         ensures same { OnOk result (HasSameWork self.old self.new) }
     {
         match self.jobs.pop_front() {

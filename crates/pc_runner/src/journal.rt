@@ -43,12 +43,14 @@ impl<'a> Journal<'a> {
         }
     }
 
+    /// The entries, in order.
     pub fn into_entries(self) -> Vec<Entry<Event>>
         ensures { result.items ≡ self.entry.entries }
     {
         self.entries
     }
 
+    /// The keys at which the ranges are cut.
     pub fn splits(&self) -> &Keys
         ensures { result.now ≡ self.now.head.splits }
     {
@@ -65,7 +67,7 @@ impl<'a> Journal<'a> {
         }
     }
 
-    /// The actor does this next.
+    /// The actor does this next. Gives the entry's step.
     pub fn enter(&mut self, actor: ActorId, event: Event) -> Result<u64, NoMemory>
         requires sound { IsSound self.old }
         requires may { MayFollow (protocol self.old.head) self.old.entries (next_entry self.old actor event) }
@@ -79,7 +81,7 @@ impl<'a> Journal<'a> {
     }
 
     /// The range evaluates the session's message of this number: it becomes what the request makes of it, and its reply is
-    /// entered.
+    /// entered. Gives the entry's step.
     pub fn serve(
         &mut self,
         state: &mut RangeState,

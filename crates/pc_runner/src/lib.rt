@@ -5,14 +5,12 @@ mod database;
 mod exchange;
 mod finish;
 mod journal;
-mod laws;
 mod outbox;
 mod round;
 mod script;
 mod session;
 mod turns;
 
-pub use laws::{readers_put_nothing, writers_read_nothing};
 pub use turns::run_turns;
 
 #[cfg(test)]

@@ -1,7 +1,9 @@
-ghost use Rattle.std.specs.Prelude.{◌≡◌, ◌↔◌, ◌+◌, ◌-◌, ◌++◌, None, IfOk, IsTrue, OnOk, drop, length, min};
+ghost use Rattle.std.specs.Prelude.{◌≡◌, ◌↔◌, ◌++◌, None, IfOk, IsTrue, OnOk, drop};
 ghost use Rattle.std.specs.List.{flat_map};
 ghost use Rattle.pc_runner.specs.Follows.Script.{after_told, calls_of, next_call, opened, rerun, statement_calls};
-ghost use Rattle.pc_runner.specs.Script.{txn_calls, with_ahead};
+ghost use Rattle.pc_runner.specs.Follows.Turns.{items_over};
+ghost use Rattle.pc_runner.specs.Script.{with_ahead};
+ghost use Rattle.pc_work.specs.declared.item.Item.TheVariants as items;
 
 use pc_base::{Items, NoMemory, Priority, TryCopy};
 use pc_proto::{Answer, Call};
@@ -79,7 +81,7 @@ impl<'a> ScriptRun<'a> {
 
     /// How many items of a script of so many are over.
     pub fn items_over(&self, items: usize) -> usize
-        ensures { result ≡ items - (length self.now.items + min 1 (length self.now.calls)) }
+        ensures { result ≡ items_over items self.now }
     {
         let running = self.calls.len().min(1);
         items.saturating_sub(self.items.len() + running)
@@ -167,6 +169,7 @@ impl<'a> ScriptRun<'a> {
     }
 }
 
+/// The calls of an item: a transaction's begin, its statements and its end; or one learn.
 fn item_calls(alloc: Global, item: &Item) -> Result<Calls, NoMemory>
     ensures { IfOk result (λ made. made ≡ calls_of item.now) }
 {
@@ -184,13 +187,14 @@ fn item_calls(alloc: Global, item: &Item) -> Result<Calls, NoMemory>
     }
 }
 
+/// The calls of a transaction.
 fn txn_calls(
     alloc: Global,
     priority: Priority,
     statements: &Statements,
     commits: bool,
 ) -> Result<Calls, NoMemory>
-    ensures { IfOk result (λ made. made ≡ txn_calls priority statements.now commits) }
+    ensures { IfOk result (λ made. made ≡ calls_of (items.Txn priority statements.now commits)) }
 {
     let mut calls = Items::new(alloc);
     calls.add(Call::Begin(priority))?;
@@ -203,6 +207,7 @@ fn txn_calls(
     Ok(calls)
 }
 
+/// Adds the calls of the statements, in order.
 fn add_statements(calls: &mut Calls, statements: &[Statement]) -> Result<(), NoMemory>
     ensures { OnOk result (calls.new ≡ calls.old ++ flat_map statement_calls statements.now) }
 {
@@ -212,6 +217,7 @@ fn add_statements(calls: &mut Calls, statements: &[Statement]) -> Result<(), NoM
     Ok(())
 }
 
+/// Adds the call of the statement. An add has none, since it is not built.
 fn add_statement(calls: &mut Calls, statement: &Statement) -> Result<(), NoMemory>
     ensures { OnOk result (calls.new ≡ calls.old ++ statement_calls statement.now) }
 {

@@ -98,7 +98,7 @@ impl<'a> SessionRun<'a> {
     pub fn turn(&mut self, db: &mut Database<'_>) -> Result<(), NoMemory>
         requires { IsFollowing self.old db.old }
         ensures follows { OnOk result (IsFollowing self.new db.new) }
-        ensures part { OnOk result (TakesPart self.old.number db.old db.new (CallsNext db.old.head self.old.work.now self.old.number (next_call self.old.script))) }
+        ensures part { OnOk result (TakesPart self.old.number db.old db.new (CallsNext self.old.number (next_call self.old.script))) }
         ensures same { OnOk result (HasSameWork self.old self.new) }
     {
         match self.script.next()? {
@@ -125,6 +125,7 @@ impl<'a> SessionRun<'a> {
         Err(NoMemory)
     }
 
+    /// Asks the call, at the next reading of the clock.
     fn ask(&mut self, db: &mut Database<'_>, call: Call) -> Result<(), NoMemory>
         requires follows { IsFollowing self.old db.old }
         requires next { next_call self.old.script ≡ Some call }
@@ -160,6 +161,8 @@ impl<'a> SessionRun<'a> {
         }
     }
 
+    /// Sends a message that the coordinator gave. It waits until the next wave.
+    ///
     /// It is refused too where the numbers of messages are used up.
     fn send(&mut self, db: &mut Database<'_>, request: Request) -> Result<Progress, NoMemory>
         requires calls { IsInCall self.old db.old }
@@ -179,7 +182,7 @@ impl<'a> SessionRun<'a> {
         Ok(Progress::Goes)
     }
 
-    /// The messages that wait are evaluated, and then their replies heard.
+    /// A wave: the messages that wait are evaluated, and then their replies heard.
     fn wave(&mut self, db: &mut Database<'_>) -> Result<Progress, NoMemory>
         requires { IsInCall self.old db.old }
         ensures after { IfOk result (IsAfterStep self.old.number db.old self.new db.new) }
@@ -225,6 +228,7 @@ impl<'a> SessionRun<'a> {
         Ok(())
     }
 
+    /// The open call is told its answer, and the script goes on by it; what the transaction left becomes the newest job.
     fn tell(&mut self, db: &mut Database<'_>, answer: Answer) -> Result<Progress, NoMemory>
         requires calls { IsInCall self.old db.old }
         requires due { next_of self.old.coordinator.due ≡ nexts.Tell answer }

@@ -45,7 +45,7 @@ fn calls_come_in_the_turns_and_then_session_by_session(rt: HostRuntime) -> Resul
     Ok(())
 }
 
-/// A put in each stated turn but the first two; then each session's commit, and its job right behind it.
+/// In the stated turns each session begins and puts, and no job waits yet; then each commits, and does its job right behind that.
 #[test]
 fn what_is_over_is_finished_before_the_next_call(rt: HostRuntime) -> Result<(), Fail> {
     let sends = order(rt.alloc(), false)?;

@@ -20,7 +20,9 @@ use std::alloc::Global;
 
 /// Runs a workload in turns, and gives its history: a run of the protocol, which follows the workload.
 ///
-/// The clocks and the gate that are handed in are not called: each session's clock is the workload's.
+/// A workload that was read is of the form that is required. Readings are those of the sessions' clocks, in nanoseconds; an entry's
+/// step is its place in the list. The clocks and the gate that are handed in are not called: each session's clock is the workload's.
+/// `NoMemory` comes where memory runs out, or a number of 64 bits.
 pub fn run_turns<M: Clocks, G: Gate>(
     alloc: Global,
     work: &Workload,
@@ -35,6 +37,7 @@ pub fn run_turns<M: Clocks, G: Gate>(
     run_whole(alloc, work)
 }
 
+/// The opening, then the turns that are stated, then each session to its end.
 fn run_whole(alloc: Global, work: &Workload) -> Result<Vec<Entry<Event>>, NoMemory>
     requires { IsBuilt work.now }
     ensures { IfOk result (λ entries. IsWhole work.now entries.items) }
@@ -92,7 +95,7 @@ impl<'a> TurnsRun<'a> {
     /// Takes the turns that the workload states.
     fn take_stated(&mut self) -> Result<(), NoMemory>
         requires running { IsRunning self.old }
-        ensures { OnOk result (HasGoneOn self.old self.new (AreTurns self.old.database.head self.old.work.now (stated_turns self.old.database.head self.old.work.now))) }
+        ensures { OnOk result (HasGoneOn self.old self.new (AreTurns self.old.database.head self.old.work.now (stated_turns self.old.work.now))) }
     {
         if let Some(turns) = &self.work.turns {
             for turn in turns.as_slice() {
@@ -131,6 +134,7 @@ impl<'a> TurnsRun<'a> {
         Err(NoMemory)
     }
 
+    /// Takes one turn: a session's next call, or its oldest job.
     fn take(&mut self, turn: Turn) -> Result<(), NoMemory>
         requires running { IsRunning self.old }
         requires there { IsTurnOf (length self.old.work.now.sessions) turn }
@@ -157,6 +161,7 @@ impl<'a> TurnsRun<'a> {
         }
     }
 
+    /// The session of this index asks its next call, and is told its answer; nothing where its script is over.
     fn turn(&mut self, index: usize) -> Result<(), NoMemory>
         requires running { IsRunning self.old }
         requires there { index < length self.old.sessions.items }
@@ -166,6 +171,7 @@ impl<'a> TurnsRun<'a> {
         self.sessions[index].turn(&mut self.database)
     }
 
+    /// The session of this index does its oldest job; nothing where none waits.
     fn finish(&mut self, index: usize) -> Result<(), NoMemory>
         requires running { IsRunning self.old }
         requires there { index < length self.old.sessions.items }

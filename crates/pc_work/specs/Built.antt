@@ -70,9 +70,9 @@ pub record IsBuilt (work : Workload) : Type 0 where
   pub splits : Rises work.splits
   -- The splits are no more than their limit.
   pub few_splits : length work.splits ≤ split_limit
-  -- A range keeps the default number of entries.
+  -- The limit of an actor's entries is the default one.
   pub limit : work.limit ≡ 1000000
-  -- A request is sent the default number of times.
+  -- The tries of a request are the default ones.
   pub tries : work.tries ≡ 4
   -- The reruns are no more than their limit.
   pub reruns : work.reruns ≤ rerun_limit

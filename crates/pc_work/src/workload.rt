@@ -40,9 +40,9 @@ pub struct Workload {
     pub pipelining: bool,
     /// The first key of each range but the first one.
     pub splits: Keys,
-    /// The most entries that a range keeps.
+    /// The most entries of one actor.
     pub limit: u64,
-    /// How often a request is sent before it is given up.
+    /// How often a request is sent to which no reply comes, before it is given up.
     pub tries: u32,
     /// How often a transaction may ask again, or start again, before it is rolled back.
     pub reruns: u32,

@@ -1,5 +1,5 @@
--- End: a session's list ends at the end of its script, or where it is full.
-use Rattle.std.specs.Prelude.{◌≡◌, ℕ, ◌⊎◌, None, List, length}
+-- End: a session's list ends at the end of its script.
+use Rattle.std.specs.Prelude.{◌≡◌, None, List}
 use Rattle.pc_history.specs.declared.pair.Pair.{Pair}
 use Rattle.pc_proto.specs.declared.event.Event.{Event}
 use Rattle.pc_world.specs.Known.{known}
@@ -9,7 +9,3 @@ use Rattle.pc_runner.specs.Follows.Script.{Position, next_call}
 pub record IsScriptEnd (at : Position) (own : List (Pair Event)) : Type 0 where
   pub no_next : next_call at ≡ None
   pub none_open : (known own).statement ≡ None
-
--- The list is at the end of its script, or has as many entries as the limit.
-abbrev pub IsAtEnd : ℕ → Position → List (Pair Event) → Type 0
-IsAtEnd limit at own = IsScriptEnd at own ⊎ (length own ≡ limit)

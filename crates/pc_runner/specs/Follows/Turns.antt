@@ -1,6 +1,6 @@
 -- Turns: in which order calls and finishing jobs come, each of them whole. First the opening of the first session; then the turns that
 -- are stated; then each session in order to its end. Own profile.
-use Rattle.std.specs.Prelude.{◌≡◌, ℕ, ◌+◌, ◌-◌, ◌≤◌, min, Option, None, Some, List, [], ◌∷◌, ◌++◌, length, map, filter, drop, slice_get, unwrap_or, All, ⊤}
+use Rattle.std.specs.Prelude.{◌≡◌, ℕ, ◌+◌, ◌-◌, ◌≤◌, min, Option, None, Some, List, [], ◌∷◌, ◌++◌, length, map, filter, drop, slice_get, unwrap_or, All, IsTrue, ⊤}
 use Rattle.pc_base.specs.declared.actor.ActorId.{ActorId}
 use Rattle.pc_base.specs.declared.actor.ActorId.TheVariants as actors
 use Rattle.pc_base.specs.declared.entry.Entry.{Entry}
@@ -15,8 +15,10 @@ use Rattle.pc_work.specs.declared.turn.Turn.{Turn}
 use Rattle.pc_work.specs.declared.turn.Turn.TheVariants as turns
 use Rattle.pc_work.specs.declared.workload.Workload.{Workload}
 use Rattle.pc_world.specs.Follows.FinishingJobs.{jobs_of}
+use Rattle.pc_world.specs.Known.{Known, known}
 use Rattle.pc_world.specs.Local.{Head}
 use Rattle.pc_world.specs.Run.{protocol}
+use Rattle.pc_world.specs.Tell.Refusal.{is_heard}
 use Rattle.pc_runner.specs.Follows.Script.{Position, next_call, position}
 
 -- Where a session of this work is in its script after a history.
@@ -26,6 +28,14 @@ position_in head work number session history = position work.reruns session.scri
 -- The jobs that wait at a session after a history.
 abbrev pub jobs_in : Head → ℕ → List (Entry Event) → List (List Request)
 jobs_in head number history = jobs_of (own (protocol head) (actors.Session number) history)
+
+-- What a session knows after a history.
+abbrev pub known_in : Head → ℕ → List (Entry Event) → Known
+known_in head number history = known (own (protocol head) (actors.Session number) history)
+
+-- Each message that the session sent was heard.
+abbrev pub HasHeardAll : Known → Type 0
+HasHeardAll k = All (λ m. IsTrue (is_heard k.heard m)) k.sent
 
 -- What an actor does in a part of a history.
 abbrev pub deeds : ActorId → List (Entry Event) → List Event
@@ -37,9 +47,19 @@ IsItOrRange number (actors.Session other) = other ≡ number
 IsItOrRange number (actors.Range range) = ⊤
 IsItOrRange number (actors.Recoverer other) = ⊥
 
--- Nobody but the session and the ranges does anything in the part.
+-- If the event evaluates a message, that is one of this session.
+abbrev pub EvaluatesOf : ℕ → Event → Type 0
+EvaluatesOf number (events.Eval sender sent reply) = sender ≡ actors.Session number
+EvaluatesOf number _ = ⊤
+
+-- The entry is the session's, or a range's evaluation of one of its messages.
+pub record IsOwnDeed (number : ℕ) (e : Entry Event) : Type 0 where
+  pub whose : IsItOrRange number e.actor
+  pub evaluates : EvaluatesOf number e.event
+
+-- Nobody but the session and the ranges does anything in the part, and those evaluate the session's messages alone.
 abbrev pub IsItsOwn : ℕ → List (Entry Event) → Type 0
-IsItsOwn number part = All (λ e. IsItOrRange number e.actor) part
+IsItsOwn number part = All (IsOwnDeed number) part
 
 -- The event neither asks a call nor tells an answer.
 abbrev pub IsWithin : Event → Type 0
@@ -57,23 +77,39 @@ pub record IsCall (number : ℕ) (part : List (Entry Event)) : Type 0 where
   pub whole : deeds (actors.Session number) part ≡ events.Ask call reading ∷ (between ++ events.Tell answer ∷ [])
   pub within : All IsWithin between
 
--- The part is the session's oldest job, from its first message to its last reply.
+-- The part is the session's oldest job, from its first message to its last reply: the session neither asks a call in it nor is told an
+-- answer, the job waits no more behind it, and each message that the session sent was heard.
 pub record IsJob (head : Head) (number : ℕ) (before part : List (Entry Event)) : Type 0 where
   pub alone : IsItsOwn number part
   pub within : All IsWithin (deeds (actors.Session number) part)
   pub done : jobs_in head number (before ++ part) ≡ drop 1 (jobs_in head number before)
+  pub heard : HasHeardAll (known_in head number (before ++ part))
+
+-- The part is the next call of the session's script, or nothing where there is none.
+abbrev pub CallsNext : ℕ → Option Call → List (Entry Event) → Type 0
+CallsNext number None part = part ≡ []
+CallsNext number (Some call) part = IsCall number part
+
+-- The part is the oldest of the session's jobs, or nothing where none waits.
+abbrev pub FinishesNext : Head → ℕ → List (List Request) → List (Entry Event) → List (Entry Event) → Type 0
+FinishesNext head number [] before part = part ≡ []
+FinishesNext head number (job ∷ jobs) before part = IsJob head number before part
+
+-- The session's turn where it runs by itself: its oldest job where one waits, else its next call.
+abbrev pub own_turn : ℕ → List (List Request) → Turn
+own_turn number [] = turns.Session number
+own_turn number (job ∷ jobs) = turns.Job number
+
+-- How many items of a script of so many are over.
+abbrev pub items_over : ℕ → Position → ℕ
+items_over items at = items - (length at.items + min 1 (length at.calls))
+
+-- The turns that the workload states.
+abbrev pub stated_turns : Workload → List Turn
+stated_turns work = unwrap_or work.turns []
 
 module _ (head : Head) (work : Workload) where
-  -- The part is the next call of the session's script, or nothing where there is none.
-  abbrev pub CallsNext : ℕ → Option Call → List (Entry Event) → Type 0
-  CallsNext number None part = part ≡ []
-  CallsNext number (Some call) part = IsCall number part
-
-  -- The part is the oldest of the session's jobs, or nothing where none waits.
-  abbrev pub FinishesNext : ℕ → List (List Request) → List (Entry Event) → List (Entry Event) → Type 0
-  FinishesNext number [] before part = part ≡ []
-  FinishesNext number (job ∷ jobs) before part = IsJob head number before part
-
+  -- The part is the next call of this session of the workload, or nothing where the workload has no such session.
   abbrev pub CallsNextOf : ℕ → Option SessionWork → List (Entry Event) → List (Entry Event) → Type 0
   CallsNextOf number None before part = part ≡ []
   CallsNextOf number (Some session) before part = CallsNext number (next_call (position_in head work number session before)) part
@@ -81,7 +117,7 @@ module _ (head : Head) (work : Workload) where
   -- The part is what the turn takes after these entries.
   abbrev pub IsTurn : Turn → List (Entry Event) → List (Entry Event) → Type 0
   IsTurn (turns.Session number) before part = CallsNextOf number (slice_get work.sessions (number - 1)) before part
-  IsTurn (turns.Job number) before part = FinishesNext number (jobs_in head number before) before part
+  IsTurn (turns.Job number) before part = FinishesNext head number (jobs_in head number before) before part
   IsTurn (turns.Recoverer number) before part = part ≡ []
 
   -- The part is what these turns take, one after another.
@@ -89,11 +125,6 @@ module _ (head : Head) (work : Workload) where
   AreTurns [] before part = part ≡ []
   AreTurns (turn ∷ turns) before part =
       (first rest : List (Entry Event)) × (part ≡ first ++ rest) × IsTurn turn before first × AreTurns turns (before ++ first) rest
-
-  -- The session's turn where it runs by itself: its oldest job where one waits, else its next call.
-  abbrev pub own_turn : ℕ → List (List Request) → Turn
-  own_turn number [] = turns.Session number
-  own_turn number (job ∷ jobs) = turns.Job number
 
   -- The part is what the session does by itself, its jobs before each further call, until this is so.
   pub data RunsUntil (number : ℕ) (Until : List (Entry Event) → Type 0) : List (Entry Event) → List (Entry Event) → Type 0 where
@@ -103,10 +134,6 @@ module _ (head : Head) (work : Workload) where
         → IsTurn (own_turn number (jobs_in head number before)) before first
         → RunsUntil number Until (before ++ first) rest
         → RunsUntil number Until before (first ++ rest)
-
-  -- How many items of a script of so many are over.
-  abbrev pub items_over : ℕ → Position → ℕ
-  items_over items at = items - (length at.items + min 1 (length at.calls))
 
   -- As many items of the session's script are over as the opening has.
   abbrev pub IsOpened : SessionWork → List (Entry Event) → Type 0
@@ -129,10 +156,6 @@ module _ (head : Head) (work : Workload) where
       × RunsUntil number (IsOver number session) before first
       × RunOut (number + 1) sessions (before ++ first) rest
 
-  -- The turns that the workload states.
-  abbrev pub stated_turns : List Turn
-  stated_turns = unwrap_or work.turns []
-
   -- The history goes in the workload's turns: the opening, the turns that are stated, and then each session in order to its end.
   pub record IsInTurns (history : List (Entry Event)) : Type 0 where
     pub opening : List (Entry Event)
@@ -140,5 +163,5 @@ module _ (head : Head) (work : Workload) where
     pub rest : List (Entry Event)
     pub whole : history ≡ opening ++ (stated ++ rest)
     pub opens : Opens work.sessions opening
-    pub turns : AreTurns stated_turns opening stated
+    pub turns : AreTurns (stated_turns work) opening stated
     pub runs_out : RunOut 1 work.sessions (opening ++ stated) rest

@@ -6,7 +6,7 @@ pub hear-requires-clause-may : goal.hear-requires-clause-may
 hear-requires-clause-may c =
     let r = c.args.self.now in
     may_hear r.number (r.sends + 1) c.in_ok-step.step c.args.request.now c.in_ok-step.reply c.args.db.now c.send.new.self c.evaluate.new.self c.in_ok-send.ensures c.in_ok-step.ensures
-    r.sends (omega arith) c.requires.heard.none
+    r.sends (omega arith) c.requires.heard
 
 pub hear-requires-clause-answered : goal.hear-requires-clause-answered
 hear-requires-clause-answered c =

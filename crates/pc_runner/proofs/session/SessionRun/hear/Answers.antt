@@ -1,9 +1,9 @@
-use Rattle.std.proofs.Common.{ℕ, ◌+◌, List, [], ◌∷◌, drop, refl, subst, sym}
-use Rattle.pc_runner.proofs.Calling.{calls_of}
+use Rattle.std.proofs.Common.{ℕ, ◌+◌, List, [], drop, refl, subst, sym}
+use Rattle.pc_runner.proofs.Calling.{at_reply, calling_of}
 use Rattle.pc_runner.proofs.Entering.{is_answered}
 use Rattle.pc_runner.proofs.InTurn.{inside_further, inside_heard, inside_none}
 use Rattle.pc_runner.proofs.Waved.{calls_heard, is, may_be_heard}
-use Rattle.pc_runner.proofs.Waving.{drop_item, drop_none}
+use Rattle.pc_runner.proofs.Places.{drop_none}
 use Rattle.pc_runner.specs.declared.outbox.Answered.{Answered}
 use Rattle.pc_runner.specs.declared.outbox.Posted.{Posted}
 use Rattle.pc_runner.specs.Following.{IsCalling}
@@ -22,8 +22,8 @@ hear-requires-clause-may c =
     let h = c.loop-answered.db in
     let a = c.answered-item.result in
     let later = drop (c.loop-answered.answered-index + 1) c.args.replies.now in
-    let calling = subst (λ (l : List Answered). IsCalling r l [] h) (drop_item c.args.replies.now c.loop-answered.answered-index a c.loop-answered-test.true c.answered-item.is) c.loop-answered.invariant.0 in
-    may_be_heard r.work.now r.number r.session.now r.script r.clock r.reading r.jobs.items r.coordinator r.sends a later h (calls_of r (a ∷ later) [] h calling)
+    let calls = at_reply r c.args.replies.now c.loop-answered.answered-index a h c.loop-answered-test.true c.answered-item.is c.loop-answered.invariant.0 in
+    may_be_heard r.work.now r.number r.session.now r.script r.clock r.reading r.jobs.items r.coordinator r.sends a later h calls
 
 pub hear-requires-clause-answered : goal.hear-requires-clause-answered
 hear-requires-clause-answered c =
@@ -31,9 +31,9 @@ hear-requires-clause-answered c =
     let h = c.loop-answered.db in
     let a = c.answered-item.result in
     let later = drop (c.loop-answered.answered-index + 1) c.args.replies.now in
-    let calling = subst (λ (l : List Answered). IsCalling r l [] h) (drop_item c.args.replies.now c.loop-answered.answered-index a c.loop-answered-test.true c.answered-item.is) c.loop-answered.invariant.0 in
+    let calls = at_reply r c.args.replies.now c.loop-answered.answered-index a h c.loop-answered-test.true c.answered-item.is c.loop-answered.invariant.0 in
     is_answered h r.number a.number a.step a.reply
-    (is r.work.now r.number r.session.now r.script r.clock r.reading r.jobs.items r.coordinator r.sends a later h (calls_of r (a ∷ later) [] h calling)).evaluated
+    (is r.work.now r.number r.session.now r.script r.clock r.reading r.jobs.items r.coordinator r.sends a later h calls).evaluated
 
 pub loop-answered-preserved : goal.loop-answered-preserved
 loop-answered-preserved c =
@@ -42,12 +42,12 @@ loop-answered-preserved c =
     let g = c.hear.new.self in
     let a = c.answered-item.result in
     let later = drop (c.loop-answered.answered-index + 1) c.args.replies.now in
-    let calling = subst (λ (l : List Answered). IsCalling r l [] h) (drop_item c.args.replies.now c.loop-answered.answered-index a c.loop-answered-test.true c.answered-item.is) c.loop-answered.invariant.0 in
+    let calls = at_reply r c.args.replies.now c.loop-answered.answered-index a h c.loop-answered-test.true c.answered-item.is c.loop-answered.invariant.0 in
     let heard = c.in_ok-heard.ensures in
-    let calls = calls_heard r.work.now r.number r.session.now r.script r.clock r.reading r.jobs.items r.coordinator r.sends a later h (calls_of r (a ∷ later) [] h calling)
+    let on = calls_heard r.work.now r.number r.session.now r.script r.clock r.reading r.jobs.items r.coordinator r.sends a later h calls
     g c.in_ok-hear.ensures c.heard.new.self heard.knows heard.waits heard.session heard.splits in
     let same = c.loop-answered.invariant.2 in (
-      record { stands = calls.stands; keeps = calls.keeps; jobs = calls.jobs_left; open_now = calls.open_now; way = calls.way },
+      calling_of _ later [] g on,
       inside_further r.number c.args.db.now h g c.loop-answered.invariant.1 (inside_heard r.number h g a.number a.step c.in_ok-hear.ensures),
       record { number = same.number; work = same.work; session = same.session },
       c.loop-answered.invariant.3,

@@ -11,7 +11,7 @@ loop-init c =
     let r = c.args.self.now in
     let k = known_by r.number c.args.db.now in
     round_start r c.args.db.now c.args.number c.args.conflict c.args.reader c.requires.calls c.requires.due c.requires.may c.in-Some.pusher c.new-machine.result
-    (c.in-Some.ensures k c.args.number c.args.conflict c.args.reader c.requires.calls.stands.knows c.requires.due)
+    (c.in-Some.ensures.pushes k c.args.number c.args.conflict c.args.reader c.requires.calls.stands.knows c.requires.due)
     c.new-machine.ensures.made (c.new-machine.ensures.knows (actors.Session r.number) k)
 
 pub ask_for-requires : goal.ask_for-requires

@@ -16,10 +16,10 @@ send-requires-clause-next c = ap (λ n. n + 1) c.requires.calls.stands.counted
 pub send-requires-clause-allowed : goal.send-requires-clause-allowed
 send-requires-clause-allowed c =
     let r = c.args.self.now in
-    is_allowed r.number r.coordinator r.sends c.args.db.now c.args.request c.requires.calls.stands c.requires.may
+    is_allowed r.number r.coordinator r.sends c.args.db.now c.args.request c.requires.calls.stands c.requires.may.0
 
 pub send-requires-clause-unstaged : goal.send-requires-clause-unstaged
-send-requires-clause-unstaged c = is_unstaged (known_by c.args.self.now.number c.args.db.now) c.args.request c.requires.may.kind
+send-requires-clause-unstaged c = is_unstaged (known_by c.args.self.now.number c.args.db.now) c.args.request c.requires.may.0.kind
 
 pub returns-clause-after : goal.returns-clause-after
 returns-clause-after c =
@@ -28,7 +28,7 @@ returns-clause-after c =
     let g = c.send.new.self in
     let sent = c.in_ok-sent.ensures in
     let calls = calls_sent r.work.now r.number r.session.now r.script r.clock r.reading r.jobs.items r.coordinator r.sends r.outbox.items h g c.args.request
-    (calls_of r [] r.outbox.items h c.requires.calls) c.in_ok-send.ensures c.requires.may c.sent.new.self c.requires.due
+    (calls_of r [] r.outbox.items h c.requires.calls) c.in_ok-send.ensures c.requires.may.0 c.requires.may.1 c.sent.new.self c.requires.due
     sent.knows (λ other. sent.waits c.args.request other c.requires.due) sent.session sent.splits in (
       record {
         stands = calls.stands;

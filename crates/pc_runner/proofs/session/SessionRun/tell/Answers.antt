@@ -2,6 +2,7 @@ use Rattle.std.proofs.Common.{[], ◌++◌, Option, ap, sym, ◌∙◌}
 use Rattle.std.proofs.lemmas.List.{append-nil}
 use Rattle.std.specs.Option.{option_to_list}
 use Rattle.pc_coord.specs.declared.job.Job.{Job}
+use Rattle.pc_runner.proofs.Asked.{following_of}
 use Rattle.pc_runner.proofs.Calling.{calls_of}
 use Rattle.pc_runner.proofs.InTurn.{telling_told}
 use Rattle.pc_runner.proofs.Told.{following_told, may_be_told, none_out}
@@ -24,17 +25,7 @@ returns-in_ok-push_back-clause-after c =
     let rest = following_told r.work.now r.number r.session.now r.script r.clock r.reading r.jobs.items r.coordinator r.sends r.outbox.items h c.tell.new.self c.args.answer
     calls c.requires.due c.requires.may c.in_ok-tell.ensures c.told.new.self c.push_back.new.self.items c.told-2.new.self c.job.new.self c.job.result
     c.in_ok-told.ensures kept c.told-2.ensures.made c.job.ensures.made c.job.ensures.handed c.told-2.ensures.knows c.job.ensures.knows c.job.ensures.may in (
-      record {
-        stands = rest.stands;
-        keeps = rest.keeps;
-        jobs = rest.jobs_left;
-        heard = rest.heard_all;
-        delivered = rest.delivered;
-        idle = rest.idle;
-        handed = rest.handed;
-        outbox = none_out r.work.now r.number r.session.now r.script r.clock r.reading r.jobs.items r.coordinator r.sends r.outbox.items h c.tell.new.self c.args.answer calls c.requires.due c.requires.may c.in_ok-tell.ensures;
-        fits = rest.fits;
-      },
+      following_of _ c.tell.new.self (none_out r.work.now r.number r.session.now r.script r.clock r.reading r.jobs.items r.coordinator r.sends r.outbox.items h c.tell.new.self c.args.answer calls c.requires.due c.requires.may c.in_ok-tell.ensures) rest,
       telling_told r.number h c.tell.new.self c.args.answer c.in_ok-tell.ensures,
     )
 
@@ -47,16 +38,6 @@ returns-in_default-clause-after c =
     let rest = following_told r.work.now r.number r.session.now r.script r.clock r.reading r.jobs.items r.coordinator r.sends r.outbox.items h c.tell.new.self c.args.answer
     calls c.requires.due c.requires.may c.in_ok-tell.ensures c.told.new.self r.jobs.items c.told-2.new.self c.job.new.self c.job.result
     c.in_ok-told.ensures kept c.told-2.ensures.made c.job.ensures.made c.job.ensures.handed c.told-2.ensures.knows c.job.ensures.knows c.job.ensures.may in (
-      record {
-        stands = rest.stands;
-        keeps = rest.keeps;
-        jobs = rest.jobs_left;
-        heard = rest.heard_all;
-        delivered = rest.delivered;
-        idle = rest.idle;
-        handed = rest.handed;
-        outbox = none_out r.work.now r.number r.session.now r.script r.clock r.reading r.jobs.items r.coordinator r.sends r.outbox.items h c.tell.new.self c.args.answer calls c.requires.due c.requires.may c.in_ok-tell.ensures;
-        fits = rest.fits;
-      },
+      following_of _ c.tell.new.self (none_out r.work.now r.number r.session.now r.script r.clock r.reading r.jobs.items r.coordinator r.sends r.outbox.items h c.tell.new.self c.args.answer calls c.requires.due c.requires.may c.in_ok-tell.ensures) rest,
       telling_told r.number h c.tell.new.self c.args.answer c.in_ok-tell.ensures,
     )

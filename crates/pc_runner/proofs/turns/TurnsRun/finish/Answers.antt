@@ -1,5 +1,6 @@
 use Rattle.std.proofs.Common.{refl}
-use Rattle.pc_runner.proofs.Sessions.{job_is_turn, get_read, get_set_other, gone_on, on_ok, on_ok3}
+use Rattle.pc_runner.proofs.Places.{get_read, get_set_other}
+use Rattle.pc_runner.proofs.Sessions.{job_is_turn, gone_on, on_ok, on_ok3}
 use Rattle.pc_runner.proofs.turns.TurnsRun.finish.Goals as goal
 
 pub finish-requires : goal.finish-requires

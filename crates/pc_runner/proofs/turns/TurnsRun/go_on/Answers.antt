@@ -1,4 +1,5 @@
-use Rattle.pc_runner.proofs.Sessions.{alone_call, alone_job, get_read, gone_as, on_ok}
+use Rattle.pc_runner.proofs.Places.{get_read}
+use Rattle.pc_runner.proofs.Sessions.{alone_call, alone_job, gone_as, on_ok}
 use Rattle.pc_runner.proofs.turns.TurnsRun.go_on.Goals as goal
 
 pub returns-then-has_job-clause-gone : goal.returns-then-has_job-clause-gone

@@ -1,4 +1,5 @@
-use Rattle.pc_runner.proofs.Sessions.{get_read, over_is, over_not, same_some}
+use Rattle.pc_runner.proofs.Places.{get_read, same_some}
+use Rattle.pc_runner.proofs.Sessions.{over_is, over_not}
 use Rattle.pc_runner.proofs.turns.TurnsRun.is_over.Goals as goal
 
 pub returns-then-not-has_job : goal.returns-then-not-has_job
