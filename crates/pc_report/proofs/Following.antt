@@ -1,6 +1,5 @@
 -- What was kept of a history, one entry further, and what it says.
-use Rattle.std.proofs.Common.{◌≡◌, ◌≢◌, ℕ, ◌+◌, ◌^◌, ◌<◌, ◌≤◌, Bool, true, false, cond, Contains, List, [], ◌∷◌, ◌++◌, length, take, drop, Option, None, Some, refl, sym, ap, subst, ◌∙◌, arith, slice_get, slice_index_or, slice_set, length-append, ◌⊎◌, inl, inr}
-use Rattle.std.proofs.lemmas.Grind.{common_steps}
+use Rattle.std.proofs.Common.{◌≡◌, ◌≢◌, ℕ, ◌+◌, ◌^◌, ◌<◌, ◌≤◌, Bool, true, false, cond, List, [], ◌∷◌, ◌++◌, length, take, Option, None, Some, refl, sym, ap, subst, ◌∙◌, arith, slice_get, slice_index_or, slice_set, length-append, inl, inr}
 use Rattle.std.proofs.lemmas.List.{get_or-set_other, get_or-set_same, length-set}
 use Rattle.std.proofs.lemmas.Bool.{cases_eq}
 use Rattle.std.proofs.lemmas.List.Sums.{count_by-le-length}
@@ -14,9 +13,7 @@ use Rattle.pc_base.specs.declared.entry.Entry.{Entry}
 use Rattle.pc_base.specs.declared.transaction.TxnId.{TxnId}
 use Rattle.pc_base.specs.Span.{key_at_most}
 use Rattle.pc_base.specs.Transaction.{same_txn}
-use Rattle.pc_history.proofs.Ids.{same_id-equal, same_id-true}
-use Rattle.pc_history.specs.declared.pair.Pair.{Pair}
-use Rattle.pc_history.specs.Own.{named_in, own, pair, pairs_after, same_id}
+use Rattle.pc_history.specs.Own.{named_in, pair, pairs_after, same_id}
 use Rattle.pc_proto.specs.declared.event.Event.{Event}
 use Rattle.pc_proto.specs.declared.request.Request.{Request}
 use Rattle.pc_proto.specs.Place.{Place, Nothing, Kept, Marked}
@@ -30,7 +27,7 @@ use Rattle.pc_report.proofs.Staying.{commit_stays, first_none, first_push}
 use Rattle.pc_report.specs.declared.replay.Replay.{Replay}
 use Rattle.pc_report.specs.ReportOf.{IsRunOver, ending_at, ending_of, rolled_back, rolled_back_in}
 use Rattle.pc_report.specs.ReportOf.{ending_from as ending_in_history}
-use Rattle.pc_report.specs.Replaying.{AreBlank, AreStates, HasRoomAt, HasRoomFor, Holds, IsPoint, IsReplayOf, IsSomeRun, Notes, after_eval, asked_in, commit_from, commit_in, commit_of_place, ending_from, ending_in, first_of, held, is_present_in, only_for, committed_one, over, place_in, point_for, PointsFollow, state_in, states_after, touched_in}
+use Rattle.pc_report.specs.Replaying.{AreBlank, AreStates, HasRoomFor, Holds, IsPoint, IsReplayOf, Notes, after_eval, asked_in, commit_from, commit_in, commit_of_place, ending_from, ending_in, first_of, held, is_present_in, only_for, committed_one, over, place_in, point_for, PointsFollow, state_in, states_after, touched_in}
 use Rattle.pc_world.proofs.Kept.{run_has_room}
 use Rattle.pc_world.proofs.Knowing.{state_other, state_same}
 use Rattle.pc_world.proofs.Prefixes.{run_front, run_take}
@@ -40,7 +37,6 @@ use Rattle.pc_world.specs.Committed.{commit_in as commit_in_history}
 use Rattle.pc_world.specs.Evaluation.{state_after}
 use Rattle.pc_world.specs.Evaluation.Query.{stands}
 use Rattle.pc_world.specs.Local.{Head}
-use Rattle.pc_world.specs.Named.{request_in}
 use Rattle.pc_world.specs.RangeOf.{range_of}
 use Rattle.pc_world.specs.RangeState.{RangeState, no_state}
 use Rattle.pc_world.specs.Run.{IsRun, protocol}

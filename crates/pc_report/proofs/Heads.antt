@@ -1,5 +1,5 @@
 -- The report depends on the splits alone, and not on how many sessions and recoverers take part.
-use Rattle.std.proofs.Common.{◌≡◌, ℕ, Bool, true, false, cond, List, [], ◌∷◌, ◌++◌, length, map, fold, Option, None, Some, refl, sym, ap, subst, ◌∙◌}
+use Rattle.std.proofs.Common.{◌≡◌, ℕ, cond, List, [], ◌∷◌, ◌++◌, length, map, fold, Option, None, Some, refl, ap, ◌∙◌}
 use Rattle.std.specs.List.{filter_map, list_all}
 use Rattle.std.specs.Option.{is_some, option_map}
 use Rattle.pc_base.specs.declared.entry.Entry.{Entry}
@@ -10,12 +10,10 @@ use Rattle.pc_proto.specs.declared.event.Event.{Event}
 use Rattle.pc_proto.specs.Place.{Place, Nothing, Kept, Marked}
 use Rattle.pc_proto.specs.Table.{place_of}
 use Rattle.pc_report.proofs.Following.{same_states}
-use Rattle.pc_report.specs.declared.rows.Ending.{Ending}
-use Rattle.pc_report.specs.declared.rows.Report.{Report}
 use Rattle.pc_report.specs.ReportOf.{committed_row, ending_at, ending_from, ending_of, map_with, other_of, other_row, other_unless, others_of, report_of, rolled_back}
 use Rattle.pc_world.specs.After.{place_at, state_at}
 use Rattle.pc_world.specs.CommitOrder.{Rank, all_begun, commit_order, rank_cmp, ranked}
-use Rattle.pc_world.specs.Committed.{anchor_in, commit_at, commit_by, commit_in, commit_point, commit_ts, point_after, told_at}
+use Rattle.pc_world.specs.Committed.{anchor_in, commit_at, commit_by, commit_in, commit_point, commit_ts, point_after}
 use Rattle.pc_world.specs.Evaluation.Query.{stands}
 use Rattle.pc_world.specs.Local.{Head}
 use Rattle.pc_world.specs.RangeOf.{range_of}

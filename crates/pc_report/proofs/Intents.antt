@@ -19,8 +19,8 @@ use Rattle.pc_proto.specs.declared.request.Request.TheVariants as requests
 use Rattle.pc_proto.specs.Intents.{kept_if, other_at, own_at}
 use Rattle.pc_report.specs.Replaying.{touched}
 use Rattle.pc_world.specs.Evaluation.{intents_after}
-use Rattle.pc_world.specs.Evaluation.IntentChange.{IntentChange, Leave, Lay, Drop, intents_with}
-use Rattle.pc_world.specs.Evaluation.Put.{PutOutcome, Stands, Lands, first_outcome, laid, overtaken, own_outcome, put_change, put_outcome, write_ts}
+use Rattle.pc_world.specs.Evaluation.IntentChange.{intents_with}
+use Rattle.pc_world.specs.Evaluation.Put.{Stands, Lands, first_outcome, laid, overtaken, own_outcome, put_change, put_outcome, write_ts}
 use Rattle.pc_world.specs.Evaluation.Resolve.{change_for, intent_change}
 use Rattle.pc_world.specs.RangeState.{RangeState}
 

@@ -1,5 +1,5 @@
 -- What was kept gives the commit order, the others, and all rows of the report.
-use Rattle.std.proofs.Common.{◌≡◌, ℕ, Bool, true, false, cond, List, [], ◌∷◌, ◌++◌, map, fold, Option, None, Some, refl, sym, ap, subst, ◌∙◌}
+use Rattle.std.proofs.Common.{◌≡◌, ℕ, List, [], ◌∷◌, map, fold, Option, None, Some, refl, sym, ap, ◌∙◌}
 use Rattle.std.specs.BTreeMap.{insert_entry}
 use Rattle.std.specs.Cmp.Lexicographic.{slice_cmp}
 use Rattle.std.specs.List.{cons_option, filter_map}
@@ -19,13 +19,12 @@ use Rattle.pc_report.proofs.Writing.{puts_change, puts_say}
 use Rattle.pc_report.specs.declared.replay.Rank.{Rank as place}
 use Rattle.pc_report.specs.declared.replay.Replay.{Replay}
 use Rattle.pc_report.specs.declared.rows.Report.{Report}
-use Rattle.pc_report.specs.declared.writes.Put.{Put}
 use Rattle.pc_report.specs.declared.writes.Writes.{Writes}
-use Rattle.pc_report.specs.Ordering.{order_in, other_in, others_in, place_cmp, placed, rank_from, rank_in}
+use Rattle.pc_report.specs.Ordering.{order_in, other_in, others_in, place_cmp, placed, rank_from}
 use Rattle.pc_report.specs.Replaying.{IsPoint, IsReplayOf, commit_in, ending_in, held, over}
-use Rattle.pc_report.specs.ReportOf.{committed_row, ending_of, last_writes, map_of, map_with, other_of, other_row, other_unless, others_of, report_of}
-use Rattle.pc_report.specs.Rows.{last_puts, map_with_put, map_with_puts, row_of, said_by}
-use Rattle.pc_report.specs.Writing.{AreWritesOf, put_in, puts_held}
+use Rattle.pc_report.specs.ReportOf.{committed_row, last_writes, map_of, map_with, other_of, other_row, other_unless, others_of, report_of}
+use Rattle.pc_report.specs.Rows.{last_puts, map_with_put, map_with_puts, row_of}
+use Rattle.pc_report.specs.Writing.{AreWritesOf, puts_held}
 use Rattle.pc_world.specs.CommitOrder.{Rank, all_begun, commit_order, rank_cmp, ranked}
 use Rattle.pc_world.specs.Committed.{commit_point, commit_ts}
 use Rattle.pc_world.specs.Local.{Head}

@@ -2,13 +2,11 @@
 use Rattle.std.proofs.Common.{◌≡◌, ◌≢◌, ℕ, Bool, true, false, cond, List, [], ◌∷◌, ◌++◌, Option, None, Some, refl, sym, ap, subst, ◌∙◌, arith, slice_get}
 use Rattle.std.proofs.lemmas.List.Elements.{filter_map-append}
 use Rattle.std.specs.List.{filter_map, list_all}
-use Rattle.pc_base.specs.declared.actor.ActorId.{ActorId}
 use Rattle.pc_base.specs.declared.actor.ActorId.TheVariants as actors
 use Rattle.pc_base.specs.declared.entry.Entry.{Entry}
 use Rattle.pc_base.specs.declared.transaction.TxnId.{TxnId}
-use Rattle.pc_base.specs.Transaction.{same_txn}
 use Rattle.pc_history.proofs.Ids.{same_id-equal, same_id-true}
-use Rattle.pc_history.specs.Own.{named_in, own, same_id}
+use Rattle.pc_history.specs.Own.{own, same_id}
 use Rattle.pc_implicit.proofs.Places.{place_other}
 use Rattle.pc_proto.specs.declared.answer.Answer.{Answer}
 use Rattle.pc_proto.specs.declared.answer.Answer.TheVariants as answers
@@ -18,7 +16,7 @@ use Rattle.pc_proto.specs.declared.request.Request.{Request}
 use Rattle.pc_proto.specs.declared.request.Request.TheVariants as requests
 use Rattle.pc_proto.specs.Intents.{own_at}
 use Rattle.pc_proto.specs.Place.{Place, Nothing, Kept, Marked}
-use Rattle.pc_proto.specs.RecordRows.{change, subject, table_after, table_for}
+use Rattle.pc_proto.specs.RecordRows.{change, subject, table_for}
 use Rattle.pc_proto.specs.Table.{Table, place_of}
 use Rattle.pc_report.proofs.Intents.{is_one, own_stays}
 use Rattle.pc_report.proofs.Naming.{asked_send}
@@ -26,13 +24,11 @@ use Rattle.pc_report.specs.Replaying.{asked_in, first_of, touched, touched_by, t
 use Rattle.pc_world.proofs.Knowing.{state_other, state_same}
 use Rattle.pc_world.specs.After.{place_at, state_at}
 use Rattle.pc_world.specs.Committed.{anchor_in, commit_at, commit_by, commit_in, commit_ts, committed_in, is_present, key_sent, told_at}
-use Rattle.pc_world.specs.Evaluation.{state_after}
-use Rattle.pc_world.specs.Evaluation.Query.{is_found, stands}
+use Rattle.pc_world.specs.Evaluation.Query.{is_found}
 use Rattle.pc_world.specs.Local.{Head}
 use Rattle.pc_world.specs.RangeOf.{range_of}
 use Rattle.pc_world.specs.RangeState.{RangeState}
-use Rattle.pc_world.specs.Run.{protocol}
-use Rattle.pc_world.specs.StateOf.{state_of, state_with}
+use Rattle.pc_world.specs.StateOf.{state_with}
 
 -- the first of what a history gives, one entry further
 first-joined : {V : Type 0} (xs ys : List V) → slice_get (xs ++ ys) 0 ≡ first_of (slice_get xs 0) (slice_get ys 0)

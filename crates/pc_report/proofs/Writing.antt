@@ -1,6 +1,6 @@
 -- What was kept of the transactions' puts, one entry further, and what it says.
-use Rattle.std.proofs.Common.{◌≡◌, ℕ, Bool, true, false, ◌&&◌, ◌||◌, ◌==◌, not, cond, List, [], ◌∷◌, ◌++◌, Option, None, Some, refl, sym, ap, subst, ◌∙◌, arith, filter, fold, map}
-use Rattle.std.proofs.lemmas.Grind.{common_steps, fold-append}
+use Rattle.std.proofs.Common.{◌≡◌, ℕ, Bool, true, false, ◌&&◌, ◌||◌, ◌==◌, not, cond, List, [], ◌∷◌, ◌++◌, Option, None, Some, refl, sym, ap, ◌∙◌, arith, filter, fold, map}
+use Rattle.std.proofs.lemmas.Grind.{fold-append}
 use Rattle.std.proofs.lemmas.List.{append-nil, map-append}
 use Rattle.std.proofs.lemmas.List.Elements.{filter-append, filter_map-append}
 use Rattle.std.specs.BTreeMap.{Updates, get}
@@ -27,7 +27,7 @@ use Rattle.pc_report.specs.ReportOf.{written_by}
 use Rattle.pc_report.specs.Rows.{map_with_put, said_by}
 use Rattle.pc_report.specs.Writing.{AreWritesOf, LastFollows, PutsFollow, doing_of, is_last_in, is_last_of, is_own, put_in, puts_after, puts_held, puts_of, puts_sent, puts_told, with_put}
 use Rattle.pc_world.specs.MapRun.{Map, map_after}
-use Rattle.pc_world.specs.Operations.{Doing, Operation, Read, ReadAll, Write, doing_after, doing_nothing, done_after, done_sent, done_told, is_last_after, is_write, session_events}
+use Rattle.pc_world.specs.Operations.{Doing, Operation, Read, ReadAll, Write, doing_after, doing_nothing, done_after, done_sent, done_told, is_last_after, is_write}
 
 any-same : (seq : ℕ) (done : List Operation) → list_any (λ (p : Put). p.seq == seq) (filter_map put_in done) ≡ list_any (is_write seq) done
 any-same seq [] = refl

@@ -4,3 +4,4 @@ pub mod Replaying
 pub mod Ordering
 pub mod Writing
 pub mod Rows
+pub mod FirstReport

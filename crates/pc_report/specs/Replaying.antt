@@ -1,12 +1,11 @@
 -- What is kept of a history while it is replayed, entry by entry.
-use Rattle.std.specs.Prelude.{◌≡◌, ℕ, ◌+◌, ◌≤◌, Bool, false, if◌then◌else◌, Option, None, Some, List, [], ◌∷◌, ◌++◌, find, is_some, length, slice_get, slice_set, unwrap_or, ⊤}
+use Rattle.std.specs.Prelude.{◌≡◌, ℕ, ◌+◌, ◌≤◌, Bool, false, if◌then◌else◌, Option, None, Some, List, [], ◌++◌, find, is_some, length, slice_get, slice_set, unwrap_or, ⊤}
 use Rattle.std.specs.BTreeMap.{BTreeMap, get}
 use Rattle.std.specs.List.{list_all}
 use Rattle.pc_base.specs.declared.actor.ActorId.{ActorId}
 use Rattle.pc_base.specs.declared.actor.ActorId.TheVariants as actors
 use Rattle.pc_base.specs.declared.entry.Entry.{Entry}
 use Rattle.pc_base.specs.declared.transaction.TxnId.{TxnId}
-use Rattle.pc_base.specs.Keyed.{at}
 use Rattle.pc_base.specs.Transaction.{same_txn, txn_cmp}
 use Rattle.pc_proto.specs.declared.answer.Answer.{Answer}
 use Rattle.pc_proto.specs.declared.answer.Answer.TheVariants as answers
@@ -18,7 +17,6 @@ use Rattle.pc_proto.specs.declared.why.Why.{Why}
 use Rattle.pc_proto.specs.Place.{Place, Nothing, Kept, Marked}
 use Rattle.pc_proto.specs.RecordRows.{subject}
 use Rattle.pc_proto.specs.Table.{place_of}
-use Rattle.pc_report.specs.declared.replay.Rank.{Rank}
 use Rattle.pc_report.specs.declared.replay.Replay.{Replay}
 use Rattle.pc_report.specs.declared.rows.Ending.{Ending}
 use Rattle.pc_report.specs.declared.rows.Ending.TheVariants as endings

@@ -1,5 +1,5 @@
 -- The rows of a report, by what was kept of a history.
-use Rattle.std.specs.Prelude.{ℕ, Option, None, Some, List, fold, map}
+use Rattle.std.specs.Prelude.{ℕ, Option, List, fold, map}
 use Rattle.std.specs.Cmp.Lexicographic.{slice_cmp}
 use Rattle.std.specs.Ordering.{nat_cmp}
 use Rattle.pc_base.specs.declared.transaction.TxnId.{TxnId}
