@@ -1,28 +1,19 @@
 -- What the laws of runs say of the history that the program writes.
-use Rattle.std.proofs.Common.{◌≡◌, ℕ, ◌+◌, ◌^◌, ◌<◌, Bool, List, [], arith, length, IfOk, Ok, Err, Result, inl, inr, ◌⊎◌, refl, sym, ap, subst, ◌∙◌}
+use Rattle.std.proofs.Common.{◌≡◌, ℕ, ◌+◌, ◌^◌, ◌<◌, Bool, List, arith, length, IfOk, Ok, Err, Result, refl, sym, ap, subst, ◌∙◌}
 use Rattle.pc_base.specs.declared.actor.ActorId.{ActorId}
 use Rattle.pc_base.specs.declared.entry.Entry.{Entry}
 use Rattle.pc_implicit.proofs.OneDecision.{decisions_do_not_differ}
 use Rattle.pc_proto.specs.declared.event.Event.{Event}
 use Rattle.pc_report.specs.declared.rows.Report.{Report}
 use Rattle.pc_report.specs.ReportOf.{IsRunOver, report_of}
-use Rattle.pc_runner.proofs.Readers.{readers_put_nothing}
-use Rattle.pc_runner.proofs.Writers.{writers_read_nothing}
 use Rattle.pc_runner.specs.Follows.{Follows}
-use Rattle.pc_runner.specs.OneKind.{OnlyReads, OnlyWrites}
 use Rattle.pc_serial.proofs.Legal.{is-legal, is-ordered}
 use Rattle.pc_work.specs.Built.{IsBuilt}
 use Rattle.pc_work.specs.declared.workload.Workload.{Workload}
 use Rattle.pc_world.specs.Local.{Head}
 use Rattle.pc_world.specs.Run.{IsRun}
-use Rattle.pc_world.specs.Unstaged.{NothingIsPut, NothingIsRead, NothingIsStaged}
+use Rattle.pc_world.specs.Unstaged.{NothingIsStaged}
 use Rattle.pc_program.specs.Output.{IsOutput, IsRunOf, head_in, output_text}
-
--- A run of a workload of transactions that all read puts nothing, one of transactions that all write reads nothing.
-one_kind : (work : Workload) (rules : ActorId → ℕ → ℕ → Bool) (entries : List (Entry Event)) → IsRun (head_in work) entries → Follows work rules (head_in work) entries → OnlyReads work ⊎ OnlyWrites work
-    → NothingIsRead entries ⊎ NothingIsPut entries
-one_kind work rules entries run follows (inl reads) = inr (readers_put_nothing work rules (head_in work) entries run follows reads)
-one_kind work rules entries run follows (inr writes) = inl (writers_read_nothing work rules (head_in work) entries run follows writes)
 
 -- A run of the workload in which nothing is staged.
 pub is_run_of : (work : Workload) (rules : ActorId → ℕ → ℕ → Bool) (entries : List (Entry Event)) → IsRun (head_in work) entries → Follows work rules (head_in work) entries → NothingIsStaged entries
@@ -32,7 +23,7 @@ is_run_of work rules entries run follows unstaged = record {
   follows = follows;
   decisions = decisions_do_not_differ (head_in work) entries run unstaged;
   ordered = is-ordered (head_in work) entries run unstaged;
-  legal = λ kind. is-legal (head_in work) entries run unstaged (one_kind work rules entries run follows kind);
+  legal = is-legal (head_in work) entries run unstaged;
 }
 
 -- A workload of the built form has few splits.

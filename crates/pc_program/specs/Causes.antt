@@ -1,16 +1,16 @@
 -- When the program ends in which way. Own profile.
-use Rattle.std.specs.Prelude.{◌≡◌, ℕ, Bool, ◌≤◌, ◌↔◌, ◌⊎◌, List, [], ◌∷◌, Option, Some, None, IfSome, IsSome, ⊤, codes, length, take}
+use Rattle.std.specs.Prelude.{◌≡◌, ℕ, Bool, List, [], ◌∷◌, Option, Some, IfSome, ⊤, codes}
 use Rattle.std.specs.Io.KnownBytes.{Appends}
 use Rattle.pc_base.specs.declared.actor.ActorId.{ActorId}
 use Rattle.pc_program.specs.declared.status.Status.{Status}
 use Rattle.pc_program.specs.declared.status.Status.TheVariants as statuses
 use Rattle.pc_program.specs.Output.{IsOutput}
 use Rattle.pc_work.specs.declared.workload.Workload.{Workload}
-use Rattle.pc_work.specs.Workload.{IsJson, workload_in}
+use Rattle.pc_work.specs.Workload.{workload_in}
 
 -- The words are the one word `run`.
-abbrev pub IsRun : List (List ℕ) → Type 0
-IsRun words = words ≡ codes "run" ∷ []
+abbrev pub AskForRun : List (List ℕ) → Type 0
+AskForRun words = words ≡ codes "run" ∷ []
 
 -- The fact holds where the source was read to its end, and where the answer comes from what it gave.
 abbrev pub IfRead : Status → Type 0 → Type 0
@@ -72,17 +72,17 @@ IfDone (statuses.Journal line) fact = ⊤
 IfDone (statuses.TooLong bytes) fact = ⊤
 IfDone statuses.NoMemory fact = ⊤
 
--- The status is one that a run can end with: nothing checks a journal yet.
-abbrev pub IsBuilt : Status → Type 0
-IsBuilt (statuses.NotRun line rule) = ⊥
-IsBuilt (statuses.Journal line) = ⊥
-IsBuilt statuses.Done = ⊤
-IsBuilt statuses.Usage = ⊤
-IsBuilt statuses.ReadFault = ⊤
-IsBuilt (statuses.WriteFault written) = ⊤
-IsBuilt (statuses.Workload number) = ⊤
-IsBuilt (statuses.TooLong bytes) = ⊤
-IsBuilt statuses.NoMemory = ⊤
+-- The status is one that a run of a workload ends with: nothing checks a journal yet.
+abbrev pub IsOfRun : Status → Type 0
+IsOfRun (statuses.NotRun line rule) = ⊥
+IsOfRun (statuses.Journal line) = ⊥
+IsOfRun statuses.Done = ⊤
+IsOfRun statuses.Usage = ⊤
+IsOfRun statuses.ReadFault = ⊤
+IsOfRun (statuses.WriteFault written) = ⊤
+IsOfRun (statuses.Workload number) = ⊤
+IsOfRun (statuses.TooLong bytes) = ⊤
+IsOfRun statuses.NoMemory = ⊤
 
 -- A part of an output of a workload, by these rules of the clocks, was appended to what the sink had taken.
 pub record HasWrittenOf (work : Workload) (rules : ActorId → ℕ → ℕ → Bool) (old new : Option (List ℕ)) (part : List ℕ → List ℕ) : Type 0 where

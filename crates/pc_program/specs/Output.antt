@@ -1,5 +1,5 @@
 -- What the program writes where all goes well. Own profile.
-use Rattle.std.specs.Prelude.{◌≡◌, ℕ, Bool, ◌⊎◌, List, ◌++◌, length}
+use Rattle.std.specs.Prelude.{◌≡◌, ℕ, Bool, List, ◌++◌, length}
 use Rattle.pc_base.specs.declared.actor.ActorId.{ActorId}
 use Rattle.pc_base.specs.declared.entry.Entry.{Entry}
 use Rattle.pc_journal.specs.Journal.{journal_text}
@@ -9,7 +9,6 @@ use Rattle.pc_report.specs.Report.{report_text}
 use Rattle.pc_report.specs.ReportOf.{report_of}
 use Rattle.pc_runner.specs.Follows.{Follows}
 use Rattle.pc_runner.specs.History.{head_of}
-use Rattle.pc_runner.specs.OneKind.{OnlyReads, OnlyWrites}
 use Rattle.pc_serial.specs.Laws.{OrdersCommits}
 use Rattle.pc_work.specs.declared.workload.Workload.{Workload}
 use Rattle.pc_world.specs.Decisions.{HasOneDecision}
@@ -26,14 +25,14 @@ abbrev pub head_in : Workload → Head
 head_in work = head_of work.splits (length work.sessions)
 
 -- The history is the run that the workload asks for, where these are the rules of the clocks that were handed in: a run of the protocol
--- that follows the workload. In it no two decisions differ, and each committed transaction stands in the commit order once. Where the
--- workload's transactions all read, or all write, as is so of one that has at most one transaction, they are one legal history of a map.
+-- that follows the workload. In it no two decisions differ, each committed transaction stands in the commit order once, and in that order
+-- they are one legal history of a map.
 pub record IsRunOf (work : Workload) (rules : ActorId → ℕ → ℕ → Bool) (entries : List (Entry Event)) : Type 0 where
   pub run : IsRun (head_in work) entries
   pub follows : Follows work rules (head_in work) entries
   pub decisions : HasOneDecision (head_in work) entries
   pub ordered : OrdersCommits (head_in work) entries
-  pub legal : OnlyReads work ⊎ OnlyWrites work → IsLegal (head_in work) entries
+  pub legal : IsLegal (head_in work) entries
 
 -- The text is the journal and the report of one such history.
 pub record IsOutput (work : Workload) (rules : ActorId → ℕ → ℕ → Bool) (text : List ℕ) : Type 0 where

@@ -1,4 +1,5 @@
-ghost use Rattle.std.specs.Prelude.{◌≡◌, true};
+ghost use Rattle.std.specs.Prelude.{◌≡◌, ◌^◌, ◌-◌, min, true};
+ghost use Rattle.std.specs.Time.{system_time_nanos};
 ghost use Rattle.pc_session.specs.Counts.{raised};
 
 use pc_base::ActorId;
@@ -49,13 +50,20 @@ impl<'a, R: TimeSource> Clocks for SystemClocks<'a, R> {
     }
 }
 
-/// Nanoseconds since 1970, held at the greatest number; 0 where the clock gives none.
+/// Nanoseconds since 1970; 0 where the clock gives none.
 fn nanoseconds<R: TimeSource>(rt: &R) -> u64 {
     match SystemTime::now(rt) {
-        Ok(time) => match time.duration_since(UNIX_EPOCH) {
-            Ok(since) => u64::try_from(since.as_nanos()).unwrap_or(u64::MAX),
-            Err(_) => 0,
-        },
+        Ok(time) => nanoseconds_since_1970(time),
+        Err(_) => 0,
+    }
+}
+
+/// The time's nanoseconds since 1970, held at the greatest number.
+fn nanoseconds_since_1970(time: SystemTime) -> u64
+    ensures { result ≡ min (system_time_nanos time) (2 ^ 64 - 1) }
+{
+    match time.duration_since(UNIX_EPOCH) {
+        Ok(since) => u64::try_from(since.as_nanos()).unwrap_or(u64::MAX),
         Err(_) => 0,
     }
 }

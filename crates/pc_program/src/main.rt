@@ -1,6 +1,8 @@
 //! The program: words, a source and a sink lead to the journal and the report of a workload.
 #![tactic(auto)]
 
+ghost use Rattle.pc_program.specs.Causes.{IsOfRun};
+
 mod clocks;
 mod limits;
 mod output;
@@ -25,7 +27,9 @@ fn main(rt: HostRuntime) -> ExitCode {
     ExitCode::from(status.code())
 }
 
-fn run(rt: &HostRuntime) -> Status {
+fn run(rt: &HostRuntime) -> Status
+    ensures { IsOfRun result }
+{
     let words = match words(rt) {
         Ok(words) => words,
         Err(error) if error.kind() == io::ErrorKind::OutOfMemory => return Status::NoMemory,

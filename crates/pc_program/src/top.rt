@@ -2,8 +2,8 @@ ghost use Rattle.std.specs.Prelude.{◌≡◌, ℕ, ◌+◌, ◌≤◌, ◌↔�
 ghost use Rattle.std.specs.Io.KnownBytes.{Appends};
 ghost use Rattle.pc_io.specs.Counts.{Rose};
 ghost use Rattle.pc_io.specs.Reading.{LeavesNothing, TakesExactly};
-ghost use Rattle.pc_program.specs.Causes.{HasWritten, HasWrittenOf, IfDone, IfRead, IfWriteFault, IsAfterReading, IsBuilt, IsRun, IsWriting, UnlessWriting};
-ghost use Rattle.pc_work.specs.Built.{IsBuilt as IsBuiltWork};
+ghost use Rattle.pc_program.specs.Causes.{AskForRun, HasWritten, HasWrittenOf, IfDone, IfRead, IfWriteFault, IsAfterReading, IsOfRun, IsWriting, UnlessWriting};
+ghost use Rattle.pc_work.specs.Built.{IsBuilt};
 ghost use Rattle.pc_work.specs.Workload.{IsJson, workload_in};
 
 use crate::limits::INPUT_BYTES;
@@ -29,7 +29,7 @@ pub fn pcommit<S: Source, K: Sink, M: Clocks, G: Gate>(
     gate: &G,
 ) -> Status
     // Usage comes exactly where the words are not the one word `run`, and nothing is read then.
-    ensures usage { (result ≡ Status.Usage) ↔ ¬ (IsRun (map string_bytes words.now)) }
+    ensures usage { (result ≡ Status.Usage) ↔ ¬ (AskForRun (map string_bytes words.now)) }
     ensures usage_reads_nothing { result ≡ Status.Usage → source.new ≡ source.old }
 
     // A fault is answered only where the count of the object that was handed in rose in this call.
@@ -39,7 +39,7 @@ pub fn pcommit<S: Source, K: Sink, M: Clocks, G: Gate>(
     ensures write_count { K.faults sink.old ≤ K.faults sink.new }
 
     // Too long exactly where one byte more than the limit was read; else the source was read to its end.
-    ensures too_long { IfSome (S.left source.old) (λ left. IsRun (map string_bytes words.now) →
+    ensures too_long { IfSome (S.left source.old) (λ left. AskForRun (map string_bytes words.now) →
         ((result ≡ Status.TooLong (INPUT_BYTES + 1)) ↔ TakesExactly (INPUT_BYTES + 1) left (S.left source.new))) }
     ensures too_long_by_one { (bytes : ℕ) → result ≡ Status.TooLong bytes → bytes ≡ INPUT_BYTES + 1 }
     ensures read_whole { IfRead result (LeavesNothing (S.left source.old) (S.left source.new)) }
@@ -57,7 +57,7 @@ pub fn pcommit<S: Source, K: Sink, M: Clocks, G: Gate>(
     ensures part { IfWriteFault result (λ written.
         HasWritten (M.rules clocks.old) (S.left source.old) (K.taken sink.old) (K.taken sink.new) (take written)) }
     ensures unwritten { UnlessWriting result (sink.new ≡ sink.old) }
-    ensures built { IsBuilt result }
+    ensures kind { IsOfRun result }
 {
     if !are_run(words) {
         return Status::Usage;
@@ -71,7 +71,7 @@ pub fn pcommit<S: Source, K: Sink, M: Clocks, G: Gate>(
 }
 
 fn are_run(words: &[String]) -> bool
-    ensures { IsTrue result ↔ IsRun (map string_bytes words.now) }
+    ensures { IsTrue result ↔ AskForRun (map string_bytes words.now) }
 {
     words.len() == 1 && is_run(words[0].as_str())
 }
@@ -115,7 +115,7 @@ fn write_output<K: Sink, M: Clocks, G: Gate>(
     clocks: &mut M,
     gate: &G,
 ) -> Status
-    requires { IsBuiltWork work.now }
+    requires { IsBuilt work.now }
     ensures done { IfDone result (HasWrittenOf work.now (M.rules clocks.old) (K.taken sink.old) (K.taken sink.new) (λ text. text)) }
     ensures part { IfWriteFault result (λ written. HasWrittenOf work.now (M.rules clocks.old) (K.taken sink.old) (K.taken sink.new) (take written)) }
     ensures write_fault { IfWriteFault result (λ written. Rose (K.faults sink.old) (K.faults sink.new)) }

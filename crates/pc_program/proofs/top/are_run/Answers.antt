@@ -1,4 +1,4 @@
-use Rattle.std.proofs.Common.{◌≡◌, [], ◌∷◌, length, map, string_bytes, codes, Global, IsTrue, ◌↔◌, arith, ap, sym, subst, ◌∙◌}
+use Rattle.std.proofs.Common.{◌≡◌, [], ◌∷◌, length, map, string_bytes, codes, Global, IsTrue, arith, ap, sym, ◌∙◌}
 use Rattle.pc_program.proofs.OneWord.{map_one, same_word}
 use Rattle.pc_program.proofs.top.are_run.Goals as goal
 

@@ -1,14 +1,14 @@
 use Rattle.std.proofs.Common.{◌≡◌, ◌↔◌, None, IsSome, map, string_bytes, Global, rules, subst, sym}
 use Rattle.pc_io.specs.Reading.{IsAllOf, TakesExactly}
 use Rattle.pc_program.specs.declared.status.Status.TheVariants as statuses
-use Rattle.pc_program.specs.Causes.{IsRun, IsWriting}
+use Rattle.pc_program.specs.Causes.{AskForRun, IsWriting}
 use Rattle.pc_program.proofs.Ends.{carried, done_carried, not_long, unless}
 use Rattle.pc_work.specs.Workload.{IsJson, workload_in}
 use Rattle.pc_program.proofs.top.pcommit.Goals as goal
 
 pub returns-then-not-are_run-clause-too_long : goal.returns-then-not-are_run-clause-too_long
 returns-then-not-are_run-clause-too_long g c =
-    let other : IsRun (map (string_bytes {Z = Global}) c.args.words.now) → ⊥ = search rules in
+    let other : AskForRun (map (string_bytes {Z = Global}) c.args.words.now) → ⊥ = search rules in
     unless (g.S.Source.left c.args.source.now) _ _ other
 
 pub returns-in-Ok-clause-too_long : goal.returns-in-Ok-clause-too_long
