@@ -6,7 +6,6 @@ pub mod Beside
 pub mod Besides
 pub mod Built
 pub mod Calling
-mod Calls
 pub mod Entering
 pub mod Evaluating
 pub mod Exchanging
@@ -28,7 +27,6 @@ pub mod Refitting
 pub mod Rounding
 pub mod Rounds
 pub mod RoundsOn
-mod Scripted
 pub mod Sent
 pub mod Serving
 pub mod Sessions
