@@ -11,9 +11,10 @@ use Rattle.pc_proto.specs.declared.reply.Reply.TheVariants as replies
 use Rattle.pc_proto.specs.declared.request.Request.{Request}
 use Rattle.pc_proto.specs.declared.request.Request.TheVariants as requests
 use Rattle.pc_world.specs.Follows.Resends.{WasDone, goal_in, round_of}
-use Rattle.pc_world.specs.Known.{Known}
+use Rattle.pc_world.specs.Known.{Known, open_txn}
 use Rattle.pc_world.specs.Known.Statements.{Statement}
-use Rattle.pc_world.specs.Known.Traffic.{Heard, Sent}
+use Rattle.pc_world.specs.Known.Traffic.{Heard}
+use Rattle.pc_world.specs.Known.Transactions.{Txn}
 use Rattle.pc_world.specs.SameRequest.{IsSameRequest}
 use Rattle.pc_world.specs.Send.Recovery.{is_conflict}
 
@@ -70,11 +71,15 @@ pub record AreConflictsOver (k : Known) : Type 0 where
   pub all : rounds_begun k ≡ length (conflicts_now k)
   pub over : AreRoundsOver k
 
+-- The transaction is the open one: a query of its own staged write is of no round.
+abbrev pub IsItself : Known → TxnId → Type 0
+IsItself k id = (t : Txn) × (open_txn k ≡ Some t) × (t.id ≡ id)
+
 -- A request of a round goes out in its turn; any other is sent again only once no conflict is left.
 abbrev pub IsInItsRound : Known → Request → Type 0
 IsInItsRound k (requests.Push holder by level now goal) = BeginsRound k holder
 IsInItsRound k (requests.Resolve id key fate) = IsInRound k id key
-IsInItsRound k (requests.Query id epoch seq ts key by) = (met : List ℕ) × IsInRound k id met
+IsInItsRound k (requests.Query id epoch seq ts key by) = IsItself k id ⊎ ((met : List ℕ) × IsInRound k id met)
 IsInItsRound k (requests.Recover id epoch ts anchor finding) = (met : List ℕ) × IsInRound k id met
 IsInItsRound k request = Any (λ m. IsSameRequest request m.request) k.sent_now → AreConflictsOver k
 
