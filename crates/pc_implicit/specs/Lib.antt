@@ -4,3 +4,6 @@ pub mod Laws
 pub mod Writes
 pub mod Reads
 pub mod Versions
+pub mod Replied
+pub mod Stages
+pub mod Staging

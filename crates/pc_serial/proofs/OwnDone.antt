@@ -11,7 +11,8 @@ use Rattle.pc_implicit.proofs.SessionCommits.{written as write_of}
 use Rattle.pc_implicit.proofs.SessionReads.{ByPut, ByQuery, HadDone, WasProved, last_seq_done}
 use Rattle.pc_implicit.proofs.Turns.{SendsNoQuery, none_asks}
 use Rattle.pc_implicit.specs.Decided.{decision}
-use Rattle.pc_implicit.specs.Writes.{OwnStand, WasWritten, home_of, own_intent, txns_of, writes_at}
+use Rattle.pc_implicit.specs.Replied.{WasWritten}
+use Rattle.pc_implicit.specs.Writes.{OwnStand, home_of, own_intent, txns_of, writes_at}
 use Rattle.pc_proto.specs.declared.event.Event.{Event}
 use Rattle.pc_proto.specs.declared.event.Event.TheVariants as events
 use Rattle.pc_proto.specs.declared.record.Intent.{Intent}
