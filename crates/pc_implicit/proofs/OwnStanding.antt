@@ -252,11 +252,11 @@ module _ (head : Head) (history : List (Entry Event)) (run : IsRun head history)
   unfolding s all Stood
   eval-now seq ts w =
       let home = home_of head t.id history in
-      let a = answers-now (requests.Put w.meta seq w.asked key w.value) (replies.Written ts) w.replied in
+      let a = answers-now (requests.Put w.meta seq w.asked key w.value) (replies.Written ts) (record { actor = w.actor; number = w.number; is = w.is; ev = w.ev; asks = w.asks }) in
       let state = a.state in
-      let ev2 = w.replied.ev in
+      let ev2 = w.ev in
       let put : HasPut t w.meta.epoch seq key w.value =
-      puts_sent head history run ev2.send ev2.listed w.replied.number ev2.range w.meta seq w.asked key w.value (ev2.sends ∙ ap (events.Send w.replied.number ev2.range) w.replied.asks)
+      puts_sent head history run ev2.send ev2.listed w.number ev2.range w.meta seq w.asked key w.value (ev2.sends ∙ ap (events.Send w.number ev2.range) w.asks)
       t (subst (λ i. Contains (txns_of head i history) t) (sym w.whose) known) (sym w.whose) in
       let epochs : w.meta.epoch ≡ t.epoch = w.epoch_is in
       elim (put_written t.id key w.meta seq w.asked w.value s ts w.whose a.answer) [
@@ -312,9 +312,9 @@ module _ (head : Head) (history : List (Entry Event)) (run : IsRun head history)
       elim (written_cases head history run e may id epoch key seq ts w) [
         | inl old ↦ inl old
         | inr now ↦
-            let ev = now.replied.ev in
+            let ev = now.ev in
             let anchored =
-            put_anchored head history run ev.send ev.listed now.replied.number ev.range now.meta seq now.asked key now.value (ev.sends ∙ ap (events.Send now.replied.number ev.range) now.replied.asks) in
+            put_anchored head history run ev.send ev.listed now.number ev.range now.meta seq now.asked key now.value (ev.sends ∙ ap (events.Send now.number ev.range) now.asks) in
             absurd (elsewhere (ev.there ∙ ap actors.Range anchored.there))
       ]
   proven-still id epoch seq ts (inr w) = inr (found-still id epoch seq ts w)

@@ -21,14 +21,12 @@ use Rattle.pc_implicit.proofs.Doing.{Does}
 use Rattle.pc_implicit.proofs.Keyed.{same-itself}
 use Rattle.pc_implicit.proofs.Turns.{IsAnswered, Restarted, Turn, WentOn, Wrote, comes_from, none-later, one_txn, some-there, unmap}
 use Rattle.pc_implicit.proofs.WriteLists.{AreInTurn, Rise, alike_each, alike_on, alike_rise, alike_turn, rise_push, turn_push}
-use Rattle.pc_implicit.specs.Replied.{QueryFound, WasProven, WasReplied, WasWritten}
+use Rattle.pc_implicit.proofs.Written.{proven_more}
+use Rattle.pc_implicit.specs.Replied.{WasProven}
 use Rattle.pc_implicit.specs.Writes.{txns_of}
 use Rattle.pc_proto.specs.declared.event.Event.{Event}
 use Rattle.pc_proto.specs.declared.event.Event.TheVariants as events
 use Rattle.pc_proto.specs.declared.meta.TxnMeta.{TxnMeta}
-use Rattle.pc_proto.specs.declared.reply.Reply.{Reply}
-use Rattle.pc_proto.specs.declared.reply.Reply.TheVariants as replies
-use Rattle.pc_proto.specs.declared.request.Request.{Request}
 use Rattle.pc_proto.specs.declared.request.Request.TheVariants as requests
 use Rattle.pc_world.proofs.Each.{each-append, each-weaker}
 use Rattle.pc_world.proofs.Knowing.{known_same, run_push}
@@ -42,35 +40,6 @@ use Rattle.pc_world.specs.Known.Writes.{Write, asked_again, is_proved, last_seq_
 use Rattle.pc_world.specs.Local.{Head}
 use Rattle.pc_world.specs.Run.{IsRun, protocol}
 use Rattle.pc_world.specs.Send.Put.{MaySendPut}
-
-replied-more : (history : List (Entry Event)) (e : Entry Event) (request : Request) (reply : Reply) → WasReplied history request reply → WasReplied (history ++ e ∷ []) request reply
-replied-more history e request reply w = record {
-  send = w.send;
-  listed = Contains-append_left history (e ∷ []) w.send w.listed;
-  number = w.number;
-  range = w.range;
-  sends = w.sends;
-  eval = w.eval;
-  evaluated = Contains-append_left history (e ∷ []) w.eval w.evaluated;
-  told = w.told;
-}
-
-pub written_more : (history : List (Entry Event)) (e : Entry Event) (id : TxnId) (epoch : ℕ) (key : List ℕ) (seq p : ℕ) → WasWritten history id epoch key seq p → WasWritten (history ++ e ∷ []) id epoch key seq p
-written_more history e id epoch key seq p w = record {
-  meta = w.meta;
-  asked = w.asked;
-  value = w.value;
-  whose = w.whose;
-  epoch_is = w.epoch_is;
-  replied = replied-more history e (requests.Put w.meta seq w.asked key w.value) (replies.Written p) w.replied;
-}
-
-pub found_more : (history : List (Entry Event)) (e : Entry Event) (id : TxnId) (epoch : ℕ) (key : List ℕ) (seq p : ℕ) → QueryFound history id epoch key seq p → QueryFound (history ++ e ∷ []) id epoch key seq p
-found_more history e id epoch key seq p w = record { by = w.by; replied = replied-more history e (requests.Query id epoch seq p key w.by) replies.Found w.replied }
-
-pub proven_more : (history : List (Entry Event)) (e : Entry Event) (id : TxnId) (epoch : ℕ) (key : List ℕ) (seq p : ℕ) → WasProven history id epoch key seq p → WasProven (history ++ e ∷ []) id epoch key seq p
-proven_more history e id epoch key seq p (inl w) = inl (written_more history e id epoch key seq p w)
-proven_more history e id epoch key seq p (inr f) = inr (found_more history e id epoch key seq p f)
 
 -- Each proof of the write was an answer to a put or a query of it.
 abbrev pub AreAnswers : List (Entry Event) → TxnId → ℕ → Write → Type 0

@@ -1,5 +1,5 @@
 -- What was replied after one more entry was replied before it, or is replied by it.
-use Rattle.std.proofs.Common.{◌≡◌, ℕ, true, false, ◌&&◌, ◌⊎◌, if◌then◌else◌, inl, inr, List, [], ◌∷◌, ◌++◌, Option, None, Some, Contains, refl, sym, ap, subst, ◌∙◌}
+use Rattle.std.proofs.Common.{◌≡◌, ℕ, true, false, ◌&&◌, ◌⊎◌, if◌then◌else◌, inl, inr, List, [], ◌∷◌, ◌++◌, Option, None, Contains, refl, sym, ap, subst, ◌∙◌}
 use Rattle.std.proofs.lemmas.Bool.{and_from, eq-eqb}
 use Rattle.std.proofs.lemmas.List.Elements.{Contains-append_left, Contains-push_cases}
 use Rattle.pc_base.specs.declared.actor.ActorId.{ActorId}
@@ -17,7 +17,6 @@ use Rattle.pc_implicit.specs.Replied.{QueryFound, QueryMissed, WasProven, WasRep
 use Rattle.pc_proto.specs.declared.event.Event.{Event}
 use Rattle.pc_proto.specs.declared.event.Event.TheVariants as events
 use Rattle.pc_proto.specs.declared.meta.TxnMeta.{TxnMeta}
-use Rattle.pc_proto.specs.declared.reply.Reply.{Reply}
 use Rattle.pc_proto.specs.declared.reply.Reply.{Reply}
 use Rattle.pc_proto.specs.declared.reply.Reply.TheVariants as replies
 use Rattle.pc_proto.specs.declared.request.Request.{Request}
@@ -43,7 +42,7 @@ one_send head history run a b inside also actor number own its range to one othe
     named x range request own sends =
         and_from (same_id actor x.actor) (is_send_of number x.event) (same_id-equal actor x.actor (sym own)) (ap (is_send_of number) sends ∙ eq-eqb number number refl)
 
--- The entry evaluates a message with this request, and answers this.
+-- The entry evaluates a message with this request, and answers so.
 pub record IsRepliedNow (head : Head) (history : List (Entry Event)) (e : Entry Event) (request : Request) (reply : Reply) : Type 0 where
   pub actor : ActorId
   pub number : ℕ
@@ -53,20 +52,60 @@ pub record IsRepliedNow (head : Head) (history : List (Entry Event)) (e : Entry 
 
 -- The entry evaluates a put of this key and sequence of the transaction in this epoch, and answers that it is written at this timestamp.
 pub record IsWrittenNow (head : Head) (history : List (Entry Event)) (e : Entry Event) (id : TxnId) (epoch : ℕ) (key : List ℕ) (seq ts : ℕ) : Type 0 where
+  pub actor : ActorId
+  pub number : ℕ
+  pub is : e.event ≡ events.Eval actor number (replies.Written ts)
+  pub ev : NamedMessage head history e.actor actor number (replies.Written ts)
   pub meta : TxnMeta
   pub asked : ℕ
   pub value : Option (List ℕ)
+  pub asks : ev.request ≡ requests.Put meta seq asked key value
   pub whose : meta.id ≡ id
   pub epoch_is : meta.epoch ≡ epoch
-  pub replied : IsRepliedNow head history e (requests.Put meta seq asked key value) (replies.Written ts)
 
 -- The entry evaluates a query of this write at this timestamp, and finds it.
 pub record IsFoundNow (head : Head) (history : List (Entry Event)) (e : Entry Event) (id : TxnId) (epoch : ℕ) (key : List ℕ) (seq ts : ℕ) : Type 0 where
   pub by : Who
   pub replied : IsRepliedNow head history e (requests.Query id epoch seq ts key by) replies.Found
 
+-- what was replied was so in every longer history
+pub replied_more : (history : List (Entry Event)) (e : Entry Event) (request : Request) (reply : Reply) → WasReplied history request reply → WasReplied (history ++ e ∷ []) request reply
+replied_more history e request reply r = record {
+  send = r.send;
+  listed = Contains-append_left history (e ∷ []) r.send r.listed;
+  number = r.number;
+  range = r.range;
+  sends = r.sends;
+  eval = r.eval;
+  evaluated = Contains-append_left history (e ∷ []) r.eval r.evaluated;
+  told = r.told;
+}
+
+pub written_more : (history : List (Entry Event)) (e : Entry Event) (id : TxnId) (epoch : ℕ) (key : List ℕ) (seq p : ℕ) → WasWritten history id epoch key seq p → WasWritten (history ++ e ∷ []) id epoch key seq p
+written_more history e id epoch key seq p w = record {
+  meta = w.meta;
+  asked = w.asked;
+  value = w.value;
+  whose = w.whose;
+  epoch_is = w.epoch_is;
+  replied = replied_more history e (requests.Put w.meta seq w.asked key w.value) (replies.Written p) w.replied;
+}
+
+pub found_more : (history : List (Entry Event)) (e : Entry Event) (id : TxnId) (epoch : ℕ) (key : List ℕ) (seq p : ℕ) → QueryFound history id epoch key seq p → QueryFound (history ++ e ∷ []) id epoch key seq p
+found_more history e id epoch key seq p f = record { by = f.by; replied = replied_more history e (requests.Query id epoch seq p key f.by) replies.Found f.replied }
+
+pub missed_more : (history : List (Entry Event)) (e : Entry Event) (id : TxnId) (epoch : ℕ) (key : List ℕ) (seq p : ℕ) → QueryMissed history id epoch key seq p → QueryMissed (history ++ e ∷ []) id epoch key seq p
+missed_more history e id epoch key seq p f = record { by = f.by; replied = replied_more history e (requests.Query id epoch seq p key f.by) replies.Missing f.replied }
+
+pub proven_more : (history : List (Entry Event)) (e : Entry Event) (id : TxnId) (epoch : ℕ) (key : List ℕ) (seq p : ℕ) → WasProven history id epoch key seq p → WasProven (history ++ e ∷ []) id epoch key seq p
+proven_more history e id epoch key seq p proven =
+    elim proven [
+      | inl written ↦ inl (written_more history e id epoch key seq p written)
+      | inr found ↦ inr (found_more history e id epoch key seq p found)
+    ]
+
 module _ (head : Head) (history : List (Entry Event)) (run : IsRun head history) (e : Entry Event) (may : MayFollow (protocol head) history e) where
-  -- what was replied after one more entry was replied before it, or is by it
+  -- what was replied after one more entry was so before it, or is replied by it
   pub replied_cases : (request : Request) (reply : Reply) → WasReplied (history ++ e ∷ []) request reply → WasReplied history request reply ⊎ IsRepliedNow head history e request reply
   replied_cases request reply w =
       let whole = run_push head history e run may in
@@ -96,15 +135,26 @@ module _ (head : Head) (history : List (Entry Event)) (run : IsRun head history)
             inr (record { actor = w.send.actor; number = w.number; is = is; ev = ev; asks = asks })
       ]
 
-  -- so of what was written
   pub written_cases : (id : TxnId) (epoch : ℕ) (key : List ℕ) (seq ts : ℕ) → WasWritten (history ++ e ∷ []) id epoch key seq ts → WasWritten history id epoch key seq ts ⊎ IsWrittenNow head history e id epoch key seq ts
   written_cases id epoch key seq ts w =
       elim (replied_cases (requests.Put w.meta seq w.asked key w.value) (replies.Written ts) w.replied) [
-        | inl old ↦ inl (record { meta = w.meta; asked = w.asked; value = w.value; whose = w.whose; epoch_is = w.epoch_is; replied = old })
-        | inr now ↦ inr (record { meta = w.meta; asked = w.asked; value = w.value; whose = w.whose; epoch_is = w.epoch_is; replied = now })
+        | inl before ↦ inl (record { meta = w.meta; asked = w.asked; value = w.value; whose = w.whose; epoch_is = w.epoch_is; replied = before })
+        | inr now ↦
+            inr (record {
+              actor = now.actor;
+              number = now.number;
+              is = now.is;
+              ev = now.ev;
+              meta = w.meta;
+              asked = w.asked;
+              value = w.value;
+              asks = now.asks;
+              whose = w.whose;
+              epoch_is = w.epoch_is;
+            })
       ]
 
-  -- and of what was found
+  -- so of what was found
   pub found_cases : (id : TxnId) (epoch : ℕ) (key : List ℕ) (seq ts : ℕ) → QueryFound (history ++ e ∷ []) id epoch key seq ts → QueryFound history id epoch key seq ts ⊎ IsFoundNow head history e id epoch key seq ts
   found_cases id epoch key seq ts w =
       elim (replied_cases (requests.Query id epoch seq ts key w.by) replies.Found w.replied) [
@@ -119,15 +169,15 @@ module _ (head : Head) (history : List (Entry Event)) (run : IsRun head history)
   proven_cases id epoch key seq ts (inr w) = elim (found_cases id epoch key seq ts w) [ inl old ↦ inl (inr old) | inr now ↦ inr (inr now) ]
 
 -- The range answered this as it was after some beginning of the history.
-pub record WasAnsweredAt (head : Head) (history : List (Entry Event)) (range : ℕ) (request : Request) (reply : Reply) : Type 0 where
+pub record WasRepliedAt (head : Head) (history : List (Entry Event)) (range : ℕ) (request : Request) (reply : Reply) : Type 0 where
   pub front : List (Entry Event)
   pub back : List (Entry Event)
   pub whole : front ++ back ≡ history
   pub answers : reply ≡ reply_of request (state_at head range front)
 
 -- the state in which a message was answered
-pub answered_at : (head : Head) (history : List (Entry Event)) → IsRun head history → (request : Request) (reply : Reply) (w : WasReplied history request reply) → WasAnsweredAt head history w.range request reply
-answered_at head history run request reply w =
+pub replied_at : (head : Head) (history : List (Entry Event)) → IsRun head history → (request : Request) (reply : Reply) (w : WasReplied history request reply) → WasRepliedAt head history w.range request reply
+replied_at head history run request reply w =
     let so = shown head history run w.eval w.evaluated w.send.actor w.number reply w.told in
     let a = so.1 in
     let same : a.send ≡ w.send = one_send head history run a.send w.send a.listed w.listed w.send.actor w.number a.whose refl a.range w.range so.0 request a.sends w.sends in
@@ -139,7 +189,7 @@ answered_at head history run request reply w =
 -- no query finds a write of a transaction that has no anchor
 pub none_found : (head : Head) (history : List (Entry Event)) → IsRun head history → (id : TxnId) (epoch : ℕ) (key : List ℕ) (seq ts : ℕ) → anchor_in id history ≡ None → QueryFound history id epoch key seq ts → ⊥
 none_found head history run id epoch key seq ts none w =
-    let a = answered_at head history run (requests.Query id epoch seq ts key w.by) replies.Found w.replied in
+    let a = replied_at head history run (requests.Query id epoch seq ts key w.by) replies.Found w.replied in
     let before : IsRun head a.front = run_front head a.front a.back (subst (IsRun head) (sym a.whole) run) in
     let early : anchor_in id a.front ≡ None = none_front (λ x. key_sent id x.event) a.front a.back (ap (anchor_in id) a.whole ∙ none) in
     let own = no_intent head a.front before w.replied.range id key early in

@@ -8,11 +8,7 @@ use Rattle.pc_base.specs.Span.{same_key}
 use Rattle.pc_implicit.specs.Decided.{decision, time_of}
 use Rattle.pc_implicit.specs.Replied.{WasProven}
 use Rattle.pc_proto.specs.declared.event.Event.{Event}
-use Rattle.pc_proto.specs.declared.event.Event.TheVariants as events
-use Rattle.pc_proto.specs.declared.meta.TxnMeta.{TxnMeta}
 use Rattle.pc_proto.specs.declared.record.Intent.{Intent}
-use Rattle.pc_proto.specs.declared.reply.Reply.TheVariants as replies
-use Rattle.pc_proto.specs.declared.request.Request.TheVariants as requests
 use Rattle.pc_proto.specs.Intents.{last_seq, own_at}
 use Rattle.pc_proto.specs.Place.{Place, Nothing}
 use Rattle.pc_world.specs.After.{known_at, place_at, state_at}
