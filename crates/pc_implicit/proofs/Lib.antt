@@ -30,13 +30,16 @@ pub mod Lift
 pub mod Made
 pub mod MetaRows
 pub mod Metas
+pub mod Missing
 pub mod Moves
 pub mod OneDecision
 pub mod OpenReads
 pub mod OwnKeys
 pub mod OwnLaid
+pub mod OwnOver
 pub mod OwnSplit
 pub mod OwnStanding
+pub mod PastWrites
 pub mod PieceRanges
 pub mod Places
 pub mod Points
@@ -50,6 +53,7 @@ pub mod Reading
 pub mod ReadsComeFrom
 pub mod Recorded
 pub mod Refusals
+pub mod RepliedAt
 pub mod RisingVersions
 pub mod Rows
 pub mod Runs
