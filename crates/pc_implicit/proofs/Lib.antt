@@ -22,10 +22,12 @@ pub mod Forward
 pub mod Fronts
 pub mod Hearing
 pub mod Holders
+pub mod HomeOver
 pub mod Homes
 pub mod IntentKeys
 pub mod Keyed
 pub mod LaidIntents
+pub mod LeavesBy
 pub mod Lift
 pub mod Made
 pub mod MetaRows
