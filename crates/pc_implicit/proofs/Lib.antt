@@ -69,6 +69,7 @@ pub mod SettledVersions
 pub mod Shown
 pub mod StageWords
 pub mod Staged
+pub mod StagedAs
 pub mod Turns
 pub mod VersionSearches
 pub mod VersionSteps
