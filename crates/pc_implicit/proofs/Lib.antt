@@ -45,6 +45,7 @@ pub mod PastWrites
 pub mod PieceRanges
 pub mod Places
 pub mod Points
+pub mod Presence
 pub mod ProofsHeard
 pub mod PutsDone
 pub mod PutsSent
