@@ -1,3 +1,4 @@
+pub mod AbortsSent
 pub mod Agreed
 pub mod Anchored
 pub mod Answering
@@ -61,7 +62,9 @@ pub mod SettledNow
 pub mod SettledOn
 pub mod SettledVersions
 pub mod Shown
+pub mod StagePairs
 pub mod Staged
+pub mod StagesKnown
 pub mod Turns
 pub mod VersionSearches
 pub mod VersionSteps
