@@ -63,6 +63,7 @@ pub mod SettledOn
 pub mod SettledVersions
 pub mod Shown
 pub mod StagePairs
+pub mod StageWords
 pub mod Staged
 pub mod StagesKnown
 pub mod Turns

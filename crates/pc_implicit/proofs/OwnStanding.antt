@@ -24,7 +24,8 @@ use Rattle.pc_implicit.proofs.Turns.{IsAnswered, IsBegun, Restarted, Turn, WentO
 use Rattle.pc_implicit.proofs.WriteLists.{Laid, alike_at, at_low, at_push, proof_of, rise_at, split_at, written_at}
 use Rattle.pc_implicit.proofs.Written.{IsWrittenNow, written_cases}
 use Rattle.pc_implicit.specs.Decided.{decision, time_of}
-use Rattle.pc_implicit.specs.Writes.{OwnStand, WasWritten, home_of, own_intent, txns_of, writes_at}
+use Rattle.pc_implicit.specs.Replied.{WasWritten}
+use Rattle.pc_implicit.specs.Writes.{OwnStand, home_of, own_intent, txns_of, writes_at}
 use Rattle.pc_proto.specs.declared.event.Event.{Event}
 use Rattle.pc_proto.specs.declared.event.Event.TheVariants as events
 use Rattle.pc_proto.specs.declared.fate.Fate.{Fate}
@@ -308,7 +309,8 @@ module _ (head : Head) (history : List (Entry Event)) (run : IsRun head history)
         let old = written-still head history run e may key elsewhere u.id u.epoch seq ts w in
         let whose : old.meta.id ≡ t.id = old.whose ∙ same in
         let epoch : old.meta.epoch ≡ u.epoch = old.epoch_is in
-        let put = puts_sent head history run only old.send old.listed old.number old.range old.meta seq old.asked key old.value old.sends t (subst (λ i. Contains (txns_of head i history) t) (sym whose) known) (sym whose) in
+        let r = old.replied in
+        let put = puts_sent head history run only r.send r.listed r.number r.range old.meta seq old.asked key old.value r.sends t (subst (λ i. Contains (txns_of head i history) t) (sym whose) known) (sym whose) in
         let low = put.low in
         absurd (omega (arith, low, next, epoch));
   }
@@ -321,7 +323,8 @@ module _ (head : Head) (history : List (Entry Event)) (run : IsRun head history)
         front = λ undecided i own now. let both : None ≡ Some i = sym none ∙ own in absurd cc;
         written = λ undecided seq ts w.
             let old = written-still head history run e may key elsewhere u.id u.epoch seq ts w in
-            let anchored = (put_anchored head history run old.send old.listed old.number old.range old.meta seq old.asked key old.value old.sends).anchor in
+            let r = old.replied in
+            let anchored = (put_anchored head history run r.send r.listed r.number r.range old.meta seq old.asked key old.value r.sends).anchor in
             let both : None ≡ Some old.meta.anchor = sym b.new.anchor ∙ ap (λ i. anchor_in i history) (sym old.whose) ∙ anchored in absurd cc;
       }
 

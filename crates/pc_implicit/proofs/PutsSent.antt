@@ -21,7 +21,9 @@ use Rattle.pc_implicit.proofs.Keyed.{same-itself}
 use Rattle.pc_implicit.proofs.Sent.{unstaged_front, unstaged_induction}
 use Rattle.pc_implicit.proofs.Turns.{IsAnswered, Restarted, Turn, WentOn, Wrote, comes_from, none-later, one_txn, some-there, unmap}
 use Rattle.pc_implicit.proofs.WriteLists.{AreInTurn, Rise, alike_each, alike_on, alike_rise, alike_turn, rise_push, turn_push}
-use Rattle.pc_implicit.specs.Writes.{WasWritten, txns_of}
+use Rattle.pc_implicit.proofs.Written.{written_more}
+use Rattle.pc_implicit.specs.Replied.{WasWritten}
+use Rattle.pc_implicit.specs.Writes.{txns_of}
 use Rattle.pc_proto.specs.declared.event.Event.{Event}
 use Rattle.pc_proto.specs.declared.event.Event.TheVariants as events
 use Rattle.pc_proto.specs.declared.meta.TxnMeta.{TxnMeta}
@@ -38,23 +40,6 @@ use Rattle.pc_world.specs.Local.{Head}
 use Rattle.pc_world.specs.Run.{IsRun, protocol}
 use Rattle.pc_world.specs.Send.Put.{MaySendPut}
 use Rattle.pc_world.specs.Unstaged.{NothingIsStaged}
-
-pub written_more : (history : List (Entry Event)) (e : Entry Event) (id : TxnId) (epoch : ℕ) (key : List ℕ) (seq p : ℕ) → WasWritten history id epoch key seq p → WasWritten (history ++ e ∷ []) id epoch key seq p
-written_more history e id epoch key seq p w = record {
-  send = w.send;
-  listed = Contains-append_left history (e ∷ []) w.send w.listed;
-  number = w.number;
-  range = w.range;
-  meta = w.meta;
-  asked = w.asked;
-  value = w.value;
-  sends = w.sends;
-  whose = w.whose;
-  epoch_is = w.epoch_is;
-  eval = w.eval;
-  evaluated = Contains-append_left history (e ∷ []) w.eval w.evaluated;
-  told = w.told;
-}
 
 -- Each proof of the write was an answer to a put of it.
 abbrev pub AreAnswers : List (Entry Event) → TxnId → ℕ → Write → Type 0

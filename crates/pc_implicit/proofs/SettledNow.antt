@@ -20,7 +20,8 @@ use Rattle.pc_implicit.proofs.Recorded.{evaluated_state}
 use Rattle.pc_implicit.proofs.Turns.{not_session}
 use Rattle.pc_implicit.proofs.WriteLists.{Laid, RiseAt, left_over, rise_at, rise_last}
 use Rattle.pc_implicit.specs.Decided.{decision, epoch_of, time_of}
-use Rattle.pc_implicit.specs.Writes.{IsWholeBy, StandsBy, WasWritten, home_of, own_intent, txns_of, writes_at}
+use Rattle.pc_implicit.specs.Replied.{WasWritten}
+use Rattle.pc_implicit.specs.Writes.{IsWholeBy, StandsBy, home_of, own_intent, txns_of, writes_at}
 use Rattle.pc_proto.specs.declared.event.Event.{Event}
 use Rattle.pc_proto.specs.declared.event.Event.TheVariants as events
 use Rattle.pc_proto.specs.declared.meta.TxnMeta.{TxnMeta}

@@ -21,7 +21,7 @@ use Rattle.pc_implicit.proofs.Keyed.{same-is}
 use Rattle.pc_implicit.proofs.IntentKeys.{same_key-is}
 use Rattle.pc_implicit.proofs.Sent.{unstaged_front, unstaged_induction, unstaged_sent}
 use Rattle.pc_implicit.proofs.WriteLists.{AreAlike, IsAlike, alike-itself, alike_map, alike_themselves}
-use Rattle.pc_implicit.specs.Writes.{WasWritten}
+use Rattle.pc_implicit.specs.Replied.{WasWritten}
 use Rattle.pc_proto.specs.declared.answer.Answer.{Answer}
 use Rattle.pc_proto.specs.declared.answer.Answer.TheVariants as answers
 use Rattle.pc_proto.specs.declared.event.Event.{Event}
@@ -274,19 +274,21 @@ module _ (head : Head) (history : List (Entry Event)) (run : IsRun head history)
   heard-put : (h : Heard) (meta : TxnMeta) (seq ts : ℕ) (key : List ℕ) (value : Option (List ℕ)) (at : ℕ) → IsSo head history e.actor h → h.request ≡ requests.Put meta seq ts key value → h.reply ≡ replies.Written at
       → WasWritten history meta.id meta.epoch key seq at
   heard-put h meta seq ts key value at so asked told = record {
-    send = so.send;
-    listed = so.listed;
-    number = h.number;
-    range = so.range;
     meta = meta;
     asked = ts;
     value = value;
-    sends = so.sends ∙ ap (events.Send h.number so.range) asked;
     whose = refl;
     epoch_is = refl;
-    eval = so.eval;
-    evaluated = so.evaluated;
-    told = so.told ∙ ap (events.Eval e.actor h.number) told ∙ ap (λ a. events.Eval a h.number (replies.Written at)) (sym so.whose);
+    replied = record {
+      send = so.send;
+      listed = so.listed;
+      number = h.number;
+      range = so.range;
+      sends = so.sends ∙ ap (events.Send h.number so.range) asked;
+      eval = so.eval;
+      evaluated = so.evaluated;
+      told = so.told ∙ ap (events.Eval e.actor h.number) told ∙ ap (λ a. events.Eval a h.number (replies.Written at)) (sym so.whose);
+    };
   }
 
   reply-comes : (h : Heard) → IsSo head history e.actor h → (request : Request) → h.request ≡ request → (reply : Reply) → h.reply ≡ reply → (t u : Txn) → Contains k.txns t → u.id ≡ t.id → u.epoch ≡ t.epoch

@@ -6,12 +6,9 @@ use Rattle.pc_base.specs.declared.transaction.TxnId.{TxnId}
 use Rattle.pc_base.specs.declared.version.Version.{Version}
 use Rattle.pc_base.specs.Span.{same_key}
 use Rattle.pc_implicit.specs.Decided.{decision, time_of}
+use Rattle.pc_implicit.specs.Replied.{WasWritten}
 use Rattle.pc_proto.specs.declared.event.Event.{Event}
-use Rattle.pc_proto.specs.declared.event.Event.TheVariants as events
-use Rattle.pc_proto.specs.declared.meta.TxnMeta.{TxnMeta}
 use Rattle.pc_proto.specs.declared.record.Intent.{Intent}
-use Rattle.pc_proto.specs.declared.reply.Reply.TheVariants as replies
-use Rattle.pc_proto.specs.declared.request.Request.TheVariants as requests
 use Rattle.pc_proto.specs.Intents.{last_seq, own_at}
 use Rattle.pc_proto.specs.Place.{Place, Nothing}
 use Rattle.pc_world.specs.After.{known_at, place_at, state_at}
@@ -43,22 +40,6 @@ home_of head id history = place_under head id history (anchor_in id history)
 -- The transaction's own intent at the key, in the range of the key.
 abbrev pub own_intent : Head → TxnId → List ℕ → List (Entry Event) → Option Intent
 own_intent head id key history = own_at id key (state_at head (range_of head.splits key) history).intents
-
--- A put of the transaction's epoch, of this key and sequence, was evaluated, and answered that it is written at this timestamp.
-pub record WasWritten (history : List (Entry Event)) (id : TxnId) (epoch : ℕ) (key : List ℕ) (seq ts : ℕ) : Type 0 where
-  pub send : Entry Event
-  pub listed : Contains history send
-  pub number : ℕ
-  pub range : ℕ
-  pub meta : TxnMeta
-  pub asked : ℕ
-  pub value : Option (List ℕ)
-  pub sends : send.event ≡ events.Send number range (requests.Put meta seq asked key value)
-  pub whose : meta.id ≡ id
-  pub epoch_is : meta.epoch ≡ epoch
-  pub eval : Entry Event
-  pub evaluated : Contains history eval
-  pub told : eval.event ≡ events.Eval send.actor number (replies.Written ts)
 
 -- The intent has the first writes at the key of the transaction's epoch, at least one.
 pub record IsFrontOf (t : Txn) (key : List ℕ) (i : Intent) : Type 0 where

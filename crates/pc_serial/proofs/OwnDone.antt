@@ -11,7 +11,8 @@ use Rattle.pc_implicit.proofs.SessionCommits.{written as write_of}
 use Rattle.pc_implicit.proofs.SessionReads.{ByPut, ByQuery, HadDone, WasProved, last_seq_done}
 use Rattle.pc_implicit.proofs.Turns.{SendsNoQuery, none_asks}
 use Rattle.pc_implicit.specs.Decided.{decision}
-use Rattle.pc_implicit.specs.Writes.{OwnStand, WasWritten, home_of, own_intent, txns_of, writes_at}
+use Rattle.pc_implicit.specs.Replied.{WasWritten}
+use Rattle.pc_implicit.specs.Writes.{OwnStand, home_of, own_intent, txns_of, writes_at}
 use Rattle.pc_proto.specs.declared.event.Event.{Event}
 use Rattle.pc_proto.specs.declared.event.Event.TheVariants as events
 use Rattle.pc_proto.specs.declared.record.Intent.{Intent}
@@ -42,19 +43,21 @@ module _ (head : Head) (history : List (Entry Event)) (run : IsRun head history)
   -- a write that was proved was written
   was-written : (id : TxnId) (epoch seq : ℕ) (key : List ℕ) (at : ℕ) → WasProved head history id epoch seq key at → WasWritten history id epoch key seq at
   was-written id epoch seq key at (ByPut meta asked value whose epoch_is w) = record {
-    send = w.at.send;
-    listed = subst (λ h. Contains h w.at.send) (sym w.whole) (Contains-append_left w.before (w.e ∷ w.later) w.at.send w.at.listed);
-    number = w.at.number;
-    range = range_of head.splits key;
     meta = meta;
     asked = asked;
     value = value;
-    sends = w.at.sends;
     whose = whose;
     epoch_is = epoch_is;
-    eval = w.e;
-    evaluated = subst (λ h. Contains h w.e) (sym w.whole) (Contains-append_right w.before (w.e ∷ w.later) w.e (contains_head w.e w.later));
-    told = w.at.evaluates ∙ ap (λ a. events.Eval a w.at.number (replies.Written at)) (sym w.at.whose);
+    replied = record {
+      send = w.at.send;
+      listed = subst (λ h. Contains h w.at.send) (sym w.whole) (Contains-append_left w.before (w.e ∷ w.later) w.at.send w.at.listed);
+      number = w.at.number;
+      range = range_of head.splits key;
+      sends = w.at.sends;
+      eval = w.e;
+      evaluated = subst (λ h. Contains h w.e) (sym w.whole) (Contains-append_right w.before (w.e ∷ w.later) w.e (contains_head w.e w.later));
+      told = w.at.evaluates ∙ ap (λ a. events.Eval a w.at.number (replies.Written at)) (sym w.at.whose);
+    };
   }
   was-written id epoch seq key at (ByQuery by w) =
       absurd (subst SendsNoQuery w.at.sends
