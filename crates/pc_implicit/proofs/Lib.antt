@@ -21,6 +21,7 @@ pub mod Fates
 pub mod Firsts
 pub mod Forward
 pub mod Fronts
+pub mod HeardViews
 pub mod Hearing
 pub mod Holders
 pub mod Homes
@@ -66,6 +67,7 @@ pub mod StagePairs
 pub mod StageWords
 pub mod Staged
 pub mod StagesKnown
+pub mod StagesRefuted
 pub mod Turns
 pub mod VersionSearches
 pub mod VersionSteps
