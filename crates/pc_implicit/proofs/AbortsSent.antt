@@ -1,5 +1,5 @@
 -- Once an abort was sent, its transaction is open only in that rollback, and each of its stages is known to be dead.
-use Rattle.std.proofs.Common.{◌≡◌, ℕ, ◌+◌, ◌≤◌, Bool, true, false, ◌&&◌, not, ◌⊎◌, inl, inr, List, [], ◌∷◌, ◌++◌, Option, None, Some, refl, sym, ap, subst, ◌∙◌, arith}
+use Rattle.std.proofs.Common.{◌≡◌, ℕ, ◌+◌, ◌≤◌, true, false, ◌&&◌, not, inl, inr, List, [], ◌∷◌, ◌++◌, Option, None, Some, refl, sym, ap, subst, ◌∙◌, arith}
 use Rattle.std.specs.Bool.{MatchBool}
 use Rattle.pc_base.specs.declared.actor.ActorId.{ActorId}
 use Rattle.pc_base.specs.declared.actor.ActorId.TheVariants as actors
@@ -16,7 +16,7 @@ use Rattle.pc_implicit.proofs.Doing.{Does, same_or_not}
 use Rattle.pc_implicit.proofs.Keyed.{same-is}
 use Rattle.pc_implicit.proofs.Moves.{first_after, is_first, open_is_first}
 use Rattle.pc_implicit.proofs.OpenReads.{within-statement}
-use Rattle.pc_implicit.proofs.StagesKnown.{HasSent, SendsNow, dead_more, heard_goes_on, none_sent, sent_cases, stage_of, stage_sent}
+use Rattle.pc_implicit.proofs.StagesKnown.{HasSent, dead_more, heard_goes_on, none_sent, sent_cases, stage_of, stage_sent}
 use Rattle.pc_proto.specs.declared.answer.Answer.{Answer}
 use Rattle.pc_proto.specs.declared.answer.Answer.TheVariants as answers
 use Rattle.pc_proto.specs.declared.call.Call.{Call}
@@ -38,7 +38,6 @@ use Rattle.pc_world.specs.Operations.{is_last_after}
 use Rattle.pc_world.specs.Run.{IsRun, protocol}
 use Rattle.pc_world.specs.Send.Abort.{MaySendAbort}
 use Rattle.pc_world.specs.Send.Put.{AsksFor}
-use Rattle.pc_world.specs.Send.Stage.{MaySendNewStage}
 use Rattle.pc_world.specs.StageFate.{IsDead, Stage, stage_request}
 use Rattle.pc_world.specs.Tell.Refusal.{MayBlock}
 

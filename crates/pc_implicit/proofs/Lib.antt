@@ -67,7 +67,9 @@ pub mod StagePairs
 pub mod StageWords
 pub mod Staged
 pub mod StagesKnown
+pub mod StagesOpen
 pub mod StagesRefuted
+pub mod StagesSent
 pub mod Turns
 pub mod VersionSearches
 pub mod VersionSteps

@@ -1,11 +1,10 @@
 -- Of two stages of a transaction the earlier one does not stand in the other's way, and neither does a stage in that of a commit at another
 -- timestamp: so its session saw to it when it sent the later one.
-use Rattle.std.proofs.Common.{◌≡◌, ◌≢◌, ℕ, ◌==◌, Bool, true, false, ◌⊎◌, inl, inr, List, [], ◌∷◌, ◌++◌, refl, sym, ap, subst, ◌∙◌, arith}
+use Rattle.std.proofs.Common.{◌≡◌, ◌≢◌, ◌==◌, Bool, true, false, ◌⊎◌, inl, inr, List, [], ◌∷◌, ◌++◌, refl, sym, ap, subst, ◌∙◌}
 use Rattle.std.proofs.lemmas.Bool.{eq-eqb, eqb-true}
 use Rattle.pc_base.specs.declared.actor.ActorId.{ActorId}
 use Rattle.pc_base.specs.declared.entry.Entry.{Entry}
-use Rattle.pc_history.specs.History.{MayFollow}
-use Rattle.pc_implicit.proofs.StagesKnown.{HasSent, SendsNow, commit_of, commit_sent, heard_goes_on, late_more, none_sent, one_stage, passed_more, refused_more, sent_cases, stage_of, stage_sent}
+use Rattle.pc_implicit.proofs.StagesKnown.{HasSent, commit_of, commit_sent, heard_goes_on, late_more, none_sent, one_stage, passed_more, refused_more, sent_cases, stage_of, stage_sent}
 use Rattle.pc_proto.specs.declared.event.Event.{Event}
 use Rattle.pc_proto.specs.declared.event.Event.TheVariants as events
 use Rattle.pc_proto.specs.declared.meta.TxnMeta.{TxnMeta}
@@ -14,11 +13,11 @@ use Rattle.pc_world.proofs.Prefixes.{run_induction}
 use Rattle.pc_world.specs.After.{known_at}
 use Rattle.pc_world.specs.Known.Traffic.{Heard}
 use Rattle.pc_world.specs.Local.{Head}
-use Rattle.pc_world.specs.Run.{IsRun, protocol}
+use Rattle.pc_world.specs.Run.{IsRun}
 use Rattle.pc_world.specs.Send.Commit.{MaySendCommit}
 use Rattle.pc_world.specs.Send.Stage.{IsPassed, MaySendNewStage}
 use Rattle.pc_world.specs.StageFate.{Commit, IsLate, IsRefused, Stage, commit_request, stage_request}
-use Rattle.pc_world.specs.Views.{WasCommitted, shows_committed}
+use Rattle.pc_world.specs.Views.{WasCommitted}
 
 -- The two are one, or one of them is passed by the other.
 abbrev pub ArePaired : List Heard → Stage → Stage → Type 0

@@ -1,31 +1,26 @@
 -- Where a stage is open and known to be late or dead, one of its writes was refuted; a commit that was refused is passed by an undecided
 -- record; and a record stages as one stage that was sent.
-use Rattle.std.proofs.Common.{◌≡◌, ℕ, ◌<◌, ◌==◌, nat_le, nat_lt, Bool, true, false, cond, ◌&&◌, ◌||◌, not, ◌⊎◌, inl, inr, List, [], ◌∷◌, ◌++◌, Option, None, Some, Any, Contains, IsTrue, refl, sym, ap, subst, ◌∙◌, arith}
+use Rattle.std.proofs.Common.{◌≡◌, ℕ, ◌<◌, ◌≤◌, ◌==◌, nat_le, nat_lt, Bool, true, false, cond, ◌&&◌, not, ◌⊎◌, inl, inr, List, [], ◌∷◌, None, Some, Contains, refl, sym, ap, subst, ◌∙◌, arith}
 use Rattle.std.proofs.lemmas.Bool.{and_cases, and_from, and_parts, eq-eqb, eqb-true, leb-false, ltb-true, or_cases}
-use Rattle.std.specs.List.{list_any}
 use Rattle.pc_base.specs.declared.actor.ActorId.{ActorId}
 use Rattle.pc_base.specs.declared.actor.ActorId.TheVariants as actors
 use Rattle.pc_base.specs.declared.entry.Entry.{Entry}
-use Rattle.pc_base.specs.declared.transaction.TxnId.{TxnId}
-use Rattle.pc_base.specs.declared.transaction.Who.{Who}
 use Rattle.pc_base.specs.Span.{same_key}
 use Rattle.pc_base.specs.Transaction.{same_txn}
 use Rattle.pc_history.proofs.Lists.{contains_head, contains_tail}
+use Rattle.pc_implicit.proofs.Did.{session_at}
 use Rattle.pc_implicit.proofs.Hearing.{IsSo}
-use Rattle.pc_implicit.proofs.HeardViews.{AskedHome, asked_home, replied_of, so_of, undecided_from}
+use Rattle.pc_implicit.proofs.HeardViews.{asked_home, replied_of, so_of, undecided_from}
 use Rattle.pc_implicit.proofs.IntentKeys.{same_key-is}
 use Rattle.pc_implicit.proofs.Keyed.{same-is}
-use Rattle.pc_implicit.proofs.Refusals.{sent_known}
+use Rattle.pc_implicit.proofs.StagesSent.{stage_known}
 use Rattle.pc_implicit.proofs.StagePairs.{stages_paired}
 use Rattle.pc_implicit.proofs.StagesKnown.{HasSent, dead_is_late}
-use Rattle.pc_implicit.proofs.StageWords.{RefutedIf, SomeRefuted, WasAbove, WasRefuted}
+use Rattle.pc_implicit.proofs.StageWords.{RefutedIf, SomeRefuted}
 use Rattle.pc_implicit.specs.Decided.{IsNotBelow, decision, epoch_of, time_of}
-use Rattle.pc_implicit.specs.Replied.{QueryMissed, WasWritten}
 use Rattle.pc_implicit.specs.Stages.{IsOpenTo, WasStaged}
 use Rattle.pc_implicit.specs.Writes.{home_of}
 use Rattle.pc_proto.specs.declared.event.Event.{Event}
-use Rattle.pc_proto.specs.declared.meta.TxnMeta.{TxnMeta}
-use Rattle.pc_proto.specs.declared.record.Record.{Record}
 use Rattle.pc_proto.specs.declared.record.Standing.{Standing}
 use Rattle.pc_proto.specs.declared.record.Standing.TheVariants as standings
 use Rattle.pc_proto.specs.declared.reply.Reply.{Reply}
@@ -41,7 +36,7 @@ use Rattle.pc_world.specs.Known.Transactions.{is_final_view, lists}
 use Rattle.pc_world.specs.Local.{Head}
 use Rattle.pc_world.specs.Run.{IsRun}
 use Rattle.pc_world.specs.Send.Stage.{IsPassed}
-use Rattle.pc_world.specs.StageFate.{Commit, IsDead, IsLate, IsLateByRecord, IsRefused, RefutesRecord, RefutesWrite, Refuses, Stage, commit_request, is_past, is_unsettled_status, refutes_write, shows_past, stage_request}
+use Rattle.pc_world.specs.StageFate.{Commit, IsDead, IsLate, IsLateByRecord, IsRefused, RefutesWrite, Stage, commit_request, is_past, is_unsettled_status, refutes_write, shows_past, stage_request}
 
 -- The place is past this epoch or timestamp.
 abbrev pub IsBeyondTo : ℕ → ℕ → Place → Type 0
@@ -200,3 +195,33 @@ module _ (head : Head) (history : List (Entry Event)) (run : IsRun head history)
   -- so has one that is known to be dead
   pub dead_refuted : RefutedIf IsDead head history
   dead_refuted s sent opened dead = late_refuted s sent opened (dead_is_late (known_at head (actors.Session s.meta.id.session) history).heard s dead)
+
+  -- a stage that is passed at the timestamp of another, and is open, lies below it
+  passed-below : (s : Stage) (ts : ℕ) → IsOpenTo head history s → IsPassed (session_at head s.meta.id history).heard ts s → s.ts < ts
+  passed-below s ts opened passed =
+      elim passed [
+        | inl late ↦ late.1
+        | inr past ↦ absurd (open_not_beyond s opened (late_beyond (actors.Session s.meta.id.session) s opened.undecided past))
+      ]
+
+  -- two stages of one epoch and timestamp are one, where a record is not past them
+  pub one_staged : (s x : Stage) → WasStaged history s → WasStaged history x → x.meta.id ≡ s.meta.id → x.meta.epoch ≡ s.meta.epoch → x.ts ≡ s.ts → IsOpenTo head history s → x ≡ s
+  one_staged s x sent also id epoch ts opened =
+      let actor : ActorId = actors.Session s.meta.id.session in
+      let known : HasSent (session_at head s.meta.id history).sent (stage_request x) = subst (λ i. HasSent (session_at head i history).sent (stage_request x)) id (stage_known head history run x also) in
+      let home_is : home_of head x.meta.id history ≡ home_of head s.meta.id history = ap (λ i. home_of head i history) id in
+      let epoch_low : epoch_of (home_of head s.meta.id history) ≤ s.meta.epoch = opened.epoch_low in
+      let ts_low : time_of (home_of head s.meta.id history) ≤ s.ts = opened.ts_low in
+      let other : IsOpenTo head history x = record {
+        undecided = ap decision home_is ∙ opened.undecided;
+        epoch_low = subst (λ p. epoch_of p ≤ x.meta.epoch) (sym home_is) (omega (arith, epoch_low, epoch));
+        ts_low = subst (λ p. time_of p ≤ x.ts) (sym home_is) (omega (arith, ts_low, ts));
+      } in
+      elim (stages_paired head history run actor s x (stage_known head history run s sent) known (sym id)) [
+        | inl same ↦ sym same
+        | inr passed ↦ elim passed [
+          | inl first ↦ let below = passed-below s x.ts opened first in absurd (omega (arith, below, ts))
+          | inr second ↦
+              let below = passed-below x s.ts other (subst (λ i. IsPassed (session_at head i history).heard s.ts x) (sym id) second) in absurd (omega (arith, below, ts))
+        ]
+      ]
