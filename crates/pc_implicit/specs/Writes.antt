@@ -6,7 +6,7 @@ use Rattle.pc_base.specs.declared.transaction.TxnId.{TxnId}
 use Rattle.pc_base.specs.declared.version.Version.{Version}
 use Rattle.pc_base.specs.Span.{same_key}
 use Rattle.pc_implicit.specs.Decided.{decision, time_of}
-use Rattle.pc_implicit.specs.Replied.{WasWritten}
+use Rattle.pc_implicit.specs.Replied.{WasProven}
 use Rattle.pc_proto.specs.declared.event.Event.{Event}
 use Rattle.pc_proto.specs.declared.record.Intent.{Intent}
 use Rattle.pc_proto.specs.Intents.{last_seq, own_at}
@@ -61,21 +61,21 @@ pub record OwnStand (head : Head) (history : List (Entry Event)) (t : Txn) (key 
   pub reached : (i : Intent) → own_intent head t.id key history ≡ Some i → i.meta.epoch ≤ t.epoch
   pub front : decision (home_of head t.id history) ≡ None → (i : Intent) → own_intent head t.id key history ≡ Some i → i.meta.epoch ≡ t.epoch
       → IsFrontOf t key i
-  pub written : decision (home_of head t.id history) ≡ None → (seq ts : ℕ) → WasWritten history t.id t.epoch key seq ts
+  pub written : decision (home_of head t.id history) ≡ None → (seq ts : ℕ) → WasProven history t.id t.epoch key seq ts
       → (i : Intent) × (own_intent head t.id key history ≡ Some i) × StandsAs t (home_of head t.id history) seq ts i
 
--- Where nothing is staged, what a transaction wrote in its epoch stands in its intents while it is not decided.
+-- What a transaction wrote in its epoch stands in its intents while it is not decided.
 abbrev pub OwnIntentsStand : Type 0
 OwnIntentsStand =
     (head : Head) (history : List (Entry Event)) (t : Txn) (key : List ℕ)
-    → IsRun head history → NothingIsStaged history → Contains (txns_of head t.id history) t → OwnStand head history t key
+    → IsRun head history → Contains (txns_of head t.id history) t → OwnStand head history t key
 
--- Each proof that a session has of a write of its transaction's epoch is an answer to a put of it.
+-- Each proof that a session has of a write of its transaction's epoch is an answer to a put of it, or to a query that found it.
 abbrev pub ProofsWereWritten : Type 0
 ProofsWereWritten =
     (head : Head) (history : List (Entry Event)) (t : Txn) (w : Write) (ts : ℕ)
-    → IsRun head history → NothingIsStaged history → Contains (txns_of head t.id history) t → Contains t.writes w → Contains w.proofs ts
-    → WasWritten history t.id t.epoch w.key w.seq ts
+    → IsRun head history → Contains (txns_of head t.id history) t → Contains t.writes w → Contains w.proofs ts
+    → WasProven history t.id t.epoch w.key w.seq ts
 
 -- The intent is of the transaction's epoch, lies at or below the timestamp, and has all its writes at the key.
 pub record IsWholeBy (t : Txn) (key : List ℕ) (ts : ℕ) (i : Intent) : Type 0 where
