@@ -11,6 +11,7 @@ use Rattle.pc_implicit.proofs.Missing.{missed_stays}
 use Rattle.pc_implicit.proofs.OwnLaid.{not_overtaken}
 use Rattle.pc_implicit.proofs.OwnOver.{Decides, IsLaidOver, Lays, Moves, Stays, own_over}
 use Rattle.pc_implicit.proofs.PastWrites.{written_stays}
+use Rattle.pc_implicit.proofs.StagesLast.{later_is_refuted}
 use Rattle.pc_implicit.proofs.StageWords.{AllStand, FailsSo, IsNewerPut, LaterIsRefuted, SomeRefuted, WasRefuted}
 use Rattle.pc_implicit.proofs.Written.{missed_more, written_more}
 use Rattle.pc_implicit.specs.Decided.{decision, time_of}
@@ -215,7 +216,7 @@ module _ (head : Head) (history : List (Entry Event)) (run : IsRun head history)
         | inr before ↦ all s opened-before w listed before (there-on w listed (staged-by head history s w before) absent) not-failed
       ]
 
-module _ (head : Head) (later : (history : List (Entry Event)) → IsRun head history → LaterIsRefuted head history) where
+module _ (head : Head) where
   none-there : AllStand head []
   none-there s opened w listed was absent lasts = absent (subst (λ h. IsThere head h s w) (sym (nothing was.front was.back was.whole)) was.there)
     where
@@ -226,7 +227,7 @@ module _ (head : Head) (later : (history : List (Entry Event)) → IsRun head hi
   -- a listed write that was present is so, or the stage fails
   pub present_or_fails : (history : List (Entry Event)) → IsRun head history → AllStand head history
   present_or_fails = run_induction head (AllStand head) none-there (λ history e run may all s opened w listed was absent lasts.
-      stands-on head history run (later history run) e may all s opened lasts w listed was absent)
+      stands-on head history run (later_is_refuted head history run) e may all s opened lasts w listed was absent)
 
   -- so where each was present, all are
   pub staged_writes_stay : (history : List (Entry Event)) (s : Stage) → IsRun head history → IsOpenTo head history s → ((w : List ℕ × ℕ) → Contains s.writes w → WasThere head history s w)
