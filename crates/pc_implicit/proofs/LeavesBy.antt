@@ -1,25 +1,23 @@
 -- What becomes of a staging record over a request to it, and over one more entry of a run.
-use Rattle.std.proofs.Common.{◌≡◌, ℕ, ◌≤◌, max, nat_le, Bool, true, false, if◌then◌else◌, not, ◌&&◌, ◌==◌, ◌⊎◌, inl, inr, List, [], ◌∷◌, ◌++◌, Option, None, Some, Contains, refl, sym, ap, subst, ◌∙◌, arith}
+use Rattle.std.proofs.Common.{◌≡◌, ℕ, ◌≤◌, max, nat_le, Bool, true, false, if◌then◌else◌, not, ◌&&◌, ◌==◌, List, [], Some, refl, sym, ap, subst, ◌∙◌, arith}
 use Rattle.std.proofs.lemmas.Bool.{and_from, and_parts, eq-eqb, eqb-true, leb-true}
 use Rattle.std.proofs.lemmas.Grind.{common_steps}
 use Rattle.pc_base.specs.declared.transaction.Priority.{Priority}
 use Rattle.pc_base.specs.declared.transaction.TxnId.{TxnId}
 use Rattle.pc_base.specs.declared.transaction.Who.{Who}
 use Rattle.pc_implicit.specs.Decided.{decision}
-use Rattle.pc_implicit.proofs.StageWords.{StagesAs}
 use Rattle.pc_proto.specs.declared.fate.Finding.{Finding}
 use Rattle.pc_proto.specs.declared.fate.Finding.TheVariants as findings
 use Rattle.pc_proto.specs.declared.fate.Goal.{Goal}
 use Rattle.pc_proto.specs.declared.fate.Goal.TheVariants as goals
 use Rattle.pc_proto.specs.declared.meta.TxnMeta.{TxnMeta}
 use Rattle.pc_proto.specs.declared.record.Record.{Record}
-use Rattle.pc_proto.specs.declared.record.Standing.{Standing}
 use Rattle.pc_proto.specs.declared.record.Standing.TheVariants as standings
 use Rattle.pc_proto.specs.declared.request.Request.{Request}
 use Rattle.pc_proto.specs.declared.request.Request.TheVariants as requests
 use Rattle.pc_proto.specs.declared.why.Why.{Why}
 use Rattle.pc_proto.specs.declared.why.Why.TheVariants as whys
-use Rattle.pc_proto.specs.Place.{Place, Nothing, Kept, Marked, Change, Become, Finish, Stay, after, is_decided, is_final}
+use Rattle.pc_proto.specs.Place.{Place, Kept, Change, Become, Finish, Stay, after, is_decided, is_final}
 use Rattle.pc_proto.specs.RecordRows.{change, unless_decided}
 use Rattle.pc_proto.specs.RecordRows.Beat.{beat}
 use Rattle.pc_proto.specs.RecordRows.Commit.{commit}

@@ -1,6 +1,6 @@
 -- While its record is not past a stage, a listed write that was present at some time since the stage was sent is present, or the stage
 -- fails: some listed write of it was refuted and was never present.
-use Rattle.std.proofs.Common.{◌≡◌, ℕ, ◌<◌, ◌≤◌, max, nat_le, Bool, true, false, ◌&&◌, ◌==◌, ◌⊎◌, inl, inr, List, [], ◌∷◌, ◌++◌, Option, None, Some, Contains, refl, sym, ap, subst, ◌∙◌, arith}
+use Rattle.std.proofs.Common.{◌≡◌, ℕ, ◌≤◌, max, nat_le, Bool, true, false, ◌&&◌, ◌==◌, ◌⊎◌, inl, inr, List, [], ◌∷◌, ◌++◌, Option, None, Some, Contains, refl, sym, ap, subst, ◌∙◌, arith}
 use Rattle.std.proofs.lemmas.Bool.{and_from, and_parts, eq-eqb, eqb-true, leb-true, le-leb}
 use Rattle.std.proofs.lemmas.List.{append_assoc}
 use Rattle.std.proofs.lemmas.List.Elements.{Contains-append_left}
@@ -14,18 +14,17 @@ use Rattle.pc_implicit.proofs.PastWrites.{written_stays}
 use Rattle.pc_implicit.proofs.StagesLast.{later_is_refuted}
 use Rattle.pc_implicit.proofs.StageWords.{AllStand, FailsSo, IsNewerPut, LaterIsRefuted, SomeRefuted, WasRefuted}
 use Rattle.pc_implicit.proofs.Written.{missed_more, written_more}
-use Rattle.pc_implicit.specs.Decided.{decision, time_of}
+use Rattle.pc_implicit.specs.Decided.{decision}
 use Rattle.pc_implicit.specs.Stages.{IsOpenTo, IsThere, WasStaged, WasThere}
 use Rattle.pc_implicit.specs.Writes.{home_of, own_intent}
 use Rattle.pc_proto.specs.declared.event.Event.{Event}
 use Rattle.pc_proto.specs.declared.record.Intent.{Intent}
-use Rattle.pc_proto.specs.declared.record.Status.{Status}
 use Rattle.pc_proto.specs.Intents.{last_seq}
 use Rattle.pc_world.proofs.Prefixes.{run_induction}
 use Rattle.pc_world.proofs.Knowing.{run_push}
 use Rattle.pc_world.specs.Committed.{is_present}
 use Rattle.pc_world.specs.Evaluation.Put.{overtaken}
-use Rattle.pc_world.specs.Evaluation.Query.{is_found, is_it}
+use Rattle.pc_world.specs.Evaluation.Query.{is_found}
 use Rattle.pc_world.specs.Local.{Head}
 use Rattle.pc_world.specs.Run.{IsRun, protocol}
 use Rattle.pc_world.specs.StageFate.{Stage}
