@@ -20,6 +20,7 @@ pub mod EvaluatedAt
 pub mod Fates
 pub mod Firsts
 pub mod Forward
+pub mod FoundThere
 pub mod Fronts
 pub mod HeardViews
 pub mod Hearing
