@@ -3,6 +3,7 @@ pub mod Agreed
 pub mod Anchored
 pub mod Answering
 pub mod Asked
+pub mod Because
 pub mod Begins
 pub mod Bounds
 pub mod Clocks
@@ -20,6 +21,7 @@ pub mod EvaluatedAt
 pub mod Fates
 pub mod Firsts
 pub mod Forward
+pub mod FoundThere
 pub mod Fronts
 pub mod HeardViews
 pub mod Hearing
@@ -79,6 +81,7 @@ pub mod StagesLast
 pub mod StagesOpen
 pub mod StagesRefuted
 pub mod StagesSent
+pub mod StaysOrRefuted
 pub mod Turns
 pub mod VersionSearches
 pub mod VersionSteps
