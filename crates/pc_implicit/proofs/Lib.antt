@@ -38,6 +38,7 @@ pub mod MetaRows
 pub mod Metas
 pub mod Missing
 pub mod Moves
+pub mod NeverDead
 pub mod OneDecision
 pub mod OpenReads
 pub mod OwnKeys
