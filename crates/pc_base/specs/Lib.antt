@@ -5,6 +5,7 @@ pub mod Faults
 pub mod Key
 pub mod Keyed
 pub mod Span
+pub mod SpanOrder
 pub mod Timestamp
 pub mod TimestampParts
 pub mod Transaction
