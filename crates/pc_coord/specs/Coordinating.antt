@@ -28,7 +28,7 @@ use Rattle.pc_proto.specs.declared.view.View.TheVariants as views
 use Rattle.pc_proto.specs.declared.why.Why.{Why}
 use Rattle.pc_proto.specs.Stamps.{reply_stamps}
 use Rattle.pc_world.specs.Known.Clock.{last_of}
-use Rattle.pc_world.specs.Tell.Begin.{clock_now}
+use Rattle.pc_base.specs.Clock.{clock_now}
 use Rattle.pc_world.specs.Views.{final_fate, view_in}
 
 -- After a begin: past the clock's range it is told so, else a transaction is begun at the clock's time.
