@@ -1,12 +1,15 @@
 -- Versions that stand by key and timestamp still do with one more of its own key and timestamp.
-use Rattle.std.proofs.Common.{◌≡◌, Bool, true, false, if◌then◌else◌, List, [], ◌∷◌, refl, ◌∙◌}
-use Rattle.std.proofs.lemmas.Cmp.{nat_cmp_total, nat_list_cmp_total, on_total, then_total}
+use Rattle.std.proofs.Common.{◌≡◌, ℕ, ◌<◌, Bool, true, false, if◌then◌else◌, List, [], ◌∷◌, refl, sym, ap, subst, ◌∙◌, arith}
+use Rattle.std.proofs.lemmas.Cmp.{nat_cmp_total, nat_list_cmp_total, on_total, then_total, tied_itself}
+use Rattle.std.proofs.lemmas.Grind.{common_steps}
+use Rattle.std.proofs.lemmas.Map.Lookups.{exact_bytes, exact_unsigned}
 use Rattle.std.specs.Cmp.{IsTotalOrder}
+use Rattle.std.specs.Cmp.Lexicographic.{slice_cmp}
 use Rattle.std.specs.declared.cmp.Ordering.{Ordering}
 use Rattle.std.specs.declared.cmp.Ordering.TheVariants.{Less, Equal, Greater}
 use Rattle.std.specs.List.{AllByRecursion as Each}
 use Rattle.std.specs.List.Sorted.{IsStrictlySortedBy}
-use Rattle.std.specs.Ordering.{is_lt, ordering_reverse}
+use Rattle.std.specs.Ordering.{is_lt, nat_cmp, ordering_reverse, ordering_then}
 use Rattle.pc_base.proofs.Entries.{below_all}
 use Rattle.pc_base.specs.declared.version.Version.{Version}
 use Rattle.pc_base.specs.Versions.{version_cmp, with_version}
@@ -36,6 +39,27 @@ less-only : (o : Ordering) → is_lt o ≡ true → o ≡ Less
 less-only Less h = refl
 less-only Equal h = absurd cc
 less-only Greater h = absurd cc
+
+then-equal : (one other : Ordering) → ordering_then one other ≡ Equal → (one ≡ Equal) × (other ≡ Equal)
+then-equal Less other h = absurd cc
+then-equal Equal other h = (refl, h)
+then-equal Greater other h = absurd cc
+
+-- two that are equal in the order have one key and one timestamp
+pub equal_versions : (v w : Version) → version_cmp v w ≡ Equal → (v.key ≡ w.key) × (v.ts ≡ w.ts)
+equal_versions v w h =
+    let both = then-equal (slice_cmp nat_cmp v.key w.key) (nat_cmp v.ts w.ts) h in
+    (exact_bytes v.key w.key both.0, exact_unsigned v.ts w.ts both.1)
+
+less-of-one : (key other : List ℕ) (m n : ℕ) → ordering_then (slice_cmp nat_cmp key other) (nat_cmp m n) ≡ Less → key ≡ other → m < n
+less-of-one key other m n h same =
+    let tied : slice_cmp nat_cmp key other ≡ Equal = subst (λ k. slice_cmp nat_cmp key k ≡ Equal) same (tied_itself nat_list_cmp_total key) in
+    let less : nat_cmp m n ≡ Less = sym (ap (λ o. ordering_then o (nat_cmp m n)) tied) ∙ h in
+    grind (arith, common_steps, less)
+
+-- of two of one key the one that stands before is of the lesser timestamp
+pub below_of_one_key : (v w : Version) → version_cmp v w ≡ Less → v.key ≡ w.key → v.ts < w.ts
+below_of_one_key v w h same = less-of-one v.key w.key v.ts w.ts h same
 
 -- where no version has the new one's key and timestamp, all still rise
 pub sorted_with_version : (vs : List Version) (v : Version) → Each (IsApart v) vs → IsStrictlySortedBy version_cmp vs → IsStrictlySortedBy version_cmp (with_version vs v)
