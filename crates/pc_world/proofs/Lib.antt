@@ -2,6 +2,7 @@ pub mod Anywhere
 pub mod Each
 pub mod Exchange
 pub mod Kept
+pub mod KeptVersions
 pub mod KeyOrder
 pub mod Knowing
 pub mod Pieces
