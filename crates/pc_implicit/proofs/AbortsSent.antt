@@ -38,7 +38,7 @@ use Rattle.pc_world.specs.Operations.{is_last_after}
 use Rattle.pc_world.specs.Run.{IsRun, protocol}
 use Rattle.pc_world.specs.Send.Abort.{MaySendAbort}
 use Rattle.pc_world.specs.Send.Put.{AsksFor}
-use Rattle.pc_world.specs.StageFate.{IsDead, Stage, stage_request}
+use Rattle.pc_world.specs.StageFate.{IsDead, SentStage, stage_request}
 use Rattle.pc_world.specs.Tell.Refusal.{MayBlock}
 
 -- ---- a rollback is told nothing that leaves its transaction open
@@ -87,7 +87,7 @@ module _ (head : Head) (actor : ActorId) (k : Known) (is_open : k.is_open ≡ tr
 pub record IsGivenUp (k : Known) (id : TxnId) : Type 0 where
   pub begun : id.number ≤ k.begun
   pub ends : is_first id k.txns ≡ true → k.is_open ≡ true → call_of k ≡ Some calls.Rollback
-  pub dead : (s : Stage) → HasSent k.sent (stage_request s) → s.meta.id ≡ id → IsDead k.heard s
+  pub dead : (s : SentStage) → HasSent k.sent (stage_request s) → s.meta.id ≡ id → IsDead k.heard s
 
 module _ (head : Head) where
   -- One more entry of the transaction's session.
@@ -139,7 +139,7 @@ module _ (head : Head) where
         ]
 
     -- its stages stay dead, and it sends none
-    dead-then : IsGivenUp (session_at head id history) id → (s : Stage) → HasSent (session_at head id (history ++ e ∷ [])).sent (stage_request s) → s.meta.id ≡ id → IsDead (session_at head id (history ++ e ∷ [])).heard s
+    dead-then : IsGivenUp (session_at head id history) id → (s : SentStage) → HasSent (session_at head id (history ++ e ∷ [])).sent (stage_request s) → s.meta.id ≡ id → IsDead (session_at head id (history ++ e ∷ [])).heard s
     dead-then up s sent whose =
         let actor : ActorId = actors.Session id.session in
         let k = session_at head id history in

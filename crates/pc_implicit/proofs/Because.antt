@@ -25,7 +25,7 @@ use Rattle.pc_world.specs.Committed.{IsCommitted, anchor_in, commit_at, commit_b
 use Rattle.pc_world.specs.Local.{Head}
 use Rattle.pc_world.specs.RangeOf.{range_of}
 use Rattle.pc_world.specs.Run.{IsRun}
-use Rattle.pc_world.specs.StageFate.{Stage}
+use Rattle.pc_world.specs.StageFate.{SentStage}
 
 -- How a standing commits at this timestamp: it is committed there, or it stages there and all is present.
 data HowCommits (standing : Standing) (at : ℕ) (present : Bool) (ts : ℕ) : Type 0 where
@@ -52,7 +52,7 @@ module _ (head : Head) (history : List (Entry Event)) where
   committed-status s ts standing at = λ i. record { standing = standing i; epoch = s.epoch; ts = at i }
 
   -- a listed write of the stage is present as the record has it
-  present-as : (s : Stage) (r : Record) (id : TxnId) → s.meta.id ≡ id → StagesAs s r → (w : List ℕ × ℕ) → is_present head history id r.status.epoch r.status.ts w ≡ is_present head history s.meta.id s.meta.epoch s.ts w
+  present-as : (s : SentStage) (r : Record) (id : TxnId) → s.meta.id ≡ id → StagesAs s r → (w : List ℕ × ℕ) → is_present head history id r.status.epoch r.status.ts w ≡ is_present head history s.meta.id s.meta.epoch s.ts w
   present-as s r id whose stages w =
       ap (λ i. is_present head history i r.status.epoch r.status.ts w) (sym whose)
       ∙ ap (λ n. is_present head history s.meta.id n r.status.ts w) stages.epoch_is ∙ ap (λ t. is_present head history s.meta.id s.meta.epoch t w) stages.ts_is
@@ -98,7 +98,7 @@ module _ (head : Head) (history : List (Entry Event)) where
           by-place (place_at head (range_of head.splits anchor) id history) (home_is head id history anchor some) (sym (ap (commit_at head history id) some) ∙ is)
 
   -- a stage by which its transaction is committed commits it
-  pub commits_by_is : (s : Stage) → CommitsBy head history s → IsCommitted head history s.meta.id s.ts
+  pub commits_by_is : (s : SentStage) → CommitsBy head history s → IsCommitted head history s.meta.id s.ts
   commits_by_is s by =
       let r = by.r in
       let id = s.meta.id in

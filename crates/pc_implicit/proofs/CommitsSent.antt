@@ -36,18 +36,20 @@ use Rattle.pc_proto.specs.declared.request.Request.TheVariants as requests
 use Rattle.pc_proto.specs.Place.{Place, Nothing, Kept, Marked, Stay, Become, after, is_final, view_of}
 use Rattle.pc_proto.specs.RecordRows.{answer}
 use Rattle.pc_proto.specs.RecordRows.Reached.{status_of}
+use Rattle.pc_proto.specs.Replies.{is_undecided_status}
+use Rattle.pc_proto.specs.Views.{is_final_view}
 use Rattle.pc_world.proofs.Knowing.{run_push}
 use Rattle.pc_world.proofs.Prefixes.{run_induction}
 use Rattle.pc_world.specs.After.{known_at, place_at, state_at}
 use Rattle.pc_world.specs.Committed.{anchor_in}
 use Rattle.pc_world.specs.Evaluation.{reply}
 use Rattle.pc_world.specs.Known.Traffic.{Heard, Sent}
-use Rattle.pc_world.specs.Known.Transactions.{Txn, is_final_view}
+use Rattle.pc_world.specs.Known.Transactions.{Txn}
 use Rattle.pc_world.specs.Known.Writes.{IsProvedBy, Write}
 use Rattle.pc_world.specs.Local.{Head}
 use Rattle.pc_world.specs.Run.{IsRun, protocol}
 use Rattle.pc_world.specs.Send.Commit.{MaySendCommit}
-use Rattle.pc_world.specs.StageFate.{Commit, IsRefused, IsUncommitted, OnCommit, is_unsettled_status}
+use Rattle.pc_world.specs.StageFate.{IsUncommitted, OnCommit, SentCommit, WasCommitRefused}
 
 -- The place is past this epoch or timestamp.
 abbrev pub IsBeyond : ℕ → ℕ → Place → Type 0
@@ -76,7 +78,7 @@ undecided-then p q stands none =
     ]
 
 -- a record that is not decided, and that a commit leaves so, is past it
-passes : (meta : TxnMeta) (ts : ℕ) (locks : List (List ℕ)) (p : Place) → decision p ≡ None → is_unsettled_status (answer (requests.Commit meta ts locks) p) ≡ true → IsBeyond meta.epoch ts p
+passes : (meta : TxnMeta) (ts : ℕ) (locks : List (List ℕ)) (p : Place) → decision p ≡ None → is_undecided_status (answer (requests.Commit meta ts locks) p) ≡ true → IsBeyond meta.epoch ts p
 passes meta ts locks Nothing none h = absurd cc
 passes meta ts locks (Kept r) none h = by (is_final r.status.standing) refl (nat_le r.status.epoch meta.epoch && nat_le r.status.ts ts) refl h
   where
@@ -94,7 +96,7 @@ passes meta ts locks (Marked s) none h = absurd cc
 
 module _ (head : Head) (history : List (Entry Event)) (run : IsRun head history) where
   refused-at : (actor : ActorId) (h : Heard) → IsSo head history actor h → (meta : TxnMeta) (ts : ℕ) (locks : List (List ℕ)) → decision (home_of head meta.id history) ≡ None
-      → h.request ≡ requests.Commit meta ts locks → is_unsettled_status h.reply ≡ true → IsBeyond meta.epoch ts (home_of head meta.id history)
+      → h.request ≡ requests.Commit meta ts locks → is_undecided_status h.reply ≡ true → IsBeyond meta.epoch ts (home_of head meta.id history)
   refused-at actor h so meta ts locks none asked unsettled =
       let sends : so.send.event ≡ events.Send h.number so.range (requests.Commit meta ts locks) = so.sends ∙ ap (events.Send h.number so.range) asked in
       let anchored = subject_anchored head history run so.send so.listed h.number so.range (requests.Commit meta ts locks) meta.id sends refl in
@@ -103,11 +105,11 @@ module _ (head : Head) (history : List (Entry Event)) (run : IsRun head history)
       let p = place_at head so.range meta.id so.front in
       let told : h.reply ≡ answer (requests.Commit meta ts locks) p = so.answers ∙ ap (λ r. reply r (state_at head so.range so.front)) asked in
       let stands : Stands p (place_at head so.range meta.id history) = subst (λ x. Stands p (place_at head so.range meta.id x)) so.whole (over _ (places_go_on meta.id) head so.range so.front so.back) in
-      let past : IsBeyond meta.epoch ts p = passes meta ts locks p (undecided-then p (place_at head so.range meta.id history) stands (ap decision there ∙ none)) (ap is_unsettled_status (sym told) ∙ unsettled) in
+      let past : IsBeyond meta.epoch ts p = passes meta ts locks p (undecided-then p (place_at head so.range meta.id history) stands (ap decision there ∙ none)) (ap is_undecided_status (sym told) ∙ unsettled) in
       subst (IsBeyond meta.epoch ts) there (beyond-on meta.epoch ts p (place_at head so.range meta.id history) stands.rises past)
 
   -- the record of a transaction that is not decided is past each commit that its session heard to be refused
-  pub refused_beyond : (actor : ActorId) (c : Commit) → decision (home_of head c.meta.id history) ≡ None → IsRefused (known_at head actor history).heard c → IsBeyond c.meta.epoch c.ts (home_of head c.meta.id history)
+  pub refused_beyond : (actor : ActorId) (c : SentCommit) → decision (home_of head c.meta.id history) ≡ None → WasCommitRefused (known_at head actor history).heard c → IsBeyond c.meta.epoch c.ts (home_of head c.meta.id history)
   refused_beyond actor c none (n, h, inside, at, refuses) =
       refused-at actor h (each_contained (IsSo head history actor) (known_at head actor history).heard h (heard_is_so head history run actor) (n, inside, at)) c.meta c.ts c.locks none refuses.asked refuses.unsettled
 
@@ -120,8 +122,8 @@ module _ (head : Head) (history : List (Entry Event)) (run : IsRun head history)
       let same : a.actor ≡ actor = (commit_anchored head history run a there number range meta ts locks is).whose in
       let m : Sent = record { number = number; range = range; request = requests.Commit meta ts locks } in
       let sent : Contains (known_at head actor history).sent m = subst (λ x. Contains (known_at head x history).sent m) same (sent_known head history run a there number range (requests.Commit meta ts locks) is) in
-      let on : OnCommit id (IsRefused (known_at head actor history).heard) (requests.Commit meta ts locks) =
-      All-contains (λ (x : Sent). OnCommit id (IsRefused (known_at head actor history).heard) x.request) (known_at head actor history).sent m uncommitted.commits sent in
+      let on : OnCommit id (WasCommitRefused (known_at head actor history).heard) (requests.Commit meta ts locks) =
+      All-contains (λ (x : Sent). OnCommit id (WasCommitRefused (known_at head actor history).heard) x.request) (known_at head actor history).sent m uncommitted.commits sent in
       refused_beyond actor (record { meta = meta; ts = ts; locks = locks }) none (on (ap (λ i. same_txn i id) whose ∙ same-itself id))
 
 -- What has become of a commit of this epoch and timestamp: its transaction is decided; or it is of the present epoch, each write of which

@@ -40,22 +40,22 @@ use Rattle.pc_proto.specs.declared.request.Request.TheVariants as requests
 use Rattle.pc_proto.specs.declared.view.View.{View}
 use Rattle.pc_proto.specs.declared.view.View.TheVariants as views
 use Rattle.pc_proto.specs.Place.{Place, Nothing, Kept, Marked, is_final, status_view, view_of}
-use Rattle.pc_proto.specs.RecordRows.{subject}
+use Rattle.pc_proto.specs.Replies.{view_in}
+use Rattle.pc_proto.specs.Requests.{is_push_of, subject}
 use Rattle.pc_proto.specs.Table.{place_of}
 use Rattle.pc_world.proofs.Prefixes.{run_front}
 use Rattle.pc_world.specs.After.{known_at, place_at, state_at}
 use Rattle.pc_world.specs.Evaluation.{state_after}
 use Rattle.pc_world.specs.Evaluation.{reply as reply_of}
-use Rattle.pc_world.specs.Evaluation.Query.{stands}
+use Rattle.pc_world.specs.Evaluation.Query.{write_stands}
 use Rattle.pc_world.specs.Known.Traffic.{Heard, Sent}
-use Rattle.pc_world.specs.Known.Transactions.{has_staged, is_stage_of, lists}
+use Rattle.pc_world.specs.Known.Transactions.{has_staged, is_stage_of, lists_write}
 use Rattle.pc_world.specs.Local.{Head}
 use Rattle.pc_world.specs.RangeOf.{range_of}
 use Rattle.pc_world.specs.RangeState.{RangeState}
 use Rattle.pc_world.specs.Run.{IsRun}
-use Rattle.pc_world.specs.Send.Recovery.{MaySendQuery, WasStaging, is_push_of}
-use Rattle.pc_world.specs.StageFate.{Stage, stage_request}
-use Rattle.pc_world.specs.Views.{view_in}
+use Rattle.pc_world.specs.Send.Recovery.{MaySendQuery, WasStaging}
+use Rattle.pc_world.specs.StageFate.{SentStage, stage_request}
 
 -- a staging view is that of a record which stages so
 pub view_stages : (p : Place) (epoch ts : ℕ) (writes : List (List ℕ × ℕ)) → ((s : _) → p ≡ Marked s → is_final s.standing ≡ true) → view_of p ≡ views.Staging epoch ts writes
@@ -127,26 +127,26 @@ module _ (head : Head) (history : List (Entry Event)) (run : IsRun head history)
 
   -- a stage that its session knows it sent
   staged-own : (id : TxnId) (epoch ts seq : ℕ) (key : List ℕ) (number range : ℕ) (request : Request) (a : Entry Event) → Contains history a → a.event ≡ events.Send number range request
-      → is_stage_of id epoch ts key seq request ≡ true → (x : Stage) × WasStaged history x × (x.meta.id ≡ id) × (x.meta.epoch ≡ epoch) × (x.ts ≡ ts)
+      → is_stage_of id epoch ts key seq request ≡ true → (x : SentStage) × WasStaged history x × (x.meta.id ≡ id) × (x.meta.epoch ≡ epoch) × (x.ts ≡ ts)
   staged-own id epoch ts seq key number range (requests.Stage meta at now writes locks) a there sends is =
-      let parts = and_parts (same_txn meta.id id && meta.epoch == epoch) (at == ts && lists key seq writes) is in
+      let parts = and_parts (same_txn meta.id id && meta.epoch == epoch) (at == ts && lists_write key seq writes) is in
       let own = and_parts (same_txn meta.id id) (meta.epoch == epoch) parts.0 in
-      let rest = and_parts (at == ts) (lists key seq writes) parts.1 in
-      let x : Stage = record { meta = meta; ts = at; now = now; writes = writes; locks = locks } in
+      let rest = and_parts (at == ts) (lists_write key seq writes) parts.1 in
+      let x : SentStage = record { meta = meta; ts = at; now = now; writes = writes; locks = locks } in
       let sent : WasStaged history x = record { send = a; listed = there; number = number; range = range; sends = sends } in
       (x, sent, same-is meta.id id own.0, eqb-true meta.epoch epoch own.1, eqb-true at ts rest.0)
   staged-own id epoch ts seq key number range request a there sends is = absurd cc
 
   -- who may query a write has seen its transaction stage there, or staged there itself
   asker-saw : (actor : ActorId) (id : TxnId) (epoch seq ts : ℕ) (key : List ℕ) (by : Who) → MaySendQuery actor (known_at head actor history) id epoch seq ts key by
-      → (x : Stage) × WasStaged history x × (x.meta.id ≡ id) × (x.meta.epoch ≡ epoch) × (x.ts ≡ ts)
+      → (x : SentStage) × WasStaged history x × (x.meta.id ≡ id) × (x.meta.epoch ≡ epoch) × (x.ts ≡ ts)
   asker-saw actor id epoch seq ts key by may =
       elim may.why [
         | inl listed ↦ let sent = staging_heard actor id epoch ts listed.writes listed.staging in (sent.stage, sent.sent, sent.whose, sent.epoch_is, sent.ts_is)
         | inr own ↦ from-own own.staged
       ]
     where
-      from-own : IsTrue (has_staged (known_at head actor history).sent id epoch ts key seq) → (x : Stage) × WasStaged history x × (x.meta.id ≡ id) × (x.meta.epoch ≡ epoch) × (x.ts ≡ ts)
+      from-own : IsTrue (has_staged (known_at head actor history).sent id epoch ts key seq) → (x : SentStage) × WasStaged history x × (x.meta.id ≡ id) × (x.meta.epoch ≡ epoch) × (x.ts ≡ ts)
       from-own staged =
           let any = Any-from_list_any (λ (m : Sent). is_stage_of id epoch ts key seq m.request) (known_at head actor history).sent staged in
           let m = any.1 in
@@ -159,7 +159,7 @@ module _ (head : Head) (history : List (Entry Event)) (run : IsRun head history)
   found-stands false told = absurd cc
 
   -- a write that a query found was present since its stage was sent
-  pub found_there : (s : Stage) → WasStaged history s → IsOpenTo head history s → (w : List ℕ × ℕ) → QueryFound history s.meta.id s.meta.epoch w.0 w.1 s.ts → WasThere head history s w
+  pub found_there : (s : SentStage) → WasStaged history s → IsOpenTo head history s → (w : List ℕ × ℕ) → QueryFound history s.meta.id s.meta.epoch w.0 w.1 s.ts → WasThere head history s w
   found_there s sent opened w found =
       let request = requests.Query s.meta.id s.meta.epoch w.1 s.ts w.0 found.by in
       let at = replied_at head history run request replies.Found found.replied in
@@ -173,12 +173,12 @@ module _ (head : Head) (history : List (Entry Event)) (run : IsRun head history)
       let early : WasStaged at.before x = subst (λ h. WasStaged h x) (sym asked.whole) (staged_along asked.before (at.send ∷ asked.later) x saw.1) in
       let also : WasStaged history x = subst (λ h. WasStaged h x) (sym at.whole) (staged_along at.before (at.e ∷ at.later) x early) in
       let one : x ≡ s = one_staged head history run s x sent also saw.2 saw.3 saw.4 opened in
-      let standing : stands s.meta.id s.meta.epoch w.1 s.ts w.0 (state_at head found.replied.range at.before) ≡ true =
-      found-stands (stands s.meta.id s.meta.epoch w.1 s.ts w.0 (state_at head found.replied.range at.before)) at.at.answers in
+      let standing : write_stands s.meta.id s.meta.epoch w.1 s.ts w.0 (state_at head found.replied.range at.before) ≡ true =
+      found-stands (write_stands s.meta.id s.meta.epoch w.1 s.ts w.0 (state_at head found.replied.range at.before)) at.at.answers in
       record {
         front = at.before;
         back = at.e ∷ at.later;
         whole = at.whole;
         staged = subst (WasStaged at.before) one early;
-        there = subst (λ r. stands s.meta.id s.meta.epoch w.1 s.ts w.0 (state_at head r at.before) ≡ true) at.at.goes standing;
+        there = subst (λ r. write_stands s.meta.id s.meta.epoch w.1 s.ts w.0 (state_at head r at.before) ≡ true) at.at.goes standing;
       }

@@ -25,7 +25,8 @@ use Rattle.pc_proto.specs.declared.event.Event.TheVariants as events
 use Rattle.pc_proto.specs.declared.request.Request.{Request}
 use Rattle.pc_proto.specs.declared.view.View.{View}
 use Rattle.pc_proto.specs.Place.{view_of}
-use Rattle.pc_proto.specs.RecordRows.{subject}
+use Rattle.pc_proto.specs.Replies.{view_in}
+use Rattle.pc_proto.specs.Requests.{subject}
 use Rattle.pc_world.proofs.Each.{each-append, each-weaker}
 use Rattle.pc_world.proofs.Knowing.{known_other, known_same, run_push}
 use Rattle.pc_world.proofs.Prefixes.{run_front, run_induction, run_may, run_step}
@@ -36,7 +37,6 @@ use Rattle.pc_world.specs.Known.Traffic.{Heard, heard_by, reply_in, reply_named,
 use Rattle.pc_world.specs.Local.{Head}
 use Rattle.pc_world.specs.Named.{request_in, request_named}
 use Rattle.pc_world.specs.Run.{IsRun, protocol}
-use Rattle.pc_world.specs.Views.{view_in}
 
 -- The evaluation of the message that was heard, at the step that was heard.
 pub record IsStepped (history : List (Entry Event)) (actor : ActorId) (h : Heard) : Type 0 where

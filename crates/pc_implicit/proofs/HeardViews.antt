@@ -24,14 +24,16 @@ use Rattle.pc_proto.specs.declared.request.Request.{Request}
 use Rattle.pc_proto.specs.declared.view.View.{View}
 use Rattle.pc_proto.specs.declared.view.View.TheVariants as views
 use Rattle.pc_proto.specs.Place.{Place}
-use Rattle.pc_proto.specs.RecordRows.{subject}
 use Rattle.pc_proto.specs.RecordRows.Reached.{status_of}
+use Rattle.pc_proto.specs.Replies.{view_in}
+use Rattle.pc_proto.specs.Requests.{is_about, subject}
+use Rattle.pc_proto.specs.Views.{is_committed_at}
 use Rattle.pc_world.specs.After.{known_at, place_at, state_at}
 use Rattle.pc_world.specs.Evaluation.{reply as reply_of}
 use Rattle.pc_world.specs.Known.Traffic.{Heard}
 use Rattle.pc_world.specs.Local.{Head}
 use Rattle.pc_world.specs.Run.{IsRun}
-use Rattle.pc_world.specs.Views.{WasCommitted, is_about, is_committed_at, view_in}
+use Rattle.pc_world.specs.Views.{WasCommitted}
 
 -- what is not decided in the end was not decided before
 pub undecided_from : (p q : Place) → Stands p q → decision q ≡ None → decision p ≡ None

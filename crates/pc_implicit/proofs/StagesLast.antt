@@ -34,7 +34,7 @@ use Rattle.pc_world.specs.Known.Writes.{IsProvedBy, Write, is_proved, listed_as,
 use Rattle.pc_world.specs.Local.{Head}
 use Rattle.pc_world.specs.Run.{IsRun}
 use Rattle.pc_world.specs.Send.Stage.{MaySendNewStage}
-use Rattle.pc_world.specs.StageFate.{IsDead, Stage, stage_request}
+use Rattle.pc_world.specs.StageFate.{IsDead, SentStage, stage_request}
 
 -- ---- writes
 
@@ -72,7 +72,7 @@ pair-of w x key seq writes there = subst (Contains writes) (λ i. (sym key i, sy
 
 -- ---- one more entry
 
-module _ (head : Head) (history : List (Entry Event)) (e : Entry Event) (k : Known) (more : List Heard) (s : Stage) (t u : Txn) where
+module _ (head : Head) (history : List (Entry Event)) (e : Entry Event) (k : Known) (more : List Heard) (s : SentStage) (t u : Txn) where
   -- what is known of a stage that was sent before
   last-turn : HasSent k.sent (stage_request s) → s.meta.id ≡ t.id → IsKnownLast k.heard t s → Turn history e k t u → IsKnownLast (k.heard ++ more) u s
   last-turn sent whose l (WentOn epoch alike) =
@@ -184,16 +184,16 @@ module _ (head : Head) (history : List (Entry Event)) (e : Entry Event) (k : Kno
 module _ (head : Head) where
   KnowLast : List (Entry Event) → Type 0
   KnowLast history =
-      (actor : ActorId) (s : Stage) → HasSent (known_at head actor history).sent (stage_request s) → (t : Txn) → Contains (known_at head actor history).txns t → t.id ≡ s.meta.id → IsKnownLast (known_at head actor history).heard t s
+      (actor : ActorId) (s : SentStage) → HasSent (known_at head actor history).sent (stage_request s) → (t : Txn) → Contains (known_at head actor history).txns t → t.id ≡ s.meta.id → IsKnownLast (known_at head actor history).heard t s
 
   -- a stage that was sent is of a transaction with an anchor
-  anchored-so : (history : List (Entry Event)) → IsRun head history → (actor : ActorId) (s : Stage) → HasSent (known_at head actor history).sent (stage_request s) → (anchor : List ℕ) × (anchor_in s.meta.id history ≡ Some anchor)
+  anchored-so : (history : List (Entry Event)) → IsRun head history → (actor : ActorId) (s : SentStage) → HasSent (known_at head actor history).sent (stage_request s) → (anchor : List ℕ) × (anchor_in s.meta.id history ≡ Some anchor)
   anchored-so history run actor s (n, m, inside, at, asks) =
       let w = each_contained (WasSentBy head history actor) (known_at head actor history).sent m (sent_is_so head history run actor) (n, inside, at) in
       let a = subject_anchored head history run w.send w.listed m.number m.range (stage_request s) s.meta.id (w.sends ∙ ap (events.Send m.number m.range) asks) refl in
       (a.anchor, a.anchored)
 
-  know-last : (history : List (Entry Event)) → IsRun head history → (actor : ActorId) (s : Stage) → HasSent (known_at head actor history).sent (stage_request s) → (t : Txn) → Contains (known_at head actor history).txns t → t.id ≡ s.meta.id
+  know-last : (history : List (Entry Event)) → IsRun head history → (actor : ActorId) (s : SentStage) → HasSent (known_at head actor history).sent (stage_request s) → (t : Txn) → Contains (known_at head actor history).txns t → t.id ≡ s.meta.id
       → IsKnownLast (known_at head actor history).heard t s
   unfolding KnowLast
   know-last = run_induction head KnowLast (λ actor s sent t there whose. absurd (none_sent (stage_request s) sent)) (λ history e run may all actor s sent u there whose.
@@ -223,7 +223,7 @@ module _ (head : Head) where
             ]
       ]))
     where
-      by : (history : List (Entry Event)) (e : Entry Event) → IsRun head history → (actor : ActorId) (s : Stage) (u t : Txn) (number range : ℕ) → e.event ≡ events.Send number range (stage_request s)
+      by : (history : List (Entry Event)) (e : Entry Event) → IsRun head history → (actor : ActorId) (s : SentStage) (u t : Txn) (number range : ℕ) → e.event ≡ events.Send number range (stage_request s)
           → (new : MaySendNewStage (known_at head actor history) s) → new.t ≡ t → AreOrderly history t → (more : List Heard) → Turn history e (known_at head actor history) t u → IsKnownLast ((known_at head actor history).heard ++ more) u s
       by history e run actor s u t number range sends new own o more (WentOn epoch alike) = new-known head history e (known_at head actor history) more s t u new own o epoch alike
       by history e run actor s u t number range sends new own o more (Wrote w f epoch writes) =
