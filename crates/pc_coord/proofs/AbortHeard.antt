@@ -11,11 +11,11 @@ use Rattle.pc_coord.proofs.Resting.{closed_told, told_in}
 use Rattle.pc_coord.proofs.RollingBack.{abort_request}
 use Rattle.pc_coord.proofs.Same.{same_txn-self}
 use Rattle.pc_coord.proofs.Steps.{counted-heard, heard}
-use Rattle.pc_coord.specs.Coordinating.{after_abort_reply, rolled_back_in, with_heard}
+use Rattle.pc_coord.specs.Coordinating.{after_abort_reply, rolled_back_with, with_heard}
 use Rattle.pc_coord.specs.Coordination.{Coordination, job_of}
 use Rattle.pc_coord.specs.declared.due.Due.TheVariants as dues
 use Rattle.pc_coord.specs.declared.due.Wait.TheVariants as waits
-use Rattle.pc_coord.specs.Events.{IsHeard}
+use Rattle.pc_coord.specs.Events.{HearsAwaited}
 use Rattle.pc_coord.specs.Knows.{Awaits, Knows}
 use Rattle.pc_coord.specs.Knows.Ending.{AwaitsAbort}
 use Rattle.pc_coord.specs.Knows.Held.{IsCounted}
@@ -130,8 +130,8 @@ module _ (c : Coordination) (k : Known) (number step : ℕ) (view : View) (fate 
 
   ended : option_and_then final_fate (view_in reply) ≡ Some fate → Knows (after_abort_reply reply (with_heard reply c)) k3
   ended shows =
-      subst (λ txn. Knows (rolled_back_in why (option_and_then final_fate (view_in reply)) txn (with_heard reply c)) k3) (sym a.held)
-      (subst (λ f. Knows (rolled_back_in why f (Some a.x) (with_heard reply c)) k3) (sym shows) rolled_back)
+      subst (λ txn. Knows (rolled_back_with why (option_and_then final_fate (view_in reply)) txn (with_heard reply c)) k3) (sym a.held)
+      (subst (λ f. Knows (rolled_back_with why f (Some a.x) (with_heard reply c)) k3) (sym shows) rolled_back)
 
 abort_reply : (c : Coordination) (k : Known) (number step : ℕ) (reply : Reply) → AreRising c.splits → IsCounted c.session c.clock c.begun k → (a : AwaitsAbort k c.txn number) → IsAbortReply reply
     → Knows (after_abort_reply reply (with_heard reply c)) (reply_known number step (abort_request a.t a.anchor) reply k)
@@ -144,7 +144,7 @@ abort_reply c k number step (replies.Status (views.Pending epoch ts)) rising cou
 abort_reply c k number step (replies.Status (views.Staging epoch ts writes)) rising counted a kind = absurd cc
 abort_reply c k number step reply rising counted a kind = absurd kind
 
-pub abort_heard : (c : Coordination) (k : Known) (p : Pair Event) (number step : ℕ) (reply : Reply) → AreRising c.splits → IsHeard c number step reply k p → Awaits c.session c.clock c.begun c.txn number waits.Abort k
+pub abort_heard : (c : Coordination) (k : Known) (p : Pair Event) (number step : ℕ) (reply : Reply) → AreRising c.splits → HearsAwaited c number step reply k p → Awaits c.session c.clock c.begun c.txn number waits.Abort k
     → Knows (after_abort_reply reply (with_heard reply c)) (learn p k)
 abort_heard c k p number step reply rising is awaits =
     let a = awaits.reply in

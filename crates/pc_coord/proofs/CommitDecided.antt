@@ -10,7 +10,7 @@ use Rattle.pc_coord.proofs.Replies.{still_open}
 use Rattle.pc_coord.proofs.Resting.{closed_told, match_false}
 use Rattle.pc_coord.proofs.Same.{same_txn-self}
 use Rattle.pc_coord.proofs.Steps.{counted-heard, heard}
-use Rattle.pc_coord.specs.Coordinating.{committed_in, with_heard}
+use Rattle.pc_coord.specs.Coordinating.{committed_with, with_heard}
 use Rattle.pc_coord.specs.Coordination.{Coordination, job_of}
 use Rattle.pc_coord.specs.declared.due.Due.TheVariants as dues
 use Rattle.pc_coord.specs.Knows.{Knows}
@@ -29,7 +29,7 @@ use Rattle.pc_proto.specs.declared.view.View.TheVariants as views
 use Rattle.pc_proto.specs.declared.why.Why.{Why}
 use Rattle.pc_proto.specs.Stamps.{view_stamps}
 use Rattle.pc_world.specs.Known.{Known, open_txn}
-use Rattle.pc_world.specs.Known.Clock.{last_of}
+use Rattle.pc_world.specs.Known.Clock.{greatest_of}
 use Rattle.pc_world.specs.Known.Traffic.{Heard}
 use Rattle.pc_world.specs.Known.Transactions.{Txn, meta_of, txn_heard}
 use Rattle.pc_world.specs.RangeOf.{AreRising}
@@ -49,7 +49,7 @@ module _ (c : Coordination) (k : Known) (number step ts refusals : ℕ) (view : 
   k3 = heard h k
 
   abbrev latest : ℕ
-  latest = max c.clock (last_of (view_stamps view))
+  latest = max c.clock (greatest_of (view_stamps view))
 
   pub counted-commit : IsCounted c.session latest c.begun k3
   counted-commit = counted-heard c.session c.clock c.begun k counted h a.last.counted (record { write = a.plain.number; record_of = λ id about whose. let e : a.t.id ≡ id = cc in subst (λ id. id.number ≤ k.begun) e a.plain.number })
@@ -76,7 +76,7 @@ module _ (c : Coordination) (k : Known) (number step ts refusals : ℕ) (view : 
     opened : open_txn k3 ≡ Some t3
     opened = opened3 k a.x a.t a.anchor fate h a.open_as ends
 
-    pub committed_told : (at epoch : ℕ) (locks : List (List ℕ)) → view ≡ views.Committed epoch at locks → fate ≡ fates.Committed epoch at → Knows (committed_in epoch at (Some a.x) (with_heard reply c)) k3
+    pub committed_told : (at epoch : ℕ) (locks : List (List ℕ)) → view ≡ views.Committed epoch at locks → fate ≡ fates.Committed epoch at → Knows (committed_with epoch at (Some a.x) (with_heard reply c)) k3
     committed_told at epoch locks is fated =
         let answer = answers.Committed a.x.id at in
         subst (λ f. Knows (record (with_heard reply c) { txn = None; due = dues.Tell answer; job = job_of (Some f) (Some a.x) }) k3) fated

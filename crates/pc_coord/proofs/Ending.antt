@@ -19,7 +19,7 @@ use Rattle.pc_proto.specs.declared.view.View.TheVariants as views
 use Rattle.pc_proto.specs.Stamps.{fate_stamps, view_stamps}
 use Rattle.pc_world.specs.Follows.FinishingJobs.{settling}
 use Rattle.pc_world.specs.Known.{Known}
-use Rattle.pc_world.specs.Known.Clock.{last_of}
+use Rattle.pc_world.specs.Known.Clock.{greatest_of}
 use Rattle.pc_world.specs.Known.Traffic.{Heard}
 use Rattle.pc_world.specs.Known.Transactions.{Txn}
 use Rattle.pc_world.specs.Send.Settling.{HasLocks, IsFateOf, ShowsFate, ShowsFinal}
@@ -63,7 +63,7 @@ module _ (t : Txn) where
 pub record IsFinalAs (view : View) (fate : Fate) : Type 0 where
   pub shows : final_fate view ≡ Some fate
   pub fits : IsFateOf view fate
-  pub stamps : (top : ℕ) → last_of (view_stamps view) ≤ top → All (λ ts. ts ≤ top + 1) (fate_stamps fate)
+  pub stamps : (top : ℕ) → greatest_of (view_stamps view) ≤ top → All (λ ts. ts ≤ top + 1) (fate_stamps fate)
   pub shown : List (List ℕ)
   pub locked : HasLocks view shown
 
@@ -116,7 +116,7 @@ module _ (t : Txn) (anchor : List ℕ) (fate : Fate) (heard : List Heard) (h : H
   left_is read w = ap (λ o. settling t o (Some anchor)) (sym fate_is) ∙ ap (settling t (fate_heard t.id (heard ++ h ∷ []))) (sym ends.anchored)
 
   -- and the job may be done
-  pub may_finish : (k : Known) (read : Bool) (w : Option InFlight) (t2 : Txn) → k.heard ≡ heard ++ h ∷ [] → last_of (view_stamps ends.view) ≤ k.top → Contains k.txns t2 → t2.id ≡ t.id → t2.locks ≡ t.locks
+  pub may_finish : (k : Known) (read : Bool) (w : Option InFlight) (t2 : Txn) → k.heard ≡ heard ++ h ∷ [] → greatest_of (view_stamps ends.view) ≤ k.top → Contains k.txns t2 → t2.id ≡ t.id → t2.locks ≡ t.locks
       → MayFinishJob k (record { meta = meta_in (transaction_of read w t) anchor; staged = None; fate = fate; locks = t.locks })
   may_finish k read w t2 all low there same locks = record {
     resolve =

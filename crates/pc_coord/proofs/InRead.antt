@@ -11,9 +11,9 @@ use Rattle.pc_coord.specs.Coordination.{Coordination, with_due}
 use Rattle.pc_coord.specs.declared.due.Due.TheVariants as dues
 use Rattle.pc_coord.specs.declared.messages.Message.{Message}
 use Rattle.pc_coord.specs.declared.transaction.Transaction.{Transaction}
-use Rattle.pc_coord.specs.Knows.{Knows, MayFinishJob, Reads, Rests, messages_left}
+use Rattle.pc_coord.specs.Knows.{IsReadingNow, Knows, MayFinishJob, Rests, messages_left}
 use Rattle.pc_coord.specs.Knows.Held.{IsCounted, IsHeld, IsOpenAs, IsSettled}
-use Rattle.pc_coord.specs.Knows.Reading.{AreApart, AreDifferent, AreReadsOf, AwaitsReads, IsReadAt, Stands, holders_met}
+use Rattle.pc_coord.specs.Knows.Reading.{AreApart, AreDifferent, AreReadsOf, AwaitsReads, IsReadAt, StandsWith, holders_met}
 use Rattle.pc_coord.specs.Messages.{blocked_by, first_met}
 use Rattle.pc_coord.specs.Rounds.{IsPaced}
 use Rattle.pc_coord.specs.Suiting.{IsReader, SuitsNext}
@@ -52,12 +52,12 @@ pub record Proceeds (c : Coordination) (k : Known) (messages : List Message) : T
   pub within : IsInRead c k
   pub asked : AreReadsOf c.splits within.x within.call (map (λ m. m.request) messages)
   pub different : AreDifferent (map (λ m. m.request) messages)
-  pub stand : All (Stands k within.t) messages
+  pub stand : All (StandsWith k within.t) messages
   pub apart : AreApart messages
   pub paced : IsPaced (holders_met messages) k
   pub at_read_ts : All (IsReadAt within.t.read_ts) k.heard_now
 
-pub proceeds : (c : Coordination) (k : Known) (messages : List Message) → AreRising c.splits → c.job ≡ None → Reads c k messages → Proceeds c k messages
+pub proceeds : (c : Coordination) (k : Known) (messages : List Message) → AreRising c.splits → c.job ≡ None → IsReadingNow c k messages → Proceeds c k messages
 proceeds c k messages rising none_left r =
     let a : AwaitsReads c.splits k c.txn messages = r.reads in
     record {

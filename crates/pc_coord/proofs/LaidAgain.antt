@@ -30,7 +30,7 @@ use Rattle.pc_world.specs.Known.Writes.{Write, asked_again, last_seq_of}
 use Rattle.pc_world.specs.RangeOf.{AreRising}
 use Rattle.pc_world.specs.SameRequest.{IsSameRequest}
 use Rattle.pc_world.specs.Send.Recovery.{is_put_of}
-use Rattle.pc_world.specs.StageFate.{IsRefused, OnCommit}
+use Rattle.pc_world.specs.StageFate.{OnCommit, WasCommitRefused}
 
 -- The transaction once its last write was sent again.
 abbrev pub laid_again : Txn → Txn
@@ -155,7 +155,7 @@ module _ (c : Coordination) (k : Known) (conflicts : ℕ) (again : Bool) (counte
           behind = plain.behind;
           at_begin = plain.at_begin;
           below = plain.below;
-          refused = All-push (λ m. OnCommit t.id (IsRefused k.heard) m.request) k.sent m plain.refused tt;
+          refused = All-push (λ m. OnCommit t.id (WasCommitRefused k.heard) m.request) k.sent m plain.refused tt;
           views = views-as t t2 k.heard refl refl plain.views;
         }
 

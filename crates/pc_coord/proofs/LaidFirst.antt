@@ -21,7 +21,7 @@ use Rattle.pc_coord.specs.Knows.Held.{IsCounted, IsPendingOf, IsPlain, IsSettled
 use Rattle.pc_coord.specs.Knows.Sending.{IsSendable}
 use Rattle.pc_coord.specs.Knows.Writing.{IsWriting, write_call}
 use Rattle.pc_coord.specs.Rounds.{IsPaced}
-use Rattle.pc_coord.specs.Transaction.{put_of, transaction_of, with_write}
+use Rattle.pc_coord.specs.Transaction.{put_of, transaction_of, with_own_write}
 use Rattle.pc_history.proofs.Lists.{all_from_contains}
 use Rattle.pc_proto.specs.declared.meta.TxnMeta.{TxnMeta}
 use Rattle.pc_proto.specs.declared.request.Request.{Request}
@@ -34,7 +34,7 @@ use Rattle.pc_world.specs.Known.Writes.{Write, last_seq_of}
 use Rattle.pc_world.specs.RangeOf.{AreRising}
 use Rattle.pc_world.specs.SameRequest.{IsSameRequest}
 use Rattle.pc_world.specs.Send.Put.{AsksFor}
-use Rattle.pc_world.specs.StageFate.{IsDead, IsRefused, OnCommit}
+use Rattle.pc_world.specs.StageFate.{IsDead, OnCommit, WasCommitRefused}
 use Rattle.pc_world.specs.Views.{anchor_in, is_about}
 use Rattle.pc_coord.proofs.Puts.{anchor-some, asks_for, no_put, none_heard_next, own_put, put_for, said_last, same_put, undecided}
 
@@ -50,7 +50,7 @@ laid key value t = record t {
 }
 
 abbrev pub first_put : List ℕ → Option (List ℕ) → Txn → Request
-first_put key value t = put_of (with_write key value (transaction_of false None t)) (unwrap_or t.anchor key) key value
+first_put key value t = put_of (with_own_write key value (transaction_of false None t)) (unwrap_or t.anchor key) key value
 
 sent-first : (key : List ℕ) (value : Option (List ℕ)) (t : Txn) → txn_sent (first_put key value t) t ≡ laid key value t
 sent-first key value t =
@@ -66,7 +66,7 @@ last-laid : (key : List ℕ) (value : Option (List ℕ)) (t : Txn) → last_seq_
 last-laid key value t = let e = last_seq-push t.writes (new_write (last_seq_of t.writes + 1) t.write_ts key value) in omega (arith, e)
 
 -- it is what the coordinator made of its own
-laid-same : (key : List ℕ) (value : Option (List ℕ)) (t : Txn) → with_write key value (transaction_of false None t) ≡ transaction_of false (Some (record { key = key; value = value })) (laid key value t)
+laid-same : (key : List ℕ) (value : Option (List ℕ)) (t : Txn) → with_own_write key value (transaction_of false None t) ≡ transaction_of false (Some (record { key = key; value = value })) (laid key value t)
 laid-same key value t =
     let F : ℕ → Transaction = λ n. record (transaction_of false (Some (record { key = key; value = value })) (laid key value t)) { seq = n } in
     ap F (sym (last-laid key value t))
@@ -101,7 +101,7 @@ module _ (c : Coordination) (k : Known) (key : List ℕ) (value : Option (List �
   w = record { key = key; value = value }
 
   abbrev x : Transaction
-  x = with_write key value (transaction_of false None t)
+  x = with_own_write key value (transaction_of false None t)
 
   abbrev request : Request
   request = first_put key value t
@@ -168,7 +168,7 @@ module _ (c : Coordination) (k : Known) (key : List ℕ) (value : Option (List �
           behind = plain.behind;
           at_begin = λ none. let e : Some (unwrap_or t.anchor key) ≡ None = sym (anchor-some t.anchor key) ∙ none in absurd cc;
           below = plain.below;
-          refused = All-push (λ m. OnCommit t.id (IsRefused k.heard) m.request) k.sent m plain.refused tt;
+          refused = All-push (λ m. OnCommit t.id (WasCommitRefused k.heard) m.request) k.sent m plain.refused tt;
           views = All-weaker (IsPendingOf t) (IsPendingOf t2) (pending-laid key value t) k.heard plain.views;
         }
 

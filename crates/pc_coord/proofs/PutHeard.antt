@@ -27,7 +27,7 @@ use Rattle.pc_coord.specs.Knows.Held.{IsCounted, IsHeld, IsPendingOf, IsPlain, I
 use Rattle.pc_coord.specs.Knows.Sending.{learned}
 use Rattle.pc_coord.specs.Knows.Writing.{AwaitsPut, write_call}
 use Rattle.pc_coord.specs.Rounds.{IsPaced}
-use Rattle.pc_coord.specs.Transaction.{landed, put_of, transaction_of, with_write}
+use Rattle.pc_coord.specs.Transaction.{landed, put_of, transaction_of, with_own_write}
 use Rattle.pc_coord.specs.Suiting.{IsWriter}
 use Rattle.pc_proto.specs.declared.answer.Answer.TheVariants as answers
 use Rattle.pc_proto.specs.declared.event.Event.TheVariants as events
@@ -126,12 +126,12 @@ module _ (k : Known) (txn : Option Transaction) (number step at conflicts : ℕ)
 
   module _ (c : Coordination) (rising : AreRising c.splits) (job : c.job ≡ None) (counted : IsCounted c.session c.clock c.begun k2) where
     -- a write of an earlier call is followed by the call's own
-    pub landed_lays : c.txn ≡ Some (with_write w.key w.value (landed at x)) → c.due ≡ put_due (with_write w.key w.value (landed at x)).anchor w.key w.value false (with_write w.key w.value (landed at x)) → Knows c k2
+    pub landed_lays : c.txn ≡ Some (with_own_write w.key w.value (landed at x)) → c.due ≡ put_due (with_own_write w.key w.value (landed at x)).anchor w.key w.value false (with_own_write w.key w.value (landed at x)) → Knows c k2
     landed_lays held due =
         let is : landed at x ≡ transaction_of false None t2 = landed-same ∙ ap (λ r. transaction_of r None t2) a.writing.unread in
         first_knows c k2 w.key w.value a.writing.reading t2 others a.writing.open_as.is_open first (a.writing.open_as.unread a.writing.unread) counted settled a.writing.call
-        a.writing.before a.writing.split paced rising job (held ∙ ap (λ x. Some (with_write w.key w.value x)) is)
-        (due ∙ ap (λ x. put_due (with_write w.key w.value x).anchor w.key w.value false (with_write w.key w.value x)) is)
+        a.writing.before a.writing.split paced rising job (held ∙ ap (λ x. Some (with_own_write w.key w.value x)) is)
+        (due ∙ ap (λ x. put_due (with_own_write w.key w.value x).anchor w.key w.value false (with_own_write w.key w.value x)) is)
 
     abbrev s : Statement
     s = record { call = write_call w.key w.value; reading = a.writing.reading }

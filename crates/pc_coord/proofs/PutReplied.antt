@@ -9,7 +9,7 @@ use Rattle.pc_coord.specs.Coordination.{Coordination}
 use Rattle.pc_coord.specs.declared.due.Wait.TheVariants as waits
 use Rattle.pc_coord.specs.declared.transaction.InFlight.{InFlight}
 use Rattle.pc_coord.specs.declared.transaction.Transaction.{Transaction}
-use Rattle.pc_coord.specs.Events.{IsHeard}
+use Rattle.pc_coord.specs.Events.{HearsAwaited}
 use Rattle.pc_coord.specs.Knows.{Awaits, Knows}
 use Rattle.pc_coord.specs.Knows.Held.{IsCounted}
 use Rattle.pc_coord.specs.Knows.Writing.{AwaitsPut}
@@ -23,7 +23,7 @@ use Rattle.pc_proto.specs.declared.request.Request.{Request}
 use Rattle.pc_proto.specs.Stamps.{reply_stamps}
 use Rattle.pc_world.specs.Answering.{IsPutReply, MayAnswer}
 use Rattle.pc_world.specs.Known.{Known, learn}
-use Rattle.pc_world.specs.Known.Clock.{last_of}
+use Rattle.pc_world.specs.Known.Clock.{greatest_of}
 use Rattle.pc_world.specs.Known.Traffic.{Heard}
 use Rattle.pc_world.specs.RangeOf.{AreRising}
 
@@ -37,7 +37,7 @@ module _ (c : Coordination) (k : Known) (number step conflicts : ℕ) (again : B
   abbrev put : Request
   put = put_of x a.writing.anchor w.key w.value
 
-  counted2 : (reply : Reply) → IsCounted c.session (max c.clock (last_of (reply_stamps reply))) c.begun (heard (record { number = number; request = put; reply = reply; step = step }) k)
+  counted2 : (reply : Reply) → IsCounted c.session (max c.clock (greatest_of (reply_stamps reply))) c.begun (heard (record { number = number; request = put; reply = reply; step = step }) k)
   counted2 reply =
       let e = ap (λ x. x.id.number) a.writing.open_as.same in
       counted-heard c.session c.clock c.begun k counted (record { number = number; request = put; reply = reply; step = step }) a.counted
@@ -64,7 +64,7 @@ module _ (c : Coordination) (k : Known) (number step conflicts : ℕ) (again : B
   replied reply kind = absurd kind
 
 -- the reply that a call that writes waited for was heard
-pub put_heard : (c : Coordination) (k : Known) (p : Pair Event) (number step : ℕ) (reply : Reply) (conflicts : ℕ) (again : Bool) → AreRising c.splits → c.job ≡ None → IsHeard c number step reply k p
+pub put_heard : (c : Coordination) (k : Known) (p : Pair Event) (number step : ℕ) (reply : Reply) (conflicts : ℕ) (again : Bool) → AreRising c.splits → c.job ≡ None → HearsAwaited c number step reply k p
     → Awaits c.session c.clock c.begun c.txn number (waits.Put conflicts again) k → Knows (after_put_reply number conflicts again reply (with_heard reply c)) (learn p k)
 put_heard c k p number step reply conflicts again rising job is awaits =
     let a : AwaitsPut k c.txn number conflicts again = awaits.reply in

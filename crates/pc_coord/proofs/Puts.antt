@@ -15,7 +15,7 @@ use Rattle.pc_proto.specs.declared.meta.TxnMeta.{TxnMeta}
 use Rattle.pc_proto.specs.declared.request.Request.{Request}
 use Rattle.pc_proto.specs.declared.request.Request.TheVariants as requests
 use Rattle.pc_world.specs.Follows.CallMessages.{IsFor}
-use Rattle.pc_world.specs.Follows.EarlyTell.{IsDecided}
+use Rattle.pc_world.specs.Follows.EarlyTell.{IsCommitKnown}
 use Rattle.pc_world.specs.Known.{Known, call_in, next_number}
 use Rattle.pc_world.specs.Known.Traffic.{Sent}
 use Rattle.pc_world.specs.Known.Transactions.{Txn}
@@ -40,7 +40,7 @@ pub put_for : (key : List ℕ) (value : Option (List ℕ)) (meta : TxnMeta) (seq
 put_for key None meta seq ts = refl
 put_for key (Some value) meta seq ts = refl
 
-pub undecided : (k : Known) (key : List ℕ) (value : Option (List ℕ)) (reading : ℕ) → k.statement ≡ Some (record { call = write_call key value; reading = reading }) → (t : Txn) (ts : ℕ) → IsDecided k t ts → ⊥
+pub undecided : (k : Known) (key : List ℕ) (value : Option (List ℕ)) (reading : ℕ) → k.statement ≡ Some (record { call = write_call key value; reading = reading }) → (t : Txn) (ts : ℕ) → IsCommitKnown k t ts → ⊥
 undecided k key value reading call t ts d = no_commit key value (sym (ap call_in call) ∙ d.asked)
 
 pub own_put : (meta : TxnMeta) (seq ts : ℕ) (key : List ℕ) (value : Option (List ℕ)) → is_put_of meta.id meta.epoch seq (requests.Put meta seq ts key value) ≡ true

@@ -10,7 +10,7 @@ use Rattle.pc_coord.proofs.Same.{same_txn-self}
 use Rattle.pc_coord.specs.declared.messages.Message.{Message}
 use Rattle.pc_coord.specs.declared.messages.Progress.{Progress}
 use Rattle.pc_coord.specs.declared.messages.Progress.TheVariants as progresses
-use Rattle.pc_coord.specs.Knows.Reading.{HasMet, IsUnheard, IsUnsentNow, Stands, StandsAs, WasReplied}
+use Rattle.pc_coord.specs.Knows.Reading.{HasMet, IsUnheard, IsUnsentNow, StandsAs, StandsWith, WasReplied}
 use Rattle.pc_coord.specs.Messages.{holder_in, holder_met, one_more}
 use Rattle.pc_proto.specs.declared.fate.Goal.{Goal}
 use Rattle.pc_proto.specs.declared.meta.TxnMeta.{TxnMeta}
@@ -145,7 +145,7 @@ module _ (k k2 : Known) (sent_more : List Sent) (more : List Heard) (sent_now : 
   conflicts-kept request n a = subst (λ hs. AtLeast (IsConflictOf request) n hs) (sym heard_now) (at_least-kept (IsConflictOf request) n k.heard_now more a)
 
   -- the message is as far as before
-  pub stands-kept : (t : Txn) (m : Message) → All (IsOtherSent m.request) sent_more → All (IsOther m.request) more → ((number : ℕ) → m.progress ≡ progresses.Sent number → IsUnheard k number m.request → IsUnheard k2 number m.request) → Stands k t m → Stands k2 t m
+  pub stands-kept : (t : Txn) (m : Message) → All (IsOtherSent m.request) sent_more → All (IsOther m.request) more → ((number : ℕ) → m.progress ≡ progresses.Sent number → IsUnheard k number m.request → IsUnheard k2 number m.request) → StandsWith k t m → StandsWith k2 t m
   stands-kept t m news others waits s = record {
     as_far = stands_as-kept m.request others news t m.progress waits s.as_far;
     met = conflicts-kept m.request m.conflicts s.met;
@@ -155,7 +155,7 @@ conflict_with : (holder : TxnMeta) (ts : ℕ) (key : List ℕ) (reply : Reply) �
 conflict_with holder ts key reply is = ap (is_conflict_with holder.id) is ∙ same_txn-self holder.id
 
 -- the conflict that a message met
-pub met_of : (k : Known) (t : Txn) (m : Message) (holder : TxnId) → Stands k t m → holder_met m.progress ≡ Some holder → (number : ℕ) × (conflict : Reply) × (m.progress ≡ progresses.Met number conflict) × HasMet k t number m.request conflict
+pub met_of : (k : Known) (t : Txn) (m : Message) (holder : TxnId) → StandsWith k t m → holder_met m.progress ≡ Some holder → (number : ℕ) × (conflict : Reply) × (m.progress ≡ progresses.Met number conflict) × HasMet k t number m.request conflict
 met_of k t m holder s held = by m.progress refl held s.as_far
   where
     by : (p : Progress) → m.progress ≡ p → holder_met p ≡ Some holder → StandsAs k t m.request p → (number : ℕ) × (conflict : Reply) × (m.progress ≡ progresses.Met number conflict) × HasMet k t number m.request conflict
@@ -163,7 +163,7 @@ met_of k t m holder s held = by m.progress refl held s.as_far
     by p e held s = absurd cc
 
 -- a message that met eight intents blocks its call
-pub met_eight : (k : Known) (t : Txn) (m : Message) (holder : TxnId) → Stands k t m → 8 ≤ m.conflicts → holder_met m.progress ≡ Some holder → MetEight holder k.heard_now
+pub met_eight : (k : Known) (t : Txn) (m : Message) (holder : TxnId) → StandsWith k t m → 8 ≤ m.conflicts → holder_met m.progress ≡ Some holder → MetEight holder k.heard_now
 met_eight k t m holder s many held =
     let met = met_of k t m holder s held in
     let has : HasMet k t met.0 m.request met.1 = met.3 in

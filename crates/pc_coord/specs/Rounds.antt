@@ -28,8 +28,8 @@ is_resolve_of id (requests.Resolve other key fate) = same_txn other id
 is_resolve_of id _ = false
 
 -- A resolve of an intent of this transaction was heard.
-abbrev pub was_settled : TxnId → Heard → Bool
-was_settled id h = is_resolve_of id h.request
+abbrev pub shows_resolve : TxnId → Heard → Bool
+shows_resolve id h = is_resolve_of id h.request
 
 -- A conflict with this transaction was heard.
 abbrev pub was_met : TxnId → Heard → Bool
@@ -39,7 +39,7 @@ was_met id h = is_conflict_with id h.reply
 -- rounds, of these holders, are still to be made; and no more resolves than pushes.
 pub record IsPaced (pending : List TxnId) (k : Known) : Type 0 where
   pub pushes : (id : TxnId) → count_by (was_pushed id) k.heard_now + count_by (λ other. same_txn other id) pending ≤ count_by (was_met id) k.heard_now
-  pub resolves : (id : TxnId) → count_by (was_settled id) k.heard_now ≤ count_by (was_pushed id) k.heard_now
+  pub resolves : (id : TxnId) → count_by (shows_resolve id) k.heard_now ≤ count_by (was_pushed id) k.heard_now
 
 -- The round of a conflict with this holder at this key: it was pushed, and its intent was settled with the fate that the push left to it.
 pub record IsSettledRound (id : TxnId) (key : List ℕ) (start k : Known) : Type 0 where

@@ -32,7 +32,7 @@ use Rattle.pc_proto.specs.Place.{Place, Nothing, Kept, Marked, Change, Stay, aft
 use Rattle.pc_proto.specs.RecordRows.{answer, push_reply, unless_decided}
 use Rattle.pc_proto.specs.RecordRows.Abort.{abort}
 use Rattle.pc_proto.specs.RecordRows.Commit.{commit}
-use Rattle.pc_proto.specs.RecordRows.Push.{Verdict, There, Refuse, Doubt, Do, is_staged, is_there, on_verdict, push, pushed, verdict, wins}
+use Rattle.pc_proto.specs.RecordRows.Push.{Verdict, There, Refuse, Doubt, Do, is_staged, is_there, on_verdict, push, push_verdict, pushed, wins}
 use Rattle.pc_proto.specs.RecordRows.Reached.{is_reached}
 use Rattle.pc_proto.specs.Table.{place_of}
 use Rattle.pc_world.proofs.Each.{each-choose, each-weaker}
@@ -43,7 +43,7 @@ use Rattle.pc_world.specs.Evaluation.{reply}
 use Rattle.pc_world.specs.Evaluation.Get.{found_at, get_blocker, get_reply}
 use Rattle.pc_world.specs.Evaluation.Put.{PutOutcome, Stands, Lands, first_outcome, laid, overtaken, own_outcome, put_reply, write_ts}
 use Rattle.pc_world.specs.Evaluation.Scan.{rows_in, scan_reply}
-use Rattle.pc_world.specs.Exchange.{IsReplyTo}
+use Rattle.pc_world.specs.Exchange.{IsPossibleReply}
 use Rattle.pc_world.specs.Known.Transactions.{is_final_view}
 use Rattle.pc_world.specs.Local.{Head}
 use Rattle.pc_world.specs.RangeState.{RangeState}
@@ -199,7 +199,7 @@ module _ (history : List (Entry Event)) (range : ℕ) (id : TxnId) where
     push-kind : (level : Priority) (now : ℕ) → IsPushReply (answer (requests.Push holder by level now goal) p)
     push-kind level now = when (is_decided p) refl
       where
-        when : (b : Bool) → is_decided p ≡ b → IsPushReply (if b then replies.Status (view_of p) else push_reply (verdict holder level now goal p) p (after p (push holder by level now goal p)))
+        when : (b : Bool) → is_decided p ≡ b → IsPushReply (if b then replies.Status (view_of p) else push_reply (push_verdict holder level now goal p) p (after p (push holder by level now goal p)))
         when true decided = there-view p h (decided-there p decided)
         when false more = verdict-kind (is_there goal p) (wins holder level now p) (is_staged p) refl refl
 
@@ -225,5 +225,5 @@ pub replies_are_of_their_kind : (head : Head) (history : List (Entry Event)) (ra
 replies_are_of_their_kind head history range request run only = may-answer history range request (state_at head range history) (recorded head history run only range)
 
 -- what a range answers after a history is a reply to the request
-pub reply_is_one : (head : Head) (history : List (Entry Event)) (range : ℕ) (request : Request) → IsReplyTo request (reply request (state_at head range history))
+pub reply_is_one : (head : Head) (history : List (Entry Event)) (range : ℕ) (request : Request) → IsPossibleReply request (reply request (state_at head range history))
 reply_is_one head history range request = record { own = own (protocol head) (actors.Range range) history; is = refl }

@@ -32,7 +32,7 @@ use Rattle.pc_world.proofs.Prefixes.{run_induction}
 use Rattle.pc_world.specs.After.{known_at}
 use Rattle.pc_world.specs.CommitOrder.{all_begun, begun_in}
 use Rattle.pc_world.specs.Committed.{IsCommitted, anchor_in, committed_in, key_sent, told_at}
-use Rattle.pc_world.specs.Known.{known}
+use Rattle.pc_world.specs.Known.{known_of}
 use Rattle.pc_world.specs.Legal.{BeganAfter, TellsBegun}
 use Rattle.pc_world.specs.Local.{Head}
 use Rattle.pc_world.specs.Run.{IsRun, protocol}
@@ -160,14 +160,14 @@ module _ (head : Head) (history : List (Entry Event)) (run : IsRun head history)
   -- a transaction that began after its session knew of another's commit is committed above it
   pub committed_above : (id other : TxnId) (ts later : ℕ) → BeganAfter head history id other → IsCommitted head history id ts → IsCommitted head history other later → ts < later
   committed_above id other ts later b is also =
-      let learnt : ts ≤ (known (b.before ++ b.learning ∷ [])).high =
+      let learnt : ts ≤ (known_of (b.before ++ b.learning ∷ [])).high =
       learnt_below head history run other.session b.before b.learning (b.between ++ b.begin ∷ b.later)
       (b.whole ∙ append_assoc b.before (b.learning ∷ b.between) (b.begin ∷ b.later)) only id ts b.learns is in
       let upto = b.before ++ b.learning ∷ b.between in
-      let grown : (known (b.before ++ b.learning ∷ [])).high ≤ (known upto).high =
-      subst (λ es. (known (b.before ++ b.learning ∷ [])).high ≤ (known es).high) (append_assoc b.before (b.learning ∷ []) b.between) (high_grows (b.before ++ b.learning ∷ []) b.between) in
+      let grown : (known_of (b.before ++ b.learning ∷ [])).high ≤ (known_of upto).high =
+      subst (λ es. (known_of (b.before ++ b.learning ∷ [])).high ≤ (known_of es).high) (append_assoc b.before (b.learning ∷ []) b.between) (high_grows (b.before ++ b.learning ∷ []) b.between) in
       let told = tells-what other b.begin.entry.event b.begins in
-      let began : (known upto).high < told.0 = begun_above head history run other.session upto b.begin b.later b.whole other told.0 told.1 in
+      let began : (known_of upto).high < told.0 = begun_above head history run other.session upto b.begin b.later b.whole other told.0 told.1 in
       let s = own_split (protocol head) (actors.Session other.session) history upto b.begin b.later b.whole in
       let there : Contains history b.begin.entry =
       subst (λ h. Contains h b.begin.entry) (sym s.whole) (Contains-append_right s.front (b.begin.entry ∷ s.back) b.begin.entry (contains_head b.begin.entry s.back)) in

@@ -49,7 +49,7 @@ use Rattle.pc_world.specs.Known.Writes.{IsProvedBy, Write}
 use Rattle.pc_world.specs.Local.{Head}
 use Rattle.pc_world.specs.Run.{IsRun, protocol}
 use Rattle.pc_world.specs.Send.Commit.{MaySendCommit}
-use Rattle.pc_world.specs.StageFate.{Commit, IsRefused, IsUncommitted, OnCommit, is_unsettled_status}
+use Rattle.pc_world.specs.StageFate.{IsUncommitted, OnCommit, SentCommit, WasCommitRefused, is_undecided_status}
 use Rattle.pc_world.specs.Unstaged.{NothingIsStaged}
 
 -- The place is past this epoch or timestamp.
@@ -69,7 +69,7 @@ final-view standings.Committed epoch ts writes locks h = refl
 final-view (standings.Aborted why) epoch ts writes locks h = refl
 
 -- a record that a commit leaves unsettled is past it
-passes : (history : List (Entry Event)) (range : ℕ) (id : TxnId) (meta : TxnMeta) (ts : ℕ) (locks : List (List ℕ)) (p : Place) → IsRecorded history range id p → is_unsettled_status (answer (requests.Commit meta ts locks) p) ≡ true
+passes : (history : List (Entry Event)) (range : ℕ) (id : TxnId) (meta : TxnMeta) (ts : ℕ) (locks : List (List ℕ)) (p : Place) → IsRecorded history range id p → is_undecided_status (answer (requests.Commit meta ts locks) p) ≡ true
     → IsBeyond meta.epoch ts p
 passes history range id meta ts locks Nothing is h = absurd cc
 passes history range id meta ts locks (Kept r) is h = by (is_final r.status.standing) refl (nat_le r.status.epoch meta.epoch && nat_le r.status.ts ts) refl h
@@ -122,7 +122,7 @@ module _ (head : Head) where
       ])
 
 module _ (head : Head) (history : List (Entry Event)) (run : IsRun head history) (only : NothingIsStaged history) where
-  refused-at : (actor : ActorId) (h : Heard) → IsSo head history actor h → (meta : TxnMeta) (ts : ℕ) (locks : List (List ℕ)) → h.request ≡ requests.Commit meta ts locks → is_unsettled_status h.reply ≡ true
+  refused-at : (actor : ActorId) (h : Heard) → IsSo head history actor h → (meta : TxnMeta) (ts : ℕ) (locks : List (List ℕ)) → h.request ≡ requests.Commit meta ts locks → is_undecided_status h.reply ≡ true
       → IsBeyond meta.epoch ts (home_of head meta.id history)
   refused-at actor h so meta ts locks asked unsettled =
       let sends : so.send.event ≡ events.Send h.number so.range (requests.Commit meta ts locks) = so.sends ∙ ap (events.Send h.number so.range) asked in
@@ -134,12 +134,12 @@ module _ (head : Head) (history : List (Entry Event)) (run : IsRun head history)
       let p = place_at head so.range meta.id so.front in
       let told : h.reply ≡ answer (requests.Commit meta ts locks) p = so.answers ∙ ap (λ r. reply r (state_at head so.range so.front)) asked in
       let past : IsBeyond meta.epoch ts p =
-      passes so.front so.range meta.id meta ts locks p (recorded head so.front run_before only_before so.range meta.id) (ap is_unsettled_status (sym told) ∙ unsettled) in
+      passes so.front so.range meta.id meta ts locks p (recorded head so.front run_before only_before so.range meta.id) (ap is_undecided_status (sym told) ∙ unsettled) in
       let rises : IsNotBelow p (place_at head so.range meta.id history) = subst (λ x. IsNotBelow p (place_at head so.range meta.id x)) so.whole (nothing_falls head so.range meta.id so.front so.back) in
       subst (IsBeyond meta.epoch ts) there (beyond-on meta.epoch ts p (place_at head so.range meta.id history) rises past)
 
   -- a transaction's record is past a commit that its session heard to be refused
-  refused-passes : (actor : ActorId) (c : Commit) → IsRefused (known_at head actor history).heard c → IsBeyond c.meta.epoch c.ts (home_of head c.meta.id history)
+  refused-passes : (actor : ActorId) (c : SentCommit) → WasCommitRefused (known_at head actor history).heard c → IsBeyond c.meta.epoch c.ts (home_of head c.meta.id history)
   refused-passes actor c (n, h, inside, at, refuses) =
       refused-at actor h (each_contained (IsSo head history actor) (known_at head actor history).heard h (heard_is_so head history run actor) (n, inside, at)) c.meta c.ts c.locks refuses.asked refuses.unsettled
 
@@ -152,8 +152,8 @@ module _ (head : Head) (history : List (Entry Event)) (run : IsRun head history)
       let same : a.actor ≡ actor = anchored.whose ∙ ap (λ (i : TxnId). actors.Session i.session) whose ∙ sym own in
       let m : Sent = record { number = number; range = range; request = requests.Commit meta ts locks } in
       let sent : Contains (known_at head actor history).sent m = subst (λ x. Contains (known_at head x history).sent m) same (sent_known head history run a there number range (requests.Commit meta ts locks) is) in
-      let on : OnCommit id (IsRefused (known_at head actor history).heard) (requests.Commit meta ts locks) =
-      All-contains (λ (x : Sent). OnCommit id (IsRefused (known_at head actor history).heard) x.request) (known_at head actor history).sent m uncommitted.commits sent in
+      let on : OnCommit id (WasCommitRefused (known_at head actor history).heard) (requests.Commit meta ts locks) =
+      All-contains (λ (x : Sent). OnCommit id (WasCommitRefused (known_at head actor history).heard) x.request) (known_at head actor history).sent m uncommitted.commits sent in
       refused-passes actor (record { meta = meta; ts = ts; locks = locks }) (on (ap (λ i. same_txn i id) whose ∙ same-itself id))
 
 -- What has become of a commit of this epoch and timestamp.

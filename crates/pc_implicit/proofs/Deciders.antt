@@ -44,7 +44,7 @@ use Rattle.pc_proto.specs.declared.reply.Reply.{Reply}
 use Rattle.pc_proto.specs.declared.request.Request.{Request}
 use Rattle.pc_proto.specs.declared.request.Request.TheVariants as requests
 use Rattle.pc_proto.specs.Place.{Place, Become, Stay, after, is_decided}
-use Rattle.pc_proto.specs.RecordRows.{change, subject}
+use Rattle.pc_proto.specs.RecordRows.{place_change, subject}
 use Rattle.pc_proto.specs.RecordRows.Commit.{commit}
 use Rattle.pc_proto.specs.RecordRows.Reached.{activity_of, is_reached, status_of}
 use Rattle.pc_proto.specs.Table.{place_of}
@@ -141,7 +141,7 @@ module _ (head : Head) (front : List (Entry Event)) (e : Entry Event) (back : Li
       (λ about before changed.
       let what = made_by_commit front ev.range id d.epoch ts p ((meta : TxnMeta) × (at : ℕ) × (locks : List (List ℕ)) × (ev.request ≡ requests.Commit meta at locks)) (λ h. absurd (old h))
       (recorded head front run-front only-front ev.range id) ev.request (unstaged_sent front only-front ev.send ev.listed number ev.range ev.request ev.sends) (λ meta at locks asked. (meta, at, locks, asked)) changed in
-      let made = commit-makes what.0 what.1 what.2 d.epoch ts p old (is_decided p) (ap (λ q. decision (after p (change q p))) (sym what.3) ∙ changed) in
+      let made = commit-makes what.0 what.1 what.2 d.epoch ts p old (is_decided p) (ap (λ q. decision (after p (place_change q p))) (sym what.3) ∙ changed) in
       let named : ◌≡◌ {A = Option TxnId} (Some what.0.id) (Some id) = sym (ap subject what.3) ∙ about in
       record { meta = what.0; locks = what.2; asked = what.3 ∙ ap (λ t. requests.Commit what.0 t what.2) made.1; named = cc named; same_epoch = made.0 }) (λ h. absurd (old h)) after_is
 

@@ -30,7 +30,7 @@ use Rattle.pc_proto.specs.declared.request.Request.TheVariants as requests
 use Rattle.pc_world.proofs.Knowing.{known_other, known_same, run_push}
 use Rattle.pc_world.proofs.Prefixes.{run_front, run_induction, run_may}
 use Rattle.pc_world.specs.After.{known_at}
-use Rattle.pc_world.specs.Known.{Known, begun_by, txns_after}
+use Rattle.pc_world.specs.Known.{Known, txn_begun, txns_after}
 use Rattle.pc_world.specs.Known.Statements.{Statement, begun_after}
 use Rattle.pc_world.specs.Known.Traffic.{Heard, heard_by}
 use Rattle.pc_world.specs.Known.Transactions.{Txn}
@@ -115,11 +115,11 @@ begun-grows (events.Tell (answers.Begun id ts)) n = omega arith
 begun-grows (events.Tell answer) n = omega arith
 begun-grows event n = omega arith
 
-begun-writes : (s : Option Statement) (id : TxnId) (ts : ℕ) → IsListed (begun_by s id ts) []
+begun-writes : (s : Option Statement) (id : TxnId) (ts : ℕ) → IsListed (txn_begun s id ts) []
 begun-writes None id ts = record { same = refl; rise = tt }
 begun-writes (Some s) id ts = record { same = refl; rise = tt }
 
-begun-named : (s : Option Statement) (id : TxnId) (ts : ℕ) → (begun_by s id ts).id ≡ id
+begun-named : (s : Option Statement) (id : TxnId) (ts : ℕ) → (txn_begun s id ts).id ≡ id
 begun-named None id ts = refl
 begun-named (Some s) id ts = refl
 

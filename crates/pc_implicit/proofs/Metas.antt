@@ -46,9 +46,9 @@ use Rattle.pc_world.specs.MaySend.{MaySend}
 use Rattle.pc_world.specs.RangeOf.{GoesTo, range_of}
 use Rattle.pc_world.specs.RangeState.{RangeState}
 use Rattle.pc_world.specs.Run.{IsRun, protocol}
-use Rattle.pc_world.specs.Send.Push.{ConflictsWith, Lists, MaySendPush}
+use Rattle.pc_world.specs.Send.Push.{ConflictsWith, ListsRecord, MaySendPush}
 use Rattle.pc_world.specs.Send.Stage.{MaySendStage}
-use Rattle.pc_world.specs.StageFate.{Stage}
+use Rattle.pc_world.specs.StageFate.{SentStage}
 use Rattle.pc_world.specs.Views.{anchor_heard, is_about, shows_view, view_in}
 use Rattle.pc_world.specs.Views.{anchor_in as anchor_of}
 use Rattle.pc_proto.specs.Place.{Place, Nothing}
@@ -133,7 +133,7 @@ module _ (Has : TxnId → List ℕ → Type 0) where
   met-has holder (replies.Conflict other ts key) h is = subst (MetaHas Has) is h
   met-has holder r h is = absurd is
 
-  listed-has : (holder : TxnMeta) (r : Reply) → ReplyHas Has r → Lists holder r → MetaHas Has holder
+  listed-has : (holder : TxnMeta) (r : Reply) → ReplyHas Has r → ListsRecord holder r → MetaHas Has holder
   listed-has holder (replies.Listed metas) h is = each_contained (MetaHas Has) metas holder h is
   listed-has holder r h is = absurd is
 
@@ -164,7 +164,7 @@ module _ (head : Head) (history : List (Entry Event)) (run : IsRun head history)
       heard-anchor (HasAnchor history) id anchor (known_at head actor history).heard
       (each-weaker (IsSo head history actor) (λ h. RequestHas (HasAnchor history) h.request) (heard-request actor) (known_at head actor history).heard (heard_is_so head history run actor)) is
 
-  stage-anchor : (e : Entry Event) (s : Stage) → MaySendStage (known_at head e.actor history) s → MetaHas (HasAnchor history) s.meta
+  stage-anchor : (e : Entry Event) (s : SentStage) → MaySendStage (known_at head e.actor history) s → MetaHas (HasAnchor history) s.meta
   stage-anchor e s may =
       let k = known_at head e.actor history in
       elim may [

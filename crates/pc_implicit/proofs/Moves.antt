@@ -26,7 +26,7 @@ use Rattle.pc_proto.specs.declared.meta.TxnMeta.{TxnMeta}
 use Rattle.pc_proto.specs.declared.reply.Origin.{Origin}
 use Rattle.pc_proto.specs.declared.request.Request.{Request}
 use Rattle.pc_proto.specs.declared.request.Request.TheVariants as requests
-use Rattle.pc_world.specs.Known.{Known, begun_by, call_of, call_in, first_if, open_txn, told_first, txns_after}
+use Rattle.pc_world.specs.Known.{Known, call_of, call_in, first_if, open_txn, told_first, txn_begun, txns_after}
 use Rattle.pc_world.specs.Known.Reads.{reads_heard}
 use Rattle.pc_world.specs.Known.Statements.{Statement}
 use Rattle.pc_world.specs.Known.Traffic.{Heard, replies_to}
@@ -55,7 +55,7 @@ first-told id answer replied true [] = refl
 first-told id answer replied true (t ∷ ts) = refl
 first-told id answer replied false txns = refl
 
-first-begun : (id other : TxnId) (s : Option Statement) (ts : ℕ) (txns : List Txn) → is_first id (begun_by s other ts ∷ txns) ≡ same_txn other id
+first-begun : (id other : TxnId) (s : Option Statement) (ts : ℕ) (txns : List Txn) → is_first id (txn_begun s other ts ∷ txns) ≡ same_txn other id
 first-begun id other None ts txns = refl
 first-begun id other (Some s) ts txns = refl
 
@@ -343,7 +343,7 @@ module _ (head : Head) (actor : ActorId) (k : Known) (numbered : AreNumbered act
     }
     moved (events.Tell (answers.Begun id ts)) h listed may = record {
       u = t;
-      there = contains_tail (begun_by k.statement id ts) k.txns t mine;
+      there = contains_tail (txn_begun k.statement id ts) k.txns t mine;
       named = refl;
       moves = Stays refl refl refl (told-if d.is_last (answers.Begun id ts) d.call d.done refl);
     }
@@ -357,7 +357,7 @@ pub record IsNewlyBegun (event : Event) (k : Known) (u : Txn) : Type 0 where
   pub id : TxnId
   pub ts : ℕ
   pub told : event ≡ events.Tell (answers.Begun id ts)
-  pub is : u ≡ begun_by k.statement id ts
+  pub is : u ≡ txn_begun k.statement id ts
 
 -- It was known before, by its name.
 pub record WasKnown (k : Known) (u : Txn) : Type 0 where
@@ -387,7 +387,7 @@ pub comes_from : (k : Known) (event : Event) (h : Option Heard) (u : Txn) → Co
 comes_from k (events.Send number range request) h u there = inr (from-map k (txn_sent request) u (λ t. refl) there)
 comes_from k (events.Hear number step) h u there = inr (from-map k (txn_heard k.sent h) u (λ t. refl) there)
 comes_from k (events.Tell (answers.Begun id ts)) h u there =
-    elim (contains_cons (begun_by k.statement id ts) k.txns u there) [
+    elim (contains_cons (txn_begun k.statement id ts) k.txns u there) [
       | inl same ↦ inl (record { id = id; ts = ts; told = refl; is = sym same })
       | inr later ↦ inr (record { t = u; mine = later; named = refl })
     ]

@@ -17,8 +17,8 @@ use Rattle.pc_proto.specs.declared.request.Request.TheVariants as requests
 use Rattle.pc_proto.specs.Intents.{fresh, grown, kept_if, other_at, own_at}
 use Rattle.pc_world.specs.Evaluation.{intents_after, reply}
 use Rattle.pc_world.specs.Evaluation.IntentChange.{IntentChange, Leave, Lay, Drop, intents_with}
-use Rattle.pc_world.specs.Evaluation.Put.{PutOutcome, Stands, Lands, first_outcome, is_overtaken_by, laid, overtaken, own_outcome, put_change, put_outcome, put_reply, write_ts}
-use Rattle.pc_world.specs.Evaluation.Resolve.{change_for, intent_change}
+use Rattle.pc_world.specs.Evaluation.Put.{PutOutcome, Stands, Lands, first_outcome, is_overtaken_by, laid, outcome_of_put, overtaken, own_outcome, put_change, put_reply, write_ts}
+use Rattle.pc_world.specs.Evaluation.Resolve.{change_for, resolve_change}
 use Rattle.pc_world.specs.RangeState.{RangeState}
 
 at-set : (key k : List ℕ) (i : Intent) (xs : List (List ℕ × Intent)) → at same_key k (set_at same_key key i xs) ≡ cond (same_key key k) (Some i) (at same_key k xs)
@@ -113,7 +113,7 @@ module _ (id : TxnId) (k : List ℕ) where
   laid-apart meta seq ts value None apart of = apart
   laid-apart meta seq ts value (Some i) apart of = grind (arith, of i refl)
 
-  put-stays : (meta : TxnMeta) (seq ts : ℕ) (key : List ℕ) (value : Option (List ℕ)) (s : RangeState) → same_txn meta.id id ≡ false → own_at id k (intents_with key (put_change (put_outcome meta seq ts key value s)) s.intents) ≡ own_at id k s.intents
+  put-stays : (meta : TxnMeta) (seq ts : ℕ) (key : List ℕ) (value : Option (List ℕ)) (s : RangeState) → same_txn meta.id id ≡ false → own_at id k (intents_with key (put_change (outcome_of_put meta seq ts key value s)) s.intents) ≡ own_at id k s.intents
   put-stays meta seq ts key value s apart = by-other (other_at meta.id key s.intents) refl
     where
       by-over : (own : Option Intent) → own_at meta.id key s.intents ≡ own → own_at id key s.intents ≡ None → (b : Bool) → own_at id k (intents_with key (put_change (cond b (Stands 0) (Lands (laid meta seq (write_ts meta ts key own s) value own)))) s.intents) ≡ own_at id k s.intents
@@ -133,7 +133,7 @@ module _ (id : TxnId) (k : List ℕ) where
           by-own (own_at meta.id key s.intents) refl (not-own-free meta.id id (at same_key key s.intents) apart e)
           (overtaken meta seq (own_at meta.id key s.intents)) refl
 
-  resolve-stays : (one : TxnId) (key : List ℕ) (fate : Fate) (s : RangeState) → same_txn one id ≡ false → own_at id k (intents_with key (intent_change one key fate s) s.intents) ≡ own_at id k s.intents
+  resolve-stays : (one : TxnId) (key : List ℕ) (fate : Fate) (s : RangeState) → same_txn one id ≡ false → own_at id k (intents_with key (resolve_change one key fate s) s.intents) ≡ own_at id k s.intents
   resolve-stays one key fate s apart = by-own (own_at one key s.intents) refl fate
     where
       by-own : (own : Option Intent) → own_at one key s.intents ≡ own → (fate : Fate) → own_at id k (intents_with key (change_for fate own) s.intents) ≡ own_at id k s.intents
@@ -187,7 +187,7 @@ module _ (id : TxnId) (k : List ℕ) where
           subst (λ x. OwnChange id k (requests.Put meta seq ts x value) s (own_at id k (intents_after (requests.Put meta seq ts x value) s))) (sym (same_key-is key k e))
           (subst (λ i. OwnChange id k (requests.Put meta seq ts k value) s (own-after s (first_outcome (other_at meta.id k s.intents) (own_outcome meta seq ts k value (own_at i k s.intents) s))))
           (sym same) (put-lays meta seq ts value s same))
-      by-key same false e = AsBefore (change-elsewhere key (put_change (put_outcome meta seq ts key value s)) s.intents e)
+      by-key same false e = AsBefore (change-elsewhere key (put_change (outcome_of_put meta seq ts key value s)) s.intents e)
 
       by-id : (b : Bool) → same_txn meta.id id ≡ b → OwnChange id k (requests.Put meta seq ts key value) s (own_at id k (intents_after (requests.Put meta seq ts key value) s))
       by-id true e = by-key (same-is meta.id id e) (same_key key k) refl
@@ -210,7 +210,7 @@ module _ (id : TxnId) (k : List ℕ) where
           subst (λ x. OwnChange id k (requests.Resolve one x fate) s (own_at id k (intents_after (requests.Resolve one x fate) s))) (sym (same_key-is key k e))
           (subst (λ i. OwnChange id k (requests.Resolve i k fate) s (own_at id k (intents_after (requests.Resolve i k fate) s))) (sym same)
           (settles fate s (own_at id k s.intents) refl))
-      by-key same false e = AsBefore (change-elsewhere key (intent_change one key fate s) s.intents e)
+      by-key same false e = AsBefore (change-elsewhere key (resolve_change one key fate s) s.intents e)
 
       by-id : (b : Bool) → same_txn one id ≡ b → OwnChange id k (requests.Resolve one key fate) s (own_at id k (intents_after (requests.Resolve one key fate) s))
       by-id true e = by-key (same-is one id e) (same_key key k) refl

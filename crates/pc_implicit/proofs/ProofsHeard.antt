@@ -34,7 +34,7 @@ use Rattle.pc_world.proofs.Knowing.{known_other, known_same}
 use Rattle.pc_world.proofs.Prefixes.{run_induction}
 use Rattle.pc_world.specs.After.{known_at}
 use Rattle.pc_world.specs.Caused.{IsCaused}
-use Rattle.pc_world.specs.Known.{Known, begun_by, told_first, txns_after}
+use Rattle.pc_world.specs.Known.{Known, told_first, txn_begun, txns_after}
 use Rattle.pc_world.specs.Known.Statements.{Statement}
 use Rattle.pc_world.specs.Known.Traffic.{Heard, Sent, heard_by, replies_to}
 use Rattle.pc_world.specs.Known.Transactions.{Txn, txn_heard, txn_sent, txn_told}
@@ -166,7 +166,7 @@ module _ (head : Head) where
     first-proven answer replied true (t ∷ ts) each = (told-proven answer replied t each.0, each.1)
     first-proven answer replied false txns each = each
 
-    begun-proven : (s : Option Statement) (id : TxnId) (ts : ℕ) → AreProven history (begun_by s id ts)
+    begun-proven : (s : Option Statement) (id : TxnId) (ts : ℕ) → AreProven history (txn_begun s id ts)
     begun-proven None id ts = tt
     begun-proven (Some s) id ts = tt
 

@@ -34,7 +34,7 @@ use Rattle.pc_world.specs.After.{known_at}
 use Rattle.pc_world.specs.Known.{Known, call_of, open_txn}
 use Rattle.pc_world.specs.Known.Reads.{Read as ReadMade, read_heard, reads_heard}
 use Rattle.pc_world.specs.Known.Statements.{Statement}
-use Rattle.pc_world.specs.Known.Traffic.{Heard, Sent, is_reply_to, replies_to}
+use Rattle.pc_world.specs.Known.Traffic.{Heard, Sent, is_reply_to_one, replies_to}
 use Rattle.pc_world.specs.Known.Transactions.{Txn}
 use Rattle.pc_world.specs.Known.Writes.{last_seq_of}
 use Rattle.pc_world.specs.Local.{Head}
@@ -144,7 +144,7 @@ module _ (head : Head) (history : List (Entry Event)) (run : IsRun head history)
     kept read inside =
         let replied = replies_to (session_at head id history).sent_now (session_at head id history).heard_now in
         Contains-append_right t.reads (reads_heard replied) read
-        (in-flat (λ (g : Heard). read_heard g.request g.reply) replied h read (contains_in_filter (is_reply_to (session_at head id history).sent_now) (session_at head id history).heard_now h there now) inside)
+        (in-flat (λ (g : Heard). read_heard g.request g.reply) replied h read (contains_in_filter (is_reply_to_one (session_at head id history).sent_now) (session_at head id history).heard_now h there now) inside)
 
     -- where the message was sent
     sent-from : (number range : ℕ) (request : Request) (told : Reply) (a : AnsweredAt head history (actors.Session id.session) number range request told)

@@ -14,7 +14,7 @@ use Rattle.pc_implicit.proofs.Sent.{unstaged_front, unstaged_induction}
 use Rattle.pc_implicit.proofs.Turns.{IsAnswered, Restarted, WentOn, Wrote, comes_from, Turn}
 use Rattle.pc_implicit.proofs.WriteLists.{Laid, AreAlike}
 use Rattle.pc_implicit.specs.Decided.{decision}
-use Rattle.pc_implicit.specs.Writes.{StandsBy, home_of, txns_of, writes_at}
+use Rattle.pc_implicit.specs.Writes.{LastWriteStands, home_of, txns_of, writes_at}
 use Rattle.pc_proto.specs.declared.event.Event.{Event}
 use Rattle.pc_proto.specs.declared.record.Standing.TheVariants as standings
 use Rattle.pc_proto.specs.declared.record.Status.{Status}
@@ -87,7 +87,7 @@ module _ (head : Head) where
 
   -- where nothing is staged, what a committed transaction wrote stands
   pub writes_of_committed : (history : List (Entry Event)) (t : Txn) (ts : ℕ) (key : List ℕ) (front : List Laid) (seq : ℕ) (value : Option (List ℕ)) → IsRun head history → NothingIsStaged history
-      → Contains (txns_of head t.id history) t → IsCommitted head history t.id ts → writes_at key t.writes ≡ front ++ (seq, value) ∷ [] → StandsBy head history t key value ts
+      → Contains (txns_of head t.id history) t → IsCommitted head history t.id ts → writes_at key t.writes ≡ front ++ (seq, value) ∷ [] → LastWriteStands head history t key value ts
   writes_of_committed history t ts key front seq value run only known committed is =
       elim (committed_home head t.id history run only ts committed) [
         | inl decided ↦ (settled head history run only t.id decided.0 ts decided.1).stand t known refl key front seq value is

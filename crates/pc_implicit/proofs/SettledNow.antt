@@ -20,7 +20,7 @@ use Rattle.pc_implicit.proofs.Recorded.{evaluated_state}
 use Rattle.pc_implicit.proofs.Turns.{not_session}
 use Rattle.pc_implicit.proofs.WriteLists.{Laid, RiseAt, left_over, rise_at, rise_last}
 use Rattle.pc_implicit.specs.Decided.{decision, epoch_of, time_of}
-use Rattle.pc_implicit.specs.Writes.{IsWholeBy, StandsBy, WasWritten, home_of, own_intent, txns_of, writes_at}
+use Rattle.pc_implicit.specs.Writes.{IsWholeBy, LastWriteStands, WasWritten, home_of, own_intent, txns_of, writes_at}
 use Rattle.pc_proto.specs.declared.event.Event.{Event}
 use Rattle.pc_proto.specs.declared.event.Event.TheVariants as events
 use Rattle.pc_proto.specs.declared.meta.TxnMeta.{TxnMeta}
@@ -57,7 +57,7 @@ pub record WasAsked (history : List (Entry Event)) (id : TxnId) (epoch ts : ℕ)
 -- What the transaction wrote at the keys stands at this timestamp.
 abbrev pub AllStand : Head → List (Entry Event) → Txn → ℕ → Type 0
 AllStand head history t ts =
-    (key : List ℕ) (front : List Laid) (seq : ℕ) (value : Option (List ℕ)) → writes_at key t.writes ≡ front ++ (seq, value) ∷ [] → StandsBy head history t key value ts
+    (key : List ℕ) (front : List Laid) (seq : ℕ) (value : Option (List ℕ)) → writes_at key t.writes ≡ front ++ (seq, value) ∷ [] → LastWriteStands head history t key value ts
 
 -- The committed transaction was committed by a commit that was sent, is in that epoch still, and what it wrote stands.
 pub record IsSettled (head : Head) (history : List (Entry Event)) (id : TxnId) (epoch ts : ℕ) : Type 0 where

@@ -23,7 +23,7 @@ use Rattle.pc_implicit.proofs.Turns.{IsAnswered, Restarted, WentOn, Wrote, comes
 use Rattle.pc_implicit.proofs.VersionSteps.{makes_version, version_stays}
 use Rattle.pc_implicit.proofs.WriteLists.{Laid, RiseAt, alike_at, each_low, rise_at, rise_value, written_at}
 use Rattle.pc_implicit.specs.Decided.{decision, epoch_of, time_of}
-use Rattle.pc_implicit.specs.Writes.{IsWholeBy, StandsBy, home_of, own_intent, place_under, txns_of, writes_at}
+use Rattle.pc_implicit.specs.Writes.{IsWholeBy, LastWriteStands, home_of, own_intent, place_under, txns_of, writes_at}
 use Rattle.pc_proto.specs.declared.event.Event.{Event}
 use Rattle.pc_proto.specs.declared.event.Event.TheVariants as events
 use Rattle.pc_proto.specs.declared.fate.Fate.{Fate}
@@ -111,7 +111,7 @@ module _ (head : Head) (history : List (Entry Event)) (run : IsRun head history)
   fate-so fate asked = fates_are_so head history run ev.send ev.listed number ev.range t.id key fate (ev.sends ∙ ap (events.Send number ev.range) asked)
 
   intent-stands : (front : List Laid) (seq : ℕ) (value : Option (List ℕ)) → writes_at key t.writes ≡ front ++ (seq, value) ∷ [] → (i : Intent) → own_at t.id key s.intents ≡ Some i → IsWholeBy t key ts i
-      → StandsBy head (history ++ e ∷ []) t key value ts
+      → LastWriteStands head (history ++ e ∷ []) t key value ts
   unfolding s
   intent-stands front seq value at_key i own w =
       let later : own_intent head t.id key (history ++ e ∷ []) ≡ own_at t.id key (intents_after ev.request s) = ap (λ (x : RangeState). own_at t.id key x.intents) state-is in
@@ -127,7 +127,7 @@ module _ (head : Head) (history : List (Entry Event)) (run : IsRun head history)
         | IsGone fate j asked ends there eq ↦ gone fate ends asked (fate-so fate asked)
       ]
     where
-      gone : (fate : Fate) → Ends fate → ev.request ≡ requests.Resolve t.id key fate → FateIsSo fate (home_of head t.id history) → StandsBy head (history ++ e ∷ []) t key value ts
+      gone : (fate : Fate) → Ends fate → ev.request ≡ requests.Resolve t.id key fate → FateIsSo fate (home_of head t.id history) → LastWriteStands head (history ++ e ∷ []) t key value ts
       gone (fates.Committed at_epoch at) ends asked so =
           let both : Some (status_of standings.Committed at_epoch at) ≡ Some (status_of standings.Committed epoch ts) = sym so ∙ decided in
           let same = status_same at_epoch epoch at ts both in
@@ -148,7 +148,7 @@ module _ (head : Head) (history : List (Entry Event)) (run : IsRun head history)
       gone (fates.Pending at) ends asked so = absurd ends
 
   -- what stood at the key stands after it
-  pub eval_stands : (front : List Laid) (seq : ℕ) (value : Option (List ℕ)) → writes_at key t.writes ≡ front ++ (seq, value) ∷ [] → StandsBy head history t key value ts → StandsBy head (history ++ e ∷ []) t key value ts
+  pub eval_stands : (front : List Laid) (seq : ℕ) (value : Option (List ℕ)) → writes_at key t.writes ≡ front ++ (seq, value) ∷ [] → LastWriteStands head history t key value ts → LastWriteStands head (history ++ e ∷ []) t key value ts
   unfolding s
   eval_stands front seq value at_key stands =
       elim stands [
@@ -193,7 +193,7 @@ module _ (head : Head) (history : List (Entry Event)) (run : IsRun head history)
           let both : decision Nothing ≡ Some (status_of standings.Committed epoch ts) = ap (λ o. decision (place_under head id history o)) (sym none) ∙ decided in absurd cc
 
   stands-as : (t u : Txn) (key : List ℕ) (value : Option (List ℕ)) → u.id ≡ t.id → u.epoch ≡ t.epoch → writes_at key u.writes ≡ writes_at key t.writes
-      → StandsBy head (history ++ e ∷ []) t key value ts → StandsBy head (history ++ e ∷ []) u key value ts
+      → LastWriteStands head (history ++ e ∷ []) t key value ts → LastWriteStands head (history ++ e ∷ []) u key value ts
   stands-as t u key value same epochs writes stands =
       elim stands [
         | inl version ↦
@@ -208,7 +208,7 @@ module _ (head : Head) (history : List (Entry Event)) (run : IsRun head history)
       ]
 
   still-stands : (t : Txn) → Contains (txns_of head id history) t → t.id ≡ id → (key : List ℕ) (front : List Laid) (seq : ℕ) (value : Option (List ℕ)) → writes_at key t.writes ≡ front ++ (seq, value) ∷ []
-      → StandsBy head (history ++ e ∷ []) t key value ts
+      → LastWriteStands head (history ++ e ∷ []) t key value ts
   still-stands t known same key front seq value is =
       let before = settled.stand t known same key front seq value is in
       elim (same_or_not e.actor (actors.Range (range_of head.splits key))) [

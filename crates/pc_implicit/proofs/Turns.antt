@@ -33,7 +33,7 @@ use Rattle.pc_proto.specs.declared.request.Request.{Request}
 use Rattle.pc_proto.specs.declared.request.Request.TheVariants as requests
 use Rattle.pc_world.proofs.Knowing.{known_other, known_same}
 use Rattle.pc_world.specs.After.{known_at}
-use Rattle.pc_world.specs.Known.{Known, begun_by, first_if, open_txn, told_first, txns_after, txns_told}
+use Rattle.pc_world.specs.Known.{Known, first_if, open_txn, told_first, txn_begun, txns_after, txns_told}
 use Rattle.pc_world.specs.Known.Statements.{Statement}
 use Rattle.pc_world.specs.Known.Traffic.{Heard, Sent, heard_by, replies_to}
 use Rattle.pc_world.specs.Known.Transactions.{Txn, has_staged, is_stage_of, txn_heard, txn_sent, txn_told}
@@ -352,13 +352,13 @@ module _ (head : Head) (history : List (Entry Event)) (run : IsRun head history)
           ]
       by false txns opened whole there = still u u (subst (λ l. Contains l u) (sym whole) there) refl refl refl
 
-  begun-comes : (s : Option Statement) (id : TxnId) (ts : ℕ) → e.event ≡ events.Tell (answers.Begun id ts) → IsNew history id → Comes history e k (begun_by s id ts)
+  begun-comes : (s : Option Statement) (id : TxnId) (ts : ℕ) → e.event ≡ events.Tell (answers.Begun id ts) → IsNew history id → Comes history e k (txn_begun s id ts)
   begun-comes None id ts is new = inl (record { ts = ts; tells = is; new = new; epoch = refl; unwritten = refl })
   begun-comes (Some s) id ts is new = inl (record { ts = ts; tells = is; new = new; epoch = refl; unwritten = refl })
 
   tell-comes : (answer : Answer) → e.event ≡ events.Tell answer → Does head e.actor k (events.Tell answer) → (u : Txn) → Contains (txns_told answer k) u → Comes history e k u
   tell-comes (answers.Begun id ts) is may u there =
-      elim (contains_cons (begun_by k.statement id ts) k.txns u there) [
+      elim (contains_cons (txn_begun k.statement id ts) k.txns u there) [
         | inl same ↦
             let next = begun_next head e.actor k id ts may in
             subst (Comes history e k) same (begun-comes k.statement id ts is (knows.fresh id next.0 (omega (arith, next.1))))

@@ -6,7 +6,7 @@ ghost use Rattle.std.specs.Io.KnownBytes.{ReadConsumes};
 ghost use Rattle.std.specs.declared.option.Option.{Option};
 ghost use Rattle.pc_io.specs.Counts.{Rose};
 ghost use Rattle.pc_io.specs.Causes.{HasCause};
-ghost use Rattle.pc_io.specs.Reading.{IsAllOf, LeavesNothing, TakesAtMost, TakesExactly};
+ghost use Rattle.pc_io.specs.Reading.{HasNoneLeft, IsAllOf, TakesAtMost, TakesExactly};
 
 use crate::failure::Failed;
 use std::alloc::{AllocError, Global};
@@ -71,7 +71,7 @@ pub fn read_all<S: Source>(
     limit: usize,
 ) -> Result<Vec<u8>, ReadFault>
     ensures ok { IfOk result (λ bytes. IsAllOf (S.left source.old) bytes.items) }
-    ensures end { OnOk result (LeavesNothing (S.left source.old) (S.left source.new)) }
+    ensures end { OnOk result (HasNoneLeft (S.left source.old) (S.left source.new)) }
     ensures within { IfOk result (λ bytes. length bytes.items ≤ limit) }
 
     // Refused as too long exactly where one byte more than the limit was read.

@@ -1,8 +1,8 @@
 ghost use Rattle.std.specs.Prelude.{◌≡◌, ℕ, ◌+◌, ◌≤◌, ◌↔◌, ◌⊎◌, IsTrue, IsSome, IfSome, codes, map, take, string_bytes};
 ghost use Rattle.std.specs.Io.KnownBytes.{Appends};
 ghost use Rattle.pc_io.specs.Counts.{Rose};
-ghost use Rattle.pc_io.specs.Reading.{LeavesNothing, TakesExactly};
-ghost use Rattle.pc_program.specs.Causes.{AskForRun, HasWritten, HasWrittenOf, IfDone, IfRead, IfWriteFault, IsAfterReading, IsOfRun, IsWriting, UnlessWriting};
+ghost use Rattle.pc_io.specs.Reading.{HasNoneLeft, TakesExactly};
+ghost use Rattle.pc_program.specs.Causes.{AskForRun, HasBegunWriting, HasWritten, HasWrittenOf, IfDone, IfRead, IfWriteFault, IsAfterReading, IsOfRun, UnlessWriting};
 ghost use Rattle.pc_work.specs.Built.{IsBuilt};
 ghost use Rattle.pc_work.specs.Workload.{IsJson, workload_in};
 
@@ -42,7 +42,7 @@ pub fn pcommit<S: Source, K: Sink, M: Clocks, G: Gate>(
     ensures too_long { IfSome (S.left source.old) (λ left. AskForRun (map string_bytes words.now) →
         ((result ≡ Status.TooLong (INPUT_BYTES + 1)) ↔ TakesExactly (INPUT_BYTES + 1) left (S.left source.new))) }
     ensures too_long_by_one { (bytes : ℕ) → result ≡ Status.TooLong bytes → bytes ≡ INPUT_BYTES + 1 }
-    ensures read_whole { IfRead result (LeavesNothing (S.left source.old) (S.left source.new)) }
+    ensures read_whole { IfRead result (HasNoneLeft (S.left source.old) (S.left source.new)) }
 
     // The bytes decide what becomes of the workload: no JSON, another form, or accepted and run.
     ensures no_json { IfRead result (IfSome (S.left source.old) (λ bytes.
@@ -50,7 +50,7 @@ pub fn pcommit<S: Source, K: Sink, M: Clocks, G: Gate>(
     ensures other_form { IfRead result (IfSome (S.left source.old) (λ bytes.
         (result ≡ Status.Workload 10) ↔ (IsJson bytes × (workload_in bytes ≡ None)))) }
     ensures accepted { IfRead result (IfSome (S.left source.old) (λ bytes.
-        IsWriting result ↔ (IsJson bytes × IsSome (workload_in bytes)))) }
+        HasBegunWriting result ↔ (IsJson bytes × IsSome (workload_in bytes)))) }
 
     // Done is the whole output behind what the sink had taken; a write fault is a part of it. Else nothing was written.
     ensures done { IfDone result (HasWritten (M.rules clocks.old) (S.left source.old) (K.taken sink.old) (K.taken sink.new) (λ text. text)) }
@@ -92,7 +92,7 @@ fn run<K: Sink, M: Clocks, G: Gate>(
 ) -> Status
     ensures no_json { IfRead result ((result ≡ Status.Workload 1) ↔ ¬ (IsJson bytes.now)) }
     ensures other_form { IfRead result ((result ≡ Status.Workload 10) ↔ (IsJson bytes.now × (workload_in bytes.now ≡ None))) }
-    ensures accepted { IfRead result (IsWriting result ↔ (IsJson bytes.now × IsSome (workload_in bytes.now))) }
+    ensures accepted { IfRead result (HasBegunWriting result ↔ (IsJson bytes.now × IsSome (workload_in bytes.now))) }
     ensures done { IfDone result (HasWritten (M.rules clocks.old) (Some bytes.now) (K.taken sink.old) (K.taken sink.new) (λ text. text)) }
     ensures part { IfWriteFault result (λ written. HasWritten (M.rules clocks.old) (Some bytes.now) (K.taken sink.old) (K.taken sink.new) (take written)) }
     ensures write_fault { IfWriteFault result (λ written. Rose (K.faults sink.old) (K.faults sink.new)) }
@@ -121,7 +121,7 @@ fn write_output<K: Sink, M: Clocks, G: Gate>(
     ensures write_fault { IfWriteFault result (λ written. Rose (K.faults sink.old) (K.faults sink.new)) }
     ensures write_count { K.faults sink.old ≤ K.faults sink.new }
     ensures unwritten { UnlessWriting result (sink.new ≡ sink.old) }
-    ensures kind { (result ≡ Status.NoMemory) ⊎ IsWriting result }
+    ensures kind { (result ≡ Status.NoMemory) ⊎ HasBegunWriting result }
 {
     match output(alloc, work, clocks, gate) {
         Ok(out) => write_whole(sink, &out),
@@ -134,7 +134,7 @@ fn write_whole<K: Sink>(sink: &mut K, out: &[u8]) -> Status
     ensures part { IfWriteFault result (λ written. Appends (K.taken sink.old) (K.taken sink.new) (take written out.now)) }
     ensures write_fault { IfWriteFault result (λ written. Rose (K.faults sink.old) (K.faults sink.new)) }
     ensures write_count { K.faults sink.old ≤ K.faults sink.new }
-    ensures kind { IsWriting result }
+    ensures kind { HasBegunWriting result }
 {
     match write_all(sink, out) {
         Ok(()) => Status::Done,

@@ -17,13 +17,13 @@ use Rattle.pc_proto.specs.declared.view.View.{View}
 use Rattle.pc_proto.specs.declared.view.View.TheVariants as views
 use Rattle.pc_proto.specs.Place.{Place, Nothing, Kept, Marked, after, is_decided, is_final, status_view, view_of}
 use Rattle.pc_proto.specs.RecordRows.{push_reply}
-use Rattle.pc_proto.specs.RecordRows.Push.{Verdict, There, Refuse, Doubt, Do, is_staged, is_there, on_verdict, push, pushed, verdict, wins}
+use Rattle.pc_proto.specs.RecordRows.Push.{Verdict, There, Refuse, Doubt, Do, is_staged, is_there, on_verdict, push, push_verdict, pushed, wins}
 use Rattle.pc_proto.specs.RecordRows.Reached.{is_staging}
 use Rattle.pc_proto.specs.Table.{place_of}
 use Rattle.pc_push.proofs.Marks.{IsFinalPlace, place_final}
 use Rattle.pc_push.specs.PushKnows.{Recovers}
 use Rattle.pc_push.specs.Pushing.{Pushing, push_of}
-use Rattle.pc_world.specs.Exchange.{IsReplyTo}
+use Rattle.pc_world.specs.Exchange.{IsPossibleReply}
 use Rattle.pc_world.specs.Send.Settling.{IsFateOf}
 use Rattle.pc_world.specs.StateOf.{state_of}
 use Rattle.pc_world.specs.Views.{final_fate}
@@ -105,10 +105,10 @@ answer_when : (b : Bool) (goal : Goal) (p : Place) (other : Reply) → is_decide
 answer_when true goal p other is final h = λ target goal none. absurd (decided_shows p final is none)
 answer_when false goal p other is final h = h
 
-pub push_answers : (m : Pushing) (told : Reply) → IsReplyTo (push_of m) told → IsPushReply m.goal told
+pub push_answers : (m : Pushing) (told : Reply) → IsPossibleReply (push_of m) told → IsPushReply m.goal told
 push_answers m told is =
     let p = place_of m.holder.id (state_of is.own).table in
-    let v = verdict m.holder m.level m.reading m.goal p in
+    let v = push_verdict m.holder m.level m.reading m.goal p in
     let there = is_there m.goal p in
     let won = wins m.holder m.level m.reading p in
     subst (IsPushReply m.goal) (sym is.is)
@@ -120,9 +120,9 @@ abbrev pub IsStatus : Reply → Type 0
 IsStatus (replies.Status view) = Unit {0}
 IsStatus _ = ⊥
 
-pub recovery_answers : (id : TxnId) (request : Request) (told : Reply) → Recovers id request → IsReplyTo request told → IsStatus told
+pub recovery_answers : (id : TxnId) (request : Request) (told : Reply) → Recovers id request → IsPossibleReply request told → IsStatus told
 recovery_answers id (requests.Recover other epoch ts anchor finding) told recovers is = subst IsStatus (sym is.is) tt
 recovery_answers id request told recovers is = absurd recovers
 
-pub resolve_answers : (id : TxnId) (key : List ℕ) (fate : Fate) (told : Reply) → IsReplyTo (requests.Resolve id key fate) told → told ≡ replies.Resolved
+pub resolve_answers : (id : TxnId) (key : List ℕ) (fate : Fate) (told : Reply) → IsPossibleReply (requests.Resolve id key fate) told → told ≡ replies.Resolved
 resolve_answers id key fate told is = is.is

@@ -4,7 +4,7 @@
 
 ghost use Rattle.std.specs.Prelude.{◌≡◌, IfOk, OnOk, OnErr};
 ghost use Rattle.pc_proto.specs.RecordRows.{record_reply, table_after};
-ghost use Rattle.pc_proto.specs.RecordRows.Push.{is_there, pushed, rank, wins};
+ghost use Rattle.pc_proto.specs.RecordRows.Push.{is_there, level_rank, pushed, wins};
 ghost use Rattle.pc_record.specs.RecordOf.{becoming};
 
 use crate::place::Place;
@@ -62,7 +62,7 @@ fn wins(place: &Place<'_>, holder: &TxnMeta, level: Priority, now: u64) -> bool
 }
 
 fn rank(priority: Priority) -> u8
-    ensures { result ≡ rank priority }
+    ensures { result ≡ level_rank priority }
 {
     match priority {
         Priority::Low => 0,

@@ -5,7 +5,7 @@ use Rattle.std.proofs.lemmas.List.Elements.{All-nil}
 use Rattle.pc_base.specs.declared.actor.ActorId.TheVariants as actors
 use Rattle.pc_coord.proofs.Resting.{rests}
 use Rattle.pc_coord.proofs.Steps.{asked}
-use Rattle.pc_coord.specs.Coordination.{Coordination, waits_for}
+use Rattle.pc_coord.specs.Coordination.{Coordination, awaits_number}
 use Rattle.pc_coord.specs.declared.due.Due.TheVariants as dues
 use Rattle.pc_coord.specs.declared.job.Job.{Job}
 use Rattle.pc_coord.specs.Events.{IsAsked}
@@ -110,7 +110,7 @@ module _ (work : Workload) (number : ℕ) (session : SessionWork) (at : Position
   -- a session that asked its next call is in it
   pub calls_asked : (c d : Coordination) (sends : ℕ) → Rests work number session at clock jobs c sends h → HasGrown h g (actors.Session number) (events.Ask call reading) → next_call at ≡ Some call
       → IsTrue (stepped_rule clock.start clock.step clock.reads reading) → later.reads ≡ raised clock.reads → later.start ≡ clock.start → later.step ≡ clock.step
-      → ((k : Known) (p : Pair _) → Knows c k → IsAsked c call reading k p → Knows d (learn p k)) → ((other : ℕ) → waits_for other d.due ≡ false)
+      → ((k : Known) (p : Pair _) → Knows c k → IsAsked c call reading k p → Knows d (learn p k)) → ((other : ℕ) → awaits_number other d.due ≡ false)
       → d.session ≡ c.session → d.splits ≡ c.splits → Calls work number session at later reading jobs d sends [] [] g
   calls_asked c d sends rest grown next given counted start step learns quiet same_session same_splits =
       let k = known_by number h in

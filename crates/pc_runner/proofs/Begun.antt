@@ -22,7 +22,7 @@ use Rattle.pc_runner.proofs.Entering.{first_history, sound_begun}
 use Rattle.pc_runner.proofs.Fitting.{opened_fits}
 use Rattle.pc_runner.specs.Following.{HasJobs, IsLeft, StandsBy}
 use Rattle.pc_runner.specs.Follows.Script.{Position, opened}
-use Rattle.pc_runner.specs.History.{History, IsSound}
+use Rattle.pc_runner.specs.History.{History, IsSoundHistory}
 use Rattle.pc_runner.specs.Keeping.{AreDelivered, IsClockOf, IsStatedBy, KeepsSoFar}
 use Rattle.pc_runner.specs.Suiting.{Fits}
 use Rattle.pc_runner.specs.Traffic.{HasHeard}
@@ -63,7 +63,7 @@ none_held (Some x) held = let e : false ≡ true = held.1.is_open in absurd cc
 new_closed : (c : Coordination) → Knows c nothing_known → c.txn ≡ None
 new_closed c knows = none_held c.txn (rests c nothing_known knows refl).held
 
-pub fresh_sound : (work : Workload) → IsBuilt work → IsSound (fresh work)
+pub fresh_sound : (work : Workload) → IsBuilt work → IsSoundHistory (fresh work)
 fresh_sound work built = sound_begun work.splits (length work.sessions) (built_rising work built) (built_few work built)
 
 pub begun_stands : (work : Workload) (number : ℕ) (session : SessionWork) (c : Coordination) → IsStatedBy work number session → Knows c nothing_known → c.session ≡ number → c.splits ≡ work.splits

@@ -13,10 +13,10 @@ use Rattle.pc_world.specs.Known.{Known}
 use Rattle.pc_world.specs.Known.Traffic.{reply_named}
 use Rattle.pc_runner.proofs.Growing.{known_kept_by_range}
 use Rattle.pc_runner.specs.Database.{HasEvaluated, IsOfHolder}
-use Rattle.pc_runner.specs.History.{History, IsSound, state_in}
+use Rattle.pc_runner.specs.History.{History, IsSoundHistory, state_in}
 use Rattle.pc_runner.specs.Journal.{HasOneMore, next_entry}
 
-module _ (h g : History) (session number step range : ℕ) (request : Request) (sound : IsSound h)
+module _ (h g : History) (session number step range : ℕ) (request : Request) (sound : IsSoundHistory h)
     (more : HasOneMore step h g (actors.Range range) (events.Eval (actors.Session session) number (reply request (state_in range h)))) where
   begun : (told : Reply) → reply request (state_in range h) ≡ told → IsOfHolder g told
   begun (replies.Conflict holder ts key) met =

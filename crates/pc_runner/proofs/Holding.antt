@@ -14,7 +14,7 @@ use Rattle.pc_world.proofs.Prefixes.{run_front}
 use Rattle.pc_world.specs.Committed.{anchor_in}
 use Rattle.pc_world.specs.Known.Traffic.{Heard}
 use Rattle.pc_world.specs.Run.{IsRun}
-use Rattle.pc_runner.specs.History.{History, IsSound, known_by}
+use Rattle.pc_runner.specs.History.{History, IsSoundHistory, known_by}
 
 anchor_longer : (id : TxnId) (anchor : List ℕ) (front back : List (Entry Event)) → anchor_in id front ≡ Some anchor → anchor_in id (front ++ back) ≡ Some anchor
 anchor_longer id anchor front [] is = ap (anchor_in id) (append-nil front) ∙ is
@@ -23,7 +23,7 @@ anchor_longer id anchor front (e ∷ back) is =
     ∙ anchor_longer id anchor (front ++ e ∷ []) back (anchor_stays id front e anchor is)
 
 -- the holder of an intent that was met was begun
-pub holder_begun : (session : ℕ) (h : History) → IsSound h → (x : Heard) → Contains (known_by session h).heard_now x → (holder : TxnMeta) (ts : ℕ) (key : List ℕ) → x.reply ≡ replies.Conflict holder ts key
+pub holder_begun : (session : ℕ) (h : History) → IsSoundHistory h → (x : Heard) → Contains (known_by session h).heard_now x → (holder : TxnMeta) (ts : ℕ) (key : List ℕ) → x.reply ≡ replies.Conflict holder ts key
     → holder.id.number ≤ (known_by holder.id.session h).begun
 holder_begun session h sound x there holder ts key met =
     let w = each_contained (IsSo h.head h.entries (actors.Session session)) (known_by session h).heard_now x (now_is_so h.head h.entries sound.run (actors.Session session)) there in

@@ -36,7 +36,7 @@ use Rattle.pc_world.specs.StateOf.{state_with}
 use Rattle.pc_runner.proofs.Entering.{eval_names, first_history, sound_begun}
 use Rattle.pc_runner.proofs.Places.{get_set_other, get_set_same}
 use Rattle.pc_runner.specs.Database.{IsForOneOrRefreshes, StandBy}
-use Rattle.pc_runner.specs.History.{History, IsSound, state_in}
+use Rattle.pc_runner.specs.History.{History, IsSoundHistory, state_in}
 use Rattle.pc_runner.specs.Journal.{HasGrown, WasSentTo, next_entry}
 
 -- ---- the range of a request
@@ -153,11 +153,11 @@ module _ (head : Head) where
   placed-there history run = placed history run
 
 -- a message that a session sent went to its range
-pub sent_goes : (h : History) (session number range : ℕ) (request : Request) → IsSound h → WasSentTo h session number range request → GoesTo h.head.splits request range
+pub sent_goes : (h : History) (session number range : ℕ) (request : Request) → IsSoundHistory h → WasSentTo h session number range request → GoesTo h.head.splits request range
 sent_goes h session number range request sound sent = (placed-there h.head h.entries sound.run sent.send session number range request sent.stands sent.whose sent.says).goes
 
 -- and to no other
-pub sent_to : (h : History) (session number range other : ℕ) (request : Request) → IsSound h → WasSentTo h session number range request → GoesTo h.head.splits request other → WasSentTo h session number other request
+pub sent_to : (h : History) (session number range other : ℕ) (request : Request) → IsSoundHistory h → WasSentTo h session number range request → GoesTo h.head.splits request other → WasSentTo h session number other request
 sent_to h session number range other request sound sent goes =
     let is = placed-there h.head h.entries sound.run sent.send session number range request sent.stands sent.whose sent.says in
     subst (λ r. WasSentTo h session number r request) (goes-same h.head.splits request range other is.listed is.goes goes) sent

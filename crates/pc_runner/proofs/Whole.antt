@@ -22,7 +22,7 @@ use Rattle.pc_runner.specs.Follows.Script.{next_call}
 use Rattle.pc_runner.specs.Follows.Wire.{evaluations}
 use Rattle.pc_runner.specs.Traffic.{IsNumbered}
 use Rattle.pc_runner.specs.Follows.Turns.{AreTurns, IsInTurns, Opens, RunOut, stated_turns}
-use Rattle.pc_runner.specs.History.{History, IsSound, known_by, own_by}
+use Rattle.pc_runner.specs.History.{History, IsSoundHistory, known_by, own_by}
 use Rattle.pc_runner.specs.Turns.{AreOver, HasGoneOn, IsRunnerOf, IsRunning, IsWhole}
 
 pub if_ok : {X F : Type 0} (r : Result X F) (P Q : X → Type 0) → ((x : X) → P x → Q x) → IfOk r P → IfOk r Q
@@ -102,7 +102,7 @@ follows t rules running turns over = record {
 pub whole : (work : Workload) (a b c d : TurnsRun) (entries : Entries) → IsRunning a → a.work.now ≡ work → a.database.entries ≡ []
     → HasGoneOn a b (λ before part. Opens a.database.head a.work.now a.work.now.sessions part)
     → HasGoneOn b c (AreTurns b.database.head b.work.now (stated_turns b.work.now)) → HasGoneOn c d (RunOut c.database.head c.work.now 1 c.work.now.sessions)
-    → AreOver (length c.work.now.sessions) d → IsSound d.database → entries ≡ d.database.entries → IsWhole work entries
+    → AreOver (length c.work.now.sessions) d → IsSoundHistory d.database → entries ≡ d.database.entries → IsWhole work entries
 whole work a b c d entries running states fresh opened taken out over sound is =
     let same : d.work.now ≡ work = out.work ∙ (taken.work ∙ (opened.work ∙ states)) in
     let over : AreOver (length d.work.now.sessions) d = subst (λ (w : Workload). AreOver (length w.sessions) d) (sym out.work) over in

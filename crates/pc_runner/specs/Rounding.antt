@@ -47,7 +47,7 @@ IsOfConflict (replies.Conflict holder ts key) m = (m.holder ≡ holder) × (m.ke
 IsOfConflict _ m = ⊥
 
 -- The round of the conflict is being made beside the coordinator, by this machine.
-pub record IsInRound (old : SessionRun) (before : History) (conflict : Reply) (m : Pushing) (new : SessionRun) (after : History) : Type 0 where
+pub record IsMakingRound (old : SessionRun) (before : History) (conflict : Reply) (m : Pushing) (new : SessionRun) (after : History) : Type 0 where
   pub beside : IsBesides old.coordinator (known_by old.number before) (map messages_of_job old.jobs.items) before new after
   pub rest : IsOnlySent old new
   pub knows : PushKnows (actors.Session new.number) (known_by old.number before) (known_by new.number after) m

@@ -9,7 +9,7 @@ ghost use Rattle.pc_world.specs.MayTell.{MayTell};
 ghost use Rattle.pc_world.specs.RangeOf.{AreRising, GoesTo};
 ghost use Rattle.pc_world.specs.Unstaged.{IsNoStage};
 ghost use Rattle.pc_runner.specs.Database.{HasEvaluated, HasSent, IsForOneOrRefreshes};
-ghost use Rattle.pc_runner.specs.History.{IsSound, head_of, known_by};
+ghost use Rattle.pc_runner.specs.History.{IsSoundHistory, head_of, known_by};
 ghost use Rattle.pc_runner.specs.Journal.{HasGrown, WasSent};
 
 use crate::journal::Journal;
@@ -47,7 +47,7 @@ impl<'a> Database<'a> {
         requires rising { AreRising splits.now }
         requires few { length splits.now + 1 < 2 ^ 32 }
         ensures fresh { IfOk result (λ made. made ≡ record { head = head_of splits.now sessions; entries = [] }) }
-        ensures sound { IfOk result IsSound }
+        ensures sound { IfOk result IsSoundHistory }
     {
         let mut states = Vec::new(alloc);
         for _ in 0..splits.len() + 1 {
@@ -62,7 +62,7 @@ impl<'a> Database<'a> {
     /// The entries of the history, in order.
     pub fn into_entries(self) -> Vec<Entry<Event>>
         ensures entries { result.items ≡ self.entry.entries }
-        ensures sound { IsSound self.entry }
+        ensures sound { IsSoundHistory self.entry }
     {
         self.journal.into_entries()
     }
@@ -144,7 +144,7 @@ impl<'a> Database<'a> {
 
     /// The range that the request is for.
     fn range_of(&self, request: &Request) -> Result<u32, NoMemory>
-        requires sound { IsSound self.now }
+        requires sound { IsSoundHistory self.now }
         requires one { IsForOneOrRefreshes self.now.head.splits request.now }
         ensures { IfOk result (GoesTo self.now.head.splits request.now) }
     {

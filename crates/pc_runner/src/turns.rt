@@ -1,7 +1,7 @@
 ghost use Rattle.std.specs.Prelude.{◌≡◌, ◌≢◌, ◌↔◌, ◌+◌, ◌-◌, ◌≤◌, ◌<◌, ◌++◌, [], IfOk, OnOk, IsTrue, Some, None, length, slice_get};
 ghost use Rattle.pc_runner.specs.Follows.{Follows};
 ghost use Rattle.pc_runner.specs.Follows.Turns.{AreTurns, IsTurn, Opens, RunOut, stated_turns};
-ghost use Rattle.pc_runner.specs.History.{IsSound, head_of};
+ghost use Rattle.pc_runner.specs.History.{IsSoundHistory, head_of};
 ghost use Rattle.pc_runner.specs.Turns.{AreOver, GoesOnAlone, HasGoneOn, IsDone, HasOpened, IsRunning, IsWhole, OthersRest, RunsToEnd};
 ghost use Rattle.pc_runner.specs.declared.session.SessionRun.{SessionRun};
 ghost use Rattle.pc_work.specs.Built.{IsBuilt, IsTurnOf};

@@ -28,7 +28,7 @@ use Rattle.pc_world.proofs.Each.{each-always, each-weaker}
 use Rattle.pc_world.proofs.KeyOrder.{at_most-is, at_most-through, below-through}
 use Rattle.pc_world.proofs.Prefixes.{run_front}
 use Rattle.pc_world.specs.After.{known_at, state_at}
-use Rattle.pc_world.specs.Known.Reads.{AtOnce, Further, IsGoodTo, WasRefreshed, ends_after, holds, starts_by}
+use Rattle.pc_world.specs.Known.Reads.{AtOnce, Further, IsGoodTo, WasRefreshed, ends_after, holds_span, starts_by}
 use Rattle.pc_world.specs.Known.Traffic.{reply_in}
 use Rattle.pc_world.specs.Local.{Head}
 use Rattle.pc_world.specs.Named.{request_in, request_named}
@@ -50,7 +50,7 @@ before-held (Some one) None key h k = absurd cc
 before-held (Some one) (Some other) key h k = below-through key other one k (not-true (key_below one other) (sym (at_most-is other one) ∙ h))
 
 -- a span that holds another has its keys
-pub holds-key : (wider span : Span) (key : List ℕ) → holds wider span ≡ true → contains span key ≡ true → contains wider key ≡ true
+pub holds-key : (wider span : Span) (key : List ℕ) → holds_span wider span ≡ true → contains span key ≡ true → contains wider key ≡ true
 holds-key (One one) (One other) key h k = subst (λ x. same_key key x ≡ true) (sym (same-keys one other h)) k
 holds-key (One one) (Between first end) key h k = absurd cc
 holds-key (Between from to) (One other) key h k = subst (λ x. contains (Between from to) x ≡ true) (sym (same-keys key other k)) h

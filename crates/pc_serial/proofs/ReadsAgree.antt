@@ -17,7 +17,7 @@ use Rattle.pc_implicit.proofs.Fronts.{front_same}
 use Rattle.pc_implicit.proofs.Reading.{reads_stand}
 use Rattle.pc_implicit.proofs.SessionReads.{ComesFrom, IsReadAt, ReadsPieces, plain}
 use Rattle.pc_implicit.proofs.ReadsComeFrom.{comes_from_reads}
-use Rattle.pc_implicit.specs.Reads.{GrowsAbove, HasRead, IsRead, Reads}
+use Rattle.pc_implicit.specs.Reads.{GrowsAbove, HasRead, IsReadOfSpan, Reads}
 use Rattle.pc_implicit.specs.Writes.{txns_of}
 use Rattle.pc_proto.specs.declared.event.Event.{Event}
 use Rattle.pc_proto.specs.declared.record.Intent.{Intent}
@@ -105,7 +105,7 @@ module _ (head : Head) (history : List (Entry Event)) (run : IsRun head history)
     abbrev look : List ℕ → Option (List ℕ)
     look key = written key (flat_map (operations_of history) before ++ done)
 
-    module _ (span : Span) (range : ℕ) (asks : ℕ → ℕ → Request) (told : Reply) (r : IsReadAt head g.front id g.t.epoch g.t.reads done span range asks told) (reads : IsRead id span r.ts (asks r.seq r.ts) told) where
+    module _ (span : Span) (range : ℕ) (asks : ℕ → ℕ → Request) (told : Reply) (r : IsReadAt head g.front id g.t.epoch g.t.reads done span range asks told) (reads : IsReadOfSpan id span r.ts (asks r.seq r.ts) told) where
       evaluated : Reads head r.before range id span r.ts r.e
       evaluated = record {
         evaluated = r.evaluates.there;

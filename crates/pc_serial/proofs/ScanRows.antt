@@ -24,7 +24,7 @@ use Rattle.pc_serial.proofs.Maps.{RisesByKey, at-none, key-itself, same-keys}
 use Rattle.pc_serial.proofs.SpanRows.{Show}
 use Rattle.pc_world.proofs.Each.{each-back, each-front, each-map, each-unmap, each-weaker}
 use Rattle.pc_world.specs.Evaluation.Get.{found_at, found_first, own_value}
-use Rattle.pc_world.specs.Evaluation.Scan.{keys_in, row_of, rows_in}
+use Rattle.pc_world.specs.Evaluation.Scan.{keys_in, row_found, rows_in}
 use Rattle.pc_world.specs.RangeState.{RangeState}
 
 -- ---- the rows of keys, by a look-up at each
@@ -36,10 +36,10 @@ row_at look key = option_map (λ value. (key, value)) (look key)
 abbrev rows_at : (List ℕ → Option (List ℕ)) → List (List ℕ) → List (List ℕ × List ℕ)
 rows_at look keys = filter_map (row_at look) keys
 
-plain-rows : (found : List ℕ → Origin × Option (List ℕ)) (keys : List (List ℕ)) → map plain (filter_map (λ key. row_of key (found key)) keys) ≡ rows_at (λ key. (found key).1) keys
+plain-rows : (found : List ℕ → Origin × Option (List ℕ)) (keys : List (List ℕ)) → map plain (filter_map (λ key. row_found key (found key)) keys) ≡ rows_at (λ key. (found key).1) keys
 plain-rows found [] = refl
 plain-rows found (key ∷ keys) =
-    let rest = filter_map (λ key. row_of key (found key)) keys in
+    let rest = filter_map (λ key. row_found key (found key)) keys in
     let by : (o : Option (List ℕ)) → map plain (cons_option (option_map (λ value. (key, (found key).0, value)) o) rest) ≡ cons_option (option_map (λ value. (key, value)) o) (map plain rest) = elim [
       | None ↦ refl
       | Some value ↦ refl

@@ -20,8 +20,8 @@ use Rattle.pc_work.specs.Statement.{statement_of}
 use Rattle.pc_work.specs.Texts.{key_of}
 use Rattle.pc_work.specs.Session.{session_names, session_of}
 use Rattle.pc_work.specs.Splits.{rises, split_limit, splits_of}
-use Rattle.pc_work.specs.Turn.{turn_of, is_there}
-use Rattle.pc_work.specs.Workload.{rerun_limit, session_limit, turn_limit, first_items, are_sessions, are_turns, is_within, workload_names, workload_of}
+use Rattle.pc_work.specs.Turn.{is_turn_there, turn_of}
+use Rattle.pc_work.specs.Workload.{is_within_limits, rerun_limit, session_limit, turn_limit, first_items, are_sessions, are_turns, workload_names, workload_of}
 use Rattle.pc_work.specs.Built.{IsReadStatement, IsWriteStatement, IsBuiltItem, IsBuiltSession, IsTurnOf, AreTurnsOf, RisesBehind, Rises, IsBuilt}
 use Rattle.pc_work.specs.declared.item.Item.TheVariants.{Txn}
 use Rattle.pc_work.specs.declared.session.SessionWork.{SessionWork}
@@ -156,7 +156,7 @@ whole_only most value =
     only_when (λ n. n ≤ most) (nat_le n most) (Some n) (λ within.
     only_some (λ n. n ≤ most) n (leb-true n most within)))
 
-turn_is_there : (sessions : ℕ) (turn : Turn) → is_there sessions turn ≡ true → IsTurnOf sessions turn
+turn_is_there : (sessions : ℕ) (turn : Turn) → is_turn_there sessions turn ≡ true → IsTurnOf sessions turn
 turn_is_there sessions (Session n) e =
     let both = and_parts (nat_le 1 n) (nat_le n sessions) e in
     (leb-true 1 n both.0, leb-true n sessions both.1)
@@ -167,16 +167,16 @@ turn_is_there sessions (Recoverer n) e = absurd (false≢true e)
 
 turns_are_there : (sessions : List SessionWork) (turns : List Turn) → are_turns sessions turns ≡ true → AreTurnsOf (length sessions) turns
 turns_are_there sessions turns e =
-    let both = and_parts (nat_le (length turns) turn_limit) (list_all (is_there (length sessions)) turns) e in
+    let both = and_parts (nat_le (length turns) turn_limit) (list_all (is_turn_there (length sessions)) turns) e in
     record {
       few = leb-true (length turns) turn_limit both.0;
-      each = all_by (is_there (length sessions)) (IsTurnOf (length sessions)) (turn_is_there (length sessions)) turns both.1;
+      each = all_by (is_turn_there (length sessions)) (IsTurnOf (length sessions)) (turn_is_there (length sessions)) turns both.1;
     }
 
 abbrev made : List (List ℕ) → ℕ → ℕ → List Turn → List SessionWork → Workload
 made splits reruns opening turns sessions = record { version = 1; pipelining = false; splits = splits; limit = 1000000; tries = 4; reruns = reruns; opening = opening; sessions = sessions; turns = Some turns }
 
-made_is_built : (version : ℕ) (pipelining : Bool) (splits : List (List ℕ)) (reruns opening : ℕ) (turns : List Turn) (sessions : List SessionWork) → is_within version pipelining opening sessions turns ≡ true
+made_is_built : (version : ℕ) (pipelining : Bool) (splits : List (List ℕ)) (reruns opening : ℕ) (turns : List Turn) (sessions : List SessionWork) → is_within_limits version pipelining opening sessions turns ≡ true
     → AreSplits splits → reruns ≤ rerun_limit → All IsBuiltSession sessions → IsBuilt (made splits reruns opening turns sessions)
 made_is_built version pipelining splits reruns opening turns sessions e cut few each =
     let all_but_opening = and_parts (version == 1 && not pipelining && are_sessions sessions && are_turns sessions turns) (nat_le opening (first_items sessions)) e in
@@ -216,7 +216,7 @@ only_built value =
     only_behind IsBuilt (list_by turn_of listed) _ (λ turns.
     only_behind IsBuilt (get (codes "sessions") value) _ (λ found.
     only_known (All IsBuiltSession) IsBuilt (list_by session_of found) _ (list_only IsBuiltSession session_of session_is_built found) (λ sessions each.
-    only_when IsBuilt (is_within version pipelining opening sessions turns) _ (λ within.
+    only_when IsBuilt (is_within_limits version pipelining opening sessions turns) _ (λ within.
     only_some IsBuilt (made splits reruns opening turns sessions) (made_is_built version pipelining splits reruns opening turns sessions within rising few each)))))))))))))
 
 -- The workload that a JSON value states is of the form that is built.

@@ -3,7 +3,7 @@ use Rattle.std.proofs.Common.{◌≡◌, ℕ, ◌+◌, ◌^◌, ◌≤◌, ◌<�
 use Rattle.std.proofs.lemmas.Bool.{and_parts, leb-true}
 use Rattle.std.proofs.lemmas.List.Sums.{sum_by-cons}
 use Rattle.pc_work.specs.Count.{item_count, session_count, statement_limit}
-use Rattle.pc_work.specs.Workload.{first_items, session_limit, are_sessions, are_turns, is_within}
+use Rattle.pc_work.specs.Workload.{first_items, is_within_limits, session_limit, are_sessions, are_turns}
 use Rattle.pc_work.specs.declared.item.Item.{Item}
 use Rattle.pc_work.specs.declared.item.Item.TheVariants.{Learn, Txn}
 use Rattle.pc_work.specs.declared.session.SessionWork.{SessionWork}
@@ -26,7 +26,7 @@ first_counts (first ∷ others) =
     goal
 
 -- An opening that is within its limit fits 32 bits.
-pub opening_fits : (version : ℕ) (pipelining : Bool) (opening : ℕ) (sessions : List SessionWork) (turns : List Turn) → is_within version pipelining opening sessions turns ≡ true → opening < 2 ^ 32
+pub opening_fits : (version : ℕ) (pipelining : Bool) (opening : ℕ) (sessions : List SessionWork) (turns : List Turn) → is_within_limits version pipelining opening sessions turns ≡ true → opening < 2 ^ 32
 opening_fits version pipelining opening sessions turns e =
     let all_but_opening = and_parts (version == 1 && not pipelining && are_sessions sessions && are_turns sessions turns) (nat_le opening (first_items sessions)) e in
     let all_but_turns = and_parts (version == 1 && not pipelining && are_sessions sessions) (are_turns sessions turns) all_but_opening.0 in

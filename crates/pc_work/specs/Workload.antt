@@ -11,7 +11,7 @@ use Rattle.pc_work.specs.Lists.{list_by}
 use Rattle.pc_work.specs.Count.{session_count, statement_limit}
 use Rattle.pc_work.specs.Session.{session_of}
 use Rattle.pc_work.specs.Splits.{splits_of}
-use Rattle.pc_work.specs.Turn.{turn_of, is_there}
+use Rattle.pc_work.specs.Turn.{is_turn_there, turn_of}
 use Rattle.pc_work.specs.declared.fault.WorkFault.{WorkFault}
 use Rattle.pc_work.specs.declared.fault.WorkFault.TheVariants as faults
 use Rattle.pc_work.specs.declared.session.SessionWork.{SessionWork}
@@ -46,11 +46,11 @@ are_sessions sessions =
 
 -- No more turns than the limit, and each is that of one that is there.
 abbrev pub are_turns : List SessionWork → List Turn → Bool
-are_turns sessions turns = nat_le (length turns) turn_limit && list_all (is_there (length sessions)) turns
+are_turns sessions turns = nat_le (length turns) turn_limit && list_all (is_turn_there (length sessions)) turns
 
 -- Version 1 without pipelining, and sessions, turns and an opening within their limits.
-abbrev pub is_within : ℕ → Bool → ℕ → List SessionWork → List Turn → Bool
-is_within version pipelining opening sessions turns =
+abbrev pub is_within_limits : ℕ → Bool → ℕ → List SessionWork → List Turn → Bool
+is_within_limits version pipelining opening sessions turns =
     version == 1 && not pipelining && are_sessions sessions && are_turns sessions turns && nat_le opening (first_items sessions)
 
 -- The workload that a JSON value states: what is absent is at its default.
@@ -66,7 +66,7 @@ workload_of value = if has_only workload_names value then (do
   turns ← list_by turn_of listed
   found ← get (codes "sessions") value
   sessions ← list_by session_of found
-  if is_within version pipelining opening sessions turns then Some (record {
+  if is_within_limits version pipelining opening sessions turns then Some (record {
     version = 1;
     pipelining = false;
     splits = splits;

@@ -4,8 +4,8 @@ ghost use Rattle.serde_json.specs.View.{view};
 ghost use Rattle.pc_work.specs.Reading.{Gives};
 ghost use Rattle.pc_work.specs.Built.{IsBuilt};
 ghost use Rattle.pc_work.specs.Members.{has_only, member_or, whole_of, whole_up_to};
-ghost use Rattle.pc_work.specs.Turn.{is_there};
-ghost use Rattle.pc_work.specs.Workload.{workload_names, rerun_limit, first_items, are_sessions, are_turns, is_within, workload_of, IsJson, workload_in, UnlessMemory};
+ghost use Rattle.pc_work.specs.Turn.{is_turn_there};
+ghost use Rattle.pc_work.specs.Workload.{is_within_limits, workload_names, rerun_limit, first_items, are_sessions, are_turns, workload_of, IsJson, workload_in, UnlessMemory};
 
 use crate::count::Counted;
 use crate::fault::{Misfit, WorkFault};
@@ -155,7 +155,7 @@ fn is_within(
     sessions: &Sessions,
     turns: &Turns,
 ) -> bool
-    ensures { result ≡ is_within version pipelining opening sessions.now turns.now }
+    ensures { result ≡ is_within_limits version pipelining opening sessions.now turns.now }
 {
     version == 1
         && !pipelining
@@ -187,7 +187,7 @@ fn are_turns(sessions: &Sessions, turns: &Turns) -> bool
 }
 
 fn are_there(turns: &[Turn], sessions: usize) -> bool
-    ensures { result ≡ list_all (is_there sessions) turns.now }
+    ensures { result ≡ list_all (is_turn_there sessions) turns.now }
 {
     turns.iter().all(|turn| turn.is_there(sessions))
 }

@@ -30,8 +30,8 @@ abbrev pub is_about : TxnId → Request → Bool
 is_about id request = option_map_or (λ other. same_txn other id) (subject request) false
 
 -- A view of the transaction that is not final was heard.
-abbrev pub shows_unsettled : TxnId → Request → Reply → Bool
-shows_unsettled id request reply = is_about id request && option_map_or (λ view. not (is_final_view view)) (view_in reply) false
+abbrev pub shows_undecided : TxnId → Request → Reply → Bool
+shows_undecided id request reply = is_about id request && option_map_or (λ view. not (is_final_view view)) (view_in reply) false
 
 -- The anchor that a request to a record names.
 abbrev pub anchor_in : Request → Option (List ℕ)

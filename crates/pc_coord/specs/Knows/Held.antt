@@ -14,7 +14,7 @@ use Rattle.pc_world.specs.Known.Traffic.{Heard, Sent}
 use Rattle.pc_world.specs.Known.Transactions.{Txn, with_lock}
 use Rattle.pc_world.specs.Known.Writes.{IsProvedBy, Write, last_seq_of}
 use Rattle.pc_world.specs.Send.Recovery.{is_put_of}
-use Rattle.pc_world.specs.StageFate.{EachCommit, IsRefused}
+use Rattle.pc_world.specs.StageFate.{EachCommit, WasCommitRefused}
 use Rattle.pc_world.specs.Views.{anchor_in, is_about}
 
 -- No stage, and no put or commit of a transaction that was not begun.
@@ -76,7 +76,7 @@ pub record IsPlain (k : Known) (t : Txn) (sent : List Sent) : Type 0 where
   pub behind : t.read_ts ≤ t.write_ts
   pub at_begin : t.anchor ≡ None → t.read_ts ≡ t.begin
   pub below : t.write_ts ≤ k.high
-  pub refused : EachCommit t.id sent (IsRefused k.heard)
+  pub refused : EachCommit t.id sent (WasCommitRefused k.heard)
   pub views : All (IsPendingOf t) k.heard
 
 -- The transaction's last write is in flight: it is the only one that is not proved.

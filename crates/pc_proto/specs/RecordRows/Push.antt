@@ -18,14 +18,14 @@ abbrev pub expiry : ℕ
 expiry = 5000000000
 
 -- Of two levels the higher one has the higher rank.
-abbrev pub rank : Priority → ℕ
-rank Low = 0
-rank Normal = 1
-rank High = 2
+abbrev pub level_rank : Priority → ℕ
+level_rank Low = 0
+level_rank Normal = 1
+level_rank High = 2
 
 -- The level is higher than the holder's, or the holder has expired.
 abbrev pub wins : TxnMeta → Priority → ℕ → Place → Bool
-wins holder level now p = nat_lt (rank holder.priority) (rank level) || nat_lt expiry (now - activity_of p holder.born)
+wins holder level now p = nat_lt (level_rank holder.priority) (level_rank level) || nat_lt expiry (now - activity_of p holder.born)
 
 -- The record stands at the target or above it.
 abbrev pub is_there : Goal → Place → Bool
@@ -48,8 +48,8 @@ pub data Verdict : Type 0 where
   Do : Verdict
 
 -- What this push comes to.
-abbrev pub verdict : TxnMeta → Priority → ℕ → Goal → Place → Verdict
-verdict holder level now goal p =
+abbrev pub push_verdict : TxnMeta → Priority → ℕ → Goal → Place → Verdict
+push_verdict holder level now goal p =
     if is_there goal p then There
     else if wins holder level now p then (if is_staged p then Doubt else Do)
     else Refuse
@@ -70,4 +70,4 @@ on_verdict Do change = change
 
 -- What a push does to the holder's place.
 abbrev pub push : TxnMeta → Who → Priority → ℕ → Goal → Place → Change
-push holder by level now goal p = on_verdict (verdict holder level now goal p) (pushed holder by goal p)
+push holder by level now goal p = on_verdict (push_verdict holder level now goal p) (pushed holder by goal p)
