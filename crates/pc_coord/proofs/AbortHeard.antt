@@ -3,6 +3,7 @@ use Rattle.std.proofs.Common.{◌≡◌, ℕ, ◌≤◌, zero, suc, ◌⊎◌, i
 use Rattle.std.specs.Option.{option_and_then}
 use Rattle.std.proofs.lemmas.Option.{same_Some}
 use Rattle.pc_base.specs.declared.actor.ActorId.TheVariants as actors
+use Rattle.pc_base.specs.Rising.{AreRising}
 use Rattle.pc_coord.proofs.Closing.{closing-left, closing-may, opened3}
 use Rattle.pc_coord.proofs.Ending.{EndsWith, IsFinalAs, final_aborted, final_committed}
 use Rattle.pc_coord.proofs.Lists.{any_last}
@@ -33,15 +34,16 @@ use Rattle.pc_proto.specs.declared.request.Request.{Request}
 use Rattle.pc_proto.specs.declared.view.View.{View}
 use Rattle.pc_proto.specs.declared.view.View.TheVariants as views
 use Rattle.pc_proto.specs.declared.why.Why.{Why}
+use Rattle.pc_proto.specs.Replies.{view_in}
+use Rattle.pc_proto.specs.Requests.{is_abort_of, is_about}
+use Rattle.pc_proto.specs.Views.{AbortsWith, final_fate}
 use Rattle.pc_world.specs.Answering.{IsAbortReply}
-use Rattle.pc_world.specs.Follows.FinishingJobs.{is_abort_of}
 use Rattle.pc_world.specs.Known.{Known, learn, open_txn}
 use Rattle.pc_world.specs.Known.Traffic.{Heard}
 use Rattle.pc_world.specs.Known.Transactions.{Txn, txn_heard}
-use Rattle.pc_world.specs.RangeOf.{AreRising}
 use Rattle.pc_world.specs.Send.Abort.{own_cause}
 use Rattle.pc_world.specs.Tell.End.{IsCauseTold}
-use Rattle.pc_world.specs.Views.{AbortsWith, ShowsAborted, WasAborted, final_fate, is_about, view_in}
+use Rattle.pc_world.specs.Views.{ShowsAborted, WasAborted}
 
 one_only : (P : Heard → Type 0) (h : Heard) → Any P (h ∷ []) → P h
 one_only P h (zero, x, low, is, p) = subst P (sym is) p

@@ -15,13 +15,12 @@ use Rattle.pc_proto.specs.declared.fate.Fate.{Fate}
 use Rattle.pc_proto.specs.declared.reply.Reply.{Reply}
 use Rattle.pc_proto.specs.declared.reply.Reply.TheVariants as replies
 use Rattle.pc_proto.specs.declared.view.View.{View}
-use Rattle.pc_proto.specs.Stamps.{reply_stamps, view_stamps}
+use Rattle.pc_proto.specs.Replies.{view_in}
+use Rattle.pc_proto.specs.Stamps.{greatest_of, reply_stamps, view_stamps}
 use Rattle.pc_world.specs.Follows.FinishingJobs.{left_if}
 use Rattle.pc_world.specs.Known.{Known, open_txn, txns_told}
-use Rattle.pc_world.specs.Known.Clock.{greatest_of}
 use Rattle.pc_world.specs.Known.Traffic.{Heard, replies_to}
 use Rattle.pc_world.specs.Known.Transactions.{Txn, txn_heard, txn_told}
-use Rattle.pc_world.specs.Views.{view_in}
 
 view-stamps : (reply : Reply) (view : View) → view_in reply ≡ Some view → reply_stamps reply ≡ view_stamps view
 view-stamps (replies.Status shown) view e = ap view_stamps (same_Some shown view e)

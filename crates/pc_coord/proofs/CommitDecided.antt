@@ -2,6 +2,7 @@
 use Rattle.std.proofs.Common.{◌≡◌, ℕ, ◌≤◌, max, Bool, false, not, inl, inr, List, ◌∷◌, map, Some, None, refl, ap, ◌∙◌, subst, IsTrue}
 use Rattle.std.specs.Option.{option_map_or}
 use Rattle.std.proofs.lemmas.Bool.{and_from, eq-eqb}
+use Rattle.pc_base.specs.Rising.{AreRising}
 use Rattle.pc_base.specs.Transaction.{same_txn}
 use Rattle.pc_coord.proofs.Closing.{closing-left, closing-may, opened3}
 use Rattle.pc_coord.proofs.Ending.{EndsWith, IsFinalAs}
@@ -27,13 +28,12 @@ use Rattle.pc_proto.specs.declared.request.Request.TheVariants as requests
 use Rattle.pc_proto.specs.declared.view.View.{View}
 use Rattle.pc_proto.specs.declared.view.View.TheVariants as views
 use Rattle.pc_proto.specs.declared.why.Why.{Why}
-use Rattle.pc_proto.specs.Stamps.{view_stamps}
+use Rattle.pc_proto.specs.Stamps.{greatest_of, view_stamps}
+use Rattle.pc_proto.specs.Views.{AbortsWith, is_committed_at}
 use Rattle.pc_world.specs.Known.{Known, open_txn}
-use Rattle.pc_world.specs.Known.Clock.{greatest_of}
 use Rattle.pc_world.specs.Known.Traffic.{Heard}
 use Rattle.pc_world.specs.Known.Transactions.{Txn, meta_of, txn_heard}
-use Rattle.pc_world.specs.RangeOf.{AreRising}
-use Rattle.pc_world.specs.Views.{AbortsWith, ShowsAborted, is_committed_at, shows_committed}
+use Rattle.pc_world.specs.Views.{ShowsAborted, shows_committed}
 
 module _ (c : Coordination) (k : Known) (number step ts refusals : ℕ) (view : View) (rising : AreRising c.splits) (handed : c.job ≡ None) (counted : IsCounted c.session c.clock c.begun k) (a : AwaitsCommit k c.txn number ts refusals) where
   abbrev said : Request

@@ -1,5 +1,6 @@
 -- The reply to a commit.
 use Rattle.std.proofs.Common.{◌≡◌, ℕ, List, Some, None, refl, sym, subst}
+use Rattle.pc_base.specs.Rising.{AreRising}
 use Rattle.pc_coord.proofs.CommitDecided.{aborted_told, committed_told}
 use Rattle.pc_coord.proofs.CommitRefused.{refused_on}
 use Rattle.pc_coord.proofs.Ending.{final_aborted, final_committed}
@@ -25,7 +26,6 @@ use Rattle.pc_proto.specs.declared.why.Why.{Why}
 use Rattle.pc_world.specs.Answering.{IsCommitReply, IsUnstagedView}
 use Rattle.pc_world.specs.Known.{Known, learn}
 use Rattle.pc_world.specs.Known.Transactions.{meta_of}
-use Rattle.pc_world.specs.RangeOf.{AreRising}
 
 abort_as : (c : Coordination) (k : Known) (number step ts refusals epoch : ℕ) (why : Why) (locks : List (List ℕ)) → AreRising c.splits → c.job ≡ None → IsCounted c.session c.clock c.begun k → (a : AwaitsCommit k c.txn number ts refusals)
     → Knows (with_end (Some fates.Aborted) (answers.Aborted why) (with_heard (replies.Status (views.Aborted epoch why locks)) c)) (reply_known number step (requests.Commit (meta_of a.t a.anchor) ts a.t.locks) (replies.Status (views.Aborted epoch why locks)) k)

@@ -3,6 +3,7 @@ use Rattle.std.proofs.Common.{◌≡◌, ℕ, suc, ◌+◌, ◌<◌, ◌≤◌, 
 use Rattle.std.specs.Option.{option_map}
 use Rattle.std.proofs.lemmas.Bool.{and_from, ltb-false, ltb-true}
 use Rattle.std.proofs.lemmas.List.Elements.{All-push, All-weaker}
+use Rattle.pc_base.specs.Rising.{AreRising}
 use Rattle.pc_base.specs.Transaction.{same_txn}
 use Rattle.pc_coord.proofs.Beginning.{no_messages, none_left}
 use Rattle.pc_coord.proofs.CommitDecided.{counted-commit}
@@ -35,14 +36,14 @@ use Rattle.pc_proto.specs.declared.request.Request.{Request}
 use Rattle.pc_proto.specs.declared.request.Request.TheVariants as requests
 use Rattle.pc_proto.specs.declared.view.View.{View}
 use Rattle.pc_proto.specs.declared.view.View.TheVariants as views
-use Rattle.pc_proto.specs.Stamps.{view_stamps}
+use Rattle.pc_proto.specs.Replies.{is_undecided_status, status_ts}
+use Rattle.pc_proto.specs.Stamps.{greatest_of, view_stamps}
+use Rattle.pc_proto.specs.Views.{is_final_view}
 use Rattle.pc_world.specs.Counting.{AtLeast}
 use Rattle.pc_world.specs.Known.{Known}
-use Rattle.pc_world.specs.Known.Clock.{greatest_of}
 use Rattle.pc_world.specs.Known.Traffic.{Heard, is_reply_to_one}
-use Rattle.pc_world.specs.Known.Transactions.{Txn, is_final_view, meta_of, status_ts, txn_heard}
-use Rattle.pc_world.specs.RangeOf.{AreRising}
-use Rattle.pc_world.specs.StageFate.{EachCommit, IsDead, OnCommit, Refuses, SentCommit, WasCommitRefused, is_undecided_status}
+use Rattle.pc_world.specs.Known.Transactions.{Txn, meta_of, txn_heard}
+use Rattle.pc_world.specs.StageFate.{EachCommit, IsDead, OnCommit, Refuses, SentCommit, WasCommitRefused}
 use Rattle.pc_world.specs.Tell.Refusal.{WasMoved, is_moved}
 
 module _ (c : Coordination) (k : Known) (number step ts refusals epoch recorded : ℕ) (rising : AreRising c.splits) (handed : c.job ≡ None) (counted : IsCounted c.session c.clock c.begun k) (a : AwaitsCommit k c.txn number ts refusals) where

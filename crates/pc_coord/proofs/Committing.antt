@@ -1,6 +1,7 @@
 -- A call commits: a transaction that wrote nothing at once, any other by a message.
 use Rattle.std.proofs.Common.{◌≡◌, ◌≢◌, ℕ, ◌+◌, ◌<◌, ◌≤◌, max, Bool, true, false, not, ◌&&◌, ◌==◌, inl, inr, List, [], ◌∷◌, ◌++◌, length, map, Option, Some, None, refl, sym, ap, ◌∙◌, subst, arith, All, Any, Contains, IsTrue, length-append}
 use Rattle.std.proofs.lemmas.List.Elements.{All-cons, All-nil, All-push, All-weaker}
+use Rattle.pc_base.specs.Rising.{AreRising}
 use Rattle.pc_base.specs.Transaction.{same_txn}
 use Rattle.pc_coord.proofs.Beginning.{no_messages, none_left}
 use Rattle.pc_coord.proofs.Ids.{no_stages, on_commits-if, views-as}
@@ -28,6 +29,7 @@ use Rattle.pc_proto.specs.declared.call.Call.TheVariants as calls
 use Rattle.pc_proto.specs.declared.event.Event.{Event}
 use Rattle.pc_proto.specs.declared.fate.Fate.{Fate}
 use Rattle.pc_proto.specs.declared.request.Request.{Request}
+use Rattle.pc_proto.specs.Replies.{is_undecided_status}
 use Rattle.pc_world.specs.Counting.{AtLeast}
 use Rattle.pc_world.specs.Follows.FinishingJobs.{left_if, settling}
 use Rattle.pc_world.specs.Follows.Resends.{MayGoAgain, WasRefusedNow}
@@ -37,10 +39,9 @@ use Rattle.pc_world.specs.Known.Reads.IsGoodTo.{AtOnce}
 use Rattle.pc_world.specs.Known.Traffic.{Heard, Sent, is_reply_to_one}
 use Rattle.pc_world.specs.Known.Transactions.{IsGood, Txn, meta_of, txn_sent}
 use Rattle.pc_world.specs.Known.Writes.{last_seq_of}
-use Rattle.pc_world.specs.RangeOf.{AreRising}
 use Rattle.pc_world.specs.SameRequest.{IsSameRequest}
 use Rattle.pc_world.specs.Send.Commit.{MaySendCommit}
-use Rattle.pc_world.specs.StageFate.{IsLate, is_undecided_status}
+use Rattle.pc_world.specs.StageFate.{IsLate}
 use Rattle.pc_world.specs.Tell.Refusal.{WasMoved, is_moved}
 use Rattle.pc_world.specs.Views.{fate_heard}
 

@@ -16,14 +16,16 @@ use Rattle.pc_proto.specs.declared.reply.Reply.{Reply}
 use Rattle.pc_proto.specs.declared.reply.Reply.TheVariants as replies
 use Rattle.pc_proto.specs.declared.view.View.{View}
 use Rattle.pc_proto.specs.declared.view.View.TheVariants as views
-use Rattle.pc_proto.specs.Stamps.{fate_stamps, view_stamps}
+use Rattle.pc_proto.specs.Replies.{view_in}
+use Rattle.pc_proto.specs.Requests.{is_about, subject_anchor}
+use Rattle.pc_proto.specs.Stamps.{fate_stamps, greatest_of, view_stamps}
+use Rattle.pc_proto.specs.Views.{HasLocks, IsFateOf, final_fate}
 use Rattle.pc_world.specs.Follows.FinishingJobs.{settling}
 use Rattle.pc_world.specs.Known.{Known}
-use Rattle.pc_world.specs.Known.Clock.{greatest_of}
 use Rattle.pc_world.specs.Known.Traffic.{Heard}
 use Rattle.pc_world.specs.Known.Transactions.{Txn}
-use Rattle.pc_world.specs.Send.Settling.{HasLocks, IsFateOf, ShowsFate, ShowsFinal}
-use Rattle.pc_world.specs.Views.{anchor_heard, anchor_in, fate_heard, fate_shown, final_fate, is_about, shows_view, view_in}
+use Rattle.pc_world.specs.Send.Settling.{ShowsFate, ShowsFinal}
+use Rattle.pc_world.specs.Views.{anchor_heard, fate_heard, fate_shown, shows_view}
 
 -- a pending view shows no fate
 pending_no_fate : (reply : Reply) → ShowsPending reply → option_and_then final_fate (view_in reply) ≡ None
@@ -50,12 +52,12 @@ module _ (t : Txn) where
       ∙ fate-last heard h (All-tail (IsPendingOf t) x heard a)
 
   -- whichever view of it was heard first, its request named the anchor
-  pub anchor-last : (heard : List Heard) (h : Heard) → All (IsPendingOf t) heard → shows_view t.id h ≡ true → anchor_in h.request ≡ t.anchor → anchor_heard t.id (heard ++ h ∷ []) ≡ t.anchor
-  anchor-last [] h a shows anchored = ap (λ b. option_and_then (λ (h : Heard). anchor_in h.request) (cond b (Some h) None)) shows ∙ anchored
+  pub anchor-last : (heard : List Heard) (h : Heard) → All (IsPendingOf t) heard → shows_view t.id h ≡ true → subject_anchor h.request ≡ t.anchor → anchor_heard t.id (heard ++ h ∷ []) ≡ t.anchor
+  anchor-last [] h a shows anchored = ap (λ b. option_and_then (λ (h : Heard). subject_anchor h.request) (cond b (Some h) None)) shows ∙ anchored
   anchor-last (x ∷ heard) h a shows anchored = by (anchor-last heard h (All-tail (IsPendingOf t) x heard a) shows anchored) (shows_view t.id x) refl
     where
       by : anchor_heard t.id (heard ++ h ∷ []) ≡ t.anchor → (b : Bool) → shows_view t.id x ≡ b
-          → option_and_then (λ (h : Heard). anchor_in h.request) (cond b (Some x) (find (shows_view t.id) (heard ++ h ∷ []))) ≡ t.anchor
+          → option_and_then (λ (h : Heard). subject_anchor h.request) (cond b (Some x) (find (shows_view t.id) (heard ++ h ∷ []))) ≡ t.anchor
       by later true seen = (All-head (IsPendingOf t) x heard a (and_parts (is_about t.id x.request) (is_some (view_in x.reply)) seen).0).anchored
       by later false not = later
 
@@ -90,7 +92,7 @@ pub record EndsWith (t : Txn) (anchor : List ℕ) (fate : Fate) (heard : List He
   pub anchored : t.anchor ≡ Some anchor
   pub pending : All (IsPendingOf t) heard
   pub about : is_about t.id h.request ≡ true
-  pub named : anchor_in h.request ≡ Some anchor
+  pub named : subject_anchor h.request ≡ Some anchor
   pub view : View
   pub told : view_in h.reply ≡ Some view
   pub final : IsFinalAs view fate

@@ -1,6 +1,7 @@
 -- What a coordinator gives next, and what it waits for once that went out.
 use Rattle.std.proofs.Common.{◌≡◌, ℕ, Bool, true, false, ◌==◌, ◌||◌, Some, None, refl, sym, ap, ◌∙◌, subst, IfOk, Ok, Err, Result}
 use Rattle.pc_base.specs.declared.memory.NoMemory.{NoMemory}
+use Rattle.pc_base.specs.Rising.{AreRising}
 use Rattle.pc_coord.proofs.Learned.{learn_own}
 use Rattle.pc_coord.proofs.Waits.{reads_sent_waits}
 use Rattle.pc_coord.proofs.ReadsNext.{reads_comes}
@@ -21,7 +22,6 @@ use Rattle.pc_proto.specs.declared.event.Event.{Event}
 use Rattle.pc_proto.specs.declared.event.Event.TheVariants as events
 use Rattle.pc_proto.specs.declared.request.Request.{Request}
 use Rattle.pc_world.specs.Known.{Known, learn, next_number}
-use Rattle.pc_world.specs.RangeOf.{AreRising}
 
 come_at : (c : Coordination) (k : Known) → Knows c k → (due : Due) → c.due ≡ due → KnowsAt c k due → MayCome c k (next_of due)
 come_at c k knows dues.Nothing is h = h.none_open

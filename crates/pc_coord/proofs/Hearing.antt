@@ -3,6 +3,7 @@ use Rattle.std.proofs.Common.{◌≡◌, ℕ, nat_lt, Bool, true, false, cond, n
 use Rattle.std.proofs.lemmas.Bool.{eqb-true}
 use Rattle.std.specs.Option.{option_map}
 use Rattle.pc_base.specs.declared.memory.NoMemory.{NoMemory}
+use Rattle.pc_base.specs.Rising.{AreRising}
 use Rattle.pc_coord.proofs.AbortHeard.{abort_heard}
 use Rattle.pc_coord.proofs.Asking.{commit_waits}
 use Rattle.pc_coord.proofs.CommitHeard.{commit_heard}
@@ -30,7 +31,6 @@ use Rattle.pc_proto.specs.declared.view.View.{View}
 use Rattle.pc_proto.specs.declared.view.View.TheVariants as views
 use Rattle.pc_proto.specs.declared.why.Why.{Why}
 use Rattle.pc_world.specs.Known.{Known, learn}
-use Rattle.pc_world.specs.RangeOf.{AreRising}
 
 awaited_when : (number awaited : ℕ) (wait wanted : Wait) (b : Bool) → (awaited == number) ≡ b → awaited_if b wait ≡ Some wanted → dues.Hear awaited wait ≡ dues.Hear number wanted
 awaited_when number awaited wait wanted true e h = let n : awaited ≡ number = eqb-true awaited number e in let w : wait ≡ wanted = cc in ap (λ n. dues.Hear n wait) n ∙ ap (dues.Hear number) w

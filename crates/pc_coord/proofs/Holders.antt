@@ -14,7 +14,7 @@ use Rattle.pc_coord.specs.Knows.Reading.{AreApart, AreDifferent, IsApart, holder
 use Rattle.pc_coord.specs.Messages.{blocked_by, change_first, first_met, holder_met, is_awaited, is_met, met_at, progress_met, progress_met_at, replied_as}
 use Rattle.pc_proto.specs.declared.reply.Reply.{Reply}
 use Rattle.pc_proto.specs.declared.reply.Reply.TheVariants as replies
-use Rattle.pc_world.specs.Send.Recovery.{is_conflict_with}
+use Rattle.pc_proto.specs.Replies.{is_conflict_with}
 
 -- the message that is first to be pushed met an intent
 pub first_found : (ms : List Message) (m : Message) → first_met ms ≡ Some m → find is_met ms ≡ Some m

@@ -9,11 +9,9 @@ use Rattle.pc_base.specs.Transaction.{same_txn}
 use Rattle.pc_coord.specs.Knows.Held.{IsOwnHeard, IsOwnSent, IsOwnWrite, IsPendingOf, PutsUpTo}
 use Rattle.pc_proto.specs.declared.request.Request.{Request}
 use Rattle.pc_proto.specs.declared.request.Request.TheVariants as requests
-use Rattle.pc_proto.specs.RecordRows.{subject}
+use Rattle.pc_proto.specs.Requests.{is_about, is_put_of, subject}
 use Rattle.pc_world.specs.Known.Traffic.{Heard, Sent}
 use Rattle.pc_world.specs.Known.Transactions.{Txn}
-use Rattle.pc_world.specs.Send.Recovery.{is_put_of}
-use Rattle.pc_world.specs.Views.{is_about}
 use Rattle.pc_world.specs.StageFate.{EachCommit, EachStage, OnCommit, OnStage, Refuses, SentCommit, SentStage, WasCommitRefused}
 
 -- two names that are the same are equal

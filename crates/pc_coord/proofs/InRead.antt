@@ -2,6 +2,7 @@
 use Rattle.std.proofs.Common.{◌≡◌, ℕ, true, false, cond, List, [], ◌∷◌, map, None, Some, IfSome, refl, sym, ap, ◌∙◌, subst, All}
 use Rattle.std.specs.Option.{option_and_then}
 use Rattle.pc_base.specs.declared.actor.ActorId.TheVariants as actors
+use Rattle.pc_base.specs.Rising.{AreRising}
 use Rattle.pc_coord.proofs.Replies.{still_open}
 use Rattle.pc_coord.proofs.Resting.{told_in}
 use Rattle.pc_coord.proofs.Settled.{settled_told, with_reads}
@@ -29,7 +30,6 @@ use Rattle.pc_world.specs.Known.Statements.{Statement, begun_told, is_open_told}
 use Rattle.pc_world.specs.Known.Traffic.{replies_to}
 use Rattle.pc_world.specs.Known.Transactions.{Txn, txn_told}
 use Rattle.pc_world.specs.MayTell.{MayTellRow, is_past_range}
-use Rattle.pc_world.specs.RangeOf.{AreRising}
 
 -- A call is open that reads, in a transaction that wrote nothing.
 pub record IsInRead (c : Coordination) (k : Known) : Type 0 where

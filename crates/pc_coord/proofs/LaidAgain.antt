@@ -4,6 +4,7 @@ use Rattle.std.specs.List.{Any, Contains, list_any}
 use Rattle.std.specs.Option.{option_or}
 use Rattle.std.proofs.lemmas.List.{map-append}
 use Rattle.std.proofs.lemmas.List.Elements.{All-cons, All-nil, All-push, Contains-push}
+use Rattle.pc_base.specs.Rising.{AreRising}
 use Rattle.pc_base.specs.Transaction.{same_txn}
 use Rattle.pc_coord.proofs.Ids.{puts-one, views-as}
 use Rattle.pc_coord.proofs.Puts.{none_heard_next, own_put, put_for, said_last, undecided}
@@ -22,14 +23,13 @@ use Rattle.pc_coord.specs.Knows.Writing.{IsWriting, write_call}
 use Rattle.pc_coord.specs.Rounds.{IsPaced}
 use Rattle.pc_coord.specs.Transaction.{meta_in, put_of, transaction_of}
 use Rattle.pc_proto.specs.declared.request.Request.{Request}
+use Rattle.pc_proto.specs.Requests.{is_put_of}
 use Rattle.pc_world.specs.Follows.Resends.{MayGoAgain}
 use Rattle.pc_world.specs.Known.{Known, next_number}
 use Rattle.pc_world.specs.Known.Traffic.{Sent}
 use Rattle.pc_world.specs.Known.Transactions.{Txn, meta_of, txn_sent, with_lock}
 use Rattle.pc_world.specs.Known.Writes.{Write, asked_again, last_seq_of}
-use Rattle.pc_world.specs.RangeOf.{AreRising}
 use Rattle.pc_world.specs.SameRequest.{IsSameRequest}
-use Rattle.pc_world.specs.Send.Recovery.{is_put_of}
 use Rattle.pc_world.specs.StageFate.{OnCommit, WasCommitRefused}
 
 -- The transaction once its last write was sent again.

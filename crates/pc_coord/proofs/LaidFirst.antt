@@ -4,6 +4,7 @@ use Rattle.std.specs.List.{Any, Contains}
 use Rattle.std.specs.Option.{option_or}
 use Rattle.std.proofs.lemmas.List.Elements.{All-cons, All-contains, All-nil, All-push, All-weaker, Contains-append_left, Contains-append_right, Contains-push}
 use Rattle.pc_base.specs.declared.transaction.TxnId.{TxnId}
+use Rattle.pc_base.specs.Rising.{AreRising}
 use Rattle.pc_base.specs.Span.{same_key}
 use Rattle.pc_base.specs.Transaction.{same_txn}
 use Rattle.pc_coord.proofs.Ids.{no_stages, puts-more, puts-one}
@@ -26,16 +27,15 @@ use Rattle.pc_history.proofs.Lists.{all_from_contains}
 use Rattle.pc_proto.specs.declared.meta.TxnMeta.{TxnMeta}
 use Rattle.pc_proto.specs.declared.request.Request.{Request}
 use Rattle.pc_proto.specs.declared.request.Request.TheVariants as requests
+use Rattle.pc_proto.specs.Requests.{is_about, subject_anchor}
 use Rattle.pc_world.specs.Known.{Known, call_in, next_number}
 use Rattle.pc_world.specs.Known.Statements.{Statement}
 use Rattle.pc_world.specs.Known.Traffic.{Heard, Sent}
 use Rattle.pc_world.specs.Known.Transactions.{Txn, meta_of, txn_sent, with_lock}
 use Rattle.pc_world.specs.Known.Writes.{Write, last_seq_of}
-use Rattle.pc_world.specs.RangeOf.{AreRising}
 use Rattle.pc_world.specs.SameRequest.{IsSameRequest}
 use Rattle.pc_world.specs.Send.Put.{AsksFor}
 use Rattle.pc_world.specs.StageFate.{IsDead, OnCommit, WasCommitRefused}
-use Rattle.pc_world.specs.Views.{anchor_in, is_about}
 use Rattle.pc_coord.proofs.Puts.{anchor-some, asks_for, no_put, none_heard_next, own_put, put_for, said_last, same_put, undecided}
 
 abbrev pub new_write : ℕ → ℕ → List ℕ → Option (List ℕ) → Write
@@ -71,7 +71,7 @@ laid-same key value t =
     let F : ℕ → Transaction = λ n. record (transaction_of false (Some (record { key = key; value = value })) (laid key value t)) { seq = n } in
     ap F (sym (last-laid key value t))
 
-about-anchored : (id : TxnId) (request : Request) → is_about id request ≡ true → anchor_in request ≡ None → ⊥
+about-anchored : (id : TxnId) (request : Request) → is_about id request ≡ true → subject_anchor request ≡ None → ⊥
 about-anchored id (requests.Get other epoch seq ts key) about none = cc
 about-anchored id (requests.Scan other epoch seq ts span) about none = cc
 about-anchored id (requests.Put meta seq ts key value) about none = cc
@@ -81,7 +81,7 @@ about-anchored id (requests.Resolve other key fate) about none = cc
 about-anchored id requests.Records about none = cc
 about-anchored id request about none = cc
 
-anchor-kept : (id : TxnId) (key : List ℕ) (request : Request) (anchor : Option (List ℕ)) → is_about id request ≡ true → anchor_in request ≡ anchor → anchor_in request ≡ option_or anchor (Some key)
+anchor-kept : (id : TxnId) (key : List ℕ) (request : Request) (anchor : Option (List ℕ)) → is_about id request ≡ true → subject_anchor request ≡ anchor → subject_anchor request ≡ option_or anchor (Some key)
 anchor-kept id key request None about is = absurd (about-anchored id request about is)
 anchor-kept id key request (Some anchor) about is = is
 

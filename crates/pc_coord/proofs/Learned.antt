@@ -12,9 +12,9 @@ use Rattle.pc_proto.specs.declared.event.Event.{Event}
 use Rattle.pc_proto.specs.declared.event.Event.TheVariants as events
 use Rattle.pc_proto.specs.declared.reply.Reply.{Reply}
 use Rattle.pc_proto.specs.declared.request.Request.{Request}
-use Rattle.pc_proto.specs.Stamps.{event_stamps, reply_stamps}
+use Rattle.pc_proto.specs.Stamps.{event_stamps, greatest_of, reply_stamps}
 use Rattle.pc_world.specs.Known.{Known, known_after, learn}
-use Rattle.pc_world.specs.Known.Clock.{greatest_of, high_after, top_after}
+use Rattle.pc_world.specs.Known.Clock.{high_after, top_after}
 use Rattle.pc_world.specs.Known.Traffic.{Heard, Sent, heard_as, heard_by, reply_in, request_sent}
 
 learn-by : (k : Known) (p : Pair Event) (event : Event) (named : Option (Entry Event)) → p.entry.event ≡ event → p.named ≡ named

@@ -4,6 +4,7 @@ use Rattle.std.proofs.Math.Seq.{take-append_seam}
 use Rattle.std.specs.List.{list_any}
 use Rattle.std.proofs.lemmas.List.Elements.{All-push}
 use Rattle.pc_base.specs.declared.actor.ActorId.TheVariants as actors
+use Rattle.pc_base.specs.Rising.{AreRising}
 use Rattle.pc_base.specs.Transaction.{same_txn}
 use Rattle.pc_coord.proofs.GivingUp.{write_within}
 use Rattle.pc_coord.proofs.Ids.{on_commits-more, views-as}
@@ -32,15 +33,15 @@ use Rattle.pc_coord.specs.Suiting.{IsWriter}
 use Rattle.pc_proto.specs.declared.answer.Answer.TheVariants as answers
 use Rattle.pc_proto.specs.declared.event.Event.TheVariants as events
 use Rattle.pc_proto.specs.declared.reply.Reply.TheVariants as replies
-use Rattle.pc_world.specs.Follows.PipelinedPuts.{IsHeardOf, IsToOwnPut, is_written}
+use Rattle.pc_proto.specs.Replies.{is_written}
+use Rattle.pc_proto.specs.Requests.{is_put_of}
+use Rattle.pc_world.specs.Follows.PipelinedPuts.{IsHeardOf, IsToOwnPut}
 use Rattle.pc_world.specs.Known.{Known, open_txn}
 use Rattle.pc_world.specs.Known.Statements.{Statement}
 use Rattle.pc_world.specs.Known.Traffic.{Heard, Sent}
 use Rattle.pc_world.specs.Known.Transactions.{Txn, txn_heard}
 use Rattle.pc_world.specs.Known.Writes.{IsProvedBy, Write, last_seq_of, proved_at}
 use Rattle.pc_world.specs.MayTell.{MayTell}
-use Rattle.pc_world.specs.RangeOf.{AreRising}
-use Rattle.pc_world.specs.Send.Recovery.{is_put_of}
 use Rattle.pc_world.specs.Tell.Data.{IsFirstPut, IsPutFor, sent_before}
 
 -- The transaction once its put was written at this timestamp.

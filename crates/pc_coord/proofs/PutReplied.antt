@@ -1,5 +1,6 @@
 -- The reply to a put was heard.
 use Rattle.std.proofs.Common.{◌≡◌, ℕ, max, Bool, true, false, Some, None, refl, sym, ap, ◌∙◌, subst, arith}
+use Rattle.pc_base.specs.Rising.{AreRising}
 use Rattle.pc_coord.proofs.Learned.{learn_heard}
 use Rattle.pc_coord.proofs.PutHeard.{landed_lays, landed_tells}
 use Rattle.pc_coord.proofs.PutMet.{put_met}
@@ -20,12 +21,10 @@ use Rattle.pc_proto.specs.declared.event.Event.{Event}
 use Rattle.pc_proto.specs.declared.reply.Reply.{Reply}
 use Rattle.pc_proto.specs.declared.reply.Reply.TheVariants as replies
 use Rattle.pc_proto.specs.declared.request.Request.{Request}
-use Rattle.pc_proto.specs.Stamps.{reply_stamps}
+use Rattle.pc_proto.specs.Stamps.{greatest_of, reply_stamps}
 use Rattle.pc_world.specs.Answering.{IsPutReply, MayAnswer}
 use Rattle.pc_world.specs.Known.{Known, learn}
-use Rattle.pc_world.specs.Known.Clock.{greatest_of}
 use Rattle.pc_world.specs.Known.Traffic.{Heard}
-use Rattle.pc_world.specs.RangeOf.{AreRising}
 
 module _ (c : Coordination) (k : Known) (number step conflicts : ℕ) (again : Bool) (rising : AreRising c.splits) (job : c.job ≡ None) (counted : IsCounted c.session c.clock c.begun k) (a : AwaitsPut k c.txn number conflicts again) where
   abbrev x : Transaction

@@ -1,6 +1,7 @@
 -- A call puts a write.
 use Rattle.std.proofs.Common.{◌≡◌, ℕ, true, false, List, Option, Some, None, refl, sym, ap, ◌∙◌, subst, arith}
 use Rattle.std.proofs.lemmas.List.{append-nil}
+use Rattle.pc_base.specs.Rising.{AreRising}
 use Rattle.pc_coord.proofs.LaidAgain.{again_knows}
 use Rattle.pc_coord.proofs.LaidFirst.{first_knows}
 use Rattle.pc_coord.proofs.NoTxn.{told_no_txn}
@@ -23,7 +24,6 @@ use Rattle.pc_proto.specs.declared.event.Event.{Event}
 use Rattle.pc_world.specs.Known.{Known, learn}
 use Rattle.pc_world.specs.Known.Transactions.{Txn}
 use Rattle.pc_world.specs.MayTell.{needs_txn}
-use Rattle.pc_world.specs.RangeOf.{AreRising}
 
 needs : (key : List ℕ) (value : Option (List ℕ)) → needs_txn (write_call key value) ≡ true
 needs key None = refl

@@ -3,6 +3,7 @@ use Rattle.std.proofs.Common.{◌≡◌, ℕ, inl, List, [], ◌∷◌, map, Opt
 use Rattle.std.proofs.lemmas.List.Elements.{All-cons, All-nil}
 use Rattle.pc_base.specs.declared.span.Span.{Span}
 use Rattle.pc_base.specs.declared.transaction.TxnId.{TxnId}
+use Rattle.pc_base.specs.Rising.{AreRising}
 use Rattle.pc_coord.proofs.InRead.{Proceeds}
 use Rattle.pc_coord.proofs.NoTxn.{told_no_txn}
 use Rattle.pc_coord.proofs.Pacing.{paced-nothing}
@@ -32,7 +33,6 @@ use Rattle.pc_proto.specs.declared.event.Event.{Event}
 use Rattle.pc_proto.specs.declared.request.Request.{Request}
 use Rattle.pc_world.specs.Known.{Known, learn}
 use Rattle.pc_world.specs.Known.Transactions.{Txn}
-use Rattle.pc_world.specs.RangeOf.{AreRising}
 
 -- a transaction that wrote nothing has no write in flight
 none_flies : (k : Known) (t : Txn) (in_flight : Option InFlight) → t.anchor ≡ None → IsSettled k t in_flight → in_flight ≡ None

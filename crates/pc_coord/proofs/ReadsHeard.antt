@@ -36,12 +36,12 @@ use Rattle.pc_history.specs.declared.pair.Pair.{Pair}
 use Rattle.pc_proto.specs.declared.event.Event.{Event}
 use Rattle.pc_proto.specs.declared.reply.Reply.{Reply}
 use Rattle.pc_proto.specs.declared.reply.Reply.TheVariants as replies
+use Rattle.pc_proto.specs.Replies.{is_conflict}
 use Rattle.pc_world.specs.Answering.{MayAnswer}
 use Rattle.pc_world.specs.Known.{Known, learn}
 use Rattle.pc_world.specs.Known.Traffic.{Heard}
 use Rattle.pc_world.specs.Known.Transactions.{txn_heard}
 use Rattle.pc_world.specs.SameRequest.{IsSameRequest}
-use Rattle.pc_world.specs.Send.Recovery.{is_conflict}
 use Rattle.pc_world.specs.Tell.Refusal.{IsConflictOf}
 
 heard_request : (number : ℕ) (reply : Reply) (m : Message) → (replied_as number reply m).request ≡ m.request

@@ -21,10 +21,11 @@ use Rattle.pc_coord.specs.declared.messages.Progress.TheVariants as progresses
 use Rattle.pc_coord.specs.Knows.{Knows, KnowsAt, LeavesNothing, MayCome}
 use Rattle.pc_coord.specs.Knows.Reading.{HasMet, IsUnheard, StandsAs, StandsWith}
 use Rattle.pc_coord.specs.Knows.Sending.{AwaitsNone, IsConflictNow, IsSendable}
-use Rattle.pc_coord.specs.Messages.{first_met, holder_in, holder_met, is_met, is_unsent, next_by, next_in, next_of_met, progress_unsent, read_at, waits_at}
+use Rattle.pc_coord.specs.Messages.{first_met, holder_met, is_met, is_unsent, next_by, next_in, next_of_met, progress_unsent, read_at, waits_at}
 use Rattle.pc_proto.specs.declared.call.Call.TheVariants as calls
 use Rattle.pc_proto.specs.declared.reply.Reply.{Reply}
 use Rattle.pc_proto.specs.declared.request.Request.{Request}
+use Rattle.pc_proto.specs.Replies.{holder_in}
 use Rattle.pc_world.specs.Follows.Resends.{MayGoAgain}
 use Rattle.pc_world.specs.Known.{Known, call_in}
 use Rattle.pc_world.specs.SameRequest.{IsSameRequest}

@@ -6,6 +6,7 @@ use Rattle.pc_base.specs.declared.actor.ActorId.TheVariants as actors
 use Rattle.pc_base.specs.declared.span.Span.{Span}
 use Rattle.pc_base.specs.declared.span.Span.TheVariants.{One, Between}
 use Rattle.pc_base.specs.declared.transaction.TxnId.{TxnId}
+use Rattle.pc_base.specs.Rising.{AreRising}
 use Rattle.pc_base.specs.Span.{contains, is_empty}
 use Rattle.pc_coord.proofs.Resting.{open_is}
 use Rattle.pc_coord.proofs.Writes.{all_are_proved}
@@ -16,7 +17,6 @@ use Rattle.pc_coord.specs.Knows.Held.{IsOpenAs, IsSettled}
 use Rattle.pc_coord.specs.Knows.Reading.{AreDifferent, AreReadsOf, IsRead, IsReadAt, Tells}
 use Rattle.pc_coord.specs.Messages.{read_at}
 use Rattle.pc_coord.specs.Reading.{scan_messages, span_piece, spans_from, spans_in}
-use Rattle.pc_coord.specs.Rounds.{is_resolve_of}
 use Rattle.pc_coord.specs.Transaction.{get_of, scan_of}
 use Rattle.pc_proto.specs.declared.call.Call.{Call}
 use Rattle.pc_proto.specs.declared.call.Call.TheVariants as calls
@@ -25,6 +25,8 @@ use Rattle.pc_proto.specs.declared.reply.Reply.{Reply}
 use Rattle.pc_proto.specs.declared.reply.Reply.TheVariants as replies
 use Rattle.pc_proto.specs.declared.request.Request.{Request}
 use Rattle.pc_proto.specs.declared.request.Request.TheVariants as requests
+use Rattle.pc_proto.specs.Replies.{is_conflict}
+use Rattle.pc_proto.specs.Requests.{is_about, is_push_of, is_resolve_of}
 use Rattle.pc_proto.specs.Stamps.{request_stamps}
 use Rattle.pc_world.proofs.Pieces.{pieces-differ}
 use Rattle.pc_world.specs.Answering.{MayAnswer}
@@ -33,11 +35,9 @@ use Rattle.pc_world.specs.Known.{Known, call_of}
 use Rattle.pc_world.specs.Known.Reads.{read_heard}
 use Rattle.pc_world.specs.Known.Transactions.{Txn}
 use Rattle.pc_world.specs.MaySend.{MaySendRow}
-use Rattle.pc_world.specs.RangeOf.{AreDistinct, AreRising, earlier_end, later_start, piece, pieces, pieces_from}
+use Rattle.pc_world.specs.RangeOf.{AreDistinct, earlier_end, later_start, piece, pieces, pieces_from}
 use Rattle.pc_world.specs.SameRequest.{IsSameRequest}
-use Rattle.pc_world.specs.Send.Recovery.{is_conflict, is_push_of}
 use Rattle.pc_world.specs.Tell.Refusal.{MayBlock}
-use Rattle.pc_world.specs.Views.{is_about}
 
 -- A request that reads, as the call asks for it.
 pub record IsReadOfCall (splits : List (List ℕ)) (x : Transaction) (call : Call) (r : Request) : Type 0 where

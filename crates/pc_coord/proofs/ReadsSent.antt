@@ -36,12 +36,12 @@ use Rattle.pc_history.specs.declared.pair.Pair.{Pair}
 use Rattle.pc_proto.specs.declared.event.Event.{Event}
 use Rattle.pc_proto.specs.declared.event.Event.TheVariants as events
 use Rattle.pc_proto.specs.declared.request.Request.{Request}
+use Rattle.pc_proto.specs.Requests.{is_put_of}
 use Rattle.pc_world.specs.Known.{Known, learn, next_number}
 use Rattle.pc_world.specs.Known.Traffic.{Sent, request_sent}
 use Rattle.pc_world.specs.Known.Transactions.{txn_sent}
 use Rattle.pc_world.specs.Known.Writes.{last_seq_of}
 use Rattle.pc_world.specs.SameRequest.{IsSameRequest}
-use Rattle.pc_world.specs.Send.Recovery.{is_put_of}
 use Rattle.pc_world.specs.StageFate.{OnCommit, WasCommitRefused}
 
 -- The message does not wait under this number.

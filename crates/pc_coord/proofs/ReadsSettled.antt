@@ -28,13 +28,14 @@ use Rattle.pc_coord.specs.declared.round.Round.{Round}
 use Rattle.pc_coord.specs.declared.round.Round.TheVariants as rounds
 use Rattle.pc_coord.specs.Knows.{Knows}
 use Rattle.pc_coord.specs.Knows.Reading.{AreDifferent, AreReadsOf, HasMet, IsReadAt, StandsAs, StandsWith, holders_met}
-use Rattle.pc_coord.specs.Messages.{again, change_first, due_of_reads, first_met, holder_in, holder_met, is_awaited, is_met, is_unsent, met_at, next_in, progress_met_at, progress_sent}
+use Rattle.pc_coord.specs.Messages.{again, change_first, due_of_reads, first_met, holder_met, is_awaited, is_met, is_unsent, met_at, next_in, progress_met_at, progress_sent}
 use Rattle.pc_coord.specs.Rounds.{EndsRound, IsSettledRound}
 use Rattle.pc_coord.specs.Turning.{blocked_due}
 use Rattle.pc_proto.specs.declared.reply.Reply.{Reply}
 use Rattle.pc_proto.specs.declared.reply.Reply.TheVariants as replies
 use Rattle.pc_proto.specs.declared.request.Request.{Request}
 use Rattle.pc_proto.specs.declared.request.Request.TheVariants as requests
+use Rattle.pc_proto.specs.Replies.{holder_in}
 use Rattle.pc_world.specs.Known.{Known}
 use Rattle.pc_world.specs.Known.Reads.{read_heard}
 

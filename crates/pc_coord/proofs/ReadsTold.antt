@@ -20,7 +20,7 @@ use Rattle.pc_coord.specs.declared.messages.Progress.TheVariants as progresses
 use Rattle.pc_coord.specs.declared.transaction.Transaction.{Transaction}
 use Rattle.pc_coord.specs.Knows.{Knows}
 use Rattle.pc_coord.specs.Knows.Reading.{AreReadsOf, IsReadAt, StandsAs, StandsWith, Tells, WasReplied}
-use Rattle.pc_coord.specs.Messages.{answer_of, are_rows_heard, blocked_by, due_by, due_of_reads, due_unless, first_met, has_reply, has_rows, is_met, is_scan, progress_heard, rows_heard, rows_told, value_first}
+use Rattle.pc_coord.specs.Messages.{answer_of, are_rows_heard, blocked_by, due_by, due_of_reads, due_unless, first_met, has_reply, has_rows, is_met, progress_heard, rows_heard, rows_told, value_first}
 use Rattle.pc_coord.specs.Transaction.{get_of, scan_of}
 use Rattle.pc_proto.specs.declared.answer.Answer.TheVariants as answers
 use Rattle.pc_proto.specs.declared.call.Call.{Call}
@@ -29,6 +29,7 @@ use Rattle.pc_proto.specs.declared.reply.Origin.{Origin}
 use Rattle.pc_proto.specs.declared.reply.Reply.{Reply}
 use Rattle.pc_proto.specs.declared.reply.Reply.TheVariants as replies
 use Rattle.pc_proto.specs.declared.request.Request.{Request}
+use Rattle.pc_proto.specs.Requests.{is_scan}
 use Rattle.pc_world.specs.Known.{Known}
 use Rattle.pc_world.specs.Known.Reads.{Read, read_heard, reads_heard}
 use Rattle.pc_world.specs.Known.Statements.{Statement}

@@ -8,17 +8,18 @@ use Rattle.pc_base.specs.Transaction.{same_txn}
 use Rattle.pc_coord.proofs.Ids.{same-is}
 use Rattle.pc_coord.proofs.Lists.{any_head, any_last}
 use Rattle.pc_coord.specs.Beside.{is_of_round_or_job}
-use Rattle.pc_coord.specs.Rounds.{IsPaced, IsRefusedRound, IsSettledRound, is_resolve_of, shows_resolve, was_met, was_pushed}
+use Rattle.pc_coord.specs.Rounds.{IsPaced, IsRefusedRound, IsSettledRound, shows_resolve, was_met, was_pushed}
 use Rattle.pc_proto.specs.declared.fate.Fate.{Fate}
 use Rattle.pc_proto.specs.declared.meta.TxnMeta.{TxnMeta}
 use Rattle.pc_proto.specs.declared.reply.Reply.TheVariants as replies
 use Rattle.pc_proto.specs.declared.request.Request.{Request}
 use Rattle.pc_proto.specs.declared.request.Request.TheVariants as requests
+use Rattle.pc_proto.specs.Requests.{is_push_of, is_resolve_of}
 use Rattle.pc_world.specs.Follows.Resends.{MetConflictNow, ResolvedTo, WasDone, WasSettled}
 use Rattle.pc_world.specs.Known.{Known}
 use Rattle.pc_world.specs.Known.Traffic.{Heard}
 use Rattle.pc_world.specs.SameRequest.{IsSameRequest}
-use Rattle.pc_world.specs.Send.Recovery.{is_push_of, was_refused}
+use Rattle.pc_world.specs.Send.Recovery.{was_refused}
 
 -- One where it is so, else none.
 abbrev pub one_if : Bool → ℕ

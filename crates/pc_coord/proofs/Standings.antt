@@ -11,19 +11,19 @@ use Rattle.pc_coord.specs.declared.messages.Message.{Message}
 use Rattle.pc_coord.specs.declared.messages.Progress.{Progress}
 use Rattle.pc_coord.specs.declared.messages.Progress.TheVariants as progresses
 use Rattle.pc_coord.specs.Knows.Reading.{HasMet, IsUnheard, IsUnsentNow, StandsAs, StandsWith, WasReplied}
-use Rattle.pc_coord.specs.Messages.{holder_in, holder_met, one_more}
+use Rattle.pc_coord.specs.Messages.{holder_met, one_more}
 use Rattle.pc_proto.specs.declared.fate.Goal.{Goal}
 use Rattle.pc_proto.specs.declared.meta.TxnMeta.{TxnMeta}
 use Rattle.pc_proto.specs.declared.reply.Reply.{Reply}
 use Rattle.pc_proto.specs.declared.reply.Reply.TheVariants as replies
 use Rattle.pc_proto.specs.declared.request.Request.{Request}
+use Rattle.pc_proto.specs.Replies.{holder_in, is_conflict, is_conflict_with}
 use Rattle.pc_world.specs.Counting.{AtLeast, LastIs}
 use Rattle.pc_world.specs.Follows.Resends.{MetConflictNow, ResolvedTo, WasDone, WasFollowed}
 use Rattle.pc_world.specs.Known.{Known}
 use Rattle.pc_world.specs.Known.Traffic.{Heard, Sent}
 use Rattle.pc_world.specs.Known.Transactions.{Txn}
 use Rattle.pc_world.specs.SameRequest.{IsSameRequest}
-use Rattle.pc_world.specs.Send.Recovery.{is_conflict, is_conflict_with}
 use Rattle.pc_world.specs.Tell.Refusal.{IsConflictOf, MetEight}
 
 module _ {X : Type 0} (P : X → Type 0) where

@@ -11,9 +11,9 @@ use Rattle.pc_proto.specs.declared.call.Call.{Call}
 use Rattle.pc_proto.specs.declared.event.Event.TheVariants as events
 use Rattle.pc_proto.specs.declared.request.Request.{Request}
 use Rattle.pc_proto.specs.declared.request.Request.TheVariants as requests
-use Rattle.pc_proto.specs.Stamps.{answer_stamps, reply_stamps, request_stamps}
+use Rattle.pc_proto.specs.Stamps.{answer_stamps, greatest_of, reply_stamps, request_stamps}
 use Rattle.pc_world.specs.Known.{Known, next_number, txns_told}
-use Rattle.pc_world.specs.Known.Clock.{greatest_of, high_told}
+use Rattle.pc_world.specs.Known.Clock.{high_told}
 use Rattle.pc_world.specs.Known.Statements.{begun_told, is_open_told}
 use Rattle.pc_world.specs.Known.Traffic.{Heard, Sent}
 use Rattle.pc_world.specs.Known.Transactions.{txn_heard, txn_sent}

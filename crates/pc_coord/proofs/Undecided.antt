@@ -8,12 +8,15 @@ use Rattle.pc_coord.specs.Knows.Held.{IsPendingOf, IsPlain, ShowsPending}
 use Rattle.pc_proto.specs.declared.reply.Reply.{Reply}
 use Rattle.pc_proto.specs.declared.reply.Reply.TheVariants as replies
 use Rattle.pc_proto.specs.declared.view.View.TheVariants as views
+use Rattle.pc_proto.specs.Replies.{view_in}
+use Rattle.pc_proto.specs.Requests.{is_about}
+use Rattle.pc_proto.specs.Views.{is_committed_at, is_staging_at}
 use Rattle.pc_world.specs.Follows.EarlyTell.{IsCommitKnown}
 use Rattle.pc_world.specs.Known.{Known, open_txn}
 use Rattle.pc_world.specs.Known.Traffic.{Heard, Sent}
 use Rattle.pc_world.specs.Known.Transactions.{Txn}
-use Rattle.pc_world.specs.Tell.End.{IsImplicit, is_staging_at, shows_staging}
-use Rattle.pc_world.specs.Views.{WasCommitted, is_about, is_committed_at, shows_committed, view_in}
+use Rattle.pc_world.specs.Tell.End.{IsImplicit, shows_staging}
+use Rattle.pc_world.specs.Views.{WasCommitted, shows_committed}
 
 not_committed : (ts : ℕ) (reply : Reply) → ShowsPending reply → option_map_or (is_committed_at ts) (view_in reply) false ≡ true → ⊥
 not_committed ts (replies.Status (views.Pending epoch at)) is e = cc

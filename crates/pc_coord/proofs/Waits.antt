@@ -20,7 +20,7 @@ use Rattle.pc_coord.specs.Turning.{blocked_due}
 use Rattle.pc_proto.specs.declared.answer.Answer.{Answer}
 use Rattle.pc_proto.specs.declared.reply.Reply.{Reply}
 use Rattle.pc_proto.specs.declared.request.Request.{Request}
-use Rattle.pc_world.specs.Send.Recovery.{is_conflict}
+use Rattle.pc_proto.specs.Replies.{is_conflict}
 
 -- a message that waits under a number went out under it
 pub waits_as : (n : ℕ) (p : Progress) → IsTrue (progress_waits n p) → p ≡ progresses.Sent n

@@ -9,11 +9,12 @@ use Rattle.pc_coord.specs.declared.round.Round.{Round}
 use Rattle.pc_coord.specs.declared.round.Round.TheVariants as rounds
 use Rattle.pc_coord.specs.declared.transaction.InFlight.{InFlight}
 use Rattle.pc_coord.specs.declared.transaction.Transaction.{Transaction}
-use Rattle.pc_coord.specs.Messages.{holder_in, one_more}
+use Rattle.pc_coord.specs.Messages.{one_more}
 use Rattle.pc_coord.specs.Turning.{due_of_holder, due_of_resend, due_of_round, due_of_written, landed_due, resent}
 use Rattle.pc_proto.specs.declared.answer.Answer.TheVariants as answers
 use Rattle.pc_proto.specs.declared.reply.Reply.{Reply}
 use Rattle.pc_proto.specs.declared.reply.Reply.TheVariants as replies
+use Rattle.pc_proto.specs.Replies.{holder_in}
 
 -- the put of a write is still to be sent
 pub put_waits : (other : ℕ) (anchor : Option (List ℕ)) (key : List ℕ) (value : Option (List ℕ)) (again : Bool) (x : Transaction) → awaits_number other (put_due anchor key value again x) ≡ false

@@ -1,4 +1,5 @@
 ghost use Rattle.std.specs.Prelude.{◌≡◌, ℕ, ◌+◌, ◌<◌, max, true, false, ◌==◌, ◌||◌, ◌&&◌, not, is_some, IfOk, IfSome, OnOk, None, Some, Option};
+ghost use Rattle.pc_base.specs.Rising.{AreRising};
 ghost use Rattle.pc_coord.specs.Beside.{IsLaterBeside};
 ghost use Rattle.pc_coord.specs.Coordination.{Coordination, awaits_number, closed_with, new_coordination, next_of, with_begun, with_clock, with_due, with_end, without_job};
 ghost use Rattle.pc_coord.specs.Coordinating.{FewRefused, after_abort_reply, after_begin, after_call, after_commit_call, after_commit_reply, after_committed, after_get, after_put, after_put_reply, after_read, after_refused, after_reply, after_rollback, after_round, after_scan, after_view, due_after_send, awaited_at, reads_after_round, sending_of, with_heard, written_in};
@@ -17,7 +18,6 @@ ghost use Rattle.pc_proto.specs.declared.fate.Fate.TheVariants as fates;
 ghost use Rattle.pc_proto.specs.declared.reply.Reply.{Reply};
 ghost use Rattle.pc_proto.specs.declared.request.Request.{Request};
 ghost use Rattle.pc_world.specs.Known.{Known, learn, nothing_known};
-ghost use Rattle.pc_world.specs.RangeOf.{AreRising};
 ghost use Rattle.pc_world.specs.Tell.Begin.{clock_now};
 
 use crate::due::{Due, Wait};

@@ -1,7 +1,8 @@
 ghost use Rattle.std.specs.Prelude.{◌≡◌, ◌++◌, [], ◌∷◌, find, map, IfOk, OnOk};
 ghost use Rattle.std.specs.Option.{option_and_then, option_copied};
 ghost use Rattle.std.specs.List.{flat_map, list_all, list_any, position};
-ghost use Rattle.pc_coord.specs.Messages.{again, answer_of, blocked_by, change_first, due_by, due_of_reads, first_met, has_reply, has_rows, holder_in, holder_met, is_awaited, is_met, is_unsent, met_at, next_in, next_of_met, next_unmet, one_more, read_at, replied_as, rows_told, sent_as, unsent, value_heard, value_in, waits_at};
+ghost use Rattle.pc_coord.specs.Messages.{again, answer_of, blocked_by, change_first, due_by, due_of_reads, first_met, has_reply, has_rows, holder_met, is_awaited, is_met, is_unsent, met_at, next_in, next_of_met, next_unmet, one_more, read_at, replied_as, rows_told, sent_as, unsent, value_heard, value_in, waits_at};
+ghost use Rattle.pc_proto.specs.Replies.{holder_in};
 ghost use Rattle.pc_world.specs.Tell.Data.{told_row};
 
 use crate::due::Due;

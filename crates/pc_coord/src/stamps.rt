@@ -1,6 +1,5 @@
 ghost use Rattle.std.specs.Prelude.{◌≡◌};
-ghost use Rattle.pc_proto.specs.Stamps.{origin_stamps, reply_stamps, row_stamps, view_stamps};
-ghost use Rattle.pc_world.specs.Known.Clock.{greatest_of};
+ghost use Rattle.pc_proto.specs.Stamps.{greatest_of, origin_stamps, reply_stamps, row_stamps, view_stamps};
 
 use pc_base::Timestamp;
 use pc_proto::{Origin, Reply, Rows, View, Why};

@@ -4,7 +4,8 @@ ghost use Rattle.pc_coord.specs.Transaction.{refreshed, risen_to};
 ghost use Rattle.pc_coord.specs.Coordinating.{refusals_with};
 ghost use Rattle.pc_coord.specs.Coordination.{job_of};
 ghost use Rattle.pc_coord.specs.Turning.{blocked_due, cause_in, cause_of, due_of_commit, due_of_committed, due_of_conflict, due_of_end, due_of_put, due_of_resend, due_of_retry, due_of_rollback, due_of_rolled_back, due_of_round, due_of_written, txn_of_end, txn_of_put, txn_of_retry, txn_of_rollback, txn_of_written};
-ghost use Rattle.pc_world.specs.Views.{final_fate, view_in};
+ghost use Rattle.pc_proto.specs.Replies.{view_in};
+ghost use Rattle.pc_proto.specs.Views.{final_fate};
 
 use crate::due::Due;
 use crate::job::Job;

@@ -35,6 +35,7 @@ use Rattle.pc_proto.specs.RecordRows.Commit.{commit}
 use Rattle.pc_proto.specs.RecordRows.Push.{Verdict, There, Refuse, Doubt, Do, is_staged, is_there, on_verdict, push, push_verdict, pushed, wins}
 use Rattle.pc_proto.specs.RecordRows.Reached.{is_reached}
 use Rattle.pc_proto.specs.Table.{place_of}
+use Rattle.pc_proto.specs.Views.{is_final_view}
 use Rattle.pc_world.proofs.Each.{each-choose, each-weaker}
 use Rattle.pc_world.proofs.Stamps.Searches.{some-kept}
 use Rattle.pc_world.specs.After.{state_at}
@@ -44,7 +45,6 @@ use Rattle.pc_world.specs.Evaluation.Get.{found_at, get_blocker, get_reply}
 use Rattle.pc_world.specs.Evaluation.Put.{PutOutcome, Stands, Lands, first_outcome, laid, overtaken, own_outcome, put_reply, write_ts}
 use Rattle.pc_world.specs.Evaluation.Scan.{rows_in, scan_reply}
 use Rattle.pc_world.specs.Exchange.{IsPossibleReply}
-use Rattle.pc_world.specs.Known.Transactions.{is_final_view}
 use Rattle.pc_world.specs.Local.{Head}
 use Rattle.pc_world.specs.RangeState.{RangeState}
 use Rattle.pc_world.specs.Run.{IsRun, protocol}

@@ -33,7 +33,10 @@ use Rattle.pc_proto.specs.declared.reply.Reply.TheVariants as replies
 use Rattle.pc_proto.specs.declared.request.Request.{Request}
 use Rattle.pc_proto.specs.declared.request.Request.TheVariants as requests
 use Rattle.pc_proto.specs.declared.view.View.TheVariants as views
-use Rattle.pc_proto.specs.Stamps.{event_stamps, origin_stamps, reply_stamps, view_stamps}
+use Rattle.pc_proto.specs.Replies.{view_in}
+use Rattle.pc_proto.specs.Requests.{is_about}
+use Rattle.pc_proto.specs.Stamps.{event_stamps, greatest_of, origin_stamps, reply_stamps, view_stamps}
+use Rattle.pc_proto.specs.Views.{is_committed_at}
 use Rattle.pc_world.proofs.Each.{each-append, each-flat_unmap, each-map, each-weaker}
 use Rattle.pc_world.proofs.Knowing.{known_push}
 use Rattle.pc_world.proofs.Prefixes.{run_front, run_may}
@@ -42,7 +45,7 @@ use Rattle.pc_world.specs.After.{known_at}
 use Rattle.pc_world.specs.Caused.{IsCaused, TellsCommitted}
 use Rattle.pc_world.specs.Committed.{IsCommitted}
 use Rattle.pc_world.specs.Known.{Known, known_of, learn, nothing_known, told_first, txn_begun, txns_after}
-use Rattle.pc_world.specs.Known.Clock.{greatest_of, high_after, named_stamps}
+use Rattle.pc_world.specs.Known.Clock.{high_after, named_stamps}
 use Rattle.pc_world.specs.Known.Statements.{Statement}
 use Rattle.pc_world.specs.Known.Traffic.{Heard, Sent, heard_by, reply_in, reply_named, replies_to, request_sent}
 use Rattle.pc_world.specs.Known.Transactions.{Txn, txn_heard, txn_sent}
@@ -53,7 +56,7 @@ use Rattle.pc_world.specs.Named.{is_tell}
 use Rattle.pc_world.specs.Run.{IsRun, protocol}
 use Rattle.pc_world.specs.Tell.Begin.{clock_now}
 use Rattle.pc_world.specs.Unstaged.{NothingIsStaged}
-use Rattle.pc_world.specs.Views.{WasCommitted, is_about, is_committed_at, view_in}
+use Rattle.pc_world.specs.Views.{WasCommitted}
 
 high-rises : (event : Event) (named : Option (Entry Event)) (high : ℕ) → high ≤ high_after event named high
 high-rises (events.Hear number step) named high = omega arith

@@ -26,8 +26,9 @@ use Rattle.pc_proto.specs.declared.reply.Reply.{Reply}
 use Rattle.pc_proto.specs.declared.request.Request.{Request}
 use Rattle.pc_proto.specs.declared.request.Request.TheVariants as requests
 use Rattle.pc_proto.specs.Place.{Place, Nothing, Kept, Marked, Stay, Become, after, is_final}
-use Rattle.pc_proto.specs.RecordRows.{place_change, subject, table_after}
+use Rattle.pc_proto.specs.RecordRows.{place_change, table_after}
 use Rattle.pc_proto.specs.RecordRows.Reached.{status_of}
+use Rattle.pc_proto.specs.Requests.{subject}
 use Rattle.pc_proto.specs.Table.{Table, applied_to, place_of}
 use Rattle.pc_world.proofs.Knowing.{state_other}
 use Rattle.pc_world.specs.After.{place_at, state_at}

@@ -41,8 +41,10 @@ use Rattle.pc_proto.specs.declared.request.Request.TheVariants as requests
 use Rattle.pc_proto.specs.declared.view.View.{View}
 use Rattle.pc_proto.specs.declared.view.View.TheVariants as views
 use Rattle.pc_proto.specs.Place.{Place, Nothing, Kept, Marked, is_final}
-use Rattle.pc_proto.specs.RecordRows.{subject}
 use Rattle.pc_proto.specs.RecordRows.Reached.{status_of}
+use Rattle.pc_proto.specs.Replies.{view_in}
+use Rattle.pc_proto.specs.Requests.{is_about, is_push_of, subject}
+use Rattle.pc_proto.specs.Views.{is_committed_at, is_staging_at}
 use Rattle.pc_world.proofs.Knowing.{run_push}
 use Rattle.pc_world.proofs.Prefixes.{run_front}
 use Rattle.pc_world.specs.After.{known_at, place_at}
@@ -53,10 +55,10 @@ use Rattle.pc_world.specs.Local.{Head}
 use Rattle.pc_world.specs.RangeOf.{range_of}
 use Rattle.pc_world.specs.Run.{IsRun, protocol}
 use Rattle.pc_world.specs.Send.Put.{MaySendPut}
-use Rattle.pc_world.specs.Send.Recovery.{WasStaging, is_push_of}
-use Rattle.pc_world.specs.Tell.End.{is_staging_at, shows_staging}
+use Rattle.pc_world.specs.Send.Recovery.{WasStaging}
+use Rattle.pc_world.specs.Tell.End.{shows_staging}
 use Rattle.pc_world.specs.Unstaged.{NothingIsStaged}
-use Rattle.pc_world.specs.Views.{WasCommitted, is_about, is_committed_at, view_in}
+use Rattle.pc_world.specs.Views.{WasCommitted}
 
 -- The range of the transaction's anchor has it committed at this timestamp.
 pub record IsDecided (head : Head) (history : List (Entry Event)) (id : TxnId) (ts : ℕ) : Type 0 where

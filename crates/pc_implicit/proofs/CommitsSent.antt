@@ -37,6 +37,8 @@ use Rattle.pc_proto.specs.declared.request.Request.TheVariants as requests
 use Rattle.pc_proto.specs.Place.{Place, Nothing, Kept, Marked, Stay, Become, after, is_final, status_view, view_of}
 use Rattle.pc_proto.specs.RecordRows.{answer}
 use Rattle.pc_proto.specs.RecordRows.Reached.{status_of}
+use Rattle.pc_proto.specs.Replies.{is_undecided_status}
+use Rattle.pc_proto.specs.Views.{is_final_view}
 use Rattle.pc_world.proofs.Knowing.{known_other, known_same, run_push}
 use Rattle.pc_world.proofs.Prefixes.{run_front, run_induction}
 use Rattle.pc_world.specs.After.{known_at, place_at, state_at}
@@ -44,12 +46,12 @@ use Rattle.pc_world.specs.Committed.{anchor_in}
 use Rattle.pc_world.specs.Evaluation.{reply}
 use Rattle.pc_world.specs.Known.{Known}
 use Rattle.pc_world.specs.Known.Traffic.{Heard, Sent, sent_by}
-use Rattle.pc_world.specs.Known.Transactions.{Txn, is_final_view}
+use Rattle.pc_world.specs.Known.Transactions.{Txn}
 use Rattle.pc_world.specs.Known.Writes.{IsProvedBy, Write}
 use Rattle.pc_world.specs.Local.{Head}
 use Rattle.pc_world.specs.Run.{IsRun, protocol}
 use Rattle.pc_world.specs.Send.Commit.{MaySendCommit}
-use Rattle.pc_world.specs.StageFate.{IsUncommitted, OnCommit, SentCommit, WasCommitRefused, is_undecided_status}
+use Rattle.pc_world.specs.StageFate.{IsUncommitted, OnCommit, SentCommit, WasCommitRefused}
 use Rattle.pc_world.specs.Unstaged.{NothingIsStaged}
 
 -- The place is past this epoch or timestamp.

@@ -24,13 +24,14 @@ use Rattle.pc_proto.specs.declared.view.View.{View}
 use Rattle.pc_proto.specs.declared.view.View.TheVariants as views
 use Rattle.pc_proto.specs.declared.why.Why.{Why}
 use Rattle.pc_proto.specs.Place.{Place}
-use Rattle.pc_proto.specs.RecordRows.{subject}
 use Rattle.pc_proto.specs.RecordRows.Reached.{status_of}
+use Rattle.pc_proto.specs.Requests.{subject}
+use Rattle.pc_proto.specs.Views.{IsFateOf}
 use Rattle.pc_world.proofs.Prefixes.{run_induction}
 use Rattle.pc_world.specs.After.{known_at, place_at}
 use Rattle.pc_world.specs.Local.{Head}
 use Rattle.pc_world.specs.Run.{IsRun}
-use Rattle.pc_world.specs.Send.Settling.{IsFateOf, MaySendResolve}
+use Rattle.pc_world.specs.Send.Settling.{MaySendResolve}
 
 -- The fate is that of the transaction of which its anchor's range has this.
 abbrev pub FateIsSo : Fate → Place → Type 0

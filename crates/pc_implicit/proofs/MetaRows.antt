@@ -29,7 +29,7 @@ use Rattle.pc_proto.specs.declared.request.Request.{Request}
 use Rattle.pc_proto.specs.declared.request.Request.TheVariants as requests
 use Rattle.pc_proto.specs.Intents.{first_other, fresh, grown, intent_at, kept_if, lesser_key, other_at, own_at}
 use Rattle.pc_proto.specs.Place.{Place, Nothing, Kept, Marked, Change, Stay, Become, Finish, after, is_decided, is_final, view_of}
-use Rattle.pc_proto.specs.RecordRows.{place_change, push_reply, subject, table_for}
+use Rattle.pc_proto.specs.RecordRows.{place_change, push_reply, table_for}
 use Rattle.pc_proto.specs.RecordRows.Abort.{abort}
 use Rattle.pc_proto.specs.RecordRows.Beat.{beat}
 use Rattle.pc_proto.specs.RecordRows.Commit.{commit}
@@ -39,6 +39,7 @@ use Rattle.pc_proto.specs.RecordRows.Records.{listed_metas}
 use Rattle.pc_proto.specs.RecordRows.Recover.{decided, recover}
 use Rattle.pc_proto.specs.RecordRows.Remove.{remove}
 use Rattle.pc_proto.specs.RecordRows.Stage.{stage}
+use Rattle.pc_proto.specs.Requests.{subject}
 use Rattle.pc_proto.specs.Table.{Table, place_of, record_or_mark, records_after}
 use Rattle.pc_world.proofs.Each.{each-at, each-choose, each-filter, each-set_at, each-without}
 use Rattle.pc_world.specs.Evaluation.{intents_after, reply, state_after}

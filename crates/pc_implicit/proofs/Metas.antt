@@ -32,7 +32,8 @@ use Rattle.pc_proto.specs.declared.reply.Reply.{Reply}
 use Rattle.pc_proto.specs.declared.reply.Reply.TheVariants as replies
 use Rattle.pc_proto.specs.declared.request.Request.{Request}
 use Rattle.pc_proto.specs.declared.request.Request.TheVariants as requests
-use Rattle.pc_proto.specs.RecordRows.{subject}
+use Rattle.pc_proto.specs.Replies.{ConflictsWith, view_in}
+use Rattle.pc_proto.specs.Requests.{is_about, subject, subject_anchor as anchor_of}
 use Rattle.pc_world.proofs.Each.{each-at, each-weaker}
 use Rattle.pc_world.proofs.Knowing.{run_push, state_other}
 use Rattle.pc_world.proofs.Prefixes.{run_induction}
@@ -46,11 +47,10 @@ use Rattle.pc_world.specs.MaySend.{MaySend}
 use Rattle.pc_world.specs.RangeOf.{GoesTo, range_of}
 use Rattle.pc_world.specs.RangeState.{RangeState}
 use Rattle.pc_world.specs.Run.{IsRun, protocol}
-use Rattle.pc_world.specs.Send.Push.{ConflictsWith, ListsRecord, MaySendPush}
+use Rattle.pc_world.specs.Send.Push.{ListsRecord, MaySendPush}
 use Rattle.pc_world.specs.Send.Stage.{MaySendStage}
 use Rattle.pc_world.specs.StageFate.{SentStage}
-use Rattle.pc_world.specs.Views.{anchor_heard, is_about, shows_view, view_in}
-use Rattle.pc_world.specs.Views.{anchor_in as anchor_of}
+use Rattle.pc_world.specs.Views.{anchor_heard, shows_view}
 use Rattle.pc_proto.specs.Place.{Place, Nothing}
 use Rattle.pc_implicit.proofs.Places.{place_kept}
 use Rattle.pc_proto.specs.Table.{place_of}

@@ -22,12 +22,12 @@ use Rattle.pc_proto.specs.declared.event.Event.TheVariants as events
 use Rattle.pc_proto.specs.declared.reply.Reply.{Reply}
 use Rattle.pc_proto.specs.declared.request.Request.{Request}
 use Rattle.pc_proto.specs.declared.request.Request.TheVariants as requests
-use Rattle.pc_proto.specs.RecordRows.{subject}
+use Rattle.pc_proto.specs.Requests.{Commits, Recovers, subject}
 use Rattle.pc_world.proofs.Knowing.{run_push}
 use Rattle.pc_world.proofs.Prefixes.{run_front, run_may}
 use Rattle.pc_world.specs.After.{known_at}
 use Rattle.pc_world.specs.Committed.{IsCommitted, anchor_in, commit_at, committed_in, key_sent, told_at}
-use Rattle.pc_world.specs.Decisions.{Acknowledges, AnswersCommitted, Commits, HasOneDecision, Recovers, TellsCommit}
+use Rattle.pc_world.specs.Decisions.{Acknowledges, AnswersCommitted, HasOneDecision, TellsCommit}
 use Rattle.pc_world.specs.Known.Traffic.{reply_in}
 use Rattle.pc_world.specs.Local.{Head}
 use Rattle.pc_world.specs.Named.{request_in, request_named}

@@ -6,7 +6,8 @@ use Rattle.pc_base.specs.Transaction.{same_txn}
 use Rattle.pc_implicit.proofs.Keyed.{at_set_at, at_set_other, at_without, at_without_other, same-is}
 use Rattle.pc_proto.specs.declared.request.Request.{Request}
 use Rattle.pc_proto.specs.Place.{Place, Change, Stay, Become, Finish, after}
-use Rattle.pc_proto.specs.RecordRows.{place_change, subject, table_after, table_for}
+use Rattle.pc_proto.specs.RecordRows.{place_change, table_after, table_for}
+use Rattle.pc_proto.specs.Requests.{subject}
 use Rattle.pc_proto.specs.Table.{Table, applied_to, marks_after, place_of, record_or_mark}
 
 pub place_after : (id : TxnId) (c : Change) (t : Table) → place_of id (applied_to id c t) ≡ after (place_of id t) c

@@ -28,17 +28,18 @@ use Rattle.pc_proto.specs.Place.{Place, Nothing, Kept, Marked, Become, Stay, aft
 use Rattle.pc_proto.specs.RecordRows.{answer}
 use Rattle.pc_proto.specs.RecordRows.Commit.{commit}
 use Rattle.pc_proto.specs.RecordRows.Reached.{activity_of, is_reached, status_of}
+use Rattle.pc_proto.specs.Replies.{is_undecided_status}
+use Rattle.pc_proto.specs.Views.{is_final_view}
 use Rattle.pc_world.proofs.Knowing.{known_other, known_same}
 use Rattle.pc_world.proofs.Prefixes.{run_front, run_induction}
 use Rattle.pc_world.specs.After.{known_at, place_at, state_at}
 use Rattle.pc_world.specs.Evaluation.{reply as reply_of}
 use Rattle.pc_world.specs.Known.{Known}
 use Rattle.pc_world.specs.Known.Traffic.{Heard, Sent, sent_by}
-use Rattle.pc_world.specs.Known.Transactions.{is_final_view}
 use Rattle.pc_world.specs.Local.{Head}
 use Rattle.pc_world.specs.RangeOf.{range_of}
 use Rattle.pc_world.specs.Run.{IsRun}
-use Rattle.pc_world.specs.StageFate.{IsUncommitted, OnCommit, WasCommitRefused, is_undecided_status}
+use Rattle.pc_world.specs.StageFate.{IsUncommitted, OnCommit, WasCommitRefused}
 
 -- the epoch and the timestamp of a decided place
 decided-at : (q : Place) (s : Status) → decision q ≡ Some s → (epoch_of q ≡ s.epoch) × (time_of q ≡ s.ts)

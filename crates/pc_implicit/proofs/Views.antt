@@ -18,14 +18,15 @@ use Rattle.pc_proto.specs.declared.request.Request.TheVariants as requests
 use Rattle.pc_proto.specs.declared.view.View.{View}
 use Rattle.pc_proto.specs.declared.view.View.TheVariants as views
 use Rattle.pc_proto.specs.Place.{Place, Nothing, Kept, Marked, Change, Finish, Stay, after, is_decided, is_final, status_view, view_of}
-use Rattle.pc_proto.specs.RecordRows.{answer, place_change, push_reply, subject}
+use Rattle.pc_proto.specs.RecordRows.{answer, place_change, push_reply}
 use Rattle.pc_proto.specs.RecordRows.Push.{Verdict, There, Refuse, Doubt, Do, on_verdict, push_verdict, pushed}
 use Rattle.pc_proto.specs.RecordRows.Reached.{status_of}
 use Rattle.pc_proto.specs.RecordRows.Remove.{remove}
+use Rattle.pc_proto.specs.Replies.{view_in}
+use Rattle.pc_proto.specs.Requests.{subject}
 use Rattle.pc_proto.specs.Table.{Table, applied_to, place_of}
 use Rattle.pc_world.specs.Evaluation.{reply, state_after}
 use Rattle.pc_world.specs.RangeState.{RangeState}
-use Rattle.pc_world.specs.Views.{view_in}
 
 -- The decision stands, and neither the epoch nor the timestamp falls.
 pub record Stands (p q : Place) : Type 0 where

@@ -13,13 +13,13 @@ use Rattle.pc_proto.specs.declared.reply.Reply.TheVariants as replies
 use Rattle.pc_proto.specs.declared.request.Request.{Request}
 use Rattle.pc_proto.specs.declared.view.View.{View}
 use Rattle.pc_proto.specs.RecordRows.Reached.{is_staged_at}
+use Rattle.pc_proto.specs.Views.{is_final_view}
 use Rattle.pc_world.specs.After.{place_at, state_at}
 use Rattle.pc_world.specs.Answering.{MayAnswer}
 use Rattle.pc_world.specs.Committed.{IsCommitted, commit_point}
 use Rattle.pc_world.specs.Decisions.{HasOneDecision}
 use Rattle.pc_world.specs.Evaluation.{reply}
 use Rattle.pc_world.specs.Known.{known_of}
-use Rattle.pc_world.specs.Known.Transactions.{is_final_view}
 use Rattle.pc_world.specs.Local.{Head, IsActorOf}
 use Rattle.pc_world.specs.Run.{IsRun, protocol}
 use Rattle.pc_world.specs.Unstaged.{NothingIsStaged}

@@ -1,10 +1,7 @@
--- Counts of a program that stand still at the greatest `u64`.
-use Rattle.std.specs.Prelude.{ℕ, ◌+◌, ◌-◌, ◌^◌, ◌≤◌, min}
-
--- one more than a count, which stands still at the greatest `u64`
-abbrev pub raised : ℕ → ℕ
-raised count = min (count + 1) (2 ^ 64 - 1)
+-- What a count of a program shows between two moments.
+use Rattle.std.specs.Prelude.{ℕ, ◌+◌, ◌-◌, ◌^◌, ◌≤◌}
+use Rattle.pc_base.specs.Counts.{saturating_next}
 
 -- a count rose between two moments, or stands at its end
 abbrev pub Rose : ℕ → ℕ → Type 0
-Rose before now = raised before ≤ now
+Rose before now = saturating_next before ≤ now

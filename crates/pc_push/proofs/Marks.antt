@@ -14,12 +14,13 @@ use Rattle.pc_proto.specs.declared.record.Status.{Status}
 use Rattle.pc_proto.specs.declared.request.Request.{Request}
 use Rattle.pc_proto.specs.declared.request.Request.TheVariants as requests
 use Rattle.pc_proto.specs.Place.{Place, Nothing, Kept, Marked, Change, Stay, Become, Finish, is_decided, is_final}
-use Rattle.pc_proto.specs.RecordRows.{place_change, subject, table_for}
+use Rattle.pc_proto.specs.RecordRows.{place_change, table_for}
 use Rattle.pc_proto.specs.RecordRows.Commit.{commit}
 use Rattle.pc_proto.specs.RecordRows.Push.{Verdict, There, Refuse, Doubt, Do, on_verdict, push_verdict}
 use Rattle.pc_proto.specs.RecordRows.Reached.{is_staged_at}
 use Rattle.pc_proto.specs.RecordRows.Recover.{decided}
 use Rattle.pc_proto.specs.RecordRows.Stage.{stage}
+use Rattle.pc_proto.specs.Requests.{subject}
 use Rattle.pc_proto.specs.Table.{Table, applied_to, place_of, record_or_mark}
 use Rattle.pc_world.proofs.Each.{each-at, each-set_at}
 use Rattle.pc_world.specs.Named.{request_named}

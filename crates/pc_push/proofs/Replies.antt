@@ -19,14 +19,13 @@ use Rattle.pc_proto.specs.Place.{Place, Nothing, Kept, Marked, after, is_decided
 use Rattle.pc_proto.specs.RecordRows.{push_reply}
 use Rattle.pc_proto.specs.RecordRows.Push.{Verdict, There, Refuse, Doubt, Do, is_staged, is_there, on_verdict, push, push_verdict, pushed, wins}
 use Rattle.pc_proto.specs.RecordRows.Reached.{is_staging}
+use Rattle.pc_proto.specs.Requests.{Recovers}
 use Rattle.pc_proto.specs.Table.{place_of}
+use Rattle.pc_proto.specs.Views.{IsFateOf, final_fate}
 use Rattle.pc_push.proofs.Marks.{IsFinalPlace, place_final}
-use Rattle.pc_push.specs.PushKnows.{Recovers}
 use Rattle.pc_push.specs.Pushing.{Pushing, push_of}
 use Rattle.pc_world.specs.Exchange.{IsPossibleReply}
-use Rattle.pc_world.specs.Send.Settling.{IsFateOf}
 use Rattle.pc_world.specs.StateOf.{state_of}
-use Rattle.pc_world.specs.Views.{final_fate}
 
 -- The view is a staging one.
 pub record IsStagingView (view : View) : Type 0 where

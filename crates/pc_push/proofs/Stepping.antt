@@ -17,21 +17,22 @@ use Rattle.pc_proto.specs.declared.request.Request.{Request}
 use Rattle.pc_proto.specs.declared.request.Request.TheVariants as requests
 use Rattle.pc_proto.specs.declared.view.View.{View}
 use Rattle.pc_proto.specs.declared.view.View.TheVariants as views
+use Rattle.pc_proto.specs.Replies.{view_in}
+use Rattle.pc_proto.specs.Requests.{Recovers, is_about}
 use Rattle.pc_proto.specs.Stamps.{fate_stamps, goal_stamps, reply_stamps, view_stamps}
+use Rattle.pc_proto.specs.Views.{IsFateOf, fate_after, final_fate, is_final_view, moved_fate}
 use Rattle.pc_push.proofs.Going.{push_later, stamps_later, stands_later}
 use Rattle.pc_push.proofs.Replies.{IsPushReply, IsStatus, push_answers, recovery_answers, resolve_answers}
 use Rattle.pc_push.specs.declared.progress.Progress.{Progress}
 use Rattle.pc_push.specs.declared.progress.Progress.TheVariants as progress
-use Rattle.pc_push.specs.PushKnows.{Asks, AsksAt, HasMetStaging, MayPush, MaySettle, PushKnows, Recovers, RoundMayCome, StandsAt}
+use Rattle.pc_push.specs.PushKnows.{Asks, AsksAt, HasMetStaging, MayPush, MaySettle, PushKnows, RoundMayCome, StandsAt}
 use Rattle.pc_push.specs.Pushing.{Pushing, holder_resolve, progress_after_push, progress_after_recovery, push_of, resolve_or, round_after, round_due, round_heard, round_next, with_progress}
 use Rattle.pc_world.proofs.Anywhere.{any_weaker}
 use Rattle.pc_world.proofs.Exchange.{answered, heard_earlier, heard_ever, later-later}
 use Rattle.pc_world.specs.declared.machine.MachineNext.{MachineNext}
 use Rattle.pc_world.specs.Exchange.{HeardSince, IsExchange, IsLater, IsPossibleReply, WasAnswered}
 use Rattle.pc_world.specs.Known.{Known}
-use Rattle.pc_world.specs.Known.Transactions.{is_final_view}
-use Rattle.pc_world.specs.Send.Settling.{IsFateOf, MaySendResolve, ShowsFate}
-use Rattle.pc_world.specs.Views.{fate_after, final_fate, is_about, moved_fate, view_in}
+use Rattle.pc_world.specs.Send.Settling.{MaySendResolve, ShowsFate}
 
 -- what is due is allowed
 come_at : (splits : List (List ℕ)) (actor : ActorId) (start k : Known) (m : Pushing) (p : Progress) → MayPush actor k m → StandsAt start k m p → RoundMayCome splits actor start k m (round_due p m)

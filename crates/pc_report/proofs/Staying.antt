@@ -16,7 +16,8 @@ use Rattle.pc_proto.specs.declared.request.Request.{Request}
 use Rattle.pc_proto.specs.declared.request.Request.TheVariants as requests
 use Rattle.pc_proto.specs.Intents.{own_at}
 use Rattle.pc_proto.specs.Place.{Place, Nothing, Kept, Marked}
-use Rattle.pc_proto.specs.RecordRows.{place_change, subject, table_for}
+use Rattle.pc_proto.specs.RecordRows.{place_change, table_for}
+use Rattle.pc_proto.specs.Requests.{subject}
 use Rattle.pc_proto.specs.Table.{Table, place_of}
 use Rattle.pc_report.proofs.Intents.{is_one, own_stays}
 use Rattle.pc_report.proofs.Naming.{asked_send}

@@ -2,6 +2,7 @@
 use Rattle.std.proofs.Common.{◌≡◌, ℕ, ◌+◌, false, List, [], length, map, Some, None, IsTrue, refl, sym, ap, subst, ◌∙◌, arith}
 use Rattle.std.proofs.Math.Nat.{add-zero}
 use Rattle.std.proofs.lemmas.List.Elements.{All-nil}
+use Rattle.pc_base.specs.Counts.{saturating_next}
 use Rattle.pc_base.specs.declared.actor.ActorId.TheVariants as actors
 use Rattle.pc_coord.proofs.Resting.{rests}
 use Rattle.pc_coord.proofs.Steps.{asked}
@@ -13,7 +14,6 @@ use Rattle.pc_coord.specs.Knows.{Knows, KnowsAt, messages_of_job}
 use Rattle.pc_history.specs.declared.pair.Pair.{Pair}
 use Rattle.pc_proto.specs.declared.call.Call.{Call}
 use Rattle.pc_proto.specs.declared.event.Event.TheVariants as events
-use Rattle.pc_session.specs.Counts.{raised}
 use Rattle.pc_session.specs.Stepped.{SteppedState, stepped_rule}
 use Rattle.pc_work.specs.declared.session.SessionWork.{SessionWork}
 use Rattle.pc_work.specs.declared.workload.Workload.{Workload}
@@ -87,7 +87,7 @@ module _ (number : ℕ) (at : Position) (c : Coordination) (sends : ℕ) (h : Hi
 -- the clock was read once more
 module _ (work : Workload) (number : ℕ) (session : SessionWork) (at : Position) (clock later : SteppedState) (jobs : List Job) (h g : History) (call : Call) (reading : ℕ) where
   keeps_asked : KeepsSoFar work number session at clock jobs h → HasGrown h g (actors.Session number) (events.Ask call reading) → (known_by number h).statement ≡ None → next_call at ≡ Some call
-      → IsTrue (stepped_rule clock.start clock.step clock.reads reading) → later.reads ≡ raised clock.reads → later.start ≡ clock.start → later.step ≡ clock.step
+      → IsTrue (stepped_rule clock.start clock.step clock.reads reading) → later.reads ≡ saturating_next clock.reads → later.start ≡ clock.start → later.step ≡ clock.step
       → KeepsSoFar work number session at later jobs g
   keeps_asked keeps grown none next given counted start step =
       let event = events.Ask call reading in
@@ -109,7 +109,7 @@ module _ (work : Workload) (number : ℕ) (session : SessionWork) (at : Position
 
   -- a session that asked its next call is in it
   pub calls_asked : (c d : Coordination) (sends : ℕ) → Rests work number session at clock jobs c sends h → HasGrown h g (actors.Session number) (events.Ask call reading) → next_call at ≡ Some call
-      → IsTrue (stepped_rule clock.start clock.step clock.reads reading) → later.reads ≡ raised clock.reads → later.start ≡ clock.start → later.step ≡ clock.step
+      → IsTrue (stepped_rule clock.start clock.step clock.reads reading) → later.reads ≡ saturating_next clock.reads → later.start ≡ clock.start → later.step ≡ clock.step
       → ((k : Known) (p : Pair _) → Knows c k → IsAsked c call reading k p → Knows d (learn p k)) → ((other : ℕ) → awaits_number other d.due ≡ false)
       → d.session ≡ c.session → d.splits ≡ c.splits → Calls work number session at later reading jobs d sends [] [] g
   calls_asked c d sends rest grown next given counted start step learns quiet same_session same_splits =

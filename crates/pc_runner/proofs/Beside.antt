@@ -15,14 +15,14 @@ use Rattle.pc_proto.specs.declared.event.Event.TheVariants as events
 use Rattle.pc_proto.specs.declared.reply.Reply.{Reply}
 use Rattle.pc_proto.specs.declared.request.Request.{Request}
 use Rattle.pc_proto.specs.declared.request.Request.TheVariants as requests
+use Rattle.pc_proto.specs.Requests.{is_put, is_put_by}
 use Rattle.pc_resolve.specs.Resolving.{Resolving}
-use Rattle.pc_resolve.specs.ResolveKnows.{WasAnsweredToIt, is_put_by, sends_put_by}
+use Rattle.pc_resolve.specs.ResolveKnows.{WasAnsweredToIt, sends_put_by}
 use Rattle.pc_session.specs.Stepped.{SteppedState}
 use Rattle.pc_work.specs.declared.session.SessionWork.{SessionWork}
 use Rattle.pc_work.specs.declared.workload.Workload.{Workload}
 use Rattle.pc_world.proofs.Exchange.{later-itself, later-push}
 use Rattle.pc_world.specs.Exchange.{WasAnswered}
-use Rattle.pc_world.specs.Follows.EarlyProof.{is_put}
 use Rattle.pc_world.specs.Follows.FinishingJobs.{jobs_after, without_first}
 use Rattle.pc_world.specs.Follows.PipelinedPuts.{IsPutWaitedFor}
 use Rattle.pc_world.specs.Known.{Known, next_number}

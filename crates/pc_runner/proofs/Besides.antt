@@ -7,10 +7,9 @@ use Rattle.pc_coord.specs.Beside.{IsBeside, IsLaterBeside, is_of_round_or_job}
 use Rattle.pc_coord.specs.Coordination.{Coordination, with_clock}
 use Rattle.pc_proto.specs.declared.reply.Reply.{Reply}
 use Rattle.pc_proto.specs.declared.request.Request.{Request}
-use Rattle.pc_proto.specs.Stamps.{reply_stamps}
+use Rattle.pc_proto.specs.Stamps.{greatest_of, reply_stamps}
 use Rattle.pc_world.specs.Exchange.{IsAllowed, WasAnswered}
 use Rattle.pc_world.specs.Known.{Known, next_number}
-use Rattle.pc_world.specs.Known.Clock.{greatest_of}
 use Rattle.pc_world.specs.Known.Traffic.{Heard, Sent}
 use Rattle.pc_world.specs.Local.{Head, IsActorOf}
 use Rattle.pc_runner.proofs.Beside.{delivered_exchanged, jobs_exchanged, keeps_exchanged, later_exchanged, left_after, part_exchanged, was_answered}

@@ -5,6 +5,7 @@ use Rattle.std.proofs.lemmas.List.Elements.{All-push}
 use Rattle.pc_base.specs.declared.actor.ActorId.{ActorId}
 use Rattle.pc_base.specs.declared.actor.ActorId.TheVariants as actors
 use Rattle.pc_base.specs.declared.entry.Entry.{Entry}
+use Rattle.pc_base.specs.Rising.{AreRising}
 use Rattle.pc_history.proofs.Histories.{named-one}
 use Rattle.pc_history.proofs.Ids.{same_id-equal}
 use Rattle.pc_history.specs.History.{MayFollow}
@@ -24,7 +25,7 @@ use Rattle.pc_world.specs.Known.{next_number}
 use Rattle.pc_world.specs.Local.{Head, IsActorOf, IsAnswer, MayAsk, MayHear}
 use Rattle.pc_world.specs.MayTell.{MayTell}
 use Rattle.pc_world.specs.Named.{is_eval, is_send_of, request_in, request_named}
-use Rattle.pc_world.specs.RangeOf.{AreRising, GoesTo}
+use Rattle.pc_world.specs.RangeOf.{GoesTo}
 use Rattle.pc_world.specs.RangeState.{RangeState}
 use Rattle.pc_world.specs.Run.{protocol}
 use Rattle.pc_world.specs.Unstaged.{IsNoStage, OnSent}

@@ -12,9 +12,8 @@ use Rattle.pc_proto.specs.declared.event.Event.{Event}
 use Rattle.pc_proto.specs.declared.event.Event.TheVariants as events
 use Rattle.pc_proto.specs.declared.reply.Reply.{Reply}
 use Rattle.pc_proto.specs.declared.request.Request.{Request}
-use Rattle.pc_proto.specs.Stamps.{event_stamps}
+use Rattle.pc_proto.specs.Stamps.{event_stamps, greatest_of}
 use Rattle.pc_world.specs.Known.{Known, known_after, learn}
-use Rattle.pc_world.specs.Known.Clock.{greatest_of}
 use Rattle.pc_world.specs.Known.Traffic.{Heard, heard_as, reply_in, reply_named, request_sent}
 use Rattle.pc_runner.proofs.Growing.{ask_names_none, hear_names_answer, known_grows, next_pair, send_names_none, tell_names_none}
 use Rattle.pc_runner.proofs.Keeps.{brought}

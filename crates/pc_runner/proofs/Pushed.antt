@@ -18,11 +18,11 @@ use Rattle.pc_proto.specs.Place.{Place, Nothing, Kept, Marked, after, is_decided
 use Rattle.pc_proto.specs.RecordRows.{push_reply}
 use Rattle.pc_proto.specs.RecordRows.Push.{Verdict, There, Refuse, Doubt, Do, is_staged, on_verdict, push, push_verdict, pushed, wins}
 use Rattle.pc_proto.specs.Table.{place_of}
+use Rattle.pc_proto.specs.Views.{fate_after, final_fate}
 use Rattle.pc_push.proofs.Marks.{IsFinalPlace, place_final}
 use Rattle.pc_push.specs.Pushing.{Pushing, push_of}
 use Rattle.pc_world.specs.Exchange.{IsPossibleReply}
 use Rattle.pc_world.specs.StateOf.{state_of}
-use Rattle.pc_world.specs.Views.{fate_after, final_fate}
 
 final_shows : (s : Standing) (epoch ts : ℕ) (writes : List (List ℕ × ℕ)) (locks : List (List ℕ)) → is_final s ≡ true → final_fate (status_view s epoch ts writes locks) ≡ None → ⊥
 final_shows standings.Pending epoch ts writes locks h none = cc

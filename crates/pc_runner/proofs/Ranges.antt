@@ -10,6 +10,7 @@ use Rattle.pc_base.specs.declared.entry.Entry.{Entry}
 use Rattle.pc_base.specs.declared.span.Span.{Span}
 use Rattle.pc_base.specs.declared.span.Span.TheVariants.{Between, One}
 use Rattle.pc_base.specs.declared.transaction.TxnId.{TxnId}
+use Rattle.pc_base.specs.Rising.{AreRising}
 use Rattle.pc_base.specs.Span.{key_at_most}
 use Rattle.pc_history.proofs.Lists.{contains_in_map, contains_nil, length_set}
 use Rattle.pc_history.specs.declared.pair.Pair.{Pair}
@@ -27,7 +28,7 @@ use Rattle.pc_world.specs.Known.{Known}
 use Rattle.pc_world.specs.Local.{Head, MayComeNext}
 use Rattle.pc_world.specs.MaySend.{MaySendRow}
 use Rattle.pc_world.specs.Named.{request_in, request_named}
-use Rattle.pc_world.specs.RangeOf.{AreRising, GoesTo, IsForOne, pieces, range_of, range_of_start}
+use Rattle.pc_world.specs.RangeOf.{GoesTo, IsForOne, pieces, range_of, range_of_start}
 use Rattle.pc_world.specs.RangeState.{RangeState, no_state}
 use Rattle.pc_world.specs.Run.{IsRun}
 use Rattle.pc_world.specs.Send.Reading.{MaySendScan}

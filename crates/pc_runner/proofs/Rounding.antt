@@ -24,7 +24,7 @@ use Rattle.pc_coord.specs.Knows.Sending.{IsConflictNow}
 use Rattle.pc_coord.specs.Knows.Writing.{write_call}
 use Rattle.pc_coord.specs.Messages.{read_at}
 use Rattle.pc_coord.specs.Pusher.{IsPusherOf}
-use Rattle.pc_coord.specs.Rounds.{EndsRound, IsRefusedRound, IsSettledRound, is_resolve_of, shows_resolve, was_met, was_pushed}
+use Rattle.pc_coord.specs.Rounds.{EndsRound, IsRefusedRound, IsSettledRound, shows_resolve, was_met, was_pushed}
 use Rattle.pc_proto.specs.declared.call.Call.{Call}
 use Rattle.pc_proto.specs.declared.call.Call.TheVariants as calls
 use Rattle.pc_proto.specs.declared.fate.Fate.{Fate}
@@ -34,7 +34,10 @@ use Rattle.pc_proto.specs.declared.reply.Reply.TheVariants as replies
 use Rattle.pc_proto.specs.declared.request.Request.{Request}
 use Rattle.pc_proto.specs.declared.request.Request.TheVariants as requests
 use Rattle.pc_proto.specs.declared.view.View.{View}
+use Rattle.pc_proto.specs.Replies.{ConflictsWith, is_conflict_with, is_refused}
+use Rattle.pc_proto.specs.Requests.{goal_in, is_push_of, is_resolve_of, round_of}
 use Rattle.pc_proto.specs.Stamps.{goal_stamps}
+use Rattle.pc_proto.specs.Views.{fate_after}
 use Rattle.pc_push.specs.declared.progress.Progress.{Progress}
 use Rattle.pc_push.specs.declared.progress.Progress.TheVariants as progresses
 use Rattle.pc_push.specs.PushKnows.{Asks, AsksAt, MayPush}
@@ -44,15 +47,13 @@ use Rattle.pc_world.specs.Counting.{AtLeast}
 use Rattle.pc_world.specs.declared.machine.MachineNext.TheVariants as machine
 use Rattle.pc_world.specs.Exchange.{IsPossibleReply}
 use Rattle.pc_world.specs.Follows.EarlyTell.{IsCommitKnown}
-use Rattle.pc_world.specs.Follows.Resends.{HasMoreConflicts, MayGoAgain, goal_in, round_of}
+use Rattle.pc_world.specs.Follows.Resends.{HasMoreConflicts, MayGoAgain}
 use Rattle.pc_world.specs.Known.{Known, call_in, call_of, first_if, open_txn, reading_in}
 use Rattle.pc_world.specs.Known.Traffic.{Heard, Sent}
 use Rattle.pc_world.specs.Known.Transactions.{Txn}
 use Rattle.pc_world.specs.SameRequest.{IsSameRequest}
-use Rattle.pc_world.specs.Send.Push.{ConflictsWith, goal_for}
-use Rattle.pc_world.specs.Send.Recovery.{is_conflict_with, is_push_of, is_refused}
+use Rattle.pc_world.specs.Send.Push.{goal_for}
 use Rattle.pc_world.specs.Tell.Refusal.{is_heard}
-use Rattle.pc_world.specs.Views.{fate_after}
 use Rattle.pc_runner.proofs.Pushed.{push_decides}
 use Rattle.pc_runner.specs.Exchanging.{IsTimely}
 use Rattle.pc_runner.specs.Rounding.{HasCome, IsOfConflict, WasPushedOnce}

@@ -20,6 +20,7 @@ use Rattle.pc_proto.specs.declared.meta.TxnMeta.{TxnMeta}
 use Rattle.pc_proto.specs.declared.reply.Reply.{Reply}
 use Rattle.pc_proto.specs.declared.reply.Reply.TheVariants as replies
 use Rattle.pc_proto.specs.declared.request.Request.{Request}
+use Rattle.pc_proto.specs.Replies.{is_conflict}
 use Rattle.pc_push.specs.declared.progress.Progress.{Progress}
 use Rattle.pc_push.specs.declared.progress.Progress.TheVariants as progresses
 use Rattle.pc_push.specs.PushKnows.{Asks, AsksAt, MayPush, PushKnows, RoundMayCome}
@@ -29,7 +30,6 @@ use Rattle.pc_world.specs.declared.machine.MachineNext.TheVariants as machine
 use Rattle.pc_world.proofs.Kept.{run_top}
 use Rattle.pc_world.specs.Exchange.{IsAllowed}
 use Rattle.pc_world.specs.Known.{Known}
-use Rattle.pc_world.specs.Send.Recovery.{is_conflict}
 use Rattle.pc_world.specs.Tell.Refusal.{is_heard}
 use Rattle.pc_runner.proofs.Beside.{later_itself}
 use Rattle.pc_runner.proofs.Besides.{may_exchange}

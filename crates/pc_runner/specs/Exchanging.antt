@@ -4,16 +4,16 @@ use Rattle.pc_base.specs.declared.actor.ActorId.TheVariants as actors
 use Rattle.pc_proto.specs.declared.event.Event.TheVariants as events
 use Rattle.pc_proto.specs.declared.reply.Reply.{Reply}
 use Rattle.pc_proto.specs.declared.request.Request.{Request}
-use Rattle.pc_proto.specs.Stamps.{reply_stamps, request_stamps}
+use Rattle.pc_proto.specs.Requests.{round_of}
+use Rattle.pc_proto.specs.Stamps.{greatest_of, reply_stamps, request_stamps}
 use Rattle.pc_session.specs.Stepped.{SteppedState}
 use Rattle.pc_work.specs.declared.session.SessionWork.{SessionWork}
 use Rattle.pc_work.specs.declared.workload.Workload.{Workload}
 use Rattle.pc_world.specs.Follows.CallMessages.{IsForCall, IsOfRound}
 use Rattle.pc_world.specs.Follows.EarlyTell.{IsCommitKnown}
 use Rattle.pc_world.specs.Follows.FinishingJobs.{IsDue, jobs_of}
-use Rattle.pc_world.specs.Follows.Resends.{AreAnsweredNow, MayGoAgain, round_of}
+use Rattle.pc_world.specs.Follows.Resends.{AreAnsweredNow, MayGoAgain}
 use Rattle.pc_world.specs.Known.{Known}
-use Rattle.pc_world.specs.Known.Clock.{greatest_of}
 use Rattle.pc_world.specs.Known.Statements.{Statement}
 use Rattle.pc_world.specs.Known.Transactions.{Txn}
 use Rattle.pc_world.specs.SameRequest.{IsSameRequest}

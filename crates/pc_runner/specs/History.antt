@@ -2,12 +2,12 @@
 use Rattle.std.specs.Prelude.{ℕ, ◌+◌, ◌^◌, ◌<◌, ◌≤◌, List, length}
 use Rattle.pc_base.specs.declared.actor.ActorId.TheVariants as actors
 use Rattle.pc_base.specs.declared.entry.Entry.{Entry}
+use Rattle.pc_base.specs.Rising.{AreRising}
 use Rattle.pc_history.specs.declared.pair.Pair.{Pair}
 use Rattle.pc_history.specs.Own.{own}
 use Rattle.pc_proto.specs.declared.event.Event.{Event}
 use Rattle.pc_world.specs.Known.{Known, known_of}
 use Rattle.pc_world.specs.Local.{Head}
-use Rattle.pc_world.specs.RangeOf.{AreRising}
 use Rattle.pc_world.specs.RangeState.{RangeState}
 use Rattle.pc_world.specs.Run.{IsRun, protocol}
 use Rattle.pc_world.specs.StateOf.{state_of}

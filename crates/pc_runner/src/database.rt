@@ -1,12 +1,13 @@
 ghost use Rattle.std.specs.Prelude.{◌≡◌, ◌+◌, ◌^◌, ◌<◌, [], Any, IfOk, OnOk, length};
 ghost use Rattle.pc_base.specs.declared.actor.ActorId.TheVariants as actors;
+ghost use Rattle.pc_base.specs.Rising.{AreRising};
 ghost use Rattle.pc_proto.specs.declared.reply.Reply.{Reply as Answered};
 ghost use Rattle.pc_world.specs.Caused.{IsEvalOf};
 ghost use Rattle.pc_world.specs.Exchange.{IsAllowed};
 ghost use Rattle.pc_world.specs.Known.{next_number};
 ghost use Rattle.pc_world.specs.Local.{IsActorOf, MayAsk, MayHear};
 ghost use Rattle.pc_world.specs.MayTell.{MayTell};
-ghost use Rattle.pc_world.specs.RangeOf.{AreRising, GoesTo};
+ghost use Rattle.pc_world.specs.RangeOf.{GoesTo};
 ghost use Rattle.pc_world.specs.Unstaged.{IsNoStage};
 ghost use Rattle.pc_runner.specs.Database.{HasEvaluated, HasSent, IsForOneOrRefreshes};
 ghost use Rattle.pc_runner.specs.History.{IsSoundHistory, head_of, known_by};

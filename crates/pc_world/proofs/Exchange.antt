@@ -10,11 +10,11 @@ use Rattle.pc_proto.specs.declared.event.Event.{Event}
 use Rattle.pc_proto.specs.declared.event.Event.TheVariants as events
 use Rattle.pc_proto.specs.declared.reply.Reply.{Reply}
 use Rattle.pc_proto.specs.declared.request.Request.{Request}
-use Rattle.pc_proto.specs.Stamps.{event_stamps, reply_stamps}
+use Rattle.pc_proto.specs.Stamps.{event_stamps, greatest_of, reply_stamps}
 use Rattle.pc_world.proofs.Anywhere.{any_behind, any_kept, any_last}
 use Rattle.pc_world.specs.Exchange.{HeardSince, HearsReply, IsExchange, IsLater, WasAnswered, is_message, known_from}
 use Rattle.pc_world.specs.Known.{Known, known_after, learn}
-use Rattle.pc_world.specs.Known.Clock.{greatest_of, high_after, top_after}
+use Rattle.pc_world.specs.Known.Clock.{high_after, top_after}
 use Rattle.pc_world.specs.Known.Traffic.{Heard, heard_as, heard_by, reply_in, request_sent}
 
 module _ (P : Known → Type 0) (step : (event : Event) (h : Option Heard) (top high : ℕ) (k : Known) → IsTrue (is_message event) → k.top ≤ top → P k → P (known_after event h top high k)) where

@@ -6,10 +6,11 @@ use Rattle.std.specs.Bool.{⊤}
 use Rattle.std.specs.List.{AllByRecursion as Each}
 use Rattle.pc_base.specs.declared.span.Span.{Span}
 use Rattle.pc_base.specs.declared.span.Span.TheVariants.{One, Between}
+use Rattle.pc_base.specs.Rising.{AreRising}
 use Rattle.pc_base.specs.Span.{is_empty, key_at_most, key_below}
 use Rattle.pc_world.proofs.Each.{each-append, each-weaker}
 use Rattle.pc_world.proofs.KeyOrder.{at_most-is, at_most-through, below-once, below-through, not-below-itself}
-use Rattle.pc_world.specs.RangeOf.{AreDistinct, AreRising, LiesInOne, earlier_end, later_start, piece, pieces, pieces_from, range_of, range_of_start}
+use Rattle.pc_world.specs.RangeOf.{AreDistinct, LiesInOne, earlier_end, later_start, piece, pieces, pieces_from, range_of, range_of_start}
 
 -- A key that an end of a span is, and that is not below another.
 record IsFrom (low : List ℕ) (end : Option (List ℕ)) : Type 0 where

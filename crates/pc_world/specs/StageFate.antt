@@ -11,8 +11,9 @@ use Rattle.pc_proto.specs.declared.request.Request.{Request}
 use Rattle.pc_proto.specs.declared.request.Request.TheVariants as requests
 use Rattle.pc_proto.specs.declared.view.View.{View}
 use Rattle.pc_proto.specs.declared.view.View.TheVariants as views
+use Rattle.pc_proto.specs.Replies.{is_undecided_status}
 use Rattle.pc_world.specs.Known.Traffic.{Heard, Sent}
-use Rattle.pc_world.specs.Known.Transactions.{is_final_view, lists_write}
+use Rattle.pc_world.specs.Known.Transactions.{lists_write}
 use Rattle.pc_world.specs.Views.{shows_undecided}
 
 -- A stage that was sent, equal ones being one and the same.
@@ -88,11 +89,6 @@ pub record IsDeadByWrite (heard : List Heard) (s : SentStage) (h : Heard) : Type
 -- The stage commits nothing any more.
 abbrev pub IsDead : List Heard → SentStage → Type 0
 IsDead heard s = IsLateByRecord heard s ⊎ Any (IsDeadByWrite heard s) heard
-
--- The reply shows a record that is not final.
-abbrev pub is_undecided_status : Reply → Bool
-is_undecided_status (replies.Status view) = not (is_final_view view)
-is_undecided_status _ = false
 
 -- The commit was told, by this reply, that the record is not final.
 pub record Refuses (c : SentCommit) (h : Heard) : Type 0 where

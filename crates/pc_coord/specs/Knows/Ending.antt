@@ -5,12 +5,12 @@ use Rattle.pc_coord.specs.Knows.Held.{IsOpenAs, IsPlain, PutsUpTo}
 use Rattle.pc_proto.specs.declared.call.Call.TheVariants as calls
 use Rattle.pc_proto.specs.declared.request.Request.TheVariants as requests
 use Rattle.pc_proto.specs.declared.why.Why.TheVariants as whys
+use Rattle.pc_proto.specs.Replies.{is_undecided_status}
 use Rattle.pc_world.specs.Counting.{AtLeast}
 use Rattle.pc_world.specs.Known.{Known}
 use Rattle.pc_world.specs.Known.Traffic.{Sent}
 use Rattle.pc_world.specs.Known.Transactions.{Txn, meta_of}
 use Rattle.pc_world.specs.Known.Writes.{IsProvedBy, last_seq_of}
-use Rattle.pc_world.specs.StageFate.{is_undecided_status}
 use Rattle.pc_world.specs.Tell.Refusal.{WasMoved}
 
 -- The message of this number is the last one sent, and was not heard.

@@ -9,13 +9,12 @@ use Rattle.pc_proto.specs.declared.reply.Reply.TheVariants as replies
 use Rattle.pc_proto.specs.declared.request.Request.{Request}
 use Rattle.pc_proto.specs.declared.request.Request.TheVariants as requests
 use Rattle.pc_proto.specs.declared.view.View.TheVariants as views
+use Rattle.pc_proto.specs.Requests.{is_about, is_put_of, subject_anchor}
 use Rattle.pc_world.specs.Known.{Known}
 use Rattle.pc_world.specs.Known.Traffic.{Heard, Sent}
 use Rattle.pc_world.specs.Known.Transactions.{Txn, with_lock}
 use Rattle.pc_world.specs.Known.Writes.{IsProvedBy, Write, last_seq_of}
-use Rattle.pc_world.specs.Send.Recovery.{is_put_of}
 use Rattle.pc_world.specs.StageFate.{EachCommit, WasCommitRefused}
-use Rattle.pc_world.specs.Views.{anchor_in, is_about}
 
 -- No stage, and no put or commit of a transaction that was not begun.
 abbrev pub IsOwnWrite : ℕ → Request → Type 0
@@ -59,7 +58,7 @@ ShowsPending _ = ⊥
 
 -- What was heard of the transaction's record: that it is pending, by a request that named its anchor.
 pub record IsPendingView (t : Txn) (h : Heard) : Type 0 where
-  pub anchored : anchor_in h.request ≡ t.anchor
+  pub anchored : subject_anchor h.request ≡ t.anchor
   pub pending : ShowsPending h.reply
 
 -- If the reply is about the transaction's record, the record was pending.

@@ -11,12 +11,12 @@ use Rattle.pc_proto.specs.declared.event.Event.{Event}
 use Rattle.pc_proto.specs.declared.event.Event.TheVariants as events
 use Rattle.pc_proto.specs.declared.reply.Reply.{Reply}
 use Rattle.pc_proto.specs.declared.request.Request.{Request}
-use Rattle.pc_proto.specs.Stamps.{answer_stamps, event_stamps, reply_stamps}
+use Rattle.pc_proto.specs.Stamps.{answer_stamps, event_stamps, greatest_of, reply_stamps}
 use Rattle.pc_world.proofs.Each.{each-append, each-map, each-weaker}
 use Rattle.pc_world.proofs.Kept.Entries.{PairWithin}
 use Rattle.pc_world.proofs.Stamps.Within.{AtMost}
 use Rattle.pc_world.specs.Known.{Known, known_of, learn, nothing_known, told_first, txn_begun, txns_after, txns_told}
-use Rattle.pc_world.specs.Known.Clock.{greatest_of, high_after, high_told, named_stamps, top_after}
+use Rattle.pc_world.specs.Known.Clock.{high_after, high_told, named_stamps, top_after}
 use Rattle.pc_world.specs.Known.Statements.{Statement}
 use Rattle.pc_world.specs.Known.Traffic.{Heard, Sent, heard_after, heard_as, heard_by, heard_now_after, reply_in, reply_named, replies_to, request_sent}
 use Rattle.pc_world.specs.Known.Transactions.{Txn, restart_told, txn_heard, txn_sent}

@@ -21,7 +21,7 @@ use Rattle.pc_proto.specs.declared.request.Request.{Request}
 use Rattle.pc_proto.specs.declared.request.Request.TheVariants as requests
 use Rattle.pc_proto.specs.declared.why.Why.{Why}
 use Rattle.pc_proto.specs.Place.{Place, Kept, Marked, Nothing, Change, Become, Finish, Stay, after, is_decided, is_final, status_view, view_of}
-use Rattle.pc_proto.specs.RecordRows.{answer, place_change, push_reply, record_reply, reply_for, subject, table_after, table_for}
+use Rattle.pc_proto.specs.RecordRows.{answer, place_change, push_reply, record_reply, reply_for, table_after, table_for}
 use Rattle.pc_proto.specs.RecordRows.Abort.{abort}
 use Rattle.pc_proto.specs.RecordRows.Beat.{beat}
 use Rattle.pc_proto.specs.RecordRows.Commit.{commit}
@@ -30,6 +30,7 @@ use Rattle.pc_proto.specs.RecordRows.Reached.{is_reached, is_staged_at, ts_of}
 use Rattle.pc_proto.specs.RecordRows.Recover.{decided, recover}
 use Rattle.pc_proto.specs.RecordRows.Remove.{remove}
 use Rattle.pc_proto.specs.RecordRows.Stage.{stage}
+use Rattle.pc_proto.specs.Requests.{subject}
 use Rattle.pc_proto.specs.Stamps.{reply_stamps, request_stamps, goal_stamps, view_stamps, why_stamps}
 use Rattle.pc_proto.specs.Table.{Table, applied_to, marks_after, place_of, record_or_mark, records_after}
 use Rattle.pc_world.proofs.Each.{each-at, each-set_at, each-without}

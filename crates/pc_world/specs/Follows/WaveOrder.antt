@@ -3,7 +3,6 @@
 -- is sent again in one wave. This is so over a quiet wire where actors move in
 -- turns; on threads ranges evaluate a wave side by side. Own profile.
 use Rattle.std.specs.Prelude.{◌≡◌, ℕ, ◌+◌, ◌<◌, ◌⊎◌, Option, None, Some, List, [], ◌∷◌, ◌++◌, All, Any, IsTrue, ⊤}
-use Rattle.pc_base.specs.declared.entry.Entry.{Entry}
 use Rattle.pc_base.specs.declared.span.Span.{Span}
 use Rattle.pc_history.specs.declared.pair.Pair.{Pair}
 use Rattle.pc_proto.specs.declared.call.Call.TheVariants as calls
@@ -11,9 +10,8 @@ use Rattle.pc_proto.specs.declared.event.Event.{Event}
 use Rattle.pc_proto.specs.declared.event.Event.TheVariants as events
 use Rattle.pc_proto.specs.declared.request.Request.{Request}
 use Rattle.pc_proto.specs.declared.request.Request.TheVariants as requests
+use Rattle.pc_proto.specs.Requests.{is_put, round_of}
 use Rattle.pc_world.specs.Counting.{AtLeast}
-use Rattle.pc_world.specs.Follows.EarlyProof.{is_put}
-use Rattle.pc_world.specs.Follows.Resends.{round_of}
 use Rattle.pc_world.specs.Known.{Known, call_of, known_of}
 use Rattle.pc_world.specs.Known.Traffic.{Heard, Sent}
 use Rattle.pc_world.specs.RangeOf.{pieces}

@@ -1,15 +1,11 @@
 -- The greatest timestamps that an actor knows of. Hybrid logical clocks, SIGMOD 2020 paper, section 4.
-use Rattle.std.specs.Prelude.{ℕ, max, Option, None, Some, List, [], fold}
+use Rattle.std.specs.Prelude.{ℕ, max, Option, None, Some, List, []}
 use Rattle.pc_base.specs.declared.entry.Entry.{Entry}
 use Rattle.pc_proto.specs.declared.answer.Answer.{Answer}
 use Rattle.pc_proto.specs.declared.answer.Answer.TheVariants as answers
 use Rattle.pc_proto.specs.declared.event.Event.{Event}
 use Rattle.pc_proto.specs.declared.event.Event.TheVariants as events
-use Rattle.pc_proto.specs.Stamps.{event_stamps}
-
--- The greatest of these timestamps, 0 where there is none.
-abbrev pub greatest_of : List ℕ → ℕ
-greatest_of stamps = fold (λ most ts. max most ts) 0 stamps
+use Rattle.pc_proto.specs.Stamps.{event_stamps, greatest_of}
 
 -- The timestamps in an entry that is named, if there is one.
 abbrev pub named_stamps : Option (Entry Event) → List ℕ

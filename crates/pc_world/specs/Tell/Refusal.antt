@@ -2,21 +2,24 @@
 -- and commits must be known to have come to nothing. Own profile.
 use Rattle.std.specs.Prelude.{◌≡◌, ◌≢◌, ℕ, zero, suc, ◌≤◌, nat_lt, Bool, false, ◌&&◌, ◌==◌, not, ◌⊎◌, Some, List, [], ◌∷◌, Any, Contains, IsTrue, reverse, ⊤}
 use Rattle.std.specs.List.{list_any}
+use Rattle.pc_base.specs.declared.limits.TheConstants.{MOST_CONFLICTS, MOST_REFUSALS}
 use Rattle.pc_base.specs.declared.transaction.TxnId.{TxnId}
 use Rattle.pc_proto.specs.declared.call.Call.{Call}
 use Rattle.pc_proto.specs.declared.call.Call.TheVariants as calls
 use Rattle.pc_proto.specs.declared.reply.Reply.{Reply}
 use Rattle.pc_proto.specs.declared.request.Request.{Request}
 use Rattle.pc_proto.specs.declared.request.Request.TheVariants as requests
+use Rattle.pc_proto.specs.Replies.{is_conflict, is_conflict_with, is_undecided_status, status_ts}
+use Rattle.pc_proto.specs.Requests.{is_put_of}
 use Rattle.pc_world.specs.Counting.{AtLeast, LastIs}
 use Rattle.pc_world.specs.Known.{Known, open_txn}
 use Rattle.pc_world.specs.Known.Statements.{Statement}
 use Rattle.pc_world.specs.Known.Traffic.{Heard, Sent}
-use Rattle.pc_world.specs.Known.Transactions.{Txn, status_ts}
+use Rattle.pc_world.specs.Known.Transactions.{Txn}
 use Rattle.pc_world.specs.Known.Writes.{Write, is_proved}
 use Rattle.pc_world.specs.SameRequest.{IsSameMessage, IsSameRequest}
-use Rattle.pc_world.specs.Send.Recovery.{is_conflict, is_conflict_with, is_put_of, was_refused}
-use Rattle.pc_world.specs.StageFate.{IsDead, IsUncommitted, SomeCommit, SomeStage, WasCommitRefused, is_undecided_status}
+use Rattle.pc_world.specs.Send.Recovery.{was_refused}
+use Rattle.pc_world.specs.StageFate.{IsDead, IsUncommitted, SomeCommit, SomeStage, WasCommitRefused}
 use Rattle.pc_world.specs.Tell.Data.{was_sent_now}
 
 -- In a commit, the open transaction's stages are dead and its commits refused.
@@ -44,7 +47,7 @@ pub record IsConflictOf (request : Request) (h : Heard) : Type 0 where
 -- One request met intents eight times, the last time of this holder.
 pub record MetEight (holder : TxnId) (heard_now : List Heard) : Type 0 where
   pub request : Request
-  pub eight : AtLeast (IsConflictOf request) 8 heard_now
+  pub eight : AtLeast (IsConflictOf request) MOST_CONFLICTS heard_now
   pub last : LastIs (IsConflictOf request) (λ h. IsTrue (is_conflict_with holder h.reply)) heard_now
 
 -- The call may be told that this holder blocks it.
@@ -119,6 +122,6 @@ pub record MayTellMoved (k : Known) (s : Statement) (ts : ℕ) : Type 0 where
   pub t : Txn
   pub opened : open_txn k ≡ Some t
   pub asked : s.call ≡ calls.Commit
-  pub eight : AtLeast (WasMoved k) 8 k.heard_now
+  pub eight : AtLeast (WasMoved k) MOST_REFUSALS k.heard_now
   pub last : LastIs (WasMoved k) (λ h. status_ts h.reply ≡ ts) k.heard_now
   pub uncommitted : IsUncommitted t.id k.sent k.heard

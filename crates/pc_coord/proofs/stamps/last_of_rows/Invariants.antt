@@ -1,6 +1,5 @@
 use Rattle.std.proofs.Common.{◌≡◌, take}
-use Rattle.pc_proto.specs.Stamps.{row_stamps}
-use Rattle.pc_world.specs.Known.Clock.{greatest_of}
+use Rattle.pc_proto.specs.Stamps.{greatest_of, row_stamps}
 use Rattle.pc_coord.proofs.stamps.last_of_rows.Given as goal
 
 abbrev pub invariant-loop-row : goal.invariant-loop-row
