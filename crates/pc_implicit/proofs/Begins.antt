@@ -117,7 +117,7 @@ module _ (head : Head) where
       let own : IsAbove history row.t.id ts = elim row.decided [
         | inl decides ↦ record { begin = row.t.begin; begun = agrees.begin; low = decides.good.begun }
         | inr heard ↦
-            let d = heard_decided head history run only actor row.t.id ts heard in
+            let d = heard_decided head history run actor row.t.id ts heard in
             elim (why_committed head history run only row.t.id ts (decided_is_committed head history row.t.id ts d)) [
               | ByRecord other sent ↦ above-sent history _ row.t.id ts all sent
               | ByTell none told ↦ absurd (let both : None ≡ Some d.anchor = sym none ∙ d.anchored in cc)

@@ -191,7 +191,7 @@ committed-view ts None h = absurd cc
 committed-view ts (Some (views.Committed epoch at locks)) h = (epoch, locks, ap (λ t. Some (views.Committed epoch t locks)) (eqb-true at ts h))
 committed-view ts (Some view) h = absurd cc
 
-module _ (head : Head) (history : List (Entry Event)) (run : IsRun head history) (only : NothingIsStaged history) where
+module _ (head : Head) (history : List (Entry Event)) (run : IsRun head history) where
   answered-commit : (actor : ActorId) (number : ℕ) (request : Request) (reply : Reply) (id : TxnId) (epoch ts : ℕ) (locks : List (List ℕ)) → WasAnswered head history actor number request reply
       → subject request ≡ Some id → view_in reply ≡ Some (views.Committed epoch ts locks) → IsDecided head history id ts
   answered-commit actor number request reply id epoch ts locks w about told =
@@ -217,6 +217,7 @@ module _ (head : Head) (history : List (Entry Event)) (run : IsRun head history)
       let w = each_contained (IsSo head history actor) (known_at head actor history).heard h (heard_is_so head history run actor) (n, inside, at) in
       shown_decided actor h.number h.request h.reply id ts w (subject-is id (subject h.request) parts.0) parts.1
 
+module _ (head : Head) (history : List (Entry Event)) (run : IsRun head history) (only : NothingIsStaged history) where
   -- nobody heard of a staging record
   pub none_staging : (actor : ActorId) (id : TxnId) (epoch ts : ℕ) → Any (λ h. IsTrue (shows_staging id epoch ts h)) (known_at head actor history).heard → ⊥
   none_staging actor id epoch ts (n, h, inside, at, shows) =
@@ -254,7 +255,7 @@ module _ (head : Head) (history : List (Entry Event)) (run : IsRun head history)
               ap (λ i. begun_at i history) row.whose ∙ agrees.0.begin ∙ ap Some (sym unwritten.at_begin),
             )
         | inr other ↦ elim other [
-          | inl heard ↦ inl (heard_decided actor id ts (subst (λ i. WasCommitted k.heard i ts) (sym row.whose) heard))
+          | inl heard ↦ inl (heard_decided head history run actor id ts (subst (λ i. WasCommitted k.heard i ts) (sym row.whose) heard))
           | inr implicit ↦ absurd (none_staging actor row.t.id row.t.epoch ts implicit.staging)
         ]
       ]

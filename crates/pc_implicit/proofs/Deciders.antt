@@ -198,7 +198,7 @@ module _ (head : Head) (front : List (Entry Event)) (e : Entry Event) (back : Li
     not-heard actor t named why = elim why [
       | inl decides ↦ decides
       | inr heard ↦
-          let is = decided_is_committed head before t.id ts (heard_decided head before run-sent only-sent actor t.id ts heard) in
+          let is = decided_is_committed head before t.id ts (heard_decided head before run-sent actor t.id ts heard) in
           absurd (not-earlier before (m.a ∷ later) whole ts (subst (λ i. IsCommitted head before i ts) named is))
     ]
 
@@ -368,7 +368,7 @@ module _ (head : Head) (front : List (Entry Event)) (e : Entry Event) (back : Li
       | inl unwritten ↦ unwritten
       | inr other ↦ elim other [
         | inl heard ↦
-            let d = heard_decided head front run-front only-front actor t.id ts heard in
+            let d = heard_decided head front run-front actor t.id ts heard in
             absurd (let both : None ≡ Some d.anchor = sym no-anchor ∙ ap (λ i. anchor_in i front) (sym named) ∙ d.anchored in cc both)
         | inr implicit ↦ absurd (none_staging head front run-front only-front actor t.id t.epoch ts implicit.staging)
       ]

@@ -61,6 +61,7 @@ pub mod SettledNow
 pub mod SettledOn
 pub mod SettledVersions
 pub mod Shown
+pub mod StageWords
 pub mod Staged
 pub mod Turns
 pub mod VersionSearches

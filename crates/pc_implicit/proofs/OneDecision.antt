@@ -82,7 +82,7 @@ module _ (head : Head) (before : List (Entry Event)) (e : Entry Event) (run : Is
       let whole = run_push head before e run may in
       let w = answer_shows head before e what.0 what.1 a.reply whole may what.2 asked.0 in
       let about : subject asked.0.request ≡ Some id = subst (λ r. subject r ≡ Some id) asked.1 (commits-what id a.request a.kind) in
-      decided_is_committed head (before ++ e ∷ []) id ts (shown_decided head (before ++ e ∷ []) whole only what.0 what.1 asked.0.request a.reply id ts w about a.shown)
+      decided_is_committed head (before ++ e ∷ []) id ts (shown_decided head (before ++ e ∷ []) whole what.0 what.1 asked.0.request a.reply id ts w about a.shown)
 
   -- nothing is recovered
   none-recovered : (id : TxnId) (ts : ℕ) → AnswersCommitted head before ts (Recovers id) e → ⊥

@@ -81,7 +81,7 @@ module _ (head : Head) (history : List (Entry Event)) (run : IsRun head history)
   of-more whole range v o =
       let before = settled head history run only v.id o.epoch v.ts o.decided in
       let on = has_more head history e (actors.Session v.id.session) v.id (o.t, o.known, o.whose) in
-      let g = goes_on head history run only e may v.id o.epoch v.ts o.decided before on.0 on.1 on.2 in
+      let g = goes_on head history run e may v.id o.epoch v.ts o.decided before on.0 on.1 on.2 in
       let numbered = (agreed head history run (actors.Session v.id.session)).numbered in
       let same : g.0 ≡ o.t = one_txn (actors.Session v.id.session) _ (known_at head (actors.Session v.id.session) history).txns g.0 o.t numbered g.1 o.known (g.2 ∙ sym o.whose) in
       record {
@@ -127,7 +127,7 @@ module _ (head : Head) (history : List (Entry Event)) (run : IsRun head history)
       of-txn there decided s t known same =
           let own : Contains (txns_of head t.id history) t = subst (λ i. Contains (txns_of head i history) t) (sym same) known in
           let epoch : m.i.meta.epoch ≡ t.epoch = m.epoch_is ∙ sym (s.epochs t known same) in
-          let among = (own_hold head history run only t own v.key).among m.i (own-is there t same) in
+          let among = (own_hold head history run t own v.key).among m.i (own-is there t same) in
           let some = among.some epoch in
           let inside : Contains (writes_at v.key t.writes) some.0 = each_contained (λ x. Contains (writes_at v.key t.writes) x) m.i.history some.0 (among.each epoch) some.1 in
           let l = last-of (writes_at v.key t.writes) some.0 inside in
@@ -141,7 +141,7 @@ module _ (head : Head) (history : List (Entry Event)) (run : IsRun head history)
             | inr intent ↦
                 let one : intent.0 ≡ m.i = let both : Some intent.0 ≡ Some m.i = sym intent.1 ∙ own-is there t same in cc both in
                 let whole : m.i.history ≡ l.0 ++ w ∷ [] = ap (λ (i : Intent). i.history) (sym one) ∙ intent.2.whole ∙ l.2 in
-                let rise : RiseAt 0 (writes_at v.key t.writes) = rise_at v.key 0 t.writes (orderly head history run only (actors.Session t.id.session) t own).rise in
+                let rise : RiseAt 0 (writes_at v.key t.writes) = rise_at v.key 0 t.writes (orderly head history run (actors.Session t.id.session) t own).rise in
                 record {
                   epoch = m.epoch;
                   decided = decided;

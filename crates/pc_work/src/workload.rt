@@ -14,7 +14,8 @@ use crate::session::Sessions;
 use crate::splits::splits_or_none;
 use crate::turn::{Turn, Turns};
 use pc_base::limits::{
-    DEFAULT_ENTRIES, DEFAULT_RERUNS, DEFAULT_TRIES, MOST_RERUNS, MOST_SESSIONS, MOST_STATEMENTS, MOST_TURNS,
+    DEFAULT_ENTRIES, DEFAULT_RERUNS, DEFAULT_TRIES, MOST_RERUNS, MOST_SESSIONS, MOST_STATEMENTS,
+    MOST_TURNS,
 };
 use pc_proto::Keys;
 use serde_json::Value as Json;
