@@ -29,7 +29,7 @@ use Rattle.pc_coord.specs.declared.messages.Progress.TheVariants as progresses
 use Rattle.pc_coord.specs.Events.{HearsAwaited}
 use Rattle.pc_coord.specs.Knows.{Knows}
 use Rattle.pc_coord.specs.Knows.Held.{IsOpenAs}
-use Rattle.pc_coord.specs.Knows.Reading.{AreDifferent, AreReadsOf, IsReadAt, IsUnheard, StandsAs, StandsWith, WasReplied, holders_met}
+use Rattle.pc_coord.specs.Knows.Reading.{AreDifferent, AreReadsOf, IsReadAt, IsUnheard, StandsAs, StandsWith, WasRepliedNow, holders_met}
 use Rattle.pc_coord.specs.Messages.{change_first, due_of_reads, met_or_heard, progress_waits, replied_as, waits_at}
 use Rattle.pc_coord.specs.Rounds.{IsPaced, shows_resolve, was_met, was_pushed}
 use Rattle.pc_history.specs.declared.pair.Pair.{Pair}
@@ -99,9 +99,9 @@ module _ (c : Coordination) (k : Known) (ms : List Message) (p : Proceeds c k ms
       met = at_least-one_more (IsConflictOf m.request) m.conflicts k.heard_now h stands_m.met (record { same = inl refl; conflict = ap is_conflict e });
     }
     new_by r e =
-        let now : WasReplied kh m.request r h = record { sent_now = unheard_m.sent_now; asked = refl; told = e; tells = is_read.tells r refl (subst (MayAnswer m.request) e may) } in
+        let now : WasRepliedNow kh m.request r h = record { sent_now = unheard_m.sent_now; asked = refl; told = e; tells = is_read.tells r refl (subst (MayAnswer m.request) e may) } in
         record {
-          as_far = any_last (WasReplied kh m.request r) k.heard_now h now;
+          as_far = any_last (WasRepliedNow kh m.request r) k.heard_now h now;
           met = conflicts-kept k kh [] (h ∷ []) (sym (append-nil k.sent_now)) refl m.request m.conflicts stands_m.met;
         }
 

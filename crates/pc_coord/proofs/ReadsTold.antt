@@ -19,7 +19,7 @@ use Rattle.pc_coord.specs.declared.messages.Progress.{Progress}
 use Rattle.pc_coord.specs.declared.messages.Progress.TheVariants as progresses
 use Rattle.pc_coord.specs.declared.transaction.Transaction.{Transaction}
 use Rattle.pc_coord.specs.Knows.{Knows}
-use Rattle.pc_coord.specs.Knows.Reading.{AreReadsOf, IsReadAt, StandsAs, StandsWith, Tells, WasReplied}
+use Rattle.pc_coord.specs.Knows.Reading.{AreReadsOf, IsReadAt, StandsAs, StandsWith, Tells, WasRepliedNow}
 use Rattle.pc_coord.specs.Messages.{answer_of, are_rows_heard, blocked_by, due_by, due_of_reads, due_unless, first_met, has_reply, has_rows, is_met, progress_heard, rows_heard, rows_told, value_first}
 use Rattle.pc_coord.specs.Transaction.{get_of, scan_of}
 use Rattle.pc_proto.specs.declared.answer.Answer.TheVariants as answers
@@ -92,11 +92,11 @@ module _ (c : Coordination) (k : Known) (w : IsInRead c k) (asked : List Request
 any_as : (P Q : Heard → Type 0) (heard : List Heard) → ((h : Heard) → P h → Q h) → Any P heard → Any Q heard
 any_as P Q heard on (i, h, low, is, p) = (i, h, low, is, on h p)
 
-value_of_reply : (k : Known) (x : Transaction) (key : List ℕ) (origin : Origin) (value : Option (List ℕ)) (h : Heard) → WasReplied k (get_of x key) (replies.Value origin value) h → IsTrue (was_sent_now k h) × IsValueOf value h.request h.reply
+value_of_reply : (k : Known) (x : Transaction) (key : List ℕ) (origin : Origin) (value : Option (List ℕ)) (h : Heard) → WasRepliedNow k (get_of x key) (replies.Value origin value) h → IsTrue (was_sent_now k h) × IsValueOf value h.request h.reply
 value_of_reply k x key origin value h was =
     (was.sent_now, subst (λ r. IsValueOf value r h.reply) (sym was.asked) (subst (λ y. IsValueOf value (get_of x key) y) (sym was.told) refl))
 
-rows_of_reply : (k : Known) (x : Transaction) (request : Request) (span : Span) (rows : List (List ℕ × Origin × List ℕ)) (h : Heard) → request ≡ scan_of x span → WasReplied k request (replies.Rows rows) h
+rows_of_reply : (k : Known) (x : Transaction) (request : Request) (span : Span) (rows : List (List ℕ × Origin × List ℕ)) (h : Heard) → request ≡ scan_of x span → WasRepliedNow k request (replies.Rows rows) h
     → IsTrue (was_sent_now k h) × AreRowsOf span rows h.request h.reply
 rows_of_reply k x request span rows h is was =
     (was.sent_now, subst (λ r. AreRowsOf span rows r h.reply) (sym (was.asked ∙ is)) (subst (λ y. AreRowsOf span rows (scan_of x span) y) (sym was.told) (refl, refl)))
@@ -104,10 +104,10 @@ rows_of_reply k x request span rows h is was =
 piece_rows : (k : Known) (t : Txn) (x : Transaction) (request : Request) (span : Span) (p : Progress) → request ≡ scan_of x span → are_rows_heard p ≡ true → StandsAs k t request p
     → Any (λ h. IsTrue (was_sent_now k h) × AreRowsOf span (rows_heard p) h.request h.reply) k.heard_now
 piece_rows k t x request span (progresses.Heard (replies.Rows rows)) is some s =
-    any_as (WasReplied k request (replies.Rows rows)) (λ h. IsTrue (was_sent_now k h) × AreRowsOf span rows h.request h.reply) k.heard_now (λ h. rows_of_reply k x request span rows h is) s
+    any_as (WasRepliedNow k request (replies.Rows rows)) (λ h. IsTrue (was_sent_now k h) × AreRowsOf span rows h.request h.reply) k.heard_now (λ h. rows_of_reply k x request span rows h is) s
 piece_rows k t x request span p is some s = absurd cc
 
-tells_of : (k : Known) (request : Request) (reply : Reply) → Any (WasReplied k request reply) k.heard_now → Tells request reply
+tells_of : (k : Known) (request : Request) (reply : Reply) → Any (WasRepliedNow k request reply) k.heard_now → Tells request reply
 tells_of k request reply (i, h, low, is, was) = was.tells
 
 -- a scan that was heard has rows
@@ -182,7 +182,7 @@ module _ (c : Coordination) (k : Known) where
         key = key;
         asked = is;
         heard =
-            any_as (WasReplied k (get_of x key) (replies.Value origin value)) (λ h. IsTrue (was_sent_now k h) × IsValueOf value h.request h.reply) k.heard_now
+            any_as (WasRepliedNow k (get_of x key) (replies.Value origin value)) (λ h. IsTrue (was_sent_now k h) × IsValueOf value h.request h.reply) k.heard_now
             (value_of_reply k x key origin value) first.as_far;
       })
   get_on x key conflicts (progresses.Heard reply) p is heard =

@@ -10,7 +10,7 @@ use Rattle.pc_coord.proofs.Same.{same_txn-self}
 use Rattle.pc_coord.specs.declared.messages.Message.{Message}
 use Rattle.pc_coord.specs.declared.messages.Progress.{Progress}
 use Rattle.pc_coord.specs.declared.messages.Progress.TheVariants as progresses
-use Rattle.pc_coord.specs.Knows.Reading.{HasMet, IsUnheard, IsUnsentNow, StandsAs, StandsWith, WasReplied}
+use Rattle.pc_coord.specs.Knows.Reading.{HasMet, IsUnheard, IsUnsentNow, StandsAs, StandsWith, WasRepliedNow}
 use Rattle.pc_coord.specs.Messages.{holder_met, one_more}
 use Rattle.pc_proto.specs.declared.fate.Goal.{Goal}
 use Rattle.pc_proto.specs.declared.meta.TxnMeta.{TxnMeta}
@@ -126,11 +126,11 @@ module _ (k k2 : Known) (sent_more : List Sent) (more : List Heard) (sent_now : 
       last = All-append (IsOther request) m.later more m.last others;
     }
 
-    replied-kept : (reply : Reply) → Any (WasReplied k request reply) k.heard_now → Any (WasReplied k2 request reply) k2.heard_now
+    replied-kept : (reply : Reply) → Any (WasRepliedNow k request reply) k.heard_now → Any (WasRepliedNow k2 request reply) k2.heard_now
     replied-kept reply (i, h, low, is, was) =
         let sent : list_any (λ m. m.number == h.number) k2.sent_now ≡ true = ap (list_any (λ m. m.number == h.number)) sent_now ∙ any_true_kept (λ m. m.number == h.number) k.sent_now sent_more was.sent_now in
-        let now : WasReplied k2 request reply h = record { sent_now = sent; asked = was.asked; told = was.told; tells = was.tells } in
-        subst (λ hs. Any (WasReplied k2 request reply) hs) (sym heard_now) (any_kept (WasReplied k2 request reply) k.heard_now more (i, h, low, is, now))
+        let now : WasRepliedNow k2 request reply h = record { sent_now = sent; asked = was.asked; told = was.told; tells = was.tells } in
+        subst (λ hs. Any (WasRepliedNow k2 request reply) hs) (sym heard_now) (any_kept (WasRepliedNow k2 request reply) k.heard_now more (i, h, low, is, now))
 
     -- the request is as far as before, where it is not waited for
     pub stands_as-kept : All (IsOtherSent request) sent_more → (t : Txn) (p : Progress) → ((number : ℕ) → p ≡ progresses.Sent number → IsUnheard k number request → IsUnheard k2 number request) → StandsAs k t request p → StandsAs k2 t request p

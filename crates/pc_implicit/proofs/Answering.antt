@@ -32,7 +32,7 @@ use Rattle.pc_proto.specs.Place.{Place, Nothing, Kept, Marked, Change, Stay, aft
 use Rattle.pc_proto.specs.RecordRows.{answer, push_reply, unless_decided}
 use Rattle.pc_proto.specs.RecordRows.Abort.{abort}
 use Rattle.pc_proto.specs.RecordRows.Commit.{commit}
-use Rattle.pc_proto.specs.RecordRows.Push.{Verdict, There, Refuse, Doubt, Do, is_staged, is_there, on_verdict, push, push_verdict, pushed, wins}
+use Rattle.pc_proto.specs.RecordRows.Push.{Verdict, There, Refuse, Doubt, Do, is_staged, on_verdict, push, push_verdict, pushed, reaches_goal, wins}
 use Rattle.pc_proto.specs.RecordRows.Reached.{is_reached}
 use Rattle.pc_proto.specs.Table.{place_of}
 use Rattle.pc_proto.specs.Views.{is_final_view}
@@ -131,7 +131,7 @@ decided-there Nothing h = absurd cc
 decided-there (Kept r) h = tt
 decided-there (Marked s) h = tt
 
-moved-there : (goal : Goal) (p : Place) → is_there goal p ≡ true → IsThere p
+moved-there : (goal : Goal) (p : Place) → reaches_goal goal p ≡ true → IsThere p
 moved-there goals.Abort Nothing h = absurd cc
 moved-there (goals.Move target) Nothing h = absurd cc
 moved-there goal (Kept r) h = tt
@@ -189,7 +189,7 @@ module _ (history : List (Entry Event)) (range : ℕ) (id : TxnId) where
     abbrev verdict_by : Bool → Bool → Bool → Verdict
     verdict_by there won staged = if there then There else if won then (if staged then Doubt else Do) else Refuse
 
-    verdict-kind : (there won staged : Bool) → is_there goal p ≡ there → is_staged p ≡ staged
+    verdict-kind : (there won staged : Bool) → reaches_goal goal p ≡ there → is_staged p ≡ staged
         → IsPushReply (push_reply (verdict_by there won staged) p (after p (on_verdict (verdict_by there won staged) (pushed holder by goal p))))
     verdict-kind true won staged is_it is = there-view p h (moved-there goal p is_it)
     verdict-kind false false staged is_it is = tt
@@ -201,7 +201,7 @@ module _ (history : List (Entry Event)) (range : ℕ) (id : TxnId) where
       where
         when : (b : Bool) → is_decided p ≡ b → IsPushReply (if b then replies.Status (view_of p) else push_reply (push_verdict holder level now goal p) p (after p (push holder by level now goal p)))
         when true decided = there-view p h (decided-there p decided)
-        when false more = verdict-kind (is_there goal p) (wins holder level now p) (is_staged p) refl refl
+        when false more = verdict-kind (reaches_goal goal p) (wins holder level now p) (is_staged p) refl refl
 
 -- ---- each request
 

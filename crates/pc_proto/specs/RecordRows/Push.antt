@@ -25,11 +25,11 @@ abbrev pub wins : TxnMeta → Priority → ℕ → Place → Bool
 wins holder level now p = nat_lt (level_rank holder.priority) (level_rank level) || nat_lt EXPIRY (now - activity_of p holder.born)
 
 -- The record stands at the target or above it.
-abbrev pub is_there : Goal → Place → Bool
-is_there (goals.Move target) (Kept r) = nat_le target r.status.ts
-is_there (goals.Move target) Nothing = false
-is_there (goals.Move target) (Marked s) = false
-is_there goals.Abort p = false
+abbrev pub reaches_goal : Goal → Place → Bool
+reaches_goal (goals.Move target) (Kept r) = nat_le target r.status.ts
+reaches_goal (goals.Move target) Nothing = false
+reaches_goal (goals.Move target) (Marked s) = false
+reaches_goal goals.Abort p = false
 
 -- The holder has a staging record.
 abbrev pub is_staged : Place → Bool
@@ -47,7 +47,7 @@ pub data Verdict : Type 0 where
 -- What this push comes to.
 abbrev pub push_verdict : TxnMeta → Priority → ℕ → Goal → Place → Verdict
 push_verdict holder level now goal p =
-    if is_there goal p then There
+    if reaches_goal goal p then There
     else if wins holder level now p then (if is_staged p then Doubt else Do)
     else Refuse
 
