@@ -64,7 +64,12 @@ class Text:
         return True
 
     def read_antt(self):
+        in_module = False
         for number, line in enumerate(self.path.read_text(encoding="utf-8").splitlines(), 1):
+            if line.strip() and not line[0].isspace():
+                in_module = line.startswith("module ")
+            elif in_module and line.startswith("  "):
+                line = line[2:]
             line = without_comment(line)
             if not line.strip() or self.read_import(line):
                 continue

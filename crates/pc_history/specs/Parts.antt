@@ -85,12 +85,12 @@ module _ {E : Type 0} (S : Sense E) where
   named_by part event = named_in S (knowledge part) event
 
   -- The event is local in the actor's own list.
-  abbrev pub IsLocal : Part E → E → Type 0
-  IsLocal part event = S.local part.id part.own event (named_by part event)
+  abbrev pub IsLocalFor : Part E → E → Type 0
+  IsLocalFor part event = S.local part.id part.own event (named_by part event)
 
   -- What the actor stored or knows causes the event.
-  abbrev pub IsCaused : Part E → E → Type 0
-  IsCaused part event = S.caused (knowledge part) event part.id
+  abbrev pub IsCausedFor : Part E → E → Type 0
+  IsCausedFor part event = S.caused (knowledge part) event part.id
 
   -- The actor has a use of the entry that the event names, if the event spends one.
   abbrev pub CanSpend : Part E → E → Type 0

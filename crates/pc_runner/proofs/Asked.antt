@@ -34,7 +34,7 @@ use Rattle.pc_runner.specs.Follows.Script.{Position, next_call}
 use Rattle.pc_runner.specs.History.{History, known_by}
 use Rattle.pc_runner.specs.Journal.{HasGrown}
 use Rattle.pc_runner.specs.Keeping.{AreDelivered, KeepsSoFar, open_calls}
-use Rattle.pc_runner.specs.Suiting.{Fits}
+use Rattle.pc_runner.specs.Suiting.{FitsCalls}
 use Rattle.pc_runner.specs.Traffic.{HasHeard}
 
 -- Between its calls, the session by the parts of its runner.
@@ -46,7 +46,7 @@ pub record Rests (work : Workload) (number : ℕ) (session : SessionWork) (at : 
   pub delivered : AreDelivered number sends h
   pub idle : c.due ≡ dues.Nothing
   pub handed : c.job ≡ None
-  pub fits : Fits at c.txn
+  pub fits : FitsCalls at c.txn
 
 pub rests_of : (r : SessionRun) (h : History) → IsFollowing r h → Rests r.work.now r.number r.session.now r.script r.clock r.jobs.items r.coordinator r.sends h
 rests_of r h f =
@@ -59,7 +59,7 @@ following_of r h none f =
 pub closed : (c : Coordination) (k : Known) → Knows c k → c.due ≡ dues.Nothing → k.statement ≡ None
 closed c k knows idle = (subst (KnowsAt c k) idle knows.stands).none_open
 
-module _ (number : ℕ) (at : Position) (c : Coordination) (sends : ℕ) (h : History) (call : Call) (stands : StandsBy number c sends h) (idle : c.due ≡ dues.Nothing) (fits : Fits at c.txn) (next : next_call at ≡ Some call) where
+module _ (number : ℕ) (at : Position) (c : Coordination) (sends : ℕ) (h : History) (call : Call) (stands : StandsBy number c sends h) (idle : c.due ≡ dues.Nothing) (fits : FitsCalls at c.txn) (next : next_call at ≡ Some call) where
   abbrev k : Known
   k = known_by number h
 

@@ -24,7 +24,7 @@ use Rattle.pc_runner.specs.Following.{HasJobs, IsLeft, StandsBy}
 use Rattle.pc_runner.specs.Follows.Script.{Position, opened}
 use Rattle.pc_runner.specs.History.{History, IsSoundHistory}
 use Rattle.pc_runner.specs.Keeping.{AreDelivered, IsClockOf, IsStatedBy, KeepsSoFar}
-use Rattle.pc_runner.specs.Suiting.{Fits}
+use Rattle.pc_runner.specs.Suiting.{FitsCalls}
 use Rattle.pc_runner.specs.Traffic.{HasHeard}
 
 -- The history before the first entry.
@@ -94,8 +94,8 @@ begun_heard = record { sent = omega arith; numbers = All-nil _; numbers_now = Al
 pub begun_delivered : (work : Workload) (number : ℕ) → AreDelivered number 0 (fresh work)
 begun_delivered work number = record { once = λ sent from to. absurd (omega arith); never = λ sent above. refl }
 
-pub begun_fits : (work : Workload) (number : ℕ) (session : SessionWork) (c : Coordination) (at : Position) → IsStatedBy work number session → Knows c nothing_known → at ≡ opened session.script work.reruns → Fits at c.txn
+pub begun_fits : (work : Workload) (number : ℕ) (session : SessionWork) (c : Coordination) (at : Position) → IsStatedBy work number session → Knows c nothing_known → at ≡ opened session.script work.reruns → FitsCalls at c.txn
 begun_fits work number session c at stated knows start =
-    subst (λ (p : Position). Fits p c.txn) (sym start)
-    (subst (λ (txn : Option Transaction). Fits (opened session.script work.reruns) txn) (sym (new_closed c knows))
+    subst (λ (p : Position). FitsCalls p c.txn) (sym start)
+    (subst (λ (txn : Option Transaction). FitsCalls (opened session.script work.reruns) txn) (sym (new_closed c knows))
     (opened_fits session.script work.reruns (built_items work (number - 1) session stated.built stated.listed)))

@@ -42,7 +42,7 @@ use Rattle.pc_runner.specs.History.{History, known_by, own_by}
 use Rattle.pc_runner.specs.Keeping.{IsClockOf, IsStatedBy}
 use Rattle.pc_runner.specs.Parts.{IsInside, TakesPart}
 use Rattle.pc_runner.specs.Settling.{IsAtJob, IsSettling, messages_of, with_left}
-use Rattle.pc_runner.specs.Suiting.{Fits}
+use Rattle.pc_runner.specs.Suiting.{FitsCalls}
 
 module _ (r : SessionRun) (h : History) (job : Job) (at : IsAtJob r h job) where
   -- The session before the job was taken.
@@ -231,8 +231,8 @@ module _ (r : SessionRun) (h : History) (job : Job) (at : IsAtJob r h job) (m : 
         idle = ap (λ (c : Coordination). c.due) clock ∙ idle_r;
         handed = ap (λ (c : Coordination). c.job) clock ∙ handed_r;
         outbox = ap (λ (s : SessionRun). s.outbox.items) only_jobs ∙ at.follows.outbox;
-        fits = subst (λ (c : Coordination). Fits new.script c.txn) (sym clock) (subst (λ (s : SessionRun). Fits s.script r.coordinator.txn) (sym only_jobs)
-            (subst (λ (c : Coordination). Fits at.old.script c.txn) (sym same_coordinator) at.follows.fits));
+        fits = subst (λ (c : Coordination). FitsCalls new.script c.txn) (sym clock) (subst (λ (s : SessionRun). FitsCalls s.script r.coordinator.txn) (sym only_jobs)
+            (subst (λ (c : Coordination). FitsCalls at.old.script c.txn) (sym same_coordinator) at.follows.fits));
       }
 
   -- and the part is its oldest job

@@ -16,7 +16,7 @@ use Rattle.pc_runner.specs.declared.session.SessionRun.{SessionRun}
 use Rattle.pc_runner.specs.Follows.Script.{Position, next_call}
 use Rattle.pc_runner.specs.History.{History, IsSoundHistory, known_by}
 use Rattle.pc_runner.specs.Keeping.{AreDelivered, KeepsSoFar}
-use Rattle.pc_runner.specs.Suiting.{Fits, IsCourse}
+use Rattle.pc_runner.specs.Suiting.{FitsCalls, IsCourse}
 use Rattle.pc_runner.specs.Traffic.{AreAnsweredFrom, ArePostedFrom, AwaitsAllBetween, HasHeard, IsPosted, IsReplied}
 
 -- The history is sound; the session is one of it, its coordinator knows what it knows, and its messages are counted.
@@ -50,7 +50,7 @@ pub record IsFollowing (r : SessionRun) (h : History) : Type 0 where
   pub idle : r.coordinator.due ≡ dues.Nothing
   pub handed : r.coordinator.job ≡ None
   pub outbox : r.outbox.items ≡ []
-  pub fits : Fits r.script r.coordinator.txn
+  pub fits : FitsCalls r.script r.coordinator.txn
 
 -- The call that comes next in the script is open since this reading, a begin or a learn where no transaction is; each later item is of
 -- the form that is built.

@@ -23,8 +23,8 @@ use Rattle.pc_work.specs.Texts.{key_of}
 use Rattle.pc_work.specs.Session.{session_names, session_of}
 use Rattle.pc_work.specs.Splits.{rises, splits_of}
 use Rattle.pc_work.specs.Turn.{is_turn_there, turn_of}
-use Rattle.pc_work.specs.Workload.{is_within_limits, first_items, are_sessions, are_turns, workload_names, workload_of}
-use Rattle.pc_work.specs.Built.{IsReadStatement, IsWriteStatement, IsBuiltItem, IsBuiltSession, IsTurnOf, AreTurnsOf, RisesBehind, IsBuilt}
+use Rattle.pc_work.specs.Workload.{are_stated_turns, is_within_limits, first_items, are_sessions, workload_names, workload_of}
+use Rattle.pc_work.specs.Built.{IsReadStatement, IsWriteStatement, IsBuiltItem, IsBuiltSession, IsTurnOf, AreTurnsOf, IsBuilt}
 use Rattle.pc_work.specs.declared.item.Item.TheVariants.{Txn}
 use Rattle.pc_work.specs.declared.session.SessionWork.{SessionWork}
 use Rattle.pc_work.specs.declared.statement.Statement.{Statement}
@@ -129,15 +129,12 @@ session_is_built value =
     only_known (All IsBuiltItem) IsBuiltSession (list_by item_of found) _ (list_only IsBuiltItem item_of item_is_built found) (λ script items.
     only_some IsBuiltSession (record { script = script; clock = Some clock }) (record { clock = refl; items = items }))))))
 
-rises_behind : (key : List ℕ) (keys : List (List ℕ)) → rises (key ∷ keys) ≡ true → RisesBehind key keys
-rises_behind key [] e = tt
-rises_behind key (next ∷ others) e =
-    let both = and_parts (key_below key next) (rises (next ∷ others)) e in
-    (both.0, rises_behind next others both.1)
-
 rises_by : (keys : List (List ℕ)) → rises keys ≡ true → AreRising keys
 rises_by [] e = tt
-rises_by (key ∷ keys) e = rises_behind key keys e
+rises_by (key ∷ []) e = tt
+rises_by (key ∷ next ∷ others) e =
+    let both = and_parts (key_below key next) (rises (next ∷ others)) e in
+    (both.0, rises_by (next ∷ others) both.1)
 
 -- The splits rise, and are no more than the limit.
 record AreSplits (splits : List (List ℕ)) : Type 0 where
@@ -167,7 +164,7 @@ turn_is_there sessions (Job n) e =
     (leb-true 1 n both.0, leb-true n sessions both.1)
 turn_is_there sessions (Recoverer n) e = absurd (false≢true e)
 
-turns_are_there : (sessions : List SessionWork) (turns : List Turn) → are_turns sessions turns ≡ true → AreTurnsOf (length sessions) turns
+turns_are_there : (sessions : List SessionWork) (turns : List Turn) → are_stated_turns sessions turns ≡ true → AreTurnsOf (length sessions) turns
 turns_are_there sessions turns e =
     let both = and_parts (nat_le (length turns) MOST_TURNS) (list_all (is_turn_there (length sessions)) turns) e in
     record {
@@ -181,8 +178,8 @@ made splits reruns opening turns sessions = record { version = 1; pipelining = f
 made_is_built : (version : ℕ) (pipelining : Bool) (splits : List (List ℕ)) (reruns opening : ℕ) (turns : List Turn) (sessions : List SessionWork) → is_within_limits version pipelining opening sessions turns ≡ true
     → AreSplits splits → reruns ≤ MOST_RERUNS → All IsBuiltSession sessions → IsBuilt (made splits reruns opening turns sessions)
 made_is_built version pipelining splits reruns opening turns sessions e cut few each =
-    let all_but_opening = and_parts (version == 1 && not pipelining && are_sessions sessions && are_turns sessions turns) (nat_le opening (first_items sessions)) e in
-    let all_but_turns = and_parts (version == 1 && not pipelining && are_sessions sessions) (are_turns sessions turns) all_but_opening.0 in
+    let all_but_opening = and_parts (version == 1 && not pipelining && are_sessions sessions && are_stated_turns sessions turns) (nat_le opening (first_items sessions)) e in
+    let all_but_turns = and_parts (version == 1 && not pipelining && are_sessions sessions) (are_stated_turns sessions turns) all_but_opening.0 in
     let all_but_sessions = and_parts (version == 1 && not pipelining) (are_sessions sessions) all_but_turns.0 in
     let counted = and_parts (nat_le 1 (length sessions) && nat_le (length sessions) MOST_SESSIONS) (nat_le (sum_by session_count sessions) MOST_STATEMENTS) all_but_sessions.1 in
     let bounded = and_parts (nat_le 1 (length sessions)) (nat_le (length sessions) MOST_SESSIONS) counted.0 in

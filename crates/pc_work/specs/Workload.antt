@@ -34,13 +34,13 @@ are_sessions sessions =
     nat_le 1 (length sessions) && nat_le (length sessions) MOST_SESSIONS && nat_le (sum_by session_count sessions) MOST_STATEMENTS
 
 -- No more turns than the limit, and each is that of one that is there.
-abbrev pub are_turns : List SessionWork → List Turn → Bool
-are_turns sessions turns = nat_le (length turns) MOST_TURNS && list_all (is_turn_there (length sessions)) turns
+abbrev pub are_stated_turns : List SessionWork → List Turn → Bool
+are_stated_turns sessions turns = nat_le (length turns) MOST_TURNS && list_all (is_turn_there (length sessions)) turns
 
 -- Version 1 without pipelining, and sessions, turns and an opening within their limits.
 abbrev pub is_within_limits : ℕ → Bool → ℕ → List SessionWork → List Turn → Bool
 is_within_limits version pipelining opening sessions turns =
-    version == 1 && not pipelining && are_sessions sessions && are_turns sessions turns && nat_le opening (first_items sessions)
+    version == 1 && not pipelining && are_sessions sessions && are_stated_turns sessions turns && nat_le opening (first_items sessions)
 
 -- The workload that a JSON value states: what is absent is at its default.
 unfoldable pub workload_of : Data → Option Workload

@@ -5,7 +5,7 @@ ghost use Rattle.pc_work.specs.Reading.{Gives};
 ghost use Rattle.pc_work.specs.Built.{IsBuilt};
 ghost use Rattle.pc_work.specs.Members.{has_only, member_or, whole_of, whole_up_to};
 ghost use Rattle.pc_work.specs.Turn.{is_turn_there};
-ghost use Rattle.pc_work.specs.Workload.{is_within_limits, workload_names, first_items, are_sessions, are_turns, workload_of, IsJson, workload_in, UnlessMemory};
+ghost use Rattle.pc_work.specs.Workload.{are_stated_turns, is_within_limits, workload_names, first_items, are_sessions, workload_of, IsJson, workload_in, UnlessMemory};
 
 use crate::count::Counted;
 use crate::fault::{Misfit, WorkFault};
@@ -176,7 +176,7 @@ fn are_sessions(sessions: &Sessions) -> bool
 }
 
 fn are_turns(sessions: &Sessions, turns: &Turns) -> bool
-    ensures { result ≡ are_turns sessions.now turns.now }
+    ensures { result ≡ are_stated_turns sessions.now turns.now }
 {
     turns.len() <= MOST_TURNS && are_there(turns.as_slice(), sessions.len())
 }
