@@ -1,7 +1,7 @@
 #!/usr/bin/env python3
 """The names of all definitions in specs/ and proofs/, with their places, and what is wrong with them.
 
-    tools/spec_names.py               checks the names of specs/; status 1 where something is wrong, a line for each fault
+    tools/spec_names.py [--check]     checks the names of specs/; status 1 where something is wrong, a line for each fault
     tools/spec_names.py --list        lists the name, kind and place of each definition
     tools/spec_names.py --uncited F.. of these lemma files (all of proofs/ where none is given), the lemmas that nobody cites
 
@@ -201,7 +201,7 @@ def main(arguments):
             for definition in text.definitions:
                 print(f"{definition.name}\t{definition.kind}\t{definition.place()}")
         return 0
-    if arguments:
+    if arguments not in ([], ["--check"]):
         print(__doc__)
         return 2
     return check([d for text in all_texts if text.module.split(".")[1] == "specs" for d in text.definitions])
