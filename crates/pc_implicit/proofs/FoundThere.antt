@@ -10,13 +10,11 @@ use Rattle.pc_base.specs.declared.entry.Entry.{Entry}
 use Rattle.pc_base.specs.declared.transaction.TxnId.{TxnId}
 use Rattle.pc_base.specs.declared.transaction.Who.{Who}
 use Rattle.pc_base.specs.Transaction.{same_txn}
-use Rattle.pc_implicit.proofs.Anchored.{each_contained}
 use Rattle.pc_implicit.proofs.Doing.{Does}
 use Rattle.pc_implicit.proofs.EvaluatedAt.{answered_at, sent_at}
 use Rattle.pc_implicit.proofs.Hearing.{WasSentBy, sent_is_so}
 use Rattle.pc_implicit.proofs.HeardViews.{so_of}
 use Rattle.pc_implicit.proofs.Homes.{home_is}
-use Rattle.pc_implicit.proofs.Keyed.{same-is}
 use Rattle.pc_implicit.proofs.Metas.{subject_anchored}
 use Rattle.pc_implicit.proofs.Presence.{staged_along}
 use Rattle.pc_implicit.proofs.RepliedAt.{replied_at}
@@ -28,6 +26,8 @@ use Rattle.pc_implicit.proofs.Views.{reply-view}
 use Rattle.pc_implicit.specs.Replied.{QueryFound}
 use Rattle.pc_implicit.specs.Stages.{IsOpenTo, IsThere, WasStaged, WasThere}
 use Rattle.pc_implicit.specs.Writes.{home_of}
+use Rattle.pc_lists.proofs.Each.{each-contains}
+use Rattle.pc_lists.proofs.Same.{same_txn-is}
 use Rattle.pc_proto.specs.declared.event.Event.{Event}
 use Rattle.pc_proto.specs.declared.event.Event.TheVariants as events
 use Rattle.pc_proto.specs.declared.record.Record.{Record}
@@ -79,7 +79,7 @@ view_stages (Marked s) epoch ts writes final is = absurd (by s.standing (final s
     by (standings.Aborted why) f is = absurd cc
 
 pub push_about : (id : TxnId) (request : Request) → is_push_of id request ≡ true → subject request ≡ Some id
-push_about id (requests.Push holder by level now goal) h = ap Some (same-is holder.id id h)
+push_about id (requests.Push holder by level now goal) h = ap Some (same_txn-is holder.id id h)
 push_about id request h = absurd cc
 
 module _ (head : Head) (history : List (Entry Event)) (run : IsRun head history) where
@@ -134,7 +134,7 @@ module _ (head : Head) (history : List (Entry Event)) (run : IsRun head history)
       let rest = and_parts (at == ts) (lists_write key seq writes) parts.1 in
       let x : SentStage = record { meta = meta; ts = at; now = now; writes = writes; locks = locks } in
       let sent : WasStaged history x = record { send = a; listed = there; number = number; range = range; sends = sends } in
-      (x, sent, same-is meta.id id own.0, eqb-true meta.epoch epoch own.1, eqb-true at ts rest.0)
+      (x, sent, same_txn-is meta.id id own.0, eqb-true meta.epoch epoch own.1, eqb-true at ts rest.0)
   staged-own id epoch ts seq key number range request a there sends is = absurd cc
 
   -- who may query a write has seen its transaction stage there, or staged there itself
@@ -150,7 +150,7 @@ module _ (head : Head) (history : List (Entry Event)) (run : IsRun head history)
       from-own staged =
           let any = Any-from_list_any (λ (m : Sent). is_stage_of id epoch ts key seq m.request) (known_at head actor history).sent staged in
           let m = any.1 in
-          let w = each_contained (WasSentBy head history actor) (known_at head actor history).sent m (sent_is_so head history run actor) (any.0, any.2, any.3) in
+          let w = each-contains (WasSentBy head history actor) (known_at head actor history).sent m (sent_is_so head history run actor) (any.0, any.2, any.3) in
           staged-own id epoch ts seq key m.number m.range m.request w.send w.listed w.sends any.4
 
 module _ (head : Head) (history : List (Entry Event)) (run : IsRun head history) where

@@ -7,6 +7,7 @@ use Rattle.pc_base.specs.declared.actor.ActorId.{ActorId}
 use Rattle.pc_base.specs.declared.memory.NoMemory.{NoMemory}
 use Rattle.pc_base.specs.declared.transaction.TxnId.{TxnId}
 use Rattle.pc_base.specs.Transaction.{same_txn}
+use Rattle.pc_lists.proofs.Anywhere.{any_weaker}
 use Rattle.pc_proto.specs.declared.fate.Fate.{Fate}
 use Rattle.pc_proto.specs.declared.fate.Fate.TheVariants as fates
 use Rattle.pc_proto.specs.declared.fate.Goal.{Goal}
@@ -27,7 +28,6 @@ use Rattle.pc_push.specs.declared.progress.Progress.{Progress}
 use Rattle.pc_push.specs.declared.progress.Progress.TheVariants as progress
 use Rattle.pc_push.specs.PushKnows.{Asks, AsksAt, HasMetStaging, MayPush, MaySettle, PushKnows, RoundMayCome, StandsAt}
 use Rattle.pc_push.specs.Pushing.{Pushing, holder_resolve, progress_after_push, progress_after_recovery, push_of, resolve_or, round_after, round_due, round_heard, round_next, with_progress}
-use Rattle.pc_world.proofs.Anywhere.{any_weaker}
 use Rattle.pc_world.proofs.Exchange.{answered, heard_earlier, heard_ever, later-later}
 use Rattle.pc_world.specs.declared.machine.MachineNext.{MachineNext}
 use Rattle.pc_world.specs.Exchange.{HeardSince, IsExchange, IsLater, IsPossibleReply, WasAnswered}
