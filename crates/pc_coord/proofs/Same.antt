@@ -7,12 +7,6 @@ use Rattle.pc_base.specs.declared.transaction.TxnId.{TxnId}
 use Rattle.pc_base.specs.Span.{same_key}
 use Rattle.pc_base.specs.Transaction.{same_txn}
 
-pub same_txn-self : (id : TxnId) → same_txn id id ≡ true
-same_txn-self id = and_from (id.session == id.session) (id.number == id.number) (eq-eqb id.session id.session refl) (eq-eqb id.number id.number refl)
-
-pub same_key-self : (key : List ℕ) → same_key key key ≡ true
-same_key-self key = ap is_eq (tied_itself nat_list_cmp_total key)
-
 pub same_epoch-self : (id : TxnId) (epoch : ℕ) → (same_txn id id && (epoch == epoch)) ≡ true
 same_epoch-self id epoch = and_from (same_txn id id) (epoch == epoch) (same_txn-self id) (eq-eqb epoch epoch refl)
 

@@ -5,16 +5,16 @@ use Rattle.std.proofs.lemmas.List.{append_assoc}
 use Rattle.std.proofs.lemmas.List.Elements.{All-contains, Contains-append_left, Contains-push, Contains-push_cases}
 use Rattle.pc_base.specs.declared.actor.ActorId.{ActorId}
 use Rattle.pc_base.specs.declared.entry.Entry.{Entry}
-use Rattle.pc_history.proofs.Lists.{contains_nil}
-use Rattle.pc_implicit.proofs.Anchored.{each_contained}
 use Rattle.pc_implicit.proofs.Doing.{same_or_not}
 use Rattle.pc_implicit.proofs.EvaluatedAt.{goes_to}
 use Rattle.pc_implicit.proofs.Hearing.{IsSo, heard_is_so}
-use Rattle.pc_implicit.proofs.Keyed.{same-itself}
 use Rattle.pc_implicit.proofs.Lift.{over}
 use Rattle.pc_implicit.proofs.Runs.{kept-status}
 use Rattle.pc_implicit.proofs.Views.{Stands, places_go_on}
 use Rattle.pc_implicit.specs.Decided.{decision, epoch_of, time_of}
+use Rattle.pc_lists.proofs.Each.{each-contains}
+use Rattle.pc_lists.proofs.Lists.{contains_nil}
+use Rattle.pc_lists.proofs.Same.{same_txn-self}
 use Rattle.pc_proto.specs.declared.event.Event.{Event}
 use Rattle.pc_proto.specs.declared.event.Event.TheVariants as events
 use Rattle.pc_proto.specs.declared.meta.TxnMeta.{TxnMeta}
@@ -135,5 +135,5 @@ module _ (head : Head) where
         let m : Sent = record { number = number; range = range; request = requests.Commit meta ts locks } in
         let sent : Contains k.sent m = sent_known front run-before a there number range (requests.Commit meta ts locks) sends in
         let on : OnCommit meta.id (WasCommitRefused k.heard) (requests.Commit meta ts locks) = All-contains (λ (x : Sent). OnCommit meta.id (WasCommitRefused k.heard) x.request) k.sent m uncommitted.commits sent in
-        let (n, h, inside, at, r) = on (same-itself meta.id) in
-        answered-settled a.actor h (each_contained (IsSo head front a.actor) k.heard h (heard_is_so head front run-before a.actor) (n, inside, at)) r.asked r.unsettled
+        let (n, h, inside, at, r) = on (same_txn-self meta.id) in
+        answered-settled a.actor h (each-contains (IsSo head front a.actor) k.heard h (heard_is_so head front run-before a.actor) (n, inside, at)) r.asked r.unsettled

@@ -10,7 +10,7 @@ use Rattle.pc_base.specs.declared.transaction.TxnId.{TxnId}
 use Rattle.pc_base.specs.declared.version.Version.{Version}
 use Rattle.pc_history.specs.History.{MayFollow}
 use Rattle.pc_implicit.proofs.Agreed.{IsNew}
-use Rattle.pc_implicit.proofs.Anchored.{commit_anchored, each_contained}
+use Rattle.pc_implicit.proofs.Anchored.{commit_anchored}
 use Rattle.pc_implicit.proofs.CommitPoint.{status_same}
 use Rattle.pc_implicit.proofs.Doing.{same_or_not}
 use Rattle.pc_implicit.proofs.Evals.{NamedMessage, of_entry, range_evaluates}
@@ -26,6 +26,7 @@ use Rattle.pc_implicit.proofs.VersionSteps.{makes_version, version_stays}
 use Rattle.pc_implicit.proofs.WriteLists.{Laid, RiseAt, alike_at, each_low, rise_at, rise_value, written_at}
 use Rattle.pc_implicit.specs.Decided.{decision, epoch_of, time_of}
 use Rattle.pc_implicit.specs.Writes.{IsWholeBy, LastWriteStands, home_of, own_intent, place_under, txns_of, writes_at}
+use Rattle.pc_lists.proofs.Each.{each-contains}
 use Rattle.pc_proto.specs.declared.event.Event.{Event}
 use Rattle.pc_proto.specs.declared.event.Event.TheVariants as events
 use Rattle.pc_proto.specs.declared.fate.Fate.{Fate}
@@ -104,7 +105,7 @@ module _ (head : Head) (history : List (Entry Event)) (run : IsRun head history)
       let past : last_seq i < seq0 = free.1 equal in
       let w = put.written (sym equal ∙ same) in
       let laid : Contains i.history (w.0.seq, w.0.value) = subst (λ l. Contains l (w.0.seq, w.0.value)) (sym whole) (written_at key t.writes w.0 w.1 w.3) in
-      let below : w.0.seq ≤ last_seq i = each_contained (λ (x : Laid). x.0 ≤ last_seq i) i.history (w.0.seq, w.0.value) (each_low i.history) laid in
+      let below : w.0.seq ≤ last_seq i = each-contains (λ (x : Laid). x.0 ≤ last_seq i) i.history (w.0.seq, w.0.value) (each_low i.history) laid in
       let seq : w.0.seq ≡ seq0 = w.2 in
       omega (arith, past, below, seq)
 

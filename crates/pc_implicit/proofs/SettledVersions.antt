@@ -6,10 +6,8 @@ use Rattle.pc_base.specs.declared.actor.ActorId.{ActorId}
 use Rattle.pc_base.specs.declared.actor.ActorId.TheVariants as actors
 use Rattle.pc_base.specs.declared.entry.Entry.{Entry}
 use Rattle.pc_base.specs.declared.version.Version.{Version}
-use Rattle.pc_history.proofs.Lists.{contains_head, contains_nil}
 use Rattle.pc_history.specs.History.{MayFollow}
 use Rattle.pc_implicit.proofs.Agreed.{agreed}
-use Rattle.pc_implicit.proofs.Anchored.{each_contained}
 use Rattle.pc_implicit.proofs.Doing.{same_or_not}
 use Rattle.pc_implicit.proofs.Evals.{NamedMessage, of_entry, range_evaluates}
 use Rattle.pc_implicit.proofs.Fates.{fates_are_so}
@@ -29,6 +27,8 @@ use Rattle.pc_implicit.proofs.VersionSteps.{IsMade, version_cases}
 use Rattle.pc_implicit.proofs.WriteLists.{Laid, RiseAt, rise_at, rise_value}
 use Rattle.pc_implicit.specs.Decided.{decision}
 use Rattle.pc_implicit.specs.Writes.{IsOfCommitted, home_of, own_intent, txns_of, writes_at}
+use Rattle.pc_lists.proofs.Each.{each-contains}
+use Rattle.pc_lists.proofs.Lists.{contains_head, contains_nil}
 use Rattle.pc_proto.specs.declared.event.Event.{Event}
 use Rattle.pc_proto.specs.declared.event.Event.TheVariants as events
 use Rattle.pc_proto.specs.declared.fate.Fate.TheVariants as fates
@@ -129,7 +129,7 @@ module _ (head : Head) (history : List (Entry Event)) (run : IsRun head history)
           let epoch : m.i.meta.epoch ≡ t.epoch = m.epoch_is ∙ sym (s.epochs t known same) in
           let among = (own_hold head history run t own v.key).among m.i (own-is there t same) in
           let some = among.some epoch in
-          let inside : Contains (writes_at v.key t.writes) some.0 = each_contained (λ x. Contains (writes_at v.key t.writes) x) m.i.history some.0 (among.each epoch) some.1 in
+          let inside : Contains (writes_at v.key t.writes) some.0 = each-contains (λ x. Contains (writes_at v.key t.writes) x) m.i.history some.0 (among.each epoch) some.1 in
           let l = last-of (writes_at v.key t.writes) some.0 inside in
           let w = l.1 in
           let low = m.low in

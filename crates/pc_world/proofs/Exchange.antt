@@ -6,12 +6,12 @@ use Rattle.std.specs.List.{AllByRecursion as Each}
 use Rattle.std.specs.Option.{option_to_list}
 use Rattle.pc_base.specs.declared.entry.Entry.{Entry}
 use Rattle.pc_history.specs.declared.pair.Pair.{Pair}
+use Rattle.pc_lists.proofs.Anywhere.{any_behind, any_kept, any_last}
 use Rattle.pc_proto.specs.declared.event.Event.{Event}
 use Rattle.pc_proto.specs.declared.event.Event.TheVariants as events
 use Rattle.pc_proto.specs.declared.reply.Reply.{Reply}
 use Rattle.pc_proto.specs.declared.request.Request.{Request}
 use Rattle.pc_proto.specs.Stamps.{event_stamps, greatest_of, reply_stamps}
-use Rattle.pc_world.proofs.Anywhere.{any_behind, any_kept, any_last}
 use Rattle.pc_world.specs.Exchange.{HeardSince, HearsReply, IsExchange, IsLater, WasAnswered, is_message, known_from}
 use Rattle.pc_world.specs.Known.{Known, known_after, learn}
 use Rattle.pc_world.specs.Known.Clock.{high_after, top_after}

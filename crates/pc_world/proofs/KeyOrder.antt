@@ -25,10 +25,6 @@ not-greater orderings.Greater = refl
 pub at_most-is : (one other : List ℕ) → key_at_most one other ≡ not (key_below other one)
 at_most-is one other = not-greater (slice_cmp nat_cmp one other) ∙ ap not (sym (above one other))
 
--- no key is below itself
-pub not-below-itself : (key : List ℕ) → key_below key key ≡ false
-not-below-itself key = ap is_lt (tied_itself nat_list_cmp_total key)
-
 less-only : (o : Ordering) → is_lt o ≡ true → is_gt o ≡ false
 less-only orderings.Less h = refl
 less-only orderings.Equal h = absurd cc
