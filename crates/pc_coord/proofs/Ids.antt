@@ -7,6 +7,7 @@ use Rattle.pc_base.specs.declared.transaction.TxnId.{TxnId}
 use Rattle.pc_base.specs.Transaction.{same_txn}
 use Rattle.pc_coord.specs.Knows.Held.{IsOwnHeard, IsOwnSent, IsOwnWrite, IsPendingOf, PutsUpTo}
 use Rattle.pc_lists.proofs.Anywhere.{any_kept}
+use Rattle.pc_lists.proofs.Same.{same_txn-is}
 use Rattle.pc_proto.specs.declared.request.Request.{Request}
 use Rattle.pc_proto.specs.declared.request.Request.TheVariants as requests
 use Rattle.pc_proto.specs.Requests.{is_about, is_put_of, subject}

@@ -3,7 +3,7 @@ use Rattle.std.proofs.Common.{◌≡◌, ℕ, ◌+◌, ◌≤◌, Bool, true, fa
 use Rattle.pc_base.specs.declared.transaction.TxnId.{TxnId}
 use Rattle.pc_base.specs.Transaction.{same_txn}
 use Rattle.pc_coord.specs.Rounds.{IsPaced, shows_resolve, was_met, was_pushed}
-use Rattle.pc_lists.proofs.Counts.{count-append, count-cons, one_if}
+use Rattle.pc_lists.proofs.Counts.{count-cons, count-push, one_if}
 use Rattle.pc_proto.specs.declared.meta.TxnMeta.{TxnMeta}
 use Rattle.pc_proto.specs.declared.reply.Reply.TheVariants as replies
 use Rattle.pc_world.specs.Known.{Known}

@@ -1,11 +1,9 @@
 -- A transaction and a key are the same as themselves.
-use Rattle.std.proofs.Common.{◌≡◌, ℕ, Bool, true, false, cond, ◌&&◌, ◌==◌, List, refl, ap}
+use Rattle.std.proofs.Common.{◌≡◌, ℕ, Bool, true, false, cond, ◌&&◌, ◌==◌, refl, ap}
 use Rattle.std.proofs.lemmas.Bool.{eq-eqb, and_from}
-use Rattle.std.proofs.lemmas.Cmp.{nat_list_cmp_total, tied_itself}
-use Rattle.std.specs.Ordering.{is_eq}
 use Rattle.pc_base.specs.declared.transaction.TxnId.{TxnId}
-use Rattle.pc_base.specs.Span.{same_key}
 use Rattle.pc_base.specs.Transaction.{same_txn}
+use Rattle.pc_lists.proofs.Same.{same_txn-self}
 
 pub same_epoch-self : (id : TxnId) (epoch : ℕ) → (same_txn id id && (epoch == epoch)) ≡ true
 same_epoch-self id epoch = and_from (same_txn id id) (epoch == epoch) (same_txn-self id) (eq-eqb epoch epoch refl)

@@ -1,7 +1,6 @@
 -- In a run each put and commit is sent by its transaction's session, with its transaction's anchor.
 use Rattle.std.proofs.Common.{◌≡◌, ℕ, ◌+◌, if◌then◌else◌, List, [], ◌∷◌, ◌++◌, Option, None, Some, unwrap_or, Contains, inl, inr, refl, sym, ap, subst, ◌∙◌}
-use Rattle.std.proofs.lemmas.List.Elements.{All-contains, All-from_recursion, Contains-push_cases}
-use Rattle.std.specs.List.{AllByRecursion as Each}
+use Rattle.std.proofs.lemmas.List.Elements.{Contains-push_cases}
 use Rattle.std.specs.Option.{option_or}
 use Rattle.std.specs.Prelude.{⊤}
 use Rattle.pc_base.specs.declared.actor.ActorId.{ActorId}
@@ -12,6 +11,7 @@ use Rattle.pc_history.specs.Own.{named_in, own}
 use Rattle.pc_implicit.proofs.Agreed.{Agrees, Knows, agreed, open_there, owned, says_own}
 use Rattle.pc_implicit.proofs.Doing.{Does, does}
 use Rattle.pc_implicit.proofs.Firsts.{first_push}
+use Rattle.pc_lists.proofs.Each.{each-contains}
 use Rattle.pc_lists.proofs.Lists.{contains_nil}
 use Rattle.pc_lists.proofs.Same.{same_txn-self}
 use Rattle.pc_proto.specs.declared.event.Event.{Event}

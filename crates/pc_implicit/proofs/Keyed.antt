@@ -1,8 +1,9 @@
 -- What stands under a key after a value was put under one, or under one nothing stands any more.
-use Rattle.std.proofs.Common.{◌≡◌, true, false, List, [], ◌∷◌, None, Some, refl, arith}
+use Rattle.std.proofs.Common.{◌≡◌, false, List, [], ◌∷◌, None, Some, refl, arith}
 use Rattle.pc_base.specs.declared.transaction.TxnId.{TxnId}
 use Rattle.pc_base.specs.Keyed.{at, set_at, without}
 use Rattle.pc_base.specs.Transaction.{same_txn}
+use Rattle.pc_lists.proofs.Same.{same_txn-is, same_txn-self}
 
 module _ {V : Type 0} where
   pub at_set_at : (id : TxnId) (value : V) (entries : List (TxnId × V)) → at same_txn id (set_at same_txn id value entries) ≡ Some value

@@ -1,12 +1,7 @@
 -- Each proof of a write that a session knows is the answer of its key's range: to a put of the write, or to a query of it.
 use Rattle.std.proofs.Common.{◌≡◌, ℕ, Bool, true, false, cond, ◌&&◌, ◌==◌, if◌then◌else◌, inl, inr, List, [], ◌∷◌, ◌++◌, map, Option, None, Some, IfSome, Contains, IsTrue, refl, sym, subst}
 use Rattle.std.proofs.lemmas.Bool.{and_parts, eqb-true}
-use Rattle.std.proofs.lemmas.Map.Lookups.{exact_bytes}
-use Rattle.std.specs.Cmp.Lexicographic.{slice_cmp}
-use Rattle.std.specs.declared.cmp.Ordering.{Ordering}
-use Rattle.std.specs.declared.cmp.Ordering.TheVariants as orderings
 use Rattle.std.specs.List.{AllByRecursion as Each, list_any}
-use Rattle.std.specs.Ordering.{is_eq, nat_cmp}
 use Rattle.pc_base.specs.declared.actor.ActorId.{ActorId}
 use Rattle.pc_base.specs.declared.entry.Entry.{Entry}
 use Rattle.pc_base.specs.declared.transaction.TxnId.{TxnId}
@@ -20,7 +15,7 @@ use Rattle.pc_implicit.proofs.SessionReads.{ByPut, ByQuery, WasEvaluated, WasPro
 use Rattle.pc_implicit.proofs.Shown.{WasAnswered}
 use Rattle.pc_lists.proofs.Each.{each-append, each-contains, each-map, each-weaker}
 use Rattle.pc_lists.proofs.Lists.{contains_head}
-use Rattle.pc_lists.proofs.Same.{same_txn-is}
+use Rattle.pc_lists.proofs.Same.{same_key-is, same_txn-is}
 use Rattle.pc_proto.specs.declared.answer.Answer.{Answer}
 use Rattle.pc_proto.specs.declared.answer.Answer.TheVariants as answers
 use Rattle.pc_proto.specs.declared.event.Event.{Event}

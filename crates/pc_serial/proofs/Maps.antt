@@ -1,6 +1,6 @@
 -- Look-ups in entries that rise by key: where an entry was put in or taken away, in a part of them, and that they tell all.
 use Rattle.std.proofs.Common.{◌≡◌, ℕ, Bool, true, false, cond, List, [], ◌∷◌, ◌++◌, map, filter, Option, None, Some, refl, sym, ap, subst, ◌∙◌, arith}
-use Rattle.std.proofs.lemmas.Cmp.{nat_list_cmp_total, tied_itself}
+use Rattle.std.proofs.lemmas.Cmp.{nat_list_cmp_total}
 use Rattle.std.proofs.lemmas.Map.Lookups.{exact_bytes}
 use Rattle.std.specs.BTreeMap.{insert_entry}
 use Rattle.std.specs.Cmp.Lexicographic.{slice_cmp}
@@ -12,6 +12,7 @@ use Rattle.std.specs.Ordering.{is_eq, match_ordering, nat_cmp, ordering_reverse}
 use Rattle.pc_base.specs.Keyed.{at, without}
 use Rattle.pc_base.specs.Span.{same_key}
 use Rattle.pc_lists.proofs.Each.{each-append, each-filter, each-unmap, each-weaker}
+use Rattle.pc_lists.proofs.Same.{same_key-is, same_key-self}
 use Rattle.pc_serial.proofs.InOrder.{Rises}
 
 turned : (o : Ordering) → is_eq (ordering_reverse o) ≡ is_eq o
