@@ -1,5 +1,5 @@
 -- The form of a workload that is read, as a fact about the workload itself: what runs a workload may rest on it.
-use Rattle.std.specs.Prelude.{◌≡◌, ◌≤◌, ℕ, false, List, [], ◌∷◌, length, sum_by, IsSome, IsSomeAnd, All, ◌⊎◌, ⊤}
+use Rattle.std.specs.Prelude.{◌≡◌, ◌≤◌, ℕ, false, List, length, sum_by, IsSome, IsSomeAnd, All, ◌⊎◌, ⊤}
 use Rattle.pc_base.specs.declared.limits.TheConstants.{DEFAULT_ENTRIES, DEFAULT_TRIES, MOST_RERUNS, MOST_SESSIONS, MOST_SPLITS, MOST_STATEMENTS, MOST_TURNS}
 use Rattle.pc_base.specs.Rising.{AreRising}
 use Rattle.pc_work.specs.Count.{session_count}

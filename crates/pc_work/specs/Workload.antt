@@ -5,11 +5,11 @@ use Rattle.std.specs.List.{list_all}
 use Rattle.serde_json.specs.Data.{Data}
 use Rattle.serde_json.specs.Find.{get, as_bool}
 use Rattle.serde_json.specs.Read.{read}
-use Rattle.pc_base.specs.declared.limits.TheConstants.{DEFAULT_ENTRIES, DEFAULT_RERUNS, DEFAULT_TRIES, MOST_RERUNS, MOST_SESSIONS, MOST_TURNS}
+use Rattle.pc_base.specs.declared.limits.TheConstants.{DEFAULT_ENTRIES, DEFAULT_RERUNS, DEFAULT_TRIES, MOST_RERUNS, MOST_SESSIONS, MOST_STATEMENTS, MOST_TURNS}
 use Rattle.pc_work.specs.Reading.{◌>>=◌}
 use Rattle.pc_work.specs.Members.{has_only, whole_of, whole_up_to, whole_in, member_or}
 use Rattle.pc_work.specs.Lists.{list_by}
-use Rattle.pc_work.specs.Count.{session_count, MOST_STATEMENTS}
+use Rattle.pc_work.specs.Count.{session_count}
 use Rattle.pc_work.specs.Session.{session_of}
 use Rattle.pc_work.specs.Splits.{splits_of}
 use Rattle.pc_work.specs.Turn.{is_turn_there, turn_of}
