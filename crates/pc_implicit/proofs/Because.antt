@@ -10,7 +10,6 @@ use Rattle.pc_implicit.proofs.Homes.{home_is}
 use Rattle.pc_implicit.proofs.StagedAs.{staged_as}
 use Rattle.pc_implicit.proofs.StageWords.{ByDecision, ByStaging, ByTelling, CommitsBy, IsBecause, StagesAs}
 use Rattle.pc_implicit.specs.Decided.{decision}
-use Rattle.pc_implicit.specs.Stages.{IsThere}
 use Rattle.pc_implicit.specs.Writes.{home_of}
 use Rattle.pc_lists.proofs.Lists.{all_from_contains}
 use Rattle.pc_proto.specs.declared.event.Event.{Event}

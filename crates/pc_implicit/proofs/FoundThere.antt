@@ -1,5 +1,5 @@
 -- A transaction that was heard to stage had sent that stage; and what a query found of an open stage was present since the stage was sent.
-use Rattle.std.proofs.Common.{◌≡◌, ℕ, Bool, true, false, ◌&&◌, ◌==◌, if◌then◌else◌, ◌⊎◌, inl, inr, List, [], ◌∷◌, ◌++◌, Option, None, Some, Contains, refl, sym, ap, subst, ◌∙◌}
+use Rattle.std.proofs.Common.{◌≡◌, ℕ, Bool, true, false, ◌&&◌, ◌==◌, if◌then◌else◌, ◌⊎◌, inl, inr, List, [], ◌∷◌, ◌++◌, Some, Contains, refl, sym, ap, subst, ◌∙◌}
 use Rattle.std.proofs.lemmas.Bool.{and_parts, eqb-true}
 use Rattle.std.proofs.lemmas.List.{append_assoc}
 use Rattle.std.proofs.lemmas.List.Elements.{Contains-append_left}
@@ -20,11 +20,11 @@ use Rattle.pc_implicit.proofs.Presence.{staged_along}
 use Rattle.pc_implicit.proofs.RepliedAt.{replied_at}
 use Rattle.pc_implicit.proofs.Shown.{WasAnswered}
 use Rattle.pc_implicit.proofs.StagedAs.{marks_final, staged_as}
-use Rattle.pc_implicit.proofs.StagesRefuted.{listed_there, one_staged}
+use Rattle.pc_implicit.proofs.StagesRefuted.{one_staged}
 use Rattle.pc_implicit.proofs.StageWords.{WasStagedAs}
 use Rattle.pc_implicit.proofs.Views.{reply-view}
 use Rattle.pc_implicit.specs.Replied.{QueryFound}
-use Rattle.pc_implicit.specs.Stages.{IsOpenTo, IsThere, WasStaged, WasThere}
+use Rattle.pc_implicit.specs.Stages.{IsOpenTo, WasStaged, WasThere}
 use Rattle.pc_implicit.specs.Writes.{home_of}
 use Rattle.pc_lists.proofs.Each.{each-contains}
 use Rattle.pc_lists.proofs.Same.{same_txn-is}
@@ -37,7 +37,6 @@ use Rattle.pc_proto.specs.declared.reply.Reply.{Reply}
 use Rattle.pc_proto.specs.declared.reply.Reply.TheVariants as replies
 use Rattle.pc_proto.specs.declared.request.Request.{Request}
 use Rattle.pc_proto.specs.declared.request.Request.TheVariants as requests
-use Rattle.pc_proto.specs.declared.view.View.{View}
 use Rattle.pc_proto.specs.declared.view.View.TheVariants as views
 use Rattle.pc_proto.specs.Place.{Place, Nothing, Kept, Marked, is_final, status_view, view_of}
 use Rattle.pc_proto.specs.Replies.{view_in}
@@ -48,14 +47,13 @@ use Rattle.pc_world.specs.After.{known_at, place_at, state_at}
 use Rattle.pc_world.specs.Evaluation.{state_after}
 use Rattle.pc_world.specs.Evaluation.{reply as reply_of}
 use Rattle.pc_world.specs.Evaluation.Query.{write_stands}
-use Rattle.pc_world.specs.Known.Traffic.{Heard, Sent}
+use Rattle.pc_world.specs.Known.Traffic.{Sent}
 use Rattle.pc_world.specs.Known.Transactions.{has_staged, is_stage_of, lists_write}
 use Rattle.pc_world.specs.Local.{Head}
-use Rattle.pc_world.specs.RangeOf.{range_of}
 use Rattle.pc_world.specs.RangeState.{RangeState}
 use Rattle.pc_world.specs.Run.{IsRun}
 use Rattle.pc_world.specs.Send.Recovery.{MaySendQuery, WasStaging}
-use Rattle.pc_world.specs.StageFate.{SentStage, stage_request}
+use Rattle.pc_world.specs.StageFate.{SentStage}
 
 -- a staging view is that of a record which stages so
 pub view_stages : (p : Place) (epoch ts : ℕ) (writes : List (List ℕ × ℕ)) → ((s : _) → p ≡ Marked s → is_final s.standing ≡ true) → view_of p ≡ views.Staging epoch ts writes

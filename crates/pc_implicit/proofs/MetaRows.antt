@@ -12,7 +12,7 @@ use Rattle.pc_base.specs.declared.transaction.Who.{Who}
 use Rattle.pc_base.specs.Keyed.{at, in_order}
 use Rattle.pc_base.specs.Span.{contains, key_below, same_key}
 use Rattle.pc_base.specs.Transaction.{same_txn, txn_cmp}
-use Rattle.pc_lists.proofs.Each.{each-at, each-choose, each-filter, each-without}
+use Rattle.pc_lists.proofs.Each.{each-at, each-choose, each-filter, each-insert, each-without}
 use Rattle.pc_proto.specs.declared.fate.Fate.{Fate}
 use Rattle.pc_proto.specs.declared.fate.Fate.TheVariants as fates
 use Rattle.pc_proto.specs.declared.fate.Finding.{Finding}
@@ -42,7 +42,6 @@ use Rattle.pc_proto.specs.RecordRows.Remove.{remove}
 use Rattle.pc_proto.specs.RecordRows.Stage.{stage}
 use Rattle.pc_proto.specs.Requests.{subject}
 use Rattle.pc_proto.specs.Table.{Table, place_of, record_or_mark, records_after}
-use Rattle.pc_world.proofs.Each.{each-insert}
 use Rattle.pc_world.specs.Evaluation.{intents_after, reply, state_after}
 use Rattle.pc_world.specs.Evaluation.Get.{found_at, get_blocker, get_reply}
 use Rattle.pc_world.specs.Evaluation.IntentChange.{IntentChange, Leave, Lay, Drop, intents_with}
