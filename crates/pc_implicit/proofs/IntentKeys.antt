@@ -1,5 +1,6 @@
 -- Entries by their keys: what is so of each, and of each two, after a value was put under a key, or nothing stands under it any more.
 use Rattle.std.proofs.Common.{◌≡◌, ◌≢◌, ℕ, suc, Bool, true, false, cond, not, List, [], ◌∷◌, find, Some, refl, sym, ap, subst, ◌∙◌, All, arith}
+use Rattle.std.proofs.lemmas.Cmp.{nat_list_cmp_total, tied_itself}
 use Rattle.std.proofs.lemmas.List.Elements.{All-from_recursion, recursion_from_All}
 use Rattle.std.proofs.lemmas.List.Kept.{AllPairs-cons}
 use Rattle.std.proofs.lemmas.Map.Lookups.{exact_bytes}
@@ -14,6 +15,7 @@ use Rattle.std.specs.Option.{option_map}
 use Rattle.std.specs.Ordering.{is_eq, match_ordering, nat_cmp}
 use Rattle.pc_base.specs.Keyed.{at, without}
 use Rattle.pc_base.specs.Span.{same_key}
+use Rattle.pc_lists.proofs.Each.{each-both}
 use Rattle.pc_lists.proofs.Same.{same_key-differs, same_key-equal, same_key-is}
 
 module _ {X : Type 0} (R : X → X → Type 0) where
