@@ -1,4 +1,4 @@
-use crate::ResolveMachine;
+use pc_resolve::ResolveMachine;
 use pc_base::{Items, Key, Timestamp, TxnId};
 use pc_proto::{Fate, Keys, Reply, Request};
 use pc_world::MachineNext;

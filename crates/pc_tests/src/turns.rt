@@ -1,4 +1,4 @@
-use super::run_turns;
+use pc_runner::run_turns;
 use pc_base::{ActorId, Entry};
 use pc_proto::Event;
 use pc_range::NoGate;
