@@ -1,0 +1,4 @@
+pub mod ByteClasses
+pub mod Cuts
+pub mod Readings
+pub mod Words
