@@ -69,7 +69,7 @@ same_bytes : (xs ys : List ℕ) → bytes_eq xs ys ≡ true → xs ≡ ys
 same_bytes xs ys e = (bytes_eq-Decides xs ys).0 e
 
 -- What the reading never gives is no text of it.
-no_text : {A : Type 0} {class : ℕ → Bool} {P : A → Type 0} {text : A → List ℕ} {read : List ℕ → Option A} (other : List ℕ) → read other ≡ None → IsReading class P text read → (x : A) → P x → bytes_eq (text x) other ≡ false
+pub no_text : {A : Type 0} {class : ℕ → Bool} {P : A → Type 0} {text : A → List ℕ} {read : List ℕ → Option A} (other : List ℕ) → read other ≡ None → IsReading class P text read → (x : A) → P x → bytes_eq (text x) other ≡ false
 no_text {A} {class} {P} {text} {read} other none r x h =
     elim (cases_Bool (bytes_eq (text x) other)) [
       | inl hit ↦ absurd (cc (r.again x h, ap read (same_bytes (text x) other hit), none))

@@ -3,3 +3,4 @@ pub mod Bytes
 pub mod Cutting
 pub mod Fits
 pub mod Reading
+pub mod ReadingLines
