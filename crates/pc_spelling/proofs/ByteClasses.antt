@@ -1,12 +1,12 @@
 -- Which bytes a text is made of.
-use Rattle.std.proofs.Common.{◌≡◌, ℕ, Bool, true, false, ◌&&◌, ◌==◌, List, [], ◌∷◌, ◌++◌, refl, sym, ap, ◌∙◌, arith}
+use Rattle.std.proofs.Common.{◌≡◌, ℕ, Bool, true, false, ◌&&◌, ◌||◌, ◌==◌, List, [], ◌∷◌, ◌++◌, refl, sym, ap, ◌∙◌, arith}
 use Rattle.std.specs.List.{list_all}
 use Rattle.std.proofs.lemmas.Grind.{common_steps}
 use Rattle.std.proofs.lemmas.Bool.{true≢false, ne_eqb}
 use Rattle.std.proofs.lemmas.List.Folds.{list_all-append}
 use Rattle.pc_base.specs.Key.{is_key_byte}
 use Rattle.pc_base.specs.Value.{is_value_byte}
-use Rattle.pc_spelling.specs.Bytes.{is_digit, is_part_byte, is_line_byte}
+use Rattle.pc_spelling.specs.Bytes.{is_digit, is_origin_byte, is_part_byte, is_line_byte}
 
 -- Each byte of the first class is of the second.
 pub record IsWithin (inner outer : ℕ → Bool) : Type 0 where
@@ -17,6 +17,12 @@ digits_in_keys = record { each = λ b h. grind (arith, common_steps) }
 
 pub keys_in_values : IsWithin is_key_byte is_value_byte
 keys_in_values = record { each = λ b h. grind (arith, common_steps) }
+
+pub keys_in_origins : IsWithin is_key_byte is_origin_byte
+keys_in_origins = record { each = λ b h. ap (λ t. t || (b == 45)) h }
+
+pub origins_in_values : IsWithin is_origin_byte is_value_byte
+origins_in_values = record { each = λ b h. grind (arith, common_steps) }
 
 pub values_in_parts : IsWithin is_value_byte is_part_byte
 values_in_parts = record { each = λ b h. grind (arith, common_steps) }

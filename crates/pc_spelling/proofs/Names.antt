@@ -27,11 +27,11 @@ use Rattle.pc_journal.specs.Reply.{origin_text}
 use Rattle.pc_journal.specs.Names.{id_text, actor_text, who_text, priority_text}
 use Rattle.pc_journal.specs.Optional.{or_dash, key_text, value_text}
 use Rattle.pc_journal.specs.Span.{span_text}
-use Rattle.pc_spelling.specs.Bytes.{is_digit, is_part_byte}
+use Rattle.pc_spelling.specs.Bytes.{is_digit, is_origin_byte, is_part_byte}
 use Rattle.pc_spelling.specs.Cutting.{cut, both, made, or_dash_at}
 use Rattle.pc_spelling.specs.Fits.{Fits32, FitsActor, FitsId, FitsOrigin, FitsPriority, FitsSpan, FitsValue, FitsWho}
 use Rattle.pc_spelling.specs.Reading.{number32_at, id_at, actor_at, range_at, who_at, priority_at, key_at, value_bytes_at, value_at, maybe_value_at, span_at, origin_at, ts_at}
-use Rattle.pc_spelling.proofs.ByteClasses.{IsWithin, is_other, all_within, both_true, true_both, digits_in_keys, keys_in_values, values_in_parts, within_both}
+use Rattle.pc_spelling.proofs.ByteClasses.{IsWithin, is_other, all_within, both_true, true_both, digits_in_keys, keys_in_origins, keys_in_values, values_in_parts, within_both}
 use Rattle.pc_spelling.proofs.Cuts.{chosen, map_some, cut_at, cut_none, cut_some}
 use Rattle.pc_spelling.proofs.Numbers.{number32, ts, id, no_empty_id}
 use Rattle.pc_spelling.proofs.Readings.{IsReading, both_reading, no_text, or_dash_reading, wider}
@@ -305,10 +305,10 @@ origin_takes bs origin e =
         ]
     ]
 
-origin_bytes : (origin : Origin) → FitsOrigin origin → list_all is_value_byte (origin_text origin) ≡ true
+origin_bytes : (origin : Origin) → FitsOrigin origin → list_all is_origin_byte (origin_text origin) ≡ true
 origin_bytes origins.Nothing h = refl
 origin_bytes origins.Own h = refl
-origin_bytes (origins.At t) h = all_within keys_in_values (ts_text t) (ts.bytes t h)
+origin_bytes (origins.At t) h = all_within keys_in_origins (ts_text t) (ts.bytes t h)
 
-pub origin : IsReading is_value_byte FitsOrigin origin_text origin_at
+pub origin : IsReading is_origin_byte FitsOrigin origin_text origin_at
 origin = record { again = origin_again; takes = origin_takes; bytes = origin_bytes }

@@ -29,21 +29,21 @@ both_again class byte one other xs ys x y out clear p q = rw (cut_at class byte 
 pair_parts : {A B : Type 0} (a x : A) (b y : B) → ◌≡◌ {A = A × B} (a, b) (x, y) → (a ≡ x) × (b ≡ y)
 pair_parts a x b y e = (ap (λ p. p.0) e, ap (λ p. p.1) e)
 
-both_takes : {A B : Type 0} (byte : ℕ) (one : List ℕ → Option A) (other : List ℕ → Option B) (bs : List ℕ) (p : A × B) → both byte one other bs ≡ Some p → (xs ys : List ℕ) × (bs ≡ xs ++ (byte ∷ ys)) × (one xs ≡ Some p.0) × (other ys ≡ Some p.1)
-both_takes byte one other bs p e =
-    let a = then_some (λ (q : List ℕ × List ℕ). option_and_then (λ x. option_map (λ y. (x, y)) (other q.1)) (one q.0)) (cut byte bs) p e in
+pub each_part_takes : {A B : Type 0} (one : List ℕ → Option A) (other : List ℕ → Option B) (cuts : Option (List ℕ × List ℕ)) (p : A × B) → each_part one other cuts ≡ Some p → (parts : List ℕ × List ℕ) × (cuts ≡ Some parts) × (one parts.0 ≡ Some p.0) × (other parts.1 ≡ Some p.1)
+each_part_takes one other cuts p e =
+    let a = then_some (λ (q : List ℕ × List ℕ). option_and_then (λ x. option_map (λ y. (x, y)) (other q.1)) (one q.0)) cuts p e in
     let b = then_some (λ x. option_map (λ y. (x, y)) (other a.0.1)) (one a.0.0) p a.2 in
     let c = map_some (λ y. (b.0, y)) (other a.0.1) p b.2 in
-    (a.0.0, a.0.1, cut_some byte bs a.0 a.1, b.1 ∙ ap Some (pair_parts b.0 p.0 c.0 p.1 c.2).0, c.1 ∙ ap Some (pair_parts b.0 p.0 c.0 p.1 c.2).1)
+    (a.0, a.1, b.1 ∙ ap Some (pair_parts b.0 p.0 c.0 p.1 c.2).0, c.1 ∙ ap Some (pair_parts b.0 p.0 c.0 p.1 c.2).1)
 
 pub both_reading : {A B : Type 0} {inner outer : ℕ → Bool} {P : A → Type 0} {Q : B → Type 0} {s : A → List ℕ} {t : B → List ℕ} {f : List ℕ → Option A} {g : List ℕ → Option B} (byte : ℕ) → inner byte ≡ false → outer byte ≡ true → IsWithin inner outer → IsReading inner P s f → IsReading outer Q t g → IsReading outer (λ (p : A × B). P p.0 × Q p.1) (λ (p : A × B). s p.0 ++ (byte ∷ t p.1)) (both byte f g)
 both_reading {A} {B} {inner} {outer} {P} {Q} {s} {t} {f} {g} byte out here within one other = record {
   again = λ p h. both_again inner byte f g (s p.0) (t p.1) p.0 p.1 out (one.bytes p.0 h.0) (one.again p.0 h.0) (other.again p.1 h.1);
   takes = λ bs p e.
-      let parts = both_takes byte f g bs p e in
-      let first = one.takes parts.0 p.0 parts.3 in
-      let second = other.takes parts.1 p.1 parts.4 in
-      (parts.2 ∙ ap (λ (xs : List ℕ). xs ++ (byte ∷ parts.1)) first.0 ∙ ap (λ (ys : List ℕ). s p.0 ++ (byte ∷ ys)) second.0, (first.1, second.1));
+      let parts = each_part_takes f g (cut byte bs) p e in
+      let first = one.takes parts.0.0 p.0 parts.2 in
+      let second = other.takes parts.0.1 p.1 parts.3 in
+      (cut_some byte bs parts.0 parts.1 ∙ ap (λ (xs : List ℕ). xs ++ (byte ∷ parts.0.1)) first.0 ∙ ap (λ (ys : List ℕ). s p.0 ++ (byte ∷ ys)) second.0, (first.1, second.1));
   bytes = λ p h. all_joined outer (s p.0) (byte ∷ t p.1) (all_within within (s p.0) (one.bytes p.0 h.0)) (true_both (outer byte) (list_all outer (t p.1)) here (other.bytes p.1 h.1));
 }
 
