@@ -3,6 +3,7 @@ pub mod ByteClasses
 pub mod Calls
 pub mod Cuts
 pub mod Events
+pub mod Journal
 pub mod LineParts
 pub mod Names
 pub mod Numbers

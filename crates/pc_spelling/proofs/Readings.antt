@@ -100,17 +100,27 @@ or_dash_reading {A} {class} {P} {text} {read} none dash r = record {
 
 -- ---- lists
 
--- Each item's text is of the class that lacks the comma, so the joined texts are cut into them.
-split_joined : {A : Type 0} {inner : ℕ → Bool} {P : A → Type 0} {text : A → List ℕ} {read : List ℕ → Option A} → inner 44 ≡ false → IsReading inner P text read → (first : A) (rest : List A) → P first → AllByRecursion P rest → slice_split (λ b. b == 44) (join_with_byte 44 (text first ∷ map text rest)) ≡ text first ∷ map text rest
-split_joined {inner = inner} {text = text} out r first [] h hs = split_none inner 44 out (text first) (r.bytes first h)
-split_joined {inner = inner} {text = text} out r first (second ∷ rest) h hs =
-    split_at inner 44 out (text first) (join_with_byte 44 (text second ∷ map text rest)) (r.bytes first h) ∙ ap (λ (below : List (List ℕ)). text first ∷ below) (split_joined out r second rest hs.0 hs.1)
+-- Texts of a class that lacks the byte are found again in what they are joined to.
+pub split_joined : (class : ℕ → Bool) (byte : ℕ) → class byte ≡ false → (first : List ℕ) (rest : List (List ℕ)) → list_all class first ≡ true → AllByRecursion (λ (bs : List ℕ). list_all class bs ≡ true) rest → slice_split (λ b. b == byte) (join_with_byte byte (first ∷ rest)) ≡ first ∷ rest
+split_joined class byte out first [] h hs = split_none class byte out first h
+split_joined class byte out first (second ∷ rest) h hs =
+    split_at class byte out first (join_with_byte byte (second ∷ rest)) h ∙ ap (λ (below : List (List ℕ)). first ∷ below) (split_joined class byte out second rest hs.0 hs.1)
 
-each_again : {A : Type 0} {class : ℕ → Bool} {P : A → Type 0} {text : A → List ℕ} {read : List ℕ → Option A} → IsReading class P text read → (xs : List A) → AllByRecursion P xs → each_at read (map text xs) ≡ Some xs
+-- Texts are joined to bytes of each class that has their bytes and the byte between them.
+pub joined_bytes : (class : ℕ → Bool) (byte : ℕ) → class byte ≡ true → (first : List ℕ) (rest : List (List ℕ)) → list_all class first ≡ true → AllByRecursion (λ (bs : List ℕ). list_all class bs ≡ true) rest → list_all class (join_with_byte byte (first ∷ rest)) ≡ true
+joined_bytes class byte here first [] h hs = h
+joined_bytes class byte here first (second ∷ rest) h hs =
+    all_joined class first (byte ∷ join_with_byte byte (second ∷ rest)) h (true_both (class byte) (list_all class (join_with_byte byte (second ∷ rest))) here (joined_bytes class byte here second rest hs.0 hs.1))
+
+pub texts_bytes : {A : Type 0} {class : ℕ → Bool} {P : A → Type 0} {text : A → List ℕ} {read : List ℕ → Option A} → IsReading class P text read → (xs : List A) → AllByRecursion P xs → AllByRecursion (λ (bs : List ℕ). list_all class bs ≡ true) (map text xs)
+texts_bytes r [] h = tt
+texts_bytes r (x ∷ xs) h = (r.bytes x h.0, texts_bytes r xs h.1)
+
+pub each_again : {A : Type 0} {class : ℕ → Bool} {P : A → Type 0} {text : A → List ℕ} {read : List ℕ → Option A} → IsReading class P text read → (xs : List A) → AllByRecursion P xs → each_at read (map text xs) ≡ Some xs
 each_again r [] h = refl
 each_again r (x ∷ xs) h = rw (r.again x h.0, each_again r xs h.1) refl
 
-each_takes : {A : Type 0} {class : ℕ → Bool} {P : A → Type 0} {text : A → List ℕ} {read : List ℕ → Option A} → IsReading class P text read → (parts : List (List ℕ)) (xs : List A) → each_at read parts ≡ Some xs → (parts ≡ map text xs) × AllByRecursion P xs
+pub each_takes : {A : Type 0} {class : ℕ → Bool} {P : A → Type 0} {text : A → List ℕ} {read : List ℕ → Option A} → IsReading class P text read → (parts : List (List ℕ)) (xs : List A) → each_at read parts ≡ Some xs → (parts ≡ map text xs) × AllByRecursion P xs
 each_takes {A} {class} {P} {text} {read} r [] xs e = subst (λ (ys : List A). ([] ≡ map text ys) × AllByRecursion P ys) (same_Some [] xs e) (refl, tt)
 each_takes {A} {class} {P} {text} {read} r (bs ∷ parts) xs e =
     let a = then_some (λ (first : A). option_map (λ (rest : List A). first ∷ rest) (each_at read parts)) (read bs) xs e in
@@ -118,12 +128,6 @@ each_takes {A} {class} {P} {text} {read} r (bs ∷ parts) xs e =
     let first = r.takes bs a.0 a.1 in
     let rest = each_takes r parts b.0 b.1 in
     subst (λ (ys : List A). (bs ∷ parts ≡ map text ys) × AllByRecursion P ys) b.2 (ap (λ (x : List ℕ). x ∷ parts) first.0 ∙ ap (λ (ys : List (List ℕ)). text a.0 ∷ ys) rest.0, (first.1, rest.1))
-
-joined_bytes : {A : Type 0} {inner outer : ℕ → Bool} {P : A → Type 0} {text : A → List ℕ} {read : List ℕ → Option A} → IsWithin inner outer → outer 44 ≡ true → IsReading inner P text read → (first : A) (rest : List A) → P first → AllByRecursion P rest → list_all outer (join_with_byte 44 (text first ∷ map text rest)) ≡ true
-joined_bytes {text = text} within comma r first [] h hs = all_within within (text first) (r.bytes first h)
-joined_bytes {outer = outer} {text = text} within comma r first (second ∷ rest) h hs =
-    let below = joined_bytes within comma r second rest hs.0 hs.1 in
-    all_joined outer (text first) (44 ∷ join_with_byte 44 (text second ∷ map text rest)) (all_within within (text first) (r.bytes first h)) (true_both (outer 44) (list_all outer (join_with_byte 44 (text second ∷ map text rest))) comma below)
 
 pub list_reading : {A : Type 0} {inner outer : ℕ → Bool} {P : A → Type 0} {text : A → List ℕ} {read : List ℕ → Option A} → read (codes "-") ≡ None → inner 44 ≡ false → IsWithin inner outer → outer 44 ≡ true → outer 45 ≡ true → IsReading inner P text read → IsReading outer (AllByRecursion P) (listed text) (list_at read)
 list_reading {A} {inner} {outer} {P} {text} {read} none out within comma dash r = record {
@@ -136,14 +140,14 @@ list_reading {A} {inner} {outer} {P} {text} {read} none out within comma dash r 
     not_dash first rest h hs =
         elim (cases_Bool (bytes_eq (join_with_byte 44 (text first ∷ map text rest)) (codes "-"))) [
           | inl hit ↦
-              let whole : text first ∷ map text rest ≡ codes "-" ∷ [] = sym (split_joined out r first rest h hs) ∙ ap (slice_split (λ b. b == 44)) (same_bytes (join_with_byte 44 (text first ∷ map text rest)) (codes "-") hit) in
+              let whole : text first ∷ map text rest ≡ codes "-" ∷ [] = sym (split_joined inner 44 out (text first) (map text rest) (r.bytes first h) (texts_bytes r rest hs)) ∙ ap (slice_split (λ b. b == 44)) (same_bytes (join_with_byte 44 (text first ∷ map text rest)) (codes "-") hit) in
               let only : text first ≡ codes "-" = cc in
               absurd (cc (r.again first h, ap read only, none))
           | inr miss ↦ miss
         ]
     list_again : (xs : List A) → AllByRecursion P xs → list_at read (listed text xs) ≡ Some xs
     list_again [] h = refl
-    list_again (x ∷ xs) h = rw (not_dash x xs h.0 h.1, split_joined out r x xs h.0 h.1) (each_again r (x ∷ xs) h)
+    list_again (x ∷ xs) h = rw (not_dash x xs h.0 h.1, split_joined inner 44 out (text x) (map text xs) (r.bytes x h.0) (texts_bytes r xs h.1)) (each_again r (x ∷ xs) h)
     from_parts : (parts : List (List ℕ)) (xs : List A) → parts ≡ map text xs → 0 < length parts → join_with_byte 44 parts ≡ listed text xs
     from_parts parts [] e some = absurd (omega (arith, ap length e))
     from_parts parts (x ∷ xs) e some = ap (join_with_byte 44) e
@@ -157,4 +161,6 @@ list_reading {A} {inner} {outer} {P} {text} {read} none out within comma dash r 
         ]
     list_bytes : (xs : List A) → AllByRecursion P xs → list_all outer (listed text xs) ≡ true
     list_bytes [] h = rw dash refl
-    list_bytes (x ∷ xs) h = joined_bytes within comma r x xs h.0 h.1
+    list_bytes (x ∷ xs) h =
+        let wide = wider within r in
+        joined_bytes outer 44 comma (text x) (map text xs) (wide.bytes x h.0) (texts_bytes wide xs h.1)

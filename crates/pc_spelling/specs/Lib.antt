@@ -4,3 +4,6 @@ pub mod Cutting
 pub mod Fits
 pub mod Reading
 pub mod ReadingLines
+pub mod FitsJournal
+pub mod OneToOne
+pub mod ReadingHead

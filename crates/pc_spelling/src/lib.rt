@@ -1,11 +1,9 @@
-//! Laws of the text: the journal of one history is that of no other.
+//! Laws of the text of a journal: what is printed is read again, and one text spells one head and one history.
 #![tactic(auto)]
 
-ghost use Rattle.std.specs.Prelude.{◌≡◌, true};
+ghost use Rattle.pc_spelling.specs.OneToOne.{IsOneToOne};
 
-/// Nothing yet.
-pub fn nothing() -> bool
-    ensures { result ≡ true }
-{
-    true
-}
+/// A law: one text is the journal of one head and one history, whatever stands below it.
+pub fn journal_is_one_to_one()
+    ensures { IsOneToOne }
+{}
