@@ -5,7 +5,7 @@ use Rattle.pc_proto.specs.declared.answer.Answer.{Answer}
 use Rattle.pc_proto.specs.declared.answer.Answer.TheVariants as answers
 use Rattle.pc_journal.specs.Answer.{answer_text}
 use Rattle.pc_spelling.specs.Cutting.{cut}
-use Rattle.pc_spelling.specs.Fits.{FitsAnswer}
+use Rattle.pc_journal.specs.Fits.{FitsAnswer}
 use Rattle.pc_spelling.specs.ReadingLines.{answer_at}
 use Rattle.pc_spelling.specs.Bytes.{is_line_byte, is_part_byte}
 use Rattle.pc_spelling.proofs.LineParts.{◌⊗◌, number, name, fields, last}

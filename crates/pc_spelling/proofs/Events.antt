@@ -9,7 +9,7 @@ use Rattle.pc_journal.specs.Call.{call_text}
 use Rattle.pc_journal.specs.Event.{event_text, entry_text}
 use Rattle.pc_journal.specs.Number.{reading_text}
 use Rattle.pc_spelling.specs.Cutting.{each_part, cut_last}
-use Rattle.pc_spelling.specs.Fits.{Fits64, FitsCall, FitsEntry}
+use Rattle.pc_journal.specs.Fits.{Fits64, FitsCall, FitsEntry}
 use Rattle.pc_spelling.specs.Reading.{number64_at}
 use Rattle.pc_spelling.specs.ReadingLines.{asked_at, call_at, reading_at, entry_at}
 use Rattle.pc_spelling.proofs.Cuts.{chosen, cut_last_at, cut_last_some}
@@ -20,7 +20,7 @@ use Rattle.pc_spelling.proofs.Replies.{reply}
 use Rattle.pc_spelling.proofs.Calls.{call}
 use Rattle.pc_spelling.proofs.Answers.{answer}
 use Rattle.pc_spelling.specs.Cutting.{cut}
-use Rattle.pc_spelling.specs.Fits.{FitsEvent}
+use Rattle.pc_journal.specs.Fits.{FitsEvent}
 use Rattle.pc_spelling.specs.ReadingLines.{event_at}
 use Rattle.pc_spelling.specs.Bytes.{is_line_byte, is_part_byte}
 use Rattle.pc_spelling.proofs.LineParts.{◌⊗◌, number, name, fields, last}

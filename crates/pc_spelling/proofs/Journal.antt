@@ -3,6 +3,7 @@ use Rattle.std.proofs.Common.{◌≡◌, ℕ, ◌+◌, ◌<◌, Bool, true, fals
 use Rattle.std.specs.Fmt.{decimal}
 use Rattle.std.specs.List.{list_all, slice_split, join_with_byte, AllByRecursion}
 use Rattle.std.proofs.lemmas.Bool.{eq-eqb, eqb-true}
+use Rattle.std.proofs.lemmas.List.Elements.{All-from_recursion, recursion_from_All}
 use Rattle.std.proofs.lemmas.List.Splits.{join_with_byte-slice_split}
 use Rattle.std.proofs.lemmas.Option.{cond_some, none-some, same_Some}
 use Rattle.pc_base.specs.declared.entry.Entry.{Entry}
@@ -14,8 +15,8 @@ use Rattle.pc_journal.specs.Optional.{key_text}
 use Rattle.pc_journal.specs.Side.{◌⏎◌}
 use Rattle.pc_spelling.specs.Bytes.{is_line_byte, is_part_byte}
 use Rattle.pc_spelling.specs.Cutting.{cut, each_at, ◌&◌}
-use Rattle.pc_spelling.specs.Fits.{Fits32, FitsEntry, FitsKeys}
-use Rattle.pc_spelling.specs.FitsJournal.{FitsEntries, FitsHead, FitsSplits, keys_rise}
+use Rattle.pc_journal.specs.Fits.{Fits32, FitsEntry, FitsKeys}
+use Rattle.pc_journal.specs.FitsJournal.{FitsEntries, FitsHead, FitsSplits, keys_rise}
 use Rattle.pc_spelling.specs.OneToOne.{IsOneToOne, SameJournal, journal_then}
 use Rattle.pc_spelling.specs.Reading.{number32_at, key_at}
 use Rattle.pc_spelling.specs.ReadingHead.{splits_at, ranges_at, actors_at}
@@ -34,8 +35,8 @@ use Rattle.pc_spelling.proofs.Words.{words_take, or_word_takes, no_word_takes, b
 splits_again : (splits : List (List ℕ)) → FitsSplits splits → splits_at (slice_split (λ b. b == 32) (splits_text splits)) ≡ Some splits
 unfolding splits_at
 splits_again splits h =
-    let pieces = split_joined is_part_byte 32 refl (decimal (length splits + 1)) (map key_text splits) ((number number32).bytes (length splits + 1) h.count) (texts_bytes (name key) splits h.keys) in
-    ap splits_at pieces ∙ rw (number32.again (length splits + 1) h.count, each_again key splits h.keys, eq-eqb (length splits + 1) (length splits + 1) refl, h.rise) refl
+    let pieces = split_joined is_part_byte 32 refl (decimal (length splits + 1)) (map key_text splits) ((number number32).bytes (length splits + 1) h.count) (texts_bytes (name key) splits (recursion_from_All IsKey splits h.keys)) in
+    ap splits_at pieces ∙ rw (number32.again (length splits + 1) h.count, each_again key splits (recursion_from_All IsKey splits h.keys), eq-eqb (length splits + 1) (length splits + 1) refl, h.rise) refl
 
 splits_take : (parts : List (List ℕ)) (splits : List (List ℕ)) → splits_at parts ≡ Some splits → (parts ≡ decimal (length splits + 1) ∷ map key_text splits) × FitsSplits splits
 unfolding splits_at
@@ -50,11 +51,11 @@ splits_take (count ∷ keys) splits e =
     let same : a.0 ≡ length b.0 + 1 = eqb-true a.0 (length b.0 + 1) tests.0 in
     subst (λ (ks : List (List ℕ)). (count ∷ keys ≡ decimal (length ks + 1) ∷ map key_text ks) × FitsSplits ks) test.1
         (ap (λ (c : List ℕ). c ∷ keys) (first.0 ∙ ap decimal same) ∙ ap (λ (ks : List (List ℕ)). decimal (length b.0 + 1) ∷ ks) rest.0,
-        record { keys = rest.1; rise = tests.1; count = subst Fits32 same first.1 })
+        record { keys = All-from_recursion IsKey b.0 rest.1; rise = tests.1; count = subst Fits32 same first.1 })
 
 line_of : (splits : List (List ℕ)) → FitsSplits splits → list_all is_line_byte (splits_text splits) ≡ true
 line_of splits h =
-    joined_bytes is_line_byte 32 refl (decimal (length splits + 1)) (map key_text splits) ((last (number number32)).bytes (length splits + 1) h.count) (texts_bytes (last (name key)) splits h.keys)
+    joined_bytes is_line_byte 32 refl (decimal (length splits + 1)) (map key_text splits) ((last (number number32)).bytes (length splits + 1) h.count) (texts_bytes (last (name key)) splits (recursion_from_All IsKey splits h.keys))
 
 splits_reading : IsReading is_line_byte FitsSplits splits_text (λ bs. splits_at (slice_split (λ b. b == 32) bs))
 splits_reading = record {
@@ -102,7 +103,7 @@ line_first : (line below : List ℕ) → list_all is_line_byte line ≡ true →
 unfolding lines_of
 line_first line below h = split_at is_line_byte 10 refl line below h
 
-entry_lines : (entries : List (Entry Event)) (below : List ℕ) → FitsEntries entries → lines_of (entries_text entries ++ below) ≡ map entry_text entries ++ lines_of below
+entry_lines : (entries : List (Entry Event)) (below : List ℕ) → AllByRecursion FitsEntry entries → lines_of (entries_text entries ++ below) ≡ map entry_text entries ++ lines_of below
 entry_lines [] below h = refl
 entry_lines (e ∷ es) below h =
     ap lines_of (append_assoc (entry_text e) (10 ∷ entries_text es) below) ∙ line_first (entry_text e) (entries_text es ++ below) (entry.bytes e h.0) ∙ ap (λ (ls : List (List ℕ)). entry_text e ∷ ls) (entry_lines es below h.1)
@@ -119,7 +120,7 @@ lines_of_journal : (splits : List (List ℕ)) (sessions recoverers : ℕ) (entri
 unfolding journal_lines
 lines_of_journal splits sessions recoverers entries below h hs =
     let report = codes "report" ⏎ below in
-    let rest : lines_of (entries_text entries ++ report) ≡ map entry_text entries ++ (codes "report" ∷ lines_of below) = entry_lines entries report hs ∙ ap (λ (ls : List (List ℕ)). map entry_text entries ++ ls) (line_first (codes "report") below refl) in
+    let rest : lines_of (entries_text entries ++ report) ≡ map entry_text entries ++ (codes "report" ∷ lines_of below) = entry_lines entries report (recursion_from_All FitsEntry entries hs) ∙ ap (λ (ls : List (List ℕ)). map entry_text entries ++ ls) (line_first (codes "report") below refl) in
     let third = line_first (actors_text sessions recoverers) (entries_text entries ++ report) (actors.bytes (sessions, recoverers) (h.first_count, h.second_count)) ∙ ap (λ (ls : List (List ℕ)). actors_text sessions recoverers ∷ ls) rest in
     let second = line_first (ranges_text splits) (actors_text sessions recoverers ⏎ (entries_text entries ++ report)) (ranges.bytes splits h.cuts) ∙ ap (λ (ls : List (List ℕ)). ranges_text splits ∷ ls) third in
     ap lines_of (three_lines (codes "journal 1") (ranges_text splits) (actors_text sessions recoverers) (entries_text entries) report)
@@ -142,7 +143,7 @@ no_entry = refl
 not_report : (e : Entry Event) → FitsEntry e → entry_text e ≡ codes "report" → ⊥
 not_report e h same = none-some e (sym no_entry ∙ ap entry_at (sym same) ∙ entry.again e h)
 
-same_history : (entries events : List (Entry Event)) (below under : List (List ℕ)) → FitsEntries entries → FitsEntries events → map entry_text entries ++ (codes "report" ∷ below) ≡ map entry_text events ++ (codes "report" ∷ under) → (entries ≡ events) × (below ≡ under)
+same_history : (entries events : List (Entry Event)) (below under : List (List ℕ)) → AllByRecursion FitsEntry entries → AllByRecursion FitsEntry events → map entry_text entries ++ (codes "report" ∷ below) ≡ map entry_text events ++ (codes "report" ∷ under) → (entries ≡ events) × (below ≡ under)
 same_history [] [] below under h k e = (refl, (same_head (codes "report") (codes "report") below under e).1)
 same_history [] (d ∷ ds) below under h k e =
     absurd (not_report d k.0 (sym (same_head (codes "report") (entry_text d) below (map entry_text ds ++ (codes "report" ∷ under)) e).0))
@@ -166,7 +167,7 @@ one_to_one splits others sessions many recoverers more entries events below unde
     let two = same_head (ranges_text splits) (ranges_text others) (actors_text sessions recoverers ∷ (map entry_text entries ++ (codes "report" ∷ lines_of below))) (actors_text many more ∷ (map entry_text events ++ (codes "report" ∷ lines_of under))) one.1 in
     let three = same_head (actors_text sessions recoverers) (actors_text many more) (map entry_text entries ++ (codes "report" ∷ lines_of below)) (map entry_text events ++ (codes "report" ∷ lines_of under)) two.1 in
     let counts : ◌≡◌ {A = ℕ × ℕ} (sessions, recoverers) (many, more) = same_value actors (sessions, recoverers) (many, more) (h.first_count, h.second_count) (k.first_count, k.second_count) three.0 in
-    let history = same_history entries events (lines_of below) (lines_of under) hs ks three.1 in
+    let history = same_history entries events (lines_of below) (lines_of under) (recursion_from_All FitsEntry entries hs) (recursion_from_All FitsEntry events ks) three.1 in
     record {
       same_splits = same_value ranges splits others h.cuts k.cuts two.0;
       same_sessions = ap (λ (p : ℕ × ℕ). p.0) counts;

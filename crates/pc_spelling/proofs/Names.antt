@@ -29,7 +29,7 @@ use Rattle.pc_journal.specs.Optional.{or_dash, key_text, value_text}
 use Rattle.pc_journal.specs.Span.{span_text}
 use Rattle.pc_spelling.specs.Bytes.{is_digit, is_origin_byte, is_part_byte}
 use Rattle.pc_spelling.specs.Cutting.{cut, both, made, or_dash_at}
-use Rattle.pc_spelling.specs.Fits.{Fits32, FitsActor, FitsId, FitsOrigin, FitsPriority, FitsSpan, FitsValue, FitsWho}
+use Rattle.pc_journal.specs.Fits.{Fits32, FitsActor, FitsId, FitsOrigin, FitsPriority, FitsSpan, FitsValue, FitsWho}
 use Rattle.pc_spelling.specs.Reading.{number32_at, id_at, actor_at, range_at, who_at, priority_at, key_at, value_bytes_at, value_at, maybe_value_at, span_at, origin_at, ts_at}
 use Rattle.pc_spelling.proofs.ByteClasses.{IsWithin, is_other, all_within, both_true, true_both, digits_in_keys, keys_in_origins, keys_in_values, values_in_parts, within_both}
 use Rattle.pc_spelling.proofs.Cuts.{chosen, map_some, cut_at, cut_none, cut_some}

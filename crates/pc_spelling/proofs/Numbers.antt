@@ -13,7 +13,7 @@ use Rattle.pc_journal.specs.Number.{ts_text}
 use Rattle.pc_journal.specs.Names.{id_text}
 use Rattle.pc_spelling.specs.Bytes.{is_digit}
 use Rattle.pc_spelling.specs.Cutting.{cut, both}
-use Rattle.pc_spelling.specs.Fits.{Fits32, Fits64, FitsId, FitsTimestamp}
+use Rattle.pc_journal.specs.Fits.{Fits32, Fits64, FitsId, FitsTimestamp}
 use Rattle.pc_spelling.specs.Reading.{is_numeral, number_at, number32_at, number64_at, ts_at, id_at}
 use Rattle.pc_base.specs.Key.{is_key_byte}
 use Rattle.pc_spelling.proofs.ByteClasses.{both_true, true_both, digits_in_keys}

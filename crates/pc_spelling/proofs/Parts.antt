@@ -1,7 +1,7 @@
 -- The parts of a line that have several fields: what was printed is read again, and what is read is spelled so.
-use Rattle.std.proofs.Common.{◌≡◌, ℕ, Bool, true, List, [], ◌∷◌, ◌++◌, Option, None, Some, option_map, refl, sym, ap, codes}
+use Rattle.std.proofs.Common.{◌≡◌, ℕ, Bool, true, List, [], ◌∷◌, ◌++◌, Option, None, Some, option_map, refl, sym, ap, codes, All}
 use Rattle.std.specs.Fmt.{decimal}
-use Rattle.std.specs.List.{list_all, AllByRecursion}
+use Rattle.std.specs.List.{list_all}
 use Rattle.pc_base.specs.declared.transaction.TxnId.{TxnId}
 use Rattle.pc_base.specs.Key.{IsKey, is_key_byte}
 use Rattle.pc_base.specs.Value.{is_value_byte}
@@ -18,7 +18,7 @@ use Rattle.pc_journal.specs.Reply.{row_text}
 use Rattle.pc_journal.specs.Why.{why_text}
 use Rattle.pc_spelling.specs.Bytes.{is_part_byte}
 use Rattle.pc_spelling.specs.Cutting.{cut, both, made, ◌:&◌, list_at, word_of, or_word, no_word, alone, behind}
-use Rattle.pc_spelling.specs.Fits.{FitsKeys, FitsMeta, FitsPoint, FitsRow, FitsToldRow, FitsWhy, FitsWrite, FitsWrites}
+use Rattle.pc_journal.specs.Fits.{FitsKeys, FitsMeta, FitsPoint, FitsRow, FitsToldRow, FitsWhy, FitsWrite, FitsWrites}
 use Rattle.pc_spelling.specs.Reading.{key_at, keys_at, meta_at, point_at, row_at, told_row_at, why_at, who_at, write_at, writes_at, ts_at, number_at, id_at}
 use Rattle.pc_spelling.proofs.ByteClasses.{IsWithin, all_within, digits_in_keys, keys_in_values, origins_in_values, values_in_parts, within_both}
 use Rattle.pc_spelling.proofs.Names.{key, value_bytes, who, priority, origin, no_dash_key}
@@ -66,7 +66,7 @@ no_dash_meta : meta_at (codes "-") ≡ None
 unfolding meta_at cut
 no_dash_meta = refl
 
-pub metas : IsReading is_part_byte (AllByRecursion FitsMeta) (listed meta_text) (list_at meta_at)
+pub metas : IsReading is_part_byte (All FitsMeta) (listed meta_text) (list_at meta_at)
 metas = list_reading no_dash_meta refl values_in_parts refl refl meta
 
 -- ---- rows
@@ -114,12 +114,12 @@ no_dash_row : row_at (codes "-") ≡ None
 unfolding row_at cut
 no_dash_row = refl
 
-pub rows : IsReading is_part_byte (AllByRecursion FitsRow) (listed row_text) (list_at row_at)
+pub rows : IsReading is_part_byte (All FitsRow) (listed row_text) (list_at row_at)
 rows = list_reading no_dash_row refl values_in_parts refl refl row
 
 no_dash_told_row : told_row_at (codes "-") ≡ None
 unfolding told_row_at cut
 no_dash_told_row = refl
 
-pub told_rows : IsReading is_part_byte (AllByRecursion FitsToldRow) (listed told_row_text) (list_at told_row_at)
+pub told_rows : IsReading is_part_byte (All FitsToldRow) (listed told_row_text) (list_at told_row_at)
 told_rows = list_reading no_dash_told_row refl values_in_parts refl refl told_row

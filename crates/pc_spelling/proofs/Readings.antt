@@ -1,9 +1,10 @@
 -- What holds of each reading beside its text: what was printed is read again, what is read is spelled so, and of which bytes
 -- the text is made. That of a whole is composed of those of its parts.
-use Rattle.std.proofs.Common.{◌≡◌, ◌⊎◌, ◌+◌, ◌<◌, ℕ, Bool, true, false, cond, ◌==◌, List, [], ◌∷◌, ◌++◌, map, length, Option, None, Some, option_map, option_and_then, refl, sym, ap, subst, ◌∙◌, inl, inr, arith, codes, bytes_eq, IfSome}
+use Rattle.std.proofs.Common.{◌≡◌, ◌⊎◌, ◌+◌, ◌<◌, ℕ, Bool, true, false, cond, ◌==◌, List, [], ◌∷◌, ◌++◌, map, length, Option, None, Some, option_map, option_and_then, refl, sym, ap, subst, ◌∙◌, inl, inr, arith, codes, bytes_eq, IfSome, All}
 use Rattle.std.specs.List.{list_all, slice_split, join_with_byte, count_by, AllByRecursion}
 use Rattle.std.proofs.lemmas.Bool.{eqb-true, cases_Bool}
 use Rattle.std.proofs.lemmas.Option.{same_Some}
+use Rattle.std.proofs.lemmas.List.Elements.{All-from_recursion, recursion_from_All}
 use Rattle.std.proofs.lemmas.List.Splits.{join_with_byte-slice_split, length-slice_split}
 use Rattle.std.proofs.lemmas.Slice.Eq.{bytes_eq-Decides}
 use Rattle.pc_journal.specs.Lists.{listed}
@@ -129,11 +130,11 @@ each_takes {A} {class} {P} {text} {read} r (bs ∷ parts) xs e =
     let rest = each_takes r parts b.0 b.1 in
     subst (λ (ys : List A). (bs ∷ parts ≡ map text ys) × AllByRecursion P ys) b.2 (ap (λ (x : List ℕ). x ∷ parts) first.0 ∙ ap (λ (ys : List (List ℕ)). text a.0 ∷ ys) rest.0, (first.1, rest.1))
 
-pub list_reading : {A : Type 0} {inner outer : ℕ → Bool} {P : A → Type 0} {text : A → List ℕ} {read : List ℕ → Option A} → read (codes "-") ≡ None → inner 44 ≡ false → IsWithin inner outer → outer 44 ≡ true → outer 45 ≡ true → IsReading inner P text read → IsReading outer (AllByRecursion P) (listed text) (list_at read)
+pub list_reading : {A : Type 0} {inner outer : ℕ → Bool} {P : A → Type 0} {text : A → List ℕ} {read : List ℕ → Option A} → read (codes "-") ≡ None → inner 44 ≡ false → IsWithin inner outer → outer 44 ≡ true → outer 45 ≡ true → IsReading inner P text read → IsReading outer (All P) (listed text) (list_at read)
 list_reading {A} {inner} {outer} {P} {text} {read} none out within comma dash r = record {
-  again = λ xs h. list_again xs h;
-  takes = λ bs xs e. list_takes bs xs e;
-  bytes = λ xs h. list_bytes xs h;
+  again = λ xs h. list_again xs (recursion_from_All P xs h);
+  takes = λ bs xs e. ((list_takes bs xs e).0, All-from_recursion P xs (list_takes bs xs e).1);
+  bytes = λ xs h. list_bytes xs (recursion_from_All P xs h);
 }
   where
     not_dash : (first : A) (rest : List A) → P first → AllByRecursion P rest → bytes_eq (join_with_byte 44 (text first ∷ map text rest)) (codes "-") ≡ false

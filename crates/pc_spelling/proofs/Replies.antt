@@ -5,9 +5,9 @@ use Rattle.pc_proto.specs.declared.reply.Reply.{Reply}
 use Rattle.pc_proto.specs.declared.reply.Reply.TheVariants as replies
 use Rattle.pc_journal.specs.Reply.{reply_text, origin_text}
 use Rattle.pc_spelling.specs.Cutting.{cut}
-use Rattle.pc_spelling.specs.Fits.{FitsReply}
+use Rattle.pc_journal.specs.Fits.{FitsReply}
 use Rattle.pc_spelling.specs.ReadingLines.{reply_at}
-use Rattle.pc_spelling.specs.Fits.{FitsOrigin}
+use Rattle.pc_journal.specs.Fits.{FitsOrigin}
 use Rattle.pc_spelling.specs.Reading.{origin_at}
 use Rattle.pc_spelling.specs.Bytes.{is_line_byte, is_part_byte}
 use Rattle.pc_spelling.proofs.LineParts.{◌⊗◌, number, name, fields, last}

@@ -5,7 +5,7 @@ use Rattle.pc_proto.specs.declared.request.Request.{Request}
 use Rattle.pc_proto.specs.declared.request.Request.TheVariants as requests
 use Rattle.pc_journal.specs.Request.{request_text}
 use Rattle.pc_spelling.specs.Cutting.{cut}
-use Rattle.pc_spelling.specs.Fits.{FitsRequest}
+use Rattle.pc_journal.specs.Fits.{FitsRequest}
 use Rattle.pc_spelling.specs.ReadingLines.{request_at}
 use Rattle.pc_spelling.specs.Bytes.{is_line_byte, is_part_byte}
 use Rattle.pc_spelling.proofs.LineParts.{◌⊗◌, number, name, fields, last}

@@ -11,7 +11,7 @@ use Rattle.pc_proto.specs.declared.fate.Fate.{Fate}
 use Rattle.pc_proto.specs.declared.fate.Fate.TheVariants as fates
 use Rattle.pc_journal.specs.View.{view_text, goal_text, finding_text, fate_text}
 use Rattle.pc_spelling.specs.Cutting.{cut}
-use Rattle.pc_spelling.specs.Fits.{FitsView, FitsGoal, FitsFinding, FitsFate}
+use Rattle.pc_journal.specs.Fits.{FitsView, FitsGoal, FitsFinding, FitsFate}
 use Rattle.pc_spelling.specs.ReadingLines.{view_at, goal_at, finding_at, fate_at}
 use Rattle.pc_spelling.specs.Bytes.{is_line_byte, is_part_byte}
 use Rattle.pc_spelling.proofs.LineParts.{◌⊗◌, number, name, fields, last}

@@ -1,10 +1,21 @@
--- The law of the text: it spells one head and one history. Own profile.
-use Rattle.std.specs.Prelude.{◌≡◌, ℕ, List, ◌++◌, codes}
+-- The laws of the text: an entry is read as it was printed, and a journal spells one head and one history. Own profile.
+use Rattle.std.specs.Prelude.{◌≡◌, ℕ, List, ◌++◌, Some, codes}
 use Rattle.pc_base.specs.declared.entry.Entry.{Entry}
 use Rattle.pc_proto.specs.declared.event.Event.{Event}
+use Rattle.pc_journal.specs.Event.{entry_text}
+use Rattle.pc_journal.specs.Fits.{FitsEntry}
 use Rattle.pc_journal.specs.Journal.{journal_text}
 use Rattle.pc_journal.specs.Side.{◌⏎◌}
-use Rattle.pc_spelling.specs.FitsJournal.{FitsHead, FitsEntries}
+use Rattle.pc_journal.specs.FitsJournal.{FitsHead, FitsEntries}
+use Rattle.pc_spelling.specs.ReadingLines.{entry_at}
+
+-- An entry that has a spelling is read from its line.
+abbrev pub EntriesAreReadAgain : Type 0
+EntriesAreReadAgain = (entry : Entry Event) → FitsEntry entry → entry_at (entry_text entry) ≡ Some entry
+
+-- A line that is read as an entry is the line of that entry, which has a spelling.
+abbrev pub EntriesAreSpelled : Type 0
+EntriesAreSpelled = (line : List ℕ) (entry : Entry Event) → entry_at line ≡ Some entry → (line ≡ entry_text entry) × FitsEntry entry
 
 -- A journal, the line `report`, and what stands below it.
 abbrev pub journal_then : List (List ℕ) → ℕ → ℕ → List (Entry Event) → List ℕ → List ℕ

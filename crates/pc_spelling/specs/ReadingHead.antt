@@ -2,7 +2,7 @@
 use Rattle.std.specs.Prelude.{ℕ, ◌+◌, ◌==◌, ◌&&◌, if◌then◌else◌, List, [], ◌∷◌, length, Option, None, Some, option_and_then, codes}
 use Rattle.std.specs.List.{slice_split}
 use Rattle.pc_spelling.specs.Cutting.{◌&◌, each_at, word_of, or_word, no_word, behind}
-use Rattle.pc_spelling.specs.FitsJournal.{keys_rise}
+use Rattle.pc_journal.specs.FitsJournal.{keys_rise}
 use Rattle.pc_spelling.specs.Reading.{number32_at, key_at}
 
 -- The keys behind the number of ranges, which is one more than there are keys.

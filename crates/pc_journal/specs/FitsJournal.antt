@@ -1,10 +1,10 @@
 -- Which heads and histories have a spelling. Own profile.
 use Rattle.std.specs.Prelude.{◌≡◌, ℕ, ◌+◌, ◌^◌, ◌<◌, Bool, true, ◌&&◌, List, [], ◌∷◌, length}
-use Rattle.std.specs.List.{AllByRecursion}
+use Rattle.std.specs.Prelude.{All}
 use Rattle.pc_base.specs.declared.entry.Entry.{Entry}
 use Rattle.pc_base.specs.Span.{key_below}
 use Rattle.pc_proto.specs.declared.event.Event.{Event}
-use Rattle.pc_spelling.specs.Fits.{Fits32, FitsEntry, FitsKeys}
+use Rattle.pc_journal.specs.Fits.{Fits32, FitsEntry, FitsKeys}
 
 -- Each key stands before the next.
 abbrev pub keys_rise : List (List ℕ) → Bool
@@ -26,4 +26,4 @@ pub record FitsHead (splits : List (List ℕ)) (sessions recoverers : ℕ) : Typ
 
 -- A history that has a spelling: each of its entries has one.
 abbrev pub FitsEntries : List (Entry Event) → Type 0
-FitsEntries entries = AllByRecursion FitsEntry entries
+FitsEntries entries = All FitsEntry entries

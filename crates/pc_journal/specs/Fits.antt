@@ -1,7 +1,7 @@
 -- What has a spelling: numbers within the limits of their types, keys and values that are keys and values, and rows of what
 -- a client is told without their origin. Own profile.
 use Rattle.std.specs.Prelude.{◌≡◌, ℕ, ◌+◌, ◌^◌, ◌<◌, ◌≤◌, List, length, Option, IfSome}
-use Rattle.std.specs.List.{AllByRecursion}
+use Rattle.std.specs.Prelude.{All}
 use Rattle.pc_base.specs.declared.actor.ActorId.{ActorId}
 use Rattle.pc_base.specs.declared.actor.ActorId.TheVariants as actors
 use Rattle.pc_base.specs.declared.entry.Entry.{Entry}
@@ -74,13 +74,13 @@ abbrev pub FitsValue : Option (List ℕ) → Type 0
 FitsValue value = IfSome value IsValue
 
 abbrev pub FitsKeys : List (List ℕ) → Type 0
-FitsKeys keys = AllByRecursion IsKey keys
+FitsKeys keys = All IsKey keys
 
 abbrev pub FitsWrite : (List ℕ × ℕ) → Type 0
 FitsWrite write = IsKey write.0 × Fits32 write.1
 
 abbrev pub FitsWrites : List (List ℕ × ℕ) → Type 0
-FitsWrites writes = AllByRecursion FitsWrite writes
+FitsWrites writes = All FitsWrite writes
 
 abbrev pub FitsWhy : Why → Type 0
 FitsWhy (whys.Pushed by) = FitsWho by
@@ -140,13 +140,18 @@ FitsOrigin (origins.At ts) = FitsTimestamp ts
 abbrev pub FitsRow : (List ℕ × Origin × List ℕ) → Type 0
 FitsRow row = IsKey row.0 × (FitsOrigin row.1 × IsValue row.2)
 
+-- What is printed of a row that a client is told.
+pub record FitsBareRow (row : List ℕ × Origin × List ℕ) : Type 0 where
+  pub key : IsKey row.0
+  pub value : IsValue row.2
+
 -- A row that a client is told: its origin is not printed, so it has none.
 abbrev pub FitsToldRow : (List ℕ × Origin × List ℕ) → Type 0
 FitsToldRow row = IsKey row.0 × ((row.1 ≡ origins.Nothing) × IsValue row.2)
 
 abbrev pub FitsReply : Reply → Type 0
 FitsReply (replies.Value origin value) = FitsOrigin origin × FitsValue value
-FitsReply (replies.Rows rows) = AllByRecursion FitsRow rows
+FitsReply (replies.Rows rows) = All FitsRow rows
 FitsReply (replies.Conflict holder ts key) = FitsMeta holder × (FitsTimestamp ts × IsKey key)
 FitsReply (replies.Written ts) = FitsTimestamp ts
 FitsReply replies.Refreshed = Unit {0}
@@ -158,7 +163,7 @@ FitsReply replies.Found = Unit {0}
 FitsReply replies.Missing = Unit {0}
 FitsReply replies.Resolved = Unit {0}
 FitsReply replies.Removed = Unit {0}
-FitsReply (replies.Listed metas) = AllByRecursion FitsMeta metas
+FitsReply (replies.Listed metas) = All FitsMeta metas
 
 abbrev pub FitsCall : Call → Type 0
 FitsCall (calls.Begin priority) = FitsPriority priority
@@ -174,7 +179,7 @@ FitsCall calls.Round = Unit {0}
 abbrev pub FitsAnswer : Answer → Type 0
 FitsAnswer (answers.Begun id ts) = FitsId id × FitsTimestamp ts
 FitsAnswer (answers.Value value) = FitsValue value
-FitsAnswer (answers.Rows rows) = AllByRecursion FitsToldRow rows
+FitsAnswer (answers.Rows rows) = All FitsToldRow rows
 FitsAnswer answers.Written = Unit {0}
 FitsAnswer (answers.Committed id ts) = FitsId id × FitsTimestamp ts
 FitsAnswer (answers.RolledBack id why) = FitsId id × FitsWhy why
