@@ -5,7 +5,7 @@ use Rattle.pc_proto.specs.declared.answer.Answer.{Answer}
 use Rattle.pc_proto.specs.declared.answer.Answer.TheVariants as answers
 use Rattle.pc_proto.specs.declared.event.Event.{Event}
 use Rattle.pc_proto.specs.declared.reply.Origin.{Origin}
-use Rattle.pc_journal.specs.Fits.{FitsAnswer, FitsBareRow, FitsToldRow, FitsEntry}
+use Rattle.pc_journal.specs.Fits.{FitsAnswer, FitsBareRow, FitsToldRow}
 use Rattle.pc_journal.specs.FitsJournal.{FitsEntries}
 use Rattle.pc_journal.specs.ToldRows.{AnswersBare, AllTellBare, FitsWhereBare, HasNoOrigin}
 

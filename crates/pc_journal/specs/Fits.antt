@@ -1,6 +1,6 @@
 -- What has a spelling: numbers within the limits of their types, keys and values that are keys and values, and rows of what
 -- a client is told without their origin. Own profile.
-use Rattle.std.specs.Prelude.{◌≡◌, ℕ, ◌+◌, ◌^◌, ◌<◌, ◌≤◌, List, length, Option, IfSome}
+use Rattle.std.specs.Prelude.{◌≡◌, ℕ, ◌^◌, ◌<◌, List, Option, IfSome}
 use Rattle.std.specs.Prelude.{All}
 use Rattle.pc_base.specs.declared.actor.ActorId.{ActorId}
 use Rattle.pc_base.specs.declared.actor.ActorId.TheVariants as actors

@@ -1,20 +1,19 @@
 -- Answers: what was printed is read again, and what is read is spelled so.
-use Rattle.std.proofs.Common.{◌≡◌, ℕ, Bool, true, List, [], ◌∷◌, ◌++◌, Option, None, Some, option_map, refl, sym, ap, subst, ◌∙◌, codes}
-use Rattle.std.specs.List.{list_all, AllByRecursion}
+use Rattle.std.proofs.Common.{◌≡◌, ℕ, true, List, Some, option_map, refl, ap}
+use Rattle.std.specs.List.{list_all}
 use Rattle.pc_proto.specs.declared.answer.Answer.{Answer}
 use Rattle.pc_proto.specs.declared.answer.Answer.TheVariants as answers
 use Rattle.pc_journal.specs.Answer.{answer_text}
 use Rattle.pc_spelling.specs.Cutting.{cut}
 use Rattle.pc_journal.specs.Fits.{FitsAnswer}
 use Rattle.pc_spelling.specs.ReadingLines.{answer_at}
-use Rattle.pc_spelling.specs.Bytes.{is_line_byte, is_part_byte}
+use Rattle.pc_spelling.specs.Bytes.{is_line_byte}
 use Rattle.pc_spelling.proofs.LineParts.{◌⊗◌, number, name, fields, last}
-use Rattle.pc_spelling.proofs.Readings.{IsReading, both_reading, made_reading, wider}
+use Rattle.pc_spelling.proofs.Readings.{IsReading}
 use Rattle.pc_spelling.proofs.Words.{words_take, or_word_takes, no_word_takes, alone_takes, behind_takes}
-use Rattle.pc_spelling.proofs.ByteClasses.{IsWithin, origins_in_values, values_in_parts, within_both}
 use Rattle.pc_spelling.proofs.Numbers.{number32, number64, ts, id}
-use Rattle.pc_spelling.proofs.Names.{key, value, maybe_value, who, priority, origin, actor, range, span}
-use Rattle.pc_spelling.proofs.Parts.{meta, point, writes, keys, metas, rows, told_rows, why}
+use Rattle.pc_spelling.proofs.Names.{key, maybe_value}
+use Rattle.pc_spelling.proofs.Parts.{told_rows, why}
 
 -- ---- answers
 

@@ -1,6 +1,6 @@
 -- Events and entries: what was printed is read again, and what is read is spelled so.
-use Rattle.std.proofs.Common.{◌≡◌, ℕ, Bool, true, List, [], ◌∷◌, ◌++◌, Option, None, Some, option_map, refl, sym, ap, subst, ◌∙◌, codes, ◌==◌, inl, inr}
-use Rattle.std.specs.List.{list_all, AllByRecursion}
+use Rattle.std.proofs.Common.{◌≡◌, ℕ, true, List, [], ◌∷◌, ◌++◌, None, Some, option_map, refl, ap, ◌∙◌, ◌==◌, inl, inr}
+use Rattle.std.specs.List.{list_all}
 use Rattle.std.proofs.lemmas.Bool.{eqb-true}
 use Rattle.pc_proto.specs.declared.event.Event.{Event}
 use Rattle.pc_proto.specs.declared.event.Event.TheVariants as events
@@ -23,13 +23,11 @@ use Rattle.pc_spelling.specs.Cutting.{cut}
 use Rattle.pc_journal.specs.Fits.{FitsEvent}
 use Rattle.pc_spelling.specs.ReadingLines.{event_at}
 use Rattle.pc_spelling.specs.Bytes.{is_line_byte, is_part_byte}
-use Rattle.pc_spelling.proofs.LineParts.{◌⊗◌, number, name, fields, last}
-use Rattle.pc_spelling.proofs.Readings.{IsReading, both_reading, made_reading, wider}
-use Rattle.pc_spelling.proofs.Words.{words_take, or_word_takes, no_word_takes, alone_takes, behind_takes}
-use Rattle.pc_spelling.proofs.ByteClasses.{IsWithin, origins_in_values, values_in_parts, within_both}
-use Rattle.pc_spelling.proofs.Numbers.{number32, number64, ts, id}
-use Rattle.pc_spelling.proofs.Names.{key, value, maybe_value, who, priority, origin, actor, range, span}
-use Rattle.pc_spelling.proofs.Parts.{meta, point, writes, keys, metas, rows, told_rows, why}
+use Rattle.pc_spelling.proofs.LineParts.{◌⊗◌, number, name, last}
+use Rattle.pc_spelling.proofs.Readings.{IsReading, made_reading}
+use Rattle.pc_spelling.proofs.Words.{words_take, or_word_takes, no_word_takes, behind_takes}
+use Rattle.pc_spelling.proofs.Numbers.{number64, id}
+use Rattle.pc_spelling.proofs.Names.{actor, range}
 
 -- ---- a call and its reading
 

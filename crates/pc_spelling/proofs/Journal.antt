@@ -1,5 +1,5 @@
 -- The head of a journal is read as it was printed, and its text spells one head and one history.
-use Rattle.std.proofs.Common.{◌≡◌, ℕ, ◌+◌, ◌<◌, Bool, true, false, cond, ◌&&◌, ◌==◌, List, [], ◌∷◌, ◌++◌, map, length, Option, None, Some, option_map, option_and_then, refl, sym, ap, subst, ◌∙◌, append_assoc, arith, codes}
+use Rattle.std.proofs.Common.{◌≡◌, ℕ, ◌+◌, Bool, true, cond, ◌&&◌, ◌==◌, List, [], ◌∷◌, ◌++◌, map, length, Option, None, Some, option_map, option_and_then, refl, sym, ap, subst, ◌∙◌, append_assoc, codes}
 use Rattle.std.specs.Fmt.{decimal}
 use Rattle.std.specs.List.{list_all, slice_split, join_with_byte, AllByRecursion}
 use Rattle.std.proofs.lemmas.Bool.{eq-eqb, eqb-true}
@@ -7,27 +7,27 @@ use Rattle.std.proofs.lemmas.List.Elements.{All-from_recursion, recursion_from_A
 use Rattle.std.proofs.lemmas.List.Splits.{join_with_byte-slice_split}
 use Rattle.std.proofs.lemmas.Option.{cond_some, none-some, same_Some}
 use Rattle.pc_base.specs.declared.entry.Entry.{Entry}
-use Rattle.pc_base.specs.Key.{IsKey, is_key_byte}
+use Rattle.pc_base.specs.Key.{IsKey}
 use Rattle.pc_proto.specs.declared.event.Event.{Event}
 use Rattle.pc_journal.specs.Event.{entry_text}
-use Rattle.pc_journal.specs.Journal.{actors_text, entries_text, head_then, journal_text, ranges_text, splits_text}
+use Rattle.pc_journal.specs.Journal.{actors_text, entries_text, ranges_text, splits_text}
 use Rattle.pc_journal.specs.Optional.{key_text}
 use Rattle.pc_journal.specs.Side.{◌⏎◌}
 use Rattle.pc_spelling.specs.Bytes.{is_line_byte, is_part_byte}
 use Rattle.pc_spelling.specs.Cutting.{cut, each_at, ◌&◌}
-use Rattle.pc_journal.specs.Fits.{Fits32, FitsEntry, FitsKeys}
+use Rattle.pc_journal.specs.Fits.{Fits32, FitsEntry}
 use Rattle.pc_journal.specs.FitsJournal.{FitsEntries, FitsHead, FitsSplits, keys_rise}
-use Rattle.pc_spelling.specs.OneToOne.{IsOneToOne, SameJournal, journal_then}
+use Rattle.pc_spelling.specs.OneToOne.{IsOneToOne, journal_then}
 use Rattle.pc_spelling.specs.Reading.{number32_at, key_at}
 use Rattle.pc_spelling.specs.ReadingHead.{splits_at, ranges_at, actors_at}
 use Rattle.pc_spelling.specs.ReadingLines.{entry_at}
-use Rattle.pc_spelling.proofs.ByteClasses.{both_true, true_both, keys_in_values, values_in_parts, parts_in_lines, digits_in_keys, within_both}
-use Rattle.pc_spelling.proofs.Cuts.{map_some, then_some, split_at}
+use Rattle.pc_spelling.proofs.ByteClasses.{both_true}
+use Rattle.pc_spelling.proofs.Cuts.{then_some, split_at}
 use Rattle.pc_spelling.proofs.Events.{entry}
 use Rattle.pc_spelling.proofs.LineParts.{◌⊗◌, number, name, last}
 use Rattle.pc_spelling.proofs.Names.{key}
 use Rattle.pc_spelling.proofs.Numbers.{number32}
-use Rattle.pc_spelling.proofs.Readings.{IsReading, each_again, each_takes, joined_bytes, split_joined, texts_bytes, wider}
+use Rattle.pc_spelling.proofs.Readings.{IsReading, each_again, each_takes, joined_bytes, split_joined, texts_bytes}
 use Rattle.pc_spelling.proofs.Words.{words_take, or_word_takes, no_word_takes, behind_takes}
 
 -- ---- the second line
@@ -49,9 +49,10 @@ splits_take (count ∷ keys) splits e =
     let first = number32.takes count a.0 a.1 in
     let rest = each_takes key keys b.0 b.1 in
     let same : a.0 ≡ length b.0 + 1 = eqb-true a.0 (length b.0 + 1) tests.0 in
-    subst (λ (ks : List (List ℕ)). (count ∷ keys ≡ decimal (length ks + 1) ∷ map key_text ks) × FitsSplits ks) test.1
-        (ap (λ (c : List ℕ). c ∷ keys) (first.0 ∙ ap decimal same) ∙ ap (λ (ks : List (List ℕ)). decimal (length b.0 + 1) ∷ ks) rest.0,
-        record { keys = All-from_recursion IsKey b.0 rest.1; rise = tests.1; count = subst Fits32 same first.1 })
+    subst (λ (ks : List (List ℕ)). (count ∷ keys ≡ decimal (length ks + 1) ∷ map key_text ks) × FitsSplits ks) test.1 (
+      ap (λ (c : List ℕ). c ∷ keys) (first.0 ∙ ap decimal same) ∙ ap (λ (ks : List (List ℕ)). decimal (length b.0 + 1) ∷ ks) rest.0,
+      record { keys = All-from_recursion IsKey b.0 rest.1; rise = tests.1; count = subst Fits32 same first.1 },
+    )
 
 line_of : (splits : List (List ℕ)) → FitsSplits splits → list_all is_line_byte (splits_text splits) ≡ true
 line_of splits h =
@@ -124,8 +125,8 @@ lines_of_journal splits sessions recoverers entries below h hs =
     let third = line_first (actors_text sessions recoverers) (entries_text entries ++ report) (actors.bytes (sessions, recoverers) (h.first_count, h.second_count)) ∙ ap (λ (ls : List (List ℕ)). actors_text sessions recoverers ∷ ls) rest in
     let second = line_first (ranges_text splits) (actors_text sessions recoverers ⏎ (entries_text entries ++ report)) (ranges.bytes splits h.cuts) ∙ ap (λ (ls : List (List ℕ)). ranges_text splits ∷ ls) third in
     ap lines_of (three_lines (codes "journal 1") (ranges_text splits) (actors_text sessions recoverers) (entries_text entries) report)
-        ∙ line_first (codes "journal 1") (ranges_text splits ⏎ actors_text sessions recoverers ⏎ (entries_text entries ++ report)) refl
-        ∙ ap (λ (ls : List (List ℕ)). codes "journal 1" ∷ ls) second
+    ∙ line_first (codes "journal 1") (ranges_text splits ⏎ actors_text sessions recoverers ⏎ (entries_text entries ++ report)) refl
+    ∙ ap (λ (ls : List (List ℕ)). codes "journal 1" ∷ ls) second
 
 -- ---- one text, one history
 

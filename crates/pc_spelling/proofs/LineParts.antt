@@ -1,5 +1,5 @@
 -- The parts of a line, one space apart.
-use Rattle.std.proofs.Common.{◌≡◌, ℕ, List, ◌∷◌, ◌++◌, Option, refl}
+use Rattle.std.proofs.Common.{ℕ, List, ◌∷◌, ◌++◌, Option, refl}
 use Rattle.pc_base.specs.Key.{is_key_byte}
 use Rattle.pc_base.specs.Value.{is_value_byte}
 use Rattle.pc_spelling.specs.Bytes.{is_digit, is_part_byte, is_line_byte}

@@ -1,9 +1,8 @@
 -- Names, keys, values and spans: what was printed is read again, and what is read is spelled so.
-use Rattle.std.proofs.Common.{◌≡◌, ◌⊎◌, ℕ, ◌^◌, ◌<◌, ◌≤◌, Bool, true, false, cond, ◌&&◌, ◌==◌, List, [], ◌∷◌, ◌++◌, length, Option, None, Some, option_map, refl, sym, ap, subst, ◌∙◌, inl, inr, arith, codes, bytes_eq, IfSome, IsTrue, nat_le}
+use Rattle.std.proofs.Common.{◌≡◌, ℕ, ◌<◌, Bool, true, false, cond, ◌&&◌, ◌==◌, List, [], ◌∷◌, ◌++◌, length, Option, None, Some, option_map, refl, sym, ap, subst, ◌∙◌, inl, inr, arith, codes, bytes_eq, IfSome, nat_le}
 use Rattle.std.specs.List.{list_all}
 use Rattle.std.specs.Option.{option_map_or}
-use Rattle.std.proofs.lemmas.Bool.{eqb-true, le-leb, leb-true, cases_Bool}
-use Rattle.std.proofs.lemmas.Grind.{common_steps}
+use Rattle.std.proofs.lemmas.Bool.{eqb-true, le-leb, leb-true}
 use Rattle.std.proofs.lemmas.Option.{cond_some, same_Some}
 use Rattle.std.proofs.lemmas.Slice.Eq.{bytes_eq-Decides}
 use Rattle.pc_base.specs.declared.actor.ActorId.{ActorId}
@@ -29,10 +28,10 @@ use Rattle.pc_journal.specs.Optional.{or_dash, key_text, value_text}
 use Rattle.pc_journal.specs.Span.{span_text}
 use Rattle.pc_spelling.specs.Bytes.{is_digit, is_origin_byte, is_part_byte}
 use Rattle.pc_spelling.specs.Cutting.{cut, both, made, or_dash_at}
-use Rattle.pc_journal.specs.Fits.{Fits32, FitsActor, FitsId, FitsOrigin, FitsPriority, FitsSpan, FitsValue, FitsWho}
+use Rattle.pc_journal.specs.Fits.{Fits32, FitsActor, FitsOrigin, FitsPriority, FitsSpan, FitsValue, FitsWho}
 use Rattle.pc_spelling.specs.Reading.{number32_at, id_at, actor_at, range_at, who_at, priority_at, key_at, value_bytes_at, value_at, maybe_value_at, span_at, origin_at, ts_at}
-use Rattle.pc_spelling.proofs.ByteClasses.{IsWithin, is_other, all_within, both_true, true_both, digits_in_keys, keys_in_origins, keys_in_values, values_in_parts, within_both}
-use Rattle.pc_spelling.proofs.Cuts.{chosen, map_some, cut_at, cut_none, cut_some}
+use Rattle.pc_spelling.proofs.ByteClasses.{is_other, all_within, both_true, true_both, digits_in_keys, keys_in_origins, keys_in_values, values_in_parts, within_both}
+use Rattle.pc_spelling.proofs.Cuts.{chosen, map_some, cut_at, cut_none}
 use Rattle.pc_spelling.proofs.Numbers.{number32, ts, id, no_empty_id}
 use Rattle.pc_spelling.proofs.Readings.{IsReading, both_reading, no_text, or_dash_reading, wider}
 
@@ -168,12 +167,12 @@ actor_takes (letter ∷ digits) actor e =
     elim (chosen (letter == 114) (option_map actors.Range (number32_at digits)) (cond (letter == 115) (option_map actors.Session (number32_at digits)) (cond (letter == 118) (option_map actors.Recoverer (number32_at digits)) None)) (Some actor) e) [
       | inl hit ↦ numbered FitsActor actor_text actors.Range 114 letter digits actor (λ n h. h) (λ n. refl) hit.0 hit.1
       | inr miss ↦ elim (chosen (letter == 115) (option_map actors.Session (number32_at digits)) (cond (letter == 118) (option_map actors.Recoverer (number32_at digits)) None) (Some actor) miss.1) [
-          | inl hit ↦ numbered FitsActor actor_text actors.Session 115 letter digits actor (λ n h. h) (λ n. refl) hit.0 hit.1
-          | inr other ↦ elim (chosen (letter == 118) (option_map actors.Recoverer (number32_at digits)) None (Some actor) other.1) [
-              | inl hit ↦ numbered FitsActor actor_text actors.Recoverer 118 letter digits actor (λ n h. h) (λ n. refl) hit.0 hit.1
-              | inr none ↦ absurd (cc none.1)
-            ]
+        | inl hit ↦ numbered FitsActor actor_text actors.Session 115 letter digits actor (λ n h. h) (λ n. refl) hit.0 hit.1
+        | inr other ↦ elim (chosen (letter == 118) (option_map actors.Recoverer (number32_at digits)) None (Some actor) other.1) [
+          | inl hit ↦ numbered FitsActor actor_text actors.Recoverer 118 letter digits actor (λ n h. h) (λ n. refl) hit.0 hit.1
+          | inr none ↦ absurd (cc none.1)
         ]
+      ]
     ]
 
 actor_bytes : (actor : ActorId) → FitsActor actor → list_all is_key_byte (actor_text actor) ≡ true
@@ -269,12 +268,12 @@ priority_takes bs p e =
     elim (chosen (bytes_eq bs (codes "low")) (Some priorities.Low) (cond (bytes_eq bs (codes "normal")) (Some priorities.Normal) (cond (bytes_eq bs (codes "high")) (Some priorities.High) None)) (Some p) e) [
       | inl hit ↦ word_hit priority_text bs (codes "low") priorities.Low p hit.0 refl hit.1
       | inr miss ↦ elim (chosen (bytes_eq bs (codes "normal")) (Some priorities.Normal) (cond (bytes_eq bs (codes "high")) (Some priorities.High) None) (Some p) miss.1) [
-          | inl hit ↦ word_hit priority_text bs (codes "normal") priorities.Normal p hit.0 refl hit.1
-          | inr other ↦ elim (chosen (bytes_eq bs (codes "high")) (Some priorities.High) None (Some p) other.1) [
-              | inl hit ↦ word_hit priority_text bs (codes "high") priorities.High p hit.0 refl hit.1
-              | inr none ↦ absurd (cc none.1)
-            ]
+        | inl hit ↦ word_hit priority_text bs (codes "normal") priorities.Normal p hit.0 refl hit.1
+        | inr other ↦ elim (chosen (bytes_eq bs (codes "high")) (Some priorities.High) None (Some p) other.1) [
+          | inl hit ↦ word_hit priority_text bs (codes "high") priorities.High p hit.0 refl hit.1
+          | inr none ↦ absurd (cc none.1)
         ]
+      ]
     ]
 
 pub priority : IsReading is_key_byte FitsPriority priority_text priority_at
@@ -298,11 +297,11 @@ origin_takes bs origin e =
     elim (chosen (bytes_eq bs (codes "-")) (Some origins.Nothing) (cond (bytes_eq bs (codes "own")) (Some origins.Own) (option_map origins.At (ts_at bs))) (Some origin) e) [
       | inl hit ↦ (word_hit origin_text bs (codes "-") origins.Nothing origin hit.0 refl hit.1, subst FitsOrigin (same_Some origins.Nothing origin hit.1) tt)
       | inr miss ↦ elim (chosen (bytes_eq bs (codes "own")) (Some origins.Own) (option_map origins.At (ts_at bs)) (Some origin) miss.1) [
-          | inl hit ↦ (word_hit origin_text bs (codes "own") origins.Own origin hit.0 refl hit.1, subst FitsOrigin (same_Some origins.Own origin hit.1) tt)
-          | inr other ↦
-              let m = map_some origins.At (ts_at bs) origin other.1 in
-              subst (λ (o : Origin). (bs ≡ origin_text o) × FitsOrigin o) m.2 (ts.takes bs m.0 m.1)
-        ]
+        | inl hit ↦ (word_hit origin_text bs (codes "own") origins.Own origin hit.0 refl hit.1, subst FitsOrigin (same_Some origins.Own origin hit.1) tt)
+        | inr other ↦
+            let m = map_some origins.At (ts_at bs) origin other.1 in
+            subst (λ (o : Origin). (bs ≡ origin_text o) × FitsOrigin o) m.2 (ts.takes bs m.0 m.1)
+      ]
     ]
 
 origin_bytes : (origin : Origin) → FitsOrigin origin → list_all is_origin_byte (origin_text origin) ≡ true

@@ -1,5 +1,5 @@
 -- Numbers and timestamps: what was printed is read again, and what is read is spelled so.
-use Rattle.std.proofs.Common.{◌≡◌, ◌⊎◌, ℕ, ◌+◌, ◌*◌, ◌/◌, ◌%◌, ◌^◌, ◌<◌, ◌≤◌, Bool, true, false, cond, not, ◌&&◌, ◌==◌, ltb, List, [], ◌∷◌, ◌++◌, length, get_or, Option, None, Some, refl, sym, ap, subst, ◌∙◌, inl, inr, arith, rules, eq-zero-or-pos}
+use Rattle.std.proofs.Common.{◌≡◌, ℕ, ◌+◌, ◌*◌, ◌/◌, ◌%◌, ◌^◌, ◌<◌, ◌≤◌, Bool, true, false, cond, not, ◌&&◌, ◌==◌, ltb, List, [], ◌∷◌, ◌++◌, length, get_or, Option, None, Some, refl, sym, ap, subst, ◌∙◌, inl, inr, arith, rules, eq-zero-or-pos}
 use Rattle.std.specs.Fmt.{decimal}
 use Rattle.std.specs.List.{list_all}
 use Rattle.std.specs.Str.Parse.{digits_value}
@@ -17,7 +17,6 @@ use Rattle.pc_journal.specs.Fits.{Fits32, Fits64, FitsId, FitsTimestamp}
 use Rattle.pc_spelling.specs.Reading.{is_numeral, number_at, number32_at, number64_at, ts_at, id_at}
 use Rattle.pc_base.specs.Key.{is_key_byte}
 use Rattle.pc_spelling.proofs.ByteClasses.{both_true, true_both, digits_in_keys}
-use Rattle.pc_spelling.proofs.Cuts.{chosen}
 use Rattle.pc_spelling.proofs.Readings.{IsReading, both_reading, made_reading, wider}
 
 own : IsNumeralModel (λ ds. list_all is_digit ds ≡ true) (digits_value 10)

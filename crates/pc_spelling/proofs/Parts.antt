@@ -1,13 +1,10 @@
 -- The parts of a line that have several fields: what was printed is read again, and what is read is spelled so.
-use Rattle.std.proofs.Common.{◌≡◌, ℕ, Bool, true, List, [], ◌∷◌, ◌++◌, Option, None, Some, option_map, refl, sym, ap, codes, All}
-use Rattle.std.specs.Fmt.{decimal}
+use Rattle.std.proofs.Common.{◌≡◌, ℕ, true, List, ◌∷◌, ◌++◌, Option, None, Some, option_map, refl, sym, ap, codes, All}
 use Rattle.std.specs.List.{list_all}
 use Rattle.pc_base.specs.declared.transaction.TxnId.{TxnId}
-use Rattle.pc_base.specs.Key.{IsKey, is_key_byte}
+use Rattle.pc_base.specs.Key.{is_key_byte}
 use Rattle.pc_base.specs.Value.{is_value_byte}
-use Rattle.pc_proto.specs.declared.meta.TxnMeta.{TxnMeta}
 use Rattle.pc_proto.specs.declared.reply.Origin.{Origin}
-use Rattle.pc_proto.specs.declared.reply.Origin.TheVariants as origins
 use Rattle.pc_proto.specs.declared.why.Why.{Why}
 use Rattle.pc_proto.specs.declared.why.Why.TheVariants as whys
 use Rattle.pc_journal.specs.Answer.{told_row_text}
@@ -17,10 +14,10 @@ use Rattle.pc_journal.specs.Optional.{key_text}
 use Rattle.pc_journal.specs.Reply.{row_text}
 use Rattle.pc_journal.specs.Why.{why_text}
 use Rattle.pc_spelling.specs.Bytes.{is_part_byte}
-use Rattle.pc_spelling.specs.Cutting.{cut, both, made, ◌:&◌, list_at, word_of, or_word, no_word, alone, behind}
+use Rattle.pc_spelling.specs.Cutting.{cut, ◌:&◌, list_at}
 use Rattle.pc_journal.specs.Fits.{FitsKeys, FitsMeta, FitsPoint, FitsRow, FitsToldRow, FitsWhy, FitsWrite, FitsWrites}
-use Rattle.pc_spelling.specs.Reading.{key_at, keys_at, meta_at, point_at, row_at, told_row_at, why_at, who_at, write_at, writes_at, ts_at, number_at, id_at}
-use Rattle.pc_spelling.proofs.ByteClasses.{IsWithin, all_within, digits_in_keys, keys_in_values, origins_in_values, values_in_parts, within_both}
+use Rattle.pc_spelling.specs.Reading.{keys_at, meta_at, point_at, row_at, told_row_at, why_at, write_at, writes_at}
+use Rattle.pc_spelling.proofs.ByteClasses.{digits_in_keys, keys_in_values, origins_in_values, values_in_parts, within_both}
 use Rattle.pc_spelling.proofs.Names.{key, value_bytes, who, priority, origin, no_dash_key}
 use Rattle.pc_spelling.proofs.Numbers.{number32, number64, ts, id}
 use Rattle.pc_spelling.proofs.Readings.{IsReading, both_reading, made_reading, list_reading, wider}

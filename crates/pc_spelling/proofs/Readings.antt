@@ -1,8 +1,8 @@
 -- What holds of each reading beside its text: what was printed is read again, what is read is spelled so, and of which bytes
 -- the text is made. That of a whole is composed of those of its parts.
-use Rattle.std.proofs.Common.{◌≡◌, ◌⊎◌, ◌+◌, ◌<◌, ℕ, Bool, true, false, cond, ◌==◌, List, [], ◌∷◌, ◌++◌, map, length, Option, None, Some, option_map, option_and_then, refl, sym, ap, subst, ◌∙◌, inl, inr, arith, codes, bytes_eq, IfSome, All}
-use Rattle.std.specs.List.{list_all, slice_split, join_with_byte, count_by, AllByRecursion}
-use Rattle.std.proofs.lemmas.Bool.{eqb-true, cases_Bool}
+use Rattle.std.proofs.Common.{◌≡◌, ◌<◌, ℕ, Bool, true, false, ◌==◌, List, [], ◌∷◌, ◌++◌, map, length, Option, None, Some, option_map, option_and_then, refl, sym, ap, subst, ◌∙◌, inl, inr, arith, codes, bytes_eq, IfSome, All}
+use Rattle.std.specs.List.{list_all, slice_split, join_with_byte, AllByRecursion}
+use Rattle.std.proofs.lemmas.Bool.{cases_Bool}
 use Rattle.std.proofs.lemmas.Option.{same_Some}
 use Rattle.std.proofs.lemmas.List.Elements.{All-from_recursion, recursion_from_All}
 use Rattle.std.proofs.lemmas.List.Splits.{join_with_byte-slice_split, length-slice_split}
@@ -87,6 +87,7 @@ or_dash_reading {A} {class} {P} {text} {read} none dash r = record {
     dash_again : (o : Option A) → IfSome o P → or_dash_at read (or_dash text o) ≡ Some o
     dash_again None h = refl
     dash_again (Some x) h = rw (no_text (codes "-") none r x h, r.again x h) refl
+
     dash_takes : (bs : List ℕ) (o : Option A) → or_dash_at read bs ≡ Some o → (bs ≡ or_dash text o) × IfSome o P
     dash_takes bs o e =
         elim (chosen (bytes_eq bs (codes "-")) (Some None) (option_map Some (read bs)) (Some o) e) [
@@ -95,6 +96,7 @@ or_dash_reading {A} {class} {P} {text} {read} none dash r = record {
               let m = map_some Some (read bs) o miss.1 in
               subst (λ (x : Option A). (bs ≡ or_dash text x) × IfSome x P) m.2 (r.takes bs m.0 m.1)
         ]
+
     dash_bytes : (o : Option A) → IfSome o P → list_all class (or_dash text o) ≡ true
     dash_bytes None h = rw dash refl
     dash_bytes (Some x) h = r.bytes x h
@@ -146,12 +148,15 @@ list_reading {A} {inner} {outer} {P} {text} {read} none out within comma dash r 
               absurd (cc (r.again first h, ap read only, none))
           | inr miss ↦ miss
         ]
+
     list_again : (xs : List A) → AllByRecursion P xs → list_at read (listed text xs) ≡ Some xs
     list_again [] h = refl
     list_again (x ∷ xs) h = rw (not_dash x xs h.0 h.1, split_joined inner 44 out (text x) (map text xs) (r.bytes x h.0) (texts_bytes r xs h.1)) (each_again r (x ∷ xs) h)
+
     from_parts : (parts : List (List ℕ)) (xs : List A) → parts ≡ map text xs → 0 < length parts → join_with_byte 44 parts ≡ listed text xs
     from_parts parts [] e some = absurd (omega (arith, ap length e))
     from_parts parts (x ∷ xs) e some = ap (join_with_byte 44) e
+
     list_takes : (bs : List ℕ) (xs : List A) → list_at read bs ≡ Some xs → (bs ≡ listed text xs) × AllByRecursion P xs
     list_takes bs xs e =
         elim (chosen (bytes_eq bs (codes "-")) (Some []) (each_at read (slice_split (λ b. b == 44) bs)) (Some xs) e) [
@@ -160,6 +165,7 @@ list_reading {A} {inner} {outer} {P} {text} {read} none out within comma dash r 
               let parts = each_takes r (slice_split (λ b. b == 44) bs) xs miss.1 in
               (sym (join_with_byte-slice_split 44 bs) ∙ from_parts (slice_split (λ b. b == 44) bs) xs parts.0 (omega (arith, length-slice_split (λ b. b == 44) bs)), parts.1)
         ]
+
     list_bytes : (xs : List A) → AllByRecursion P xs → list_all outer (listed text xs) ≡ true
     list_bytes [] h = rw dash refl
     list_bytes (x ∷ xs) h =

@@ -1,6 +1,6 @@
 -- Views, goals, findings and fates: what was printed is read again, and what is read is spelled so.
-use Rattle.std.proofs.Common.{◌≡◌, ℕ, Bool, true, List, [], ◌∷◌, ◌++◌, Option, None, Some, option_map, refl, sym, ap, subst, ◌∙◌, codes}
-use Rattle.std.specs.List.{list_all, AllByRecursion}
+use Rattle.std.proofs.Common.{◌≡◌, ℕ, true, List, Some, option_map, refl, ap}
+use Rattle.std.specs.List.{list_all}
 use Rattle.pc_proto.specs.declared.view.View.{View}
 use Rattle.pc_proto.specs.declared.view.View.TheVariants as views
 use Rattle.pc_proto.specs.declared.fate.Goal.{Goal}
@@ -13,14 +13,13 @@ use Rattle.pc_journal.specs.View.{view_text, goal_text, finding_text, fate_text}
 use Rattle.pc_spelling.specs.Cutting.{cut}
 use Rattle.pc_journal.specs.Fits.{FitsView, FitsGoal, FitsFinding, FitsFate}
 use Rattle.pc_spelling.specs.ReadingLines.{view_at, goal_at, finding_at, fate_at}
-use Rattle.pc_spelling.specs.Bytes.{is_line_byte, is_part_byte}
+use Rattle.pc_spelling.specs.Bytes.{is_line_byte}
 use Rattle.pc_spelling.proofs.LineParts.{◌⊗◌, number, name, fields, last}
-use Rattle.pc_spelling.proofs.Readings.{IsReading, both_reading, made_reading, wider}
+use Rattle.pc_spelling.proofs.Readings.{IsReading}
 use Rattle.pc_spelling.proofs.Words.{words_take, or_word_takes, no_word_takes, alone_takes, behind_takes}
-use Rattle.pc_spelling.proofs.ByteClasses.{IsWithin, origins_in_values, values_in_parts, within_both}
-use Rattle.pc_spelling.proofs.Numbers.{number32, number64, ts, id}
-use Rattle.pc_spelling.proofs.Names.{key, value, maybe_value, who, priority, origin, actor, range, span}
-use Rattle.pc_spelling.proofs.Parts.{meta, point, writes, keys, metas, rows, told_rows, why}
+use Rattle.pc_spelling.proofs.Numbers.{number32, ts}
+use Rattle.pc_spelling.proofs.Names.{key, who}
+use Rattle.pc_spelling.proofs.Parts.{writes, keys, why}
 
 -- ---- what a record or mark says
 
