@@ -26,8 +26,9 @@ use Rattle.pc_proto.specs.declared.reply.Reply.{Reply}
 use Rattle.pc_proto.specs.declared.request.Request.{Request}
 use Rattle.pc_proto.specs.declared.request.Request.TheVariants as requests
 use Rattle.pc_proto.specs.Place.{Place, Nothing, Kept, Marked, Stay, Become, after, is_final}
-use Rattle.pc_proto.specs.RecordRows.{change, subject, table_after}
+use Rattle.pc_proto.specs.RecordRows.{place_change, table_after}
 use Rattle.pc_proto.specs.RecordRows.Reached.{status_of}
+use Rattle.pc_proto.specs.Requests.{subject}
 use Rattle.pc_proto.specs.Table.{Table, applied_to, place_of}
 use Rattle.pc_world.proofs.Knowing.{state_other}
 use Rattle.pc_world.specs.After.{place_at, state_at}
@@ -53,7 +54,7 @@ status_same one other at ts h =
 
 -- what a commit decides it reaches
 commit-reaches : (meta : TxnMeta) (at : ℕ) (locks : List (List ℕ)) (epoch ts : ℕ) (p : Place) → decision p ≡ None
-    → decision (after p (change (requests.Commit meta at locks) p)) ≡ Some (status_of standings.Committed epoch ts) → Reaches meta at epoch ts p
+    → decision (after p (place_change (requests.Commit meta at locks) p)) ≡ Some (status_of standings.Committed epoch ts) → Reaches meta at epoch ts p
 commit-reaches meta at locks epoch ts Nothing none is =
     let same = status_same meta.epoch epoch at ts is in
     record { epoch_is = same.0; ts_is = same.1; epoch_low = omega arith; ts_low = omega arith }
@@ -122,10 +123,10 @@ module _ (head : Head) (history : List (Entry Event)) (run : IsRun head history)
       record { meta = meta; at = at; locks = locks; asks = asked; whose = whose }))
       (λ before. absurd (none-anywhere ev.range before)) decided
 
-  commit-place : (meta : TxnMeta) (at : ℕ) (locks : List (List ℕ)) (t : Table) → meta.id ≡ id → place_of id (table_after (requests.Commit meta at locks) t) ≡ after (place_of id t) (change (requests.Commit meta at locks) (place_of id t))
+  commit-place : (meta : TxnMeta) (at : ℕ) (locks : List (List ℕ)) (t : Table) → meta.id ≡ id → place_of id (table_after (requests.Commit meta at locks) t) ≡ after (place_of id t) (place_change (requests.Commit meta at locks) (place_of id t))
   commit-place meta at locks t whose =
-      subst (λ i. place_of i (applied_to meta.id (change (requests.Commit meta at locks) (place_of meta.id t)) t) ≡ after (place_of i t) (change (requests.Commit meta at locks) (place_of i t))) whose
-      (place_after meta.id (change (requests.Commit meta at locks) (place_of meta.id t)) t)
+      subst (λ i. place_of i (applied_to meta.id (place_change (requests.Commit meta at locks) (place_of meta.id t)) t) ≡ after (place_of i t) (place_change (requests.Commit meta at locks) (place_of i t))) whose
+      (place_after meta.id (place_change (requests.Commit meta at locks) (place_of meta.id t)) t)
 
   decides-there : (actor : ActorId) (number : ℕ) (reply : Reply) (ev : NamedMessage head history e.actor actor number reply) → e.event ≡ events.Eval actor number reply
       → decision (place_of id (state_after ev.request (state_at head ev.range history)).table) ≡ Some (status_of standings.Committed epoch ts) → DecidesNow head history e id epoch ts
@@ -137,7 +138,7 @@ module _ (head : Head) (history : List (Entry Event)) (run : IsRun head history)
       let anchor : anchor_in id history ≡ Some c.meta.anchor = ap (λ i. anchor_in i history) (sym c.whose) ∙ anchored.anchor in
       let here : place_at head ev.range id history ≡ home_of head id history = ap (λ r. place_at head r id history) anchored.there ∙ sym (home_is head id history c.meta.anchor anchor) in
       let undecided : decision (place_of id s.table) ≡ None = ap decision here ∙ none in
-      let made : decision (after (place_of id s.table) (change (requests.Commit c.meta c.at c.locks) (place_of id s.table))) ≡ Some (status_of standings.Committed epoch ts) =
+      let made : decision (after (place_of id s.table) (place_change (requests.Commit c.meta c.at c.locks) (place_of id s.table))) ≡ Some (status_of standings.Committed epoch ts) =
       ap decision (sym (commit-place c.meta c.at c.locks s.table c.whose)) ∙ ap (λ r. decision (place_of id (state_after r s).table)) (sym c.asks) ∙ decided in
       let r = commit-reaches c.meta c.at c.locks epoch ts (place_of id s.table) undecided made in
       record {

@@ -1,4 +1,5 @@
--- What stands in a session's writes: they rise, each is proved before the next one at its key, each proof was an answer; and each put
+-- What stands in a session's writes: they rise, each is proved before the next one at its key, each proof was an answer to a put or a
+-- query; and each put
 -- that was sent lays one of them.
 use Rattle.std.proofs.Common.{◌≡◌, ℕ, ◌+◌, ◌≤◌, ◌==◌, ◌&&◌, true, false, cond, inl, inr, List, [], ◌∷◌, ◌++◌, map, Option, None, Some, Contains, All, refl, sym, ap, subst, ◌∙◌, arith}
 use Rattle.std.proofs.lemmas.Bool.{and_from, eq-eqb}
@@ -10,24 +11,26 @@ use Rattle.pc_base.specs.declared.entry.Entry.{Entry}
 use Rattle.pc_base.specs.declared.transaction.TxnId.{TxnId}
 use Rattle.pc_base.specs.Span.{same_key}
 use Rattle.pc_base.specs.Transaction.{same_txn}
-use Rattle.pc_history.proofs.Lists.{contains_map, contains_nil}
 use Rattle.pc_history.specs.History.{MayFollow}
 use Rattle.pc_history.specs.Own.{named_in}
 use Rattle.pc_implicit.proofs.Agreed.{agreed, open_there}
-use Rattle.pc_implicit.proofs.Anchored.{each_contained, put_anchored}
+use Rattle.pc_implicit.proofs.Anchored.{put_anchored}
 use Rattle.pc_implicit.proofs.Commits.{act_of}
 use Rattle.pc_implicit.proofs.Doing.{Does}
-use Rattle.pc_implicit.proofs.Keyed.{same-itself}
-use Rattle.pc_implicit.proofs.Sent.{unstaged_front, unstaged_induction}
 use Rattle.pc_implicit.proofs.Turns.{IsAnswered, Restarted, Turn, WentOn, Wrote, comes_from, none-later, one_txn, some-there, unmap}
 use Rattle.pc_implicit.proofs.WriteLists.{AreInTurn, Rise, alike_each, alike_on, alike_rise, alike_turn, rise_push, turn_push}
-use Rattle.pc_implicit.specs.Writes.{WasWritten, txns_of}
+use Rattle.pc_implicit.proofs.Written.{proven_more}
+use Rattle.pc_implicit.specs.Replied.{WasProven}
+use Rattle.pc_implicit.specs.Writes.{txns_of}
+use Rattle.pc_lists.proofs.Each.{each-append, each-contains, each-weaker}
+use Rattle.pc_lists.proofs.Lists.{contains_map, contains_nil}
+use Rattle.pc_lists.proofs.Same.{same_txn-self}
 use Rattle.pc_proto.specs.declared.event.Event.{Event}
 use Rattle.pc_proto.specs.declared.event.Event.TheVariants as events
 use Rattle.pc_proto.specs.declared.meta.TxnMeta.{TxnMeta}
 use Rattle.pc_proto.specs.declared.request.Request.TheVariants as requests
-use Rattle.pc_world.proofs.Each.{each-append, each-weaker}
 use Rattle.pc_world.proofs.Knowing.{known_same, run_push}
+use Rattle.pc_world.proofs.Prefixes.{run_induction}
 use Rattle.pc_world.specs.After.{known_at}
 use Rattle.pc_world.specs.Committed.{anchor_in}
 use Rattle.pc_world.specs.Known.{Known, txns_after}
@@ -37,28 +40,10 @@ use Rattle.pc_world.specs.Known.Writes.{Write, asked_again, is_proved, last_seq_
 use Rattle.pc_world.specs.Local.{Head}
 use Rattle.pc_world.specs.Run.{IsRun, protocol}
 use Rattle.pc_world.specs.Send.Put.{MaySendPut}
-use Rattle.pc_world.specs.Unstaged.{NothingIsStaged}
 
-pub written_more : (history : List (Entry Event)) (e : Entry Event) (id : TxnId) (epoch : ℕ) (key : List ℕ) (seq p : ℕ) → WasWritten history id epoch key seq p → WasWritten (history ++ e ∷ []) id epoch key seq p
-written_more history e id epoch key seq p w = record {
-  send = w.send;
-  listed = Contains-append_left history (e ∷ []) w.send w.listed;
-  number = w.number;
-  range = w.range;
-  meta = w.meta;
-  asked = w.asked;
-  value = w.value;
-  sends = w.sends;
-  whose = w.whose;
-  epoch_is = w.epoch_is;
-  eval = w.eval;
-  evaluated = Contains-append_left history (e ∷ []) w.eval w.evaluated;
-  told = w.told;
-}
-
--- Each proof of the write was an answer to a put of it.
+-- Each proof of the write was an answer to a put or a query of it.
 abbrev pub AreAnswers : List (Entry Event) → TxnId → ℕ → Write → Type 0
-AreAnswers history id epoch w = (p : ℕ) → Contains w.proofs p → WasWritten history id epoch w.key w.seq p
+AreAnswers history id epoch w = (p : ℕ) → Contains w.proofs p → WasProven history id epoch w.key w.seq p
 
 -- The writes rise, each is proved before the next one at its key, and each proof was an answer.
 pub record AreOrderly (history : List (Entry Event)) (t : Txn) : Type 0 where
@@ -79,19 +64,19 @@ module _ (head : Head) where
         turn = alike_turn New t.writes u.writes alike o.turn;
         answers =
             alike_each New (AreAnswers history t.id t.epoch) (AreAnswers (history ++ e ∷ []) u.id u.epoch) (λ w x old like p there.
-            let here : WasWritten history t.id t.epoch w.key w.seq p = elim (like.new p there) [ inl before ↦ old p before | inr now ↦ now ] in
-            written_more history e u.id u.epoch x.key x.seq p
-            (subst (λ i. WasWritten history i u.epoch x.key x.seq p) (sym same)
-            (subst (λ n. WasWritten history t.id n x.key x.seq p) (sym epoch)
-            (subst (λ key. WasWritten history t.id t.epoch key x.seq p) (sym like.key)
-            (subst (λ seq. WasWritten history t.id t.epoch w.key seq p) (sym like.seq) here)))))
+            let here : WasProven history t.id t.epoch w.key w.seq p = elim (like.new p there) [ inl before ↦ old p before | inr now ↦ now ] in
+            proven_more history e u.id u.epoch x.key x.seq p
+            (subst (λ i. WasProven history i u.epoch x.key x.seq p) (sym same)
+            (subst (λ n. WasProven history t.id n x.key x.seq p) (sym epoch)
+            (subst (λ key. WasProven history t.id t.epoch key x.seq p) (sym like.key)
+            (subst (λ seq. WasProven history t.id t.epoch w.key seq p) (sym like.seq) here)))))
             t.writes u.writes alike o.answers;
       }
   orderly-turn history e k t u same o (Wrote w f epoch writes) =
       let old : Each (AreAnswers (history ++ e ∷ []) u.id u.epoch) t.writes =
       each-weaker (AreAnswers history t.id t.epoch) (AreAnswers (history ++ e ∷ []) u.id u.epoch) (λ v h p there.
-      written_more history e u.id u.epoch v.key v.seq p
-      (subst (λ i. WasWritten history i u.epoch v.key v.seq p) (sym same) (subst (λ n. WasWritten history t.id n v.key v.seq p) (sym epoch) (h p there))))
+      proven_more history e u.id u.epoch v.key v.seq p
+      (subst (λ i. WasProven history i u.epoch v.key v.seq p) (sym same) (subst (λ n. WasProven history t.id n v.key v.seq p) (sym epoch) (h p there))))
       t.writes o.answers in
       let new : AreAnswers (history ++ e ∷ []) u.id u.epoch w = λ p there. absurd (contains_nil p (subst (λ ps. Contains ps p) f.unproved there)) in
       record {
@@ -116,20 +101,20 @@ module _ (head : Head) where
     answers = subst (Each (AreAnswers history u.id u.epoch)) (sym none) tt;
   }
 
-  -- where nothing is staged, a session's writes are orderly
-  pub orderly : (history : List (Entry Event)) → IsRun head history → NothingIsStaged history → (actor : ActorId) (t : Txn) → Contains (known_at head actor history).txns t → AreOrderly history t
-  orderly = unstaged_induction head (λ history. (actor : ActorId) (t : Txn) → Contains (known_at head actor history).txns t → AreOrderly history t)
-      (λ actor t there. absurd (contains_nil t there)) (λ history e run only may all actor u there.
-      elim (comes_from head history run (unstaged_front history (e ∷ []) only) e may actor u there) [
+  -- a session's writes are orderly
+  pub orderly : (history : List (Entry Event)) → IsRun head history → (actor : ActorId) (t : Txn) → Contains (known_at head actor history).txns t → AreOrderly history t
+  orderly = run_induction head (λ history. (actor : ActorId) (t : Txn) → Contains (known_at head actor history).txns t → AreOrderly history t)
+      (λ actor t there. absurd (contains_nil t there)) (λ history e run may all actor u there.
+      elim (comes_from head history run e may actor u there) [
         | inl b ↦ orderly-begun (history ++ e ∷ []) u b.unwritten
         | inr c ↦ orderly-turn history e (known_at head actor history) c.t u c.same (all actor c.t c.there) c.turn
       ])
 
--- each proof that a session has of a write is an answer to a put of it
-pub proofs_were_written : (head : Head) (history : List (Entry Event)) (t : Txn) (w : Write) (ts : ℕ) → IsRun head history → NothingIsStaged history → Contains (txns_of head t.id history) t → Contains t.writes w → Contains w.proofs ts
-    → WasWritten history t.id t.epoch w.key w.seq ts
-proofs_were_written head history t w ts run only known inside there =
-    each_contained (AreAnswers history t.id t.epoch) t.writes w (orderly head history run only (actors.Session t.id.session) t known).answers inside ts there
+-- each proof that a session has of a write is an answer to a put or a query of it
+pub proofs_were_written : (head : Head) (history : List (Entry Event)) (t : Txn) (w : Write) (ts : ℕ) → IsRun head history → Contains (txns_of head t.id history) t → Contains t.writes w → Contains w.proofs ts
+    → WasProven history t.id t.epoch w.key w.seq ts
+proofs_were_written head history t w ts run known inside there =
+    each-contains (AreAnswers history t.id t.epoch) t.writes w (orderly head history run (actors.Session t.id.session) t known).answers inside ts there
 
 -- The transaction wrote this; or the write is of an earlier epoch.
 pub record HasPut (t : Txn) (epoch seq : ℕ) (key : List ℕ) (value : Option (List ℕ)) : Type 0 where
@@ -162,7 +147,7 @@ module _ (head : Head) (history : List (Entry Event)) (run : IsRun head history)
     where
       mine : meta.epoch ≡ t.epoch → (same_txn meta.id t.id && meta.epoch == t.epoch) ≡ true
       mine epoch =
-          and_from (same_txn meta.id t.id) (meta.epoch == t.epoch) (ap (same_txn meta.id) same ∙ same-itself meta.id) (eq-eqb meta.epoch t.epoch epoch)
+          and_from (same_txn meta.id t.id) (meta.epoch == t.epoch) (ap (same_txn meta.id) same ∙ same_txn-self meta.id) (eq-eqb meta.epoch t.epoch epoch)
 
       has : (ws : List Write) → meta.epoch ≡ t.epoch → with_put seq ts key value t.writes ≡ ws → ((x : Write) × Contains ws x × (x.seq ≡ seq) × (x.key ≡ key) × (x.value ≡ value))
           → HasPut (txn_sent (requests.Put meta seq ts key value) t) meta.epoch seq key value
@@ -239,13 +224,13 @@ module _ (head : Head) where
   HavePuts history = (a : Entry Event) → Contains history a → (number range : ℕ) (meta : TxnMeta) (seq ts : ℕ) (key : List ℕ) (value : Option (List ℕ)) → a.event ≡ events.Send number range (requests.Put meta seq ts key value)
       → (t : Txn) → Contains (txns_of head meta.id history) t → t.id ≡ meta.id → HasPut t meta.epoch seq key value
 
-  -- where nothing is staged, each put that was sent lays a write of its transaction
-  pub puts_sent : (history : List (Entry Event)) → IsRun head history → NothingIsStaged history → (a : Entry Event) → Contains history a
+  -- each put that was sent lays a write of its transaction
+  pub puts_sent : (history : List (Entry Event)) → IsRun head history → (a : Entry Event) → Contains history a
       → (number range : ℕ) (meta : TxnMeta) (seq ts : ℕ) (key : List ℕ) (value : Option (List ℕ)) → a.event ≡ events.Send number range (requests.Put meta seq ts key value)
       → (t : Txn) → Contains (txns_of head meta.id history) t → t.id ≡ meta.id → HasPut t meta.epoch seq key value
-  puts_sent = unstaged_induction head HavePuts (λ a there. absurd (contains_nil a there)) (λ history e run only may all a there number range meta seq ts key value is u inside same.
+  puts_sent = run_induction head HavePuts (λ a there. absurd (contains_nil a there)) (λ history e run may all a there number range meta seq ts key value is u inside same.
       elim (Contains-push_cases history e a there) [
-        | inl before ↦ elim (comes_from head history run (unstaged_front history (e ∷ []) only) e may (actors.Session meta.id.session) u inside) [
+        | inl before ↦ elim (comes_from head history run e may (actors.Session meta.id.session) u inside) [
           | inl b ↦
               let anchored = (put_anchored head history run a before number range meta seq ts key value is).anchor in
               let both : None ≡ Some meta.anchor = sym b.new.anchor ∙ ap (λ i. anchor_in i history) same ∙ anchored in absurd cc

@@ -22,13 +22,13 @@ use Rattle.pc_implicit.proofs.LaidIntents.{Turns, own-there, put-intents, resolv
 use Rattle.pc_implicit.proofs.Lift.{GoesOn, over}
 use Rattle.pc_implicit.proofs.VersionSearches.{above_newest-each}
 use Rattle.pc_implicit.specs.Versions.{IsRising}
+use Rattle.pc_lists.proofs.Each.{each-weaker}
 use Rattle.pc_proto.specs.declared.event.Event.{Event}
 use Rattle.pc_proto.specs.declared.fate.Fate.{Fate}
 use Rattle.pc_proto.specs.declared.record.Intent.{Intent}
 use Rattle.pc_proto.specs.declared.request.Request.{Request}
 use Rattle.pc_proto.specs.declared.request.Request.TheVariants as requests
 use Rattle.pc_proto.specs.Intents.{own_at}
-use Rattle.pc_world.proofs.Each.{each-weaker}
 use Rattle.pc_world.specs.After.{state_at}
 use Rattle.pc_world.specs.Evaluation.{intents_after, state_after, versions_after}
 use Rattle.pc_world.specs.Evaluation.IntentChange.{intents_with}

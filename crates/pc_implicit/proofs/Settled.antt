@@ -5,21 +5,22 @@ use Rattle.std.specs.Option.{option_or}
 use Rattle.pc_base.specs.declared.actor.ActorId.TheVariants as actors
 use Rattle.pc_base.specs.declared.entry.Entry.{Entry}
 use Rattle.pc_base.specs.declared.transaction.TxnId.{TxnId}
-use Rattle.pc_history.proofs.Lists.{contains_nil}
 use Rattle.pc_history.specs.History.{MayFollow}
 use Rattle.pc_implicit.proofs.Anchored.{put_anchored}
 use Rattle.pc_implicit.proofs.CommitPoint.{decides_now}
 use Rattle.pc_implicit.proofs.Homes.{home_on, committed_home}
-use Rattle.pc_implicit.proofs.Sent.{unstaged_front, unstaged_induction}
+use Rattle.pc_implicit.proofs.Sent.{unstaged_induction}
 use Rattle.pc_implicit.proofs.Turns.{IsAnswered, Restarted, WentOn, Wrote, comes_from, Turn}
 use Rattle.pc_implicit.proofs.WriteLists.{Laid, AreAlike}
 use Rattle.pc_implicit.specs.Decided.{decision}
-use Rattle.pc_implicit.specs.Writes.{StandsBy, home_of, txns_of, writes_at}
+use Rattle.pc_implicit.specs.Writes.{LastWriteStands, home_of, txns_of, writes_at}
+use Rattle.pc_lists.proofs.Lists.{contains_nil}
 use Rattle.pc_proto.specs.declared.event.Event.{Event}
 use Rattle.pc_proto.specs.declared.record.Standing.TheVariants as standings
 use Rattle.pc_proto.specs.declared.record.Status.{Status}
 use Rattle.pc_proto.specs.RecordRows.Reached.{status_of}
 use Rattle.pc_world.proofs.Knowing.{run_push}
+use Rattle.pc_world.proofs.Prefixes.{run_induction}
 use Rattle.pc_world.specs.After.{known_at}
 use Rattle.pc_world.specs.Committed.{anchor_in, IsCommitted, key_sent}
 use Rattle.pc_world.specs.Known.{Known}
@@ -47,11 +48,11 @@ module _ (head : Head) where
           → (decision (home_of head id history) ≡ Some (status_of standings.Committed epoch ts) → IsSettled head history id epoch ts)
           → (o : Option Status) → decision (home_of head id history) ≡ o → IsSettled head (history ++ e ∷ []) id epoch ts
       by history e run only may id epoch ts decided before None is =
-          settled_now head history run (unstaged_front history (e ∷ []) only) e id epoch ts is (decides_now head history run e may only id epoch ts is decided)
+          settled_now head history run e id epoch ts is (decides_now head history run e may only id epoch ts is decided)
       by history e run only may id epoch ts decided before (Some s) is =
           let both : Some s ≡ Some (status_of standings.Committed epoch ts) = sym ((home_on head id history e).decided s is) ∙ decided in
           let old : decision (home_of head id history) ≡ Some (status_of standings.Committed epoch ts) = is ∙ both in
-          settled_more head history run (unstaged_front history (e ∷ []) only) e may id epoch ts old (before old)
+          settled_more head history run e may id epoch ts old (before old)
 
 alike-none : (New : Write → ℕ → Type 0) (ws xs : List Write) → AreAlike New ws xs → ws ≡ [] → xs ≡ []
 alike-none New [] [] alike none = refl
@@ -75,10 +76,10 @@ module _ (head : Head) where
       let both : None ≡ Some f.meta.anchor = sym none ∙ ap (λ i. anchor_in i (history ++ e ∷ [])) (same ∙ sym f.whose) ∙ anchored in absurd cc
   unwritten-turn history e run may k t u same none before (Restarted r next writes) = writes
 
-  pub unwritten : (history : List (Entry Event)) → IsRun head history → NothingIsStaged history → (t : Txn) → Contains (txns_of head t.id history) t → anchor_in t.id history ≡ None → t.writes ≡ []
-  unwritten = unstaged_induction head (λ history. (t : Txn) → Contains (txns_of head t.id history) t → anchor_in t.id history ≡ None → t.writes ≡ [])
-      (λ t there. absurd (contains_nil t there)) (λ history e run only may all u there none.
-      elim (comes_from head history run (unstaged_front history (e ∷ []) only) e may (actors.Session u.id.session) u there) [
+  pub unwritten : (history : List (Entry Event)) → IsRun head history → (t : Txn) → Contains (txns_of head t.id history) t → anchor_in t.id history ≡ None → t.writes ≡ []
+  unwritten = run_induction head (λ history. (t : Txn) → Contains (txns_of head t.id history) t → anchor_in t.id history ≡ None → t.writes ≡ [])
+      (λ t there. absurd (contains_nil t there)) (λ history e run may all u there none.
+      elim (comes_from head history run e may (actors.Session u.id.session) u there) [
         | inl b ↦ b.unwritten
         | inr c ↦
             unwritten-turn history e run may (known_at head (actors.Session u.id.session) history) c.t u c.same none
@@ -87,12 +88,12 @@ module _ (head : Head) where
 
   -- where nothing is staged, what a committed transaction wrote stands
   pub writes_of_committed : (history : List (Entry Event)) (t : Txn) (ts : ℕ) (key : List ℕ) (front : List Laid) (seq : ℕ) (value : Option (List ℕ)) → IsRun head history → NothingIsStaged history
-      → Contains (txns_of head t.id history) t → IsCommitted head history t.id ts → writes_at key t.writes ≡ front ++ (seq, value) ∷ [] → StandsBy head history t key value ts
+      → Contains (txns_of head t.id history) t → IsCommitted head history t.id ts → writes_at key t.writes ≡ front ++ (seq, value) ∷ [] → LastWriteStands head history t key value ts
   writes_of_committed history t ts key front seq value run only known committed is =
       elim (committed_home head t.id history run only ts committed) [
         | inl decided ↦ (settled head history run only t.id decided.0 ts decided.1).stand t known refl key front seq value is
         | inr none ↦
-            let both : writes_at key [] ≡ front ++ (seq, value) ∷ [] = ap (writes_at key) (sym (unwritten history run only t known none)) ∙ is in
+            let both : writes_at key [] ≡ front ++ (seq, value) ∷ [] = ap (writes_at key) (sym (unwritten history run t known none)) ∙ is in
             absurd (empty front (seq, value) both)
       ]
     where

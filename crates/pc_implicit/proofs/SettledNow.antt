@@ -7,12 +7,9 @@ use Rattle.pc_base.specs.declared.actor.ActorId.TheVariants as actors
 use Rattle.pc_base.specs.declared.entry.Entry.{Entry}
 use Rattle.pc_base.specs.declared.transaction.TxnId.{TxnId}
 use Rattle.pc_base.specs.Span.{same_key}
-use Rattle.pc_history.proofs.Lists.{contains_cons, contains_head, contains_nil, contains_tail}
-use Rattle.pc_implicit.proofs.Anchored.{each_contained}
 use Rattle.pc_implicit.proofs.CommitPoint.{DecidesNow}
-use Rattle.pc_implicit.proofs.CommitsSent.{IsBeyond, IsCommittedSo, IsInForce, IsPassed, commits_sent}
+use Rattle.pc_implicit.proofs.CommitsSent.{IsBeyond, IsInForce, IsOver, IsPassed, commits_sent}
 use Rattle.pc_implicit.proofs.Doing.{same_or_not}
-use Rattle.pc_implicit.proofs.IntentKeys.{same_key-is}
 use Rattle.pc_implicit.proofs.OwnLaid.{HasFront, StandsIn}
 use Rattle.pc_implicit.proofs.OwnStanding.{own_hold}
 use Rattle.pc_implicit.proofs.PutsSent.{AreAnswers, orderly}
@@ -20,16 +17,18 @@ use Rattle.pc_implicit.proofs.Recorded.{evaluated_state}
 use Rattle.pc_implicit.proofs.Turns.{not_session}
 use Rattle.pc_implicit.proofs.WriteLists.{Laid, RiseAt, left_over, rise_at, rise_last}
 use Rattle.pc_implicit.specs.Decided.{decision, epoch_of, time_of}
-use Rattle.pc_implicit.specs.Writes.{IsWholeBy, StandsBy, WasWritten, home_of, own_intent, txns_of, writes_at}
+use Rattle.pc_implicit.specs.Replied.{WasProven}
+use Rattle.pc_implicit.specs.Writes.{IsWholeBy, LastWriteStands, home_of, own_intent, txns_of, writes_at}
+use Rattle.pc_lists.proofs.Each.{each-contains}
+use Rattle.pc_lists.proofs.Lists.{contains_cons, contains_head, contains_nil, contains_tail}
+use Rattle.pc_lists.proofs.Same.{same_key-is}
 use Rattle.pc_proto.specs.declared.event.Event.{Event}
 use Rattle.pc_proto.specs.declared.event.Event.TheVariants as events
 use Rattle.pc_proto.specs.declared.meta.TxnMeta.{TxnMeta}
 use Rattle.pc_proto.specs.declared.record.Intent.{Intent}
-use Rattle.pc_proto.specs.declared.record.Standing.TheVariants as standings
 use Rattle.pc_proto.specs.declared.request.Request.TheVariants as requests
 use Rattle.pc_proto.specs.Intents.{last_seq, own_at}
 use Rattle.pc_proto.specs.Place.{Place}
-use Rattle.pc_proto.specs.RecordRows.Reached.{status_of}
 use Rattle.pc_world.proofs.Knowing.{known_other, state_other}
 use Rattle.pc_world.specs.After.{state_at}
 use Rattle.pc_world.specs.Evaluation.{intents_after}
@@ -40,7 +39,6 @@ use Rattle.pc_world.specs.Local.{Head}
 use Rattle.pc_world.specs.RangeOf.{range_of}
 use Rattle.pc_world.specs.RangeState.{RangeState}
 use Rattle.pc_world.specs.Run.{IsRun}
-use Rattle.pc_world.specs.Unstaged.{NothingIsStaged}
 
 -- A commit of the transaction, at this epoch and timestamp, was sent.
 pub record WasAsked (history : List (Entry Event)) (id : TxnId) (epoch ts : ℕ) : Type 0 where
@@ -57,7 +55,7 @@ pub record WasAsked (history : List (Entry Event)) (id : TxnId) (epoch ts : ℕ)
 -- What the transaction wrote at the keys stands at this timestamp.
 abbrev pub AllStand : Head → List (Entry Event) → Txn → ℕ → Type 0
 AllStand head history t ts =
-    (key : List ℕ) (front : List Laid) (seq : ℕ) (value : Option (List ℕ)) → writes_at key t.writes ≡ front ++ (seq, value) ∷ [] → StandsBy head history t key value ts
+    (key : List ℕ) (front : List Laid) (seq : ℕ) (value : Option (List ℕ)) → writes_at key t.writes ≡ front ++ (seq, value) ∷ [] → LastWriteStands head history t key value ts
 
 -- The committed transaction was committed by a commit that was sent, is in that epoch still, and what it wrote stands.
 pub record IsSettled (head : Head) (history : List (Entry Event)) (id : TxnId) (epoch ts : ℕ) : Type 0 where
@@ -93,7 +91,7 @@ is-whole t key home front seq value is rise proof ts low ts_low i stands f =
     let high : i.ts ≤ max proof (time_of home) = stands.low (omega (arith, greatest)) in
     record { epoch = stands.epoch_is; low = omega (arith, high, low, ts_low); whole = whole }
 
-module _ (head : Head) (history : List (Entry Event)) (run : IsRun head history) (only : NothingIsStaged history) (e : Entry Event) (id : TxnId) (epoch ts : ℕ)
+module _ (head : Head) (history : List (Entry Event)) (run : IsRun head history) (e : Entry Event) (id : TxnId) (epoch ts : ℕ)
     (none : decision (home_of head id history) ≡ None) (now : DecidesNow head history e id epoch ts) where
   -- a commit changes no intent
   commit-keeps : (key : List ℕ) → own_intent head id key (history ++ e ∷ []) ≡ own_intent head id key history
@@ -117,13 +115,13 @@ module _ (head : Head) (history : List (Entry Event)) (run : IsRun head history)
   in-force t known same =
       let ev = now.ev in
       let who : t.id ≡ now.meta.id = same ∙ sym now.whose in
-      let became = commits_sent head history run only ev.send ev.listed now.number ev.range now.meta ts now.locks sends-commit t (subst (λ i. Contains (txns_of head i history) t) (sym now.whose) known) who in
+      let became = commits_sent head history run ev.send ev.listed now.number ev.range now.meta ts now.locks sends-commit t (subst (λ i. Contains (txns_of head i history) t) (sym now.whose) known) who in
       let epochs : now.meta.epoch ≡ epoch = now.epoch_is in
       let epoch_low = now.epoch_low in
       let ts_low = now.ts_low in
       let undecided : decision (home_of head now.meta.id history) ≡ None = subst (λ i. decision (home_of head i history) ≡ None) (sym now.whose) none in
       elim became [
-        | IsCommittedSo at decided ↦ let both : None ≡ Some (status_of standings.Committed at ts) = sym undecided ∙ decided in absurd cc
+        | IsOver s decided ↦ let both : None ≡ Some s = sym undecided ∙ decided in absurd cc
         | IsInForce force proved ↦ (sym epochs ∙ force, proved)
         | IsPassed beyond ↦ absurd (not-beyond epochs epoch_low ts_low (subst (λ i. IsBeyond now.meta.epoch ts (home_of head i history)) now.whose beyond))
       ]
@@ -141,13 +139,13 @@ module _ (head : Head) (history : List (Entry Event)) (run : IsRun head history)
       let ts_low : time_of (home_of head t.id history) ≤ ts = subst (λ i. time_of (home_of head i history) ≤ ts) (sym same) now.ts_low in
       let last : Laid = (seq, value) in
       let w = unwritten-at key t.writes last (subst (λ l. Contains l last) (sym is) (Contains-append_right front (last ∷ []) last (contains_head last []))) in
-      let by = each_contained (IsProvedBy ts) t.writes w.0 (in-force t known same).1 w.1 in
+      let by = each-contains (IsProvedBy ts) t.writes w.0 (in-force t known same).1 w.1 in
       let low : by.1 ≤ ts = by.4 in
-      let o = orderly head history run only (actors.Session t.id.session) t own in
-      let proof : WasWritten history t.id t.epoch w.0.key w.0.seq by.1 = each_contained (AreAnswers history t.id t.epoch) t.writes w.0 o.answers w.1 by.1 (by.0, by.2, by.3) in
-      let written : WasWritten history t.id t.epoch key seq by.1 =
-      subst (λ n. WasWritten history t.id t.epoch key n by.1) w.3 (subst (λ k. WasWritten history t.id t.epoch k w.0.seq by.1) w.2 proof) in
-      let h = own_hold head history run only t own key in
+      let o = orderly head history run (actors.Session t.id.session) t own in
+      let proof : WasProven history t.id t.epoch w.0.key w.0.seq by.1 = each-contains (AreAnswers history t.id t.epoch) t.writes w.0 o.answers w.1 by.1 (by.0, by.2, by.3) in
+      let written : WasProven history t.id t.epoch key seq by.1 =
+      subst (λ n. WasProven history t.id t.epoch key n by.1) w.3 (subst (λ k. WasProven history t.id t.epoch k w.0.seq by.1) w.2 proof) in
+      let h = own_hold head history run t own key in
       let r = h.written undecided seq by.1 written in
       let rise : RiseAt 0 (front ++ last ∷ []) = subst (RiseAt 0) is (rise_at key 0 t.writes o.rise) in
       (r.0, r.1, is-whole t key (home_of head t.id history) front seq value is rise by.1 ts low ts_low r.0 r.2 (h.front undecided r.0 r.1 r.2.epoch_is))

@@ -1,5 +1,6 @@
 -- What a committed transaction wrote stands over each later entry.
 use Rattle.std.proofs.Common.{◌≡◌, ℕ, ◌<◌, ◌≤◌, max, Bool, true, false, cond, inl, inr, List, [], ◌∷◌, ◌++◌, fold, Option, None, Some, Contains, sym, ap, subst, ◌∙◌, arith}
+use Rattle.std.proofs.lemmas.List.{append-nil}
 use Rattle.std.proofs.lemmas.List.Elements.{Contains-append_left}
 use Rattle.std.specs.Option.{option_map}
 use Rattle.pc_base.specs.declared.actor.ActorId.{ActorId}
@@ -9,21 +10,23 @@ use Rattle.pc_base.specs.declared.transaction.TxnId.{TxnId}
 use Rattle.pc_base.specs.declared.version.Version.{Version}
 use Rattle.pc_history.specs.History.{MayFollow}
 use Rattle.pc_implicit.proofs.Agreed.{IsNew}
-use Rattle.pc_implicit.proofs.Anchored.{each_contained}
+use Rattle.pc_implicit.proofs.Anchored.{commit_anchored}
 use Rattle.pc_implicit.proofs.CommitPoint.{status_same}
-use Rattle.pc_implicit.proofs.CommitsSent.{IsBeyond, uncommitted_passes}
 use Rattle.pc_implicit.proofs.Doing.{same_or_not}
 use Rattle.pc_implicit.proofs.Evals.{NamedMessage, of_entry, range_evaluates}
 use Rattle.pc_implicit.proofs.Fates.{FateIsSo, fates_are_so}
+use Rattle.pc_implicit.proofs.Homes.{home_is}
 use Rattle.pc_implicit.proofs.OwnKeys.{AsBefore, Ends, IsGone, IsLaid, IsMoved, own_changes}
 use Rattle.pc_implicit.proofs.OwnLaid.{not_overtaken}
 use Rattle.pc_implicit.proofs.PutsSent.{HasPut, orderly, puts_sent}
 use Rattle.pc_implicit.proofs.Recorded.{evaluated_state}
+use Rattle.pc_implicit.proofs.Refusals.{never_refused}
 use Rattle.pc_implicit.proofs.Turns.{IsAnswered, Restarted, WentOn, Wrote, comes_from}
 use Rattle.pc_implicit.proofs.VersionSteps.{makes_version, version_stays}
 use Rattle.pc_implicit.proofs.WriteLists.{Laid, RiseAt, alike_at, each_low, rise_at, rise_value, written_at}
 use Rattle.pc_implicit.specs.Decided.{decision, epoch_of, time_of}
-use Rattle.pc_implicit.specs.Writes.{IsWholeBy, StandsBy, home_of, own_intent, place_under, txns_of, writes_at}
+use Rattle.pc_implicit.specs.Writes.{IsWholeBy, LastWriteStands, home_of, own_intent, place_under, txns_of, writes_at}
+use Rattle.pc_lists.proofs.Each.{each-contains}
 use Rattle.pc_proto.specs.declared.event.Event.{Event}
 use Rattle.pc_proto.specs.declared.event.Event.TheVariants as events
 use Rattle.pc_proto.specs.declared.fate.Fate.{Fate}
@@ -39,7 +42,7 @@ use Rattle.pc_proto.specs.Intents.{last_seq, last_value, later_write, own_at}
 use Rattle.pc_proto.specs.Place.{Place, Nothing, Kept, Marked, is_final}
 use Rattle.pc_proto.specs.RecordRows.Reached.{status_of}
 use Rattle.pc_world.proofs.Knowing.{state_other}
-use Rattle.pc_world.specs.After.{known_at, state_at}
+use Rattle.pc_world.specs.After.{known_at, place_at, state_at}
 use Rattle.pc_world.specs.Committed.{anchor_in}
 use Rattle.pc_world.specs.Evaluation.{intents_after, state_after, versions_after}
 use Rattle.pc_world.specs.Evaluation.Put.{overtaken}
@@ -49,7 +52,6 @@ use Rattle.pc_world.specs.RangeOf.{range_of}
 use Rattle.pc_world.specs.RangeState.{RangeState}
 use Rattle.pc_world.specs.Run.{IsRun, protocol}
 use Rattle.pc_world.specs.StageFate.{IsUncommitted}
-use Rattle.pc_world.specs.Unstaged.{NothingIsStaged}
 use Rattle.pc_implicit.proofs.SettledNow.{IsSettled, WasAsked}
 
 asked-more : (history : List (Entry Event)) (e : Entry Event) (id : TxnId) (epoch ts : ℕ) → WasAsked history id epoch ts → WasAsked (history ++ e ∷ []) id epoch ts
@@ -76,7 +78,7 @@ decided-place (Kept r) s h = by (is_final r.status.standing) h
 decided-place (Marked m) s h = let same : m ≡ s = cc in (ap (λ (x : Status). x.epoch) same, ap (λ (x : Status). x.ts) same)
 
 -- The range of the key evaluates one more request.
-module _ (head : Head) (history : List (Entry Event)) (run : IsRun head history) (only : NothingIsStaged history) (e : Entry Event)
+module _ (head : Head) (history : List (Entry Event)) (run : IsRun head history) (e : Entry Event)
     (actor : ActorId) (number : ℕ) (told : Reply) (ev : NamedMessage head history e.actor actor number told) (is : e.event ≡ events.Eval actor number told)
     (key : List ℕ) (there : ev.range ≡ range_of head.splits key) (t : Txn) (known : Contains (txns_of head t.id history) t) (epoch ts : ℕ)
     (decided : decision (home_of head t.id history) ≡ Some (status_of standings.Committed epoch ts)) (epochs : t.epoch ≡ epoch) where
@@ -94,7 +96,7 @@ module _ (head : Head) (history : List (Entry Event)) (run : IsRun head history)
   unfolding s
   put-past meta seq0 ts0 value0 i asked whose same whole own over =
       let put : HasPut t meta.epoch seq0 key value0 =
-      puts_sent head history run only ev.send ev.listed number ev.range meta seq0 ts0 key value0 (ev.sends ∙ ap (events.Send number ev.range) asked)
+      puts_sent head history run ev.send ev.listed number ev.range meta seq0 ts0 key value0 (ev.sends ∙ ap (events.Send number ev.range) asked)
       t (subst (λ j. Contains (txns_of head j history) t) (sym whose) known) (sym whose) in
       let free = not_overtaken meta seq0 i (ap (overtaken meta seq0) (sym own) ∙ over) in
       let high = free.0 in
@@ -103,7 +105,7 @@ module _ (head : Head) (history : List (Entry Event)) (run : IsRun head history)
       let past : last_seq i < seq0 = free.1 equal in
       let w = put.written (sym equal ∙ same) in
       let laid : Contains i.history (w.0.seq, w.0.value) = subst (λ l. Contains l (w.0.seq, w.0.value)) (sym whole) (written_at key t.writes w.0 w.1 w.3) in
-      let below : w.0.seq ≤ last_seq i = each_contained (λ (x : Laid). x.0 ≤ last_seq i) i.history (w.0.seq, w.0.value) (each_low i.history) laid in
+      let below : w.0.seq ≤ last_seq i = each-contains (λ (x : Laid). x.0 ≤ last_seq i) i.history (w.0.seq, w.0.value) (each_low i.history) laid in
       let seq : w.0.seq ≡ seq0 = w.2 in
       omega (arith, past, below, seq)
 
@@ -111,7 +113,7 @@ module _ (head : Head) (history : List (Entry Event)) (run : IsRun head history)
   fate-so fate asked = fates_are_so head history run ev.send ev.listed number ev.range t.id key fate (ev.sends ∙ ap (events.Send number ev.range) asked)
 
   intent-stands : (front : List Laid) (seq : ℕ) (value : Option (List ℕ)) → writes_at key t.writes ≡ front ++ (seq, value) ∷ [] → (i : Intent) → own_at t.id key s.intents ≡ Some i → IsWholeBy t key ts i
-      → StandsBy head (history ++ e ∷ []) t key value ts
+      → LastWriteStands head (history ++ e ∷ []) t key value ts
   unfolding s
   intent-stands front seq value at_key i own w =
       let later : own_intent head t.id key (history ++ e ∷ []) ≡ own_at t.id key (intents_after ev.request s) = ap (λ (x : RangeState). own_at t.id key x.intents) state-is in
@@ -127,11 +129,11 @@ module _ (head : Head) (history : List (Entry Event)) (run : IsRun head history)
         | IsGone fate j asked ends there eq ↦ gone fate ends asked (fate-so fate asked)
       ]
     where
-      gone : (fate : Fate) → Ends fate → ev.request ≡ requests.Resolve t.id key fate → FateIsSo fate (home_of head t.id history) → StandsBy head (history ++ e ∷ []) t key value ts
+      gone : (fate : Fate) → Ends fate → ev.request ≡ requests.Resolve t.id key fate → FateIsSo fate (home_of head t.id history) → LastWriteStands head (history ++ e ∷ []) t key value ts
       gone (fates.Committed at_epoch at) ends asked so =
           let both : Some (status_of standings.Committed at_epoch at) ≡ Some (status_of standings.Committed epoch ts) = sym so ∙ decided in
           let same = status_same at_epoch epoch at ts both in
-          let o = orderly head history run only (actors.Session t.id.session) t known in
+          let o = orderly head history run (actors.Session t.id.session) t known in
           let rise : RiseAt 0 (front ++ (seq, value) ∷ []) = subst (RiseAt 0) at_key (rise_at key 0 t.writes o.rise) in
           let last : last_value i ≡ Some value = ap (λ l. option_map (λ (x : Laid). x.1) (fold later_write None l)) (w.whole ∙ at_key) ∙ rise_value 0 front (seq, value) rise in
           let asks : ev.request ≡ requests.Resolve t.id key (fates.Committed epoch ts) =
@@ -148,7 +150,7 @@ module _ (head : Head) (history : List (Entry Event)) (run : IsRun head history)
       gone (fates.Pending at) ends asked so = absurd ends
 
   -- what stood at the key stands after it
-  pub eval_stands : (front : List Laid) (seq : ℕ) (value : Option (List ℕ)) → writes_at key t.writes ≡ front ++ (seq, value) ∷ [] → StandsBy head history t key value ts → StandsBy head (history ++ e ∷ []) t key value ts
+  pub eval_stands : (front : List Laid) (seq : ℕ) (value : Option (List ℕ)) → writes_at key t.writes ≡ front ++ (seq, value) ∷ [] → LastWriteStands head history t key value ts → LastWriteStands head (history ++ e ∷ []) t key value ts
   unfolding s
   eval_stands front seq value at_key stands =
       elim stands [
@@ -157,26 +159,30 @@ module _ (head : Head) (history : List (Entry Event)) (run : IsRun head history)
       ]
 
 -- One more entry after the transaction was committed.
-module _ (head : Head) (history : List (Entry Event)) (run : IsRun head history) (only : NothingIsStaged history) (e : Entry Event) (may : MayFollow (protocol head) history e) (id : TxnId) (epoch ts : ℕ)
+module _ (head : Head) (history : List (Entry Event)) (run : IsRun head history) (e : Entry Event) (may : MayFollow (protocol head) history e) (id : TxnId) (epoch ts : ℕ)
     (decided : decision (home_of head id history) ≡ Some (status_of standings.Committed epoch ts)) (settled : IsSettled head history id epoch ts) where
   -- its session does not know it uncommitted
   known-committed : (t : Txn) → t.id ≡ id → IsUncommitted t.id (known_at head (actors.Session id.session) history).sent (known_at head (actors.Session id.session) history).heard → ⊥
   known-committed t same uncommitted =
       let a = settled.asked in
-      let beyond =
-      uncommitted_passes head history run only a.send a.listed a.number a.range a.meta ts a.locks a.sends (actors.Session id.session) t.id (a.whose ∙ sym same) (ap (λ (i : TxnId). actors.Session i.session) (sym same)) uncommitted in
-      let place = decided-place (home_of head id history) (status_of standings.Committed epoch ts) decided in
-      not-beyond a.epoch_is place.0 place.1 (subst (λ i. IsBeyond a.meta.epoch ts (home_of head i history)) a.whose beyond)
-    where
-      not-beyond : settled.asked.meta.epoch ≡ epoch → epoch_of (home_of head id history) ≡ epoch → time_of (home_of head id history) ≡ ts → IsBeyond settled.asked.meta.epoch ts (home_of head id history) → ⊥
-      not-beyond same epochs times (inl later) = omega (arith, same, epochs, later)
-      not-beyond same epochs times (inr above) = omega (arith, times, above)
+      let anchored = commit_anchored head history run a.send a.listed a.number a.range a.meta ts a.locks a.sends in
+      let there : place_at head a.range a.meta.id history ≡ home_of head a.meta.id history =
+      ap (λ r. place_at head r a.meta.id history) anchored.there ∙ sym (home_is head a.meta.id history a.meta.anchor anchored.anchor) in
+      let as_sent : decision (home_of head a.meta.id history) ≡ Some (status_of standings.Committed a.meta.epoch ts) =
+      subst (λ n. decision (home_of head a.meta.id history) ≡ Some (status_of standings.Committed n ts)) (sym a.epoch_is)
+      (subst (λ i. decision (home_of head i history) ≡ Some (status_of standings.Committed epoch ts)) (sym a.whose) decided) in
+      let place : decision (place_at head a.range a.meta.id (history ++ [])) ≡ Some (status_of standings.Committed a.meta.epoch ts) =
+      subst (λ h. decision (place_at head a.range a.meta.id h) ≡ Some (status_of standings.Committed a.meta.epoch ts)) (sym (append-nil history)) (ap decision there ∙ as_sent) in
+      let who : actors.Session id.session ≡ a.send.actor = ap (λ (i : TxnId). actors.Session i.session) (sym a.whose) ∙ sym anchored.whose in
+      never_refused head history [] (subst (IsRun head) (sym (append-nil history)) run) a.send a.listed a.number a.range a.meta ts a.locks a.sends place
+      (subst (λ i. IsUncommitted i (known_at head a.send.actor history).sent (known_at head a.send.actor history).heard) (same ∙ sym a.whose)
+      (subst (λ actor. IsUncommitted t.id (known_at head actor history).sent (known_at head actor history).heard) who uncommitted))
 
   -- so it goes on as it was
   pub goes_on : (u : Txn) → Contains (txns_of head id (history ++ e ∷ [])) u → u.id ≡ id
       → (t : Txn) × Contains (txns_of head id history) t × (t.id ≡ id) × (u.epoch ≡ t.epoch) × ((key : List ℕ) → writes_at key u.writes ≡ writes_at key t.writes)
   goes_on u there same =
-      elim (comes_from head history run only e may (actors.Session id.session) u there) [
+      elim (comes_from head history run e may (actors.Session id.session) u there) [
         | inl b ↦ absurd (new-none b.new)
         | inr c ↦
             let who : c.t.id ≡ id = sym c.same ∙ same in
@@ -193,7 +199,7 @@ module _ (head : Head) (history : List (Entry Event)) (run : IsRun head history)
           let both : decision Nothing ≡ Some (status_of standings.Committed epoch ts) = ap (λ o. decision (place_under head id history o)) (sym none) ∙ decided in absurd cc
 
   stands-as : (t u : Txn) (key : List ℕ) (value : Option (List ℕ)) → u.id ≡ t.id → u.epoch ≡ t.epoch → writes_at key u.writes ≡ writes_at key t.writes
-      → StandsBy head (history ++ e ∷ []) t key value ts → StandsBy head (history ++ e ∷ []) u key value ts
+      → LastWriteStands head (history ++ e ∷ []) t key value ts → LastWriteStands head (history ++ e ∷ []) u key value ts
   stands-as t u key value same epochs writes stands =
       elim stands [
         | inl version ↦
@@ -208,7 +214,7 @@ module _ (head : Head) (history : List (Entry Event)) (run : IsRun head history)
       ]
 
   still-stands : (t : Txn) → Contains (txns_of head id history) t → t.id ≡ id → (key : List ℕ) (front : List Laid) (seq : ℕ) (value : Option (List ℕ)) → writes_at key t.writes ≡ front ++ (seq, value) ∷ []
-      → StandsBy head (history ++ e ∷ []) t key value ts
+      → LastWriteStands head (history ++ e ∷ []) t key value ts
   still-stands t known same key front seq value is =
       let before = settled.stand t known same key front seq value is in
       elim (same_or_not e.actor (actors.Range (range_of head.splits key))) [
@@ -216,7 +222,7 @@ module _ (head : Head) (history : List (Entry Event)) (run : IsRun head history)
             let what = range_evaluates head history e (range_of head.splits key) may at in
             let ev = of_entry head history e what.0 what.1 what.2 run may what.3 in
             let range : ev.range ≡ range_of head.splits key = let both = sym ev.there ∙ at in cc both in
-            eval_stands head history run only e what.0 what.1 what.2 ev what.3 key range t (subst (λ i. Contains (txns_of head i history) t) (sym same) known) epoch ts
+            eval_stands head history run e what.0 what.1 what.2 ev what.3 key range t (subst (λ i. Contains (txns_of head i history) t) (sym same) known) epoch ts
             (subst (λ i. decision (home_of head i history) ≡ Some (status_of standings.Committed epoch ts)) (sym same) decided) (settled.epochs t known same) front seq value is before
         | inr differ ↦
             let still = state_other head (actors.Range (range_of head.splits key)) history e differ in

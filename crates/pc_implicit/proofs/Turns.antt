@@ -1,27 +1,24 @@
--- How the writes that a session knows of its transaction change over one more entry of a run in which nothing is staged.
+-- How the writes that a session knows of its transaction change over one more entry of a run.
 use Rattle.std.proofs.Common.{◌≡◌, ℕ, ◌+◌, ◌<◌, ◌≤◌, max, Bool, true, false, cond, ◌==◌, ◌&&◌, ◌||◌, ◌⊎◌, inl, inr, List, [], ◌∷◌, ◌++◌, map, fold, Option, None, Some, IfSome, Contains, All, IsTrue, refl, sym, ap, subst, ◌∙◌, arith}
 use Rattle.std.proofs.lemmas.Bool.{and_parts, eq-eqb, eqb-true, ne_eqb}
 use Rattle.std.proofs.lemmas.List.Elements.{Contains-append_left, Contains-push_cases}
-use Rattle.std.specs.List.{AllByRecursion as Each, list_any}
-use Rattle.std.specs.Prelude.{⊤}
+use Rattle.std.specs.List.{list_any}
 use Rattle.pc_base.specs.declared.actor.ActorId.{ActorId}
 use Rattle.pc_base.specs.declared.actor.ActorId.TheVariants as actors
 use Rattle.pc_base.specs.declared.entry.Entry.{Entry}
 use Rattle.pc_base.specs.declared.transaction.TxnId.{TxnId}
 use Rattle.pc_base.specs.Span.{same_key}
 use Rattle.pc_base.specs.Transaction.{same_txn}
-use Rattle.pc_history.proofs.Lists.{contains_cons, contains_head, contains_nil, contains_tail}
 use Rattle.pc_history.specs.History.{MayFollow}
 use Rattle.pc_history.specs.Own.{named_in}
 use Rattle.pc_implicit.proofs.Agreed.{AreNumbered, IsNew, Knows, agreed, begun_next, open_there, owned}
-use Rattle.pc_implicit.proofs.Commits.{act_of, none_unsure}
+use Rattle.pc_implicit.proofs.Commits.{act_of}
 use Rattle.pc_implicit.proofs.Doing.{Does, same_or_not, told_by_row}
-use Rattle.pc_implicit.proofs.Hearing.{IsSo, WasSentBy, heard-event, sent_is_so}
-use Rattle.pc_implicit.proofs.Keyed.{same-is}
-use Rattle.pc_implicit.proofs.IntentKeys.{same_key-is}
-use Rattle.pc_implicit.proofs.Sent.{unstaged_front, unstaged_induction, unstaged_sent}
+use Rattle.pc_implicit.proofs.Hearing.{IsSo, heard-event}
 use Rattle.pc_implicit.proofs.WriteLists.{AreAlike, IsAlike, alike-itself, alike_map, alike_themselves}
-use Rattle.pc_implicit.specs.Writes.{WasWritten}
+use Rattle.pc_implicit.specs.Replied.{QueryFound, WasProven, WasReplied, WasWritten}
+use Rattle.pc_lists.proofs.Lists.{contains_cons, contains_head, contains_nil, contains_tail}
+use Rattle.pc_lists.proofs.Same.{same_key-is, same_txn-is}
 use Rattle.pc_proto.specs.declared.answer.Answer.{Answer}
 use Rattle.pc_proto.specs.declared.answer.Answer.TheVariants as answers
 use Rattle.pc_proto.specs.declared.event.Event.{Event}
@@ -33,21 +30,20 @@ use Rattle.pc_proto.specs.declared.request.Request.{Request}
 use Rattle.pc_proto.specs.declared.request.Request.TheVariants as requests
 use Rattle.pc_world.proofs.Knowing.{known_other, known_same}
 use Rattle.pc_world.specs.After.{known_at}
-use Rattle.pc_world.specs.Known.{Known, begun_by, first_if, open_txn, told_first, txns_after, txns_told}
+use Rattle.pc_world.specs.Known.{Known, first_if, open_txn, told_first, txn_begun, txns_after, txns_told}
 use Rattle.pc_world.specs.Known.Statements.{Statement}
-use Rattle.pc_world.specs.Known.Traffic.{Heard, Sent, heard_by, replies_to}
-use Rattle.pc_world.specs.Known.Transactions.{Txn, has_staged, is_stage_of, txn_heard, txn_sent, txn_told}
+use Rattle.pc_world.specs.Known.Traffic.{Heard, heard_by, replies_to}
+use Rattle.pc_world.specs.Known.Transactions.{Txn, txn_heard, txn_sent, txn_told}
 use Rattle.pc_world.specs.Known.Writes.{Write, asked_again, is_proved, last_seq_of, proved_at, with_put, writes_replied}
 use Rattle.pc_world.specs.Local.{Head}
 use Rattle.pc_world.specs.Run.{IsRun, protocol}
 use Rattle.pc_world.specs.Send.Put.{MaySendFirst, MaySendPut}
 use Rattle.pc_world.specs.StageFate.{IsUncommitted}
 use Rattle.pc_world.specs.Tell.End.{MayTellRestart}
-use Rattle.pc_world.specs.Unstaged.{IsNoStage, NothingIsStaged}
 
--- The proof is an answer to a put of this write of the transaction's epoch.
+-- The proof is an answer to a put of this write of the transaction's epoch, or a query found the write.
 abbrev pub IsAnswered : List (Entry Event) → Txn → Write → ℕ → Type 0
-IsAnswered history t w p = WasWritten history t.id t.epoch w.key w.seq p
+IsAnswered history t w p = WasProven history t.id t.epoch w.key w.seq p
 
 -- The entry sends a first put of the transaction, which lays this write.
 pub record FirstPut (history : List (Entry Event)) (e : Entry Event) (k : Known) (t : Txn) (w : Write) : Type 0 where
@@ -176,41 +172,8 @@ proved-alike New key seq ts new w = by (w.seq == seq && same_key w.key key) refl
         }
     by false is = alike-itself New w
 
--- The event sends no query.
-abbrev pub SendsNoQuery : Event → Type 0
-SendsNoQuery (events.Send number range (requests.Query id epoch seq ts key by)) = ⊥
-SendsNoQuery event = ⊤
-
-module _ (head : Head) where
-  staged-none : (history : List (Entry Event)) → NothingIsStaged history → (actor : ActorId) (sent : List Sent) → Each (WasSentBy head history actor) sent → (id : TxnId) (epoch ts : ℕ) (key : List ℕ) (seq : ℕ)
-      → has_staged sent id epoch ts key seq ≡ true → ⊥
-  staged-none history only actor [] each id epoch ts key seq is = absurd cc
-  staged-none history only actor (m ∷ sent) each id epoch ts key seq is =
-      by m.request (unstaged_sent history only each.0.send each.0.listed m.number m.range m.request each.0.sends) (staged-none history only actor sent each.1 id epoch ts key seq) is
-    where
-      by : (request : Request) → IsNoStage request → (has_staged sent id epoch ts key seq ≡ true → ⊥) → (is_stage_of id epoch ts key seq request || has_staged sent id epoch ts key seq) ≡ true → ⊥
-      by (requests.Stage meta at now writes locks) unstaged later is = unstaged
-      by request unstaged later is = later is
-
-  asks-none : (history : List (Entry Event)) → IsRun head history → NothingIsStaged history → (actor : ActorId) (event : Event) → Does head actor (known_at head actor history) event → SendsNoQuery event
-  asks-none history run only actor (events.Send number range (requests.Query id epoch seq ts key by)) may =
-      let row = may.row in
-      elim row.why [
-        | inl listed ↦ none_unsure head history run only actor id epoch ts listed.writes listed.staging
-        | inr own ↦ staged-none history only actor (known_at head actor history).sent (sent_is_so head history run actor) id epoch ts key seq own.staged
-      ]
-  asks-none history run only actor event may = tt
-
-  -- where nothing is staged, no query is sent
-  pub none_asks : (history : List (Entry Event)) → IsRun head history → NothingIsStaged history → (a : Entry Event) → Contains history a → SendsNoQuery a.event
-  none_asks = unstaged_induction head (λ history. (a : Entry Event) → Contains history a → SendsNoQuery a.event) (λ a there. absurd (contains_nil a there)) (λ history e run only may all a there.
-      elim (Contains-push_cases history e a there) [
-        | inl before ↦ all a before
-        | inr now ↦ subst (λ (x : Entry Event). SendsNoQuery x.event) now (asks-none history run (unstaged_front history (e ∷ []) only) e.actor e.event (act_of head history e may))
-      ])
-
 -- One more entry of the transaction's own session.
-module _ (head : Head) (history : List (Entry Event)) (run : IsRun head history) (only : NothingIsStaged history) (e : Entry Event) (k : Known) (knows : Knows history e.actor k) where
+module _ (head : Head) (history : List (Entry Event)) (run : IsRun head history) (e : Entry Event) (k : Known) (knows : Knows history e.actor k) where
   still : (t u : Txn) → Contains k.txns t → u.id ≡ t.id → u.epoch ≡ t.epoch → u.writes ≡ t.writes → Comes history e k u
   still t u there same epoch writes =
       inr (record { t = t; there = there; same = same; turn = WentOn epoch (subst (AreAlike (IsAnswered history t) t.writes) (sym writes) (alike_themselves (IsAnswered history t) t.writes)) })
@@ -267,27 +230,32 @@ module _ (head : Head) (history : List (Entry Event)) (run : IsRun head history)
     where
       by : (b : Bool) → (same_txn meta.id t.id && meta.epoch == t.epoch) ≡ b → (u : Txn) → u.id ≡ t.id → u.epoch ≡ t.epoch → u.writes ≡ cond b (with_put seq ts key value t.writes) t.writes → Comes history e k u
       by true own u same epoch writes =
-          put-comes number range meta seq ts key value is may.row t u there (same-is meta.id t.id (and_parts (same_txn meta.id t.id) (meta.epoch == t.epoch) own).0) same epoch writes
+          put-comes number range meta seq ts key value is may.row t u there (same_txn-is meta.id t.id (and_parts (same_txn meta.id t.id) (meta.epoch == t.epoch) own).0) same epoch writes
       by false other u same epoch writes = still t u there same epoch writes
   sent-comes number range request is may t there = still t (txn_sent request t) there refl refl refl
 
-  heard-put : (h : Heard) (meta : TxnMeta) (seq ts : ℕ) (key : List ℕ) (value : Option (List ℕ)) (at : ℕ) → IsSo head history e.actor h → h.request ≡ requests.Put meta seq ts key value → h.reply ≡ replies.Written at
-      → WasWritten history meta.id meta.epoch key seq at
-  heard-put h meta seq ts key value at so asked told = record {
+  replied-so : (h : Heard) (request : Request) (reply : Reply) → IsSo head history e.actor h → h.request ≡ request → h.reply ≡ reply → WasReplied history request reply
+  replied-so h request reply so asked told = record {
     send = so.send;
     listed = so.listed;
     number = h.number;
     range = so.range;
-    meta = meta;
-    asked = ts;
-    value = value;
     sends = so.sends ∙ ap (events.Send h.number so.range) asked;
-    whose = refl;
-    epoch_is = refl;
     eval = so.eval;
     evaluated = so.evaluated;
-    told = so.told ∙ ap (events.Eval e.actor h.number) told ∙ ap (λ a. events.Eval a h.number (replies.Written at)) (sym so.whose);
+    told = so.told ∙ ap (events.Eval e.actor h.number) told ∙ ap (λ a. events.Eval a h.number reply) (sym so.whose);
   }
+
+  proved-comes : (key : List ℕ) (seq at : ℕ) (t u : Txn) → WasProven history t.id t.epoch key seq at → Contains k.txns t → u.id ≡ t.id → u.epoch ≡ t.epoch → u.writes ≡ map (proved_at key seq at) t.writes → Comes history e k u
+  proved-comes key seq at t u answered there same epoch writes =
+      let new : (w : Write) → w.seq ≡ seq → w.key ≡ key → IsAnswered history t w at =
+      λ w is_seq is_key. subst (λ n. WasProven history t.id t.epoch w.key n at) (sym is_seq) (subst (λ x. WasProven history t.id t.epoch x seq at) (sym is_key) answered) in
+      inr (record {
+        t = t;
+        there = there;
+        same = same;
+        turn = WentOn epoch (subst (AreAlike (IsAnswered history t) t.writes) (sym writes) (alike_map (IsAnswered history t) (proved_at key seq at) (proved-alike (IsAnswered history t) key seq at new) t.writes));
+      })
 
   reply-comes : (h : Heard) → IsSo head history e.actor h → (request : Request) → h.request ≡ request → (reply : Reply) → h.reply ≡ reply → (t u : Txn) → Contains k.txns t → u.id ≡ t.id → u.epoch ≡ t.epoch
       → u.writes ≡ writes_replied t.id t.epoch request reply t.writes → Comes history e k u
@@ -297,24 +265,30 @@ module _ (head : Head) (history : List (Entry Event)) (run : IsRun head history)
       by true own writes =
           let parts = and_parts (same_txn meta.id t.id) (meta.epoch == t.epoch) own in
           let answered : WasWritten history t.id t.epoch key seq at =
-          subst (λ i. WasWritten history i t.epoch key seq at) (same-is meta.id t.id parts.0)
-          (subst (λ n. WasWritten history meta.id n key seq at) (eqb-true meta.epoch t.epoch parts.1) (heard-put h meta seq ts key value at so asked told)) in
-          let new : (w : Write) → w.seq ≡ seq → w.key ≡ key → IsAnswered history t w at =
-          λ w is_seq is_key. subst (λ n. WasWritten history t.id t.epoch w.key n at) (sym is_seq) (subst (λ x. WasWritten history t.id t.epoch x seq at) (sym is_key) answered) in
-          inr (record {
-            t = t;
-            there = there;
-            same = same;
-            turn = WentOn epoch (subst (AreAlike (IsAnswered history t) t.writes) (sym writes) (alike_map (IsAnswered history t) (proved_at key seq at) (proved-alike (IsAnswered history t) key seq at new) t.writes));
-          })
+          subst (λ i. WasWritten history i t.epoch key seq at) (same_txn-is meta.id t.id parts.0)
+          (subst (λ n. WasWritten history meta.id n key seq at) (eqb-true meta.epoch t.epoch parts.1) (record { meta = meta; asked = ts; value = value; whose = refl; epoch_is = refl; replied = replied-so h (requests.Put meta seq ts key value) (replies.Written at) so asked told })) in
+          proved-comes key seq at t u (inl answered) there same epoch writes
       by false other writes = still t u there same epoch writes
   reply-comes h so (requests.Put meta seq ts key value) asked reply told t u there same epoch writes = still t u there same epoch (writes ∙ same-either (same_txn meta.id t.id && meta.epoch == t.epoch) t.writes)
     where
       same-either : (b : Bool) (ws : List Write) → cond b ws ws ≡ ws
       same-either true ws = refl
       same-either false ws = refl
-  reply-comes h so (requests.Query id epoch_at seq ts key by) asked reply told t u there same epoch writes =
-      absurd (subst SendsNoQuery (so.sends ∙ ap (events.Send h.number so.range) asked) (none_asks head history run only so.send so.listed))
+  reply-comes h so (requests.Query id epoch_at seq ts key asker) asked replies.Found told t u there same epoch writes = by (same_txn id t.id && epoch_at == t.epoch) refl writes
+    where
+      by : (b : Bool) → (same_txn id t.id && epoch_at == t.epoch) ≡ b → u.writes ≡ cond b (map (proved_at key seq ts) t.writes) t.writes → Comes history e k u
+      by true own writes =
+          let parts = and_parts (same_txn id t.id) (epoch_at == t.epoch) own in
+          let found : QueryFound history t.id t.epoch key seq ts =
+          subst (λ i. QueryFound history i t.epoch key seq ts) (same_txn-is id t.id parts.0)
+          (subst (λ n. QueryFound history id n key seq ts) (eqb-true epoch_at t.epoch parts.1) (record { by = asker; replied = replied-so h (requests.Query id epoch_at seq ts key asker) replies.Found so asked told })) in
+          proved-comes key seq ts t u (inr found) there same epoch writes
+      by false other writes = still t u there same epoch writes
+  reply-comes h so (requests.Query id epoch_at seq ts key asker) asked reply told t u there same epoch writes = still t u there same epoch (writes ∙ same-either (same_txn id t.id && epoch_at == t.epoch) t.writes)
+    where
+      same-either : (b : Bool) (ws : List Write) → cond b ws ws ≡ ws
+      same-either true ws = refl
+      same-either false ws = refl
   reply-comes h so request asked reply told t u there same epoch writes = still t u there same epoch writes
 
   heard-comes : (h : Option Heard) → IfSome h (IsSo head history e.actor) → (t : Txn) → Contains k.txns t → Comes history e k (txn_heard k.sent h t)
@@ -352,13 +326,13 @@ module _ (head : Head) (history : List (Entry Event)) (run : IsRun head history)
           ]
       by false txns opened whole there = still u u (subst (λ l. Contains l u) (sym whole) there) refl refl refl
 
-  begun-comes : (s : Option Statement) (id : TxnId) (ts : ℕ) → e.event ≡ events.Tell (answers.Begun id ts) → IsNew history id → Comes history e k (begun_by s id ts)
+  begun-comes : (s : Option Statement) (id : TxnId) (ts : ℕ) → e.event ≡ events.Tell (answers.Begun id ts) → IsNew history id → Comes history e k (txn_begun s id ts)
   begun-comes None id ts is new = inl (record { ts = ts; tells = is; new = new; epoch = refl; unwritten = refl })
   begun-comes (Some s) id ts is new = inl (record { ts = ts; tells = is; new = new; epoch = refl; unwritten = refl })
 
   tell-comes : (answer : Answer) → e.event ≡ events.Tell answer → Does head e.actor k (events.Tell answer) → (u : Txn) → Contains (txns_told answer k) u → Comes history e k u
   tell-comes (answers.Begun id ts) is may u there =
-      elim (contains_cons (begun_by k.statement id ts) k.txns u there) [
+      elim (contains_cons (txn_begun k.statement id ts) k.txns u there) [
         | inl same ↦
             let next = begun_next head e.actor k id ts may in
             subst (Comes history e k) same (begun-comes k.statement id ts is (knows.fresh id next.0 (omega (arith, next.1))))
@@ -376,14 +350,14 @@ module _ (head : Head) (history : List (Entry Event)) (run : IsRun head history)
   event-comes (events.Tell answer) is may h so u there = tell-comes answer is may u there
   event-comes event is may h so u there = still u u there refl refl refl
 
-module _ (head : Head) (history : List (Entry Event)) (run : IsRun head history) (only : NothingIsStaged history) (e : Entry Event) (may : MayFollow (protocol head) history e) where
+module _ (head : Head) (history : List (Entry Event)) (run : IsRun head history) (e : Entry Event) (may : MayFollow (protocol head) history e) where
   -- where what an actor knows of a transaction after the entry comes from
   pub comes_from : (actor : ActorId) (u : Txn) → Contains (known_at head actor (history ++ e ∷ [])).txns u → Comes history e (known_at head actor history) u
   comes_from actor u there =
       elim (same_or_not e.actor actor) [
         | inl same ↦
             subst (λ a. Comes history e (known_at head a history) u) same
-            (event-comes head history run only e (known_at head e.actor history) (agreed head history run e.actor) e.event refl (act_of head history e may)
+            (event-comes head history run e (known_at head e.actor history) (agreed head history run e.actor) e.event refl (act_of head history e may)
             (heard_by e.event (named_in (protocol head) history e.event) (known_at head e.actor history).sent) (heard-event head history run e.actor e.event may.caused) u
             (subst (λ (l : Known). Contains l.txns u) (known_same head e.actor history e refl)
             (subst (λ a. Contains (known_at head a (history ++ e ∷ [])).txns u) (sym same) there)))

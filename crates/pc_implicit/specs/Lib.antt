@@ -1,6 +1,9 @@
 pub mod Answers
 pub mod Decided
 pub mod Laws
-pub mod Writes
 pub mod Reads
+pub mod Replied
+pub mod Stages
+pub mod Staging
 pub mod Versions
+pub mod Writes

@@ -6,12 +6,9 @@ use Rattle.pc_base.specs.declared.transaction.TxnId.{TxnId}
 use Rattle.pc_base.specs.declared.version.Version.{Version}
 use Rattle.pc_base.specs.Span.{same_key}
 use Rattle.pc_implicit.specs.Decided.{decision, time_of}
+use Rattle.pc_implicit.specs.Replied.{WasProven}
 use Rattle.pc_proto.specs.declared.event.Event.{Event}
-use Rattle.pc_proto.specs.declared.event.Event.TheVariants as events
-use Rattle.pc_proto.specs.declared.meta.TxnMeta.{TxnMeta}
 use Rattle.pc_proto.specs.declared.record.Intent.{Intent}
-use Rattle.pc_proto.specs.declared.reply.Reply.TheVariants as replies
-use Rattle.pc_proto.specs.declared.request.Request.TheVariants as requests
 use Rattle.pc_proto.specs.Intents.{last_seq, own_at}
 use Rattle.pc_proto.specs.Place.{Place, Nothing}
 use Rattle.pc_world.specs.After.{known_at, place_at, state_at}
@@ -44,22 +41,6 @@ home_of head id history = place_under head id history (anchor_in id history)
 abbrev pub own_intent : Head → TxnId → List ℕ → List (Entry Event) → Option Intent
 own_intent head id key history = own_at id key (state_at head (range_of head.splits key) history).intents
 
--- A put of the transaction's epoch, of this key and sequence, was evaluated, and answered that it is written at this timestamp.
-pub record WasWritten (history : List (Entry Event)) (id : TxnId) (epoch : ℕ) (key : List ℕ) (seq ts : ℕ) : Type 0 where
-  pub send : Entry Event
-  pub listed : Contains history send
-  pub number : ℕ
-  pub range : ℕ
-  pub meta : TxnMeta
-  pub asked : ℕ
-  pub value : Option (List ℕ)
-  pub sends : send.event ≡ events.Send number range (requests.Put meta seq asked key value)
-  pub whose : meta.id ≡ id
-  pub epoch_is : meta.epoch ≡ epoch
-  pub eval : Entry Event
-  pub evaluated : Contains history eval
-  pub told : eval.event ≡ events.Eval send.actor number (replies.Written ts)
-
 -- The intent has the first writes at the key of the transaction's epoch, at least one.
 pub record IsFrontOf (t : Txn) (key : List ℕ) (i : Intent) : Type 0 where
   pub rest : List (ℕ × Option (List ℕ))
@@ -69,7 +50,7 @@ pub record IsFrontOf (t : Txn) (key : List ℕ) (i : Intent) : Type 0 where
 
 -- The write stands as an intent of the epoch; while it is the intent's last one, that lies no higher than where it was written or
 -- where the transaction's record has gone.
-pub record StandsAs (t : Txn) (home : Place) (seq ts : ℕ) (i : Intent) : Type 0 where
+pub record StandsAsIntent (t : Txn) (home : Place) (seq ts : ℕ) (i : Intent) : Type 0 where
   pub epoch : i.meta.epoch ≡ t.epoch
   pub has : seq ≤ last_seq i
   pub low : last_seq i ≤ seq → i.ts ≤ max ts (time_of home)
@@ -80,21 +61,21 @@ pub record OwnStand (head : Head) (history : List (Entry Event)) (t : Txn) (key 
   pub reached : (i : Intent) → own_intent head t.id key history ≡ Some i → i.meta.epoch ≤ t.epoch
   pub front : decision (home_of head t.id history) ≡ None → (i : Intent) → own_intent head t.id key history ≡ Some i → i.meta.epoch ≡ t.epoch
       → IsFrontOf t key i
-  pub written : decision (home_of head t.id history) ≡ None → (seq ts : ℕ) → WasWritten history t.id t.epoch key seq ts
-      → (i : Intent) × (own_intent head t.id key history ≡ Some i) × StandsAs t (home_of head t.id history) seq ts i
+  pub written : decision (home_of head t.id history) ≡ None → (seq ts : ℕ) → WasProven history t.id t.epoch key seq ts
+      → (i : Intent) × (own_intent head t.id key history ≡ Some i) × StandsAsIntent t (home_of head t.id history) seq ts i
 
--- Where nothing is staged, what a transaction wrote in its epoch stands in its intents while it is not decided.
+-- What a transaction wrote in its epoch stands in its intents while it is not decided.
 abbrev pub OwnIntentsStand : Type 0
 OwnIntentsStand =
     (head : Head) (history : List (Entry Event)) (t : Txn) (key : List ℕ)
-    → IsRun head history → NothingIsStaged history → Contains (txns_of head t.id history) t → OwnStand head history t key
+    → IsRun head history → Contains (txns_of head t.id history) t → OwnStand head history t key
 
--- Each proof that a session has of a write of its transaction's epoch is an answer to a put of it.
+-- Each proof that a session has of a write of its transaction's epoch is an answer to a put of it, or to a query that found it.
 abbrev pub ProofsWereWritten : Type 0
 ProofsWereWritten =
     (head : Head) (history : List (Entry Event)) (t : Txn) (w : Write) (ts : ℕ)
-    → IsRun head history → NothingIsStaged history → Contains (txns_of head t.id history) t → Contains t.writes w → Contains w.proofs ts
-    → WasWritten history t.id t.epoch w.key w.seq ts
+    → IsRun head history → Contains (txns_of head t.id history) t → Contains t.writes w → Contains w.proofs ts
+    → WasProven history t.id t.epoch w.key w.seq ts
 
 -- The intent is of the transaction's epoch, lies at or below the timestamp, and has all its writes at the key.
 pub record IsWholeBy (t : Txn) (key : List ℕ) (ts : ℕ) (i : Intent) : Type 0 where
@@ -104,8 +85,8 @@ pub record IsWholeBy (t : Txn) (key : List ℕ) (ts : ℕ) (i : Intent) : Type 0
 
 -- The transaction's last write at the key stands as a version at this timestamp, or all its writes there as an intent that is not
 -- above it.
-abbrev pub StandsBy : Head → List (Entry Event) → Txn → List ℕ → Option (List ℕ) → ℕ → Type 0
-StandsBy head history t key value ts =
+abbrev pub LastWriteStands : Head → List (Entry Event) → Txn → List ℕ → Option (List ℕ) → ℕ → Type 0
+LastWriteStands head history t key value ts =
     Contains (state_at head (range_of head.splits key) history).versions (record { key = key; ts = ts; id = t.id; value = value })
     ⊎ ((i : Intent) × (own_intent head t.id key history ≡ Some i) × IsWholeBy t key ts i)
 
@@ -115,7 +96,7 @@ WritesOfCommitted =
     (head : Head) (history : List (Entry Event)) (t : Txn) (ts : ℕ) (key : List ℕ)
     (front : List (ℕ × Option (List ℕ))) (seq : ℕ) (value : Option (List ℕ))
     → IsRun head history → NothingIsStaged history → Contains (txns_of head t.id history) t → IsCommitted head history t.id ts
-    → writes_at key t.writes ≡ front ++ (seq, value) ∷ [] → StandsBy head history t key value ts
+    → writes_at key t.writes ≡ front ++ (seq, value) ∷ [] → LastWriteStands head history t key value ts
 
 -- The version is the last write at its key of a transaction that is committed at its timestamp, in the key's range.
 pub record IsOfCommitted (head : Head) (history : List (Entry Event)) (range : ℕ) (v : Version) : Type 0 where

@@ -1,11 +1,11 @@
 ghost use Rattle.pc_implicit.specs.Writes.{OwnIntentsStand, ProofsWereWritten, VersionsAreCommitted, WritesOfCommitted};
 
-/// A law: where nothing is staged, what a transaction wrote in its epoch stands in its intents while it is not decided.
+/// A law: what a transaction wrote in its epoch stands in its intents while it is not decided.
 pub fn own_intents_stand()
     ensures { OwnIntentsStand }
 {}
 
-/// A law: where nothing is staged, each proof that a session has of a write is an answer to a put of it.
+/// A law: each proof that a session has of a write is an answer to a put of it, or to a query that found it.
 pub fn proofs_were_written()
     ensures { ProofsWereWritten }
 {}

@@ -4,9 +4,9 @@ ghost use Rattle.std.specs.Prelude.{◌≡◌, ℕ, ◌+◌, ◌<◌, ◌≤◌,
 ghost use Rattle.std.specs.Io.{ReadsAtMost};
 ghost use Rattle.std.specs.Io.KnownBytes.{ReadConsumes};
 ghost use Rattle.std.specs.declared.option.Option.{Option};
-ghost use Rattle.pc_io.specs.Counts.{Rose};
+ghost use Rattle.pc_base.specs.Counts.{saturating_next};
 ghost use Rattle.pc_io.specs.Causes.{HasCause};
-ghost use Rattle.pc_io.specs.Reading.{IsAllOf, LeavesNothing, TakesAtMost, TakesExactly};
+ghost use Rattle.pc_io.specs.Reading.{HasNoneLeft, IsAllOf, TakesAtMost, TakesExactly};
 
 use crate::failure::Failed;
 use std::alloc::{AllocError, Global};
@@ -64,25 +64,26 @@ impl From<AllocError> for ReadFault {
 const CHUNK: usize = 8192;
 
 /// Reads a source to its end. More bytes than `limit` are refused once one more than the limit
-/// was read; the source is then not asked again.
+/// was read; the source is then not asked again, nor after a failure.
 pub fn read_all<S: Source>(
     alloc: Global,
     source: &mut S,
     limit: usize,
 ) -> Result<Vec<u8>, ReadFault>
     ensures ok { IfOk result (λ bytes. IsAllOf (S.left source.old) bytes.items) }
-    ensures end { OnOk result (LeavesNothing (S.left source.old) (S.left source.new)) }
+    ensures end { OnOk result (HasNoneLeft (S.left source.old) (S.left source.new)) }
     ensures within { IfOk result (λ bytes. length bytes.items ≤ limit) }
 
     // Refused as too long exactly where one byte more than the limit was read.
     ensures too_long { IfSome (S.left source.old) (λ left.
         IsErrOf result (ReadFault.TooLong (limit + 1)) ↔ TakesExactly (limit + 1) left (S.left source.new)) }
     ensures number { (bytes : ℕ) → result ≡ Err (ReadFault.TooLong bytes) → bytes ≡ limit + 1 }
-    ensures failed { result ≡ Err ReadFault.Failed → Rose (S.faults source.old) (S.faults source.new) }
+    // One failure ends it.
+    ensures failed { result ≡ Err ReadFault.Failed → S.faults source.new ≡ saturating_next (S.faults source.old) }
+    ensures count { ¬ (result ≡ Err ReadFault.Failed) → S.faults source.new ≡ S.faults source.old }
 
     // Whatever the answer: what was read is the front of what was left.
     ensures taken { TakesAtMost (limit + 1) (S.left source.old) (S.left source.new) }
-    ensures count { S.faults source.old ≤ S.faults source.new }
 {
     let mut bytes = Vec::new(alloc);
     let mut chunk = [0; CHUNK];

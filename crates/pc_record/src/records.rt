@@ -2,7 +2,7 @@
 
 ghost use Rattle.std.specs.Prelude.{◌≡◌, IfOk};
 ghost use Rattle.pc_proto.specs.RecordRows.Reached.{at_epoch};
-ghost use Rattle.pc_proto.specs.RecordRows.Records.{listed};
+ghost use Rattle.pc_proto.specs.RecordRows.Records.{listed_metas};
 
 use pc_base::{Items, NoMemory, TryCopy, TxnId};
 use pc_proto::{Metas, Record, TxnMeta};
@@ -11,7 +11,7 @@ use std::collections::BTreeMap;
 
 /// The records' metas by transaction, each with its record's epoch.
 pub(crate) fn listed(alloc: Global, records: &BTreeMap<TxnId, Record>) -> Result<Metas, NoMemory>
-    ensures { IfOk result (λ made. made ≡ listed records.now.entries) }
+    ensures { IfOk result (λ made. made ≡ listed_metas records.now.entries) }
 {
     let mut metas = Items::new(alloc);
     for (_, record) in records {

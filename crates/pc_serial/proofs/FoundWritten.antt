@@ -7,7 +7,6 @@ use Rattle.pc_base.specs.declared.transaction.TxnId.{TxnId}
 use Rattle.pc_base.specs.declared.version.Version.{Version}
 use Rattle.pc_base.specs.Span.{contains}
 use Rattle.pc_base.specs.Versions.{visible}
-use Rattle.pc_history.proofs.Lists.{contains_head}
 use Rattle.pc_implicit.proofs.Begins.{committed_was_begun}
 use Rattle.pc_implicit.proofs.Deciders.{decided_by}
 use Rattle.pc_implicit.proofs.Fronts.{front_same}
@@ -21,10 +20,11 @@ use Rattle.pc_implicit.proofs.SettledVersions.{versions_are_committed}
 use Rattle.pc_implicit.specs.Decided.{decision}
 use Rattle.pc_implicit.specs.Reads.{GrowsAbove}
 use Rattle.pc_implicit.specs.Writes.{IsWholeBy, home_of, own_intent, txns_of, writes_at}
+use Rattle.pc_lists.proofs.Each.{each-contains}
+use Rattle.pc_lists.proofs.Lists.{contains_head}
 use Rattle.pc_proto.specs.declared.event.Event.{Event}
 use Rattle.pc_proto.specs.declared.record.Intent.{Intent}
 use Rattle.pc_serial.proofs.GoodReads.{IsClearTo}
-use Rattle.pc_serial.proofs.InOrder.{each-contains}
 use Rattle.pc_serial.proofs.Laid.{RisesFrom, laid, laid-append, laid-last, last-laid, rises-front}
 use Rattle.pc_serial.proofs.Order.{PointsDiffer}
 use Rattle.pc_serial.proofs.OwnDone.{done-rises, laid-is, own-says, own-silent}
@@ -106,7 +106,7 @@ module _ (head : Head) (history : List (Entry Event)) (run : IsRun head history)
         let now = versions_are_committed head history (range_of head.splits key) v run only still in
         let low = r.low in
         let is_last : laid key (operations_of history v.id) ≡ now.front ++ (now.seq, v.value) ∷ [] =
-        laid-is head history run only v.id now.t now.known now.whose key ∙ subst (λ k. writes_at k now.t.writes ≡ now.front ++ (now.seq, v.value) ∷ []) of_key now.last in
+        laid-is head history run v.id now.t now.known now.whose key ∙ subst (λ k. writes_at k now.t.writes ≡ now.front ++ (now.seq, v.value) ∷ []) of_key now.last in
         let last = last-laid key (operations_of history v.id) now.front now.seq v.value is_last in
         let first = point-earlier head history run only front r.back v.id v.ts r.whole early.committed now.committed in
         let second = point-later head history run only front r.back id r.at r.whole r.uncommitted r.committed in
@@ -159,7 +159,7 @@ module _ (head : Head) (history : List (Entry Event)) (run : IsRun head history)
         let order = before-low head history differ before id later r.stands other r.at c.0 there r.committed c.1 in
         let k = is-known other c.0 c.1 in
         let ends : writes_at key k.t.writes ≡ laid key last.front ++ (last.seq, last.value) ∷ [] =
-        sym (laid-is head history run only other k.t k.mine k.named key) ∙ laid-last key (operations_of history other) last in
+        sym (laid-is head history run other k.t k.mine k.named key) ∙ laid-last key (operations_of history other) last in
         let stands = writes_of_committed head history k.t c.0 key (laid key last.front) last.seq last.value run only (subst (λ i. Contains (txns_of head i history) k.t) (sym k.named) k.mine)
         (subst (λ i. IsCommitted head history i c.0) (sym k.named) c.1) ends in
         elim stands [
@@ -175,7 +175,7 @@ module _ (head : Head) (history : List (Entry Event)) (run : IsRun head history)
     done-rise : RisesFrom 0 (laid key done)
     done-rise =
         let k = is-known id r.at r.committed in
-        rises-front 0 (laid key done) (laid key r.rest) (subst (RisesFrom 0) (ap (laid key) r.did ∙ laid-append key done r.rest) (done-rises head history run only id k.t k.mine k.named key))
+        rises-front 0 (laid key done) (laid key r.rest) (subst (RisesFrom 0) (ap (laid key) r.did ∙ laid-append key done r.rest) (done-rises head history run id k.t k.mine k.named key))
 
     -- the read finds what was written last
     pub found-is-written : (found_at id epoch seq ts key (state_at head (range_of head.splits key) front)).1 ≡ written key (flat_map (operations_of history) before ++ done)
@@ -187,10 +187,10 @@ module _ (head : Head) (history : List (Entry Event)) (run : IsRun head history)
               subst (λ xs. Contains xs (Write key last.seq last.value)) (sym last.whole) (Contains-append_right last.front (Write key last.seq last.value ∷ last.back) (Write key last.seq last.value) (contains_head (Write key last.seq last.value) last.back)) in
               let p = r.proved last.seq last.value there in
               ap (λ o. (found_first o (visible key ts s.versions)).1)
-              (own-says head front run-front only-front id epoch done r.had undecided key seq last r.last done-rise p.0 p.1)
+              (own-says head front run-front id epoch done r.had undecided key seq last r.last done-rise p.0 p.1)
               ∙ sym (written-by-last key (flat_map (operations_of history) before) done last)
           | inr leaves ↦
-              ap (λ o. (found_first o (visible key ts s.versions)).1) (own-silent head front run-front only-front id epoch done r.had undecided key seq leaves)
+              ap (λ o. (found_first o (visible key ts s.versions)).1) (own-silent head front run-front id epoch done r.had undecided key seq leaves)
               ∙ visible-before
               ∙ sym (written-left key (flat_map (operations_of history) before) done leaves)
         ]

@@ -1,5 +1,3 @@
-pub mod Anywhere
-pub mod Each
 pub mod Exchange
 pub mod Kept
 pub mod KeptVersions

@@ -3,6 +3,10 @@
 pub mod CallMessages
 pub mod EarlyProof
 pub mod EarlyTell
+pub mod Eighth
 pub mod FinishingJobs
+pub mod OneWrite
 pub mod PipelinedPuts
 pub mod Resends
+pub mod Rounds
+pub mod WaveOrder

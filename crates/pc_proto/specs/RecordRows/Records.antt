@@ -6,5 +6,5 @@ use Rattle.pc_proto.specs.declared.record.Record.{Record}
 use Rattle.pc_proto.specs.RecordRows.Reached.{at_epoch}
 
 -- The metas of these records, in their order, each with its record's epoch.
-abbrev pub listed : List (TxnId × Record) → List TxnMeta
-listed records = map (λ e. at_epoch e.1.status.epoch e.1.meta) records
+abbrev pub listed_metas : List (TxnId × Record) → List TxnMeta
+listed_metas records = map (λ e. at_epoch e.1.status.epoch e.1.meta) records

@@ -1,5 +1,5 @@
 -- What is so of each element of a list, through the functions that make lists and search them.
-use Rattle.std.proofs.Common.{Bool, true, false, cond, not, List, [], ◌∷◌, ◌++◌, map, filter, find, fold, filter_map, Option, None, Some, IfSome}
+use Rattle.std.proofs.Common.{Bool, inl, inr, subst, true, false, cond, not, Contains, List, [], ◌∷◌, ◌++◌, map, filter, find, fold, filter_map, Option, None, Some, IfSome}
 use Rattle.std.specs.List.{AllByRecursion as Each, cons_option, flat_map}
 use Rattle.std.specs.Option.{option_map}
 use Rattle.std.specs.BTreeMap.{insert_entry}
@@ -7,6 +7,7 @@ use Rattle.std.specs.declared.cmp.Ordering.{Ordering}
 use Rattle.std.specs.declared.cmp.Ordering.TheVariants.{Less, Equal, Greater}
 use Rattle.std.specs.Ordering.{match_ordering}
 use Rattle.pc_base.specs.Keyed.{at, without}
+use Rattle.pc_lists.proofs.Lists.{contains_cons, contains_nil}
 
 module _ {X : Type 0} (P : X → Type 0) where
   pub each-append : (xs ys : List X) → Each P xs → Each P ys → Each P (xs ++ ys)
@@ -95,3 +96,13 @@ module _ {K V : Type 0} (P : V → Type 0) (cmp : K → K → Ordering) where
       by Less rest = (h, a)
       by Equal rest = (h, a.1)
       by Greater rest = (a.0, rest)
+
+pub each-contains : {X : Type 0} (P : X → Type 0) (xs : List X) (x : X) → Each P xs → Contains xs x → P x
+each-contains P [] x a c = absurd (contains_nil x c)
+each-contains P (y ∷ ys) x a c =
+    elim (contains_cons y ys x c) [ inl same ↦ subst P same a.0 | inr later ↦ each-contains P ys x a.1 later ]
+
+-- What is so of each one for two reasons.
+pub each-both : {X : Type 0} (P Q S : X → Type 0) → ((x : X) → P x → Q x → S x) → (xs : List X) → Each P xs → Each Q xs → Each S xs
+each-both P Q S on [] a b = tt
+each-both P Q S on (x ∷ xs) a b = (on x a.0 b.0, each-both P Q S on xs a.1 b.1)
