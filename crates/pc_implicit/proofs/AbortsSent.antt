@@ -8,10 +8,10 @@ use Rattle.pc_base.specs.declared.transaction.TxnId.{TxnId}
 use Rattle.pc_base.specs.Transaction.{same_txn}
 use Rattle.pc_history.specs.History.{MayFollow}
 use Rattle.pc_history.specs.Own.{named_in, own}
-use Rattle.pc_implicit.proofs.Agreed.{begun_next, open_there, owned}
+use Rattle.pc_implicit.proofs.Agreed.{begun-grows, begun_next, open_there, owned}
 use Rattle.pc_implicit.proofs.CommitCalls.{is-begin, is-tell, open-before, same-told}
 use Rattle.pc_implicit.proofs.Commits.{act_of}
-use Rattle.pc_implicit.proofs.Did.{begun-grows, numbered-at, session_at}
+use Rattle.pc_implicit.proofs.Did.{numbered-at, session_at}
 use Rattle.pc_implicit.proofs.Doing.{Does, same_or_not}
 use Rattle.pc_implicit.proofs.Moves.{first_after, is_first, open_is_first}
 use Rattle.pc_implicit.proofs.OpenReads.{within-statement}

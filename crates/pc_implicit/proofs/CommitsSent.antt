@@ -17,9 +17,10 @@ use Rattle.pc_implicit.proofs.Hearing.{IsSo, heard_is_so}
 use Rattle.pc_implicit.proofs.Homes.{home_is, home_on}
 use Rattle.pc_implicit.proofs.Lift.{over}
 use Rattle.pc_implicit.proofs.Metas.{subject_anchored}
+use Rattle.pc_implicit.proofs.Moves.{one_named}
 use Rattle.pc_implicit.proofs.PutsSent.{all-each}
 use Rattle.pc_implicit.proofs.Refusals.{sent_known}
-use Rattle.pc_implicit.proofs.Turns.{IsAnswered, Restarted, Turn, WentOn, Wrote, comes_from, one_txn}
+use Rattle.pc_implicit.proofs.Turns.{IsAnswered, Restarted, Turn, WentOn, Wrote, comes_from}
 use Rattle.pc_implicit.proofs.Views.{Stands, places_go_on}
 use Rattle.pc_implicit.proofs.WriteLists.{IsAlike, alike_each}
 use Rattle.pc_implicit.specs.Decided.{IsNotBelow, decision, epoch_of, time_of}
@@ -171,7 +172,7 @@ module _ (head : Head) where
       let act : Does head e.actor (known_at head e.actor history) (events.Send number range (requests.Commit meta ts locks)) = subst (Does head e.actor (known_at head e.actor history)) is (act_of head history e may) in
       let row = subst (λ x. MaySendCommit (known_at head x history) (record { meta = meta; ts = ts; locks = locks })) own act.row in
       let t_is : row.t ≡ t =
-      one_txn (actors.Session meta.id.session) (k.begun + 1) k.txns row.t t (agreed head history run (actors.Session meta.id.session)).numbered row.mine inside (ap (λ (m : TxnMeta). m.id) (sym row.whose.same) ∙ sym same) in
+      one_named (actors.Session meta.id.session) (k.begun + 1) k.txns row.t t (agreed head history run (actors.Session meta.id.session)).numbered row.mine inside (ap (λ (m : TxnMeta). m.id) (sym row.whose.same) ∙ sym same) in
       let epoch : meta.epoch ≡ t.epoch = ap (λ (m : TxnMeta). m.epoch) row.whose.same ∙ ap (λ (x : Txn). x.epoch) t_is in
       elim row.decided [
         | inl decides ↦

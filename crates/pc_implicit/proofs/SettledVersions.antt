@@ -16,13 +16,13 @@ use Rattle.pc_implicit.proofs.Homes.{home_commits, home_on}
 use Rattle.pc_implicit.proofs.IntentKeys.{each-found}
 use Rattle.pc_implicit.proofs.LaidIntents.{own-there}
 use Rattle.pc_implicit.proofs.Metas.{EventHas, metas_agree}
+use Rattle.pc_implicit.proofs.Moves.{one_named}
 use Rattle.pc_implicit.proofs.OwnStanding.{own_hold}
 use Rattle.pc_implicit.proofs.PutsSent.{orderly}
 use Rattle.pc_implicit.proofs.Recorded.{evaluated_state}
 use Rattle.pc_implicit.proofs.RisingVersions.{LiesAbove, versions_rise}
 use Rattle.pc_implicit.proofs.Sent.{unstaged_front, unstaged_induction}
 use Rattle.pc_implicit.proofs.Settled.{settled}
-use Rattle.pc_implicit.proofs.Turns.{one_txn}
 use Rattle.pc_implicit.proofs.VersionSteps.{IsMade, version_cases}
 use Rattle.pc_implicit.proofs.WriteLists.{Laid, RiseAt, rise_at, rise_value}
 use Rattle.pc_implicit.specs.Decided.{decision}
@@ -83,7 +83,7 @@ module _ (head : Head) (history : List (Entry Event)) (run : IsRun head history)
       let on = has_more head history e (actors.Session v.id.session) v.id (o.t, o.known, o.whose) in
       let g = goes_on head history run e may v.id o.epoch v.ts o.decided before on.0 on.1 on.2 in
       let numbered = (agreed head history run (actors.Session v.id.session)).numbered in
-      let same : g.0 ≡ o.t = one_txn (actors.Session v.id.session) _ (known_at head (actors.Session v.id.session) history).txns g.0 o.t numbered g.1 o.known (g.2 ∙ sym o.whose) in
+      let same : g.0 ≡ o.t = one_named (actors.Session v.id.session) _ (known_at head (actors.Session v.id.session) history).txns g.0 o.t numbered g.1 o.known (g.2 ∙ sym o.whose) in
       record {
         epoch = o.epoch;
         decided = (home_on head v.id history e).decided (status_of standings.Committed o.epoch v.ts) o.decided;

@@ -8,12 +8,13 @@ use Rattle.pc_base.specs.declared.entry.Entry.{Entry}
 use Rattle.pc_implicit.proofs.Agreed.{agreed, open_there}
 use Rattle.pc_implicit.proofs.Hearing.{WasSentBy, sent_is_so}
 use Rattle.pc_implicit.proofs.Metas.{subject_anchored}
+use Rattle.pc_implicit.proofs.Moves.{one_named}
 use Rattle.pc_implicit.proofs.PutsSent.{AreOrderly, orderly, puts_sent}
 use Rattle.pc_implicit.proofs.StagesKnown.{HasSent, dead_more, heard_goes_on, none_sent, sent_cases, stage_of, stage_sent}
 use Rattle.pc_implicit.proofs.StagesRefuted.{dead_refuted}
 use Rattle.pc_implicit.proofs.StagesSent.{has_sent_stage, staged_txn}
 use Rattle.pc_implicit.proofs.StageWords.{IsKnownLast, LaterIsRefuted, StagesLast}
-use Rattle.pc_implicit.proofs.Turns.{IsAnswered, Restarted, Turn, WentOn, Wrote, comes_from, one_txn}
+use Rattle.pc_implicit.proofs.Turns.{IsAnswered, Restarted, Turn, WentOn, Wrote, comes_from}
 use Rattle.pc_implicit.proofs.WriteLists.{AreAlike, AreInTurn, IsAlike, Rise, alike_back, alike_on}
 use Rattle.pc_implicit.specs.Writes.{txns_of}
 use Rattle.pc_lists.proofs.Each.{each-contains}
@@ -217,7 +218,7 @@ module _ (head : Head) where
               | inr now ↦ elim (stage_sent head history e may actor s now) [
                 | inl old ↦ before old
                 | inr new ↦
-                    let own : new.t ≡ c.t = one_txn actor (k.begun + 1) k.txns new.t c.t (agreed head history run actor).numbered (open_there k new.t new.opened) c.there (ap (λ (m : TxnMeta). m.id) (sym new.whose.same) ∙ named) in
+                    let own : new.t ≡ c.t = one_named actor (k.begun + 1) k.txns new.t c.t (agreed head history run actor).numbered (open_there k new.t new.opened) c.there (ap (λ (m : TxnMeta). m.id) (sym new.whose.same) ∙ named) in
                     by history e run actor s u c.t now.number now.range now.sends new own (orderly head history run actor c.t c.there) more.0 c.turn
               ]
             ]
