@@ -6,6 +6,7 @@ use Rattle.std.specs.List.{AllByRecursion as Each, AllPairs}
 use Rattle.std.specs.Option.{option_map}
 use Rattle.pc_base.specs.Keyed.{at, set_at, without}
 use Rattle.pc_base.specs.Span.{same_key}
+use Rattle.pc_lists.proofs.Each.{each-both}
 use Rattle.pc_lists.proofs.Same.{same_key-differs, same_key-equal, same_key-is}
 
 module _ {X : Type 0} (R : X → X → Type 0) where
