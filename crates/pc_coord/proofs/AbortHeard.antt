@@ -6,11 +6,9 @@ use Rattle.pc_base.specs.declared.actor.ActorId.TheVariants as actors
 use Rattle.pc_base.specs.Rising.{AreRising}
 use Rattle.pc_coord.proofs.Closing.{closing-left, closing-may, opened3}
 use Rattle.pc_coord.proofs.Ending.{EndsWith, IsFinalAs, final_aborted, final_committed}
-use Rattle.pc_coord.proofs.Lists.{any_last}
 use Rattle.pc_coord.proofs.Replies.{last_said, learned_to, reply_known, still_open}
 use Rattle.pc_coord.proofs.Resting.{closed_told, told_in}
 use Rattle.pc_coord.proofs.RollingBack.{abort_request}
-use Rattle.pc_coord.proofs.Same.{same_txn-self}
 use Rattle.pc_coord.proofs.Steps.{counted-heard, heard}
 use Rattle.pc_coord.specs.Coordinating.{after_abort_reply, rolled_back_with, with_heard}
 use Rattle.pc_coord.specs.Coordination.{Coordination, job_of}
@@ -22,6 +20,8 @@ use Rattle.pc_coord.specs.Knows.Ending.{AwaitsAbort}
 use Rattle.pc_coord.specs.Knows.Held.{IsCounted}
 use Rattle.pc_coord.specs.Turning.{cause_in, cause_of}
 use Rattle.pc_history.specs.declared.pair.Pair.{Pair}
+use Rattle.pc_lists.proofs.Anywhere.{any_last}
+use Rattle.pc_lists.proofs.Same.{same_txn-self}
 use Rattle.pc_proto.specs.declared.answer.Answer.{Answer}
 use Rattle.pc_proto.specs.declared.answer.Answer.TheVariants as answers
 use Rattle.pc_proto.specs.declared.call.Call.TheVariants as calls

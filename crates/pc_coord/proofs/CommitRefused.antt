@@ -9,10 +9,10 @@ use Rattle.pc_coord.proofs.Beginning.{no_messages, none_left}
 use Rattle.pc_coord.proofs.CommitDecided.{counted-commit}
 use Rattle.pc_coord.proofs.Committing.{commit_sends}
 use Rattle.pc_coord.proofs.Ids.{no_stages, on_commits-more, views-as}
-use Rattle.pc_coord.proofs.Lists.{any_kept, any_last, any_last_of, at_least-kept, at_least-push, last-push}
+use Rattle.pc_coord.proofs.Lists.{any_last_of, at_least-kept, at_least-push, last-push}
 use Rattle.pc_coord.proofs.Replies.{still_open}
 use Rattle.pc_coord.proofs.Resting.{match_false, open_is}
-use Rattle.pc_coord.proofs.Same.{if_true, same_txn-self}
+use Rattle.pc_coord.proofs.Same.{if_true}
 use Rattle.pc_coord.proofs.Settled.{settled_told}
 use Rattle.pc_coord.proofs.Steps.{counted-told, heard, told, told_is}
 use Rattle.pc_coord.proofs.Suiting.{suits_now}
@@ -27,6 +27,8 @@ use Rattle.pc_coord.specs.Knows.Ending.{AwaitsCommit, IsRefusedNow}
 use Rattle.pc_coord.specs.Knows.Held.{IsCounted, IsHeld, IsOpenAs, IsPendingOf, IsSettled}
 use Rattle.pc_coord.specs.Knows.Sending.{learned}
 use Rattle.pc_coord.specs.Transaction.{refreshed, risen_to, transaction_of}
+use Rattle.pc_lists.proofs.Anywhere.{any_kept, any_last}
+use Rattle.pc_lists.proofs.Same.{same_txn-self}
 use Rattle.pc_proto.specs.declared.answer.Answer.TheVariants as answers
 use Rattle.pc_proto.specs.declared.call.Call.TheVariants as calls
 use Rattle.pc_proto.specs.declared.event.Event.TheVariants as events

@@ -5,10 +5,10 @@ use Rattle.pc_base.specs.Rising.{AreRising}
 use Rattle.pc_base.specs.Transaction.{same_txn}
 use Rattle.pc_coord.proofs.Beginning.{no_messages, none_left}
 use Rattle.pc_coord.proofs.Ids.{no_stages, on_commits-if, views-as}
-use Rattle.pc_coord.proofs.Lists.{any_of, any_true_kept, at_least-weaker}
+use Rattle.pc_coord.proofs.Lists.{any_true_kept, at_least-weaker}
 use Rattle.pc_coord.proofs.NoTxn.{told_no_txn}
 use Rattle.pc_coord.proofs.Resting.{asked_knows, closed_told, match_false, open_is, rests}
-use Rattle.pc_coord.proofs.Same.{if_true, same_txn-self}
+use Rattle.pc_coord.proofs.Same.{if_true}
 use Rattle.pc_coord.proofs.Settled.{settled_asked}
 use Rattle.pc_coord.proofs.Steps.{asked, counted-asked, counted-sent, sent, sent_is, told}
 use Rattle.pc_coord.proofs.Undecided.{undecided}
@@ -24,6 +24,8 @@ use Rattle.pc_coord.specs.Knows.Ending.{IsRefusedNow}
 use Rattle.pc_coord.specs.Knows.Held.{IsCounted, IsHeld, IsOpenAs, IsOwnHeard, IsOwnSent, IsSettled, PutsUpTo}
 use Rattle.pc_coord.specs.Transaction.{commit_of, refreshed, transaction_of}
 use Rattle.pc_history.specs.declared.pair.Pair.{Pair}
+use Rattle.pc_lists.proofs.Anywhere.{any_of}
+use Rattle.pc_lists.proofs.Same.{same_txn-self}
 use Rattle.pc_proto.specs.declared.answer.Answer.TheVariants as answers
 use Rattle.pc_proto.specs.declared.call.Call.TheVariants as calls
 use Rattle.pc_proto.specs.declared.event.Event.{Event}

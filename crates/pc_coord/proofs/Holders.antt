@@ -6,12 +6,12 @@ use Rattle.std.proofs.lemmas.List.Elements.{All-cons, All-head, All-nil, All-tai
 use Rattle.std.specs.List.{list_any}
 use Rattle.pc_base.specs.declared.transaction.TxnId.{TxnId}
 use Rattle.pc_base.specs.Transaction.{same_txn}
-use Rattle.pc_coord.proofs.Rounds.{count-append, count-cons, one_if}
 use Rattle.pc_coord.specs.declared.messages.Message.{Message}
 use Rattle.pc_coord.specs.declared.messages.Progress.{Progress}
 use Rattle.pc_coord.specs.declared.messages.Progress.TheVariants as progresses
 use Rattle.pc_coord.specs.Knows.Reading.{AreApart, AreDifferent, IsApart, holders_met}
 use Rattle.pc_coord.specs.Messages.{blocked_by, change_first, first_met, holder_met, is_awaited, is_met, met_at, progress_met, progress_met_at, replied_as}
+use Rattle.pc_lists.proofs.Counts.{count-append, count-cons, one_if}
 use Rattle.pc_proto.specs.declared.reply.Reply.{Reply}
 use Rattle.pc_proto.specs.declared.reply.Reply.TheVariants as replies
 use Rattle.pc_proto.specs.Replies.{is_conflict_with}

@@ -8,7 +8,7 @@ use Rattle.pc_base.specs.Rising.{AreRising}
 use Rattle.pc_base.specs.Transaction.{same_txn}
 use Rattle.pc_coord.proofs.Ids.{puts-one, views-as}
 use Rattle.pc_coord.proofs.Puts.{none_heard_next, own_put, put_for, said_last, undecided}
-use Rattle.pc_coord.proofs.Same.{if_true, same_epoch-self, same_txn-self}
+use Rattle.pc_coord.proofs.Same.{if_true, same_epoch-self}
 use Rattle.pc_coord.proofs.Steps.{counted-sent, sent, sent_is}
 use Rattle.pc_coord.proofs.Writes.{asked-key, asked-last_seq, asked-next, asked-proofs, asked-proved, asked-value, last_seq-push, put-again}
 use Rattle.pc_coord.specs.Coordination.{Coordination}
@@ -22,6 +22,7 @@ use Rattle.pc_coord.specs.Knows.Sending.{IsSendable}
 use Rattle.pc_coord.specs.Knows.Writing.{IsWriting, write_call}
 use Rattle.pc_coord.specs.Rounds.{IsPaced}
 use Rattle.pc_coord.specs.Transaction.{meta_in, put_of, transaction_of}
+use Rattle.pc_lists.proofs.Same.{same_txn-self}
 use Rattle.pc_proto.specs.declared.request.Request.{Request}
 use Rattle.pc_proto.specs.Requests.{is_put_of}
 use Rattle.pc_world.specs.Follows.Resends.{MayGoAgain}

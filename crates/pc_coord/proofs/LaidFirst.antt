@@ -9,7 +9,7 @@ use Rattle.pc_base.specs.Span.{same_key}
 use Rattle.pc_base.specs.Transaction.{same_txn}
 use Rattle.pc_coord.proofs.Ids.{no_stages, puts-more, puts-one}
 use Rattle.pc_coord.proofs.Resting.{open_is}
-use Rattle.pc_coord.proofs.Same.{if_true, same_epoch-self, same_txn-self}
+use Rattle.pc_coord.proofs.Same.{if_true, same_epoch-self}
 use Rattle.pc_coord.proofs.Steps.{counted-sent, sent, sent_is}
 use Rattle.pc_coord.proofs.Writes.{all_are_proved, last_seq-push, put-new, with_lock-again}
 use Rattle.pc_coord.specs.Coordination.{Coordination, put_due}
@@ -23,7 +23,8 @@ use Rattle.pc_coord.specs.Knows.Sending.{IsSendable}
 use Rattle.pc_coord.specs.Knows.Writing.{IsWriting, write_call}
 use Rattle.pc_coord.specs.Rounds.{IsPaced}
 use Rattle.pc_coord.specs.Transaction.{put_of, transaction_of, with_own_write}
-use Rattle.pc_history.proofs.Lists.{all_from_contains}
+use Rattle.pc_lists.proofs.Lists.{all_from_contains}
+use Rattle.pc_lists.proofs.Same.{same_txn-self}
 use Rattle.pc_proto.specs.declared.meta.TxnMeta.{TxnMeta}
 use Rattle.pc_proto.specs.declared.request.Request.{Request}
 use Rattle.pc_proto.specs.declared.request.Request.TheVariants as requests

@@ -11,11 +11,10 @@ use Rattle.pc_coord.proofs.Ids.{on_commits-more, views-as}
 use Rattle.pc_coord.proofs.LaidAgain.{last_is}
 use Rattle.pc_coord.proofs.LaidFirst.{first_knows}
 use Rattle.pc_coord.proofs.Puts.{asks_for}
-use Rattle.pc_coord.proofs.Lists.{any_last}
 use Rattle.pc_coord.proofs.Pacing.{paced-heard}
 use Rattle.pc_coord.proofs.Replies.{still_open}
 use Rattle.pc_coord.proofs.Resting.{open_is, told_in}
-use Rattle.pc_coord.proofs.Same.{if_true, same_epoch-self, same_txn-self}
+use Rattle.pc_coord.proofs.Same.{if_true, same_epoch-self}
 use Rattle.pc_coord.proofs.Settled.{settled_told}
 use Rattle.pc_coord.proofs.Steps.{counted-told, heard, told, told_is}
 use Rattle.pc_coord.proofs.Writes.{all_proved, proved-last_seq}
@@ -30,6 +29,8 @@ use Rattle.pc_coord.specs.Knows.Writing.{AwaitsPut, write_call}
 use Rattle.pc_coord.specs.Rounds.{IsPaced}
 use Rattle.pc_coord.specs.Transaction.{landed, put_of, transaction_of, with_own_write}
 use Rattle.pc_coord.specs.Suiting.{IsWriter}
+use Rattle.pc_lists.proofs.Anywhere.{any_last}
+use Rattle.pc_lists.proofs.Same.{same_txn-self}
 use Rattle.pc_proto.specs.declared.answer.Answer.TheVariants as answers
 use Rattle.pc_proto.specs.declared.event.Event.TheVariants as events
 use Rattle.pc_proto.specs.declared.reply.Reply.TheVariants as replies

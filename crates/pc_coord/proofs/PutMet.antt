@@ -7,7 +7,7 @@ use Rattle.pc_base.specs.Transaction.{same_txn}
 use Rattle.pc_coord.proofs.GivingUp.{blocked_gives, gives_up}
 use Rattle.pc_coord.proofs.Lists.{at_least-kept, at_least-push, last-push}
 use Rattle.pc_coord.proofs.Pacing.{paced-met}
-use Rattle.pc_coord.proofs.Same.{if_true, same_epoch-self, same_txn-self}
+use Rattle.pc_coord.proofs.Same.{if_true, same_epoch-self}
 use Rattle.pc_coord.proofs.Settled.{settled_heard}
 use Rattle.pc_coord.proofs.Steps.{heard}
 use Rattle.pc_coord.specs.Coordination.{Coordination}
@@ -20,6 +20,7 @@ use Rattle.pc_coord.specs.Knows.Writing.{AwaitsPut, IsWriting, write_call}
 use Rattle.pc_coord.specs.Messages.{one_more}
 use Rattle.pc_coord.specs.Transaction.{put_of, transaction_of}
 use Rattle.pc_coord.specs.Turning.{due_of_conflict, met_due}
+use Rattle.pc_lists.proofs.Same.{same_txn-self}
 use Rattle.pc_proto.specs.declared.answer.Answer.TheVariants as answers
 use Rattle.pc_proto.specs.declared.meta.TxnMeta.{TxnMeta}
 use Rattle.pc_proto.specs.declared.reply.Reply.{Reply}

@@ -11,12 +11,10 @@ use Rattle.pc_coord.proofs.Changes.{found_all, found_some, kept_by}
 use Rattle.pc_coord.proofs.Holders.{AreTwo, all_held, all_two, all_with, changed_other, found_passes, held, held-changed, held-heard}
 use Rattle.pc_coord.proofs.InRead.{IsInRead, Proceeds}
 use Rattle.pc_coord.proofs.Learned.{learn_heard}
-use Rattle.pc_coord.proofs.Lists.{any_last}
 use Rattle.pc_coord.proofs.Quiet.{IsQuiet, quiet_read}
 use Rattle.pc_coord.proofs.ReadsNext.{read_ts-same, reads_all, reads_of}
 use Rattle.pc_coord.proofs.ReadsOf.{IsPlainRead, IsReadOfCall, plain_read, same_read}
 use Rattle.pc_coord.proofs.ReadsTold.{reads_on}
-use Rattle.pc_coord.proofs.Rounds.{count-append, count-cons, one_if}
 use Rattle.pc_coord.proofs.Settled.{settled_heard}
 use Rattle.pc_coord.proofs.Standings.{IsOther, IsOtherSent, at_least-one_more, conflicts-kept, stands-kept}
 use Rattle.pc_coord.proofs.Steps.{counted-heard, heard, heard_is}
@@ -33,6 +31,8 @@ use Rattle.pc_coord.specs.Knows.Reading.{AreDifferent, AreReadsOf, IsReadAt, IsU
 use Rattle.pc_coord.specs.Messages.{change_first, due_of_reads, met_or_heard, progress_waits, replied_as, waits_at}
 use Rattle.pc_coord.specs.Rounds.{IsPaced, shows_resolve, was_met, was_pushed}
 use Rattle.pc_history.specs.declared.pair.Pair.{Pair}
+use Rattle.pc_lists.proofs.Anywhere.{any_last}
+use Rattle.pc_lists.proofs.Counts.{count-append, count-cons, one_if}
 use Rattle.pc_proto.specs.declared.event.Event.{Event}
 use Rattle.pc_proto.specs.declared.reply.Reply.{Reply}
 use Rattle.pc_proto.specs.declared.reply.Reply.TheVariants as replies

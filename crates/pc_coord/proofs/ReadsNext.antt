@@ -9,8 +9,6 @@ use Rattle.pc_coord.proofs.Holders.{first_found, found_passes, held, held-found,
 use Rattle.pc_coord.proofs.InRead.{IsInRead, Proceeds, proceeds}
 use Rattle.pc_coord.proofs.ReadsOf.{IsReadOfCall, all_reads, all_unmap, reads_no_commit, same_read}
 use Rattle.pc_coord.proofs.Resting.{open_is}
-use Rattle.pc_coord.proofs.Rounds.{one_if}
-use Rattle.pc_coord.proofs.Same.{same_txn-self}
 use Rattle.pc_coord.proofs.Standings.{IsOtherSent, contains-in}
 use Rattle.pc_coord.proofs.Waits.{unsent_idle, waits_as}
 use Rattle.pc_coord.specs.Coordination.{Coordination, awaits_number}
@@ -22,6 +20,8 @@ use Rattle.pc_coord.specs.Knows.{Knows, KnowsAt, LeavesNothing, MayCome}
 use Rattle.pc_coord.specs.Knows.Reading.{HasMet, IsUnheard, StandsAs, StandsWith}
 use Rattle.pc_coord.specs.Knows.Sending.{AwaitsNone, IsConflictNow, IsSendable}
 use Rattle.pc_coord.specs.Messages.{first_met, holder_met, is_met, is_unsent, next_by, next_in, next_of_met, progress_unsent, read_at, waits_at}
+use Rattle.pc_lists.proofs.Counts.{one_if}
+use Rattle.pc_lists.proofs.Same.{same_txn-self}
 use Rattle.pc_proto.specs.declared.call.Call.TheVariants as calls
 use Rattle.pc_proto.specs.declared.reply.Reply.{Reply}
 use Rattle.pc_proto.specs.declared.request.Request.{Request}

@@ -14,7 +14,7 @@ use Rattle.pc_coord.proofs.InRead.{IsInRead, Proceeds}
 use Rattle.pc_coord.proofs.ReadsNext.{reads_all, reads_of}
 use Rattle.pc_coord.proofs.ReadsOf.{IsReadOfCall, plain_read}
 use Rattle.pc_coord.proofs.ReadsTold.{reads_on, tells_blocked, tells_lost}
-use Rattle.pc_coord.proofs.Rounds.{HasLeft, not_beside, one_if, refused-heard, settled-again, settled-paced}
+use Rattle.pc_coord.proofs.Rounds.{HasLeft, not_beside, refused-heard, settled-again, settled-paced}
 use Rattle.pc_coord.proofs.Standings.{IsOther, IsOtherSent, conflicts-kept, stands-kept}
 use Rattle.pc_coord.proofs.Waits.{all_idle, conflict_idle, met_next}
 use Rattle.pc_coord.specs.Beside.{IsBeside, IsLaterBeside, is_of_round_or_job}
@@ -31,6 +31,7 @@ use Rattle.pc_coord.specs.Knows.Reading.{AreDifferent, AreReadsOf, HasMet, IsRea
 use Rattle.pc_coord.specs.Messages.{again, change_first, due_of_reads, first_met, holder_met, is_awaited, is_met, is_unsent, met_at, next_in, progress_met_at, progress_sent}
 use Rattle.pc_coord.specs.Rounds.{EndsRound, IsSettledRound}
 use Rattle.pc_coord.specs.Turning.{blocked_due}
+use Rattle.pc_lists.proofs.Counts.{one_if}
 use Rattle.pc_proto.specs.declared.reply.Reply.{Reply}
 use Rattle.pc_proto.specs.declared.reply.Reply.TheVariants as replies
 use Rattle.pc_proto.specs.declared.request.Request.{Request}

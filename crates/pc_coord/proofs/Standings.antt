@@ -5,13 +5,14 @@ use Rattle.std.proofs.lemmas.Bool.{ltb-false}
 use Rattle.std.proofs.lemmas.List.{append_assoc}
 use Rattle.std.proofs.lemmas.List.Elements.{All-append, All-weaker}
 use Rattle.pc_base.specs.declared.transaction.TxnId.{TxnId}
-use Rattle.pc_coord.proofs.Lists.{any_kept, any_true_kept, at_least-kept, at_least-push}
-use Rattle.pc_coord.proofs.Same.{same_txn-self}
+use Rattle.pc_coord.proofs.Lists.{any_true_kept, at_least-kept, at_least-push}
 use Rattle.pc_coord.specs.declared.messages.Message.{Message}
 use Rattle.pc_coord.specs.declared.messages.Progress.{Progress}
 use Rattle.pc_coord.specs.declared.messages.Progress.TheVariants as progresses
 use Rattle.pc_coord.specs.Knows.Reading.{HasMet, IsUnheard, IsUnsentNow, StandsAs, StandsWith, WasRepliedNow}
 use Rattle.pc_coord.specs.Messages.{holder_met, one_more}
+use Rattle.pc_lists.proofs.Anywhere.{any_kept}
+use Rattle.pc_lists.proofs.Same.{same_txn-self}
 use Rattle.pc_proto.specs.declared.fate.Goal.{Goal}
 use Rattle.pc_proto.specs.declared.meta.TxnMeta.{TxnMeta}
 use Rattle.pc_proto.specs.declared.reply.Reply.{Reply}

@@ -11,8 +11,7 @@ use Rattle.pc_coord.proofs.LaidAgain.{again_knows}
 use Rattle.pc_coord.proofs.Lists.{at_least-kept}
 use Rattle.pc_coord.proofs.PutMet.{may_block, uncommitted}
 use Rattle.pc_coord.proofs.Resting.{open_is}
-use Rattle.pc_coord.proofs.Rounds.{count-cons, first-left, one_if, refused-heard, settled-again, settled-paced}
-use Rattle.pc_coord.proofs.Same.{same_txn-self}
+use Rattle.pc_coord.proofs.Rounds.{first-left, refused-heard, settled-again, settled-paced}
 use Rattle.pc_coord.specs.Beside.{IsLaterBeside}
 use Rattle.pc_coord.specs.Coordination.{Coordination, with_clock, with_due}
 use Rattle.pc_coord.specs.declared.due.Due.TheVariants as dues
@@ -27,6 +26,8 @@ use Rattle.pc_coord.specs.Messages.{read_at}
 use Rattle.pc_coord.specs.Rounds.{EndsRound, IsRefusedRound, IsSettledRound, was_met, was_pushed}
 use Rattle.pc_coord.specs.Transaction.{put_of}
 use Rattle.pc_coord.specs.Turning.{blocked_due, due_of_resend, due_of_round, resent}
+use Rattle.pc_lists.proofs.Counts.{count-cons, one_if}
+use Rattle.pc_lists.proofs.Same.{same_txn-self}
 use Rattle.pc_proto.specs.declared.answer.Answer.TheVariants as answers
 use Rattle.pc_proto.specs.declared.call.Call.TheVariants as calls
 use Rattle.pc_proto.specs.declared.reply.Reply.{Reply}

@@ -10,9 +10,9 @@ use Rattle.pc_history.specs.Sense.{Sense}
 use Rattle.pc_history.specs.Own.{entries_of, pair}
 use Rattle.pc_history.specs.Parts.{known_entry, known_entry_at, noted, entry_of, acted, knowledge, told_entries, told, uses_of, uses_at, named_by, CanSpend}
 use Rattle.pc_history.specs.Closed.{IsSound, AllHandedIn, ids_of}
-use Rattle.pc_history.proofs.Lists.{contains_head, contains_map, get_push}
 use Rattle.pc_history.proofs.Histories.{named-one, named-none}
 use Rattle.pc_history.proofs.Uses.{uses_of-append, uses_of-cons, eqb-same}
+use Rattle.pc_lists.proofs.Lists.{contains_head, contains_map, get_push}
 
 module _ {E : Type 0} where
   -- an actor knows its own entries

@@ -13,12 +13,12 @@ use Rattle.pc_history.specs.Parts.{known_entry, known_entry_at, uses_of, noted, 
 use Rattle.pc_history.specs.Closed.{Stands}
 use Rattle.pc_history.specs.Table.{Books, IsPart, Rules, view_uses, Fits}
 use Rattle.pc_history.specs.Steps.{after_noting, noted_view}
-use Rattle.pc_history.proofs.Lists.{contains_cons, contains_nil, get_contains}
 use Rattle.pc_history.specs.History.{IsFine}
 use Rattle.pc_history.proofs.Histories.{Rises, own-contains, own-rises, fine-one, fine-below}
 use Rattle.pc_history.proofs.Uses.{more_given, given-here, given-elsewhere, eqb-differ, uses_of-cons}
 use Rattle.pc_history.proofs.SeatStep.{at_split, uses-split}
 use Rattle.pc_history.proofs.Fitting.{fits-actor, actor-fits, fits-by}
+use Rattle.pc_lists.proofs.Lists.{contains_cons, contains_nil, get_contains}
 
 get_some : {A : Type 0} (xs : List A) (i : ℕ) → i < length xs → (a : A) × (slice_get xs i ≡ Some a)
 get_some [] i h = absurd (omega arith)

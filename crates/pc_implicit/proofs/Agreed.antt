@@ -8,12 +8,13 @@ use Rattle.pc_base.specs.declared.actor.ActorId.TheVariants as actors
 use Rattle.pc_base.specs.declared.entry.Entry.{Entry}
 use Rattle.pc_base.specs.declared.transaction.TxnId.{TxnId}
 use Rattle.pc_base.specs.Transaction.{same_txn}
-use Rattle.pc_history.proofs.Lists.{contains_cons, contains_head, contains_nil}
 use Rattle.pc_history.specs.History.{MayFollow}
 use Rattle.pc_history.specs.Own.{named_in, own, pair}
 use Rattle.pc_implicit.proofs.Doing.{Does, does, same_or_not, told_by_row}
 use Rattle.pc_implicit.proofs.Firsts.{first_push, or_none}
-use Rattle.pc_implicit.proofs.Keyed.{same-is, same-itself}
+use Rattle.pc_lists.proofs.Each.{each-map, each-weaker}
+use Rattle.pc_lists.proofs.Lists.{contains_cons, contains_head, contains_nil}
+use Rattle.pc_lists.proofs.Same.{same_txn-is, same_txn-self}
 use Rattle.pc_proto.specs.declared.answer.Answer.{Answer}
 use Rattle.pc_proto.specs.declared.answer.Answer.TheVariants as answers
 use Rattle.pc_proto.specs.declared.event.Event.{Event}
@@ -21,7 +22,6 @@ use Rattle.pc_proto.specs.declared.event.Event.TheVariants as events
 use Rattle.pc_proto.specs.declared.meta.TxnMeta.{TxnMeta}
 use Rattle.pc_proto.specs.declared.request.Request.{Request}
 use Rattle.pc_proto.specs.declared.request.Request.TheVariants as requests
-use Rattle.pc_world.proofs.Each.{each-map, each-weaker}
 use Rattle.pc_world.proofs.Knowing.{known_other, known_same}
 use Rattle.pc_world.proofs.Prefixes.{run_induction}
 use Rattle.pc_world.specs.After.{known_at}
@@ -145,7 +145,7 @@ pub record IsSilent (id : TxnId) (event : Event) : Type 0 where
 
 -- what is given for one transaction is not given for another
 pub none_unless : {Y : Type 0} (one other : TxnId) (y : Y) (b : Bool) → same_txn one other ≡ b → (one ≡ other → ⊥) → (if b then Some y else None) ≡ None
-none_unless one other y true e differ = absurd (differ (same-is one other e))
+none_unless one other y true e differ = absurd (differ (same_txn-is one other e))
 none_unless one other y false e differ = refl
 
 pub silent : (actor : ActorId) (n : ℕ) (id : TxnId) (event : Event) → SaysOwn actor n event → (IsOwn actor n id → ⊥) → IsSilent id event
@@ -237,7 +237,7 @@ module _ (A B : Txn → Type 0) where
   committed-agree actor n id ts replied true (x ∷ xs) t on opened same numbered unended each =
       let first : x ≡ t = cc in
       let is : id ≡ x.id = same ∙ ap (λ (y : Txn). y.id) (sym first) in
-      let itself : same_txn id x.id ≡ true = ap (λ i. same_txn i x.id) is ∙ same-itself x.id in
+      let itself : same_txn id x.id ≡ true = ap (λ i. same_txn i x.id) is ∙ same_txn-self x.id in
       let number : id.number ≡ x.id.number = ap (λ (i : TxnId). i.number) is in
       let other : (u : Txn) → u.id.number < x.id.number → IsSilent u.id (events.Tell (answers.Committed id ts)) =
       λ u below. record { put = refl; told = none_unless id u.id ts (same_txn id u.id) refl (λ e. let m : id.number ≡ u.id.number = ap (λ (i : TxnId). i.number) e in omega arith); begin = refl } in (
@@ -352,7 +352,7 @@ unended-after k (events.Tell (answers.Unknown id)) h unended = tt
 unended-after k (events.Tell answer) h unended = unended-first answer (replies_to k.sent_now k.heard_now) (λ t. refl) k.is_open k.txns unended
 unended-after k event h unended = unended
 
-begun-grows : (event : Event) (n : ℕ) → n ≤ begun_after event n
+pub begun-grows : (event : Event) (n : ℕ) → n ≤ begun_after event n
 begun-grows (events.Tell (answers.Begun id ts)) n = omega arith
 begun-grows (events.Tell answer) n = omega arith
 begun-grows event n = omega arith
@@ -382,7 +382,7 @@ module _ (history : List (Entry Event)) (e : Entry Event) where
       begin : begun_at id (history ++ e ∷ []) ≡ Some ts
       begin =
           first_push (λ x. begun_told_in id x.event) history e ∙ ap (λ o. option_or o (begun_told_in id e.event)) new.begin ∙ ap (begun_told_in id) is
-          ∙ ap (λ b. if b then Some ts else None) (same-itself id)
+          ∙ ap (λ b. if b then Some ts else None) (same_txn-self id)
 
       by : (s : Option Statement) → Agrees (history ++ e ∷ []) (txn_begun s id ts)
       by None = record { anchor = anchor; told = told; begin = begin }

@@ -1,6 +1,6 @@
 -- Where nothing is staged, a range answers each request as the request may be answered.
 use Rattle.std.proofs.Common.{◌≡◌, ℕ, Bool, true, false, ◌&&◌, not, nat_le, if◌then◌else◌, List, [], filter, Option, None, Some, IfSome, refl, ap, ◌∙◌}
-use Rattle.std.proofs.lemmas.Bool.{and_parts}
+use Rattle.std.proofs.lemmas.Bool.{and_parts, not-true}
 use Rattle.std.proofs.lemmas.List.Elements.{filter_passes, recursion_from_All}
 use Rattle.std.specs.Option.{option_map_or}
 use Rattle.std.specs.Prelude.{⊤}
@@ -13,8 +13,9 @@ use Rattle.pc_base.specs.declared.transaction.Who.{Who}
 use Rattle.pc_base.specs.Span.{contains, key_below}
 use Rattle.pc_base.specs.Transaction.{same_txn}
 use Rattle.pc_history.specs.Own.{own}
-use Rattle.pc_implicit.proofs.Keyed.{same-itself}
 use Rattle.pc_implicit.proofs.Recorded.{IsBacked, IsRecorded, backed-unstaged, recorded}
+use Rattle.pc_lists.proofs.Each.{each-choose, each-weaker}
+use Rattle.pc_lists.proofs.Same.{same_txn-self}
 use Rattle.pc_proto.specs.declared.event.Event.{Event}
 use Rattle.pc_proto.specs.declared.fate.Goal.{Goal}
 use Rattle.pc_proto.specs.declared.fate.Goal.TheVariants as goals
@@ -36,7 +37,6 @@ use Rattle.pc_proto.specs.RecordRows.Push.{Verdict, There, Refuse, Doubt, Do, is
 use Rattle.pc_proto.specs.RecordRows.Reached.{is_reached}
 use Rattle.pc_proto.specs.Table.{place_of}
 use Rattle.pc_proto.specs.Views.{is_final_view}
-use Rattle.pc_world.proofs.Each.{each-choose, each-weaker}
 use Rattle.pc_world.proofs.Stamps.Searches.{some-kept}
 use Rattle.pc_world.specs.After.{state_at}
 use Rattle.pc_world.specs.Answering.{IsGetReply, IsPushReply, IsPutReply, IsScanReply, IsUnstagedView, MayAnswer}
@@ -62,7 +62,7 @@ module _ (id : TxnId) where
   IsAnothersThere e = e.1.meta.id ≡ id → ⊥
 
   differs : (other : TxnId) → same_txn other id ≡ false → other ≡ id → ⊥
-  differs other differ is = let same : same_txn other id ≡ true = ap (λ one. same_txn one id) is ∙ same-itself id in cc
+  differs other differ is = let same : same_txn other id ≡ true = ap (λ one. same_txn one id) is ∙ same_txn-self id in cc
 
   other-differs : (o : Option Intent) → IfSome (kept_if (λ i. not (same_txn i.meta.id id)) o) IsAnothers
   other-differs None = tt
@@ -83,10 +83,6 @@ module _ (id : TxnId) where
       by : (b : Bool) → IfSome (if b then Some e else Some best) IsAnothersThere
       by true = k
       by false = h
-
-  not-true : (b : Bool) → not b ≡ true → b ≡ false
-  not-true true h = absurd cc
-  not-true false h = refl
 
   first-differs : (span : Span) (ts : ℕ) (intents : List (List ℕ × Intent)) → IfSome (first_other span ts id intents) IsAnothersThere
   first-differs span ts intents =

@@ -5,14 +5,13 @@ use Rattle.std.proofs.lemmas.List.Sums.{AllPass-from_list_all, list_all-from_All
 use Rattle.std.specs.List.{list_all}
 use Rattle.pc_base.specs.declared.entry.Entry.{Entry}
 use Rattle.pc_base.specs.declared.transaction.TxnId.{TxnId}
-use Rattle.pc_history.proofs.Lists.{all_from_contains}
 use Rattle.pc_implicit.proofs.HomeOver.{home_anchored}
 use Rattle.pc_implicit.proofs.Homes.{home_is}
 use Rattle.pc_implicit.proofs.StagedAs.{staged_as}
 use Rattle.pc_implicit.proofs.StageWords.{ByDecision, ByStaging, ByTelling, CommitsBy, IsBecause, StagesAs}
 use Rattle.pc_implicit.specs.Decided.{decision}
-use Rattle.pc_implicit.specs.Stages.{IsThere}
 use Rattle.pc_implicit.specs.Writes.{home_of}
+use Rattle.pc_lists.proofs.Lists.{all_from_contains}
 use Rattle.pc_proto.specs.declared.event.Event.{Event}
 use Rattle.pc_proto.specs.declared.record.Record.{Record}
 use Rattle.pc_proto.specs.declared.record.Standing.{Standing}

@@ -10,19 +10,19 @@ use Rattle.pc_base.specs.declared.actor.ActorId.TheVariants as actors
 use Rattle.pc_base.specs.declared.entry.Entry.{Entry}
 use Rattle.pc_base.specs.declared.transaction.TxnId.{TxnId}
 use Rattle.pc_base.specs.Transaction.{same_txn}
-use Rattle.pc_history.proofs.Lists.{contains_head, contains_nil, contains_tail}
 use Rattle.pc_history.specs.History.{MayFollow}
 use Rattle.pc_implicit.proofs.Agreed.{Agrees, agreed, begun_at, begun_next, begun_told_in}
-use Rattle.pc_implicit.proofs.Anchored.{each_contained}
 use Rattle.pc_implicit.proofs.Clocks.{begun_above, high_grows, learnt_below}
 use Rattle.pc_implicit.proofs.Commits.{ByRecord, ByTell, act_of, decided_is_committed, heard_decided, tell_means, why_committed}
 use Rattle.pc_implicit.proofs.Doing.{Does}
 use Rattle.pc_implicit.proofs.Firsts.{first_push}
-use Rattle.pc_implicit.proofs.Keyed.{same-is, same-itself}
 use Rattle.pc_implicit.proofs.OwnSplit.{own_split}
 use Rattle.pc_implicit.proofs.Points.{or-first, told-what}
 use Rattle.pc_implicit.proofs.Recorded.{WasSent}
 use Rattle.pc_implicit.proofs.Sent.{unstaged_front, unstaged_induction}
+use Rattle.pc_lists.proofs.Each.{each-contains}
+use Rattle.pc_lists.proofs.Lists.{contains_head, contains_nil, contains_tail}
+use Rattle.pc_lists.proofs.Same.{same_txn-is, same_txn-self}
 use Rattle.pc_proto.specs.declared.answer.Answer.TheVariants as answers
 use Rattle.pc_proto.specs.declared.event.Event.{Event}
 use Rattle.pc_proto.specs.declared.event.Event.TheVariants as events
@@ -67,7 +67,7 @@ module _ (head : Head) where
       let next = begun_next head e.actor k id ts (subst (Does head e.actor k) is (act_of head history e may)) in
       let fresh = (agreed head history run e.actor).fresh id next.0 (omega (arith, next.1)) in
       first_push (λ x. begun_told_in id x.event) history e ∙ ap (λ o. option_or o (begun_told_in id e.event)) fresh.begin ∙ ap (begun_told_in id) is
-      ∙ ap (λ b. if b then Some ts else None) (same-itself id)
+      ∙ ap (λ b. if b then Some ts else None) (same_txn-self id)
 
   -- a transaction is told begun once
   pub begun_once : (history : List (Entry Event)) → IsRun head history → (e : Entry Event) → Contains history e → (id : TxnId) (ts : ℕ) → e.event ≡ events.Tell (answers.Begun id ts) → begun_at id history ≡ Some ts
@@ -112,7 +112,7 @@ module _ (head : Head) where
   says-above history run only all actor (events.Send number range (requests.Commit meta ts locks)) may =
       let k = known_at head actor history in
       let row = may.row in
-      let agrees : Agrees history row.t = each_contained (Agrees history) k.txns row.t (agreed head history run actor).agrees row.mine in
+      let agrees : Agrees history row.t = each-contains (Agrees history) k.txns row.t (agreed head history run actor).agrees row.mine in
       let same : row.t.id ≡ meta.id = ap (λ (m : TxnMeta). m.id) (sym row.whose.same) in
       let own : IsAbove history row.t.id ts = elim row.decided [
         | inl decides ↦ record { begin = row.t.begin; begun = agrees.begin; low = decides.good.begun }
@@ -178,7 +178,7 @@ begun-what : (id : TxnId) (ts : ℕ) (event : Event) → begun_told_in id event 
 begun-what id ts (events.Tell (answers.Begun other at)) h = by (same_txn other id) refl h
   where
     by : (b : Bool) → same_txn other id ≡ b → (if b then Some at else None) ≡ Some ts → begun_in (events.Tell (answers.Begun other at)) ≡ Some id
-    by true same h = ap Some (same-is other id same)
+    by true same h = ap Some (same_txn-is other id same)
     by false same h = absurd cc
 begun-what id ts (events.Tell answer) h = absurd cc
 begun-what id ts event h = absurd cc

@@ -10,18 +10,18 @@ use Rattle.pc_base.specs.declared.actor.ActorId.TheVariants as actors
 use Rattle.pc_base.specs.declared.entry.Entry.{Entry}
 use Rattle.pc_base.specs.declared.transaction.TxnId.{TxnId}
 use Rattle.pc_history.proofs.Histories.{named-one}
-use Rattle.pc_history.proofs.Lists.{contains_head}
 use Rattle.pc_history.specs.declared.pair.Pair.{Pair}
 use Rattle.pc_history.specs.History.{MayFollow}
 use Rattle.pc_history.specs.Own.{named_in, own}
 use Rattle.pc_implicit.proofs.Agreed.{committed_row, open_there}
-use Rattle.pc_implicit.proofs.Anchored.{each_contained}
 use Rattle.pc_implicit.proofs.Commits.{act_of, committed-view, none_staging}
 use Rattle.pc_implicit.proofs.Doing.{Does, told_by_row}
 use Rattle.pc_implicit.proofs.Hearing.{as-heard, to-list}
 use Rattle.pc_implicit.proofs.OneDecision.{told_committed}
 use Rattle.pc_implicit.proofs.OwnSplit.{own_split}
 use Rattle.pc_implicit.proofs.Sent.{unstaged_front}
+use Rattle.pc_lists.proofs.Each.{each-append, each-contains, each-flat_unmap, each-map, each-weaker}
+use Rattle.pc_lists.proofs.Lists.{contains_head}
 use Rattle.pc_proto.specs.declared.answer.Answer.{Answer}
 use Rattle.pc_proto.specs.declared.answer.Answer.TheVariants as answers
 use Rattle.pc_proto.specs.declared.event.Event.{Event}
@@ -37,7 +37,6 @@ use Rattle.pc_proto.specs.Replies.{view_in}
 use Rattle.pc_proto.specs.Requests.{is_about}
 use Rattle.pc_proto.specs.Stamps.{event_stamps, greatest_of, origin_stamps, reply_stamps, view_stamps}
 use Rattle.pc_proto.specs.Views.{is_committed_at}
-use Rattle.pc_world.proofs.Each.{each-append, each-flat_unmap, each-map, each-weaker}
 use Rattle.pc_world.proofs.Knowing.{known_push}
 use Rattle.pc_world.proofs.Prefixes.{run_front, run_may}
 use Rattle.pc_world.proofs.World.{names_one}
@@ -166,7 +165,7 @@ module _ (head : Head) (history : List (Entry Event)) (run : IsRun head history)
       let row = committed_row head actor k id ts may in
       elim row.why [
         | inl unwritten ↦
-            let begun : row.t.begin ≤ k.high = each_contained (λ t. t.begin ≤ k.high) k.txns row.t low.begins_low (open_there k row.t row.opened) in
+            let begun : row.t.begin ≤ k.high = each-contains (λ t. t.begin ≤ k.high) k.txns row.t low.begins_low (open_there k row.t row.opened) in
             omega (arith, unwritten.at_begin)
         | inr other ↦ elim other [
           | inl heard ↦ heard-below actor row.t.id ts heard
@@ -180,7 +179,7 @@ module _ (head : Head) (history : List (Entry Event)) (run : IsRun head history)
           let parts = and_parts (is_about id h.request) (option_map_or (is_committed_at ts) (view_in h.reply) false) shows in
           let view = committed-view ts (view_in h.reply) parts.1 in
           committed-low h.reply view.0 ts k.high view.1 view.2
-          (each_contained (λ g. greatest_of (reply_stamps g.reply) ≤ k.high) k.heard h (known_low (own (protocol head) actor history)).heard_low (n, inside, at))
+          (each-contains (λ g. greatest_of (reply_stamps g.reply) ≤ k.high) k.heard h (known_low (own (protocol head) actor history)).heard_low (n, inside, at))
 
 begun-at : (head : Head) (session : ℕ) (k : Known) (s : Statement) (id : TxnId) (ts : ℕ) → MayTellRow head.splits (actors.Session session) k s (answers.Begun id ts) → ts ≡ clock_now s.reading k.high
 begun-at head session k s id ts row = row.at
@@ -210,7 +209,7 @@ module _ (head : Head) (history : List (Entry Event)) (id : TxnId) (ts high : �
   shown-low (requests.Get other epoch seq from key) (replies.Value origin value) shows low = wrote-low key origin shows low
   shown-low (requests.Scan other epoch seq from span) (replies.Rows rows) (n, row, inside, at, wrote) low =
       wrote-low row.0 row.1 wrote
-      (each_contained (λ (r : List ℕ × Origin × List ℕ). Each (λ at. at ≤ high) (origin_stamps r.1)) rows row
+      (each-contains (λ (r : List ℕ × Origin × List ℕ). Each (λ at. at ≤ high) (origin_stamps r.1)) rows row
       (each-flat_unmap (λ at. at ≤ high) (λ (r : List ℕ × Origin × List ℕ). origin_stamps r.1) rows low) (n, inside, at))
   shown-low request reply shows low = absurd shows
 

@@ -9,10 +9,9 @@ use Rattle.pc_base.specs.declared.actor.ActorId.{ActorId}
 use Rattle.pc_base.specs.declared.actor.ActorId.TheVariants as actors
 use Rattle.pc_base.specs.declared.entry.Entry.{Entry}
 use Rattle.pc_base.specs.declared.transaction.TxnId.{TxnId}
-use Rattle.pc_history.proofs.Lists.{contains_head, contains_tail}
 use Rattle.pc_history.specs.History.{MayFollow}
 use Rattle.pc_implicit.proofs.Agreed.{Agrees, agreed, committed_row, open_there, owned}
-use Rattle.pc_implicit.proofs.Anchored.{commit_anchored, each_contained}
+use Rattle.pc_implicit.proofs.Anchored.{commit_anchored}
 use Rattle.pc_implicit.proofs.CommitCalls.{IsSettled, commit-asks, settled_along}
 use Rattle.pc_implicit.proofs.Commits.{IsDecided, act_of, decided_is_committed, heard_decided, none_staging, stays_committed, why_committed}
 use Rattle.pc_implicit.proofs.Commits.{ByRecord, ByTell as WhyTold}
@@ -32,6 +31,8 @@ use Rattle.pc_implicit.proofs.Runs.{decisions_stand}
 use Rattle.pc_implicit.proofs.Sent.{unstaged_front, unstaged_sent}
 use Rattle.pc_implicit.proofs.SessionCommits.{BySend, ByTell, IsDecidedBy, IsStill, written}
 use Rattle.pc_implicit.specs.Decided.{decision}
+use Rattle.pc_lists.proofs.Each.{each-contains}
+use Rattle.pc_lists.proofs.Lists.{contains_head, contains_tail}
 use Rattle.pc_proto.specs.declared.answer.Answer.{Answer}
 use Rattle.pc_proto.specs.declared.answer.Answer.TheVariants as answers
 use Rattle.pc_proto.specs.declared.call.Call.TheVariants as calls
@@ -206,7 +207,7 @@ module _ (head : Head) (front : List (Entry Event)) (e : Entry Event) (back : Li
     not-told actor t named mine may = elim may [
       | inl now ↦ now
       | inr told ↦
-          let agrees : Agrees before t = each_contained (Agrees before) (known_at head actor before).txns t (agreed head before run-sent actor).agrees mine in
+          let agrees : Agrees before t = each-contains (Agrees before) (known_at head actor before).txns t (agreed head before run-sent actor).agrees mine in
           let x = told-there t.id ts before (agrees.told ∙ told) in
           let is = told_committed head before run-sent only-sent x.0 x.1 t.id ts x.2 in
           absurd (not-earlier before (m.a ∷ later) whole ts (subst (λ i. IsCommitted head before i ts) named is))

@@ -1,5 +1,5 @@
 -- A transaction that was heard to stage had sent that stage; and what a query found of an open stage was present since the stage was sent.
-use Rattle.std.proofs.Common.{◌≡◌, ℕ, Bool, true, false, ◌&&◌, ◌==◌, if◌then◌else◌, ◌⊎◌, inl, inr, List, [], ◌∷◌, ◌++◌, Option, None, Some, Contains, refl, sym, ap, subst, ◌∙◌}
+use Rattle.std.proofs.Common.{◌≡◌, ℕ, Bool, true, false, ◌&&◌, ◌==◌, if◌then◌else◌, ◌⊎◌, inl, inr, List, [], ◌∷◌, ◌++◌, Some, Contains, refl, sym, ap, subst, ◌∙◌}
 use Rattle.std.proofs.lemmas.Bool.{and_parts, eqb-true}
 use Rattle.std.proofs.lemmas.List.{append_assoc}
 use Rattle.std.proofs.lemmas.List.Elements.{Contains-append_left}
@@ -10,24 +10,24 @@ use Rattle.pc_base.specs.declared.entry.Entry.{Entry}
 use Rattle.pc_base.specs.declared.transaction.TxnId.{TxnId}
 use Rattle.pc_base.specs.declared.transaction.Who.{Who}
 use Rattle.pc_base.specs.Transaction.{same_txn}
-use Rattle.pc_implicit.proofs.Anchored.{each_contained}
 use Rattle.pc_implicit.proofs.Doing.{Does}
 use Rattle.pc_implicit.proofs.EvaluatedAt.{answered_at, sent_at}
 use Rattle.pc_implicit.proofs.Hearing.{WasSentBy, sent_is_so}
 use Rattle.pc_implicit.proofs.HeardViews.{so_of}
 use Rattle.pc_implicit.proofs.Homes.{home_is}
-use Rattle.pc_implicit.proofs.Keyed.{same-is}
 use Rattle.pc_implicit.proofs.Metas.{subject_anchored}
 use Rattle.pc_implicit.proofs.Presence.{staged_along}
 use Rattle.pc_implicit.proofs.RepliedAt.{replied_at}
 use Rattle.pc_implicit.proofs.Shown.{WasAnswered}
 use Rattle.pc_implicit.proofs.StagedAs.{marks_final, staged_as}
-use Rattle.pc_implicit.proofs.StagesRefuted.{listed_there, one_staged}
+use Rattle.pc_implicit.proofs.StagesRefuted.{one_staged}
 use Rattle.pc_implicit.proofs.StageWords.{WasStagedAs}
 use Rattle.pc_implicit.proofs.Views.{reply-view}
 use Rattle.pc_implicit.specs.Replied.{QueryFound}
-use Rattle.pc_implicit.specs.Stages.{IsOpenTo, IsThere, WasStaged, WasThere}
+use Rattle.pc_implicit.specs.Stages.{IsOpenTo, WasStaged, WasThere}
 use Rattle.pc_implicit.specs.Writes.{home_of}
+use Rattle.pc_lists.proofs.Each.{each-contains}
+use Rattle.pc_lists.proofs.Same.{same_txn-is}
 use Rattle.pc_proto.specs.declared.event.Event.{Event}
 use Rattle.pc_proto.specs.declared.event.Event.TheVariants as events
 use Rattle.pc_proto.specs.declared.record.Record.{Record}
@@ -37,7 +37,6 @@ use Rattle.pc_proto.specs.declared.reply.Reply.{Reply}
 use Rattle.pc_proto.specs.declared.reply.Reply.TheVariants as replies
 use Rattle.pc_proto.specs.declared.request.Request.{Request}
 use Rattle.pc_proto.specs.declared.request.Request.TheVariants as requests
-use Rattle.pc_proto.specs.declared.view.View.{View}
 use Rattle.pc_proto.specs.declared.view.View.TheVariants as views
 use Rattle.pc_proto.specs.Place.{Place, Nothing, Kept, Marked, is_final, status_view, view_of}
 use Rattle.pc_proto.specs.Replies.{view_in}
@@ -48,14 +47,13 @@ use Rattle.pc_world.specs.After.{known_at, place_at, state_at}
 use Rattle.pc_world.specs.Evaluation.{state_after}
 use Rattle.pc_world.specs.Evaluation.{reply as reply_of}
 use Rattle.pc_world.specs.Evaluation.Query.{write_stands}
-use Rattle.pc_world.specs.Known.Traffic.{Heard, Sent}
+use Rattle.pc_world.specs.Known.Traffic.{Sent}
 use Rattle.pc_world.specs.Known.Transactions.{has_staged, is_stage_of, lists_write}
 use Rattle.pc_world.specs.Local.{Head}
-use Rattle.pc_world.specs.RangeOf.{range_of}
 use Rattle.pc_world.specs.RangeState.{RangeState}
 use Rattle.pc_world.specs.Run.{IsRun}
 use Rattle.pc_world.specs.Send.Recovery.{MaySendQuery, WasStaging}
-use Rattle.pc_world.specs.StageFate.{SentStage, stage_request}
+use Rattle.pc_world.specs.StageFate.{SentStage}
 
 -- a staging view is that of a record which stages so
 pub view_stages : (p : Place) (epoch ts : ℕ) (writes : List (List ℕ × ℕ)) → ((s : _) → p ≡ Marked s → is_final s.standing ≡ true) → view_of p ≡ views.Staging epoch ts writes
@@ -79,7 +77,7 @@ view_stages (Marked s) epoch ts writes final is = absurd (by s.standing (final s
     by (standings.Aborted why) f is = absurd cc
 
 pub push_about : (id : TxnId) (request : Request) → is_push_of id request ≡ true → subject request ≡ Some id
-push_about id (requests.Push holder by level now goal) h = ap Some (same-is holder.id id h)
+push_about id (requests.Push holder by level now goal) h = ap Some (same_txn-is holder.id id h)
 push_about id request h = absurd cc
 
 module _ (head : Head) (history : List (Entry Event)) (run : IsRun head history) where
@@ -134,7 +132,7 @@ module _ (head : Head) (history : List (Entry Event)) (run : IsRun head history)
       let rest = and_parts (at == ts) (lists_write key seq writes) parts.1 in
       let x : SentStage = record { meta = meta; ts = at; now = now; writes = writes; locks = locks } in
       let sent : WasStaged history x = record { send = a; listed = there; number = number; range = range; sends = sends } in
-      (x, sent, same-is meta.id id own.0, eqb-true meta.epoch epoch own.1, eqb-true at ts rest.0)
+      (x, sent, same_txn-is meta.id id own.0, eqb-true meta.epoch epoch own.1, eqb-true at ts rest.0)
   staged-own id epoch ts seq key number range request a there sends is = absurd cc
 
   -- who may query a write has seen its transaction stage there, or staged there itself
@@ -150,7 +148,7 @@ module _ (head : Head) (history : List (Entry Event)) (run : IsRun head history)
       from-own staged =
           let any = Any-from_list_any (λ (m : Sent). is_stage_of id epoch ts key seq m.request) (known_at head actor history).sent staged in
           let m = any.1 in
-          let w = each_contained (WasSentBy head history actor) (known_at head actor history).sent m (sent_is_so head history run actor) (any.0, any.2, any.3) in
+          let w = each-contains (WasSentBy head history actor) (known_at head actor history).sent m (sent_is_so head history run actor) (any.0, any.2, any.3) in
           staged-own id epoch ts seq key m.number m.range m.request w.send w.listed w.sends any.4
 
 module _ (head : Head) (history : List (Entry Event)) (run : IsRun head history) where

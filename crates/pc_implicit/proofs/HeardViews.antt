@@ -5,7 +5,6 @@ use Rattle.std.specs.Option.{option_map_or}
 use Rattle.pc_base.specs.declared.actor.ActorId.{ActorId}
 use Rattle.pc_base.specs.declared.entry.Entry.{Entry}
 use Rattle.pc_base.specs.declared.transaction.TxnId.{TxnId}
-use Rattle.pc_implicit.proofs.Anchored.{each_contained}
 use Rattle.pc_implicit.proofs.Commits.{committed-view}
 use Rattle.pc_implicit.proofs.Hearing.{IsSo, heard_is_so}
 use Rattle.pc_implicit.proofs.Homes.{home_is}
@@ -15,6 +14,7 @@ use Rattle.pc_implicit.proofs.Views.{Stands, places_go_on, subject-is}
 use Rattle.pc_implicit.specs.Decided.{StaysTrue, decision}
 use Rattle.pc_implicit.specs.Replied.{WasReplied}
 use Rattle.pc_implicit.specs.Writes.{home_of}
+use Rattle.pc_lists.proofs.Each.{each-contains}
 use Rattle.pc_proto.specs.declared.event.Event.{Event}
 use Rattle.pc_proto.specs.declared.event.Event.TheVariants as events
 use Rattle.pc_proto.specs.declared.record.Standing.TheVariants as standings
@@ -89,7 +89,7 @@ module _ (head : Head) (history : List (Entry Event)) where
 
     -- what an actor knows to be heard is so
     pub so_of : (actor : ActorId) (h : Heard) → Contains (known_at head actor history).heard h → IsSo head history actor h
-    so_of actor h there = each_contained (IsSo head history actor) (known_at head actor history).heard h (heard_is_so head history run actor) there
+    so_of actor h there = each-contains (IsSo head history actor) (known_at head actor history).heard h (heard_is_so head history run actor) there
 
     -- a view of a transaction that was heard is true of its record
     pub view_is_so : (actor : ActorId) (h : Heard) → IsSo head history actor h → (id : TxnId) (view : View) → IsTrue (is_about id h.request) → view_in h.reply ≡ Some view → StaysTrue view (home_of head id history)

@@ -1,37 +1,13 @@
 -- Entries by their keys: what is so of each, and of each two, after a value was put under a key, or nothing stands under it any more.
 use Rattle.std.proofs.Common.{◌≡◌, ◌≢◌, ℕ, suc, Bool, true, false, cond, not, List, [], ◌∷◌, find, Some, refl, sym, ap, subst, ◌∙◌, All, arith}
-use Rattle.std.proofs.lemmas.Cmp.{nat_list_cmp_total, tied_itself}
 use Rattle.std.proofs.lemmas.List.Elements.{All-from_recursion, recursion_from_All}
 use Rattle.std.proofs.lemmas.List.Kept.{AllPairs-cons}
-use Rattle.std.proofs.lemmas.Map.Lookups.{exact_bytes}
-use Rattle.std.specs.Cmp.Lexicographic.{slice_cmp}
-use Rattle.std.specs.declared.cmp.Ordering.{Ordering}
-use Rattle.std.specs.declared.cmp.Ordering.TheVariants as orderings
 use Rattle.std.specs.List.{AllByRecursion as Each, AllPairs}
 use Rattle.std.specs.Option.{option_map}
-use Rattle.std.specs.Ordering.{is_eq, nat_cmp}
 use Rattle.pc_base.specs.Keyed.{at, set_at, without}
 use Rattle.pc_base.specs.Span.{same_key}
-
-equal-only : (o : Ordering) → is_eq o ≡ true → o ≡ orderings.Equal
-equal-only orderings.Less h = absurd cc
-equal-only orderings.Equal h = refl
-equal-only orderings.Greater h = absurd cc
-
--- the test of two keys tells whether they are one
-pub same_key-is : (one other : List ℕ) → same_key one other ≡ true → one ≡ other
-same_key-is one other h = exact_bytes one other (equal-only (slice_cmp nat_cmp one other) h)
-
-pub same_key-equal : (one other : List ℕ) → one ≡ other → same_key one other ≡ true
-same_key-equal one other h = subst (λ k. same_key one k ≡ true) h (ap is_eq (tied_itself nat_list_cmp_total one))
-
-pub same_key-differs : (one other : List ℕ) → same_key one other ≡ false → one ≢ other
-same_key-differs one other h same = let is : same_key one other ≡ true = same_key-equal one other same in absurd cc
-
--- What is so of each one for two reasons.
-pub each-both : {X : Type 0} (P Q S : X → Type 0) → ((x : X) → P x → Q x → S x) → (xs : List X) → Each P xs → Each Q xs → Each S xs
-each-both P Q S on [] a b = tt
-each-both P Q S on (x ∷ xs) a b = (on x a.0 b.0, each-both P Q S on xs a.1 b.1)
+use Rattle.pc_lists.proofs.Each.{each-both}
+use Rattle.pc_lists.proofs.Same.{same_key-differs, same_key-equal, same_key-is}
 
 module _ {X : Type 0} (R : X → X → Type 0) where
   pub pairs-none : AllPairs R []

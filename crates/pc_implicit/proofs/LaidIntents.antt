@@ -7,7 +7,7 @@ use Rattle.pc_base.specs.Keyed.{set_at, without}
 use Rattle.pc_base.specs.Span.{same_key}
 use Rattle.pc_base.specs.Transaction.{same_txn}
 use Rattle.pc_base.specs.Versions.{above_newest}
-use Rattle.pc_implicit.proofs.Keyed.{same-is}
+use Rattle.pc_lists.proofs.Same.{same_txn-is}
 use Rattle.pc_proto.specs.declared.fate.Fate.{Fate}
 use Rattle.pc_proto.specs.declared.fate.Fate.TheVariants as fates
 use Rattle.pc_proto.specs.declared.meta.TxnMeta.{TxnMeta}
@@ -31,7 +31,7 @@ kept-from test (Some y) x h = by (test y) refl h
 pub own-there : (id : TxnId) (key : List ℕ) (es : List (List ℕ × Intent)) (i : Intent) → own_at id key es ≡ Some i → (intent_at key es ≡ Some i) × (i.meta.id ≡ id)
 own-there id key es i h =
     let kept = kept-from (λ (i : Intent). same_txn i.meta.id id) (intent_at key es) i h in
-    (kept.0, same-is i.meta.id id kept.1)
+    (kept.0, same_txn-is i.meta.id id kept.1)
 
 -- The intent is the transaction's own, and lies where the bound and the key's versions leave it.
 pub record LandsAt (meta : TxnMeta) (key : List ℕ) (s : RangeState) (i : Intent) : Type 0 where

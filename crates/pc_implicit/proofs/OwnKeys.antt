@@ -5,8 +5,7 @@ use Rattle.pc_base.specs.declared.transaction.TxnId.{TxnId}
 use Rattle.pc_base.specs.Keyed.{at, set_at, without}
 use Rattle.pc_base.specs.Span.{same_key}
 use Rattle.pc_base.specs.Transaction.{same_txn}
-use Rattle.pc_implicit.proofs.IntentKeys.{same_key-equal, same_key-is}
-use Rattle.pc_implicit.proofs.Keyed.{same-is, same-itself}
+use Rattle.pc_lists.proofs.Same.{same_key-equal, same_key-is, same_txn-is, same_txn-self}
 use Rattle.pc_proto.specs.declared.fate.Fate.{Fate}
 use Rattle.pc_proto.specs.declared.fate.Fate.TheVariants as fates
 use Rattle.pc_proto.specs.declared.meta.TxnMeta.{TxnMeta}
@@ -153,7 +152,7 @@ module _ (id : TxnId) (k : List ℕ) where
   laid-own meta seq ts value (Some i) is of = grind (arith, of i refl)
 
   laid-whose : (meta : TxnMeta) (seq ts : ℕ) (value : Option (List ℕ)) (s : RangeState) → meta.id ≡ id → same_txn (laid meta seq ts value (own_at id k s.intents)).meta.id id ≡ true
-  laid-whose meta seq ts value s same = laid-own meta seq ts value (own_at id k s.intents) (ap (λ i. same_txn i id) same ∙ same-itself id) (λ j is. own_is id (at same_key k s.intents) j is)
+  laid-whose meta seq ts value s same = laid-own meta seq ts value (own_at id k s.intents) (ap (λ i. same_txn i id) same ∙ same_txn-self id) (λ j is. own_is id (at same_key k s.intents) j is)
 
   -- The own intent after a put of the transaction at the key that came to this.
   abbrev own-after : RangeState → PutOutcome → Option Intent
@@ -190,7 +189,7 @@ module _ (id : TxnId) (k : List ℕ) where
       by-key same false e = AsBefore (change-elsewhere key (put_change (outcome_of_put meta seq ts key value s)) s.intents e)
 
       by-id : (b : Bool) → same_txn meta.id id ≡ b → OwnChange id k (requests.Put meta seq ts key value) s (own_at id k (intents_after (requests.Put meta seq ts key value) s))
-      by-id true e = by-key (same-is meta.id id e) (same_key key k) refl
+      by-id true e = by-key (same_txn-is meta.id id e) (same_key key k) refl
       by-id false e = AsBefore (put-stays meta seq ts key value s e)
 
   settles : (fate : Fate) (s : RangeState) (own : Option Intent) → own_at id k s.intents ≡ own
@@ -213,7 +212,7 @@ module _ (id : TxnId) (k : List ℕ) where
       by-key same false e = AsBefore (change-elsewhere key (resolve_change one key fate s) s.intents e)
 
       by-id : (b : Bool) → same_txn one id ≡ b → OwnChange id k (requests.Resolve one key fate) s (own_at id k (intents_after (requests.Resolve one key fate) s))
-      by-id true e = by-key (same-is one id e) (same_key key k) refl
+      by-id true e = by-key (same_txn-is one id e) (same_key key k) refl
       by-id false e = AsBefore (resolve-stays one key fate s e)
 
   -- what becomes of the own intent at a key over a request

@@ -3,7 +3,8 @@ use Rattle.std.proofs.Common.{◌≡◌, Bool, true, false, Option, None, Some, 
 use Rattle.pc_base.specs.declared.transaction.TxnId.{TxnId}
 use Rattle.pc_base.specs.Keyed.{at}
 use Rattle.pc_base.specs.Transaction.{same_txn}
-use Rattle.pc_implicit.proofs.Keyed.{at_set_at, at_set_other, at_without, at_without_other, same-is}
+use Rattle.pc_implicit.proofs.Keyed.{at_set_at, at_set_other, at_without, at_without_other}
+use Rattle.pc_lists.proofs.Same.{same_txn-is}
 use Rattle.pc_proto.specs.declared.request.Request.{Request}
 use Rattle.pc_proto.specs.Place.{Place, Change, Stay, Become, Finish, after}
 use Rattle.pc_proto.specs.RecordRows.{place_change, table_after, table_for}
@@ -27,7 +28,7 @@ place_other id other (Finish s) t h =
 module _ (Q : Place → Place → Type 0) (same : (p : Place) → Q p p) (row : (request : Request) (p : Place) → Q p (after p (place_change request p))) where
   by-id : (one other : TxnId) (request : Request) (t : Table) (b : Bool) → same_txn one other ≡ b → Q (place_of other t) (place_of other (applied_to one (place_change request (place_of one t)) t))
   by-id one other request t true h =
-      let is : one ≡ other = same-is one other h in
+      let is : one ≡ other = same_txn-is one other h in
       subst (λ id. Q (place_of id t) (place_of id (applied_to one (place_change request (place_of one t)) t))) is
       (subst (Q (place_of one t)) (sym (place_after one (place_change request (place_of one t)) t)) (row request (place_of one t)))
   by-id one other request t false h =
@@ -49,7 +50,7 @@ module _ (P : Place → Type 0) (request : Request) (other : TxnId) (t : Table) 
   kept-by-id : (one : TxnId) (b : Bool) → same_txn one other ≡ b → subject request ≡ Some one → Keeps → P (place_of other t) → P (place_of other (applied_to one (place_change request (place_of one t)) t))
   unfolding Keeps
   kept-by-id one true h about keeps holds =
-      let is : one ≡ other = same-is one other h in
+      let is : one ≡ other = same_txn-is one other h in
       let own : P (after (place_of one t) (place_change request (place_of one t))) =
       subst (λ id. P (after (place_of id t) (place_change request (place_of id t)))) (sym is) (keeps (about ∙ ap Some is) holds) in
       subst (λ id. P (place_of id (applied_to one (place_change request (place_of one t)) t))) is

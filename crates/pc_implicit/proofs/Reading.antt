@@ -18,8 +18,7 @@ use Rattle.pc_history.specs.History.{MayFollow}
 use Rattle.pc_history.specs.Own.{named_in}
 use Rattle.pc_implicit.proofs.ClosedBounds.{raised-closed}
 use Rattle.pc_implicit.proofs.Evals.{of_entry, range_evaluates}
-use Rattle.pc_implicit.proofs.IntentKeys.{differ-found, same_key-is}
-use Rattle.pc_implicit.proofs.Keyed.{same-is}
+use Rattle.pc_implicit.proofs.IntentKeys.{differ-found}
 use Rattle.pc_implicit.proofs.Lift.{over}
 use Rattle.pc_implicit.proofs.ReadSteps.{IsAbove, IsClear, StaysRead, read_goes_on}
 use Rattle.pc_implicit.proofs.RisingVersions.{versions_rise}
@@ -27,6 +26,8 @@ use Rattle.pc_implicit.proofs.Runs.{reply_is}
 use Rattle.pc_implicit.proofs.VersionSearches.{none-between, none-other}
 use Rattle.pc_implicit.specs.Versions.{IsRising}
 use Rattle.pc_implicit.specs.Reads.{GrowsAbove, HasRead, IsReadOfSpan, IsRefresh, RangeEvaluated, Reads, Refreshes}
+use Rattle.pc_lists.proofs.Each.{each-weaker}
+use Rattle.pc_lists.proofs.Same.{same_key-is, same_txn-is}
 use Rattle.pc_proto.specs.declared.event.Event.{Event}
 use Rattle.pc_proto.specs.declared.record.Intent.{Intent}
 use Rattle.pc_proto.specs.declared.reply.Origin.{Origin}
@@ -34,7 +35,6 @@ use Rattle.pc_proto.specs.declared.reply.Reply.{Reply}
 use Rattle.pc_proto.specs.declared.request.Request.{Request}
 use Rattle.pc_proto.specs.declared.request.Request.TheVariants as requests
 use Rattle.pc_proto.specs.Intents.{first_other, intent_at, kept_if}
-use Rattle.pc_world.proofs.Each.{each-weaker}
 use Rattle.pc_world.proofs.Knowing.{state_same}
 use Rattle.pc_world.proofs.Prefixes.{run_front, run_may}
 use Rattle.pc_world.specs.After.{state_at}
@@ -83,7 +83,7 @@ module _ (reader : TxnId) (at : ℕ) (i : Intent) where
       blocked false is none = let above : at < i.ts = grind arith in omega (arith, above, low)
 
       by : (b : Bool) → same_txn i.meta.id reader ≡ b → kept_if (λ i. nat_le i.ts at) (if not b then Some i else None) ≡ None → i.meta.id ≡ reader
-      by true is none = same-is i.meta.id reader is
+      by true is none = same_txn-is i.meta.id reader is
       by false is none = absurd (blocked (nat_le i.ts at) refl none)
 
 carried : (id reader : TxnId) (span piece : Span) (ts at : ℕ) (s : RangeState) → reader ≡ id → span ≡ piece → at ≡ ts → HasRead reader piece at s → HasRead id span ts s

@@ -7,12 +7,9 @@ use Rattle.pc_base.specs.declared.actor.ActorId.TheVariants as actors
 use Rattle.pc_base.specs.declared.entry.Entry.{Entry}
 use Rattle.pc_base.specs.declared.transaction.TxnId.{TxnId}
 use Rattle.pc_base.specs.Span.{same_key}
-use Rattle.pc_history.proofs.Lists.{contains_cons, contains_head, contains_nil, contains_tail}
-use Rattle.pc_implicit.proofs.Anchored.{each_contained}
 use Rattle.pc_implicit.proofs.CommitPoint.{DecidesNow}
 use Rattle.pc_implicit.proofs.CommitsSent.{IsBeyond, IsInForce, IsOver, IsPassed, commits_sent}
 use Rattle.pc_implicit.proofs.Doing.{same_or_not}
-use Rattle.pc_implicit.proofs.IntentKeys.{same_key-is}
 use Rattle.pc_implicit.proofs.OwnLaid.{HasFront, StandsIn}
 use Rattle.pc_implicit.proofs.OwnStanding.{own_hold}
 use Rattle.pc_implicit.proofs.PutsSent.{AreAnswers, orderly}
@@ -22,6 +19,9 @@ use Rattle.pc_implicit.proofs.WriteLists.{Laid, RiseAt, left_over, rise_at, rise
 use Rattle.pc_implicit.specs.Decided.{decision, epoch_of, time_of}
 use Rattle.pc_implicit.specs.Replied.{WasProven}
 use Rattle.pc_implicit.specs.Writes.{IsWholeBy, LastWriteStands, home_of, own_intent, txns_of, writes_at}
+use Rattle.pc_lists.proofs.Each.{each-contains}
+use Rattle.pc_lists.proofs.Lists.{contains_cons, contains_head, contains_nil, contains_tail}
+use Rattle.pc_lists.proofs.Same.{same_key-is}
 use Rattle.pc_proto.specs.declared.event.Event.{Event}
 use Rattle.pc_proto.specs.declared.event.Event.TheVariants as events
 use Rattle.pc_proto.specs.declared.meta.TxnMeta.{TxnMeta}
@@ -139,10 +139,10 @@ module _ (head : Head) (history : List (Entry Event)) (run : IsRun head history)
       let ts_low : time_of (home_of head t.id history) ≤ ts = subst (λ i. time_of (home_of head i history) ≤ ts) (sym same) now.ts_low in
       let last : Laid = (seq, value) in
       let w = unwritten-at key t.writes last (subst (λ l. Contains l last) (sym is) (Contains-append_right front (last ∷ []) last (contains_head last []))) in
-      let by = each_contained (IsProvedBy ts) t.writes w.0 (in-force t known same).1 w.1 in
+      let by = each-contains (IsProvedBy ts) t.writes w.0 (in-force t known same).1 w.1 in
       let low : by.1 ≤ ts = by.4 in
       let o = orderly head history run (actors.Session t.id.session) t own in
-      let proof : WasProven history t.id t.epoch w.0.key w.0.seq by.1 = each_contained (AreAnswers history t.id t.epoch) t.writes w.0 o.answers w.1 by.1 (by.0, by.2, by.3) in
+      let proof : WasProven history t.id t.epoch w.0.key w.0.seq by.1 = each-contains (AreAnswers history t.id t.epoch) t.writes w.0 o.answers w.1 by.1 (by.0, by.2, by.3) in
       let written : WasProven history t.id t.epoch key seq by.1 =
       subst (λ n. WasProven history t.id t.epoch key n by.1) w.3 (subst (λ k. WasProven history t.id t.epoch k w.0.seq by.1) w.2 proof) in
       let h = own_hold head history run t own key in

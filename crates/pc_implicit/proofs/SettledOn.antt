@@ -1,5 +1,5 @@
 -- What a committed transaction wrote stands over each later entry.
-use Rattle.std.proofs.Common.{◌≡◌, ℕ, ◌<◌, ◌≤◌, max, Bool, true, false, cond, inl, inr, List, [], ◌∷◌, ◌++◌, fold, Option, None, Some, Contains, sym, ap, subst, ◌∙◌, arith}
+use Rattle.std.proofs.Common.{◌≡◌, ℕ, ◌<◌, ◌≤◌, max, false, inl, inr, List, [], ◌∷◌, ◌++◌, fold, Option, None, Some, Contains, sym, ap, subst, ◌∙◌, arith}
 use Rattle.std.proofs.lemmas.List.{append-nil}
 use Rattle.std.proofs.lemmas.List.Elements.{Contains-append_left}
 use Rattle.std.specs.Option.{option_map}
@@ -10,7 +10,7 @@ use Rattle.pc_base.specs.declared.transaction.TxnId.{TxnId}
 use Rattle.pc_base.specs.declared.version.Version.{Version}
 use Rattle.pc_history.specs.History.{MayFollow}
 use Rattle.pc_implicit.proofs.Agreed.{IsNew}
-use Rattle.pc_implicit.proofs.Anchored.{commit_anchored, each_contained}
+use Rattle.pc_implicit.proofs.Anchored.{commit_anchored}
 use Rattle.pc_implicit.proofs.CommitPoint.{status_same}
 use Rattle.pc_implicit.proofs.Doing.{same_or_not}
 use Rattle.pc_implicit.proofs.Evals.{NamedMessage, of_entry, range_evaluates}
@@ -20,12 +20,13 @@ use Rattle.pc_implicit.proofs.OwnKeys.{AsBefore, Ends, IsGone, IsLaid, IsMoved, 
 use Rattle.pc_implicit.proofs.OwnLaid.{not_overtaken}
 use Rattle.pc_implicit.proofs.PutsSent.{HasPut, orderly, puts_sent}
 use Rattle.pc_implicit.proofs.Recorded.{evaluated_state}
-use Rattle.pc_implicit.proofs.Refusals.{never_refused}
+use Rattle.pc_implicit.proofs.Refusals.{decided-at, never_refused}
 use Rattle.pc_implicit.proofs.Turns.{IsAnswered, Restarted, WentOn, Wrote, comes_from}
 use Rattle.pc_implicit.proofs.VersionSteps.{makes_version, version_stays}
 use Rattle.pc_implicit.proofs.WriteLists.{Laid, RiseAt, alike_at, each_low, rise_at, rise_value, written_at}
-use Rattle.pc_implicit.specs.Decided.{decision, epoch_of, time_of}
+use Rattle.pc_implicit.specs.Decided.{decision, time_of}
 use Rattle.pc_implicit.specs.Writes.{IsWholeBy, LastWriteStands, home_of, own_intent, place_under, txns_of, writes_at}
+use Rattle.pc_lists.proofs.Each.{each-contains}
 use Rattle.pc_proto.specs.declared.event.Event.{Event}
 use Rattle.pc_proto.specs.declared.event.Event.TheVariants as events
 use Rattle.pc_proto.specs.declared.fate.Fate.{Fate}
@@ -38,7 +39,7 @@ use Rattle.pc_proto.specs.declared.reply.Reply.{Reply}
 use Rattle.pc_proto.specs.declared.request.Request.TheVariants as requests
 use Rattle.pc_proto.specs.declared.why.Why.{Why}
 use Rattle.pc_proto.specs.Intents.{last_seq, last_value, later_write, own_at}
-use Rattle.pc_proto.specs.Place.{Place, Nothing, Kept, Marked, is_final}
+use Rattle.pc_proto.specs.Place.{Nothing}
 use Rattle.pc_proto.specs.RecordRows.Reached.{status_of}
 use Rattle.pc_world.proofs.Knowing.{state_other}
 use Rattle.pc_world.specs.After.{known_at, place_at, state_at}
@@ -65,16 +66,6 @@ asked-more history e id epoch ts w = record {
   whose = w.whose;
   epoch_is = w.epoch_is;
 }
-
--- a decided place has the epoch and the timestamp of its decision
-decided-place : (p : Place) (s : Status) → decision p ≡ Some s → (epoch_of p ≡ s.epoch) × (time_of p ≡ s.ts)
-decided-place Nothing s h = absurd cc
-decided-place (Kept r) s h = by (is_final r.status.standing) h
-  where
-    by : (b : Bool) → cond b (Some r.status) None ≡ Some s → (r.status.epoch ≡ s.epoch) × (r.status.ts ≡ s.ts)
-    by true h = let same : r.status ≡ s = cc in (ap (λ (x : Status). x.epoch) same, ap (λ (x : Status). x.ts) same)
-    by false h = absurd cc
-decided-place (Marked m) s h = let same : m ≡ s = cc in (ap (λ (x : Status). x.epoch) same, ap (λ (x : Status). x.ts) same)
 
 -- The range of the key evaluates one more request.
 module _ (head : Head) (history : List (Entry Event)) (run : IsRun head history) (e : Entry Event)
@@ -104,7 +95,7 @@ module _ (head : Head) (history : List (Entry Event)) (run : IsRun head history)
       let past : last_seq i < seq0 = free.1 equal in
       let w = put.written (sym equal ∙ same) in
       let laid : Contains i.history (w.0.seq, w.0.value) = subst (λ l. Contains l (w.0.seq, w.0.value)) (sym whole) (written_at key t.writes w.0 w.1 w.3) in
-      let below : w.0.seq ≤ last_seq i = each_contained (λ (x : Laid). x.0 ≤ last_seq i) i.history (w.0.seq, w.0.value) (each_low i.history) laid in
+      let below : w.0.seq ≤ last_seq i = each-contains (λ (x : Laid). x.0 ≤ last_seq i) i.history (w.0.seq, w.0.value) (each_low i.history) laid in
       let seq : w.0.seq ≡ seq0 = w.2 in
       omega (arith, past, below, seq)
 
@@ -123,7 +114,7 @@ module _ (head : Head) (history : List (Entry Event)) (run : IsRun head history)
         | IsMoved at j asked there eq ↦
             let one : j ≡ i = let both : Some j ≡ Some i = sym there ∙ own in cc in
             let reached : at ≤ time_of (home_of head t.id history) = fate-so (fates.Pending at) asked in
-            let time : time_of (home_of head t.id history) ≡ ts = (decided-place (home_of head t.id history) (status_of standings.Committed epoch ts) decided).1 in
+            let time : time_of (home_of head t.id history) ≡ ts = (decided-at (home_of head t.id history) (status_of standings.Committed epoch ts) decided).1 in
             inr (record i { ts = max i.ts at }, later ∙ eq ∙ ap (λ (x : Intent). Some (record x { ts = max x.ts at })) one, record { epoch = w.epoch; low = omega (arith, low, reached, time); whole = w.whole })
         | IsGone fate j asked ends there eq ↦ gone fate ends asked (fate-so fate asked)
       ]

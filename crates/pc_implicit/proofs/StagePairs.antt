@@ -5,10 +5,10 @@ use Rattle.std.proofs.lemmas.Bool.{eq-eqb, eqb-true}
 use Rattle.pc_base.specs.declared.actor.ActorId.{ActorId}
 use Rattle.pc_base.specs.declared.entry.Entry.{Entry}
 use Rattle.pc_implicit.proofs.StagesKnown.{HasSent, commit_of, commit_sent, heard_goes_on, late_more, none_sent, one_stage, passed_more, refused_more, sent_cases, stage_of, stage_sent}
+use Rattle.pc_lists.proofs.Anywhere.{any_kept}
 use Rattle.pc_proto.specs.declared.event.Event.{Event}
 use Rattle.pc_proto.specs.declared.event.Event.TheVariants as events
 use Rattle.pc_proto.specs.declared.meta.TxnMeta.{TxnMeta}
-use Rattle.pc_world.proofs.Anywhere.{any_kept}
 use Rattle.pc_world.proofs.Prefixes.{run_induction}
 use Rattle.pc_world.specs.After.{known_at}
 use Rattle.pc_world.specs.Known.Traffic.{Heard}

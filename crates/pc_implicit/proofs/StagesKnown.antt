@@ -7,17 +7,17 @@ use Rattle.pc_base.specs.declared.actor.ActorId.{ActorId}
 use Rattle.pc_base.specs.declared.entry.Entry.{Entry}
 use Rattle.pc_base.specs.declared.transaction.TxnId.{TxnId}
 use Rattle.pc_base.specs.Transaction.{same_txn}
-use Rattle.pc_history.proofs.Lists.{contains_cons, contains_nil}
 use Rattle.pc_history.specs.History.{MayFollow}
 use Rattle.pc_history.specs.Own.{named_in}
 use Rattle.pc_implicit.proofs.Commits.{act_of}
 use Rattle.pc_implicit.proofs.Doing.{Does, same_or_not}
-use Rattle.pc_implicit.proofs.Keyed.{same-itself}
+use Rattle.pc_lists.proofs.Anywhere.{any_kept, any_weaker}
+use Rattle.pc_lists.proofs.Lists.{contains_cons, contains_nil}
+use Rattle.pc_lists.proofs.Same.{same_txn-self}
 use Rattle.pc_proto.specs.declared.event.Event.{Event}
 use Rattle.pc_proto.specs.declared.event.Event.TheVariants as events
 use Rattle.pc_proto.specs.declared.request.Request.{Request}
 use Rattle.pc_proto.specs.declared.request.Request.TheVariants as requests
-use Rattle.pc_world.proofs.Anywhere.{any_kept, any_weaker}
 use Rattle.pc_world.proofs.Knowing.{known_other, known_same}
 use Rattle.pc_world.specs.After.{known_at}
 use Rattle.pc_world.specs.Known.{Known}
@@ -83,13 +83,13 @@ pub stage_of : (id : TxnId) (P : SentStage → Type 0) (sent : List Sent) → Ea
 stage_of id P sent each s whose (n, m, inside, at, is) =
     let on : OnStage id P m.request = All-contains (λ (x : Sent). OnStage id P x.request) sent m each (n, inside, at) in
     let own : OnStage id P (stage_request s) = subst (OnStage id P) is on in
-    own (ap (λ i. same_txn i id) whose ∙ same-itself id)
+    own (ap (λ i. same_txn i id) whose ∙ same_txn-self id)
 
 pub commit_of : (id : TxnId) (P : SentCommit → Type 0) (sent : List Sent) → EachCommit id sent P → (c : SentCommit) → c.meta.id ≡ id → HasSent sent (commit_request c) → P c
 commit_of id P sent each c whose (n, m, inside, at, is) =
     let on : OnCommit id P m.request = All-contains (λ (x : Sent). OnCommit id P x.request) sent m each (n, inside, at) in
     let own : OnCommit id P (commit_request c) = subst (OnCommit id P) is on in
-    own (ap (λ i. same_txn i id) whose ∙ same-itself id)
+    own (ap (λ i. same_txn i id) whose ∙ same_txn-self id)
 
 -- The stage that a request sends, if it sends one.
 staged_by : Request → Option SentStage

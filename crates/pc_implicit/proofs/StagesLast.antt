@@ -5,20 +5,21 @@ use Rattle.std.proofs.lemmas.List.Elements.{All-contains, Contains-append_left}
 use Rattle.pc_base.specs.declared.actor.ActorId.{ActorId}
 use Rattle.pc_base.specs.declared.actor.ActorId.TheVariants as actors
 use Rattle.pc_base.specs.declared.entry.Entry.{Entry}
-use Rattle.pc_history.proofs.Lists.{contains_cons, contains_filter, contains_in_filter, contains_in_map, contains_map, contains_nil}
 use Rattle.pc_implicit.proofs.Agreed.{agreed, open_there}
-use Rattle.pc_implicit.proofs.Anchored.{each_contained}
 use Rattle.pc_implicit.proofs.Hearing.{WasSentBy, sent_is_so}
-use Rattle.pc_implicit.proofs.IntentKeys.{same_key-equal}
 use Rattle.pc_implicit.proofs.Metas.{subject_anchored}
+use Rattle.pc_implicit.proofs.Moves.{one_named}
 use Rattle.pc_implicit.proofs.PutsSent.{AreOrderly, orderly, puts_sent}
 use Rattle.pc_implicit.proofs.StagesKnown.{HasSent, dead_more, heard_goes_on, none_sent, sent_cases, stage_of, stage_sent}
 use Rattle.pc_implicit.proofs.StagesRefuted.{dead_refuted}
 use Rattle.pc_implicit.proofs.StagesSent.{has_sent_stage, staged_txn}
 use Rattle.pc_implicit.proofs.StageWords.{IsKnownLast, LaterIsRefuted, StagesLast}
-use Rattle.pc_implicit.proofs.Turns.{IsAnswered, Restarted, Turn, WentOn, Wrote, comes_from, one_txn}
+use Rattle.pc_implicit.proofs.Turns.{IsAnswered, Restarted, Turn, WentOn, Wrote, comes_from}
 use Rattle.pc_implicit.proofs.WriteLists.{AreAlike, AreInTurn, IsAlike, Rise, alike_back, alike_on}
 use Rattle.pc_implicit.specs.Writes.{txns_of}
+use Rattle.pc_lists.proofs.Each.{each-contains}
+use Rattle.pc_lists.proofs.Lists.{contains_cons, contains_filter, contains_in_filter, contains_in_map, contains_map, contains_nil}
+use Rattle.pc_lists.proofs.Same.{same_key-equal}
 use Rattle.pc_proto.specs.declared.answer.Answer.TheVariants as answers
 use Rattle.pc_proto.specs.declared.event.Event.{Event}
 use Rattle.pc_proto.specs.declared.event.Event.TheVariants as events
@@ -189,7 +190,7 @@ module _ (head : Head) where
   -- a stage that was sent is of a transaction with an anchor
   anchored-so : (history : List (Entry Event)) → IsRun head history → (actor : ActorId) (s : SentStage) → HasSent (known_at head actor history).sent (stage_request s) → (anchor : List ℕ) × (anchor_in s.meta.id history ≡ Some anchor)
   anchored-so history run actor s (n, m, inside, at, asks) =
-      let w = each_contained (WasSentBy head history actor) (known_at head actor history).sent m (sent_is_so head history run actor) (n, inside, at) in
+      let w = each-contains (WasSentBy head history actor) (known_at head actor history).sent m (sent_is_so head history run actor) (n, inside, at) in
       let a = subject_anchored head history run w.send w.listed m.number m.range (stage_request s) s.meta.id (w.sends ∙ ap (events.Send m.number m.range) asks) refl in
       (a.anchor, a.anchored)
 
@@ -217,7 +218,7 @@ module _ (head : Head) where
               | inr now ↦ elim (stage_sent head history e may actor s now) [
                 | inl old ↦ before old
                 | inr new ↦
-                    let own : new.t ≡ c.t = one_txn actor (k.begun + 1) k.txns new.t c.t (agreed head history run actor).numbered (open_there k new.t new.opened) c.there (ap (λ (m : TxnMeta). m.id) (sym new.whose.same) ∙ named) in
+                    let own : new.t ≡ c.t = one_named actor (k.begun + 1) k.txns new.t c.t (agreed head history run actor).numbered (open_there k new.t new.opened) c.there (ap (λ (m : TxnMeta). m.id) (sym new.whose.same) ∙ named) in
                     by history e run actor s u c.t now.number now.range now.sends new own (orderly head history run actor c.t c.there) more.0 c.turn
               ]
             ]

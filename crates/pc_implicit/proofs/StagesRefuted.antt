@@ -6,12 +6,9 @@ use Rattle.pc_base.specs.declared.actor.ActorId.TheVariants as actors
 use Rattle.pc_base.specs.declared.entry.Entry.{Entry}
 use Rattle.pc_base.specs.Span.{same_key}
 use Rattle.pc_base.specs.Transaction.{same_txn}
-use Rattle.pc_history.proofs.Lists.{contains_head, contains_tail}
 use Rattle.pc_implicit.proofs.CommitsSent.{IsBeyond, beyond-on}
 use Rattle.pc_implicit.proofs.Did.{session_at}
 use Rattle.pc_implicit.proofs.HeardViews.{asked_home, replied_of, so_of, undecided_from}
-use Rattle.pc_implicit.proofs.IntentKeys.{same_key-is}
-use Rattle.pc_implicit.proofs.Keyed.{same-is}
 use Rattle.pc_implicit.proofs.StagesSent.{has_sent_stage}
 use Rattle.pc_implicit.proofs.StagePairs.{stages_paired}
 use Rattle.pc_implicit.proofs.StagesKnown.{HasSent, dead_is_late}
@@ -20,6 +17,8 @@ use Rattle.pc_implicit.specs.Decided.{decision, epoch_of, time_of}
 use Rattle.pc_implicit.specs.Replied.{WasReplied}
 use Rattle.pc_implicit.specs.Stages.{IsOpenTo, WasStaged}
 use Rattle.pc_implicit.specs.Writes.{home_of}
+use Rattle.pc_lists.proofs.Lists.{contains_head, contains_tail}
+use Rattle.pc_lists.proofs.Same.{same_key-is, same_txn-is}
 use Rattle.pc_proto.specs.declared.event.Event.{Event}
 use Rattle.pc_proto.specs.declared.record.Standing.{Standing}
 use Rattle.pc_proto.specs.declared.record.Standing.TheVariants as standings
@@ -113,7 +112,7 @@ refutes_one history s h replied r = by h.request h.reply replied r.refuted
                   meta = meta;
                   asked = at;
                   value = value;
-                  whose = same-is meta.id s.meta.id left.0;
+                  whose = same_txn-is meta.id s.meta.id left.0;
                   epoch_is = eqb-true meta.epoch s.meta.epoch left.1;
                   replied = replied;
                 };
@@ -124,7 +123,7 @@ refutes_one history s h replied r = by h.request h.reply replied r.refuted
         let left = and_parts (same_txn id s.meta.id) (epoch == s.meta.epoch) halves.0 in
         let right = and_parts (at == s.ts) (lists_write key seq s.writes) halves.1 in
         let same : requests.Query id epoch seq at key who ≡ requests.Query s.meta.id s.meta.epoch seq s.ts key who =
-        λ i. requests.Query (same-is id s.meta.id left.0 i) (eqb-true epoch s.meta.epoch left.1 i) seq (eqb-true at s.ts right.0 i) key who in
+        λ i. requests.Query (same_txn-is id s.meta.id left.0 i) (eqb-true epoch s.meta.epoch left.1 i) seq (eqb-true at s.ts right.0 i) key who in
         record {
           write = (key, seq);
           listed = listed_there key seq s.writes right.1;

@@ -9,17 +9,17 @@ use Rattle.pc_base.specs.declared.entry.Entry.{Entry}
 use Rattle.pc_base.specs.declared.transaction.TxnId.{TxnId}
 use Rattle.pc_base.specs.Span.{same_key}
 use Rattle.pc_base.specs.Transaction.{same_txn}
-use Rattle.pc_history.proofs.Lists.{contains_cons, contains_head, contains_nil, contains_tail}
 use Rattle.pc_history.specs.History.{MayFollow}
 use Rattle.pc_history.specs.Own.{named_in}
-use Rattle.pc_implicit.proofs.Agreed.{AreNumbered, IsNew, Knows, agreed, begun_next, open_there, owned}
+use Rattle.pc_implicit.proofs.Agreed.{IsNew, Knows, agreed, begun_next, open_there}
 use Rattle.pc_implicit.proofs.Commits.{act_of}
 use Rattle.pc_implicit.proofs.Doing.{Does, same_or_not, told_by_row}
 use Rattle.pc_implicit.proofs.Hearing.{IsSo, heard-event}
-use Rattle.pc_implicit.proofs.Keyed.{same-is}
-use Rattle.pc_implicit.proofs.IntentKeys.{same_key-is}
+use Rattle.pc_implicit.proofs.Moves.{one_named}
 use Rattle.pc_implicit.proofs.WriteLists.{AreAlike, IsAlike, alike-itself, alike_map, alike_themselves}
 use Rattle.pc_implicit.specs.Replied.{QueryFound, WasProven, WasReplied, WasWritten}
+use Rattle.pc_lists.proofs.Lists.{contains_cons, contains_head, contains_nil, contains_tail}
+use Rattle.pc_lists.proofs.Same.{same_key-is, same_txn-is}
 use Rattle.pc_proto.specs.declared.answer.Answer.{Answer}
 use Rattle.pc_proto.specs.declared.answer.Answer.TheVariants as answers
 use Rattle.pc_proto.specs.declared.event.Event.{Event}
@@ -107,27 +107,6 @@ unmap f (x ∷ xs) y there =
 pub id_is : (one other : TxnId) → one.session ≡ other.session → one.number ≡ other.number → one ≡ other
 id_is one other session number = λ i. record { session = session i; number = number i }
 
--- of an actor's transactions no two have one name
-pub one_txn : (actor : ActorId) (n : ℕ) (txns : List Txn) (t u : Txn) → AreNumbered actor n txns → Contains txns t → Contains txns u → t.id ≡ u.id → t ≡ u
-one_txn actor n [] t u numbered a b same = absurd (contains_nil t a)
-one_txn actor n (x ∷ xs) t u numbered a b same =
-    elim (contains_cons x xs t a) [
-      | inl first ↦ elim (contains_cons x xs u b) [
-        | inl also ↦ sym first ∙ also
-        | inr later ↦
-            let below = (owned actor x.id.number xs u numbered.2 later).1 in
-            let number : x.id.number ≡ u.id.number = ap (λ (y : Txn). y.id.number) first ∙ ap (λ (i : TxnId). i.number) same in
-            absurd (omega (arith, below, number))
-      ]
-      | inr rest ↦ elim (contains_cons x xs u b) [
-        | inl also ↦
-            let below = (owned actor x.id.number xs t numbered.2 rest).1 in
-            let number : x.id.number ≡ t.id.number = ap (λ (y : Txn). y.id.number) also ∙ ap (λ (i : TxnId). i.number) (sym same) in
-            absurd (omega (arith, below, number))
-        | inr later ↦ one_txn actor x.id.number xs t u numbered.2 rest later same
-      ]
-    ]
-
 pub none-later : (most n : ℕ) (ws : List Write) → fold (λ most w. max most w.seq) most ws < n → (list_any (λ w. w.seq == n) ws ≡ false) × (most ≤ fold (λ most w. max most w.seq) most ws)
 none-later most n [] h = (refl, omega arith)
 none-later most n (w ∷ ws) h =
@@ -182,7 +161,7 @@ module _ (head : Head) (history : List (Entry Event)) (run : IsRun head history)
   first-put : (number range : ℕ) (meta : TxnMeta) (seq ts : ℕ) (key : List ℕ) (value : Option (List ℕ)) → e.event ≡ events.Send number range (requests.Put meta seq ts key value)
       → MaySendFirst k meta seq ts key value → (t u : Txn) → Contains k.txns t → meta.id ≡ t.id → u.id ≡ t.id → u.epoch ≡ t.epoch → u.writes ≡ with_put seq ts key value t.writes → Comes history e k u
   first-put number range meta seq ts key value is f t u there whose same epoch writes =
-      let own : f.t ≡ t = one_txn e.actor (k.begun + 1) k.txns f.t t knows.numbered (open_there k f.t f.opened) there (ap (λ (m : TxnMeta). m.id) (sym f.whose) ∙ whose) in
+      let own : f.t ≡ t = one_named e.actor (k.begun + 1) k.txns f.t t knows.numbered (open_there k f.t f.opened) there (ap (λ (m : TxnMeta). m.id) (sym f.whose) ∙ whose) in
       let next : seq ≡ last_seq_of t.writes + 1 = f.next ∙ ap (λ (x : Txn). last_seq_of x.writes + 1) own in
       let w : Write = record { key = key; seq = seq; value = value; asked = ts ∷ []; proofs = [] } in
       let fresh : with_put seq ts key value t.writes ≡ t.writes ++ w ∷ [] = ap (λ b. cond b (map (asked_again seq ts) t.writes) (t.writes ++ w ∷ [])) (none-later 0 seq t.writes (omega (arith, next))).0 in
@@ -222,7 +201,7 @@ module _ (head : Head) (history : List (Entry Event)) (run : IsRun head history)
       elim may [
         | inl f ↦ first-put number range meta seq ts key value is f t u there whose same epoch writes
         | inr a ↦
-            let own : a.t ≡ t = one_txn e.actor (k.begun + 1) k.txns a.t t knows.numbered a.mine there (ap (λ (m : TxnMeta). m.id) (sym a.whose.same) ∙ whose) in
+            let own : a.t ≡ t = one_named e.actor (k.begun + 1) k.txns a.t t knows.numbered a.mine there (ap (λ (m : TxnMeta). m.id) (sym a.whose.same) ∙ whose) in
             put-again seq ts key value t u there a.w (subst (λ (x : Txn). Contains x.writes a.w) own a.written) a.same_sequence same epoch writes
       ]
 
@@ -231,7 +210,7 @@ module _ (head : Head) (history : List (Entry Event)) (run : IsRun head history)
     where
       by : (b : Bool) → (same_txn meta.id t.id && meta.epoch == t.epoch) ≡ b → (u : Txn) → u.id ≡ t.id → u.epoch ≡ t.epoch → u.writes ≡ cond b (with_put seq ts key value t.writes) t.writes → Comes history e k u
       by true own u same epoch writes =
-          put-comes number range meta seq ts key value is may.row t u there (same-is meta.id t.id (and_parts (same_txn meta.id t.id) (meta.epoch == t.epoch) own).0) same epoch writes
+          put-comes number range meta seq ts key value is may.row t u there (same_txn-is meta.id t.id (and_parts (same_txn meta.id t.id) (meta.epoch == t.epoch) own).0) same epoch writes
       by false other u same epoch writes = still t u there same epoch writes
   sent-comes number range request is may t there = still t (txn_sent request t) there refl refl refl
 
@@ -266,7 +245,7 @@ module _ (head : Head) (history : List (Entry Event)) (run : IsRun head history)
       by true own writes =
           let parts = and_parts (same_txn meta.id t.id) (meta.epoch == t.epoch) own in
           let answered : WasWritten history t.id t.epoch key seq at =
-          subst (λ i. WasWritten history i t.epoch key seq at) (same-is meta.id t.id parts.0)
+          subst (λ i. WasWritten history i t.epoch key seq at) (same_txn-is meta.id t.id parts.0)
           (subst (λ n. WasWritten history meta.id n key seq at) (eqb-true meta.epoch t.epoch parts.1) (record { meta = meta; asked = ts; value = value; whose = refl; epoch_is = refl; replied = replied-so h (requests.Put meta seq ts key value) (replies.Written at) so asked told })) in
           proved-comes key seq at t u (inl answered) there same epoch writes
       by false other writes = still t u there same epoch writes
@@ -281,7 +260,7 @@ module _ (head : Head) (history : List (Entry Event)) (run : IsRun head history)
       by true own writes =
           let parts = and_parts (same_txn id t.id) (epoch_at == t.epoch) own in
           let found : QueryFound history t.id t.epoch key seq ts =
-          subst (λ i. QueryFound history i t.epoch key seq ts) (same-is id t.id parts.0)
+          subst (λ i. QueryFound history i t.epoch key seq ts) (same_txn-is id t.id parts.0)
           (subst (λ n. QueryFound history id n key seq ts) (eqb-true epoch_at t.epoch parts.1) (record { by = asker; replied = replied-so h (requests.Query id epoch_at seq ts key asker) replies.Found so asked told })) in
           proved-comes key seq ts t u (inr found) there same epoch writes
       by false other writes = still t u there same epoch writes

@@ -3,11 +3,11 @@ use Rattle.std.proofs.Common.{◌≡◌, ℕ, Bool, true, false, if◌then◌els
 use Rattle.std.specs.Option.{option_map_or}
 use Rattle.pc_base.specs.declared.transaction.TxnId.{TxnId}
 use Rattle.pc_base.specs.Transaction.{same_txn}
-use Rattle.pc_implicit.proofs.Keyed.{same-is}
 use Rattle.pc_implicit.proofs.Lift.{GoesOn}
 use Rattle.pc_implicit.proofs.Places.{at_place, place_after}
 use Rattle.pc_implicit.proofs.Rows.{decision-row, not-below-itself, rises-row}
 use Rattle.pc_implicit.specs.Decided.{HasReached, IsNotBelow, StaysTrue, decision}
+use Rattle.pc_lists.proofs.Same.{same_txn-is}
 use Rattle.pc_proto.specs.declared.record.Record.{Record}
 use Rattle.pc_proto.specs.declared.record.Standing.{Standing}
 use Rattle.pc_proto.specs.declared.record.Standing.TheVariants as standings
@@ -127,4 +127,4 @@ reply-view request s id view is h = absurd cc
 -- what speaks of a transaction's record has it for its subject
 pub subject-is : (id : TxnId) (o : Option TxnId) → option_map_or (λ other. same_txn other id) o false ≡ true → o ≡ Some id
 subject-is id None h = absurd cc
-subject-is id (Some other) h = ap Some (same-is other id h)
+subject-is id (Some other) h = ap Some (same_txn-is other id h)

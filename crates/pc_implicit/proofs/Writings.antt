@@ -5,9 +5,9 @@ use Rattle.std.specs.Prelude.{⊤}
 use Rattle.pc_base.specs.declared.transaction.TxnId.{TxnId}
 use Rattle.pc_base.specs.Span.{same_key}
 use Rattle.pc_base.specs.Transaction.{same_txn}
-use Rattle.pc_history.proofs.Lists.{contains_cons, contains_nil}
 use Rattle.pc_implicit.proofs.SessionCommits.{written}
 use Rattle.pc_implicit.proofs.SessionReads.{last_seq_done, seq_of}
+use Rattle.pc_lists.proofs.Lists.{contains_cons, contains_nil}
 use Rattle.pc_proto.specs.declared.reply.Reply.{Reply}
 use Rattle.pc_proto.specs.declared.reply.Reply.TheVariants as replies
 use Rattle.pc_proto.specs.declared.request.Request.{Request}
@@ -27,7 +27,7 @@ abbrev pub RiseFrom : ℕ → List Operation → Type 0
 RiseFrom n [] = ⊤
 RiseFrom n (o ∷ os) = (n < seq_of o) × RiseFrom (seq_of o) os
 
-max-above : (n m : ℕ) → n < m → max n m ≡ m
+pub max-above : (n m : ℕ) → n < m → max n m ≡ m
 max-above n m h = omega (arith, h)
 
 pub rise_push : (n : ℕ) (os : List Operation) (o : Operation) → RiseFrom n os → fold (λ most o. max most (seq_of o)) n os < seq_of o → RiseFrom n (os ++ o ∷ [])

@@ -6,6 +6,7 @@ use Rattle.pc_base.specs.declared.actor.ActorId.{ActorId}
 use Rattle.pc_base.specs.declared.actor.ActorId.TheVariants as actors
 use Rattle.pc_base.specs.declared.transaction.Priority.{Priority}
 use Rattle.pc_base.specs.declared.transaction.Who.{Who}
+use Rattle.pc_lists.proofs.Anywhere.{any_kept}
 use Rattle.pc_proto.specs.declared.event.Event.{Event}
 use Rattle.pc_proto.specs.declared.event.Event.TheVariants as events
 use Rattle.pc_proto.specs.declared.fate.Goal.{Goal}
@@ -17,7 +18,6 @@ use Rattle.pc_push.specs.declared.progress.Progress.{Progress}
 use Rattle.pc_push.specs.declared.progress.Progress.TheVariants as progress
 use Rattle.pc_push.specs.PushKnows.{HasMetStaging, IsSettledOrLeft, MayPush, PushKnows, StandsAt}
 use Rattle.pc_push.specs.Pushing.{Pushing, holder_resolve, push_of}
-use Rattle.pc_world.proofs.Anywhere.{any_kept}
 use Rattle.pc_world.proofs.Exchange.{ever_later, heard_later, kept_later, later-itself, later-later, top_later}
 use Rattle.pc_world.specs.Exchange.{IsLater, is_message}
 use Rattle.pc_world.specs.Known.{Known, first_if, known_after}

@@ -14,11 +14,11 @@ use Rattle.pc_base.specs.declared.transaction.TxnId.{TxnId}
 use Rattle.pc_base.specs.Span.{key_at_most}
 use Rattle.pc_base.specs.Transaction.{same_txn}
 use Rattle.pc_history.specs.Own.{named_in, pair, pairs_after, same_id}
+use Rattle.pc_lists.proofs.Same.{same_txn-is}
 use Rattle.pc_proto.specs.declared.event.Event.{Event}
 use Rattle.pc_proto.specs.declared.request.Request.{Request}
 use Rattle.pc_proto.specs.Place.{Place, Nothing, Kept, Marked}
 use Rattle.pc_proto.specs.Table.{place_of}
-use Rattle.pc_implicit.proofs.Keyed.{same-is}
 use Rattle.pc_report.proofs.Intents.{is_one}
 use Rattle.pc_report.proofs.Naming.{asked_there}
 use Rattle.pc_report.proofs.Points.{point_push, point_stays, point_start}
@@ -231,7 +231,7 @@ followed splits history e old new was anchors told rolled states points = record
             both-none true = refl
             both-none false = refl
         by-same true t =
-            let same : one ≡ id = same-is one id t in
+            let same : one ≡ id = same_txn-is one id t in
             let committed : commit_kept splits new one ≡ commit_ts (over splits) (history ++ e ∷ []) id = ap (commit_kept splits new) same ∙ commit_means splits (history ++ e ∷ []) new now-states now-anchors id now-told in
             let far : length (history ++ e ∷ []) ≡ length history + 1 = length-append history (e ∷ []) in
             let now : cond (is_some (commit_ts (over splits) (history ++ e ∷ []) id)) (Some (length (history ++ e ∷ []))) None ≡ cond (is_some (commit_kept splits new one)) (cond (same_txn one id) (Some (length history + 1)) None) None =

@@ -10,7 +10,7 @@ use Rattle.pc_base.specs.declared.entry.Entry.{Entry}
 use Rattle.pc_base.specs.declared.span.Span.{Span}
 use Rattle.pc_base.specs.declared.transaction.TxnId.{TxnId}
 use Rattle.pc_base.specs.Transaction.{same_txn, txn_cmp}
-use Rattle.pc_implicit.proofs.Keyed.{same-is}
+use Rattle.pc_lists.proofs.Same.{same_txn-is}
 use Rattle.pc_proto.specs.declared.answer.Answer.{Answer}
 use Rattle.pc_proto.specs.declared.answer.Answer.TheVariants as answers
 use Rattle.pc_proto.specs.declared.call.Call.{Call}
@@ -151,7 +151,7 @@ restarted old new session one found mine h id = ap puts_of (updated old.puts new
 
     by : (b : Bool) → same_txn one id ≡ b → puts_of (cond b None (held old.puts id)) ≡ cond (id.session == session) (cond (is_last_in old id) [] (puts_held old id)) (puts_held old id)
     by true t =
-        let own : id.session ≡ session = ap (λ (x : TxnId). x.session) (sym (same-is one id t)) ∙ mine in
+        let own : id.session ≡ session = ap (λ (x : TxnId). x.session) (sym (same_txn-is one id t)) ∙ mine in
         sym (ap (λ b. cond b (cond (is_last_in old id) [] (puts_held old id)) (puts_held old id)) (numbers id.session session own)
         ∙ ap (λ b. cond b [] (puts_held old id)) (last own ∙ t))
     by false t = by-own t (id.session == session) refl

@@ -5,6 +5,7 @@ use Rattle.std.proofs.lemmas.List.Elements.{All-nil, All-push, All-weaker}
 use Rattle.std.proofs.lemmas.Option.{slice_get_cases}
 use Rattle.pc_base.specs.declared.actor.ActorId.{ActorId}
 use Rattle.pc_base.specs.declared.memory.NoMemory.{NoMemory}
+use Rattle.pc_lists.proofs.Anywhere.{any_weaker}
 use Rattle.pc_proto.specs.declared.reply.Reply.{Reply}
 use Rattle.pc_proto.specs.declared.reply.Reply.TheVariants as replies
 use Rattle.pc_proto.specs.declared.request.Request.{Request}
@@ -13,7 +14,6 @@ use Rattle.pc_resolve.proofs.Going.{goes_on}
 use Rattle.pc_resolve.specs.ResolveKnows.{AreSettled, FinishingMayCome, IsLaterWithoutPuts, IsRemoved, ResolveKnows, WasAnsweredToIt, sends_put_by}
 use Rattle.pc_resolve.specs.Resolving.{Resolving, at_end, finishing_after, finishing_due, finishing_heard, finishing_next, lock_resolve, remove_of, unsettled, with_reply}
 use Rattle.pc_world.proofs.Exchange.{answered, heard_earlier, heard_ever, is_hearing, later-push}
-use Rattle.pc_world.proofs.Anywhere.{any_weaker}
 use Rattle.pc_world.specs.declared.machine.MachineNext.{MachineNext}
 use Rattle.pc_world.specs.declared.machine.MachineNext.TheVariants as nexts
 use Rattle.pc_world.specs.Exchange.{HeardSince, IsExchange}

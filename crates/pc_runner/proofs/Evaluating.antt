@@ -1,9 +1,9 @@
 -- What an evaluation adds to a sound history: a reply that its request may be answered with; and the holder of a conflict was begun.
 use Rattle.std.proofs.Common.{◌≡◌, ℕ, ◌≤◌, [], ◌∷◌, ◌++◌, slice_get, Some, refl, sym, ap, subst, ◌∙◌}
 use Rattle.pc_base.specs.declared.actor.ActorId.TheVariants as actors
-use Rattle.pc_history.proofs.Lists.{get_push}
 use Rattle.pc_implicit.proofs.Answering.{replies_are_of_their_kind, reply_is_one}
 use Rattle.pc_implicit.proofs.Holders.{holders_were_begun}
+use Rattle.pc_lists.proofs.Lists.{get_push}
 use Rattle.pc_proto.specs.declared.event.Event.TheVariants as events
 use Rattle.pc_proto.specs.declared.reply.Reply.{Reply}
 use Rattle.pc_proto.specs.declared.reply.Reply.TheVariants as replies

@@ -8,18 +8,17 @@ use Rattle.std.specs.List.{AllByRecursion as Each}
 use Rattle.pc_base.specs.declared.actor.ActorId.{ActorId}
 use Rattle.pc_base.specs.declared.actor.ActorId.TheVariants as actors
 use Rattle.pc_base.specs.declared.entry.Entry.{Entry}
-use Rattle.pc_coord.proofs.Rounds.{one_if}
 use Rattle.pc_history.proofs.Histories.{own-push_other}
 use Rattle.pc_history.proofs.Ids.{same_id-differ, same_id-refl}
 use Rattle.pc_history.specs.Own.{own, same_id}
+use Rattle.pc_lists.proofs.Counts.{count-push, one_if}
+use Rattle.pc_lists.proofs.Each.{each-weaker}
 use Rattle.pc_proto.specs.declared.event.Event.{Event}
 use Rattle.pc_proto.specs.declared.event.Event.TheVariants as events
 use Rattle.pc_proto.specs.declared.reply.Reply.{Reply}
-use Rattle.pc_world.proofs.Each.{each-weaker}
 use Rattle.pc_world.specs.Known.{known_of}
 use Rattle.pc_world.specs.Local.{Head, IsActorOf}
 use Rattle.pc_world.specs.Run.{protocol}
-use Rattle.pc_runner.proofs.Growing.{count_push}
 use Rattle.pc_runner.specs.Follows.Turns.{EvaluatesOf, IsItOrRange, IsOwnDeed, deeds}
 use Rattle.pc_runner.specs.Follows.Wire.{evaluates_message, evaluations}
 use Rattle.pc_runner.specs.History.{History, known_by, own_by}
@@ -98,7 +97,7 @@ module _ (head : Head) (id : ActorId) where
 evaluations-beside : (id : ActorId) (message : ℕ) (before part : List (Entry Event)) → Each (λ e. evaluates_message id message e.event ≡ false) part → evaluations id message (before ++ part) ≡ evaluations id message before
 evaluations-beside id message before [] none = ap (evaluations id message) (append-nil before)
 evaluations-beside id message before (e ∷ es) none =
-    let one : evaluations id message (before ++ e ∷ []) ≡ evaluations id message before + one_if (evaluates_message id message e.event) = count_push (λ (x : Entry Event). evaluates_message id message x.event) before e in
+    let one : evaluations id message (before ++ e ∷ []) ≡ evaluations id message before + one_if (evaluates_message id message e.event) = count-push (λ (x : Entry Event). evaluates_message id message x.event) before e in
     let off : one_if (evaluates_message id message e.event) ≡ 0 = ap one_if none.0 in
     ap (evaluations id message) (sym (append_assoc before (e ∷ []) es)) ∙ (evaluations-beside id message (before ++ e ∷ []) es none.1 ∙ omega arith)
 

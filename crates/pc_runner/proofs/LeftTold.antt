@@ -8,7 +8,7 @@ use Rattle.pc_base.specs.declared.transaction.TxnId.{TxnId}
 use Rattle.pc_coord.proofs.Steps.{told}
 use Rattle.pc_coord.specs.declared.job.Job.{Job}
 use Rattle.pc_coord.specs.Knows.{MayFinishJob, messages_left, messages_of_job}
-use Rattle.pc_history.proofs.Lists.{contains_cons, contains_head, contains_tail}
+use Rattle.pc_lists.proofs.Lists.{contains_cons, contains_head, contains_tail}
 use Rattle.pc_proto.specs.declared.answer.Answer.{Answer}
 use Rattle.pc_proto.specs.declared.answer.Answer.TheVariants as answers
 use Rattle.pc_proto.specs.declared.fate.Fate.{Fate}

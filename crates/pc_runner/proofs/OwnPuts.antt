@@ -2,7 +2,6 @@
 use Rattle.std.proofs.Common.{◌≡◌, ℕ, ◌<◌, Bool, true, All, List, [], ◌∷◌, map, Option, Some, refl, sym, ap, subst, ◌∙◌, IsTrue}
 use Rattle.std.specs.Option.{option_map}
 use Rattle.pc_base.specs.declared.transaction.TxnId.{TxnId}
-use Rattle.pc_coord.proofs.Ids.{same-is}
 use Rattle.pc_coord.proofs.Lists.{find-last}
 use Rattle.pc_coord.specs.Coordination.{Coordination, next_of}
 use Rattle.pc_coord.specs.declared.due.Due.{Due}
@@ -15,6 +14,7 @@ use Rattle.pc_coord.specs.Knows.{AwaitsReply, Knows, KnowsAt}
 use Rattle.pc_coord.specs.Knows.Reading.{AreReadsOf}
 use Rattle.pc_coord.specs.Knows.Sending.{learned}
 use Rattle.pc_coord.specs.Transaction.{put_of}
+use Rattle.pc_lists.proofs.Same.{same_txn-is}
 use Rattle.pc_proto.specs.declared.call.Call.{Call}
 use Rattle.pc_proto.specs.declared.call.Call.TheVariants as calls
 use Rattle.pc_proto.specs.declared.event.Event.TheVariants as events
@@ -62,7 +62,7 @@ open_before request b (u ∷ us) t others is same =
     (u, ap (λ b. first_if b (u ∷ us)) is, ap (λ (t : Txn). t.id) e)
 
 put_by : (x : Transaction) (anchor key : List ℕ) (value : Option (List ℕ)) (id : TxnId) → is_put_by id (put_of x anchor key value) ≡ true → x.id ≡ id
-put_by x anchor key value id e = same-is x.id id e
+put_by x anchor key value id e = same_txn-is x.id id e
 
 module _ (c : Coordination) (k : Known) (request : Request) (earlier : All (λ m. m.number < next_number k) k.sent) (kind : IsForCall k request) where
   -- What it will know.

@@ -12,8 +12,8 @@ use Rattle.pc_base.specs.declared.span.Span.TheVariants.{Between, One}
 use Rattle.pc_base.specs.declared.transaction.TxnId.{TxnId}
 use Rattle.pc_base.specs.Rising.{AreRising}
 use Rattle.pc_base.specs.Span.{key_at_most}
-use Rattle.pc_history.proofs.Lists.{contains_in_map, contains_nil, length_set}
 use Rattle.pc_history.specs.declared.pair.Pair.{Pair}
+use Rattle.pc_lists.proofs.Lists.{contains_in_map, contains_nil, length_set}
 use Rattle.pc_proto.specs.declared.event.Event.{Event}
 use Rattle.pc_proto.specs.declared.event.Event.TheVariants as events
 use Rattle.pc_proto.specs.declared.reply.Reply.{Reply}

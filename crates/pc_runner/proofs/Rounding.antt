@@ -6,9 +6,6 @@ use Rattle.pc_base.specs.declared.actor.ActorId.TheVariants as actors
 use Rattle.pc_base.specs.declared.transaction.TxnId.{TxnId}
 use Rattle.pc_base.specs.declared.transaction.Who.TheVariants as whos
 use Rattle.pc_base.specs.Transaction.{same_txn}
-use Rattle.pc_coord.proofs.Ids.{same-is}
-use Rattle.pc_coord.proofs.Rounds.{count-append, count-cons, one_if}
-use Rattle.pc_coord.proofs.Same.{same_txn-self}
 use Rattle.pc_coord.specs.Beside.{IsBeside, IsLaterBeside}
 use Rattle.pc_coord.specs.Coordination.{Coordination, next_of}
 use Rattle.pc_coord.specs.declared.due.Due.{Due}
@@ -25,6 +22,8 @@ use Rattle.pc_coord.specs.Knows.Writing.{write_call}
 use Rattle.pc_coord.specs.Messages.{read_at}
 use Rattle.pc_coord.specs.Pusher.{IsPusherOf}
 use Rattle.pc_coord.specs.Rounds.{EndsRound, IsRefusedRound, IsSettledRound, shows_resolve, was_met, was_pushed}
+use Rattle.pc_lists.proofs.Counts.{count-append, count-cons, one_if}
+use Rattle.pc_lists.proofs.Same.{same_txn-is, same_txn-self}
 use Rattle.pc_proto.specs.declared.call.Call.{Call}
 use Rattle.pc_proto.specs.declared.call.Call.TheVariants as calls
 use Rattle.pc_proto.specs.declared.fate.Fate.{Fate}
@@ -152,7 +151,7 @@ pub not_same : (one other : TxnId) → (one ≡ other → ⊥) → same_txn one 
 not_same one other differ = by (same_txn one other) refl
   where
     by : (b : Bool) → same_txn one other ≡ b → same_txn one other ≡ false
-    by true is = absurd (differ (same-is one other is))
+    by true is = absurd (differ (same_txn-is one other is))
     by false is = is
 
 -- ---- the messages of the round

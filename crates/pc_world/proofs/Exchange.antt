@@ -6,12 +6,12 @@ use Rattle.std.specs.List.{AllByRecursion as Each}
 use Rattle.std.specs.Option.{option_to_list}
 use Rattle.pc_base.specs.declared.entry.Entry.{Entry}
 use Rattle.pc_history.specs.declared.pair.Pair.{Pair}
+use Rattle.pc_lists.proofs.Anywhere.{any_behind, any_kept, any_last}
 use Rattle.pc_proto.specs.declared.event.Event.{Event}
 use Rattle.pc_proto.specs.declared.event.Event.TheVariants as events
 use Rattle.pc_proto.specs.declared.reply.Reply.{Reply}
 use Rattle.pc_proto.specs.declared.request.Request.{Request}
 use Rattle.pc_proto.specs.Stamps.{event_stamps, greatest_of, reply_stamps}
-use Rattle.pc_world.proofs.Anywhere.{any_behind, any_kept, any_last}
 use Rattle.pc_world.specs.Exchange.{HeardSince, HearsReply, IsExchange, IsLater, WasAnswered, is_message, known_from}
 use Rattle.pc_world.specs.Known.{Known, known_after, learn}
 use Rattle.pc_world.specs.Known.Clock.{high_after, top_after}
@@ -89,9 +89,6 @@ has_more since now later =
 module _ (P : Heard → Type 0) (since now : Known) (later : IsLater since now) where
   pub ever_later : Any P since.heard → Any P now.heard
   ever_later any = let m = has_more since now later in subst (λ l. Any P l) (sym m.ever) (any_kept P since.heard m.more any)
-
-  pub in_call_later : Any P since.heard_now → Any P now.heard_now
-  in_call_later any = let m = has_more since now later in subst (λ l. Any P l) (sym m.in_call) (any_kept P since.heard_now m.more any)
 
 pub heard_ever : (since now : Known) (request : Request) (reply : Reply) → HeardSince since now request reply → Any (IsExchange request reply) now.heard
 heard_ever since now request reply heard =

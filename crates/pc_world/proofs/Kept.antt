@@ -9,12 +9,12 @@ use Rattle.pc_base.specs.declared.entry.Entry.{Entry}
 use Rattle.pc_base.specs.Timestamp.{greatest}
 use Rattle.pc_history.specs.History.{AllKept, IsFine, IsFineAfter}
 use Rattle.pc_history.specs.Own.{named_in, own, pair, pairs_after, same_id}
+use Rattle.pc_lists.proofs.Each.{each-append, each-weaker}
 use Rattle.pc_proto.specs.declared.event.Event.{Event}
 use Rattle.pc_proto.specs.declared.event.Event.TheVariants as events
 use Rattle.pc_proto.specs.declared.reply.Reply.{Reply}
 use Rattle.pc_proto.specs.declared.request.Request.{Request}
 use Rattle.pc_proto.specs.Stamps.{event_stamps, request_stamps, reply_stamps}
-use Rattle.pc_world.proofs.Each.{each-append, each-weaker}
 use Rattle.pc_world.proofs.Kept.Entries.{EntryWithin, named-within, own-within, request-within}
 use Rattle.pc_world.proofs.Kept.Knowledge.{KnownWithin, known-within}
 use Rattle.pc_world.proofs.Kept.Told.{told-within}

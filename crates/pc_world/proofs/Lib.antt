@@ -1,10 +1,10 @@
-pub mod Anywhere
-pub mod Each
 pub mod Exchange
+pub mod FinalMarks
 pub mod Kept
 pub mod KeyOrder
 pub mod Knowing
 pub mod Pieces
 pub mod Prefixes
+pub mod RoundReplies
 pub mod Stamps
 pub mod World

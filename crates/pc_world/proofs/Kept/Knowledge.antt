@@ -5,6 +5,7 @@ use Rattle.std.specs.Option.{option_to_list}
 use Rattle.pc_base.specs.declared.entry.Entry.{Entry}
 use Rattle.pc_base.specs.declared.transaction.TxnId.{TxnId}
 use Rattle.pc_history.specs.declared.pair.Pair.{Pair}
+use Rattle.pc_lists.proofs.Each.{each-append, each-map, each-weaker}
 use Rattle.pc_proto.specs.declared.answer.Answer.{Answer}
 use Rattle.pc_proto.specs.declared.answer.Answer.TheVariants as answers
 use Rattle.pc_proto.specs.declared.event.Event.{Event}
@@ -12,7 +13,6 @@ use Rattle.pc_proto.specs.declared.event.Event.TheVariants as events
 use Rattle.pc_proto.specs.declared.reply.Reply.{Reply}
 use Rattle.pc_proto.specs.declared.request.Request.{Request}
 use Rattle.pc_proto.specs.Stamps.{answer_stamps, event_stamps, greatest_of, reply_stamps}
-use Rattle.pc_world.proofs.Each.{each-append, each-map, each-weaker}
 use Rattle.pc_world.proofs.Kept.Entries.{PairWithin}
 use Rattle.pc_world.proofs.Stamps.Within.{AtMost}
 use Rattle.pc_world.specs.Known.{Known, known_of, learn, nothing_known, told_first, txn_begun, txns_after, txns_told}

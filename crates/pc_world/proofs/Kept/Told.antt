@@ -8,6 +8,7 @@ use Rattle.pc_base.specs.declared.actor.ActorId.{ActorId}
 use Rattle.pc_base.specs.declared.span.Span.{Span}
 use Rattle.pc_base.specs.declared.transaction.Priority.{Priority}
 use Rattle.pc_base.specs.declared.transaction.TxnId.{TxnId}
+use Rattle.pc_lists.proofs.Each.{each-always, each-append, each-flat_map, each-map}
 use Rattle.pc_proto.specs.declared.answer.Answer.{Answer}
 use Rattle.pc_proto.specs.declared.answer.Answer.TheVariants as answers
 use Rattle.pc_proto.specs.declared.call.Call.{Call}
@@ -22,7 +23,6 @@ use Rattle.pc_proto.specs.Replies.{status_ts, view_in}
 use Rattle.pc_proto.specs.Requests.{is_about}
 use Rattle.pc_proto.specs.Stamps.{answer_stamps, origin_stamps, reply_stamps, view_stamps, why_stamps}
 use Rattle.pc_proto.specs.Views.{AbortsWith, is_committed_at, is_staging_at, undecided_ts}
-use Rattle.pc_world.proofs.Each.{each-append, each-flat_map, each-map, each-always}
 use Rattle.pc_world.proofs.Kept.Knowledge.{HeardWithin, KnownWithin, RestartWithin, TxnWithin}
 use Rattle.pc_world.proofs.Stamps.Within.{AtMost, at_most-more}
 use Rattle.pc_world.specs.Counting.{LastIs}

@@ -8,12 +8,12 @@ use Rattle.pc_base.specs.declared.transaction.TxnId.{TxnId}
 use Rattle.pc_base.specs.declared.version.Version.{Version}
 use Rattle.pc_base.specs.Span.{key_below}
 use Rattle.pc_base.specs.Versions.{first_between, visible}
+use Rattle.pc_lists.proofs.Each.{each-filter_map, each-flat_map}
 use Rattle.pc_proto.specs.declared.record.Intent.{Intent}
 use Rattle.pc_proto.specs.declared.reply.Origin.{Origin}
 use Rattle.pc_proto.specs.declared.reply.Reply.TheVariants as replies
 use Rattle.pc_proto.specs.Intents.{first_other, other_at}
 use Rattle.pc_proto.specs.Stamps.{origin_stamps, reply_stamps, row_stamps}
-use Rattle.pc_world.proofs.Each.{each-filter_map, each-flat_map}
 use Rattle.pc_world.proofs.Stamps.Searches.{first-between-within, first-other-within, other-within, some-kept, visible-within}
 use Rattle.pc_world.proofs.Stamps.Within.{AtMost, StateWithin}
 use Rattle.pc_world.specs.Evaluation.Get.{bound_after_get, bound_after_read, found_at, found_first, get, get_blocker, get_reply, own_value, version_found}

@@ -6,6 +6,7 @@ use Rattle.pc_base.specs.declared.transaction.TxnId.{TxnId}
 use Rattle.pc_base.specs.declared.transaction.Who.{Who}
 use Rattle.pc_base.specs.Keyed.{at}
 use Rattle.pc_base.specs.Transaction.{same_txn}
+use Rattle.pc_lists.proofs.Each.{each-at, each-set_at, each-without}
 use Rattle.pc_proto.specs.declared.fate.Finding.{Finding}
 use Rattle.pc_proto.specs.declared.fate.Finding.TheVariants as findings
 use Rattle.pc_proto.specs.declared.fate.Goal.{Goal}
@@ -33,7 +34,6 @@ use Rattle.pc_proto.specs.RecordRows.Stage.{stage}
 use Rattle.pc_proto.specs.Requests.{subject}
 use Rattle.pc_proto.specs.Stamps.{reply_stamps, request_stamps, goal_stamps, view_stamps, why_stamps}
 use Rattle.pc_proto.specs.Table.{Table, applied_to, marks_after, place_of, record_or_mark, records_after}
-use Rattle.pc_world.proofs.Each.{each-at, each-set_at, each-without}
 use Rattle.pc_world.proofs.Stamps.Within.{AtMost, StatusWithin, TableWithin}
 
 abbrev pub PlaceWithin : ℕ → Place → Type 0

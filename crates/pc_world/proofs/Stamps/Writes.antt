@@ -6,13 +6,13 @@ use Rattle.pc_base.specs.Bound.{ReadBound, least_write, owns}
 use Rattle.pc_base.specs.declared.transaction.TxnId.{TxnId}
 use Rattle.pc_base.specs.declared.version.Version.{Version}
 use Rattle.pc_base.specs.Span.{same_key}
+use Rattle.pc_lists.proofs.Each.{each-append, each-set_at, each-weaker, each-without}
 use Rattle.pc_proto.specs.declared.fate.Fate.{Fate}
 use Rattle.pc_proto.specs.declared.fate.Fate.TheVariants as fates
 use Rattle.pc_proto.specs.declared.meta.TxnMeta.{TxnMeta}
 use Rattle.pc_proto.specs.declared.record.Intent.{Intent}
 use Rattle.pc_proto.specs.Intents.{fresh, grown, last_value, other_at, own_at}
 use Rattle.pc_proto.specs.Stamps.{fate_stamps, reply_stamps}
-use Rattle.pc_world.proofs.Each.{each-append, each-set_at, each-weaker, each-without}
 use Rattle.pc_world.proofs.Stamps.Searches.{above-newest-within, other-within, own-within}
 use Rattle.pc_world.proofs.Stamps.Within.{AtMost, StateWithin}
 use Rattle.pc_world.specs.Evaluation.IntentChange.{IntentChange, Drop, Lay, Leave, intents_with}

@@ -1,8 +1,9 @@
 -- What is so of each element of a list, through the functions that make lists and search them.
-use Rattle.std.proofs.Common.{Bool, true, false, cond, not, List, [], ◌∷◌, ◌++◌, map, filter, find, fold, filter_map, Option, None, Some, IfSome}
+use Rattle.std.proofs.Common.{Bool, inl, inr, subst, true, false, cond, not, Contains, List, [], ◌∷◌, ◌++◌, map, filter, find, fold, filter_map, Option, None, Some, IfSome}
 use Rattle.std.specs.List.{AllByRecursion as Each, cons_option, flat_map}
 use Rattle.std.specs.Option.{option_map}
 use Rattle.pc_base.specs.Keyed.{at, set_at, without}
+use Rattle.pc_lists.proofs.Lists.{contains_cons, contains_nil}
 
 module _ {X : Type 0} (P : X → Type 0) where
   pub each-append : (xs ys : List X) → Each P xs → Each P ys → Each P (xs ++ ys)
@@ -89,3 +90,13 @@ module _ {K V : Type 0} (P : V → Type 0) (same : K → K → Bool) where
 
   pub each-without : (key : K) (entries : List (K × V)) → Each (λ e. P e.1) entries → Each (λ e. P e.1) (without same key entries)
   each-without key entries a = each-filter (λ e. P e.1) (λ e. not (same e.0 key)) entries a
+
+pub each-contains : {X : Type 0} (P : X → Type 0) (xs : List X) (x : X) → Each P xs → Contains xs x → P x
+each-contains P [] x a c = absurd (contains_nil x c)
+each-contains P (y ∷ ys) x a c =
+    elim (contains_cons y ys x c) [ inl same ↦ subst P same a.0 | inr later ↦ each-contains P ys x a.1 later ]
+
+-- What is so of each one for two reasons.
+pub each-both : {X : Type 0} (P Q S : X → Type 0) → ((x : X) → P x → Q x → S x) → (xs : List X) → Each P xs → Each Q xs → Each S xs
+each-both P Q S on [] a b = tt
+each-both P Q S on (x ∷ xs) a b = (on x a.0 b.0, each-both P Q S on xs a.1 b.1)

@@ -5,6 +5,7 @@ use Rattle.pc_base.specs.declared.transaction.TxnId.{TxnId}
 use Rattle.pc_base.specs.Keyed.{at}
 use Rattle.pc_base.specs.Transaction.{same_txn}
 use Rattle.pc_history.specs.declared.pair.Pair.{Pair}
+use Rattle.pc_lists.proofs.Each.{each-at, each-set_at}
 use Rattle.pc_proto.specs.declared.event.Event.{Event}
 use Rattle.pc_proto.specs.declared.fate.Finding.{Finding}
 use Rattle.pc_proto.specs.declared.fate.Goal.TheVariants as goals
@@ -22,7 +23,6 @@ use Rattle.pc_proto.specs.RecordRows.Recover.{decided}
 use Rattle.pc_proto.specs.RecordRows.Stage.{stage}
 use Rattle.pc_proto.specs.Requests.{subject}
 use Rattle.pc_proto.specs.Table.{Table, applied_to, place_of, record_or_mark}
-use Rattle.pc_world.proofs.Each.{each-at, each-set_at}
 use Rattle.pc_world.specs.Named.{request_named}
 use Rattle.pc_world.specs.RangeState.{RangeState, no_state}
 use Rattle.pc_world.specs.StateOf.{evaluated, state_of, state_with}
