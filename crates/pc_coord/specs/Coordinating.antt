@@ -29,8 +29,8 @@ use Rattle.pc_proto.specs.declared.view.View.TheVariants as views
 use Rattle.pc_proto.specs.declared.why.Why.{Why}
 use Rattle.pc_proto.specs.Replies.{view_in}
 use Rattle.pc_proto.specs.Stamps.{greatest_of, reply_stamps}
-use Rattle.pc_proto.specs.Views.{final_fate}
 use Rattle.pc_base.specs.Clock.{clock_now}
+use Rattle.pc_proto.specs.Views.{final_fate}
 
 -- After a begin: past the clock's range it is told so, else a transaction is begun at the clock's time.
 abbrev pub after_begin : Priority → ℕ → Coordination → Coordination

@@ -1,6 +1,7 @@
 pub mod Exchange
 pub mod FinalMarks
 pub mod Kept
+pub mod KeptVersions
 pub mod KeyOrder
 pub mod Knowing
 pub mod Pieces
