@@ -13,7 +13,7 @@ use Rattle.pc_implicit.proofs.Sent.{unstaged_induction}
 use Rattle.pc_implicit.proofs.Turns.{IsAnswered, Restarted, WentOn, Wrote, comes_from, Turn}
 use Rattle.pc_implicit.proofs.WriteLists.{Laid, AreAlike}
 use Rattle.pc_implicit.specs.Decided.{decision}
-use Rattle.pc_implicit.specs.Writes.{LastWriteStands, home_of, txns_of, writes_at}
+use Rattle.pc_implicit.specs.Writes.{LastWriteStands, home_of, txns_of, writes_on}
 use Rattle.pc_lists.proofs.Lists.{contains_nil}
 use Rattle.pc_proto.specs.declared.event.Event.{Event}
 use Rattle.pc_proto.specs.declared.record.Standing.TheVariants as standings
@@ -88,12 +88,12 @@ module _ (head : Head) where
 
   -- where nothing is staged, what a committed transaction wrote stands
   pub writes_of_committed : (history : List (Entry Event)) (t : Txn) (ts : ℕ) (key : List ℕ) (front : List Laid) (seq : ℕ) (value : Option (List ℕ)) → IsRun head history → NothingIsStaged history
-      → Contains (txns_of head t.id history) t → IsCommitted head history t.id ts → writes_at key t.writes ≡ front ++ (seq, value) ∷ [] → LastWriteStands head history t key value ts
+      → Contains (txns_of head t.id history) t → IsCommitted head history t.id ts → writes_on key t.writes ≡ front ++ (seq, value) ∷ [] → LastWriteStands head history t key value ts
   writes_of_committed history t ts key front seq value run only known committed is =
       elim (committed_home head t.id history run only ts committed) [
         | inl decided ↦ (settled head history run only t.id decided.0 ts decided.1).stand t known refl key front seq value is
         | inr none ↦
-            let both : writes_at key [] ≡ front ++ (seq, value) ∷ [] = ap (writes_at key) (sym (unwritten history run t known none)) ∙ is in
+            let both : writes_on key [] ≡ front ++ (seq, value) ∷ [] = ap (writes_on key) (sym (unwritten history run t known none)) ∙ is in
             absurd (empty front (seq, value) both)
       ]
     where

@@ -18,7 +18,7 @@ use Rattle.pc_implicit.proofs.Turns.{not_session}
 use Rattle.pc_implicit.proofs.WriteLists.{Laid, RiseAt, left_over, rise_at, rise_last}
 use Rattle.pc_implicit.specs.Decided.{decision, epoch_of, time_of}
 use Rattle.pc_implicit.specs.Replied.{WasProven}
-use Rattle.pc_implicit.specs.Writes.{IsWholeBy, LastWriteStands, home_of, own_intent, txns_of, writes_at}
+use Rattle.pc_implicit.specs.Writes.{IsWholeBy, LastWriteStands, home_of, own_intent, txns_of, writes_on}
 use Rattle.pc_lists.proofs.Each.{each-contains}
 use Rattle.pc_lists.proofs.Lists.{contains_cons, contains_head, contains_nil, contains_tail}
 use Rattle.pc_lists.proofs.Same.{same_key-is}
@@ -55,7 +55,7 @@ pub record WasAsked (history : List (Entry Event)) (id : TxnId) (epoch ts : ℕ)
 -- What the transaction wrote at the keys stands at this timestamp.
 abbrev pub AllStand : Head → List (Entry Event) → Txn → ℕ → Type 0
 AllStand head history t ts =
-    (key : List ℕ) (front : List Laid) (seq : ℕ) (value : Option (List ℕ)) → writes_at key t.writes ≡ front ++ (seq, value) ∷ [] → LastWriteStands head history t key value ts
+    (key : List ℕ) (front : List Laid) (seq : ℕ) (value : Option (List ℕ)) → writes_on key t.writes ≡ front ++ (seq, value) ∷ [] → LastWriteStands head history t key value ts
 
 -- The committed transaction was committed by a commit that was sent, is in that epoch still, and what it wrote stands.
 pub record IsSettled (head : Head) (history : List (Entry Event)) (id : TxnId) (epoch ts : ℕ) : Type 0 where
@@ -64,29 +64,29 @@ pub record IsSettled (head : Head) (history : List (Entry Event)) (id : TxnId) (
   pub stand : (t : Txn) → Contains (txns_of head id history) t → t.id ≡ id → AllStand head history t ts
 
 -- what is written at a key is a write of it
-unwritten-at : (key : List ℕ) (ws : List Write) (x : Laid) → Contains (writes_at key ws) x → (w : Write) × Contains ws w × (w.key ≡ key) × (w.seq ≡ x.0) × (w.value ≡ x.1)
+unwritten-at : (key : List ℕ) (ws : List Write) (x : Laid) → Contains (writes_on key ws) x → (w : Write) × Contains ws w × (w.key ≡ key) × (w.seq ≡ x.0) × (w.value ≡ x.1)
 unwritten-at key [] x there = absurd (contains_nil x there)
 unwritten-at key (w ∷ ws) x there = by (same_key w.key key) refl (unwritten-at key ws x) there
   where
-    by : (b : Bool) → same_key w.key key ≡ b → (Contains (writes_at key ws) x → (v : Write) × Contains ws v × (v.key ≡ key) × (v.seq ≡ x.0) × (v.value ≡ x.1))
+    by : (b : Bool) → same_key w.key key ≡ b → (Contains (writes_on key ws) x → (v : Write) × Contains ws v × (v.key ≡ key) × (v.seq ≡ x.0) × (v.value ≡ x.1))
         → Contains (map {B = Laid} (λ (v : Write). (v.seq, v.value)) (cond b (w ∷ filter (λ v. same_key v.key key) ws) (filter (λ v. same_key v.key key) ws))) x
         → (v : Write) × Contains (w ∷ ws) v × (v.key ≡ key) × (v.seq ≡ x.0) × (v.value ≡ x.1)
     by true e rest there =
         let first : Laid = (w.seq, w.value) in
-        elim (contains_cons first (writes_at key ws) x there) [
+        elim (contains_cons first (writes_on key ws) x there) [
           | inl same ↦ (w, contains_head w ws, same_key-is w.key key e, ap (λ (y : Laid). y.0) same, ap (λ (y : Laid). y.1) same)
           | inr later ↦ let r = rest later in (r.0, contains_tail w ws r.0 r.1, r.2, r.3, r.4)
         ]
     by false e rest there = let r = rest there in (r.0, contains_tail w ws r.0 r.1, r.2, r.3, r.4)
 
 -- an intent in which the last write at the key stands has all of them, and lies no higher than that was proved or the record has gone
-is-whole : (t : Txn) (key : List ℕ) (home : Place) (front : List Laid) (seq : ℕ) (value : Option (List ℕ)) → writes_at key t.writes ≡ front ++ (seq, value) ∷ [] → RiseAt 0 (front ++ (seq, value) ∷ [])
-    → (proof ts : ℕ) → proof ≤ ts → time_of home ≤ ts → (i : Intent) → StandsIn t.epoch home seq proof i → HasFront (writes_at key t.writes) i → IsWholeBy t key ts i
+is-whole : (t : Txn) (key : List ℕ) (home : Place) (front : List Laid) (seq : ℕ) (value : Option (List ℕ)) → writes_on key t.writes ≡ front ++ (seq, value) ∷ [] → RiseAt 0 (front ++ (seq, value) ∷ [])
+    → (proof ts : ℕ) → proof ≤ ts → time_of home ≤ ts → (i : Intent) → StandsIn t.epoch home seq proof i → HasFront (writes_on key t.writes) i → IsWholeBy t key ts i
 is-whole t key home front seq value is rise proof ts low ts_low i stands f =
     let has = stands.has in
     let nothing : f.rest ≡ [] =
     elim (left_over (λ x. last_seq i < x.0) i.history f.rest front (seq, value) (f.whole ∙ is) f.above) [ inl empty ↦ empty | inr above ↦ absurd (omega (arith, above, has)) ] in
-    let whole : i.history ≡ writes_at key t.writes = sym (append-nil i.history) ∙ ap (λ l. i.history ++ l) (sym nothing) ∙ f.whole in
+    let whole : i.history ≡ writes_on key t.writes = sym (append-nil i.history) ∙ ap (λ l. i.history ++ l) (sym nothing) ∙ f.whole in
     let greatest : last_seq i ≡ seq = ap (λ l. fold (λ most (x : Laid). max most x.0) 0 l) (whole ∙ is) ∙ rise_last 0 front (seq, value) rise in
     let high : i.ts ≤ max proof (time_of home) = stands.low (omega (arith, greatest)) in
     record { epoch = stands.epoch_is; low = omega (arith, high, low, ts_low); whole = whole }
@@ -131,7 +131,7 @@ module _ (head : Head) (history : List (Entry Event)) (run : IsRun head history)
       not-beyond epochs epoch_low ts_low (inr above) = omega (arith, ts_low, above)
 
   -- so the last one at a key stands in an intent of all that it wrote there
-  whole-intent : (t : Txn) → Contains (txns_of head id history) t → t.id ≡ id → (key : List ℕ) (front : List Laid) (seq : ℕ) (value : Option (List ℕ)) → writes_at key t.writes ≡ front ++ (seq, value) ∷ []
+  whole-intent : (t : Txn) → Contains (txns_of head id history) t → t.id ≡ id → (key : List ℕ) (front : List Laid) (seq : ℕ) (value : Option (List ℕ)) → writes_on key t.writes ≡ front ++ (seq, value) ∷ []
       → (i : Intent) × (own_intent head t.id key history ≡ Some i) × IsWholeBy t key ts i
   whole-intent t known same key front seq value is =
       let own : Contains (txns_of head t.id history) t = subst (λ i. Contains (txns_of head i history) t) (sym same) known in
