@@ -41,8 +41,8 @@ use Rattle.pc_world.specs.Run.{IsRun, protocol}
 use Rattle.pc_world.specs.Send.Recovery.{MaySendRecover}
 use Rattle.pc_world.specs.StageFate.{Stage, stage_request}
 
-replied-along : (front back history : List (Entry Event)) → front ++ back ≡ history → (request : Request) (reply : Reply) → WasReplied front request reply → WasReplied history request reply
-replied-along front back history whole request reply w = record {
+pub replied_along : (front back history : List (Entry Event)) → front ++ back ≡ history → (request : Request) (reply : Reply) → WasReplied front request reply → WasReplied history request reply
+replied_along front back history whole request reply w = record {
   send = w.send;
   listed = subst (λ h. Contains h w.send) whole (Contains-append_left front back w.send w.listed);
   number = w.number;
@@ -92,7 +92,7 @@ module _ (head : Head) (history : List (Entry Event)) (run : IsRun head history)
       let row : MaySendRecover a.actor (known_at head a.actor at.before) id epoch ts anchor (findings.Missing key by) = act.row in
       let (n, h, inside, here, missed) = row.found.1 in
       let replied : WasReplied history (requests.Query id epoch missed.seq ts key by) replies.Missing =
-      replied-along at.before (a ∷ at.later) history joined (requests.Query id epoch missed.seq ts key by) replies.Missing
+      replied_along at.before (a ∷ at.later) history joined (requests.Query id epoch missed.seq ts key by) replies.Missing
       (replied_of head at.before a.actor h (so_of head at.before run_before a.actor h (n, inside, here)) (requests.Query id epoch missed.seq ts key by) replies.Missing missed.asked missed.told) in
       let seen : WasStagedAs at.before id epoch ts row.writes = staging_heard head at.before run_before a.actor id epoch ts row.writes row.staging in
       let one : seen.stage ≡ s =
