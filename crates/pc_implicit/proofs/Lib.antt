@@ -20,10 +20,12 @@ pub mod Doings
 pub mod Evals
 pub mod EvaluatedAt
 pub mod Fates
+pub mod FinalMarks
 pub mod Firsts
 pub mod Forward
 pub mod FoundThere
 pub mod Fronts
+pub mod HeardAt
 pub mod HeardViews
 pub mod Hearing
 pub mod Holders
@@ -39,6 +41,7 @@ pub mod MetaRows
 pub mod Metas
 pub mod Missing
 pub mod Moves
+pub mod NeverDead
 pub mod OneDecision
 pub mod OpenReads
 pub mod OwnKeys
