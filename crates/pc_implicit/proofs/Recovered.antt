@@ -1,19 +1,17 @@
 -- What a recovery answers committed was committed before it.
-use Rattle.std.proofs.Common.{◌≡◌, ℕ, Bool, true, false, if◌then◌else◌, ◌==◌, ◌&&◌, inl, inr, List, [], ◌∷◌, ◌++◌, Option, None, Some, Contains, refl, sym, ap, subst, ◌∙◌}
+use Rattle.std.proofs.Common.{◌≡◌, ℕ, Bool, true, false, if◌then◌else◌, ◌==◌, ◌&&◌, List, [], ◌∷◌, ◌++◌, Option, None, Some, Contains, refl, sym, ap, subst, ◌∙◌}
 use Rattle.std.proofs.lemmas.List.Elements.{All-contains}
-use Rattle.std.specs.Option.{option_map_or}
 use Rattle.std.specs.Prelude.{Any}
 use Rattle.pc_base.specs.declared.actor.ActorId.{ActorId}
 use Rattle.pc_base.specs.declared.entry.Entry.{Entry}
 use Rattle.pc_base.specs.declared.transaction.TxnId.{TxnId}
-use Rattle.pc_base.specs.declared.transaction.Who.{Who}
 use Rattle.pc_history.specs.History.{MayFollow}
 use Rattle.pc_history.specs.Own.{named_in}
 use Rattle.pc_implicit.proofs.Because.{commits_by_is}
 use Rattle.pc_implicit.proofs.Commits.{committed-view}
 use Rattle.pc_implicit.proofs.Doing.{Does}
 use Rattle.pc_implicit.proofs.EvaluatedAt.{sent_at}
-use Rattle.pc_implicit.proofs.Evals.{NamedMessage, of_entry}
+use Rattle.pc_implicit.proofs.Evals.{of_entry}
 use Rattle.pc_implicit.proofs.FoundThere.{found_there, staging_heard}
 use Rattle.pc_implicit.proofs.HeardViews.{replied_of, so_of}
 use Rattle.pc_implicit.proofs.Homes.{home_commits, home_is}
@@ -26,7 +24,7 @@ use Rattle.pc_implicit.proofs.StagesRefuted.{one_staged}
 use Rattle.pc_implicit.proofs.StageWords.{CommitsBy, StagesAs}
 use Rattle.pc_implicit.proofs.StaysOrRefuted.{replied_along, staging_open}
 use Rattle.pc_implicit.specs.Decided.{decision}
-use Rattle.pc_implicit.specs.Replied.{QueryFound, WasReplied}
+use Rattle.pc_implicit.specs.Replied.{WasReplied}
 use Rattle.pc_implicit.specs.Stages.{IsOpenTo, WasStaged, WasThere}
 use Rattle.pc_implicit.specs.Writes.{home_of}
 use Rattle.pc_proto.specs.declared.event.Event.{Event}
@@ -46,7 +44,7 @@ use Rattle.pc_proto.specs.declared.view.View.TheVariants as views
 use Rattle.pc_proto.specs.declared.why.Why.{Why}
 use Rattle.pc_proto.specs.declared.why.Why.TheVariants as whys
 use Rattle.pc_proto.specs.Place.{Place, Nothing, Kept, Marked, Stay, after, is_final, status_view, view_of}
-use Rattle.pc_proto.specs.RecordRows.{answer, change, subject}
+use Rattle.pc_proto.specs.RecordRows.{change}
 use Rattle.pc_proto.specs.RecordRows.Reached.{is_staged_at, is_staging, status_of}
 use Rattle.pc_proto.specs.RecordRows.Recover.{decided, recover}
 use Rattle.pc_world.proofs.Prefixes.{run_front, run_may}
@@ -54,13 +52,13 @@ use Rattle.pc_world.specs.After.{known_at, place_at, state_at}
 use Rattle.pc_world.specs.Committed.{IsCommitted}
 use Rattle.pc_world.specs.Decisions.{AnswersCommitted, Recovers}
 use Rattle.pc_world.specs.Evaluation.{reply as reply_of}
-use Rattle.pc_world.specs.Known.Traffic.{Heard, reply_in}
+use Rattle.pc_world.specs.Known.Traffic.{reply_in}
 use Rattle.pc_world.specs.Local.{Head}
 use Rattle.pc_world.specs.Named.{request_in, request_named}
 use Rattle.pc_world.specs.Run.{IsRun, protocol}
 use Rattle.pc_world.specs.Send.Recovery.{MaySendRecover, WasFound}
 use Rattle.pc_world.specs.StageFate.{Stage, stage_request}
-use Rattle.pc_world.specs.Views.{is_committed_at, view_in}
+use Rattle.pc_world.specs.Views.{view_in}
 
 -- the evaluation that gives a reply
 pub replies_what : (event : Event) (reply : Reply) → reply_in event ≡ Some reply → (actor : ActorId) × (number : ℕ) × (event ≡ events.Eval actor number reply)
