@@ -10,6 +10,7 @@ pub mod Clocks
 pub mod ClosedBounds
 pub mod CommitCalls
 pub mod CommitPoint
+pub mod CommitPoints
 pub mod Commits
 pub mod CommitsSent
 pub mod CommitsStay
