@@ -44,6 +44,7 @@ pub mod Missing
 pub mod Moves
 pub mod NeverDead
 pub mod OneDecision
+pub mod OneDecisionEver
 pub mod OpenReads
 pub mod OwnKeys
 pub mod OwnLaid
