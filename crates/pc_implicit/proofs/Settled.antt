@@ -1,5 +1,5 @@
 -- Where nothing is staged, what a committed transaction wrote stands, as its version or in its intent.
-use Rattle.std.proofs.Common.{◌≡◌, ℕ, inl, inr, List, [], ◌∷◌, ◌++◌, Option, None, Some, Contains, refl, sym, ap, subst, ◌∙◌}
+use Rattle.std.proofs.Common.{◌≡◌, ℕ, true, false, inl, inr, List, [], ◌∷◌, ◌++◌, Option, None, Some, Contains, refl, sym, ap, subst, ◌∙◌}
 use Rattle.std.proofs.lemmas.List.Elements.{Contains-push}
 use Rattle.std.specs.Option.{option_or}
 use Rattle.pc_base.specs.declared.actor.ActorId.TheVariants as actors
@@ -8,25 +8,27 @@ use Rattle.pc_base.specs.declared.transaction.TxnId.{TxnId}
 use Rattle.pc_history.proofs.Lists.{contains_nil}
 use Rattle.pc_history.specs.History.{MayFollow}
 use Rattle.pc_implicit.proofs.Anchored.{put_anchored}
-use Rattle.pc_implicit.proofs.CommitPoint.{decides_now}
+use Rattle.pc_implicit.proofs.CommitPoint.{ByCommit, ByRecovery, DecidesSo, decides_how}
 use Rattle.pc_implicit.proofs.Homes.{home_on, committed_home}
-use Rattle.pc_implicit.proofs.Sent.{unstaged_induction}
+use Rattle.pc_implicit.proofs.Recorded.{recorded, recorded_unstaged}
+use Rattle.pc_implicit.proofs.Sent.{unstaged_front, unstaged_induction}
 use Rattle.pc_implicit.proofs.Turns.{IsAnswered, Restarted, WentOn, Wrote, comes_from, Turn}
 use Rattle.pc_implicit.proofs.WriteLists.{Laid, AreAlike}
 use Rattle.pc_implicit.specs.Decided.{decision}
-use Rattle.pc_implicit.specs.Writes.{StandsBy, home_of, txns_of, writes_at}
+use Rattle.pc_implicit.specs.Writes.{StandsBy, home_of, place_under, txns_of, writes_at}
 use Rattle.pc_proto.specs.declared.event.Event.{Event}
 use Rattle.pc_proto.specs.declared.record.Standing.TheVariants as standings
 use Rattle.pc_proto.specs.declared.record.Status.{Status}
-use Rattle.pc_proto.specs.RecordRows.Reached.{status_of}
+use Rattle.pc_proto.specs.RecordRows.Reached.{is_staged_at, status_of}
 use Rattle.pc_world.proofs.Knowing.{run_push}
 use Rattle.pc_world.proofs.Prefixes.{run_induction}
-use Rattle.pc_world.specs.After.{known_at}
+use Rattle.pc_world.specs.After.{known_at, place_at}
 use Rattle.pc_world.specs.Committed.{anchor_in, IsCommitted, key_sent}
 use Rattle.pc_world.specs.Known.{Known}
 use Rattle.pc_world.specs.Known.Transactions.{Txn}
 use Rattle.pc_world.specs.Known.Writes.{Write}
 use Rattle.pc_world.specs.Local.{Head}
+use Rattle.pc_world.specs.RangeOf.{range_of}
 use Rattle.pc_world.specs.Run.{IsRun, protocol}
 use Rattle.pc_world.specs.Unstaged.{NothingIsStaged}
 use Rattle.pc_implicit.proofs.Firsts.{first_push}
@@ -36,6 +38,18 @@ use Rattle.pc_implicit.proofs.SettledOn.{settled_more}
 module _ (head : Head) where
   abbrev AllSettled : List (Entry Event) → Type 0
   AllSettled history = (id : TxnId) (epoch ts : ℕ) → decision (home_of head id history) ≡ Some (status_of standings.Committed epoch ts) → IsSettled head history id epoch ts
+
+  home-unstaged : (history : List (Entry Event)) → IsRun head history → NothingIsStaged history → (id : TxnId) (epoch ts : ℕ) (o : Option (List ℕ)) → is_staged_at (place_under head id history o) epoch ts ≡ false
+  home-unstaged history run only id epoch ts None = refl
+  home-unstaged history run only id epoch ts (Some anchor) =
+      let range = range_of head.splits anchor in
+      recorded_unstaged history range id (place_at head range id history) epoch ts (recorded head history run only range id)
+
+  by-how : (history : List (Entry Event)) → IsRun head history → NothingIsStaged history → (e : Entry Event) (id : TxnId) (epoch ts : ℕ) → decision (home_of head id history) ≡ None
+      → DecidesSo head history e id epoch ts → IsSettled head (history ++ e ∷ []) id epoch ts
+  by-how history run only e id epoch ts none (ByCommit now) = settled_now head history run e id epoch ts none now
+  by-how history run only e id epoch ts none (ByRecovery r) =
+      let both : false ≡ true = sym (home-unstaged history run only id epoch ts (anchor_in id history)) ∙ r.staged in absurd cc
 
   -- where nothing is staged, what a committed transaction wrote stands
   pub settled : (history : List (Entry Event)) → IsRun head history → NothingIsStaged history → (id : TxnId) (epoch ts : ℕ) → decision (home_of head id history) ≡ Some (status_of standings.Committed epoch ts)
@@ -48,7 +62,7 @@ module _ (head : Head) where
           → (decision (home_of head id history) ≡ Some (status_of standings.Committed epoch ts) → IsSettled head history id epoch ts)
           → (o : Option Status) → decision (home_of head id history) ≡ o → IsSettled head (history ++ e ∷ []) id epoch ts
       by history e run only may id epoch ts decided before None is =
-          settled_now head history run e id epoch ts is (decides_now head history run e may only id epoch ts is decided)
+          by-how history run (unstaged_front history (e ∷ []) only) e id epoch ts is (decides_how head history run e may id epoch ts is decided)
       by history e run only may id epoch ts decided before (Some s) is =
           let both : Some s ≡ Some (status_of standings.Committed epoch ts) = sym ((home_on head id history e).decided s is) ∙ decided in
           let old : decision (home_of head id history) ≡ Some (status_of standings.Committed epoch ts) = is ∙ both in

@@ -11,7 +11,7 @@ use Rattle.pc_base.specs.declared.version.Version.{Version}
 use Rattle.pc_history.specs.History.{MayFollow}
 use Rattle.pc_implicit.proofs.Agreed.{IsNew}
 use Rattle.pc_implicit.proofs.Anchored.{commit_anchored, each_contained}
-use Rattle.pc_implicit.proofs.CommitPoint.{status_same}
+use Rattle.pc_implicit.proofs.Made.{status_same}
 use Rattle.pc_implicit.proofs.Doing.{same_or_not}
 use Rattle.pc_implicit.proofs.Evals.{NamedMessage, of_entry, range_evaluates}
 use Rattle.pc_implicit.proofs.Fates.{FateIsSo, fates_are_so}
