@@ -99,12 +99,12 @@ module _ (head : Head) (id : TxnId) where
   abbrev pub IsClosed : List (Entry Event) → Type 0
   IsClosed history = is_first id (session_at head id history).txns ≡ true → (session_at head id history).is_open ≡ true → ⊥
 
-  same-told : (event : Event) (b : Bool) → ((other : TxnId) (ts : ℕ) → event ≡ events.Tell (answers.Begun other ts) → ⊥) → is_last_after id event b ≡ b
+  pub same-told : (event : Event) (b : Bool) → ((other : TxnId) (ts : ℕ) → event ≡ events.Tell (answers.Begun other ts) → ⊥) → is_last_after id event b ≡ b
   same-told (events.Tell (answers.Begun other ts)) b none = absurd (none other ts refl)
   same-told (events.Tell answer) b none = refl
   same-told event b none = refl
 
-  open-before : (event : Event) (b : Bool) → ((other : TxnId) (ts : ℕ) → event ≡ events.Tell (answers.Begun other ts) → ⊥) → is_open_after event b ≡ true → b ≡ true
+  pub open-before : (event : Event) (b : Bool) → ((other : TxnId) (ts : ℕ) → event ≡ events.Tell (answers.Begun other ts) → ⊥) → is_open_after event b ≡ true → b ≡ true
   open-before (events.Tell (answers.Begun other ts)) b none is = absurd (none other ts refl)
   open-before (events.Tell (answers.Committed other ts)) b none is = absurd cc
   open-before (events.Tell (answers.RolledBack other why)) b none is = absurd cc
@@ -113,12 +113,12 @@ module _ (head : Head) (id : TxnId) where
   open-before (events.Tell answer) b none is = is
   open-before event b none is = is
 
-  is-begin : (event : Event) → ((other : TxnId) × (ts : ℕ) × (event ≡ events.Tell (answers.Begun other ts))) ⊎ ((other : TxnId) (ts : ℕ) → event ≡ events.Tell (answers.Begun other ts) → ⊥)
+  pub is-begin : (event : Event) → ((other : TxnId) × (ts : ℕ) × (event ≡ events.Tell (answers.Begun other ts))) ⊎ ((other : TxnId) (ts : ℕ) → event ≡ events.Tell (answers.Begun other ts) → ⊥)
   is-begin (events.Tell (answers.Begun other ts)) = inl (other, ts, refl)
   is-begin (events.Tell answer) = inr (λ other ts is. cc is)
   is-begin event = inr (λ other ts is. cc is)
 
-  is-tell : (event : Event) → ((answer : Answer) × (event ≡ events.Tell answer)) ⊎ (((call : Call) × (reading : ℕ) × (event ≡ events.Ask call reading)) ⊎ IsWithin event)
+  pub is-tell : (event : Event) → ((answer : Answer) × (event ≡ events.Tell answer)) ⊎ (((call : Call) × (reading : ℕ) × (event ≡ events.Ask call reading)) ⊎ IsWithin event)
   is-tell (events.Tell answer) = inl (answer, refl)
   is-tell (events.Ask call reading) = inr (inl (call, reading, refl))
   is-tell event = inr (inr tt)

@@ -110,7 +110,7 @@ module _ (actor : ActorId) (id : TxnId) where
       ∙ none
   fresh-after k event d numbered says first after fresh none = none
 
-begun-grows : (event : Event) (n : ℕ) → n ≤ begun_after event n
+pub begun-grows : (event : Event) (n : ℕ) → n ≤ begun_after event n
 begun-grows (events.Tell (answers.Begun id ts)) n = omega arith
 begun-grows (events.Tell answer) n = omega arith
 begun-grows event n = omega arith

@@ -1,3 +1,4 @@
+pub mod AbortsSent
 pub mod Agreed
 pub mod Anchored
 pub mod Answering
@@ -20,6 +21,7 @@ pub mod Fates
 pub mod Firsts
 pub mod Forward
 pub mod Fronts
+pub mod HeardViews
 pub mod Hearing
 pub mod Holders
 pub mod Homes
@@ -61,8 +63,13 @@ pub mod SettledNow
 pub mod SettledOn
 pub mod SettledVersions
 pub mod Shown
+pub mod StagePairs
 pub mod StageWords
 pub mod Staged
+pub mod StagesKnown
+pub mod StagesOpen
+pub mod StagesRefuted
+pub mod StagesSent
 pub mod Turns
 pub mod VersionSearches
 pub mod VersionSteps
