@@ -20,6 +20,8 @@ pub mod EvaluatedAt
 pub mod Fates
 pub mod Firsts
 pub mod Forward
+pub mod Given
+pub mod ImplicitStands
 pub mod Fronts
 pub mod HeardViews
 pub mod Hearing
