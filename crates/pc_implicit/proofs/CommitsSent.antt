@@ -53,7 +53,7 @@ use Rattle.pc_world.specs.StageFate.{Commit, IsRefused, IsUncommitted, OnCommit,
 abbrev pub IsBeyond : ℕ → ℕ → Place → Type 0
 IsBeyond epoch ts p = (epoch < epoch_of p) ⊎ (ts < time_of p)
 
-beyond-on : (epoch ts : ℕ) (p q : Place) → IsNotBelow p q → IsBeyond epoch ts p → IsBeyond epoch ts q
+pub beyond-on : (epoch ts : ℕ) (p q : Place) → IsNotBelow p q → IsBeyond epoch ts p → IsBeyond epoch ts q
 beyond-on epoch ts p q rises h =
     let epochs = rises.epoch in
     let times = rises.ts in

@@ -69,6 +69,7 @@ pub mod StagePairs
 pub mod StageWords
 pub mod Staged
 pub mod StagesKnown
+pub mod StagesLast
 pub mod StagesOpen
 pub mod StagesRefuted
 pub mod StagesSent

@@ -1,6 +1,5 @@
--- Where a stage is open and known to be late or dead, one of its writes was refuted; a commit that was refused is passed by an undecided
--- record; and a record stages as one stage that was sent.
-use Rattle.std.proofs.Common.{◌≡◌, ℕ, ◌<◌, ◌≤◌, ◌==◌, nat_le, nat_lt, Bool, true, false, cond, ◌&&◌, not, ◌⊎◌, inl, inr, List, [], ◌∷◌, None, Some, Contains, refl, sym, ap, subst, ◌∙◌, arith}
+-- Where a stage is open and known to be late or dead, one of its writes was refuted; and a record stages as one stage that was sent.
+use Rattle.std.proofs.Common.{◌≡◌, ℕ, ◌<◌, ◌≤◌, ◌==◌, nat_le, nat_lt, Bool, true, false, cond, ◌&&◌, not, inl, inr, List, [], ◌∷◌, None, Some, Contains, refl, sym, ap, subst, ◌∙◌, arith}
 use Rattle.std.proofs.lemmas.Bool.{and_cases, and_from, and_parts, eq-eqb, eqb-true, leb-false, ltb-true, or_cases}
 use Rattle.pc_base.specs.declared.actor.ActorId.{ActorId}
 use Rattle.pc_base.specs.declared.actor.ActorId.TheVariants as actors
@@ -8,16 +7,17 @@ use Rattle.pc_base.specs.declared.entry.Entry.{Entry}
 use Rattle.pc_base.specs.Span.{same_key}
 use Rattle.pc_base.specs.Transaction.{same_txn}
 use Rattle.pc_history.proofs.Lists.{contains_head, contains_tail}
+use Rattle.pc_implicit.proofs.CommitsSent.{IsBeyond, beyond-on}
 use Rattle.pc_implicit.proofs.Did.{session_at}
 use Rattle.pc_implicit.proofs.Hearing.{IsSo}
 use Rattle.pc_implicit.proofs.HeardViews.{asked_home, replied_of, so_of, undecided_from}
 use Rattle.pc_implicit.proofs.IntentKeys.{same_key-is}
 use Rattle.pc_implicit.proofs.Keyed.{same-is}
-use Rattle.pc_implicit.proofs.StagesSent.{stage_known}
+use Rattle.pc_implicit.proofs.StagesSent.{has_sent_stage}
 use Rattle.pc_implicit.proofs.StagePairs.{stages_paired}
 use Rattle.pc_implicit.proofs.StagesKnown.{HasSent, dead_is_late}
 use Rattle.pc_implicit.proofs.StageWords.{RefutedIf, SomeRefuted}
-use Rattle.pc_implicit.specs.Decided.{IsNotBelow, decision, epoch_of, time_of}
+use Rattle.pc_implicit.specs.Decided.{decision, epoch_of, time_of}
 use Rattle.pc_implicit.specs.Stages.{IsOpenTo, WasStaged}
 use Rattle.pc_implicit.specs.Writes.{home_of}
 use Rattle.pc_proto.specs.declared.event.Event.{Event}
@@ -29,24 +29,14 @@ use Rattle.pc_proto.specs.declared.request.Request.{Request}
 use Rattle.pc_proto.specs.declared.request.Request.TheVariants as requests
 use Rattle.pc_proto.specs.Place.{Place, Nothing, Kept, Marked, Become, Stay, after, is_final, status_view, view_of}
 use Rattle.pc_proto.specs.RecordRows.{answer}
-use Rattle.pc_proto.specs.RecordRows.Reached.{activity_of, alive_at, is_staging, status_of}
+use Rattle.pc_proto.specs.RecordRows.Reached.{alive_at, is_staging, status_of}
 use Rattle.pc_world.specs.After.{known_at, place_at}
 use Rattle.pc_world.specs.Known.Traffic.{Heard}
-use Rattle.pc_world.specs.Known.Transactions.{is_final_view, lists}
+use Rattle.pc_world.specs.Known.Transactions.{lists}
 use Rattle.pc_world.specs.Local.{Head}
 use Rattle.pc_world.specs.Run.{IsRun}
 use Rattle.pc_world.specs.Send.Stage.{IsPassed}
-use Rattle.pc_world.specs.StageFate.{Commit, IsDead, IsLate, IsLateByRecord, IsRefused, RefutesWrite, Stage, commit_request, is_past, is_unsettled_status, refutes_write, shows_past, stage_request}
-
--- The place is past this epoch or timestamp.
-abbrev pub IsBeyondTo : ℕ → ℕ → Place → Type 0
-IsBeyondTo epoch ts p = (epoch < epoch_of p) ⊎ (ts < time_of p)
-
-beyond_on : (epoch ts : ℕ) (p q : Place) → IsNotBelow p q → IsBeyondTo epoch ts p → IsBeyondTo epoch ts q
-beyond_on epoch ts p q rises h =
-    let epochs = rises.epoch in
-    let times = rises.ts in
-    elim h [ inl later ↦ inl (omega (arith, later, epochs)) | inr above ↦ inr (omega (arith, above, times)) ]
+use Rattle.pc_world.specs.StageFate.{IsDead, IsLate, IsLateByRecord, RefutesWrite, Stage, is_past, refutes_write, shows_past, stage_request}
 
 -- the write of a key and sequence that the list has
 pub listed_there : (key : List ℕ) (seq : ℕ) (writes : List (List ℕ × ℕ)) → lists key seq writes ≡ true → Contains writes (key, seq)
@@ -75,7 +65,7 @@ staged-not-past s standings.Committed epoch ts writes locks is past = absurd cc
 staged-not-past s (standings.Aborted why) epoch ts writes locks is past = absurd cc
 
 -- an undecided record that a stage leaves another way is past it
-stage_passes : (s : Stage) (p : Place) → decision p ≡ None → shows_past s (answer (stage_request s) p) ≡ true → IsBeyondTo s.meta.epoch s.ts p
+stage_passes : (s : Stage) (p : Place) → decision p ≡ None → shows_past s (answer (stage_request s) p) ≡ true → IsBeyond s.meta.epoch s.ts p
 stage_passes s Nothing none h = absurd (stages-itself s.meta.epoch s.ts h)
 stage_passes s (Kept r) none h =
     by (is_final r.status.standing) refl (nat_le r.status.epoch s.meta.epoch && nat_le r.status.ts s.ts) refl (is_staging r.status.standing && (r.status.epoch == s.meta.epoch && r.status.ts == s.ts)) refl h
@@ -87,7 +77,7 @@ stage_passes s (Kept r) none h =
         → (d : Bool) → (is_staging r.status.standing && (r.status.epoch == s.meta.epoch && r.status.ts == s.ts)) ≡ d
         → is_past s (view_of (after (Kept r) (cond b Stay (cond (c && not d)
         (Become (record { meta = s.meta; status = status_of standings.Staging s.meta.epoch s.ts; activity = alive_at (Kept r) s.now; writes = s.writes; locks = s.locks })) Stay)))) ≡ true
-        → IsBeyondTo s.meta.epoch s.ts (Kept r)
+        → IsBeyond s.meta.epoch s.ts (Kept r)
     by true final c reached d at h = let both : None ≡ Some r.status = sym none ∙ ap (λ b. cond b (Some r.status) None) final in absurd cc
     by false final c reached true at h = absurd (staged-not-past s r.status.standing r.status.epoch r.status.ts r.writes r.locks at (sym (same-view c) ∙ h))
       where
@@ -103,43 +93,18 @@ stage_passes s (Kept r) none h =
         ]
 stage_passes s (Marked m) none h = absurd cc
 
--- an undecided record that a commit leaves so is past it
-commit_passes : (c : Commit) (p : Place) → decision p ≡ None → is_unsettled_status (answer (commit_request c) p) ≡ true → IsBeyondTo c.meta.epoch c.ts p
-commit_passes c Nothing none h = absurd cc
-commit_passes c (Kept r) none h = by (is_final r.status.standing) refl (nat_le r.status.epoch c.meta.epoch && nat_le r.status.ts c.ts) refl h
-  where
-    by : (b : Bool) → is_final r.status.standing ≡ b → (d : Bool) → (nat_le r.status.epoch c.meta.epoch && nat_le r.status.ts c.ts) ≡ d
-        → not (is_final_view (view_of (after (Kept r) (cond b Stay (cond d (Become (record { meta = c.meta; status = status_of standings.Committed c.meta.epoch c.ts; activity = activity_of (Kept r) c.meta.born; writes = []; locks = c.locks })) Stay))))) ≡ true
-        → IsBeyondTo c.meta.epoch c.ts (Kept r)
-    by true final d reached h = let both : None ≡ Some r.status = sym none ∙ ap (λ b. cond b (Some r.status) None) final in absurd cc
-    by false final true reached h = absurd cc
-    by false final false reached h =
-        elim (and_cases (nat_le r.status.epoch c.meta.epoch) (nat_le r.status.ts c.ts) reached) [
-          | inl epoch ↦ inl (leb-false r.status.epoch c.meta.epoch epoch)
-          | inr time ↦ inr (leb-false r.status.ts c.ts time)
-        ]
-commit_passes c (Marked m) none h = absurd cc
-
 module _ (head : Head) (history : List (Entry Event)) (run : IsRun head history) where
   -- ---- what a session heard
 
   -- the record of an undecided transaction is past a stage that was told so
-  pub late_beyond : (actor : ActorId) (s : Stage) → decision (home_of head s.meta.id history) ≡ None → IsLateByRecord (known_at head actor history).heard s → IsBeyondTo s.meta.epoch s.ts (home_of head s.meta.id history)
+  pub late_beyond : (actor : ActorId) (s : Stage) → decision (home_of head s.meta.id history) ≡ None → IsLateByRecord (known_at head actor history).heard s → IsBeyond s.meta.epoch s.ts (home_of head s.meta.id history)
   late_beyond actor s none (n, h, inside, at, past) =
       let a = asked_home head history run actor h (so_of head history run actor h (n, inside, at)) s.meta.id (stage_request s) past.asked refl in
       let p = place_at head a.range s.meta.id a.front in
-      beyond_on s.meta.epoch s.ts p (home_of head s.meta.id history) a.stands.rises
+      beyond-on s.meta.epoch s.ts p (home_of head s.meta.id history) a.stands.rises
       (stage_passes s p (undecided_from p (home_of head s.meta.id history) a.stands none) (ap (shows_past s) (sym a.answers) ∙ past.past))
 
-  -- so is it past a commit that was refused
-  pub refused_beyond : (actor : ActorId) (c : Commit) → decision (home_of head c.meta.id history) ≡ None → IsRefused (known_at head actor history).heard c → IsBeyondTo c.meta.epoch c.ts (home_of head c.meta.id history)
-  refused_beyond actor c none (n, h, inside, at, refuses) =
-      let a = asked_home head history run actor h (so_of head history run actor h (n, inside, at)) c.meta.id (commit_request c) refuses.asked refl in
-      let p = place_at head a.range c.meta.id a.front in
-      beyond_on c.meta.epoch c.ts p (home_of head c.meta.id history) a.stands.rises
-      (commit_passes c p (undecided_from p (home_of head c.meta.id history) a.stands none) (ap is_unsettled_status (sym a.answers) ∙ refuses.unsettled))
-
-  open_not_beyond : (s : Stage) → IsOpenTo head history s → IsBeyondTo s.meta.epoch s.ts (home_of head s.meta.id history) → ⊥
+  open_not_beyond : (s : Stage) → IsOpenTo head history s → IsBeyond s.meta.epoch s.ts (home_of head s.meta.id history) → ⊥
   open_not_beyond s opened beyond =
       let epoch = opened.epoch_low in
       let ts = opened.ts_low in
@@ -208,7 +173,7 @@ module _ (head : Head) (history : List (Entry Event)) (run : IsRun head history)
   pub one_staged : (s x : Stage) → WasStaged history s → WasStaged history x → x.meta.id ≡ s.meta.id → x.meta.epoch ≡ s.meta.epoch → x.ts ≡ s.ts → IsOpenTo head history s → x ≡ s
   one_staged s x sent also id epoch ts opened =
       let actor : ActorId = actors.Session s.meta.id.session in
-      let known : HasSent (session_at head s.meta.id history).sent (stage_request x) = subst (λ i. HasSent (session_at head i history).sent (stage_request x)) id (stage_known head history run x also) in
+      let known : HasSent (session_at head s.meta.id history).sent (stage_request x) = subst (λ i. HasSent (session_at head i history).sent (stage_request x)) id (has_sent_stage head history run x also) in
       let home_is : home_of head x.meta.id history ≡ home_of head s.meta.id history = ap (λ i. home_of head i history) id in
       let epoch_low : epoch_of (home_of head s.meta.id history) ≤ s.meta.epoch = opened.epoch_low in
       let ts_low : time_of (home_of head s.meta.id history) ≤ s.ts = opened.ts_low in
@@ -217,7 +182,7 @@ module _ (head : Head) (history : List (Entry Event)) (run : IsRun head history)
         epoch_low = subst (λ p. epoch_of p ≤ x.meta.epoch) (sym home_is) (omega (arith, epoch_low, epoch));
         ts_low = subst (λ p. time_of p ≤ x.ts) (sym home_is) (omega (arith, ts_low, ts));
       } in
-      elim (stages_paired head history run actor s x (stage_known head history run s sent) known (sym id)) [
+      elim (stages_paired head history run actor s x (has_sent_stage head history run s sent) known (sym id)) [
         | inl same ↦ sym same
         | inr passed ↦ elim passed [
           | inl first ↦ let below = passed-below s x.ts opened first in absurd (omega (arith, below, ts))
