@@ -222,9 +222,9 @@ module _ (id : TxnId) (k : List ℕ) where
   own_changes (requests.Resolve one key fate) s = resolve-changes one key fate s
   own_changes request s = AsBefore refl
 
-  laid-time : (meta : TxnMeta) (seq ts : ℕ) (value : Option (List ℕ)) (own : Option Intent) → (laid meta seq ts value own).ts ≡ ts
-  laid-time meta seq ts value None = refl
-  laid-time meta seq ts value (Some i) = by (i.meta.epoch == meta.epoch)
+  pub laid_time : (meta : TxnMeta) (seq ts : ℕ) (value : Option (List ℕ)) (own : Option Intent) → (laid meta seq ts value own).ts ≡ ts
+  laid_time meta seq ts value None = refl
+  laid_time meta seq ts value (Some i) = by (i.meta.epoch == meta.epoch)
     where
       by : (b : Bool) → (cond b (grown seq ts value i) (fresh meta seq ts value)).ts ≡ ts
       by true = refl
@@ -248,7 +248,7 @@ module _ (id : TxnId) (k : List ℕ) where
       by-over false t told =
           let low = write_ts meta ts k (own_at id k s.intents) s in
           let is : (laid meta seq low value (own_at id k s.intents)).ts ≡ at = cc told in
-          let same_ts : low ≡ at = sym (laid-time meta seq low value (own_at id k s.intents)) ∙ is in
+          let same_ts : low ≡ at = sym (laid_time meta seq low value (own_at id k s.intents)) ∙ is in
           LaidNow t
           (lays-own id k s.intents (laid meta seq low value (own_at id k s.intents)) (laid-whose meta seq low value s same)
           ∙ ap (λ n. Some (laid meta seq n value (own_at id k s.intents))) same_ts)

@@ -5,6 +5,7 @@
 
 mod laws;
 mod reads;
+mod staging;
 mod writes;
 
 pub use laws::{
@@ -13,6 +14,7 @@ pub use laws::{
     replies_are_of_their_kind, views_stay_true,
 };
 pub use reads::{reads_stand, refreshes_stand, versions_rise};
+pub use staging::{missing_stays, staged_writes_stay, written_stays};
 pub use writes::{
     own_intents_stand, proofs_were_written, versions_are_committed, writes_of_committed,
 };

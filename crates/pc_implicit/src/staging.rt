@@ -1,0 +1,16 @@
+ghost use Rattle.pc_implicit.specs.Staging.{MissingStays, StagedWritesStay, WrittenStays};
+
+/// A law: a write that a query missed is never present there again, and nobody may write there any more.
+pub fn missing_stays()
+    ensures { MissingStays }
+{}
+
+/// A law: while a transaction is not decided, its own intent at a key is past each of its writes that was written there.
+pub fn written_stays()
+    ensures { WrittenStays }
+{}
+
+/// A law: while a stage's record is not past it, its writes are all present if each was so at some time since it was sent.
+pub fn staged_writes_stay()
+    ensures { StagedWritesStay }
+{}
