@@ -4,7 +4,7 @@ use Rattle.std.proofs.lemmas.List.{append-nil}
 use Rattle.pc_base.specs.declared.actor.ActorId.TheVariants as actors
 use Rattle.pc_base.specs.declared.entry.Entry.{Entry}
 use Rattle.pc_base.specs.declared.transaction.TxnId.{TxnId}
-use Rattle.pc_implicit.proofs.StageWords.{CommitsBy, IsBecause, StagesLast}
+use Rattle.pc_implicit.proofs.StageWords.{CommitsBy, IsBecause}
 use Rattle.pc_implicit.specs.Staging.{CommitsStay, RecoveriesAgree}
 use Rattle.pc_proto.specs.declared.event.Event.{Event}
 use Rattle.pc_world.specs.After.{known_at}
@@ -22,9 +22,6 @@ recoveries_agree = ?
 
 pub because : (head : Head) (history : List (Entry Event)) → IsRun head history → (id : TxnId) (ts : ℕ) → IsCommitted head history id ts → IsBecause head history id ts
 because = ?
-
-pub stages_last : (head : Head) (history : List (Entry Event)) → IsRun head history → StagesLast head history
-stages_last = ?
 
 pub commits_stay : CommitsStay
 commits_stay = ?

@@ -53,7 +53,7 @@ use Rattle.pc_world.specs.Run.{IsRun, protocol}
 use Rattle.pc_world.specs.StageFate.{IsDead, IsUncommitted, Stage}
 use Rattle.pc_implicit.proofs.SettledNow.{IsSettled, WasAsked, WasImplied}
 use Rattle.pc_implicit.proofs.StagesKnown.{stage_of}
-use Rattle.pc_implicit.proofs.StagesSent.{stage_known}
+use Rattle.pc_implicit.proofs.StagesSent.{has_sent_stage}
 use Rattle.pc_implicit.proofs.Given.{never_dead}
 use Rattle.pc_implicit.specs.Stages.{WasStaged}
 
@@ -209,7 +209,7 @@ module _ (head : Head) (history : List (Entry Event)) (run : IsRun head history)
           let known : IsUncommitted s.meta.id (known_at head (actors.Session s.meta.id.session) history).sent (known_at head (actors.Session s.meta.id.session) history).heard =
           subst (λ i. IsUncommitted i (known_at head (actors.Session s.meta.id.session) history).sent (known_at head (actors.Session s.meta.id.session) history).heard) (same ∙ sym n.whose)
           (subst (λ actor. IsUncommitted t.id (known_at head actor history).sent (known_at head actor history).heard) who uncommitted) in
-          let sent = stage_known head history run s (staged_along w.front w.back history w.whole s n.commits.sent) in
+          let sent = has_sent_stage head history run s (staged_along w.front w.back history w.whole s n.commits.sent) in
           let dead : IsDead (known_at head (actors.Session s.meta.id.session) history).heard s =
           stage_of s.meta.id (IsDead (known_at head (actors.Session s.meta.id.session) history).heard) (known_at head (actors.Session s.meta.id.session) history).sent known.stages s refl sent in
           never_dead head w.front w.back (subst (IsRun head) (sym w.whole) run) s n.commits (subst (λ h. IsDead (known_at head (actors.Session s.meta.id.session) h).heard s) (sym w.whole) dead)
