@@ -51,7 +51,7 @@ module _ (head : Head) where
 
   -- the evaluation that a hearing names
   pub hearing_names : (history : List (Entry Event)) → IsRun head history → (actor : ActorId) (number step : ℕ) → IsCaused history (events.Hear number step) actor
-      → (x : Entry Event) × (reply : Reply) × Contains history x × (x.event ≡ events.Eval actor number reply) × (named_in (protocol head) history (events.Hear number step) ≡ Some x)
+      → (x : Entry Event) × (reply : Reply) × Contains history x × (x.event ≡ events.Eval actor number reply) × (named_in (protocol head) history (events.Hear number step) ≡ Some x) × (x.step ≡ step)
   hearing_names history run actor number step (k, x, inside, at, is) =
       let what = evaluation-is actor number x.event is.eval in (
         x,
@@ -60,6 +60,7 @@ module _ (head : Head) where
         what.1,
         named-one (protocol head) history (events.Hear number step) x (names_one head history (events.Hear number step) run) (k, inside, at)
             (and_from (x.step == step) (is_eval x.event) (eq-eqb x.step step is.at) (ap is_eval what.1)),
+        is.at,
       )
 
   -- so is what it hears next

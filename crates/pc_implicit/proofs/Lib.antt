@@ -18,11 +18,13 @@ pub mod Doings
 pub mod Evals
 pub mod EvaluatedAt
 pub mod Fates
+pub mod FinalMarks
 pub mod Firsts
 pub mod Forward
 pub mod Given
 pub mod ImplicitStands
 pub mod Fronts
+pub mod HeardAt
 pub mod HeardViews
 pub mod Hearing
 pub mod Holders
