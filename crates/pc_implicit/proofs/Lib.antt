@@ -22,6 +22,7 @@ pub mod FinalMarks
 pub mod Firsts
 pub mod Forward
 pub mod Given
+pub mod StaysOrRefuted
 pub mod ImplicitStands
 pub mod Fronts
 pub mod HeardAt
@@ -38,6 +39,7 @@ pub mod Lift
 pub mod Made
 pub mod MetaRows
 pub mod Metas
+pub mod NeverDead
 pub mod Missing
 pub mod Moves
 pub mod OneDecision
