@@ -1,18 +1,16 @@
 -- What is proved elsewhere.
 use Rattle.std.proofs.Common.{◌≡◌, ℕ, List, [], ◌++◌, sym, subst}
 use Rattle.std.proofs.lemmas.List.{append-nil}
-use Rattle.pc_base.specs.declared.actor.ActorId.{ActorId}
 use Rattle.pc_base.specs.declared.actor.ActorId.TheVariants as actors
 use Rattle.pc_base.specs.declared.entry.Entry.{Entry}
 use Rattle.pc_base.specs.declared.transaction.TxnId.{TxnId}
-use Rattle.pc_implicit.proofs.StageWords.{CommitsBy, IsBecause, WasStagedAs}
+use Rattle.pc_implicit.proofs.StageWords.{CommitsBy, IsBecause}
 use Rattle.pc_implicit.specs.Staging.{CommitsStay, RecoveriesAgree}
 use Rattle.pc_proto.specs.declared.event.Event.{Event}
 use Rattle.pc_world.specs.After.{known_at}
 use Rattle.pc_world.specs.Committed.{IsCommitted}
 use Rattle.pc_world.specs.Local.{Head}
 use Rattle.pc_world.specs.Run.{IsRun}
-use Rattle.pc_world.specs.Send.Recovery.{WasStaging}
 use Rattle.pc_world.specs.StageFate.{IsDead, Stage}
 
 pub never_dead : (head : Head) (front back : List (Entry Event)) → IsRun head (front ++ back) → (s : Stage) → CommitsBy head front s
@@ -27,10 +25,6 @@ because = ?
 
 pub commits_stay : CommitsStay
 commits_stay = ?
-
-pub staging_seen : (head : Head) (history : List (Entry Event)) → IsRun head history → (actor : ActorId) (id : TxnId) (epoch ts : ℕ) (writes : List (List ℕ × ℕ))
-    → WasStaging (known_at head actor history).heard id epoch ts writes → WasStagedAs history id epoch ts writes
-staging_seen = ?
 
 pub not_dead : (head : Head) (history : List (Entry Event)) → IsRun head history → (s : Stage) → CommitsBy head history s → IsDead (known_at head (actors.Session s.meta.id.session) history).heard s → ⊥
 not_dead head history run s by dead =

@@ -22,8 +22,10 @@ pub mod FinalMarks
 pub mod Firsts
 pub mod Forward
 pub mod Given
+pub mod NoProofBeside
 pub mod StaysOrRefuted
 pub mod ImplicitStands
+pub mod FoundThere
 pub mod Fronts
 pub mod HeardAt
 pub mod HeardViews

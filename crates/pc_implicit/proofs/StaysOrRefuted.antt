@@ -9,7 +9,7 @@ use Rattle.pc_history.specs.History.{MayFollow}
 use Rattle.pc_implicit.proofs.CommitsSent.{IsBeyond}
 use Rattle.pc_implicit.proofs.Doing.{Does}
 use Rattle.pc_implicit.proofs.EvaluatedAt.{sent_at}
-use Rattle.pc_implicit.proofs.Given.{staging_seen}
+use Rattle.pc_implicit.proofs.FoundThere.{staging_heard}
 use Rattle.pc_implicit.proofs.HeardViews.{replied_of, so_of}
 use Rattle.pc_implicit.proofs.HomeOver.{ChangesPlace, home_over}
 use Rattle.pc_implicit.proofs.LeavesBy.{ByAbort, ByCommit, ByFound, ByMissing, ByStage, LeavesBy, Stages, StagesStill, leaves_by}
@@ -94,7 +94,7 @@ module _ (head : Head) (history : List (Entry Event)) (run : IsRun head history)
       let replied : WasReplied history (requests.Query id epoch missed.seq ts key by) replies.Missing =
       replied-along at.before (a ∷ at.later) history joined (requests.Query id epoch missed.seq ts key by) replies.Missing
       (replied_of head at.before a.actor h (so_of head at.before run_before a.actor h (n, inside, here)) (requests.Query id epoch missed.seq ts key by) replies.Missing missed.asked missed.told) in
-      let seen : WasStagedAs at.before id epoch ts row.writes = staging_seen head at.before run_before a.actor id epoch ts row.writes row.staging in
+      let seen : WasStagedAs at.before id epoch ts row.writes = staging_heard head at.before run_before a.actor id epoch ts row.writes row.staging in
       let one : seen.stage ≡ s =
       one_staged head history run s seen.stage sent (staged-so-along at.before (a ∷ at.later) history joined seen.stage seen.sent) (seen.whose ∙ whose) (seen.epoch_is ∙ epochs) (seen.ts_is ∙ times) opened in
       let writes : row.writes ≡ s.writes = sym seen.writes_are ∙ ap (λ (x : Stage). x.writes) one in
