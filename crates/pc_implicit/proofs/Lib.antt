@@ -3,6 +3,7 @@ pub mod Agreed
 pub mod Anchored
 pub mod Answering
 pub mod Asked
+pub mod Because
 pub mod Begins
 pub mod Bounds
 pub mod Clocks
@@ -87,6 +88,7 @@ pub mod StagesLast
 pub mod StagesOpen
 pub mod StagesRefuted
 pub mod StagesSent
+pub mod StaysOrRefuted
 pub mod Turns
 pub mod VersionSearches
 pub mod VersionSteps
