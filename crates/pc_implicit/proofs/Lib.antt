@@ -88,7 +88,6 @@ pub mod StagesLast
 pub mod StagesOpen
 pub mod StagesRefuted
 pub mod StagesSent
-pub mod StaysOrRefuted
 pub mod Turns
 pub mod VersionSearches
 pub mod VersionSteps
