@@ -1,5 +1,5 @@
 -- A mark is final: only a removal leaves one, of a final record.
-use Rattle.std.proofs.Common.{◌≡◌, ℕ, Bool, true, false, ◌&&◌, not, if◌then◌else◌, List, [], ◌++◌, refl, subst}
+use Rattle.std.proofs.Common.{◌≡◌, ℕ, Bool, true, false, ◌&&◌, not, if◌then◌else◌, List, [], refl, subst}
 use Rattle.pc_base.specs.declared.entry.Entry.{Entry}
 use Rattle.pc_base.specs.declared.transaction.TxnId.{TxnId}
 use Rattle.pc_base.specs.declared.transaction.Who.{Who}
@@ -27,7 +27,6 @@ use Rattle.pc_proto.specs.RecordRows.Stage.{stage}
 use Rattle.pc_proto.specs.Table.{place_of}
 use Rattle.pc_world.specs.After.{place_at}
 use Rattle.pc_world.specs.Local.{Head}
-use Rattle.pc_world.specs.RangeState.{RangeState}
 
 -- Where there is a mark it is final.
 abbrev MarksFinal : Place → Type 0

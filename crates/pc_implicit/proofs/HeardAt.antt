@@ -1,5 +1,5 @@
 -- A reply that was heard was evaluated at its step, after the entries before that step.
-use Rattle.std.proofs.Common.{◌≡◌, ℕ, List, [], ◌∷◌, ◌++◌, length, slice_get, Option, Some, IfSome, inl, inr, Contains, refl, sym, ap, subst, ◌∙◌}
+use Rattle.std.proofs.Common.{◌≡◌, ℕ, List, [], ◌∷◌, ◌++◌, length, slice_get, Some, IfSome, inl, inr, Contains, sym, ap, subst, ◌∙◌}
 use Rattle.std.proofs.lemmas.List.{append_assoc}
 use Rattle.std.proofs.lemmas.List.Elements.{Contains-append_left, Contains-push}
 use Rattle.std.specs.List.{AllByRecursion as Each}
@@ -22,7 +22,6 @@ use Rattle.pc_implicit.specs.Replied.{WasReplied}
 use Rattle.pc_implicit.specs.Writes.{home_of}
 use Rattle.pc_proto.specs.declared.event.Event.{Event}
 use Rattle.pc_proto.specs.declared.event.Event.TheVariants as events
-use Rattle.pc_proto.specs.declared.reply.Reply.{Reply}
 use Rattle.pc_proto.specs.declared.request.Request.{Request}
 use Rattle.pc_proto.specs.declared.view.View.{View}
 use Rattle.pc_proto.specs.Place.{view_of}
@@ -59,6 +58,10 @@ pub record HeardAt (head : Head) (history : List (Entry Event)) (actor : ActorId
   pub told : e.event ≡ events.Eval actor h.number h.reply
   pub ev : NamedMessage head before e.actor actor h.number h.reply
   pub asks : ev.request ≡ h.request
+
+-- one message asks one thing
+one_asks : (number range to : ℕ) (request other : Request) (x y : Entry Event) → x ≡ y → x.event ≡ events.Send number range request → y.event ≡ events.Send number to other → request ≡ other
+one_asks number range to request other x y same is also = let both : events.Send number range request ≡ events.Send number to other = sym is ∙ ap (λ (z : Entry Event). z.event) same ∙ also in cc both
 
 module _ (head : Head) where
   step-event : (history : List (Entry Event)) → IsRun head history → (actor : ActorId) (event : Event) → IsCaused history event actor
@@ -99,7 +102,6 @@ module _ (head : Head) where
         let ev = of_entry head split.before s.eval actor h.number h.reply run_before may s.told in
         let inside : Contains history ev.send = subst (λ l. Contains l ev.send) (sym split.whole) (Contains-append_left split.before (s.eval ∷ split.later) ev.send ev.listed) in
         let one : ev.send ≡ so.send = one_send head history run ev.send so.send inside so.listed actor h.number ev.whose so.whose ev.range so.range ev.request h.request ev.sends so.sends in
-        let both : events.Send h.number ev.range ev.request ≡ events.Send h.number so.range h.request = sym ev.sends ∙ ap (λ (x : Entry Event). x.event) one ∙ so.sends in
         let here : slice_get history (length split.before) ≡ Some s.eval =
         ap (λ l. slice_get l (length split.before)) (split.whole ∙ sym (append_assoc split.before (s.eval ∷ []) split.later))
         ∙ get_append (split.before ++ s.eval ∷ []) split.later (length split.before) s.eval (get_push split.before s.eval) in
@@ -111,7 +113,7 @@ module _ (head : Head) where
           at = sym (run_step head history (length split.before) s.eval run here) ∙ s.at;
           told = s.told;
           ev = ev;
-          asks = cc both;
+          asks = one_asks h.number ev.range so.range ev.request h.request ev.send so.send one ev.sends so.sends;
         }
 
     -- it was replied by then

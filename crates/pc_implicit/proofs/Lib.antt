@@ -45,6 +45,7 @@ pub mod Metas
 pub mod NeverDead
 pub mod Missing
 pub mod Moves
+pub mod NeverDead
 pub mod OneDecision
 pub mod OpenReads
 pub mod OwnKeys

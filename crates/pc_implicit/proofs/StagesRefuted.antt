@@ -9,7 +9,6 @@ use Rattle.pc_base.specs.Transaction.{same_txn}
 use Rattle.pc_history.proofs.Lists.{contains_head, contains_tail}
 use Rattle.pc_implicit.proofs.CommitsSent.{IsBeyond, beyond-on}
 use Rattle.pc_implicit.proofs.Did.{session_at}
-use Rattle.pc_implicit.proofs.Hearing.{IsSo}
 use Rattle.pc_implicit.proofs.HeardViews.{asked_home, replied_of, so_of, undecided_from}
 use Rattle.pc_implicit.proofs.IntentKeys.{same_key-is}
 use Rattle.pc_implicit.proofs.Keyed.{same-is}
@@ -18,6 +17,7 @@ use Rattle.pc_implicit.proofs.StagePairs.{stages_paired}
 use Rattle.pc_implicit.proofs.StagesKnown.{HasSent, dead_is_late}
 use Rattle.pc_implicit.proofs.StageWords.{RefutedIf, SomeRefuted}
 use Rattle.pc_implicit.specs.Decided.{decision, epoch_of, time_of}
+use Rattle.pc_implicit.specs.Replied.{WasReplied}
 use Rattle.pc_implicit.specs.Stages.{IsOpenTo, WasStaged}
 use Rattle.pc_implicit.specs.Writes.{home_of}
 use Rattle.pc_proto.specs.declared.event.Event.{Event}
@@ -65,7 +65,7 @@ staged-not-past s standings.Committed epoch ts writes locks is past = absurd cc
 staged-not-past s (standings.Aborted why) epoch ts writes locks is past = absurd cc
 
 -- an undecided record that a stage leaves another way is past it
-stage_passes : (s : Stage) (p : Place) → decision p ≡ None → shows_past s (answer (stage_request s) p) ≡ true → IsBeyond s.meta.epoch s.ts p
+pub stage_passes : (s : Stage) (p : Place) → decision p ≡ None → shows_past s (answer (stage_request s) p) ≡ true → IsBeyond s.meta.epoch s.ts p
 stage_passes s Nothing none h = absurd (stages-itself s.meta.epoch s.ts h)
 stage_passes s (Kept r) none h =
     by (is_final r.status.standing) refl (nat_le r.status.epoch s.meta.epoch && nat_le r.status.ts s.ts) refl (is_staging r.status.standing && (r.status.epoch == s.meta.epoch && r.status.ts == s.ts)) refl h
@@ -93,6 +93,45 @@ stage_passes s (Kept r) none h =
         ]
 stage_passes s (Marked m) none h = absurd cc
 
+-- a reply that refutes a write says which
+pub refutes_one : (history : List (Entry Event)) (s : Stage) (h : Heard) → WasReplied history h.request h.reply → RefutesWrite s h → SomeRefuted history s
+refutes_one history s h replied r = by h.request h.reply replied r.refuted
+  where
+    by : (request : Request) (reply : Reply) → WasReplied history request reply → refutes_write s request reply ≡ true → SomeRefuted history s
+    by (requests.Put meta seq at key value) (replies.Written ts) replied is =
+        let halves = and_parts (same_txn meta.id s.meta.id && meta.epoch == s.meta.epoch) (lists key seq s.writes && nat_lt s.ts ts) is in
+        let left = and_parts (same_txn meta.id s.meta.id) (meta.epoch == s.meta.epoch) halves.0 in
+        let right = and_parts (lists key seq s.writes) (nat_lt s.ts ts) halves.1 in
+        record {
+          write = (key, seq);
+          listed = listed_there key seq s.writes right.0;
+          refuted =
+              inl (record {
+                at = ts;
+                above = ltb-true s.ts ts right.1;
+                written = record {
+                  meta = meta;
+                  asked = at;
+                  value = value;
+                  whose = same-is meta.id s.meta.id left.0;
+                  epoch_is = eqb-true meta.epoch s.meta.epoch left.1;
+                  replied = replied;
+                };
+              });
+        }
+    by (requests.Query id epoch seq at key who) replies.Missing replied is =
+        let halves = and_parts (same_txn id s.meta.id && epoch == s.meta.epoch) (at == s.ts && lists key seq s.writes) is in
+        let left = and_parts (same_txn id s.meta.id) (epoch == s.meta.epoch) halves.0 in
+        let right = and_parts (at == s.ts) (lists key seq s.writes) halves.1 in
+        let same : requests.Query id epoch seq at key who ≡ requests.Query s.meta.id s.meta.epoch seq s.ts key who =
+        λ i. requests.Query (same-is id s.meta.id left.0 i) (eqb-true epoch s.meta.epoch left.1 i) seq (eqb-true at s.ts right.0 i) key who in
+        record {
+          write = (key, seq);
+          listed = listed_there key seq s.writes right.1;
+          refuted = inr (record { by = who; replied = subst (λ q. WasReplied history q replies.Missing) same replied });
+        }
+    by request reply replied is = absurd cc
+
 module _ (head : Head) (history : List (Entry Event)) (run : IsRun head history) where
   -- ---- what a session heard
 
@@ -110,50 +149,12 @@ module _ (head : Head) (history : List (Entry Event)) (run : IsRun head history)
       let ts = opened.ts_low in
       elim beyond [ inl later ↦ omega (arith, later, epoch) | inr above ↦ omega (arith, above, ts) ]
 
-  -- a reply that refutes a write says which
-  pub refutes_one : (actor : ActorId) (s : Stage) (h : Heard) → IsSo head history actor h → RefutesWrite s h → SomeRefuted history s
-  refutes_one actor s h so r = by h.request h.reply refl refl r.refuted
-    where
-      by : (request : Request) (reply : Reply) → h.request ≡ request → h.reply ≡ reply → refutes_write s request reply ≡ true → SomeRefuted history s
-      by (requests.Put meta seq at key value) (replies.Written ts) asked told is =
-          let halves = and_parts (same_txn meta.id s.meta.id && meta.epoch == s.meta.epoch) (lists key seq s.writes && nat_lt s.ts ts) is in
-          let left = and_parts (same_txn meta.id s.meta.id) (meta.epoch == s.meta.epoch) halves.0 in
-          let right = and_parts (lists key seq s.writes) (nat_lt s.ts ts) halves.1 in
-          record {
-            write = (key, seq);
-            listed = listed_there key seq s.writes right.0;
-            refuted = inl (record {
-              at = ts;
-              above = ltb-true s.ts ts right.1;
-              written = record {
-                meta = meta;
-                asked = at;
-                value = value;
-                whose = same-is meta.id s.meta.id left.0;
-                epoch_is = eqb-true meta.epoch s.meta.epoch left.1;
-                replied = replied_of head history actor h so (requests.Put meta seq at key value) (replies.Written ts) asked told;
-              };
-            });
-          }
-      by (requests.Query id epoch seq at key who) replies.Missing asked told is =
-          let halves = and_parts (same_txn id s.meta.id && epoch == s.meta.epoch) (at == s.ts && lists key seq s.writes) is in
-          let left = and_parts (same_txn id s.meta.id) (epoch == s.meta.epoch) halves.0 in
-          let right = and_parts (at == s.ts) (lists key seq s.writes) halves.1 in
-          let same : requests.Query id epoch seq at key who ≡ requests.Query s.meta.id s.meta.epoch seq s.ts key who =
-          λ i. requests.Query (same-is id s.meta.id left.0 i) (eqb-true epoch s.meta.epoch left.1 i) seq (eqb-true at s.ts right.0 i) key who in
-          record {
-            write = (key, seq);
-            listed = listed_there key seq s.writes right.1;
-            refuted = inr (record { by = who; replied = replied_of head history actor h so (requests.Query s.meta.id s.meta.epoch seq s.ts key who) replies.Missing (asked ∙ same) told });
-          }
-      by request reply asked told is = absurd cc
-
   -- an open stage that is known to be late has a refuted write
   pub late_refuted : RefutedIf IsLate head history
   late_refuted s sent opened (n, h, inside, at, why) =
       let actor : ActorId = actors.Session s.meta.id.session in
       elim why [
-        | inl refutes ↦ refutes_one actor s h (so_of head history run actor h (n, inside, at)) refutes
+        | inl refutes ↦ refutes_one history s h (replied_of head history actor h (so_of head history run actor h (n, inside, at)) h.request h.reply refl refl) refutes
         | inr past ↦ absurd (open_not_beyond s opened (late_beyond actor s opened.undecided (n, h, inside, at, past)))
       ]
 

@@ -32,10 +32,10 @@ pub record Stands (p q : Place) : Type 0 where
   pub decided : (s : Status) → decision p ≡ Some s → decision q ≡ Some s
   pub rises : IsNotBelow p q
 
-stands-itself : (p : Place) → Stands p p
+pub stands-itself : (p : Place) → Stands p p
 stands-itself p = record { decided = λ s h. h; rises = not-below-itself p }
 
-stands-on : (p q r : Place) → Stands p q → Stands q r → Stands p r
+pub stands-on : (p q r : Place) → Stands p q → Stands q r → Stands p r
 stands-on p q r h k = record {
   decided = λ s e. k.decided s (h.decided s e);
   rises = record { epoch = omega (arith, h.rises.epoch, k.rises.epoch); ts = omega (arith, h.rises.ts, k.rises.ts) };
