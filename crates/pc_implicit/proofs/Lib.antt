@@ -23,6 +23,7 @@ pub mod FinalMarks
 pub mod Firsts
 pub mod Forward
 pub mod Given
+pub mod NotDead
 pub mod NoProofBeside
 pub mod StaysOrRefuted
 pub mod ImplicitStands

@@ -15,7 +15,9 @@ use Rattle.pc_implicit.proofs.Places.{place_after}
 use Rattle.pc_implicit.proofs.Recorded.{evaluated_state}
 use Rattle.pc_implicit.proofs.Runs.{kept-status, reply_is}
 use Rattle.pc_implicit.proofs.StageWords.{ByDecision, ByStaging, ByTelling}
-use Rattle.pc_implicit.proofs.Given.{because, not_dead, recoveries_agree}
+use Rattle.pc_implicit.proofs.Because.{because}
+use Rattle.pc_implicit.proofs.Given.{recoveries_agree}
+use Rattle.pc_implicit.proofs.NotDead.{not_dead}
 use Rattle.pc_implicit.proofs.StagesLast.{stages_last}
 use Rattle.pc_implicit.proofs.ImplicitStands.{implied_epoch, implied_whole}
 use Rattle.pc_implicit.proofs.Turns.{IsAnswered, Restarted, WentOn, Wrote, comes_from, Turn}

@@ -54,7 +54,7 @@ use Rattle.pc_world.specs.StageFate.{IsDead, IsUncommitted, Stage}
 use Rattle.pc_implicit.proofs.SettledNow.{IsSettled, WasAsked, WasImplied}
 use Rattle.pc_implicit.proofs.StagesKnown.{stage_of}
 use Rattle.pc_implicit.proofs.StagesSent.{has_sent_stage}
-use Rattle.pc_implicit.proofs.Given.{never_dead}
+use Rattle.pc_implicit.proofs.NotDead.{never_known_dead}
 use Rattle.pc_implicit.specs.Stages.{WasStaged}
 
 asked-more : (history : List (Entry Event)) (e : Entry Event) (id : TxnId) (epoch ts : ℕ) → WasAsked history id epoch ts → WasAsked (history ++ e ∷ []) id epoch ts
@@ -212,7 +212,7 @@ module _ (head : Head) (history : List (Entry Event)) (run : IsRun head history)
           let sent = has_sent_stage head history run s (staged_along w.front w.back history w.whole s n.commits.sent) in
           let dead : IsDead (known_at head (actors.Session s.meta.id.session) history).heard s =
           stage_of s.meta.id (IsDead (known_at head (actors.Session s.meta.id.session) history).heard) (known_at head (actors.Session s.meta.id.session) history).sent known.stages s refl sent in
-          never_dead head w.front w.back (subst (IsRun head) (sym w.whole) run) s n.commits (subst (λ h. IsDead (known_at head (actors.Session s.meta.id.session) h).heard s) (sym w.whole) dead)
+          never_known_dead head w.front w.back (subst (IsRun head) (sym w.whole) run) s n.commits (subst (λ h. IsDead (known_at head (actors.Session s.meta.id.session) h).heard s) (sym w.whole) dead)
 
   -- so it goes on as it was
   pub goes_on : (u : Txn) → Contains (txns_of head id (history ++ e ∷ [])) u → u.id ≡ id
