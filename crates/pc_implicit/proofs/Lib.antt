@@ -12,6 +12,7 @@ pub mod CommitCalls
 pub mod CommitPoint
 pub mod Commits
 pub mod CommitsSent
+pub mod CommitsStay
 pub mod Deciders
 pub mod Did
 pub mod Doing
