@@ -47,7 +47,6 @@ pub mod Metas
 pub mod NeverDead
 pub mod Missing
 pub mod Moves
-pub mod NeverDead
 pub mod OneDecision
 pub mod OpenReads
 pub mod OwnKeys
