@@ -24,6 +24,7 @@ pub mod FinalMarks
 pub mod Firsts
 pub mod Forward
 pub mod Given
+pub mod OpenOver
 pub mod KnownOver
 pub mod NotDead
 pub mod NoProofBeside
