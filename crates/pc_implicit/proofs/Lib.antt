@@ -70,6 +70,7 @@ pub mod ReadSteps
 pub mod Reading
 pub mod ReadsComeFrom
 pub mod Recorded
+pub mod Recovered
 pub mod Refusals
 pub mod RepliedAt
 pub mod RisingVersions
