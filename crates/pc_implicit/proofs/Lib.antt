@@ -23,7 +23,6 @@ pub mod Fates
 pub mod FinalMarks
 pub mod Firsts
 pub mod Forward
-pub mod Given
 pub mod OpenOver
 pub mod KnownOver
 pub mod NotDead

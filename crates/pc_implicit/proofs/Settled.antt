@@ -16,7 +16,7 @@ use Rattle.pc_implicit.proofs.Recorded.{evaluated_state}
 use Rattle.pc_implicit.proofs.Runs.{kept-status, reply_is}
 use Rattle.pc_implicit.proofs.StageWords.{ByDecision, ByStaging, ByTelling}
 use Rattle.pc_implicit.proofs.Because.{because}
-use Rattle.pc_implicit.proofs.Given.{recoveries_agree}
+use Rattle.pc_implicit.proofs.Recovered.{recoveries_agree}
 use Rattle.pc_implicit.proofs.NotDead.{not_dead}
 use Rattle.pc_implicit.proofs.StagesLast.{stages_last}
 use Rattle.pc_implicit.proofs.ImplicitStands.{implied_epoch, implied_whole}

@@ -55,7 +55,7 @@ use Rattle.pc_world.specs.StageFate.{Commit, IsDead, IsRefused, IsUncommitted, S
 use Rattle.pc_implicit.proofs.SettledNow.{IsSettled, WasAsked, WasImplied}
 use Rattle.pc_implicit.proofs.StagesKnown.{HasSent}
 use Rattle.pc_implicit.proofs.StagesSent.{has_sent_commit, has_sent_stage}
-use Rattle.pc_implicit.proofs.NotDead.{never_known_dead}
+use Rattle.pc_implicit.proofs.NeverDead.{never_dead}
 use Rattle.pc_implicit.specs.Stages.{WasStaged}
 
 asked-more : (history : List (Entry Event)) (e : Entry Event) (id : TxnId) (epoch ts : ℕ) → WasAsked history id epoch ts → WasAsked (history ++ e ∷ []) id epoch ts
@@ -208,7 +208,7 @@ module _ (head : Head) (history : List (Entry Event)) (run : IsRun head history)
       let known : HasSent (known_at head (actors.Session id.session) history).sent (stage_request s) = subst (λ (i : TxnId). HasSent (known_at head (actors.Session i.session) history).sent (stage_request s)) n.whose sent in
       let dead : IsDead (known_at head (actors.Session s.meta.id.session) history).heard s =
       subst (λ (i : TxnId). IsDead (known_at head (actors.Session i.session) history).heard s) (sym n.whose) (over.dead s known n.whose) in
-      never_known_dead head w.front w.back (subst (IsRun head) (sym w.whole) run) s n.commits (subst (λ h. IsDead (known_at head (actors.Session s.meta.id.session) h).heard s) (sym w.whole) dead)
+      never_dead head w.front w.back (subst (IsRun head) (sym w.whole) run) s n.commits (subst (λ h. IsDead (known_at head (actors.Session s.meta.id.session) h).heard s) (sym w.whole) dead)
 
   pub settled_not_over : IsKnownOver (known_at head (actors.Session id.session) history) id → ⊥
   settled_not_over over = elim settled.asked [ inl asked ↦ commit-not-refused over asked | inr implied ↦ stage-not-dead over implied ]
