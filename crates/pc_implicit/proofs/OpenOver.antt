@@ -1,5 +1,5 @@
 -- An open transaction that is not in a commit is known to have come to nothing: each of its stages is dead, and each commit refused.
-use Rattle.std.proofs.Common.{◌≡◌, ℕ, ◌+◌, ◌≤◌, Bool, true, false, ◌⊎◌, inl, inr, List, [], ◌∷◌, ◌++◌, Option, None, Some, Contains, refl, sym, ap, subst, ◌∙◌, arith}
+use Rattle.std.proofs.Common.{◌≡◌, ℕ, ◌+◌, Bool, true, false, ◌⊎◌, inl, inr, List, [], ◌∷◌, ◌++◌, Option, None, Some, refl, sym, ap, subst, ◌∙◌, arith}
 use Rattle.pc_base.specs.declared.actor.ActorId.{ActorId}
 use Rattle.pc_base.specs.declared.actor.ActorId.TheVariants as actors
 use Rattle.pc_base.specs.declared.entry.Entry.{Entry}
@@ -7,7 +7,7 @@ use Rattle.pc_base.specs.declared.transaction.TxnId.{TxnId}
 use Rattle.pc_base.specs.Transaction.{same_txn}
 use Rattle.pc_history.specs.History.{MayFollow}
 use Rattle.pc_history.specs.Own.{named_in, own}
-use Rattle.pc_implicit.proofs.Agreed.{agreed, begun_next, open_there, owned}
+use Rattle.pc_implicit.proofs.Agreed.{agreed, begun_next, owned}
 use Rattle.pc_implicit.proofs.Anchored.{each_contained}
 use Rattle.pc_implicit.proofs.CommitCalls.{is-begin, is-tell, open-before, same-told, told_open}
 use Rattle.pc_implicit.proofs.Commits.{act_of, open_agrees}
@@ -18,7 +18,7 @@ use Rattle.pc_implicit.proofs.HeardViews.{heard_decides}
 use Rattle.pc_implicit.proofs.Hearing.{sent_is_so}
 use Rattle.pc_implicit.proofs.Keyed.{same-is}
 use Rattle.pc_implicit.proofs.KnownOver.{IsKnownOver, over_of}
-use Rattle.pc_implicit.proofs.Moves.{first_after, first_is_open, is_first, open_is_first}
+use Rattle.pc_implicit.proofs.Moves.{first_after, is_first, open_is_first}
 use Rattle.pc_implicit.proofs.OpenReads.{within-statement}
 use Rattle.pc_implicit.proofs.Settled.{settled}
 use Rattle.pc_implicit.proofs.SettledOn.{settled_not_over}
