@@ -24,6 +24,12 @@ pub mod Fates
 pub mod FinalMarks
 pub mod Firsts
 pub mod Forward
+pub mod OpenOver
+pub mod KnownOver
+pub mod NotDead
+pub mod NoProofBeside
+pub mod StaysOrRefuted
+pub mod ImplicitStands
 pub mod FoundThere
 pub mod Fronts
 pub mod HeardAt
@@ -40,9 +46,9 @@ pub mod Lift
 pub mod Made
 pub mod MetaRows
 pub mod Metas
+pub mod NeverDead
 pub mod Missing
 pub mod Moves
-pub mod NeverDead
 pub mod OneDecision
 pub mod OneDecisionEver
 pub mod OpenReads
@@ -88,7 +94,6 @@ pub mod StagesLast
 pub mod StagesOpen
 pub mod StagesRefuted
 pub mod StagesSent
-pub mod StaysOrRefuted
 pub mod Turns
 pub mod VersionSearches
 pub mod VersionSteps
