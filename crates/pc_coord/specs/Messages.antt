@@ -2,6 +2,7 @@
 use Rattle.std.specs.Prelude.{ℕ, ◌+◌, Bool, true, false, ◌==◌, cond, if◌then◌else◌, nat_le, nat_lt, Option, None, Some, List, [], ◌∷◌, find, map}
 use Rattle.std.specs.List.{flat_map, list_all, list_any}
 use Rattle.std.specs.Option.{option_and_then}
+use Rattle.pc_base.specs.declared.limits.TheConstants.{MOST_CONFLICTS}
 use Rattle.pc_base.specs.declared.transaction.TxnId.{TxnId}
 use Rattle.pc_coord.specs.declared.due.Due.{Due}
 use Rattle.pc_coord.specs.declared.due.Due.TheVariants as dues
@@ -17,7 +18,8 @@ use Rattle.pc_proto.specs.declared.reply.Reply.{Reply}
 use Rattle.pc_proto.specs.declared.reply.Reply.TheVariants as replies
 use Rattle.pc_proto.specs.declared.request.Request.{Request}
 use Rattle.pc_proto.specs.declared.request.Request.TheVariants as requests
-use Rattle.pc_world.specs.Send.Recovery.{is_conflict}
+use Rattle.pc_proto.specs.Replies.{holder_in, is_conflict}
+use Rattle.pc_proto.specs.Requests.{is_scan}
 use Rattle.pc_world.specs.Tell.Data.{told_row}
 
 module _ {X : Type 0} (test : X → Bool) (change : X → X) where
@@ -47,8 +49,8 @@ progress_sent (progresses.Met number conflict) = false
 progress_sent (progresses.Heard reply) = false
 
 -- The reply to the message is waited for.
-abbrev pub is_sent : Message → Bool
-is_sent m = progress_sent m.progress
+abbrev pub is_awaited : Message → Bool
+is_awaited m = progress_sent m.progress
 
 abbrev pub progress_waits : ℕ → Progress → Bool
 progress_waits number (progresses.Sent sent) = sent == number
@@ -87,8 +89,8 @@ progress_heard (progresses.Sent number) = false
 progress_heard (progresses.Met number conflict) = false
 
 -- What the message asks for was heard.
-abbrev pub is_heard : Message → Bool
-is_heard m = progress_heard m.progress
+abbrev pub has_reply : Message → Bool
+has_reply m = progress_heard m.progress
 
 -- The message went out under this number.
 abbrev pub sent_as : ℕ → Message → Message
@@ -96,15 +98,15 @@ sent_as number m = record m { progress = progresses.Sent number }
 
 -- One conflict more, counted up to the eighth.
 abbrev pub one_more : ℕ → ℕ
-one_more conflicts = if nat_lt conflicts 8 then conflicts + 1 else 8
+one_more conflicts = if nat_lt conflicts MOST_CONFLICTS then conflicts + 1 else MOST_CONFLICTS
 
 abbrev pub met_or_heard : Bool → ℕ → Reply → Message → Message
 met_or_heard true number reply m = record m { conflicts = one_more m.conflicts; progress = progresses.Met number reply }
 met_or_heard false number reply m = record m { progress = progresses.Heard reply }
 
 -- This was replied to the message, which went out under this number.
-abbrev pub heard_as : ℕ → Reply → Message → Message
-heard_as number reply m = met_or_heard (is_conflict reply) number reply m
+abbrev pub replied_as : ℕ → Reply → Message → Message
+replied_as number reply m = met_or_heard (is_conflict reply) number reply m
 
 -- The message is to be sent again.
 abbrev pub again : Message → Message
@@ -112,7 +114,7 @@ again m = record m { progress = progresses.Unsent }
 
 -- The first message that waits for its conflict's round, once no reply is waited for any more.
 abbrev pub first_met : List Message → Option Message
-first_met messages = if list_any is_sent messages then None else find is_met messages
+first_met messages = if list_any is_awaited messages then None else find is_met messages
 
 -- The timestamp at which the request reads.
 abbrev pub read_at : Request → Option ℕ
@@ -136,11 +138,6 @@ next_by (Some m) unsent = next_of_met m.request m.progress
 abbrev pub next_in : List Message → Next
 next_in messages = next_by (first_met messages) (find is_unsent messages)
 
--- Whose intent stood in the way, where the reply is a conflict.
-abbrev pub holder_in : Reply → Option TxnId
-holder_in (replies.Conflict holder ts key) = Some holder.id
-holder_in _ = None
-
 -- Whose intent the message met, where its round is still to be made.
 abbrev pub holder_met : Progress → Option TxnId
 holder_met (progresses.Met number conflict) = holder_in conflict
@@ -148,7 +145,7 @@ holder_met _ = None
 
 -- The holder that blocks the message: that of the intent which it met, where it has met as many as it may.
 abbrev pub blocked_by : Message → Option TxnId
-blocked_by m = if nat_le 8 m.conflicts then holder_met m.progress else None
+blocked_by m = if nat_le MOST_CONFLICTS m.conflicts then holder_met m.progress else None
 
 abbrev pub rows_heard : Progress → List (List ℕ × Origin × List ℕ)
 rows_heard (progresses.Heard (replies.Rows rows)) = rows
@@ -157,10 +154,6 @@ rows_heard _ = []
 abbrev pub are_rows_heard : Progress → Bool
 are_rows_heard (progresses.Heard (replies.Rows rows)) = true
 are_rows_heard _ = false
-
-abbrev pub is_scan : Request → Bool
-is_scan (requests.Scan id epoch seq ts span) = true
-is_scan _ = false
 
 -- The message is a piece of a scan, and its rows were heard.
 abbrev pub has_rows : Message → Bool
@@ -174,13 +167,13 @@ abbrev pub value_heard : Progress → Option Answer
 value_heard (progresses.Heard (replies.Value origin value)) = Some (answers.Value value)
 value_heard _ = None
 
-abbrev pub value_by : Request → Progress → Option Answer
-value_by (requests.Get id epoch seq ts key) progress = value_heard progress
-value_by _ progress = None
+abbrev pub value_for : Request → Progress → Option Answer
+value_for (requests.Get id epoch seq ts key) progress = value_heard progress
+value_for _ progress = None
 
 -- The value that was heard to a get.
 abbrev pub value_in : Message → Option Answer
-value_in m = value_by m.request m.progress
+value_in m = value_for m.request m.progress
 
 abbrev pub value_first : List Message → Option Answer
 value_first [] = None
@@ -204,5 +197,5 @@ due_unless (Some holder) messages = dues.Tell (answers.Blocked holder)
 -- them.
 abbrev pub due_of_reads : List Message → Due
 due_of_reads messages =
-    if list_all is_heard messages then due_by (answer_of messages)
+    if list_all has_reply messages then due_by (answer_of messages)
     else due_unless (option_and_then blocked_by (first_met messages)) messages

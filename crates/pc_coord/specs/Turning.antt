@@ -1,6 +1,7 @@
 -- What becomes of the open transaction, and what is due, by each call and reply.
 use Rattle.std.specs.Prelude.{ℕ, nat_le, nat_lt, Bool, true, false, Option, None, Some, List, if◌then◌else◌}
 use Rattle.std.specs.Option.{option_map}
+use Rattle.pc_base.specs.declared.limits.TheConstants.{MOST_CONFLICTS, MOST_REFUSALS}
 use Rattle.pc_coord.specs.Coordination.{abort_due, commit_due, put_due}
 use Rattle.pc_coord.specs.declared.due.Due.{Due}
 use Rattle.pc_coord.specs.declared.due.Due.TheVariants as dues
@@ -9,8 +10,8 @@ use Rattle.pc_coord.specs.declared.round.Round.{Round}
 use Rattle.pc_coord.specs.declared.round.Round.TheVariants as rounds
 use Rattle.pc_coord.specs.declared.transaction.InFlight.{InFlight}
 use Rattle.pc_coord.specs.declared.transaction.Transaction.{Transaction}
-use Rattle.pc_coord.specs.Messages.{holder_in, one_more}
-use Rattle.pc_coord.specs.Transaction.{landed, put_of, refreshed, with_write}
+use Rattle.pc_coord.specs.Messages.{one_more}
+use Rattle.pc_coord.specs.Transaction.{landed, put_of, refreshed, with_own_write}
 use Rattle.pc_base.specs.declared.transaction.TxnId.{TxnId}
 use Rattle.pc_proto.specs.declared.answer.Answer.TheVariants as answers
 use Rattle.pc_proto.specs.declared.reply.Reply.{Reply}
@@ -18,16 +19,16 @@ use Rattle.pc_proto.specs.declared.view.View.{View}
 use Rattle.pc_proto.specs.declared.view.View.TheVariants as views
 use Rattle.pc_proto.specs.declared.why.Why.{Why}
 use Rattle.pc_proto.specs.declared.why.Why.TheVariants as whys
-use Rattle.pc_world.specs.Views.{view_in}
+use Rattle.pc_proto.specs.Replies.{holder_in, view_in}
 
 -- What is due of the transaction's write, which follows one that is in flight if there is one.
 abbrev pub write_due : Option InFlight → List ℕ → Option (List ℕ) → Transaction → Due
-write_due None key value x = put_due (with_write key value x).anchor key value false (with_write key value x)
+write_due None key value x = put_due (with_own_write key value x).anchor key value false (with_own_write key value x)
 write_due (Some w) key value x = put_due x.anchor w.key w.value true x
 
 -- The transaction once it is asked to write: where a write is in flight that one is sent again, and nothing changes.
 abbrev pub write_txn : Option InFlight → List ℕ → Option (List ℕ) → Transaction → Transaction
-write_txn None key value x = with_write key value x
+write_txn None key value x = with_own_write key value x
 write_txn (Some w) key value x = x
 
 -- What is due after a put was asked: a write that is in flight is proved first.
@@ -51,7 +52,7 @@ landed_due true ts (Some w) x = write_due None w.key w.value (landed ts x)
 abbrev pub landed_txn : Bool → ℕ → Option InFlight → Transaction → Transaction
 landed_txn again ts None x = landed ts x
 landed_txn false ts (Some w) x = landed ts x
-landed_txn true ts (Some w) x = with_write w.key w.value (landed ts x)
+landed_txn true ts (Some w) x = with_own_write w.key w.value (landed ts x)
 
 abbrev pub due_of_written : Bool → ℕ → Option Transaction → Due
 due_of_written again ts None = dues.Stuck
@@ -64,7 +65,7 @@ txn_of_written again ts (Some x) = Some (landed_txn again ts x.in_flight x)
 -- What is due once a put met so many intents, the last one of this holder: the conflict's round, or the call is blocked.
 abbrev pub met_due : ℕ → ℕ → Bool → Reply → TxnId → Due
 met_due number conflicts again reply holder =
-    if nat_le 8 conflicts then dues.Tell (answers.Blocked holder) else dues.Met number reply conflicts again
+    if nat_le MOST_CONFLICTS conflicts then dues.Tell (answers.Blocked holder) else dues.Met number reply conflicts again
 
 abbrev pub due_of_holder : ℕ → ℕ → Bool → Reply → Option TxnId → Due
 due_of_holder number conflicts again reply None = dues.Stuck
@@ -163,8 +164,8 @@ cause_of reply = cause_in (view_in reply)
 
 -- What is due after so many refusals: the commit is tried again, or given up.
 abbrev pub due_of_retry : ℕ → ℕ → Option Transaction → Due
-due_of_retry recorded refusals txn = if nat_lt refusals 8 then due_of_commit refusals txn else dues.Tell (answers.Moved recorded)
+due_of_retry recorded refusals txn = if nat_lt refusals MOST_REFUSALS then due_of_commit refusals txn else dues.Tell (answers.Moved recorded)
 
 -- The transaction after so many refusals.
 abbrev pub txn_of_retry : ℕ → Option Transaction → Option Transaction
-txn_of_retry refusals txn = if nat_lt refusals 8 then option_map refreshed txn else txn
+txn_of_retry refusals txn = if nat_lt refusals MOST_REFUSALS then option_map refreshed txn else txn

@@ -2,16 +2,17 @@
 use Rattle.std.proofs.Common.{ℕ, Bool, true, false, ◌&&◌, ◌==◌, not, nat_le, if◌then◌else◌, List, [], ◌∷◌, filter, fold, map, Option, None, Some, IfSome}
 use Rattle.std.specs.BTreeMap.{insert_entry}
 use Rattle.std.specs.declared.cmp.Ordering.{Ordering}
-use Rattle.std.specs.declared.cmp.Ordering.TheVariants.{Less, Equal, Greater}
 use Rattle.std.specs.List.{AllByRecursion as Each}
 use Rattle.std.specs.Option.{option_map_or}
-use Rattle.std.specs.Ordering.{match_ordering}
+use Rattle.std.specs.Cmp.Lexicographic.{slice_cmp}
+use Rattle.std.specs.Ordering.{nat_cmp}
 use Rattle.std.specs.Prelude.{⊤}
 use Rattle.pc_base.specs.declared.transaction.TxnId.{TxnId}
 use Rattle.pc_base.specs.declared.transaction.Who.{Who}
 use Rattle.pc_base.specs.Keyed.{at, in_order}
 use Rattle.pc_base.specs.Span.{contains, key_below, same_key}
 use Rattle.pc_base.specs.Transaction.{same_txn, txn_cmp}
+use Rattle.pc_lists.proofs.Each.{each-at, each-choose, each-filter, each-insert, each-without}
 use Rattle.pc_proto.specs.declared.fate.Fate.{Fate}
 use Rattle.pc_proto.specs.declared.fate.Fate.TheVariants as fates
 use Rattle.pc_proto.specs.declared.fate.Finding.{Finding}
@@ -29,23 +30,23 @@ use Rattle.pc_proto.specs.declared.request.Request.{Request}
 use Rattle.pc_proto.specs.declared.request.Request.TheVariants as requests
 use Rattle.pc_proto.specs.Intents.{first_other, fresh, grown, intent_at, kept_if, lesser_key, other_at, own_at}
 use Rattle.pc_proto.specs.Place.{Place, Nothing, Kept, Marked, Change, Stay, Become, Finish, after, is_decided, is_final, view_of}
-use Rattle.pc_proto.specs.RecordRows.{change, push_reply, subject, table_for}
+use Rattle.pc_proto.specs.RecordRows.{place_change, push_reply, table_for}
 use Rattle.pc_proto.specs.RecordRows.Abort.{abort}
 use Rattle.pc_proto.specs.RecordRows.Beat.{beat}
 use Rattle.pc_proto.specs.RecordRows.Commit.{commit}
-use Rattle.pc_proto.specs.RecordRows.Push.{Verdict, There, Refuse, Doubt, Do, on_verdict, push, pushed, verdict}
+use Rattle.pc_proto.specs.RecordRows.Push.{Verdict, There, Refuse, Doubt, Do, on_verdict, push, push_verdict, pushed}
 use Rattle.pc_proto.specs.RecordRows.Reached.{activity_of, alive_at, at_epoch, is_reached, is_staged_at, status_of}
-use Rattle.pc_proto.specs.RecordRows.Records.{listed}
+use Rattle.pc_proto.specs.RecordRows.Records.{listed_metas}
 use Rattle.pc_proto.specs.RecordRows.Recover.{decided, recover}
 use Rattle.pc_proto.specs.RecordRows.Remove.{remove}
 use Rattle.pc_proto.specs.RecordRows.Stage.{stage}
+use Rattle.pc_proto.specs.Requests.{subject}
 use Rattle.pc_proto.specs.Table.{Table, place_of, record_or_mark, records_after}
-use Rattle.pc_world.proofs.Each.{each-at, each-choose, each-filter, each-set_at, each-without}
 use Rattle.pc_world.specs.Evaluation.{intents_after, reply, state_after}
 use Rattle.pc_world.specs.Evaluation.Get.{found_at, get_blocker, get_reply}
 use Rattle.pc_world.specs.Evaluation.IntentChange.{IntentChange, Leave, Lay, Drop, intents_with}
-use Rattle.pc_world.specs.Evaluation.Put.{PutOutcome, Stands, Lands, first_outcome, laid, overtaken, own_outcome, put_change, put_outcome, put_reply, write_ts}
-use Rattle.pc_world.specs.Evaluation.Query.{stands}
+use Rattle.pc_world.specs.Evaluation.Put.{PutOutcome, Stands, Lands, first_outcome, laid, outcome_of_put, overtaken, own_outcome, put_change, put_reply, write_ts}
+use Rattle.pc_world.specs.Evaluation.Query.{write_stands}
 use Rattle.pc_world.specs.Evaluation.Refresh.{refresh_reply, refuter_in}
 use Rattle.pc_world.specs.Evaluation.Resolve.{change_for}
 use Rattle.pc_world.specs.Evaluation.Scan.{rows_in, scan_reply}
@@ -91,18 +92,9 @@ some-kept P test (Some x) h = by (test x)
     by false = tt
 
 module _ {K V : Type 0} (P : V → Type 0) (cmp : K → K → Ordering) where
-  each-insert : (key : K) (value : V) (entries : List (K × V)) → P value → Each (λ e. P e.1) entries → Each (λ e. P e.1) (insert_entry cmp entries key value)
-  each-insert key value [] h a = (h, tt)
-  each-insert key value (e ∷ es) h a = by (cmp key e.0) (each-insert key value es h a.1)
-    where
-      by : (o : Ordering) → Each (λ e. P e.1) (insert_entry cmp es key value) → Each (λ e. P e.1) (match_ordering o ((key, value) ∷ e ∷ es) ((e.0, value) ∷ es) (e ∷ insert_entry cmp es key value))
-      by Less rest = (h, a)
-      by Equal rest = (h, a.1)
-      by Greater rest = (a.0, rest)
-
   each-ordered : (sorted entries : List (K × V)) → Each (λ e. P e.1) sorted → Each (λ e. P e.1) entries → Each (λ e. P e.1) (fold (λ (sorted : List (K × V)) (e : K × V). insert_entry cmp sorted e.0 e.1) sorted entries)
   each-ordered sorted [] a b = a
-  each-ordered sorted (e ∷ es) a b = each-ordered (insert_entry cmp sorted e.0 e.1) es (each-insert e.0 e.1 sorted b.0 a) b.1
+  each-ordered sorted (e ∷ es) a b = each-ordered (insert_entry cmp sorted e.0 e.1) es (each-insert P cmp e.0 e.1 sorted b.0 a) b.1
 
 module _ (Has : TxnId → List ℕ → Type 0) where
   Own : Intent → Type 0
@@ -121,7 +113,7 @@ module _ (Has : TxnId → List ℕ → Type 0) where
   with-change : (key : List ℕ) (c : IntentChange) (intents : List (List ℕ × Intent)) → Lays c → Each (λ e. MetaHas Has e.1.meta) intents → Each (λ e. MetaHas Has e.1.meta) (intents_with key c intents)
   unfolding Lays Own
   with-change key Leave intents h a = a
-  with-change key (Lay i) intents h a = each-set_at Own same_key key i intents h a
+  with-change key (Lay i) intents h a = each-insert Own (slice_cmp nat_cmp) key i intents h a
   with-change key Drop intents h a = each-without Own same_key key intents a
 
   laid-has : (meta : TxnMeta) (seq ts : ℕ) (value : Option (List ℕ)) (own : Option Intent) → MetaHas Has meta → IfSome own Own → Own (laid meta seq ts value own)
@@ -155,7 +147,7 @@ module _ (Has : TxnId → List ℕ → Type 0) where
 
   intents-have : (request : Request) (s : RangeState) → RequestHas Has request → Each (λ e. MetaHas Has e.1.meta) s.intents → Each (λ e. MetaHas Has e.1.meta) (intents_after request s)
   intents-have (requests.Put meta seq ts key value) s h a =
-      with-change key (put_change (put_outcome meta seq ts key value s)) s.intents
+      with-change key (put_change (outcome_of_put meta seq ts key value s)) s.intents
       (put-lays (other_at meta.id key s.intents) (own_outcome meta seq ts key value (own_at meta.id key s.intents) s)
       (own-lays meta seq ts key value (own_at meta.id key s.intents) s h (found (λ i. same_txn i.meta.id meta.id) key s.intents a))) a
   intents-have (requests.Resolve id key fate) s h a =
@@ -205,7 +197,7 @@ module _ (Has : TxnId → List ℕ → Type 0) where
   remove-makes (Kept r) = makes-either (is_final r.status.standing) (Finish r.status) Stay tt tt
   remove-makes (Marked s) = tt
 
-  change-makes : (request : Request) (p : Place) → RequestHas Has request → PlaceHas p → Makes (change request p)
+  change-makes : (request : Request) (p : Place) → RequestHas Has request → PlaceHas p → Makes (place_change request p)
   unfolding Makes
   change-makes (requests.Beat meta ts now) p h a = makes-either (is_decided p) Stay (beat meta ts now p) tt (beat-makes meta ts now p h a)
   change-makes (requests.Stage meta ts now writes locks) p h a =
@@ -218,7 +210,7 @@ module _ (Has : TxnId → List ℕ → Type 0) where
       (Become (record { meta = meta; status = status_of standings.Committed meta.epoch ts; activity = activity_of p meta.born; writes = []; locks = locks })) Stay h tt)
   change-makes (requests.Abort meta why locks) p h a = makes-either (is_decided p) Stay (abort meta why locks p) tt h
   change-makes (requests.Push holder by level now goal) p h a =
-      makes-either (is_decided p) Stay (push holder by level now goal p) tt (push-makes holder by goal (verdict holder level now goal p) p h)
+      makes-either (is_decided p) Stay (push holder by level now goal p) tt (push-makes holder by goal (push_verdict holder level now goal p) p h)
   change-makes (requests.Recover id epoch ts anchor finding) p h a =
       makes-either (is_decided p) Stay (recover epoch ts finding p) tt (makes-either (is_staged_at p epoch ts) (decided finding p) Stay (decided-makes finding p a) tt)
   change-makes (requests.Remove id anchor) p h a = remove-makes p
@@ -236,14 +228,14 @@ module _ (Has : TxnId → List ℕ → Type 0) where
   records-with : (id : TxnId) (c : Change) (records : List (TxnId × Record)) → Makes c → Each (λ e. MetaHas Has e.1.meta) records → Each (λ e. MetaHas Has e.1.meta) (records_after id c records)
   unfolding Makes OwnRecord
   records-with id Stay records h a = a
-  records-with id (Become r) records h a = each-set_at OwnRecord same_txn id r records h a
+  records-with id (Become r) records h a = each-insert OwnRecord txn_cmp id r records h a
   records-with id (Finish s) records h a = each-without OwnRecord same_txn id records a
 
   records-for : (one : Option TxnId) (request : Request) (t : Table) → RequestHas Has request → Each (λ e. MetaHas Has e.1.meta) t.records → Each (λ e. MetaHas Has e.1.meta) (table_for one request t).records
   unfolding OwnRecord
   records-for None request t h a = a
   records-for (Some id) request t h a =
-      records-with id (change request (place_of id t)) t.records
+      records-with id (place_change request (place_of id t)) t.records
       (change-makes request (place_of id t) h (place-has (at same_txn id t.records) (at same_txn id t.marks) (each-at OwnRecord same_txn id t.records a))) a
 
   -- over evaluation
@@ -302,7 +294,7 @@ module _ (Has : TxnId → List ℕ → Type 0) where
   seconds [] a = tt
   seconds (e ∷ es) a = (a.0, seconds es a.1)
 
-  listed-has : (records : List (TxnId × Record)) → Each (λ e. MetaHas Has e.1.meta) records → Each (MetaHas Has) (listed records)
+  listed-has : (records : List (TxnId × Record)) → Each (λ e. MetaHas Has e.1.meta) records → Each (MetaHas Has) (listed_metas records)
   listed-has records a =
       seconds (in_order txn_cmp (map (λ (e : TxnId × Record). (e.0, at_epoch e.1.status.epoch e.1.meta)) records))
       (each-ordered (λ (m : TxnMeta). Has m.id m.anchor) txn_cmp [] (map (λ (e : TxnId × Record). (e.0, at_epoch e.1.status.epoch e.1.meta)) records) tt (at-epochs records a))
@@ -320,11 +312,11 @@ module _ (Has : TxnId → List ℕ → Type 0) where
   reply_has (requests.Put meta seq ts key value) s a =
       put-has key (other_at meta.id key s.intents) meta seq ts value (own_at meta.id key s.intents) s (found (λ i. not (same_txn i.meta.id meta.id)) key s.intents a.intents)
   reply_has (requests.Refresh id from to span) s a = refresh-has (refuter_in id from to span s)
-  reply_has (requests.Query id epoch seq ts key by) s a = reply-either (stands id epoch seq ts key s) replies.Found replies.Missing tt tt
+  reply_has (requests.Query id epoch seq ts key by) s a = reply-either (write_stands id epoch seq ts key s) replies.Found replies.Missing tt tt
   reply_has (requests.Push holder by level now goal) s a =
       let p = place_of holder.id s.table in
-      reply-either (is_decided p) (replies.Status (view_of p)) (push_reply (verdict holder level now goal p) p (after p (push holder by level now goal p))) tt
-      (push-has (verdict holder level now goal p) p (after p (push holder by level now goal p)))
+      reply-either (is_decided p) (replies.Status (view_of p)) (push_reply (push_verdict holder level now goal p) p (after p (push holder by level now goal p))) tt
+      (push-has (push_verdict holder level now goal p) p (after p (push holder by level now goal p)))
   reply_has (requests.Remove id anchor) s a = let p = place_of id s.table in reply-either (is_decided p) replies.Removed (replies.Status (view_of p)) tt tt
   reply_has requests.Records s a = listed-has s.table.records a.records
   reply_has request s a = tt

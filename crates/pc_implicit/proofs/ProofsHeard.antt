@@ -1,26 +1,21 @@
 -- Each proof of a write that a session knows is the answer of its key's range: to a put of the write, or to a query of it.
 use Rattle.std.proofs.Common.{◌≡◌, ℕ, Bool, true, false, cond, ◌&&◌, ◌==◌, if◌then◌else◌, inl, inr, List, [], ◌∷◌, ◌++◌, map, Option, None, Some, IfSome, Contains, IsTrue, refl, sym, subst}
 use Rattle.std.proofs.lemmas.Bool.{and_parts, eqb-true}
-use Rattle.std.proofs.lemmas.Map.Lookups.{exact_bytes}
-use Rattle.std.specs.Cmp.Lexicographic.{slice_cmp}
-use Rattle.std.specs.declared.cmp.Ordering.{Ordering}
-use Rattle.std.specs.declared.cmp.Ordering.TheVariants as orderings
 use Rattle.std.specs.List.{AllByRecursion as Each, list_any}
-use Rattle.std.specs.Ordering.{is_eq, nat_cmp}
 use Rattle.pc_base.specs.declared.actor.ActorId.{ActorId}
 use Rattle.pc_base.specs.declared.entry.Entry.{Entry}
 use Rattle.pc_base.specs.declared.transaction.TxnId.{TxnId}
 use Rattle.pc_base.specs.Span.{same_key}
 use Rattle.pc_base.specs.Transaction.{same_txn}
-use Rattle.pc_history.proofs.Lists.{contains_head}
 use Rattle.pc_history.specs.Own.{named_in}
-use Rattle.pc_implicit.proofs.Anchored.{each_contained}
 use Rattle.pc_implicit.proofs.Doing.{same_or_not}
 use Rattle.pc_implicit.proofs.EvaluatedAt.{answered_at, evaluated_more, goes_to}
 use Rattle.pc_implicit.proofs.Hearing.{IsSo, heard-event}
-use Rattle.pc_implicit.proofs.Keyed.{same-is}
 use Rattle.pc_implicit.proofs.SessionReads.{ByPut, ByQuery, WasEvaluated, WasProved}
 use Rattle.pc_implicit.proofs.Shown.{WasAnswered}
+use Rattle.pc_lists.proofs.Each.{each-append, each-contains, each-map, each-weaker}
+use Rattle.pc_lists.proofs.Lists.{contains_head}
+use Rattle.pc_lists.proofs.Same.{same_key-is, same_txn-is}
 use Rattle.pc_proto.specs.declared.answer.Answer.{Answer}
 use Rattle.pc_proto.specs.declared.answer.Answer.TheVariants as answers
 use Rattle.pc_proto.specs.declared.event.Event.{Event}
@@ -29,12 +24,11 @@ use Rattle.pc_proto.specs.declared.reply.Reply.{Reply}
 use Rattle.pc_proto.specs.declared.reply.Reply.TheVariants as replies
 use Rattle.pc_proto.specs.declared.request.Request.{Request}
 use Rattle.pc_proto.specs.declared.request.Request.TheVariants as requests
-use Rattle.pc_world.proofs.Each.{each-append, each-map, each-weaker}
 use Rattle.pc_world.proofs.Knowing.{known_other, known_same}
 use Rattle.pc_world.proofs.Prefixes.{run_induction}
 use Rattle.pc_world.specs.After.{known_at}
 use Rattle.pc_world.specs.Caused.{IsCaused}
-use Rattle.pc_world.specs.Known.{Known, begun_by, told_first, txns_after}
+use Rattle.pc_world.specs.Known.{Known, told_first, txn_begun, txns_after}
 use Rattle.pc_world.specs.Known.Statements.{Statement}
 use Rattle.pc_world.specs.Known.Traffic.{Heard, Sent, heard_by, replies_to}
 use Rattle.pc_world.specs.Known.Transactions.{Txn, txn_heard, txn_sent, txn_told}
@@ -42,14 +36,6 @@ use Rattle.pc_world.specs.Known.Writes.{Write as WriteMade, asked_again, is_prov
 use Rattle.pc_world.specs.Local.{Head}
 use Rattle.pc_world.specs.RangeOf.{range_of}
 use Rattle.pc_world.specs.Run.{IsRun, protocol}
-
-is-equal : (o : Ordering) → is_eq o ≡ true → o ≡ orderings.Equal
-is-equal orderings.Less h = absurd cc
-is-equal orderings.Equal h = refl
-is-equal orderings.Greater h = absurd cc
-
-pub same-keys : (a b : List ℕ) → same_key a b ≡ true → a ≡ b
-same-keys a b h = exact_bytes a b (is-equal (slice_cmp nat_cmp a b) h)
 
 -- what was proved stays so
 pub proved_more : (head : Head) (history more : List (Entry Event)) (id : TxnId) (epoch seq : ℕ) (key : List ℕ) (at : ℕ) → WasProved head history id epoch seq key at → WasProved head (history ++ more) id epoch seq key at
@@ -91,7 +77,7 @@ module _ (head : Head) (history : List (Entry Event)) (id : TxnId) (epoch : ℕ)
       by true is =
           let parts = and_parts (w.seq == seq) (same_key w.key key) is in
           let own : WasProved head history id epoch w.seq w.key at =
-          subst (λ n. WasProved head history id epoch n w.key at) (sym (eqb-true w.seq seq parts.0)) (subst (λ k. WasProved head history id epoch seq k at) (sym (same-keys w.key key parts.1)) new) in
+          subst (λ n. WasProved head history id epoch n w.key at) (sym (eqb-true w.seq seq parts.0)) (subst (λ k. WasProved head history id epoch seq k at) (sym (same_key-is w.key key parts.1)) new) in
           each-append (WasProved head history id epoch w.seq w.key) w.proofs (at ∷ []) proven (own, tt)
       by false is = proven
 
@@ -121,7 +107,7 @@ module _ (head : Head) (history : List (Entry Event)) (id : TxnId) (epoch : ℕ)
         let there : w.range ≡ range_of head.splits key = goes_to head history run w.send w.listed number w.range (requests.Put meta seq ts key value) w.sends in
         written-proven key seq reply ws
         (λ at told.
-        ByPut meta ts value (same-is meta.id id parts.0) (eqb-true meta.epoch epoch parts.1)
+        ByPut meta ts value (same_txn-is meta.id id parts.0) (eqb-true meta.epoch epoch parts.1)
         (subst (λ r. WasEvaluated head history r (requests.Put meta seq ts key value) (replies.Written at)) there
         (subst (WasEvaluated head history w.range (requests.Put meta seq ts key value)) told (evaluated-so (requests.Put meta seq ts key value) reply w)))) each)
         each
@@ -130,7 +116,7 @@ module _ (head : Head) (history : List (Entry Event)) (id : TxnId) (epoch : ℕ)
         (λ is.
         let parts = and_parts (same_txn other id) (at_epoch == epoch) is in
         let there : w.range ≡ range_of head.splits key = goes_to head history run w.send w.listed number w.range (requests.Query other at_epoch seq ts key by) w.sends in
-        let named : other ≡ id = same-is other id parts.0 in
+        let named : other ≡ id = same_txn-is other id parts.0 in
         let same : at_epoch ≡ epoch = eqb-true at_epoch epoch parts.1 in
         found-proven key seq ts reply ws
         (λ told.
@@ -166,7 +152,7 @@ module _ (head : Head) where
     first-proven answer replied true (t ∷ ts) each = (told-proven answer replied t each.0, each.1)
     first-proven answer replied false txns each = each
 
-    begun-proven : (s : Option Statement) (id : TxnId) (ts : ℕ) → AreProven history (begun_by s id ts)
+    begun-proven : (s : Option Statement) (id : TxnId) (ts : ℕ) → AreProven history (txn_begun s id ts)
     begun-proven None id ts = tt
     begun-proven (Some s) id ts = tt
 
@@ -199,8 +185,8 @@ module _ (head : Head) where
   pub proofs_are_so : (history : List (Entry Event)) → IsRun head history → (actor : ActorId) (t : Txn) (w : WriteMade) (at : ℕ) → Contains (known_at head actor history).txns t → Contains t.writes w → Contains w.proofs at
       → WasProved head history t.id t.epoch w.seq w.key at
   proofs_are_so history run actor t w at mine written proof =
-      each_contained (WasProved head history t.id t.epoch w.seq w.key) w.proofs at
-      (each_contained (IsProven head history t.id t.epoch) t.writes w (each_contained (AreProven history) (known_at head actor history).txns t (proven history run actor) mine) written) proof
+      each-contains (WasProved head history t.id t.epoch w.seq w.key) w.proofs at
+      (each-contains (IsProven head history t.id t.epoch) t.writes w (each-contains (AreProven history) (known_at head actor history).txns t (proven history run actor) mine) written) proof
 
   some-proof : (ats : List ℕ) → list_any (λ at. true) ats ≡ true → (at : ℕ) × Contains ats at
   some-proof [] is = absurd cc

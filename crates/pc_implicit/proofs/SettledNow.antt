@@ -8,13 +8,10 @@ use Rattle.pc_base.specs.declared.actor.ActorId.TheVariants as actors
 use Rattle.pc_base.specs.declared.entry.Entry.{Entry}
 use Rattle.pc_base.specs.declared.transaction.TxnId.{TxnId}
 use Rattle.pc_base.specs.Span.{same_key}
-use Rattle.pc_history.proofs.Lists.{contains_cons, contains_head, contains_nil, contains_tail}
-use Rattle.pc_implicit.proofs.Anchored.{each_contained}
 use Rattle.pc_implicit.proofs.CommitPoint.{DecidesNow}
 use Rattle.pc_implicit.proofs.CommitsSent.{IsBeyond, IsInForce, IsOver, IsPassed, commits_sent}
 use Rattle.pc_implicit.proofs.Doing.{same_or_not}
 use Rattle.pc_implicit.proofs.Evals.{NamedMessage}
-use Rattle.pc_implicit.proofs.IntentKeys.{same_key-is}
 use Rattle.pc_implicit.proofs.OwnLaid.{HasFront, StandsIn}
 use Rattle.pc_implicit.proofs.OwnStanding.{own_hold}
 use Rattle.pc_implicit.proofs.PutsSent.{AreAnswers, orderly}
@@ -24,7 +21,10 @@ use Rattle.pc_implicit.proofs.Turns.{not_session}
 use Rattle.pc_implicit.proofs.WriteLists.{Laid, RiseAt, left_over, rise_at, rise_last}
 use Rattle.pc_implicit.specs.Decided.{decision, epoch_of, time_of}
 use Rattle.pc_implicit.specs.Replied.{WasProven}
-use Rattle.pc_implicit.specs.Writes.{IsWholeBy, StandsBy, home_of, own_intent, txns_of, writes_at}
+use Rattle.pc_implicit.specs.Writes.{IsWholeBy, LastWriteStands, home_of, own_intent, txns_of, writes_at}
+use Rattle.pc_lists.proofs.Each.{each-contains}
+use Rattle.pc_lists.proofs.Lists.{contains_cons, contains_head, contains_nil, contains_tail}
+use Rattle.pc_lists.proofs.Same.{same_key-is}
 use Rattle.pc_proto.specs.declared.event.Event.{Event}
 use Rattle.pc_proto.specs.declared.event.Event.TheVariants as events
 use Rattle.pc_proto.specs.declared.meta.TxnMeta.{TxnMeta}
@@ -43,7 +43,7 @@ use Rattle.pc_world.specs.Local.{Head}
 use Rattle.pc_world.specs.RangeOf.{range_of}
 use Rattle.pc_world.specs.RangeState.{RangeState}
 use Rattle.pc_world.specs.Run.{IsRun}
-use Rattle.pc_world.specs.StageFate.{Stage}
+use Rattle.pc_world.specs.StageFate.{SentStage}
 
 -- A commit of the transaction, at this epoch and timestamp, was sent.
 pub record WasAsked (history : List (Entry Event)) (id : TxnId) (epoch ts : ℕ) : Type 0 where
@@ -64,7 +64,7 @@ AllWritesStand head history t ts =
 
 -- The stage by which the transaction is committed, at this epoch and timestamp.
 pub record IsImplied (head : Head) (history : List (Entry Event)) (id : TxnId) (epoch ts : ℕ) : Type 0 where
-  pub stage : Stage
+  pub stage : SentStage
   pub commits : CommitsBy head history stage
   pub whose : stage.meta.id ≡ id
   pub epoch_is : stage.meta.epoch ≡ epoch

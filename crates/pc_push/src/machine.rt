@@ -2,17 +2,16 @@ ghost use Rattle.std.specs.Prelude.{◌≡◌, ◌<◌, ℕ, true, IfOk, IfSome,
 ghost use Rattle.pc_base.specs.declared.actor.ActorId.{ActorId};
 ghost use Rattle.pc_base.specs.Timestamp.{greatest};
 ghost use Rattle.pc_proto.specs.declared.request.Request.{Request};
-ghost use Rattle.pc_push.specs.Pushing.{IsStart, after_recovery, after_push, after_reply, goal_of, next_of, push_of, resolving};
-ghost use Rattle.pc_push.specs.PushKnows.{Asks, MayCome, MayPush, PushKnows};
+ghost use Rattle.pc_proto.specs.Replies.{is_conflict};
+ghost use Rattle.pc_push.specs.Pushing.{IsStart, after_recovery, after_push, goal_of, push_of, resolve_or, round_after, round_next};
+ghost use Rattle.pc_push.specs.PushKnows.{Asks, MayPush, PushKnows, RoundMayCome};
 ghost use Rattle.pc_world.specs.declared.machine.MachineNext.TheVariants as nexts;
-ghost use Rattle.pc_world.specs.Exchange.{IsReplyTo, WasAnswered};
+ghost use Rattle.pc_world.specs.Exchange.{IsPossibleReply, WasAnswered};
 ghost use Rattle.pc_world.specs.Known.{Known};
-ghost use Rattle.pc_world.specs.Send.Recovery.{is_conflict};
-ghost use Rattle.pc_world.specs.Views.{fate_after, final_fate};
 
 use crate::progress::Progress;
 use pc_base::{Key, NoMemory, Priority, Timestamp, TryCopy, Who};
-use pc_proto::{Fate, Goal, Reply, Request, TxnMeta, View};
+use pc_proto::{Fate, Goal, Reply, Request, TxnMeta};
 use pc_world::MachineNext;
 use std::marker::Model;
 
@@ -71,14 +70,14 @@ impl PushMachine {
 
     /// What is due.
     pub fn next(&self) -> Result<MachineNext, NoMemory>
-        ensures due { IfOk result (λ next. next ≡ next_of self.now) }
-        ensures may { (splits : List (List ℕ)) (actor : ActorId) (start k : Known) → PushKnows actor start k self.now → IfOk result (MayCome splits actor start k self.now) }
+        ensures due { IfOk result (λ next. next ≡ round_next self.now) }
+        ensures may { (splits : List (List ℕ)) (actor : ActorId) (start k : Known) → PushKnows actor start k self.now → IfOk result (RoundMayCome splits actor start k self.now) }
     {
         self.next_due()
     }
 
     fn next_due(&self) -> Result<MachineNext, NoMemory>
-        ensures { IfOk result (λ next. next ≡ next_of self.now) }
+        ensures { IfOk result (λ next. next ≡ round_next self.now) }
     {
         match &self.progress {
             Progress::Push => self.push(),
@@ -107,15 +106,15 @@ impl PushMachine {
 
     /// This reply was heard: to the request that `next` gave, or, once it gave a staging record, to a recovery of that.
     pub fn heard(&mut self, reply: &Reply) -> Result<(), NoMemory>
-        ensures made { OnOk result (self.new ≡ after_reply reply.now self.old) }
+        ensures made { OnOk result (self.new ≡ round_after reply.now self.old) }
         ensures err { OnErr result (self.new ≡ self.old) }
-        ensures knows { (actor : ActorId) (start k later : Known) (request : Request) → PushKnows actor start k self.old → Asks self.old request → WasAnswered k later request reply.now → IsReplyTo request reply.now → OnOk result (PushKnows actor start later self.new) }
+        ensures knows { (actor : ActorId) (start k later : Known) (request : Request) → PushKnows actor start k self.old → Asks self.old request → WasAnswered k later request reply.now → IsPossibleReply request reply.now → OnOk result (PushKnows actor start later self.new) }
     {
         self.hear(reply)
     }
 
     fn hear(&mut self, reply: &Reply) -> Result<(), NoMemory>
-        ensures ok { OnOk result (self.new ≡ after_reply reply.now self.old) }
+        ensures ok { OnOk result (self.new ≡ round_after reply.now self.old) }
         ensures err { OnErr result (self.new ≡ self.old) }
     {
         match &self.progress {
@@ -137,7 +136,7 @@ impl PushMachine {
         ensures err { OnErr result (self.new ≡ self.old) }
     {
         self.progress = match reply {
-            Reply::Status(view) => resolving(fate_after(self.goal, view), Progress::Push),
+            Reply::Status(view) => resolve_or(view.fate_after(self.goal), Progress::Push),
             Reply::Refused(_) => Progress::Refused,
             Reply::Unsure(view) => Progress::Unsure(view.copy()?),
             _ => Progress::Push,
@@ -149,7 +148,7 @@ impl PushMachine {
         ensures { self.new ≡ after_recovery reply.now self.old }
     {
         self.progress = match reply {
-            Reply::Status(view) => resolving(final_fate(view), Progress::Over),
+            Reply::Status(view) => resolve_or(view.fate(), Progress::Over),
             _ => Progress::Over,
         };
     }
@@ -167,36 +166,11 @@ fn goal_for(reader: Option<Timestamp>) -> Goal
 }
 
 /// The intent is settled with this fate, if there is one.
-fn resolving(fate: Option<Fate>, otherwise: Progress) -> Progress
-    ensures { result ≡ resolving fate otherwise }
+fn resolve_or(fate: Option<Fate>, otherwise: Progress) -> Progress
+    ensures { result ≡ resolve_or fate otherwise }
 {
     match fate {
         Some(fate) => Progress::Resolve(fate),
         None => otherwise,
-    }
-}
-
-/// The fate of a final view.
-fn final_fate(view: &View) -> Option<Fate>
-    ensures { result ≡ final_fate view.now }
-{
-    match view {
-        View::Committed { epoch, ts, .. } => Some(Fate::Committed {
-            epoch: *epoch,
-            ts: *ts,
-        }),
-        View::Aborted { .. } => Some(Fate::Aborted),
-        View::Nothing | View::Pending { .. } | View::Staging { .. } => None,
-    }
-}
-
-/// The fate after a push: that of a final view, or the move that the push asked for.
-fn fate_after(goal: Goal, view: &View) -> Option<Fate>
-    ensures { result ≡ fate_after goal view.now }
-{
-    match (final_fate(view), goal) {
-        (Some(fate), _) => Some(fate),
-        (None, Goal::Move(ts)) => Some(Fate::Pending { ts }),
-        (None, Goal::Abort) => None,
     }
 }

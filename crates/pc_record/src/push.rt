@@ -4,17 +4,15 @@
 
 ghost use Rattle.std.specs.Prelude.{◌≡◌, IfOk, OnOk, OnErr};
 ghost use Rattle.pc_proto.specs.RecordRows.{record_reply, table_after};
-ghost use Rattle.pc_proto.specs.RecordRows.Push.{is_there, pushed, rank, wins};
+ghost use Rattle.pc_proto.specs.RecordRows.Push.{level_rank, pushed, reaches_goal, wins};
 ghost use Rattle.pc_record.specs.RecordOf.{becoming};
 
 use crate::place::Place;
 use crate::table::RecordTable;
+use pc_base::limits::EXPIRY;
 use pc_base::{Items, NoMemory, Priority, TryCopy, Who};
 use pc_proto::{Goal, Record, Reply, Request, Standing, Status, TxnMeta, Why};
 use std::alloc::Global;
-
-/// How long after its last activity a transaction expires, in nanoseconds.
-const EXPIRY: u64 = 5_000_000_000;
 
 pub(crate) fn push(
     table: &mut RecordTable,
@@ -45,7 +43,7 @@ pub(crate) fn push(
 
 /// Whether the record stands at the target or above it.
 fn is_there(place: &Place<'_>, goal: Goal) -> bool
-    ensures { result ≡ is_there goal place.now }
+    ensures { result ≡ reaches_goal goal place.now }
 {
     match goal {
         Goal::Abort => false,
@@ -62,7 +60,7 @@ fn wins(place: &Place<'_>, holder: &TxnMeta, level: Priority, now: u64) -> bool
 }
 
 fn rank(priority: Priority) -> u8
-    ensures { result ≡ rank priority }
+    ensures { result ≡ level_rank priority }
 {
     match priority {
         Priority::Low => 0,

@@ -8,7 +8,6 @@ use Rattle.pc_base.specs.declared.transaction.TxnId.{TxnId}
 use Rattle.pc_base.specs.declared.version.Version.{Version}
 use Rattle.pc_base.specs.Span.{contains}
 use Rattle.pc_base.specs.Versions.{visible}
-use Rattle.pc_history.proofs.Lists.{contains_head}
 use Rattle.pc_implicit.proofs.Begins.{committed_was_begun}
 use Rattle.pc_implicit.proofs.Deciders.{decided_by}
 use Rattle.pc_implicit.proofs.Fronts.{front_same}
@@ -22,10 +21,11 @@ use Rattle.pc_implicit.proofs.SettledVersions.{versions_are_committed}
 use Rattle.pc_implicit.specs.Decided.{decision}
 use Rattle.pc_implicit.specs.Reads.{GrowsAbove}
 use Rattle.pc_implicit.specs.Writes.{IsWholeBy, home_of, own_intent, txns_of, writes_at}
+use Rattle.pc_lists.proofs.Each.{each-contains}
+use Rattle.pc_lists.proofs.Lists.{contains_head}
 use Rattle.pc_proto.specs.declared.event.Event.{Event}
 use Rattle.pc_proto.specs.declared.record.Intent.{Intent}
 use Rattle.pc_serial.proofs.GoodReads.{IsClearTo}
-use Rattle.pc_serial.proofs.InOrder.{each-contains}
 use Rattle.pc_serial.proofs.Laid.{RisesFrom, laid, laid-append, laid-last, last-laid, rises-front}
 use Rattle.pc_serial.proofs.Order.{PointsDiffer}
 use Rattle.pc_serial.proofs.OwnDone.{done-rises, laid-is, own-says, own-silent}
@@ -130,7 +130,7 @@ module _ (head : Head) (history : List (Entry Event)) (run : IsRun head history)
         let not_above : ts < v.ts → ⊥ = λ above.
         let high : r.good < v.ts = each-contains (λ (v : Version). v.key ≡ key → (v.id ≡ id → ⊥) → ts < v.ts → r.good < v.ts) (state_at head (range_of head.splits key) history).versions v r.clear.versions there of_key differs above in
         omega (arith, high, ts_is, early, reaches) in
-        elim (Contains-append_cases (state_at head (range_of head.splits key) front).versions r.grows.more v (subst (λ vs. Contains vs v) r.grows.whole there)) [
+        elim (r.grows.above v there) [
           | inl old ↦ record {
             v = v;
             there = old;
@@ -139,7 +139,7 @@ module _ (head : Head) (history : List (Entry Event)) (run : IsRun head history)
             at = subst (IsCommitted head history other) (sym ts_is) is;
             value_is = ap (λ (v : Version). v.value) made;
           }
-          | inr new ↦ absurd (not_above (All-contains (λ (v : Version). IsTrue (contains span v.key) → (v.id ≡ id → ⊥) → ts < v.ts) r.grows.more v r.grows.above new (subst (λ k. contains span k ≡ true) (sym of_key) r.inside) differs))
+          | inr new ↦ absurd (not_above (new (subst (λ k. contains span k ≡ true) (sym of_key) r.inside) differs))
         ]
 
     -- no intent of another is left

@@ -15,6 +15,7 @@ use Rattle.pc_proto.specs.declared.reply.Reply.{Reply}
 use Rattle.pc_proto.specs.declared.reply.Reply.TheVariants as replies
 use Rattle.pc_proto.specs.declared.request.Request.{Request}
 use Rattle.pc_proto.specs.declared.request.Request.TheVariants as requests
+use Rattle.pc_proto.specs.Replies.{ConflictsWith}
 use Rattle.pc_world.specs.Known.{Known, call_of, open_txn, reading_of}
 use Rattle.pc_world.specs.Known.Traffic.{Heard}
 use Rattle.pc_world.specs.Known.Transactions.{Txn}
@@ -24,11 +25,6 @@ abbrev pub goal_for : Request → Goal
 goal_for (requests.Get id epoch seq ts key) = goals.Move (ts + 1)
 goal_for (requests.Scan id epoch seq ts span) = goals.Move (ts + 1)
 goal_for _ = goals.Abort
-
--- The reply is a conflict with this holder.
-abbrev pub ConflictsWith : TxnMeta → Reply → Type 0
-ConflictsWith holder (replies.Conflict other ts key) = other ≡ holder
-ConflictsWith holder _ = ⊥
 
 -- The holder's intent stood in the way of a request, for which the push is.
 pub record StoodInTheWay (holder : TxnMeta) (goal : Goal) (h : Heard) : Type 0 where
@@ -45,14 +41,14 @@ pub record SessionPush (k : Known) (holder : TxnMeta) (by : Who) (level : Priori
   pub read_now : reading_of k ≡ Some now
 
 -- The reply lists the holder's record.
-abbrev pub Lists : TxnMeta → Reply → Type 0
-Lists holder (replies.Listed metas) = Contains metas holder
-Lists holder _ = ⊥
+abbrev pub ListsRecord : TxnMeta → Reply → Type 0
+ListsRecord holder (replies.Listed metas) = Contains metas holder
+ListsRecord holder _ = ⊥
 
 -- A recoverer may push the holder in its round.
 pub record RecovererPush (number : ℕ) (k : Known) (holder : TxnMeta) (by : Who) (now : ℕ) (goal : Goal) : Type 0 where
   pub asked : call_of k ≡ Some calls.Round
-  pub was_listed : Any (λ h. Lists holder h.reply) k.heard_now
+  pub was_listed : Any (λ h. ListsRecord holder h.reply) k.heard_now
   pub whose : by ≡ whos.Recoverer number
   pub to_abort : goal ≡ goals.Abort
   pub read_now : reading_of k ≡ Some now

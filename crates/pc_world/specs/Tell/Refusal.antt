@@ -2,21 +2,24 @@
 -- and commits must be known to have come to nothing. Own profile.
 use Rattle.std.specs.Prelude.{◌≡◌, ◌≢◌, ℕ, zero, suc, ◌≤◌, nat_lt, Bool, false, ◌&&◌, ◌==◌, not, ◌⊎◌, Some, List, [], ◌∷◌, Any, Contains, IsTrue, reverse, ⊤}
 use Rattle.std.specs.List.{list_any}
+use Rattle.pc_base.specs.declared.limits.TheConstants.{MOST_CONFLICTS, MOST_REFUSALS}
 use Rattle.pc_base.specs.declared.transaction.TxnId.{TxnId}
 use Rattle.pc_proto.specs.declared.call.Call.{Call}
 use Rattle.pc_proto.specs.declared.call.Call.TheVariants as calls
 use Rattle.pc_proto.specs.declared.reply.Reply.{Reply}
 use Rattle.pc_proto.specs.declared.request.Request.{Request}
 use Rattle.pc_proto.specs.declared.request.Request.TheVariants as requests
+use Rattle.pc_proto.specs.Replies.{is_conflict, is_conflict_with, is_undecided_status, status_ts}
+use Rattle.pc_proto.specs.Requests.{is_put_of}
 use Rattle.pc_world.specs.Counting.{AtLeast, LastIs}
 use Rattle.pc_world.specs.Known.{Known, open_txn}
 use Rattle.pc_world.specs.Known.Statements.{Statement}
 use Rattle.pc_world.specs.Known.Traffic.{Heard, Sent}
-use Rattle.pc_world.specs.Known.Transactions.{Txn, status_ts}
+use Rattle.pc_world.specs.Known.Transactions.{Txn}
 use Rattle.pc_world.specs.Known.Writes.{Write, is_proved}
 use Rattle.pc_world.specs.SameRequest.{IsSameMessage, IsSameRequest}
-use Rattle.pc_world.specs.Send.Recovery.{is_conflict, is_conflict_with, is_put_of, was_refused}
-use Rattle.pc_world.specs.StageFate.{IsDead, IsRefused, IsUncommitted, SomeCommit, SomeStage, is_unsettled_status}
+use Rattle.pc_world.specs.Send.Recovery.{was_refused}
+use Rattle.pc_world.specs.StageFate.{IsDead, IsUncommitted, SomeCommit, SomeStage, WasCommitRefused}
 use Rattle.pc_world.specs.Tell.Data.{was_sent_now}
 
 -- In a commit, the open transaction's stages are dead and its commits refused.
@@ -44,7 +47,7 @@ pub record IsConflictOf (request : Request) (h : Heard) : Type 0 where
 -- One request met intents eight times, the last time of this holder.
 pub record MetEight (holder : TxnId) (heard_now : List Heard) : Type 0 where
   pub request : Request
-  pub eight : AtLeast (IsConflictOf request) 8 heard_now
+  pub eight : AtLeast (IsConflictOf request) MOST_CONFLICTS heard_now
   pub last : LastIs (IsConflictOf request) (λ h. IsTrue (is_conflict_with holder h.reply)) heard_now
 
 -- The call may be told that this holder blocks it.
@@ -92,7 +95,7 @@ pub record MayTellUnavailable (k : Known) (s : Statement) (faults : ℕ) : Type 
 -- The transaction may have committed: a stage was sent that is not dead, or a commit that is not refused.
 abbrev pub MayHaveCommitted : Known → TxnId → Type 0
 MayHaveCommitted k id =
-    SomeStage id k.sent (λ s. IsDead k.heard s → ⊥) ⊎ SomeCommit id k.sent (λ c. IsRefused k.heard c → ⊥)
+    SomeStage id k.sent (λ s. IsDead k.heard s → ⊥) ⊎ SomeCommit id k.sent (λ c. WasCommitRefused k.heard c → ⊥)
 
 -- The call may be told that it is not known whether the transaction committed.
 pub record MayTellUnknown (k : Known) (s : Statement) (id : TxnId) : Type 0 where
@@ -106,8 +109,8 @@ pub record MayTellUnknown (k : Known) (s : Statement) (id : TxnId) : Type 0 wher
 
 -- A stage or commit met a record that is not final and has a greater timestamp.
 abbrev pub is_moved : Request → Reply → Bool
-is_moved (requests.Stage meta ts now writes locks) reply = is_unsettled_status reply && nat_lt ts (status_ts reply)
-is_moved (requests.Commit meta ts locks) reply = is_unsettled_status reply && nat_lt ts (status_ts reply)
+is_moved (requests.Stage meta ts now writes locks) reply = is_undecided_status reply && nat_lt ts (status_ts reply)
+is_moved (requests.Commit meta ts locks) reply = is_undecided_status reply && nat_lt ts (status_ts reply)
 is_moved _ reply = false
 
 -- A stage or commit of the open call was so moved.
@@ -119,6 +122,6 @@ pub record MayTellMoved (k : Known) (s : Statement) (ts : ℕ) : Type 0 where
   pub t : Txn
   pub opened : open_txn k ≡ Some t
   pub asked : s.call ≡ calls.Commit
-  pub eight : AtLeast (WasMoved k) 8 k.heard_now
+  pub eight : AtLeast (WasMoved k) MOST_REFUSALS k.heard_now
   pub last : LastIs (WasMoved k) (λ h. status_ts h.reply ≡ ts) k.heard_now
   pub uncommitted : IsUncommitted t.id k.sent k.heard
