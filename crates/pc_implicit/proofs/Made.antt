@@ -46,7 +46,7 @@ module _ (history : List (Entry Event)) (range : ℕ) (id : TxnId) (epoch ts : �
       subst (λ (s : Status). IsBacked history range id s.ts s.standing) same h.1
 
   module _ (p : Place) (X : Type 0) (old : decision p ≡ Some (status_of standings.Committed epoch ts) → X) where
-    -- A change that makes the record committed gives it.
+    -- A place_change that makes the record committed gives it.
     Gives : Change → Type 0
     Gives c = decision (after p c) ≡ Some (status_of standings.Committed epoch ts) → X
 

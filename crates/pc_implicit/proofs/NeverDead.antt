@@ -153,7 +153,7 @@ module _ (head : Head) where
       let there : sent.range ≡ range_of head.splits s.meta.anchor = goes_to head history run sent.send sent.listed sent.number sent.range (stage_request s) sent.sends in
       home_is head s.meta.id history a.anchor a.anchored ∙ ap (λ r. place_at head r s.meta.id history) (sym a.there ∙ there)
 
-module _ (head : Head) (front back : List (Entry Event)) (run : IsRun head (front ++ back)) (s : Stage) (c : CommitsBy head front s) where
+module _ (head : Head) (front back : List (Entry Event)) (run : IsRun head (front ++ back)) (s : SentStage) (c : CommitsBy head front s) where
   run-first : IsRun head front
   run-first = run_front head front back run
 

@@ -82,7 +82,7 @@ goes-on old x request status writes r is staging =
     StagedBefore old refl (status ∙ ap (λ (y : Record). y.status) same) (writes ∙ ap (λ (y : Record). y.writes) same)
 
 -- what it becomes stages as the request says
-becomes-stage : (p : Place) (x : Record) (s : Stage) → x.status.epoch ≡ s.meta.epoch → x.status.ts ≡ s.ts → x.writes ≡ s.writes → SaysFrom p (stage_request s) (Become x)
+becomes-stage : (p : Place) (x : Record) (s : SentStage) → x.status.epoch ≡ s.meta.epoch → x.status.ts ≡ s.ts → x.writes ≡ s.writes → SaysFrom p (stage_request s) (Become x)
 becomes-stage p x s epoch ts writes r is staging =
     let same : r ≡ x = let both : Kept x ≡ Kept r = is in sym (cc both) in
     StagedBy s refl (ap (λ (y : Record). y.status.epoch) same ∙ epoch) (ap (λ (y : Record). y.status.ts) same ∙ ts) (ap (λ (y : Record). y.writes) same ∙ writes)
@@ -120,7 +120,7 @@ from-remove id anchor (Kept r) = either (Kept r) (requests.Remove id anchor) (is
 from-remove id anchor (Marked s) = stays (Marked s) (requests.Remove id anchor)
 
 -- where a staging record comes from over a request
-pub staged_from : (request : Request) (p : Place) (r : Record) → after p (change request p) ≡ Kept r → r.status.standing ≡ standings.Staging → StagedFrom p request r
+pub staged_from : (request : Request) (p : Place) (r : Record) → after p (place_change request p) ≡ Kept r → r.status.standing ≡ standings.Staging → StagedFrom p request r
 staged_from (requests.Beat meta ts now) p = unless p (requests.Beat meta ts now) (beat meta ts now p) (from-beat meta ts now p)
 staged_from (requests.Stage meta ts now writes locks) p = unless p (requests.Stage meta ts now writes locks) (stage meta ts now writes locks p) (from-stage meta ts now writes locks p)
 staged_from (requests.Commit meta ts locks) p =

@@ -38,7 +38,7 @@ use Rattle.pc_world.specs.After.{known_at}
 use Rattle.pc_world.specs.Local.{Head}
 use Rattle.pc_world.specs.Run.{IsRun, protocol}
 use Rattle.pc_world.specs.Send.Recovery.{MaySendRecover}
-use Rattle.pc_world.specs.StageFate.{SentStage, stage_request}
+use Rattle.pc_world.specs.StageFate.{SentStage}
 
 pub replied_along : (front back history : List (Entry Event)) → front ++ back ≡ history → (request : Request) (reply : Reply) → WasReplied front request reply → WasReplied history request reply
 replied_along front back history whole request reply w = record {

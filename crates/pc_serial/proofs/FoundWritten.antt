@@ -102,7 +102,7 @@ module _ (head : Head) (history : List (Entry Event)) (run : IsRun head history)
         → IsOfBefore (operations_of history) (IsCommitted head history) key ts before (state_at head (range_of head.splits key) front).versions v
     of-before v there of_key seen =
         let still : Contains (state_at head (range_of head.splits key) history).versions v =
-        subst (λ vs. Contains vs v) (sym r.grows.whole) (Contains-append_left (state_at head (range_of head.splits key) front).versions r.grows.more v there) in
+        r.grows.kept v there in
         let early = versions_are_committed head front (range_of head.splits key) v run-front there in
         let now = versions_are_committed head history (range_of head.splits key) v run still in
         let low = r.low in
