@@ -19,6 +19,7 @@ pub mod Did
 pub mod Doing
 pub mod Doings
 pub mod Evals
+pub mod Ended
 pub mod EvaluatedAt
 pub mod Fates
 pub mod FinalMarks

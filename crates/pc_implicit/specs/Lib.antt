@@ -1,5 +1,6 @@
 pub mod Answers
 pub mod Decided
+pub mod Ends
 pub mod Laws
 pub mod Reads
 pub mod Replied
