@@ -1,5 +1,6 @@
 -- The write that made a transaction restart was told to its session, and a refresh met it.
 use Rattle.std.proofs.Common.{◌≡◌, ℕ, Bool, true, false, cond, if◌then◌else◌, inl, inr, List, [], ◌∷◌, ◌++◌, map, Option, None, Some, Any, Contains, refl, sym, ap, subst, ◌∙◌}
+use Rattle.std.proofs.lemmas.List.{append-nil, append_assoc}
 use Rattle.std.proofs.lemmas.List.Elements.{Contains-append_left, Contains-push}
 use Rattle.pc_base.specs.declared.actor.ActorId.{ActorId}
 use Rattle.pc_base.specs.declared.actor.ActorId.TheVariants as actors
@@ -124,6 +125,10 @@ restarted-more history e actor key ts w = record {
   span = w.span;
   refused = replied_more history e (requests.Refresh w.refresher w.from w.to w.span) (replies.Unrefreshed key ts) w.refused;
 }
+
+pub restarted_along : (front back : List (Entry Event)) (actor : ActorId) (key : List ℕ) (ts : ℕ) → WasRestarted front actor key ts → WasRestarted (front ++ back) actor key ts
+restarted_along front [] actor key ts w = subst (λ h. WasRestarted h actor key ts) (sym (append-nil front)) w
+restarted_along front (e ∷ es) actor key ts w = subst (λ h. WasRestarted h actor key ts) (append_assoc front (e ∷ []) es) (restarted_along (front ++ e ∷ []) es actor key ts (restarted-more front e actor key ts w))
 
 module _ (head : Head) where
   -- One more entry of the session.

@@ -3,12 +3,14 @@
 //! the law.
 #![tactic(auto)]
 
+mod causes;
 mod ends;
 mod laws;
 mod reads;
 mod staging;
 mod writes;
 
+pub use causes::aborts_have_causes;
 pub use ends::{aborted_never_commits, ended_never_commits, given_up_is_uncommitted};
 pub use laws::{
     bounds_stand, commit_points_differ, decisions_do_not_differ, decisions_stand, final_views_stay,
