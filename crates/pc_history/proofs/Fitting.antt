@@ -18,9 +18,9 @@ use Rattle.pc_history.specs.Parts.{knowledge, told_entries}
 use Rattle.pc_history.specs.Closed.{IsSound}
 use Rattle.pc_history.specs.Table.{Books, IsPart, FitsOpener, FitsActor, FitsNote, FitsAs, Fits, IsStepTable}
 use Rattle.pc_history.specs.Steps.{TellsLook}
-use Rattle.pc_history.proofs.Lists.{contains_in_map, all_from_contains}
 use Rattle.pc_history.proofs.Histories.{own-contains, fine-below, fine-one, fine-kept, stands-contains}
 use Rattle.pc_history.proofs.Counts.{history-bound}
+use Rattle.pc_lists.proofs.Lists.{all_from_contains, contains_in_map}
 
 module _ {W E : Type 0} (S : Sense E) (world : Option W) (history : List (Entry E)) (books : Books) where
   pub fits-opener : (seat : ℕ) (v : View W E) → v.role ≡ Opening → Fits S world history books seat v → FitsOpener S world history books seat v

@@ -10,19 +10,19 @@ use Rattle.pc_base.specs.declared.actor.ActorId.TheVariants as actors
 use Rattle.pc_base.specs.declared.entry.Entry.{Entry}
 use Rattle.pc_base.specs.declared.transaction.TxnId.{TxnId}
 use Rattle.pc_base.specs.Transaction.{same_txn}
-use Rattle.pc_history.proofs.Lists.{contains_head, contains_nil, contains_tail}
 use Rattle.pc_history.specs.History.{MayFollow}
 use Rattle.pc_implicit.proofs.Agreed.{Agrees, agreed, begun_at, begun_next, begun_told_in}
-use Rattle.pc_implicit.proofs.Anchored.{each_contained}
 use Rattle.pc_implicit.proofs.Clocks.{begun_above, high_grows, learnt_below}
 use Rattle.pc_implicit.proofs.Commits.{ByRecord, ByTell, act_of, decided_is_committed, heard_decided, tell_means, why_committed}
 use Rattle.pc_implicit.proofs.Doing.{Does}
 use Rattle.pc_implicit.proofs.Firsts.{first_push}
-use Rattle.pc_implicit.proofs.Keyed.{same-is, same-itself}
 use Rattle.pc_implicit.proofs.OwnSplit.{own_split}
 use Rattle.pc_implicit.proofs.Points.{or-first, told-what}
 use Rattle.pc_implicit.proofs.Recorded.{WasSent}
 use Rattle.pc_implicit.proofs.Sent.{unstaged_front, unstaged_induction}
+use Rattle.pc_lists.proofs.Each.{each-contains}
+use Rattle.pc_lists.proofs.Lists.{contains_head, contains_nil, contains_tail}
+use Rattle.pc_lists.proofs.Same.{same_txn-is, same_txn-self}
 use Rattle.pc_proto.specs.declared.answer.Answer.TheVariants as answers
 use Rattle.pc_proto.specs.declared.event.Event.{Event}
 use Rattle.pc_proto.specs.declared.event.Event.TheVariants as events
@@ -32,7 +32,7 @@ use Rattle.pc_world.proofs.Prefixes.{run_induction}
 use Rattle.pc_world.specs.After.{known_at}
 use Rattle.pc_world.specs.CommitOrder.{all_begun, begun_in}
 use Rattle.pc_world.specs.Committed.{IsCommitted, anchor_in, committed_in, key_sent, told_at}
-use Rattle.pc_world.specs.Known.{known}
+use Rattle.pc_world.specs.Known.{known_of}
 use Rattle.pc_world.specs.Legal.{BeganAfter, TellsBegun}
 use Rattle.pc_world.specs.Local.{Head}
 use Rattle.pc_world.specs.Run.{IsRun, protocol}
@@ -67,7 +67,7 @@ module _ (head : Head) where
       let next = begun_next head e.actor k id ts (subst (Does head e.actor k) is (act_of head history e may)) in
       let fresh = (agreed head history run e.actor).fresh id next.0 (omega (arith, next.1)) in
       first_push (λ x. begun_told_in id x.event) history e ∙ ap (λ o. option_or o (begun_told_in id e.event)) fresh.begin ∙ ap (begun_told_in id) is
-      ∙ ap (λ b. if b then Some ts else None) (same-itself id)
+      ∙ ap (λ b. if b then Some ts else None) (same_txn-self id)
 
   -- a transaction is told begun once
   pub begun_once : (history : List (Entry Event)) → IsRun head history → (e : Entry Event) → Contains history e → (id : TxnId) (ts : ℕ) → e.event ≡ events.Tell (answers.Begun id ts) → begun_at id history ≡ Some ts
@@ -112,7 +112,7 @@ module _ (head : Head) where
   says-above history run only all actor (events.Send number range (requests.Commit meta ts locks)) may =
       let k = known_at head actor history in
       let row = may.row in
-      let agrees : Agrees history row.t = each_contained (Agrees history) k.txns row.t (agreed head history run actor).agrees row.mine in
+      let agrees : Agrees history row.t = each-contains (Agrees history) k.txns row.t (agreed head history run actor).agrees row.mine in
       let same : row.t.id ≡ meta.id = ap (λ (m : TxnMeta). m.id) (sym row.whose.same) in
       let own : IsAbove history row.t.id ts = elim row.decided [
         | inl decides ↦ record { begin = row.t.begin; begun = agrees.begin; low = decides.good.begun }
@@ -160,14 +160,14 @@ module _ (head : Head) (history : List (Entry Event)) (run : IsRun head history)
   -- a transaction that began after its session knew of another's commit is committed above it
   pub committed_above : (id other : TxnId) (ts later : ℕ) → BeganAfter head history id other → IsCommitted head history id ts → IsCommitted head history other later → ts < later
   committed_above id other ts later b is also =
-      let learnt : ts ≤ (known (b.before ++ b.learning ∷ [])).high =
+      let learnt : ts ≤ (known_of (b.before ++ b.learning ∷ [])).high =
       learnt_below head history run other.session b.before b.learning (b.between ++ b.begin ∷ b.later)
       (b.whole ∙ append_assoc b.before (b.learning ∷ b.between) (b.begin ∷ b.later)) only id ts b.learns is in
       let upto = b.before ++ b.learning ∷ b.between in
-      let grown : (known (b.before ++ b.learning ∷ [])).high ≤ (known upto).high =
-      subst (λ es. (known (b.before ++ b.learning ∷ [])).high ≤ (known es).high) (append_assoc b.before (b.learning ∷ []) b.between) (high_grows (b.before ++ b.learning ∷ []) b.between) in
+      let grown : (known_of (b.before ++ b.learning ∷ [])).high ≤ (known_of upto).high =
+      subst (λ es. (known_of (b.before ++ b.learning ∷ [])).high ≤ (known_of es).high) (append_assoc b.before (b.learning ∷ []) b.between) (high_grows (b.before ++ b.learning ∷ []) b.between) in
       let told = tells-what other b.begin.entry.event b.begins in
-      let began : (known upto).high < told.0 = begun_above head history run other.session upto b.begin b.later b.whole other told.0 told.1 in
+      let began : (known_of upto).high < told.0 = begun_above head history run other.session upto b.begin b.later b.whole other told.0 told.1 in
       let s = own_split (protocol head) (actors.Session other.session) history upto b.begin b.later b.whole in
       let there : Contains history b.begin.entry =
       subst (λ h. Contains h b.begin.entry) (sym s.whole) (Contains-append_right s.front (b.begin.entry ∷ s.back) b.begin.entry (contains_head b.begin.entry s.back)) in
@@ -178,7 +178,7 @@ begun-what : (id : TxnId) (ts : ℕ) (event : Event) → begun_told_in id event 
 begun-what id ts (events.Tell (answers.Begun other at)) h = by (same_txn other id) refl h
   where
     by : (b : Bool) → same_txn other id ≡ b → (if b then Some at else None) ≡ Some ts → begun_in (events.Tell (answers.Begun other at)) ≡ Some id
-    by true same h = ap Some (same-is other id same)
+    by true same h = ap Some (same_txn-is other id same)
     by false same h = absurd cc
 begun-what id ts (events.Tell answer) h = absurd cc
 begun-what id ts event h = absurd cc

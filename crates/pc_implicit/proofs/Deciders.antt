@@ -9,10 +9,9 @@ use Rattle.pc_base.specs.declared.actor.ActorId.{ActorId}
 use Rattle.pc_base.specs.declared.actor.ActorId.TheVariants as actors
 use Rattle.pc_base.specs.declared.entry.Entry.{Entry}
 use Rattle.pc_base.specs.declared.transaction.TxnId.{TxnId}
-use Rattle.pc_history.proofs.Lists.{contains_head, contains_tail}
 use Rattle.pc_history.specs.History.{MayFollow}
 use Rattle.pc_implicit.proofs.Agreed.{Agrees, agreed, committed_row, open_there, owned}
-use Rattle.pc_implicit.proofs.Anchored.{commit_anchored, each_contained}
+use Rattle.pc_implicit.proofs.Anchored.{commit_anchored}
 use Rattle.pc_implicit.proofs.CommitCalls.{IsSettled, commit-asks, settled_along}
 use Rattle.pc_implicit.proofs.Commits.{IsDecided, act_of, decided_is_committed, heard_decided, none_staging, stays_committed, why_committed}
 use Rattle.pc_implicit.proofs.Commits.{ByRecord, ByTell as WhyTold}
@@ -32,6 +31,8 @@ use Rattle.pc_implicit.proofs.Runs.{decisions_stand}
 use Rattle.pc_implicit.proofs.Sent.{unstaged_front, unstaged_sent}
 use Rattle.pc_implicit.proofs.SessionCommits.{BySend, ByTell, IsDecidedBy, IsStill, written}
 use Rattle.pc_implicit.specs.Decided.{decision}
+use Rattle.pc_lists.proofs.Each.{each-contains}
+use Rattle.pc_lists.proofs.Lists.{contains_head, contains_tail}
 use Rattle.pc_proto.specs.declared.answer.Answer.{Answer}
 use Rattle.pc_proto.specs.declared.answer.Answer.TheVariants as answers
 use Rattle.pc_proto.specs.declared.call.Call.TheVariants as calls
@@ -44,9 +45,10 @@ use Rattle.pc_proto.specs.declared.reply.Reply.{Reply}
 use Rattle.pc_proto.specs.declared.request.Request.{Request}
 use Rattle.pc_proto.specs.declared.request.Request.TheVariants as requests
 use Rattle.pc_proto.specs.Place.{Place, Become, Stay, after, is_decided}
-use Rattle.pc_proto.specs.RecordRows.{change, subject}
+use Rattle.pc_proto.specs.RecordRows.{place_change}
 use Rattle.pc_proto.specs.RecordRows.Commit.{commit}
 use Rattle.pc_proto.specs.RecordRows.Reached.{activity_of, is_reached, status_of}
+use Rattle.pc_proto.specs.Requests.{subject}
 use Rattle.pc_proto.specs.Table.{place_of}
 use Rattle.pc_world.proofs.Knowing.{known_same, state_other}
 use Rattle.pc_world.proofs.Prefixes.{run_front, run_may}
@@ -141,7 +143,7 @@ module _ (head : Head) (front : List (Entry Event)) (e : Entry Event) (back : Li
       (λ about before changed.
       let what = made_by_commit front ev.range id d.epoch ts p ((meta : TxnMeta) × (at : ℕ) × (locks : List (List ℕ)) × (ev.request ≡ requests.Commit meta at locks)) (λ h. absurd (old h))
       (recorded head front run-front only-front ev.range id) ev.request (unstaged_sent front only-front ev.send ev.listed number ev.range ev.request ev.sends) (λ meta at locks asked. (meta, at, locks, asked)) changed in
-      let made = commit-makes what.0 what.1 what.2 d.epoch ts p old (is_decided p) (ap (λ q. decision (after p (change q p))) (sym what.3) ∙ changed) in
+      let made = commit-makes what.0 what.1 what.2 d.epoch ts p old (is_decided p) (ap (λ q. decision (after p (place_change q p))) (sym what.3) ∙ changed) in
       let named : ◌≡◌ {A = Option TxnId} (Some what.0.id) (Some id) = sym (ap subject what.3) ∙ about in
       record { meta = what.0; locks = what.2; asked = what.3 ∙ ap (λ t. requests.Commit what.0 t what.2) made.1; named = cc named; same_epoch = made.0 }) (λ h. absurd (old h)) after_is
 
@@ -205,7 +207,7 @@ module _ (head : Head) (front : List (Entry Event)) (e : Entry Event) (back : Li
     not-told actor t named mine may = elim may [
       | inl now ↦ now
       | inr told ↦
-          let agrees : Agrees before t = each_contained (Agrees before) (known_at head actor before).txns t (agreed head before run-sent actor).agrees mine in
+          let agrees : Agrees before t = each-contains (Agrees before) (known_at head actor before).txns t (agreed head before run-sent actor).agrees mine in
           let x = told-there t.id ts before (agrees.told ∙ told) in
           let is = told_committed head before run-sent only-sent x.0 x.1 t.id ts x.2 in
           absurd (not-earlier before (m.a ∷ later) whole ts (subst (λ i. IsCommitted head before i ts) named is))

@@ -8,7 +8,6 @@ use Rattle.pc_base.specs.declared.entry.Entry.{Entry}
 use Rattle.pc_base.specs.declared.transaction.TxnId.{TxnId}
 use Rattle.pc_base.specs.declared.transaction.Who.{Who}
 use Rattle.pc_base.specs.Span.{same_key}
-use Rattle.pc_history.proofs.Lists.{contains_nil}
 use Rattle.pc_history.specs.History.{MayFollow}
 use Rattle.pc_implicit.proofs.Anchored.{put_anchored}
 use Rattle.pc_implicit.proofs.Doing.{same_or_not}
@@ -27,6 +26,8 @@ use Rattle.pc_implicit.proofs.Written.{IsFoundNow, IsRepliedNow, IsWrittenNow, f
 use Rattle.pc_implicit.specs.Decided.{decision, time_of}
 use Rattle.pc_implicit.specs.Replied.{QueryFound, WasProven}
 use Rattle.pc_implicit.specs.Writes.{OwnStand, home_of, own_intent, txns_of, writes_at}
+use Rattle.pc_lists.proofs.Each.{each-weaker}
+use Rattle.pc_lists.proofs.Lists.{contains_nil}
 use Rattle.pc_proto.specs.declared.event.Event.{Event}
 use Rattle.pc_proto.specs.declared.event.Event.TheVariants as events
 use Rattle.pc_proto.specs.declared.fate.Fate.{Fate}
@@ -39,14 +40,13 @@ use Rattle.pc_proto.specs.declared.request.Request.{Request}
 use Rattle.pc_proto.specs.declared.request.Request.TheVariants as requests
 use Rattle.pc_proto.specs.Intents.{last_seq, own_at}
 use Rattle.pc_proto.specs.Place.{Place}
-use Rattle.pc_world.proofs.Each.{each-weaker}
 use Rattle.pc_world.proofs.Knowing.{known_other, state_other}
 use Rattle.pc_world.proofs.Prefixes.{run_induction}
 use Rattle.pc_world.specs.After.{known_at, state_at}
 use Rattle.pc_world.specs.Committed.{anchor_in}
 use Rattle.pc_world.specs.Evaluation.{intents_after, reply}
 use Rattle.pc_world.specs.Evaluation.Put.{laid, overtaken, write_ts}
-use Rattle.pc_world.specs.Evaluation.Query.{is_found, is_it, stands}
+use Rattle.pc_world.specs.Evaluation.Query.{is_found, is_it, write_stands}
 use Rattle.pc_world.specs.Known.{Known}
 use Rattle.pc_world.specs.Known.Transactions.{Txn}
 use Rattle.pc_world.specs.Known.Writes.{Write, is_proved, last_seq_of}
@@ -145,7 +145,7 @@ module _ (head : Head) (history : List (Entry Event)) (run : IsRun head history)
       let whole : writes_at key t.writes ≡ split.front ++ (seq, value) ∷ split.later = split.whole ∙ (λ i. split.front ++ (w.2 i, w.4 i) ∷ split.later) in
       laid_front t.epoch (writes_at key t.writes) meta seq at value (own_at t.id key s.intents) put.low (lays-all meta seq value put) split.front split.later whole (rise_at key 0 t.writes o.rise)
       (each-weaker (λ (x : Laid). P x.0) (λ x. (i : Intent) × (own_at t.id key s.intents ≡ Some i) × (i.meta.epoch ≡ t.epoch) × (x.0 ≤ last_seq i))
-      (λ x p. let r = holds.written none x.0 p.0 p.1 in let stands = r.2 in (r.0, r.1, stands.epoch_is, stands.has)) split.front split.before)
+      (λ x p. let r = holds.written none x.0 p.0 p.1 in let write_stands = r.2 in (r.0, r.1, write_stands.epoch_is, write_stands.has)) split.front split.before)
       (holds.front none) over now
 
   made-epoch : (meta : TxnMeta) (seq at : ℕ) (value : Option (List ℕ)) (own : Option Intent) → overtaken meta seq own ≡ false → meta.epoch ≤ t.epoch → (laid meta seq at value own).meta.epoch ≡ t.epoch → meta.epoch ≡ t.epoch
@@ -218,7 +218,7 @@ module _ (head : Head) (history : List (Entry Event)) (run : IsRun head history)
   -- a query finds the own intent
   found-in : (at seq ts : ℕ) (by : Who) → AnswersSo (requests.Query t.id at seq ts key by) replies.Found → (i : Intent) × (own_at t.id key s.intents ≡ Some i) × (is_it at seq ts i ≡ true)
   unfolding s
-  found-in at seq ts by a = elim-found (own_at t.id key s.intents) refl (is-found (stands t.id at seq ts key s) a.answer)
+  found-in at seq ts by a = elim-found (own_at t.id key s.intents) refl (is-found (write_stands t.id at seq ts key s) a.answer)
     where
       is-found : (b : Bool) → (if b then replies.Found else replies.Missing) ≡ replies.Found → b ≡ true
       is-found true h = refl

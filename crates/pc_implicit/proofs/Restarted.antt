@@ -7,10 +7,8 @@ use Rattle.pc_base.specs.declared.actor.ActorId.TheVariants as actors
 use Rattle.pc_base.specs.declared.entry.Entry.{Entry}
 use Rattle.pc_base.specs.declared.span.Span.{Span}
 use Rattle.pc_base.specs.declared.transaction.TxnId.{TxnId}
-use Rattle.pc_history.proofs.Lists.{contains_cons, contains_head, contains_nil, contains_tail}
 use Rattle.pc_history.specs.History.{MayFollow}
 use Rattle.pc_history.specs.Own.{named_in}
-use Rattle.pc_implicit.proofs.Anchored.{each_contained}
 use Rattle.pc_implicit.proofs.Commits.{act_of}
 use Rattle.pc_implicit.proofs.Doing.{Does, same_or_not, told_by_row}
 use Rattle.pc_implicit.proofs.Hearing.{IsSo, now_is_so}
@@ -18,6 +16,8 @@ use Rattle.pc_implicit.proofs.HeardViews.{replied_of}
 use Rattle.pc_implicit.proofs.Turns.{unmap}
 use Rattle.pc_implicit.proofs.Written.{replied_more}
 use Rattle.pc_implicit.specs.Restarts.{WasRestarted}
+use Rattle.pc_lists.proofs.Each.{each-contains}
+use Rattle.pc_lists.proofs.Lists.{contains_cons, contains_head, contains_nil, contains_tail}
 use Rattle.pc_proto.specs.declared.answer.Answer.{Answer}
 use Rattle.pc_proto.specs.declared.answer.Answer.TheVariants as answers
 use Rattle.pc_proto.specs.declared.event.Event.{Event}
@@ -30,17 +30,17 @@ use Rattle.pc_proto.specs.declared.request.Request.TheVariants as requests
 use Rattle.pc_proto.specs.Intents.{first_other}
 use Rattle.pc_proto.specs.Place.{Place, after, is_decided, view_of}
 use Rattle.pc_proto.specs.RecordRows.{push_reply}
-use Rattle.pc_proto.specs.RecordRows.Push.{Verdict, There, Refuse, Doubt, Do, push, verdict}
+use Rattle.pc_proto.specs.RecordRows.Push.{Verdict, There, Refuse, Doubt, Do, push, push_verdict}
 use Rattle.pc_proto.specs.Table.{place_of}
 use Rattle.pc_world.proofs.Knowing.{known_other, known_same}
 use Rattle.pc_world.proofs.Prefixes.{run_induction}
 use Rattle.pc_world.specs.After.{known_at, state_at}
 use Rattle.pc_world.specs.Evaluation.{reply}
 use Rattle.pc_world.specs.Evaluation.Get.{found_at, get_blocker, get_reply}
-use Rattle.pc_world.specs.Evaluation.Put.{PutOutcome, Lands, Meets, Stands, put_outcome, put_reply}
-use Rattle.pc_world.specs.Evaluation.Query.{stands}
+use Rattle.pc_world.specs.Evaluation.Put.{PutOutcome, Lands, Meets, Stands, outcome_of_put, put_reply}
+use Rattle.pc_world.specs.Evaluation.Query.{write_stands}
 use Rattle.pc_world.specs.Evaluation.Scan.{rows_in, scan_reply}
-use Rattle.pc_world.specs.Known.{Known, begun_by, told_first, txns_after, txns_told}
+use Rattle.pc_world.specs.Known.{Known, told_first, txn_begun, txns_after, txns_told}
 use Rattle.pc_world.specs.Known.Statements.{Statement}
 use Rattle.pc_world.specs.Known.Traffic.{Heard, heard_by, replies_to}
 use Rattle.pc_world.specs.Known.Transactions.{Txn, restart_told, txn_heard, txn_sent, txn_told}
@@ -87,7 +87,7 @@ refresh-only (requests.Scan id epoch seq ts span) s is = absurd (no (first_other
     no : (blocker : Option (List ℕ × Intent)) → true ≡ unrefreshes (scan_reply blocker (rows_in id epoch seq ts span s)) → ⊥
     no None h = cc h
     no (Some e) h = cc h
-refresh-only (requests.Put meta seq ts key value) s is = absurd (no (put_outcome meta seq ts key value s) (sym is))
+refresh-only (requests.Put meta seq ts key value) s is = absurd (no (outcome_of_put meta seq ts key value s) (sym is))
   where
     no : (o : PutOutcome) → true ≡ unrefreshes (put_reply key o) → ⊥
     no (Meets i) h = cc h
@@ -95,10 +95,10 @@ refresh-only (requests.Put meta seq ts key value) s is = absurd (no (put_outcome
     no (Lands i) h = cc h
 refresh-only (requests.Refresh id from to span) s is = record { id = id; from = from; to = to; span = span; is = refl }
 refresh-only (requests.Query id epoch seq ts key by) s is =
-    let both : false ≡ true = sym (either-not (stands id epoch seq ts key s) replies.Found replies.Missing refl refl) ∙ is in absurd (cc both)
+    let both : false ≡ true = sym (either-not (write_stands id epoch seq ts key s) replies.Found replies.Missing refl refl) ∙ is in absurd (cc both)
 refresh-only (requests.Push holder by level now goal) s is =
     let p = place_of holder.id s.table in
-    let v = verdict holder level now goal p in
+    let v = push_verdict holder level now goal p in
     let both : false ≡ true =
     sym (either-not (is_decided p) (replies.Status (view_of p)) (push_reply v p (after p (push holder by level now goal p))) refl (pushed-not v p (after p (push holder by level now goal p)))) ∙ is in
     absurd (cc both)
@@ -183,12 +183,12 @@ module _ (head : Head) where
     tell-later : (answer : Answer) → e.event ≡ events.Tell answer → Does head e.actor k (events.Tell answer) → (u : Txn) → Contains (txns_told answer k) u → Later u
     unfolding Later
     tell-later (answers.Begun id ts) is may u there =
-        elim (contains_cons (begun_by k.statement id ts) k.txns u there) [
+        elim (contains_cons (txn_begun k.statement id ts) k.txns u there) [
           | inl same ↦ λ key at restarted. absurd (new k.statement key at (ap (λ (x : Txn). x.restart) same ∙ restarted))
           | inr old ↦ as-before u u old refl
         ]
       where
-        new : (s : Option Statement) (key : List ℕ) (at : ℕ) → (begun_by s id ts).restart ≡ Some (key, at) → ⊥
+        new : (s : Option Statement) (key : List ℕ) (at : ℕ) → (txn_begun s id ts).restart ≡ Some (key, at) → ⊥
         new None key at h = cc h
         new (Some s) key at h = cc h
     tell-later answer is may u there = by k.is_open k.txns refl there
@@ -221,7 +221,7 @@ module _ (head : Head) where
             let k = known_at head e.actor history in
             subst (λ a. IsSoRestarted (history ++ e ∷ []) a u) same
             (event-later history run e k
-            (λ P some. let (n, h, inside, at, p) = some in (h, each_contained (IsSo head history e.actor) k.heard_now h (now_is_so head history run e.actor) (n, inside, at), p))
+            (λ P some. let (n, h, inside, at, p) = some in (h, each-contains (IsSo head history e.actor) k.heard_now h (now_is_so head history run e.actor) (n, inside, at), p))
             (all e.actor) e.event refl (act_of head history e may)
             (heard_by e.event (named_in (protocol head) history e.event) k.sent) u
             (subst (λ (l : Known). Contains l.txns u) (known_same head e.actor history e refl) (subst (λ a. Contains (known_at head a (history ++ e ∷ [])).txns u) (sym same) there)))

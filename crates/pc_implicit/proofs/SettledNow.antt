@@ -8,13 +8,10 @@ use Rattle.pc_base.specs.declared.actor.ActorId.TheVariants as actors
 use Rattle.pc_base.specs.declared.entry.Entry.{Entry}
 use Rattle.pc_base.specs.declared.transaction.TxnId.{TxnId}
 use Rattle.pc_base.specs.Span.{same_key}
-use Rattle.pc_history.proofs.Lists.{contains_cons, contains_head, contains_nil, contains_tail}
-use Rattle.pc_implicit.proofs.Anchored.{each_contained}
 use Rattle.pc_implicit.proofs.CommitPoint.{DecidesNow}
 use Rattle.pc_implicit.proofs.CommitsSent.{IsBeyond, IsInForce, IsOver, IsPassed, commits_sent}
 use Rattle.pc_implicit.proofs.Doing.{same_or_not}
 use Rattle.pc_implicit.proofs.Evals.{NamedMessage}
-use Rattle.pc_implicit.proofs.IntentKeys.{same_key-is}
 use Rattle.pc_implicit.proofs.OwnLaid.{HasFront, StandsIn}
 use Rattle.pc_implicit.proofs.OwnStanding.{own_hold}
 use Rattle.pc_implicit.proofs.PutsSent.{AreAnswers, orderly}
@@ -24,7 +21,10 @@ use Rattle.pc_implicit.proofs.Turns.{not_session}
 use Rattle.pc_implicit.proofs.WriteLists.{Laid, RiseAt, left_over, rise_at, rise_last}
 use Rattle.pc_implicit.specs.Decided.{decision, epoch_of, time_of}
 use Rattle.pc_implicit.specs.Replied.{WasProven}
-use Rattle.pc_implicit.specs.Writes.{IsWholeBy, StandsBy, home_of, own_intent, txns_of, writes_at}
+use Rattle.pc_implicit.specs.Writes.{IsWholeBy, LastWriteStands, home_of, own_intent, txns_of, writes_at}
+use Rattle.pc_lists.proofs.Each.{each-contains}
+use Rattle.pc_lists.proofs.Lists.{contains_cons, contains_head, contains_nil, contains_tail}
+use Rattle.pc_lists.proofs.Same.{same_key-is}
 use Rattle.pc_proto.specs.declared.event.Event.{Event}
 use Rattle.pc_proto.specs.declared.event.Event.TheVariants as events
 use Rattle.pc_proto.specs.declared.meta.TxnMeta.{TxnMeta}
@@ -43,7 +43,7 @@ use Rattle.pc_world.specs.Local.{Head}
 use Rattle.pc_world.specs.RangeOf.{range_of}
 use Rattle.pc_world.specs.RangeState.{RangeState}
 use Rattle.pc_world.specs.Run.{IsRun}
-use Rattle.pc_world.specs.StageFate.{Stage}
+use Rattle.pc_world.specs.StageFate.{SentStage}
 
 -- A commit of the transaction, at this epoch and timestamp, was sent.
 pub record WasAsked (history : List (Entry Event)) (id : TxnId) (epoch ts : ℕ) : Type 0 where
@@ -60,11 +60,11 @@ pub record WasAsked (history : List (Entry Event)) (id : TxnId) (epoch ts : ℕ)
 -- What the transaction wrote at the keys stands at this timestamp.
 abbrev pub AllWritesStand : Head → List (Entry Event) → Txn → ℕ → Type 0
 AllWritesStand head history t ts =
-    (key : List ℕ) (front : List Laid) (seq : ℕ) (value : Option (List ℕ)) → writes_at key t.writes ≡ front ++ (seq, value) ∷ [] → StandsBy head history t key value ts
+    (key : List ℕ) (front : List Laid) (seq : ℕ) (value : Option (List ℕ)) → writes_at key t.writes ≡ front ++ (seq, value) ∷ [] → LastWriteStands head history t key value ts
 
 -- The stage by which the transaction is committed, at this epoch and timestamp.
 pub record IsImplied (head : Head) (history : List (Entry Event)) (id : TxnId) (epoch ts : ℕ) : Type 0 where
-  pub stage : Stage
+  pub stage : SentStage
   pub commits : CommitsBy head history stage
   pub whose : stage.meta.id ≡ id
   pub epoch_is : stage.meta.epoch ≡ epoch
@@ -139,7 +139,7 @@ module _ (head : Head) (history : List (Entry Event)) (run : IsRun head history)
   whole_if_proved key front seq value is w inside at_key of_seq by =
       let low : by.1 ≤ ts = by.4 in
       let o = orderly head history run (actors.Session t.id.session) t known in
-      let proof : WasProven history t.id t.epoch w.key w.seq by.1 = each_contained (AreAnswers history t.id t.epoch) t.writes w o.answers inside by.1 (by.0, by.2, by.3) in
+      let proof : WasProven history t.id t.epoch w.key w.seq by.1 = each-contains (AreAnswers history t.id t.epoch) t.writes w o.answers inside by.1 (by.0, by.2, by.3) in
       let proven : WasProven history t.id t.epoch key seq by.1 =
       subst (λ n. WasProven history t.id t.epoch key n by.1) of_seq (subst (λ k. WasProven history t.id t.epoch k w.seq by.1) at_key proof) in
       let r = (own_hold head history run t known key).written none seq by.1 proven in
@@ -212,7 +212,7 @@ module _ (head : Head) (history : List (Entry Event)) (run : IsRun head history)
       let undecided : decision (home_of head t.id history) ≡ None = subst (λ i. decision (home_of head i history) ≡ None) (sym same) none in
       let ts_low : time_of (home_of head t.id history) ≤ ts = subst (λ i. time_of (home_of head i history) ≤ ts) (sym same) now.ts_low in
       let w = last_at key t.writes front seq value is in
-      whole_if_proved head history run t own undecided ts ts_low key front seq value is w.0 w.1 w.2 w.3 (each_contained (IsProvedBy ts) t.writes w.0 (in-force t known same).1 w.1)
+      whole_if_proved head history run t own undecided ts ts_low key front seq value is w.0 w.1 w.2 w.3 (each-contains (IsProvedBy ts) t.writes w.0 (in-force t known same).1 w.1)
 
   -- it is settled by the entry
   pub settled_now : IsSettled head (history ++ e ∷ []) id epoch ts

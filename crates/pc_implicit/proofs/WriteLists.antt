@@ -7,11 +7,11 @@ use Rattle.std.specs.List.{AllByRecursion as Each, list_any}
 use Rattle.std.specs.Option.{option_map}
 use Rattle.std.specs.Prelude.{⊤}
 use Rattle.pc_base.specs.Span.{same_key}
-use Rattle.pc_history.proofs.Lists.{contains_cons, contains_head, contains_nil, contains_tail}
-use Rattle.pc_implicit.proofs.IntentKeys.{same_key-equal, same_key-is}
 use Rattle.pc_implicit.specs.Writes.{writes_at}
+use Rattle.pc_lists.proofs.Each.{each-back}
+use Rattle.pc_lists.proofs.Lists.{contains_cons, contains_head, contains_nil, contains_tail}
+use Rattle.pc_lists.proofs.Same.{same_key-equal, same_key-is}
 use Rattle.pc_proto.specs.Intents.{later_write}
-use Rattle.pc_world.proofs.Each.{each-back}
 use Rattle.pc_world.specs.Known.Writes.{Write, is_proved, last_seq_of}
 
 -- A value, or a deletion, under its sequence.

@@ -49,7 +49,7 @@ pub record IsFrontOf (t : Txn) (key : List ℕ) (i : Intent) : Type 0 where
 
 -- The write stands as an intent of the epoch; while it is the intent's last one, that lies no higher than where it was written or
 -- where the transaction's record has gone.
-pub record StandsAs (t : Txn) (home : Place) (seq ts : ℕ) (i : Intent) : Type 0 where
+pub record StandsAsIntent (t : Txn) (home : Place) (seq ts : ℕ) (i : Intent) : Type 0 where
   pub epoch : i.meta.epoch ≡ t.epoch
   pub has : seq ≤ last_seq i
   pub low : last_seq i ≤ seq → i.ts ≤ max ts (time_of home)
@@ -61,7 +61,7 @@ pub record OwnStand (head : Head) (history : List (Entry Event)) (t : Txn) (key 
   pub front : decision (home_of head t.id history) ≡ None → (i : Intent) → own_intent head t.id key history ≡ Some i → i.meta.epoch ≡ t.epoch
       → IsFrontOf t key i
   pub written : decision (home_of head t.id history) ≡ None → (seq ts : ℕ) → WasProven history t.id t.epoch key seq ts
-      → (i : Intent) × (own_intent head t.id key history ≡ Some i) × StandsAs t (home_of head t.id history) seq ts i
+      → (i : Intent) × (own_intent head t.id key history ≡ Some i) × StandsAsIntent t (home_of head t.id history) seq ts i
 
 -- What a transaction wrote in its epoch stands in its intents while it is not decided.
 abbrev pub OwnIntentsStand : Type 0
@@ -84,8 +84,8 @@ pub record IsWholeBy (t : Txn) (key : List ℕ) (ts : ℕ) (i : Intent) : Type 0
 
 -- The transaction's last write at the key stands as a version at this timestamp, or all its writes there as an intent that is not
 -- above it.
-abbrev pub StandsBy : Head → List (Entry Event) → Txn → List ℕ → Option (List ℕ) → ℕ → Type 0
-StandsBy head history t key value ts =
+abbrev pub LastWriteStands : Head → List (Entry Event) → Txn → List ℕ → Option (List ℕ) → ℕ → Type 0
+LastWriteStands head history t key value ts =
     Contains (state_at head (range_of head.splits key) history).versions (record { key = key; ts = ts; id = t.id; value = value })
     ⊎ ((i : Intent) × (own_intent head t.id key history ≡ Some i) × IsWholeBy t key ts i)
 
@@ -95,7 +95,7 @@ WritesOfCommitted =
     (head : Head) (history : List (Entry Event)) (t : Txn) (ts : ℕ) (key : List ℕ)
     (front : List (ℕ × Option (List ℕ))) (seq : ℕ) (value : Option (List ℕ))
     → IsRun head history → Contains (txns_of head t.id history) t → IsCommitted head history t.id ts
-    → writes_at key t.writes ≡ front ++ (seq, value) ∷ [] → StandsBy head history t key value ts
+    → writes_at key t.writes ≡ front ++ (seq, value) ∷ [] → LastWriteStands head history t key value ts
 
 -- The version is the last write at its key of a transaction that is committed at its timestamp, in the key's range.
 pub record IsOfCommitted (head : Head) (history : List (Entry Event)) (range : ℕ) (v : Version) : Type 0 where

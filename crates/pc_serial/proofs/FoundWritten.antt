@@ -8,7 +8,6 @@ use Rattle.pc_base.specs.declared.transaction.TxnId.{TxnId}
 use Rattle.pc_base.specs.declared.version.Version.{Version}
 use Rattle.pc_base.specs.Span.{contains}
 use Rattle.pc_base.specs.Versions.{visible}
-use Rattle.pc_history.proofs.Lists.{contains_head}
 use Rattle.pc_implicit.proofs.Begins.{committed_was_begun}
 use Rattle.pc_implicit.proofs.Deciders.{decided_by}
 use Rattle.pc_implicit.proofs.Fronts.{front_same}
@@ -22,10 +21,11 @@ use Rattle.pc_implicit.proofs.SettledVersions.{versions_are_committed}
 use Rattle.pc_implicit.specs.Decided.{decision}
 use Rattle.pc_implicit.specs.Reads.{GrowsAbove}
 use Rattle.pc_implicit.specs.Writes.{IsWholeBy, home_of, own_intent, txns_of, writes_at}
+use Rattle.pc_lists.proofs.Each.{each-contains}
+use Rattle.pc_lists.proofs.Lists.{contains_head}
 use Rattle.pc_proto.specs.declared.event.Event.{Event}
 use Rattle.pc_proto.specs.declared.record.Intent.{Intent}
 use Rattle.pc_serial.proofs.GoodReads.{IsClearTo}
-use Rattle.pc_serial.proofs.InOrder.{each-contains}
 use Rattle.pc_serial.proofs.Laid.{RisesFrom, laid, laid-append, laid-last, last-laid, rises-front}
 use Rattle.pc_serial.proofs.Order.{PointsDiffer}
 use Rattle.pc_serial.proofs.OwnDone.{done-rises, laid-is, own-says, own-silent}

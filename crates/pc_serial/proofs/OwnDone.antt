@@ -4,7 +4,6 @@ use Rattle.std.proofs.lemmas.List.Elements.{Contains-append_left, Contains-appen
 use Rattle.std.specs.List.{AllByRecursion as Each}
 use Rattle.pc_base.specs.declared.entry.Entry.{Entry}
 use Rattle.pc_base.specs.declared.transaction.TxnId.{TxnId}
-use Rattle.pc_history.proofs.Lists.{contains_head}
 use Rattle.pc_implicit.proofs.Did.{writes_are_done}
 use Rattle.pc_implicit.proofs.OwnStanding.{own_intents_stand}
 use Rattle.pc_implicit.proofs.SessionCommits.{written as write_of}
@@ -12,6 +11,7 @@ use Rattle.pc_implicit.proofs.SessionReads.{ByPut, ByQuery, HadDone, WasEvaluate
 use Rattle.pc_implicit.specs.Decided.{decision}
 use Rattle.pc_implicit.specs.Replied.{WasProven, WasReplied}
 use Rattle.pc_implicit.specs.Writes.{OwnStand, home_of, own_intent, txns_of, writes_at}
+use Rattle.pc_lists.proofs.Lists.{contains_head}
 use Rattle.pc_proto.specs.declared.event.Event.{Event}
 use Rattle.pc_proto.specs.declared.event.Event.TheVariants as events
 use Rattle.pc_proto.specs.declared.record.Intent.{Intent}
