@@ -1,5 +1,6 @@
 -- What is so of some element of a list.
-use Rattle.std.proofs.Common.{zero, suc, List, [], ◌∷◌, ◌++◌, Any, refl, sym, subst, arith}
+use Rattle.std.proofs.Common.{zero, suc, All, List, [], ◌∷◌, ◌++◌, Any, refl, sym, subst, arith}
+use Rattle.std.proofs.lemmas.List.Elements.{All-head, All-tail}
 
 module _ {X : Type 0} (P : X → Type 0) where
   pub any_head : (x : X) (xs : List X) → P x → Any P (x ∷ xs)
@@ -27,3 +28,10 @@ module _ {X : Type 0} (P : X → Type 0) where
   module _ (Q : X → Type 0) (on : (x : X) → P x → Q x) where
     pub any_weaker : (xs : List X) → Any P xs → Any Q xs
     any_weaker xs (k, x, there, is, h) = (k, x, there, is, on x h)
+
+module _ {X : Type 0} (P Q : X → Type 0) where
+  -- one that is so where all are that
+  pub any_of : (xs : List X) → All P xs → Any Q xs → (x : X) × P x × Q x
+  any_of [] a (k, x, there, is, h) = absurd (omega arith)
+  any_of (y ∷ xs) a (zero, x, there, is, h) = (y, All-head P y xs a, subst Q (sym is) h)
+  any_of (y ∷ xs) a (suc k, x, there, is, h) = any_of xs (All-tail P y xs a) (k, x, omega arith, is, h)

@@ -1,8 +1,13 @@
 -- What is so of each element of a list, through the functions that make lists and search them.
-use Rattle.std.proofs.Common.{Bool, true, false, cond, not, List, [], ◌∷◌, ◌++◌, map, filter, find, fold, filter_map, Option, None, Some, IfSome}
+use Rattle.std.proofs.Common.{Bool, inl, inr, subst, true, false, cond, not, Contains, List, [], ◌∷◌, ◌++◌, map, filter, find, fold, filter_map, Option, None, Some, IfSome}
 use Rattle.std.specs.List.{AllByRecursion as Each, cons_option, flat_map}
 use Rattle.std.specs.Option.{option_map}
-use Rattle.pc_base.specs.Keyed.{at, set_at, without}
+use Rattle.std.specs.BTreeMap.{insert_entry}
+use Rattle.std.specs.declared.cmp.Ordering.{Ordering}
+use Rattle.std.specs.declared.cmp.Ordering.TheVariants.{Less, Equal, Greater}
+use Rattle.std.specs.Ordering.{match_ordering}
+use Rattle.pc_base.specs.Keyed.{at, without}
+use Rattle.pc_lists.proofs.Lists.{contains_cons, contains_nil}
 
 module _ {X : Type 0} (P : X → Type 0) where
   pub each-append : (xs ys : List X) → Each P xs → Each P ys → Each P (xs ++ ys)
@@ -79,13 +84,25 @@ module _ {K V : Type 0} (P : V → Type 0) (same : K → K → Bool) where
   each-at key entries a =
       some-map P (λ (e : K × V). e.1) (find (λ e. same e.0 key) entries) (each-find (λ e. P e.1) (λ e. same e.0 key) entries a)
 
-  put_when : (b : Bool) (key : K) (value : V) (e : K × V) (es later : List (K × V)) → P value → P e.1 → Each (λ e. P e.1) es → Each (λ e. P e.1) later → Each (λ e. P e.1) (cond b ((e.0, value) ∷ es) (e ∷ later))
-  put_when true key value e es later h he a b = (h, a)
-  put_when false key value e es later h he a b = (he, b)
-
-  pub each-set_at : (key : K) (value : V) (entries : List (K × V)) → P value → Each (λ e. P e.1) entries → Each (λ e. P e.1) (set_at same key value entries)
-  each-set_at key value [] h a = (h, tt)
-  each-set_at key value (e ∷ es) h a = put_when (same e.0 key) key value e es (set_at same key value es) h a.0 a.1 (each-set_at key value es h a.1)
-
   pub each-without : (key : K) (entries : List (K × V)) → Each (λ e. P e.1) entries → Each (λ e. P e.1) (without same key entries)
   each-without key entries a = each-filter (λ e. P e.1) (λ e. not (same e.0 key)) entries a
+
+module _ {K V : Type 0} (P : V → Type 0) (cmp : K → K → Ordering) where
+  pub each-insert : (key : K) (value : V) (entries : List (K × V)) → P value → Each (λ e. P e.1) entries → Each (λ e. P e.1) (insert_entry cmp entries key value)
+  each-insert key value [] h a = (h, tt)
+  each-insert key value (e ∷ es) h a = by (cmp key e.0) (each-insert key value es h a.1)
+    where
+      by : (o : Ordering) → Each (λ e. P e.1) (insert_entry cmp es key value) → Each (λ e. P e.1) (match_ordering o ((key, value) ∷ e ∷ es) ((e.0, value) ∷ es) (e ∷ insert_entry cmp es key value))
+      by Less rest = (h, a)
+      by Equal rest = (h, a.1)
+      by Greater rest = (a.0, rest)
+
+pub each-contains : {X : Type 0} (P : X → Type 0) (xs : List X) (x : X) → Each P xs → Contains xs x → P x
+each-contains P [] x a c = absurd (contains_nil x c)
+each-contains P (y ∷ ys) x a c =
+    elim (contains_cons y ys x c) [ inl same ↦ subst P same a.0 | inr later ↦ each-contains P ys x a.1 later ]
+
+-- What is so of each one for two reasons.
+pub each-both : {X : Type 0} (P Q S : X → Type 0) → ((x : X) → P x → Q x → S x) → (xs : List X) → Each P xs → Each Q xs → Each S xs
+each-both P Q S on [] a b = tt
+each-both P Q S on (x ∷ xs) a b = (on x a.0 b.0, each-both P Q S on xs a.1 b.1)
