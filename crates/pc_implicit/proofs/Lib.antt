@@ -21,6 +21,7 @@ pub mod Did
 pub mod Doing
 pub mod Doings
 pub mod Evals
+pub mod Ended
 pub mod EvaluatedAt
 pub mod Fates
 pub mod FinalMarks
@@ -73,6 +74,7 @@ pub mod Reading
 pub mod ReadsComeFrom
 pub mod Recorded
 pub mod Recovered
+pub mod Restarted
 pub mod Refusals
 pub mod RepliedAt
 pub mod RisingVersions

@@ -1,9 +1,11 @@
 pub mod Answers
 pub mod Causes
 pub mod Decided
+pub mod Ends
 pub mod Laws
 pub mod Reads
 pub mod Replied
+pub mod Restarts
 pub mod Stages
 pub mod Staging
 pub mod Versions
