@@ -3,6 +3,7 @@ pub mod Agreed
 pub mod Anchored
 pub mod Answering
 pub mod Asked
+pub mod Because
 pub mod Begins
 pub mod Bounds
 pub mod Clocks
@@ -21,6 +22,7 @@ pub mod Fates
 pub mod FinalMarks
 pub mod Firsts
 pub mod Forward
+pub mod FoundThere
 pub mod Fronts
 pub mod HeardAt
 pub mod HeardViews
@@ -82,6 +84,7 @@ pub mod StagesLast
 pub mod StagesOpen
 pub mod StagesRefuted
 pub mod StagesSent
+pub mod StaysOrRefuted
 pub mod Turns
 pub mod VersionSearches
 pub mod VersionSteps
