@@ -22,6 +22,10 @@ pub mod Fates
 pub mod FinalMarks
 pub mod Firsts
 pub mod Forward
+pub mod Given
+pub mod NoProofBeside
+pub mod StaysOrRefuted
+pub mod ImplicitStands
 pub mod FoundThere
 pub mod Fronts
 pub mod HeardAt
@@ -38,6 +42,7 @@ pub mod Lift
 pub mod Made
 pub mod MetaRows
 pub mod Metas
+pub mod NeverDead
 pub mod Missing
 pub mod Moves
 pub mod NeverDead
