@@ -1,5 +1,5 @@
 -- Why a transaction is committed: its record or mark says so, its record stages and every listed write is present, or it was told so.
-use Rattle.std.proofs.Common.{◌≡◌, ℕ, Bool, true, false, if◌then◌else◌, List, [], ◌∷◌, ◌++◌, Option, None, Some, Contains, refl, sym, ap, subst, ◌∙◌}
+use Rattle.std.proofs.Common.{◌≡◌, ℕ, Bool, true, false, if◌then◌else◌, List, Option, None, Some, Contains, refl, sym, ap, subst, ◌∙◌}
 use Rattle.std.proofs.lemmas.List.Elements.{All-contains}
 use Rattle.std.proofs.lemmas.List.Sums.{AllPass-from_list_all, list_all-from_AllPass}
 use Rattle.std.specs.List.{list_all}
@@ -11,7 +11,6 @@ use Rattle.pc_implicit.proofs.Homes.{home_is}
 use Rattle.pc_implicit.proofs.StagedAs.{staged_as}
 use Rattle.pc_implicit.proofs.StageWords.{ByDecision, ByStaging, ByTelling, CommitsBy, IsBecause, StagesAs}
 use Rattle.pc_implicit.specs.Decided.{decision}
-use Rattle.pc_implicit.specs.Stages.{IsThere}
 use Rattle.pc_implicit.specs.Writes.{home_of}
 use Rattle.pc_proto.specs.declared.event.Event.{Event}
 use Rattle.pc_proto.specs.declared.record.Record.{Record}

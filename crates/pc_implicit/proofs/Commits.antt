@@ -159,15 +159,19 @@ module _ (head : Head) where
     decided = decisions_stand head (range_of head.splits d.anchor) id history (e ∷ []) (status_of standings.Committed d.epoch ts) d.decided;
   }
 
+  -- a transaction without an anchor that was told committed stays so over one more entry
+  pub told_stays : (history : List (Entry Event)) (e : Entry Event) → IsRun head history → MayFollow (protocol head) history e → (id : TxnId) (ts : ℕ) → anchor_in id history ≡ None → told_at id history ≡ Some ts → IsCommitted head (history ++ e ∷ []) id ts
+  told_stays history e run may id ts none told =
+      let quiet : key_sent id e.event ≡ None = no-put head history e.actor (known_at head e.actor history) e.event id ts (agreed head history run e.actor) (act_of head history e may) none told in
+      let still : anchor_in id (history ++ e ∷ []) ≡ None = first_push (λ x. key_sent id x.event) history e ∙ ap (λ o. option_or o (key_sent id e.event)) none ∙ quiet in
+      ap (commit_at head (history ++ e ∷ []) id) still ∙ first_push (λ x. committed_in id x.event) history e ∙ ap (λ o. option_or o (committed_in id e.event)) told
+
   -- what is committed stays so over one more entry
   pub stays_push : (history : List (Entry Event)) (e : Entry Event) → IsRun head history → NothingIsStaged history → MayFollow (protocol head) history e → (id : TxnId) (ts : ℕ) → IsCommitted head history id ts → IsCommitted head (history ++ e ∷ []) id ts
   stays_push history e run only may id ts is =
       elim (why_committed head history run only id ts is) [
         | ByRecord d sent ↦ decided_is_committed head (history ++ e ∷ []) id ts (decided-more history e id ts d)
-        | ByTell none told ↦
-            let quiet : key_sent id e.event ≡ None = no-put head history e.actor (known_at head e.actor history) e.event id ts (agreed head history run e.actor) (act_of head history e may) none told in
-            let still : anchor_in id (history ++ e ∷ []) ≡ None = first_push (λ x. key_sent id x.event) history e ∙ ap (λ o. option_or o (key_sent id e.event)) none ∙ quiet in
-            ap (commit_at head (history ++ e ∷ []) id) still ∙ first_push (λ x. committed_in id x.event) history e ∙ ap (λ o. option_or o (committed_in id e.event)) told
+        | ByTell none told ↦ told_stays history e run may id ts none told
       ]
 
   stays-along : (front middle : List (Entry Event)) → IsRun head front → NothingIsStaged (front ++ middle) → IsFineAfter (protocol head) front middle → (id : TxnId) (ts : ℕ) → IsCommitted head front id ts → IsCommitted head (front ++ middle) id ts

@@ -12,6 +12,7 @@ pub mod CommitCalls
 pub mod CommitPoint
 pub mod Commits
 pub mod CommitsSent
+pub mod CommitsStay
 pub mod Deciders
 pub mod Did
 pub mod Doing
@@ -67,6 +68,7 @@ pub mod ReadSteps
 pub mod Reading
 pub mod ReadsComeFrom
 pub mod Recorded
+pub mod Recovered
 pub mod Refusals
 pub mod RepliedAt
 pub mod RisingVersions

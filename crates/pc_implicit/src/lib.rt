@@ -14,7 +14,9 @@ pub use laws::{
     replies_are_of_their_kind, views_stay_true,
 };
 pub use reads::{reads_stand, refreshes_stand, versions_rise};
-pub use staging::{missing_stays, staged_writes_stay, written_stays};
+pub use staging::{
+    commits_stay, missing_stays, recoveries_agree, staged_writes_stay, written_stays,
+};
 pub use writes::{
     own_intents_stand, proofs_were_written, versions_are_committed, writes_of_committed,
 };
