@@ -53,12 +53,13 @@ use Rattle.pc_implicit.proofs.CommitPoint.{ByCommit, ByRecovery, DecidesNow, dec
 use Rattle.pc_implicit.proofs.Commits.{act_of}
 use Rattle.pc_implicit.proofs.CommitsSent.{decided_or_not}
 use Rattle.pc_implicit.proofs.FirstStages.{dead_along, first_staged}
-use Rattle.pc_implicit.proofs.Given.{commits_stay, never_dead, recoveries_agree}
+use Rattle.pc_implicit.proofs.CommitsStay.{commits_stay}
+use Rattle.pc_implicit.proofs.Recovered.{recoveries_agree}
 use Rattle.pc_implicit.proofs.GivenDeciders.{told_committed}
 use Rattle.pc_implicit.proofs.HeardViews.{heard_decides, so_of}
 use Rattle.pc_implicit.proofs.Homes.{home_commits, home_is, home_on}
 use Rattle.pc_implicit.proofs.Metas.{subject_anchored}
-use Rattle.pc_implicit.proofs.NeverDead.{home_along}
+use Rattle.pc_implicit.proofs.NeverDead.{home_along, never_dead}
 use Rattle.pc_implicit.proofs.Points.{or-first, point_of, told-what}
 use Rattle.pc_implicit.proofs.Settled.{answers-commit}
 use Rattle.pc_implicit.proofs.SessionCommits.{BySend, ByStage, ByTell, Decides, IsDecidedBy, IsStill, written}

@@ -60,6 +60,7 @@ pub mod Places
 pub mod Points
 pub mod Presence
 pub mod ProofsHeard
+pub mod ProofsNow
 pub mod PutsDone
 pub mod PutsSent
 pub mod ReadAt
