@@ -10,6 +10,7 @@ pub mod Clocks
 pub mod ClosedBounds
 pub mod CommitCalls
 pub mod CommitPoint
+pub mod CommitPoints
 pub mod Commits
 pub mod CommitsSent
 pub mod CommitsStay
@@ -48,6 +49,7 @@ pub mod Moves
 pub mod NeverDead
 pub mod NoProofBeside
 pub mod OneDecision
+pub mod OneDecisionEver
 pub mod OpenReads
 pub mod OwnKeys
 pub mod OwnLaid

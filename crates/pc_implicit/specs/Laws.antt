@@ -71,11 +71,11 @@ abbrev pub DecisionsDoNotDiffer : Type 0
 DecisionsDoNotDiffer =
     (head : Head) (history : List (Entry Event)) → IsRun head history → NothingIsStaged history → HasOneDecision head history
 
--- Where nothing is staged, one entry makes at most one transaction committed.
+-- Commit points differ: one entry makes at most one transaction committed.
 abbrev pub CommitPointsDiffer : Type 0
 CommitPointsDiffer =
     (head : Head) (history : List (Entry Event)) (id other : TxnId) (ts later : ℕ)
-    → IsRun head history → NothingIsStaged history → IsCommitted head history id ts → IsCommitted head history other later
+    → IsRun head history → IsCommitted head history id ts → IsCommitted head history other later
     → commit_point head history id ≡ commit_point head history other → id ≡ other
 
 -- Where nothing is staged, a range answers each request as the request may be answered, also one that was never sent.

@@ -35,7 +35,7 @@ pub fn decisions_do_not_differ()
     ensures { DecisionsDoNotDiffer }
 {}
 
-/// A law: where nothing is staged, one entry makes at most one transaction committed.
+/// A law: one entry makes at most one transaction committed.
 pub fn commit_points_differ()
     ensures { CommitPointsDiffer }
 {}

@@ -4,7 +4,7 @@ ghost use Rattle.std.specs.Prelude.{◌≡◌, ℕ, ◌+◌, ◌<◌, ◌≤◌,
 ghost use Rattle.std.specs.Io.{ReadsAtMost};
 ghost use Rattle.std.specs.Io.KnownBytes.{ReadConsumes};
 ghost use Rattle.std.specs.declared.option.Option.{Option};
-ghost use Rattle.pc_io.specs.Counts.{Rose};
+ghost use Rattle.pc_io.specs.Counts.{raised};
 ghost use Rattle.pc_io.specs.Causes.{HasCause};
 ghost use Rattle.pc_io.specs.Reading.{IsAllOf, LeavesNothing, TakesAtMost, TakesExactly};
 
@@ -64,7 +64,7 @@ impl From<AllocError> for ReadFault {
 const CHUNK: usize = 8192;
 
 /// Reads a source to its end. More bytes than `limit` are refused once one more than the limit
-/// was read; the source is then not asked again.
+/// was read; the source is then not asked again, nor after a failure.
 pub fn read_all<S: Source>(
     alloc: Global,
     source: &mut S,
@@ -78,11 +78,12 @@ pub fn read_all<S: Source>(
     ensures too_long { IfSome (S.left source.old) (λ left.
         IsErrOf result (ReadFault.TooLong (limit + 1)) ↔ TakesExactly (limit + 1) left (S.left source.new)) }
     ensures number { (bytes : ℕ) → result ≡ Err (ReadFault.TooLong bytes) → bytes ≡ limit + 1 }
-    ensures failed { result ≡ Err ReadFault.Failed → Rose (S.faults source.old) (S.faults source.new) }
+    // One failure ends it.
+    ensures failed { result ≡ Err ReadFault.Failed → S.faults source.new ≡ raised (S.faults source.old) }
+    ensures count { ¬ (result ≡ Err ReadFault.Failed) → S.faults source.new ≡ S.faults source.old }
 
     // Whatever the answer: what was read is the front of what was left.
     ensures taken { TakesAtMost (limit + 1) (S.left source.old) (S.left source.new) }
-    ensures count { S.faults source.old ≤ S.faults source.new }
 {
     let mut bytes = Vec::new(alloc);
     let mut chunk = [0; CHUNK];

@@ -30,7 +30,7 @@ pub struct WriteStop {
     pub written: usize,
 }
 
-/// Writes all the bytes, in order.
+/// Writes all the bytes, in order, up to the first failure.
 pub fn write_all<K: Sink>(sink: &mut K, bytes: &[u8]) -> Result<(), WriteStop>
     ensures ok { OnOk result (Appends (K.taken sink.old) (K.taken sink.new) bytes.now) }
     ensures prefix { IfErr result (λ stop.

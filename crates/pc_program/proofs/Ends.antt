@@ -1,10 +1,10 @@
 -- From what is said of the bytes that were read to what is said of those that the source had.
-use Rattle.std.proofs.Common.{◌≡◌, ℕ, Bool, List, take, Option, None, Some, IfSome, subst, ◌↔◌}
+use Rattle.std.proofs.Common.{◌≡◌, ℕ, Bool, List, Option, None, Some, IfSome, subst, ◌↔◌}
 use Rattle.pc_base.specs.declared.actor.ActorId.{ActorId}
 use Rattle.pc_io.specs.Reading.{IsAllOf}
 use Rattle.pc_program.specs.declared.status.Status.{Status}
 use Rattle.pc_program.specs.declared.status.Status.TheVariants as statuses
-use Rattle.pc_program.specs.Causes.{HasWritten, HasWrittenOf, IfDone, IfRead, IfWriteFault, IsAfterReading}
+use Rattle.pc_program.specs.Causes.{HasWritten, HasWrittenOf, IfDone, IfRead, IfWriteFault, IsAfterReading, IsFront, IsWhole}
 use Rattle.pc_work.specs.declared.workload.Workload.{Workload}
 use Rattle.pc_work.specs.Workload.{workload_in}
 
@@ -38,11 +38,11 @@ unless (Some there) W X h = λ w. absurd (h w)
 module _ (rules : ActorId → ℕ → ℕ → Bool) (old new : Option (List ℕ)) where
   -- What was written of this workload was written of the one that the bytes state.
   module _ (bytes : List ℕ) (work : Workload) (stated : workload_in bytes ≡ Some work) where
-    of_bytes : (part : List ℕ → List ℕ) → HasWrittenOf work rules old new part → HasWritten rules (Some bytes) old new part
-    of_bytes part h = record { work = work; stated = stated; appended = h }
+    of_bytes : (Is : List ℕ → List ℕ → Type 0) → HasWrittenOf work rules old new Is → HasWritten rules (Some bytes) old new Is
+    of_bytes Is h = record { work = work; stated = stated; appended = h }
 
-    pub done_of : (status : Status) → IfDone status (HasWrittenOf work rules old new (λ text. text)) → IfDone status (HasWritten rules (Some bytes) old new (λ text. text))
-    done_of statuses.Done h = of_bytes (λ text. text) h
+    pub done_of : (status : Status) → IfDone status (HasWrittenOf work rules old new IsWhole) → IfDone status (HasWritten rules (Some bytes) old new IsWhole)
+    done_of statuses.Done h = of_bytes IsWhole h
     done_of (statuses.NotRun line rule) h = tt
     done_of statuses.Usage h = tt
     done_of statuses.ReadFault h = tt
@@ -52,12 +52,12 @@ module _ (rules : ActorId → ℕ → ℕ → Bool) (old new : Option (List ℕ)
     done_of (statuses.TooLong count) h = tt
     done_of statuses.NoMemory h = tt
 
-    pub part_of : (status : Status) → IfWriteFault status (λ written. HasWrittenOf work rules old new (take written)) → IfWriteFault status (λ written. HasWritten rules (Some bytes) old new (take written))
+    pub part_of : (status : Status) → IfWriteFault status (λ written. HasWrittenOf work rules old new (IsFront written)) → IfWriteFault status (λ written. HasWritten rules (Some bytes) old new (IsFront written))
     part_of statuses.Done h = tt
     part_of (statuses.NotRun line rule) h = tt
     part_of statuses.Usage h = tt
     part_of statuses.ReadFault h = tt
-    part_of (statuses.WriteFault written) h = of_bytes (take written) h
+    part_of (statuses.WriteFault written) h = of_bytes (IsFront written) h
     part_of (statuses.Workload number) h = tt
     part_of (statuses.Journal line) h = tt
     part_of (statuses.TooLong count) h = tt
@@ -65,11 +65,11 @@ module _ (rules : ActorId → ℕ → ℕ → Bool) (old new : Option (List ℕ)
 
   -- And so it was of the one that the source's bytes state, where the bytes are all of them.
   module _ (left : Option (List ℕ)) (bytes : List ℕ) (all : IsAllOf left bytes) where
-    of_left : (part : List ℕ → List ℕ) → HasWritten rules (Some bytes) old new part → HasWritten rules left old new part
-    of_left part h = record { work = h.work; stated = of_all left bytes (λ there. workload_in there ≡ Some h.work) all h.stated; appended = h.appended }
+    of_left : (Is : List ℕ → List ℕ → Type 0) → HasWritten rules (Some bytes) old new Is → HasWritten rules left old new Is
+    of_left Is h = record { work = h.work; stated = of_all left bytes (λ there. workload_in there ≡ Some h.work) all h.stated; appended = h.appended }
 
-    pub done_carried : (status : Status) → IfDone status (HasWritten rules (Some bytes) old new (λ text. text)) → IfDone status (HasWritten rules left old new (λ text. text))
-    done_carried statuses.Done h = of_left (λ text. text) h
+    pub done_carried : (status : Status) → IfDone status (HasWritten rules (Some bytes) old new IsWhole) → IfDone status (HasWritten rules left old new IsWhole)
+    done_carried statuses.Done h = of_left IsWhole h
     done_carried (statuses.NotRun line rule) h = tt
     done_carried statuses.Usage h = tt
     done_carried statuses.ReadFault h = tt
@@ -79,12 +79,12 @@ module _ (rules : ActorId → ℕ → ℕ → Bool) (old new : Option (List ℕ)
     done_carried (statuses.TooLong count) h = tt
     done_carried statuses.NoMemory h = tt
 
-    pub part_carried : (status : Status) → IfWriteFault status (λ written. HasWritten rules (Some bytes) old new (take written)) → IfWriteFault status (λ written. HasWritten rules left old new (take written))
+    pub part_carried : (status : Status) → IfWriteFault status (λ written. HasWritten rules (Some bytes) old new (IsFront written)) → IfWriteFault status (λ written. HasWritten rules left old new (IsFront written))
     part_carried statuses.Done h = tt
     part_carried (statuses.NotRun line rule) h = tt
     part_carried statuses.Usage h = tt
     part_carried statuses.ReadFault h = tt
-    part_carried (statuses.WriteFault written) h = of_left (take written) h
+    part_carried (statuses.WriteFault written) h = of_left (IsFront written) h
     part_carried (statuses.Workload number) h = tt
     part_carried (statuses.Journal line) h = tt
     part_carried (statuses.TooLong count) h = tt

@@ -1,5 +1,5 @@
 -- When the program ends in which way. Own profile.
-use Rattle.std.specs.Prelude.{◌≡◌, ℕ, Bool, List, [], ◌∷◌, Option, Some, IfSome, ⊤, codes}
+use Rattle.std.specs.Prelude.{◌≡◌, ℕ, ◌<◌, Bool, List, [], ◌∷◌, length, take, Option, Some, IfSome, ⊤, codes}
 use Rattle.std.specs.Io.KnownBytes.{Appends}
 use Rattle.pc_base.specs.declared.actor.ActorId.{ActorId}
 use Rattle.pc_program.specs.declared.status.Status.{Status}
@@ -60,6 +60,30 @@ IfWriteFault (statuses.Journal line) fact = ⊤
 IfWriteFault (statuses.TooLong bytes) fact = ⊤
 IfWriteFault statuses.NoMemory fact = ⊤
 
+-- Unless a write failed, the fact.
+abbrev pub UnlessWriteFault : Status → Type 0 → Type 0
+UnlessWriteFault (statuses.WriteFault written) fact = ⊤
+UnlessWriteFault statuses.Done fact = fact
+UnlessWriteFault (statuses.NotRun line rule) fact = fact
+UnlessWriteFault statuses.Usage fact = fact
+UnlessWriteFault statuses.ReadFault fact = fact
+UnlessWriteFault (statuses.Workload number) fact = fact
+UnlessWriteFault (statuses.Journal line) fact = fact
+UnlessWriteFault (statuses.TooLong bytes) fact = fact
+UnlessWriteFault statuses.NoMemory fact = fact
+
+-- What the fact says of the number of a workload that was refused.
+abbrev pub IfRefused : Status → (ℕ → Type 0) → Type 0
+IfRefused (statuses.Workload number) fact = fact number
+IfRefused statuses.Done fact = ⊤
+IfRefused (statuses.NotRun line rule) fact = ⊤
+IfRefused statuses.Usage fact = ⊤
+IfRefused statuses.ReadFault fact = ⊤
+IfRefused (statuses.WriteFault written) fact = ⊤
+IfRefused (statuses.Journal line) fact = ⊤
+IfRefused (statuses.TooLong bytes) fact = ⊤
+IfRefused statuses.NoMemory fact = ⊤
+
 -- Done, and then the fact.
 abbrev pub IfDone : Status → Type 0 → Type 0
 IfDone statuses.Done fact = fact
@@ -84,17 +108,29 @@ IsOfRun (statuses.Workload number) = ⊤
 IsOfRun (statuses.TooLong bytes) = ⊤
 IsOfRun statuses.NoMemory = ⊤
 
--- A part of an output of a workload, by these rules of the clocks, was appended to what the sink had taken.
-pub record HasWrittenOf (work : Workload) (rules : ActorId → ℕ → ℕ → Bool) (old new : Option (List ℕ)) (part : List ℕ → List ℕ) : Type 0 where
+-- These bytes are the whole text.
+abbrev pub IsWhole : List ℕ → List ℕ → Type 0
+IsWhole text bytes = bytes ≡ text
+
+-- These bytes are the first so many of the text, and not all of it.
+pub record IsFront (written : ℕ) (text bytes : List ℕ) : Type 0 where
+  pub front : bytes ≡ take written text
+  pub short : written < length text
+
+-- Bytes that stand so to an output of a workload, by these rules of the clocks, were appended to what the sink had taken.
+pub record HasWrittenOf (work : Workload) (rules : ActorId → ℕ → ℕ → Bool) (old new : Option (List ℕ)) (Is : List ℕ → List ℕ → Type 0) : Type 0 where
   pub text : List ℕ
   pub output : IsOutput work rules text
-  pub written : Appends old new (part text)
+  pub bytes : List ℕ
+  pub is : Is text bytes
+  pub written : Appends old new bytes
 
--- A part of an output was appended to what the sink had taken: of the workload that the source's bytes state, where it tells them.
-pub record HasWritten (rules : ActorId → ℕ → ℕ → Bool) (left old new : Option (List ℕ)) (part : List ℕ → List ℕ) : Type 0 where
+-- Bytes that stand so to an output were appended to what the sink had taken: one of the workload that the source's bytes state, where it
+-- tells them.
+pub record HasWritten (rules : ActorId → ℕ → ℕ → Bool) (left old new : Option (List ℕ)) (Is : List ℕ → List ℕ → Type 0) : Type 0 where
   pub work : Workload
   pub stated : IfSome left (λ bytes. workload_in bytes ≡ Some work)
-  pub appended : HasWrittenOf work rules old new part
+  pub appended : HasWrittenOf work rules old new Is
 
 -- The status is one that comes once the source was read to its end.
 abbrev pub IsAfterReading : Status → Type 0

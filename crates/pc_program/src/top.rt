@@ -1,8 +1,8 @@
 ghost use Rattle.std.specs.Prelude.{◌≡◌, ℕ, ◌+◌, ◌≤◌, ◌↔◌, ◌⊎◌, IsTrue, IsSome, IfSome, codes, map, take, string_bytes};
 ghost use Rattle.std.specs.Io.KnownBytes.{Appends};
-ghost use Rattle.pc_io.specs.Counts.{Rose};
-ghost use Rattle.pc_io.specs.Reading.{LeavesNothing, TakesExactly};
-ghost use Rattle.pc_program.specs.Causes.{AskForRun, HasWritten, HasWrittenOf, IfDone, IfRead, IfWriteFault, IsAfterReading, IsOfRun, IsWriting, UnlessWriting};
+ghost use Rattle.pc_io.specs.Counts.{raised};
+ghost use Rattle.pc_io.specs.Reading.{LeavesNothing, TakesAtMost, TakesExactly};
+ghost use Rattle.pc_program.specs.Causes.{AskForRun, HasWritten, HasWrittenOf, IfDone, IfRead, IfRefused, IfWriteFault, IsAfterReading, IsFront, IsOfRun, IsWhole, IsWriting, UnlessWriteFault, UnlessWriting};
 ghost use Rattle.pc_work.specs.Built.{IsBuilt};
 ghost use Rattle.pc_work.specs.Workload.{IsJson, workload_in};
 
@@ -32,17 +32,18 @@ pub fn pcommit<S: Source, K: Sink, M: Clocks, G: Gate>(
     ensures usage { (result ≡ Status.Usage) ↔ ¬ (AskForRun (map string_bytes words.now)) }
     ensures usage_reads_nothing { result ≡ Status.Usage → source.new ≡ source.old }
 
-    // A fault is answered only where the count of the object that was handed in rose in this call.
-    ensures read_fault { result ≡ Status.ReadFault → Rose (S.faults source.old) (S.faults source.new) }
-    ensures read_count { S.faults source.old ≤ S.faults source.new }
-    ensures write_fault { IfWriteFault result (λ written. Rose (K.faults sink.old) (K.faults sink.new)) }
-    ensures write_count { K.faults sink.old ≤ K.faults sink.new }
+    // A fault is answered exactly where a call of the object that was handed in failed, and the first failure ends it.
+    ensures read_fault { result ≡ Status.ReadFault → S.faults source.new ≡ raised (S.faults source.old) }
+    ensures read_count { ¬ (result ≡ Status.ReadFault) → S.faults source.new ≡ S.faults source.old }
+    ensures write_fault { IfWriteFault result (λ written. K.faults sink.new ≡ raised (K.faults sink.old)) }
+    ensures write_count { UnlessWriteFault result (K.faults sink.new ≡ K.faults sink.old) }
 
     // Too long exactly where one byte more than the limit was read; else the source was read to its end.
     ensures too_long { IfSome (S.left source.old) (λ left. AskForRun (map string_bytes words.now) →
         ((result ≡ Status.TooLong (INPUT_BYTES + 1)) ↔ TakesExactly (INPUT_BYTES + 1) left (S.left source.new))) }
     ensures too_long_by_one { (bytes : ℕ) → result ≡ Status.TooLong bytes → bytes ≡ INPUT_BYTES + 1 }
     ensures read_whole { IfRead result (LeavesNothing (S.left source.old) (S.left source.new)) }
+    ensures read_most { TakesAtMost (INPUT_BYTES + 1) (S.left source.old) (S.left source.new) }
 
     // The bytes decide what becomes of the workload: no JSON, another form, or accepted and run.
     ensures no_json { IfRead result (IfSome (S.left source.old) (λ bytes.
@@ -52,10 +53,12 @@ pub fn pcommit<S: Source, K: Sink, M: Clocks, G: Gate>(
     ensures accepted { IfRead result (IfSome (S.left source.old) (λ bytes.
         IsWriting result ↔ (IsJson bytes × IsSome (workload_in bytes)))) }
 
+    ensures refused { IfRefused result (λ number. (number ≡ 1) ⊎ (number ≡ 10)) }
+
     // Done is the whole output behind what the sink had taken; a write fault is a part of it. Else nothing was written.
-    ensures done { IfDone result (HasWritten (M.rules clocks.old) (S.left source.old) (K.taken sink.old) (K.taken sink.new) (λ text. text)) }
+    ensures done { IfDone result (HasWritten (M.rules clocks.old) (S.left source.old) (K.taken sink.old) (K.taken sink.new) IsWhole) }
     ensures part { IfWriteFault result (λ written.
-        HasWritten (M.rules clocks.old) (S.left source.old) (K.taken sink.old) (K.taken sink.new) (take written)) }
+        HasWritten (M.rules clocks.old) (S.left source.old) (K.taken sink.old) (K.taken sink.new) (IsFront written)) }
     ensures unwritten { UnlessWriting result (sink.new ≡ sink.old) }
     ensures kind { IsOfRun result }
 {
@@ -93,11 +96,12 @@ fn run<K: Sink, M: Clocks, G: Gate>(
     ensures no_json { IfRead result ((result ≡ Status.Workload 1) ↔ ¬ (IsJson bytes.now)) }
     ensures other_form { IfRead result ((result ≡ Status.Workload 10) ↔ (IsJson bytes.now × (workload_in bytes.now ≡ None))) }
     ensures accepted { IfRead result (IsWriting result ↔ (IsJson bytes.now × IsSome (workload_in bytes.now))) }
-    ensures done { IfDone result (HasWritten (M.rules clocks.old) (Some bytes.now) (K.taken sink.old) (K.taken sink.new) (λ text. text)) }
-    ensures part { IfWriteFault result (λ written. HasWritten (M.rules clocks.old) (Some bytes.now) (K.taken sink.old) (K.taken sink.new) (take written)) }
-    ensures write_fault { IfWriteFault result (λ written. Rose (K.faults sink.old) (K.faults sink.new)) }
-    ensures write_count { K.faults sink.old ≤ K.faults sink.new }
+    ensures done { IfDone result (HasWritten (M.rules clocks.old) (Some bytes.now) (K.taken sink.old) (K.taken sink.new) IsWhole) }
+    ensures part { IfWriteFault result (λ written. HasWritten (M.rules clocks.old) (Some bytes.now) (K.taken sink.old) (K.taken sink.new) (IsFront written)) }
+    ensures write_fault { IfWriteFault result (λ written. K.faults sink.new ≡ raised (K.faults sink.old)) }
+    ensures write_count { UnlessWriteFault result (K.faults sink.new ≡ K.faults sink.old) }
     ensures unwritten { UnlessWriting result (sink.new ≡ sink.old) }
+    ensures refused { IfRefused result (λ number. (number ≡ 1) ⊎ (number ≡ 10)) }
     ensures kind { IsAfterReading result }
 {
     match Workload::read(alloc, bytes) {
@@ -116,10 +120,10 @@ fn write_output<K: Sink, M: Clocks, G: Gate>(
     gate: &G,
 ) -> Status
     requires { IsBuilt work.now }
-    ensures done { IfDone result (HasWrittenOf work.now (M.rules clocks.old) (K.taken sink.old) (K.taken sink.new) (λ text. text)) }
-    ensures part { IfWriteFault result (λ written. HasWrittenOf work.now (M.rules clocks.old) (K.taken sink.old) (K.taken sink.new) (take written)) }
-    ensures write_fault { IfWriteFault result (λ written. Rose (K.faults sink.old) (K.faults sink.new)) }
-    ensures write_count { K.faults sink.old ≤ K.faults sink.new }
+    ensures done { IfDone result (HasWrittenOf work.now (M.rules clocks.old) (K.taken sink.old) (K.taken sink.new) IsWhole) }
+    ensures part { IfWriteFault result (λ written. HasWrittenOf work.now (M.rules clocks.old) (K.taken sink.old) (K.taken sink.new) (IsFront written)) }
+    ensures write_fault { IfWriteFault result (λ written. K.faults sink.new ≡ raised (K.faults sink.old)) }
+    ensures write_count { UnlessWriteFault result (K.faults sink.new ≡ K.faults sink.old) }
     ensures unwritten { UnlessWriting result (sink.new ≡ sink.old) }
     ensures kind { (result ≡ Status.NoMemory) ⊎ IsWriting result }
 {
@@ -132,8 +136,9 @@ fn write_output<K: Sink, M: Clocks, G: Gate>(
 fn write_whole<K: Sink>(sink: &mut K, out: &[u8]) -> Status
     ensures done { IfDone result (Appends (K.taken sink.old) (K.taken sink.new) out.now) }
     ensures part { IfWriteFault result (λ written. Appends (K.taken sink.old) (K.taken sink.new) (take written out.now)) }
-    ensures write_fault { IfWriteFault result (λ written. Rose (K.faults sink.old) (K.faults sink.new)) }
-    ensures write_count { K.faults sink.old ≤ K.faults sink.new }
+    ensures short { IfWriteFault result (λ written. written < length out.now) }
+    ensures write_fault { IfWriteFault result (λ written. K.faults sink.new ≡ raised (K.faults sink.old)) }
+    ensures write_count { UnlessWriteFault result (K.faults sink.new ≡ K.faults sink.old) }
     ensures kind { IsWriting result }
 {
     match write_all(sink, out) {

@@ -7,7 +7,7 @@ use Rattle.pc_base.specs.declared.transaction.TxnId.{TxnId}
 use Rattle.pc_implicit.proofs.Begins.{committed_above, committed_was_begun}
 use Rattle.pc_implicit.proofs.Fronts.{split_there}
 use Rattle.pc_implicit.proofs.OneDecision.{decisions_do_not_differ}
-use Rattle.pc_implicit.proofs.Points.{commit_points_differ}
+use Rattle.pc_implicit.proofs.CommitPoints.{commit_points_differ}
 use Rattle.pc_proto.specs.declared.event.Event.{Event}
 use Rattle.pc_serial.proofs.Order.{PointsDiffer, order-committed, order-sorted, stands-before, stands-once}
 use Rattle.pc_serial.proofs.ReadsAgree.{all-read-written}
@@ -24,7 +24,7 @@ use Rattle.pc_world.specs.Unstaged.{NothingIsStaged}
 
 module _ (head : Head) (history : List (Entry Event)) (run : IsRun head history) (only : NothingIsStaged history) where
   differ : PointsDiffer head history
-  differ id other ts later is also same = commit_points_differ head history id other ts later run only is also same
+  differ id other ts later is also same = commit_points_differ head history id other ts later run is also same
 
   -- the history is legal
   pub is-legal : IsLegal head history

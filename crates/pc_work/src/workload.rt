@@ -1,4 +1,4 @@
-ghost use Rattle.std.specs.Prelude.{◌≡◌, ◌↔◌, IsOk, IsSome, IfOk, IsErrOf, Some};
+ghost use Rattle.std.specs.Prelude.{◌≡◌, ◌↔◌, ◌⊎◌, ℕ, IsOk, IsSome, IfOk, IsErrOf, Some};
 ghost use Rattle.std.specs.List.{list_all};
 ghost use Rattle.serde_json.specs.View.{view};
 ghost use Rattle.pc_work.specs.Reading.{Gives};
@@ -64,6 +64,7 @@ impl Workload {
         // Which number a refusal has: these two, and no other.
         ensures no_json { UnlessMemory result (IsErrOf result (WorkFault.Refused 1) ↔ ¬ (IsJson bytes.now)) }
         ensures other_form { UnlessMemory result (IsErrOf result (WorkFault.Refused 10) ↔ (IsJson bytes.now × (workload_in bytes.now ≡ None))) }
+        ensures numbers { (number : ℕ) → result ≡ Err (WorkFault.Refused number) → (number ≡ 1) ⊎ (number ≡ 10) }
     {
         let json = match Json::from_slice(alloc, bytes) {
             Ok(json) => json,
