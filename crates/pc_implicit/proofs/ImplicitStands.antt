@@ -1,9 +1,8 @@
 -- What a transaction wrote that is committed by its staging record stands in whole intents.
-use Rattle.std.proofs.Common.{◌≡◌, ℕ, ◌≤◌, nat_le, Bool, true, false, ◌==◌, ◌&&◌, if◌then◌else◌, inl, inr, List, [], ◌∷◌, ◌++◌, Option, None, Some, Contains, refl, sym, ap, subst, ◌∙◌, arith}
+use Rattle.std.proofs.Common.{◌≡◌, ℕ, ◌≤◌, nat_le, true, ◌==◌, ◌&&◌, if◌then◌else◌, inl, inr, List, [], ◌∷◌, ◌++◌, Option, None, Some, Contains, refl, sym, ap, subst, ◌∙◌, arith}
 use Rattle.std.proofs.lemmas.Bool.{and_parts, eqb-true, leb-true}
 use Rattle.pc_base.specs.declared.actor.ActorId.TheVariants as actors
 use Rattle.pc_base.specs.declared.entry.Entry.{Entry}
-use Rattle.pc_base.specs.declared.transaction.TxnId.{TxnId}
 use Rattle.pc_implicit.proofs.OwnLaid.{StandsIn}
 use Rattle.pc_implicit.proofs.SettledNow.{HasWhole, last_at, whole_if_proved, whole_where}
 use Rattle.pc_implicit.proofs.StageWords.{CommitsBy, ListsLast, StagesLast}
@@ -14,11 +13,10 @@ use Rattle.pc_implicit.specs.Writes.{home_of, own_intent, txns_of, writes_at}
 use Rattle.pc_proto.specs.declared.event.Event.{Event}
 use Rattle.pc_proto.specs.declared.record.Intent.{Intent}
 use Rattle.pc_proto.specs.Intents.{last_seq}
-use Rattle.pc_proto.specs.Place.{Place, is_final}
+use Rattle.pc_proto.specs.Place.{is_final}
 use Rattle.pc_world.specs.After.{known_at}
-use Rattle.pc_world.specs.Evaluation.Query.{is_found, is_it}
+use Rattle.pc_world.specs.Evaluation.Query.{is_found}
 use Rattle.pc_world.specs.Known.Transactions.{Txn}
-use Rattle.pc_world.specs.Known.Writes.{Write}
 use Rattle.pc_world.specs.Local.{Head}
 use Rattle.pc_world.specs.Run.{IsRun}
 use Rattle.pc_world.specs.StageFate.{IsDead, Stage}

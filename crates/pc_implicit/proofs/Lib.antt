@@ -38,6 +38,7 @@ pub mod Homes
 pub mod ImplicitStands
 pub mod IntentKeys
 pub mod Keyed
+pub mod KnownOver
 pub mod LaidIntents
 pub mod LeavesBy
 pub mod Lift
@@ -48,8 +49,10 @@ pub mod Missing
 pub mod Moves
 pub mod NeverDead
 pub mod NoProofBeside
+pub mod NotDead
 pub mod OneDecision
 pub mod OneDecisionEver
+pub mod OpenOver
 pub mod OpenReads
 pub mod OwnKeys
 pub mod OwnLaid

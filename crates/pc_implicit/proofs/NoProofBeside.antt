@@ -12,7 +12,6 @@ use Rattle.pc_implicit.specs.Replied.{WasProven}
 use Rattle.pc_implicit.specs.Stages.{IsOpenTo}
 use Rattle.pc_implicit.specs.Writes.{home_of, own_intent, txns_of, writes_at}
 use Rattle.pc_proto.specs.declared.event.Event.{Event}
-use Rattle.pc_proto.specs.declared.record.Intent.{Intent}
 use Rattle.pc_proto.specs.Intents.{last_seq}
 use Rattle.pc_world.proofs.Each.{each-weaker}
 use Rattle.pc_world.specs.Known.Transactions.{Txn}

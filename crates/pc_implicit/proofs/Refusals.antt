@@ -128,11 +128,15 @@ module _ (head : Head) where
         answered-final meta ts locks (place_at head range meta.id (front ++ back)) decided (place_at head range meta.id w.front) stands (ap is_unsettled_status (sym told) ∙ unsettled)
 
     -- so it is not known refused
+    pub not_refused : IsRefused (known_at head a.actor front).heard (record { meta = meta; ts = ts; locks = locks }) → ⊥
+    not_refused (n, h, inside, at, r) =
+        answered-settled a.actor h (each_contained (IsSo head front a.actor) (known_at head a.actor front).heard h (heard_is_so head front run-before a.actor) (n, inside, at)) r.asked r.unsettled
+
+    -- nor is its transaction known uncommitted
     pub never_refused : IsUncommitted meta.id (known_at head a.actor front).sent (known_at head a.actor front).heard → ⊥
     never_refused uncommitted =
         let k = known_at head a.actor front in
         let m : Sent = record { number = number; range = range; request = requests.Commit meta ts locks } in
         let sent : Contains k.sent m = sent_known front run-before a there number range (requests.Commit meta ts locks) sends in
         let on : OnCommit meta.id (IsRefused k.heard) (requests.Commit meta ts locks) = All-contains (λ (x : Sent). OnCommit meta.id (IsRefused k.heard) x.request) k.sent m uncommitted.commits sent in
-        let (n, h, inside, at, r) = on (same-itself meta.id) in
-        answered-settled a.actor h (each_contained (IsSo head front a.actor) k.heard h (heard_is_so head front run-before a.actor) (n, inside, at)) r.asked r.unsettled
+        not_refused (on (same-itself meta.id))

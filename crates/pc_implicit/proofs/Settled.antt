@@ -15,7 +15,9 @@ use Rattle.pc_implicit.proofs.Places.{place_after}
 use Rattle.pc_implicit.proofs.Recorded.{evaluated_state}
 use Rattle.pc_implicit.proofs.Runs.{kept-status, reply_is}
 use Rattle.pc_implicit.proofs.StageWords.{ByDecision, ByStaging, ByTelling}
-use Rattle.pc_implicit.proofs.Given.{because, not_dead, recoveries_agree}
+use Rattle.pc_implicit.proofs.Because.{because}
+use Rattle.pc_implicit.proofs.Recovered.{recoveries_agree}
+use Rattle.pc_implicit.proofs.NotDead.{not_dead}
 use Rattle.pc_implicit.proofs.StagesLast.{stages_last}
 use Rattle.pc_implicit.proofs.ImplicitStands.{implied_epoch, implied_whole}
 use Rattle.pc_implicit.proofs.Turns.{IsAnswered, Restarted, WentOn, Wrote, comes_from, Turn}
@@ -35,7 +37,6 @@ use Rattle.pc_world.specs.Known.{Known}
 use Rattle.pc_world.specs.Known.Transactions.{Txn}
 use Rattle.pc_world.specs.Known.Writes.{Write}
 use Rattle.pc_world.specs.Local.{Head}
-use Rattle.pc_world.specs.RangeOf.{range_of}
 use Rattle.pc_world.specs.Run.{IsRun, protocol}
 use Rattle.pc_world.specs.StageFate.{IsDead}
 use Rattle.pc_world.specs.Views.{is_committed_at, view_in}

@@ -1,5 +1,5 @@
 -- What a committed transaction wrote stands over each later entry.
-use Rattle.std.proofs.Common.{◌≡◌, ℕ, ◌<◌, ◌≤◌, max, Bool, true, false, cond, inl, inr, List, [], ◌∷◌, ◌++◌, fold, Option, None, Some, Contains, refl, sym, ap, subst, ◌∙◌, arith}
+use Rattle.std.proofs.Common.{◌≡◌, ℕ, ◌<◌, ◌≤◌, max, Bool, true, false, cond, inl, inr, List, [], ◌∷◌, ◌++◌, fold, Option, None, Some, Contains, sym, ap, subst, ◌∙◌, arith}
 use Rattle.std.proofs.lemmas.List.{append-nil, append_assoc}
 use Rattle.std.proofs.lemmas.List.Elements.{Contains-append_left}
 use Rattle.std.specs.Option.{option_map}
@@ -20,7 +20,8 @@ use Rattle.pc_implicit.proofs.OwnKeys.{AsBefore, Ends, IsGone, IsLaid, IsMoved, 
 use Rattle.pc_implicit.proofs.OwnLaid.{not_overtaken}
 use Rattle.pc_implicit.proofs.PutsSent.{HasPut, orderly, puts_sent}
 use Rattle.pc_implicit.proofs.Recorded.{evaluated_state}
-use Rattle.pc_implicit.proofs.Refusals.{never_refused}
+use Rattle.pc_implicit.proofs.KnownOver.{IsKnownOver, over_of}
+use Rattle.pc_implicit.proofs.Refusals.{not_refused}
 use Rattle.pc_implicit.proofs.Turns.{IsAnswered, Restarted, WentOn, Wrote, comes_from}
 use Rattle.pc_implicit.proofs.VersionSteps.{makes_version, version_stays}
 use Rattle.pc_implicit.proofs.WriteLists.{Laid, RiseAt, alike_at, each_low, rise_at, rise_value, written_at}
@@ -50,11 +51,11 @@ use Rattle.pc_world.specs.Local.{Head}
 use Rattle.pc_world.specs.RangeOf.{range_of}
 use Rattle.pc_world.specs.RangeState.{RangeState}
 use Rattle.pc_world.specs.Run.{IsRun, protocol}
-use Rattle.pc_world.specs.StageFate.{IsDead, IsUncommitted, Stage}
+use Rattle.pc_world.specs.StageFate.{Commit, IsDead, IsRefused, IsUncommitted, Stage, commit_request, stage_request}
 use Rattle.pc_implicit.proofs.SettledNow.{IsSettled, WasAsked, WasImplied}
-use Rattle.pc_implicit.proofs.StagesKnown.{stage_of}
-use Rattle.pc_implicit.proofs.StagesSent.{has_sent_stage}
-use Rattle.pc_implicit.proofs.Given.{never_dead}
+use Rattle.pc_implicit.proofs.StagesKnown.{HasSent}
+use Rattle.pc_implicit.proofs.StagesSent.{has_sent_commit, has_sent_stage}
+use Rattle.pc_implicit.proofs.NeverDead.{never_dead}
 use Rattle.pc_implicit.specs.Stages.{WasStaged}
 
 asked-more : (history : List (Entry Event)) (e : Entry Event) (id : TxnId) (epoch ts : ℕ) → WasAsked history id epoch ts → WasAsked (history ++ e ∷ []) id epoch ts
@@ -179,40 +180,47 @@ module _ (head : Head) (history : List (Entry Event)) (run : IsRun head history)
         | inr intent ↦ intent-stands front seq value at_key intent.0 intent.1 intent.2
       ]
 
+-- A committed transaction is not known to have come to nothing.
+module _ (head : Head) (history : List (Entry Event)) (run : IsRun head history) (id : TxnId) (epoch ts : ℕ)
+    (decided : decision (home_of head id history) ≡ Some (status_of standings.Committed epoch ts)) (settled : IsSettled head history id epoch ts) where
+  commit-not-refused : IsKnownOver (known_at head (actors.Session id.session) history) id → WasAsked history id epoch ts → ⊥
+  commit-not-refused over a =
+      let anchored = commit_anchored head history run a.send a.listed a.number a.range a.meta ts a.locks a.sends in
+      let there : place_at head a.range a.meta.id history ≡ home_of head a.meta.id history =
+      ap (λ r. place_at head r a.meta.id history) anchored.there ∙ sym (home_is head a.meta.id history a.meta.anchor anchored.anchor) in
+      let as_sent : decision (home_of head a.meta.id history) ≡ Some (status_of standings.Committed a.meta.epoch ts) =
+      subst (λ n. decision (home_of head a.meta.id history) ≡ Some (status_of standings.Committed n ts)) (sym a.epoch_is)
+      (subst (λ i. decision (home_of head i history) ≡ Some (status_of standings.Committed epoch ts)) (sym a.whose) decided) in
+      let place : decision (place_at head a.range a.meta.id (history ++ [])) ≡ Some (status_of standings.Committed a.meta.epoch ts) =
+      subst (λ h. decision (place_at head a.range a.meta.id h) ≡ Some (status_of standings.Committed a.meta.epoch ts)) (sym (append-nil history)) (ap decision there ∙ as_sent) in
+      let c : Commit = record { meta = a.meta; ts = ts; locks = a.locks } in
+      let sent = has_sent_commit head history run a.send a.listed a.number a.range c a.sends in
+      let known : HasSent (known_at head (actors.Session id.session) history).sent (commit_request c) = subst (λ (i : TxnId). HasSent (known_at head (actors.Session i.session) history).sent (commit_request c)) a.whose sent in
+      let who : actors.Session id.session ≡ a.send.actor = ap (λ (i : TxnId). actors.Session i.session) (sym a.whose) ∙ sym anchored.whose in
+      not_refused head history [] (subst (IsRun head) (sym (append-nil history)) run) a.send a.listed a.number a.range a.meta ts a.locks a.sends place
+      (subst (λ actor. IsRefused (known_at head actor history).heard c) who (over.refused c known a.whose))
+
+  stage-not-dead : IsKnownOver (known_at head (actors.Session id.session) history) id → WasImplied head history id epoch ts → ⊥
+  stage-not-dead over w =
+      let n = w.implied in
+      let s = n.stage in
+      let sent = has_sent_stage head history run s (staged_along w.front w.back history w.whole s n.commits.sent) in
+      let known : HasSent (known_at head (actors.Session id.session) history).sent (stage_request s) = subst (λ (i : TxnId). HasSent (known_at head (actors.Session i.session) history).sent (stage_request s)) n.whose sent in
+      let dead : IsDead (known_at head (actors.Session s.meta.id.session) history).heard s =
+      subst (λ (i : TxnId). IsDead (known_at head (actors.Session i.session) history).heard s) (sym n.whose) (over.dead s known n.whose) in
+      never_dead head w.front w.back (subst (IsRun head) (sym w.whole) run) s n.commits (subst (λ h. IsDead (known_at head (actors.Session s.meta.id.session) h).heard s) (sym w.whole) dead)
+
+  pub settled_not_over : IsKnownOver (known_at head (actors.Session id.session) history) id → ⊥
+  settled_not_over over = elim settled.asked [ inl asked ↦ commit-not-refused over asked | inr implied ↦ stage-not-dead over implied ]
+
 -- One more entry after the transaction was committed.
 module _ (head : Head) (history : List (Entry Event)) (run : IsRun head history) (e : Entry Event) (may : MayFollow (protocol head) history e) (id : TxnId) (epoch ts : ℕ)
     (decided : decision (home_of head id history) ≡ Some (status_of standings.Committed epoch ts)) (settled : IsSettled head history id epoch ts) where
   -- its session does not know it uncommitted
   known-committed : (t : Txn) → t.id ≡ id → IsUncommitted t.id (known_at head (actors.Session id.session) history).sent (known_at head (actors.Session id.session) history).heard → ⊥
-  known-committed t same uncommitted = elim settled.asked [ inl asked ↦ by-commit asked | inr implied ↦ by-stage implied ]
-    where
-      by-commit : WasAsked history id epoch ts → ⊥
-      by-commit a =
-          let anchored = commit_anchored head history run a.send a.listed a.number a.range a.meta ts a.locks a.sends in
-          let there : place_at head a.range a.meta.id history ≡ home_of head a.meta.id history =
-          ap (λ r. place_at head r a.meta.id history) anchored.there ∙ sym (home_is head a.meta.id history a.meta.anchor anchored.anchor) in
-          let as_sent : decision (home_of head a.meta.id history) ≡ Some (status_of standings.Committed a.meta.epoch ts) =
-          subst (λ n. decision (home_of head a.meta.id history) ≡ Some (status_of standings.Committed n ts)) (sym a.epoch_is)
-          (subst (λ i. decision (home_of head i history) ≡ Some (status_of standings.Committed epoch ts)) (sym a.whose) decided) in
-          let place : decision (place_at head a.range a.meta.id (history ++ [])) ≡ Some (status_of standings.Committed a.meta.epoch ts) =
-          subst (λ h. decision (place_at head a.range a.meta.id h) ≡ Some (status_of standings.Committed a.meta.epoch ts)) (sym (append-nil history)) (ap decision there ∙ as_sent) in
-          let who : actors.Session id.session ≡ a.send.actor = ap (λ (i : TxnId). actors.Session i.session) (sym a.whose) ∙ sym anchored.whose in
-          never_refused head history [] (subst (IsRun head) (sym (append-nil history)) run) a.send a.listed a.number a.range a.meta ts a.locks a.sends place
-          (subst (λ i. IsUncommitted i (known_at head a.send.actor history).sent (known_at head a.send.actor history).heard) (same ∙ sym a.whose)
-          (subst (λ actor. IsUncommitted t.id (known_at head actor history).sent (known_at head actor history).heard) who uncommitted))
-
-      by-stage : WasImplied head history id epoch ts → ⊥
-      by-stage w =
-          let n = w.implied in
-          let s = n.stage in
-          let who : actors.Session id.session ≡ actors.Session s.meta.id.session = ap (λ (i : TxnId). actors.Session i.session) (sym n.whose) in
-          let known : IsUncommitted s.meta.id (known_at head (actors.Session s.meta.id.session) history).sent (known_at head (actors.Session s.meta.id.session) history).heard =
-          subst (λ i. IsUncommitted i (known_at head (actors.Session s.meta.id.session) history).sent (known_at head (actors.Session s.meta.id.session) history).heard) (same ∙ sym n.whose)
-          (subst (λ actor. IsUncommitted t.id (known_at head actor history).sent (known_at head actor history).heard) who uncommitted) in
-          let sent = has_sent_stage head history run s (staged_along w.front w.back history w.whole s n.commits.sent) in
-          let dead : IsDead (known_at head (actors.Session s.meta.id.session) history).heard s =
-          stage_of s.meta.id (IsDead (known_at head (actors.Session s.meta.id.session) history).heard) (known_at head (actors.Session s.meta.id.session) history).sent known.stages s refl sent in
-          never_dead head w.front w.back (subst (IsRun head) (sym w.whole) run) s n.commits (subst (λ h. IsDead (known_at head (actors.Session s.meta.id.session) h).heard s) (sym w.whole) dead)
+  known-committed t same uncommitted =
+      let k = known_at head (actors.Session id.session) history in
+      settled_not_over head history run id epoch ts decided settled (over_of k id (subst (λ i. IsUncommitted i k.sent k.heard) same uncommitted))
 
   -- so it goes on as it was
   pub goes_on : (u : Txn) → Contains (txns_of head id (history ++ e ∷ [])) u → u.id ≡ id

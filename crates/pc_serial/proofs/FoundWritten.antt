@@ -103,8 +103,8 @@ module _ (head : Head) (history : List (Entry Event)) (run : IsRun head history)
     of-before v there of_key seen =
         let still : Contains (state_at head (range_of head.splits key) history).versions v =
         subst (λ vs. Contains vs v) (sym r.grows.whole) (Contains-append_left (state_at head (range_of head.splits key) front).versions r.grows.more v there) in
-        let early = versions_are_committed head front (range_of head.splits key) v run-front only-front there in
-        let now = versions_are_committed head history (range_of head.splits key) v run only still in
+        let early = versions_are_committed head front (range_of head.splits key) v run-front there in
+        let now = versions_are_committed head history (range_of head.splits key) v run still in
         let low = r.low in
         let is_last : laid key (operations_of history v.id) ≡ now.front ++ (now.seq, v.value) ∷ [] =
         laid-is head history run v.id now.t now.known now.whose key ∙ subst (λ k. writes_at k now.t.writes ≡ now.front ++ (now.seq, v.value) ∷ []) of_key now.last in
@@ -161,7 +161,7 @@ module _ (head : Head) (history : List (Entry Event)) (run : IsRun head history)
         let k = is-known other c.0 c.1 in
         let ends : writes_at key k.t.writes ≡ laid key last.front ++ (last.seq, last.value) ∷ [] =
         sym (laid-is head history run other k.t k.mine k.named key) ∙ laid-last key (operations_of history other) last in
-        let stands = writes_of_committed head history k.t c.0 key (laid key last.front) last.seq last.value run only (subst (λ i. Contains (txns_of head i history) k.t) (sym k.named) k.mine)
+        let stands = writes_of_committed head history k.t c.0 key (laid key last.front) last.seq last.value run (subst (λ i. Contains (txns_of head i history) k.t) (sym k.named) k.mine)
         (subst (λ i. IsCommitted head history i c.0) (sym k.named) c.1) ends in
         elim stands [
           | inl version ↦
