@@ -14,12 +14,14 @@ pub mod CommitPoints
 pub mod Commits
 pub mod CommitsSent
 pub mod CommitsStay
+pub mod CommittedElsewhere
 pub mod Deciders
 pub mod Did
 pub mod Doing
 pub mod Doings
 pub mod Evals
 pub mod EvaluatedAt
+pub mod FailsSteps
 pub mod Fates
 pub mod FinalMarks
 pub mod FirstStages
@@ -35,6 +37,7 @@ pub mod Hearing
 pub mod Holders
 pub mod HomeOver
 pub mod Homes
+pub mod ImplicitFails
 pub mod ImplicitStands
 pub mod IntentKeys
 pub mod Keyed

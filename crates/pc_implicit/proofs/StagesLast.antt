@@ -187,7 +187,7 @@ module _ (head : Head) where
       (actor : ActorId) (s : Stage) → HasSent (known_at head actor history).sent (stage_request s) → (t : Txn) → Contains (known_at head actor history).txns t → t.id ≡ s.meta.id → IsKnownLast (known_at head actor history).heard t s
 
   -- a stage that was sent is of a transaction with an anchor
-  anchored-so : (history : List (Entry Event)) → IsRun head history → (actor : ActorId) (s : Stage) → HasSent (known_at head actor history).sent (stage_request s) → (anchor : List ℕ) × (anchor_in s.meta.id history ≡ Some anchor)
+  pub anchored-so : (history : List (Entry Event)) → IsRun head history → (actor : ActorId) (s : Stage) → HasSent (known_at head actor history).sent (stage_request s) → (anchor : List ℕ) × (anchor_in s.meta.id history ≡ Some anchor)
   anchored-so history run actor s (n, m, inside, at, asks) =
       let w = each_contained (WasSentBy head history actor) (known_at head actor history).sent m (sent_is_so head history run actor) (n, inside, at) in
       let a = subject_anchored head history run w.send w.listed m.number m.range (stage_request s) s.meta.id (w.sends ∙ ap (events.Send m.number m.range) asks) refl in
