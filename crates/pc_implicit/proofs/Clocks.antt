@@ -19,6 +19,7 @@ use Rattle.pc_implicit.proofs.Anchored.{each_contained}
 use Rattle.pc_implicit.proofs.Commits.{act_of, committed-view}
 use Rattle.pc_implicit.proofs.Doing.{Does, told_by_row}
 use Rattle.pc_implicit.proofs.Hearing.{as-heard, to-list}
+use Rattle.pc_implicit.proofs.HeardViews.{staging-view}
 use Rattle.pc_implicit.proofs.GivenDeciders.{told_committed}
 use Rattle.pc_implicit.proofs.OwnSplit.{own_split}
 use Rattle.pc_proto.specs.declared.answer.Answer.{Answer}
@@ -140,14 +141,6 @@ viewed-low (replies.Status own) view high told low = let same : own ≡ view = c
 viewed-low (replies.Refused own) view high told low = let same : own ≡ view = cc in subst (λ w. last_of (view_stamps w) ≤ high) same low
 viewed-low (replies.Unsure own) view high told low = let same : own ≡ view = cc in subst (λ w. last_of (view_stamps w) ≤ high) same low
 viewed-low reply view high told low = absurd cc
-
--- the view that shows a staging
-staging-view : (epoch ts : ℕ) (o : Option View) → option_map_or (is_staging_at epoch ts) o false ≡ true → (at : ℕ) × (writes : List (List ℕ × ℕ)) × (o ≡ Some (views.Staging epoch at writes)) × (at ≡ ts)
-staging-view epoch ts None h = absurd cc
-staging-view epoch ts (Some (views.Staging at_epoch at writes)) h =
-    let parts = and_parts (at_epoch == epoch) (at == ts) h in
-    (at, writes, ap (λ n. Some (views.Staging n at writes)) (eqb-true at_epoch epoch parts.0), eqb-true at ts parts.1)
-staging-view epoch ts (Some view) h = absurd cc
 
 clock-rises : (reading high : ℕ) → high < clock_now reading high
 clock-rises reading high = by (nat_lt (high / 2 ^ 32) reading) refl

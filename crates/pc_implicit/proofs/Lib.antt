@@ -37,6 +37,7 @@ pub mod Hearing
 pub mod Holders
 pub mod HomeOver
 pub mod Homes
+pub mod ImplicitCommitted
 pub mod ImplicitFails
 pub mod ImplicitStands
 pub mod IntentKeys

@@ -254,3 +254,12 @@ module _ (head : Head) where
             let at : v.0.seq ≡ seq = v.2 in
             absurd (omega (arith, most, past, at))
       ]
+
+-- a new stage lists the last write at each listed key
+pub new_last : (head : Head) (history : List (Entry Event)) (e : Entry Event) (k : Known) (s : Stage) (t : Txn) (new : MaySendNewStage k s) → new.t ≡ t → AreOrderly history t
+    → (x : List ℕ × ℕ) → Contains s.writes x → (w : Write) → Contains t.writes w → w.key ≡ x.0 → w.seq ≤ x.1
+new_last head history e k s t new own o x there w inside key =
+    let v = listed-from head history e k [] s t t new own o x there in
+    let before = unproved-last 0 t.writes o.rise o.turn v.0 w v.1 inside v.2 (ap (λ (p : List ℕ × ℕ). p.0) v.3 ∙ sym key) in
+    let at : v.0.seq ≡ x.1 = ap (λ (p : List ℕ × ℕ). p.1) v.3 in
+    omega (arith, before, at)
