@@ -1,3 +1,5 @@
+pub mod AbortCauses
+pub mod AbortedFrom
 pub mod AbortsSent
 pub mod Agreed
 pub mod Anchored

@@ -1,4 +1,5 @@
 pub mod Answers
+pub mod Causes
 pub mod Decided
 pub mod Laws
 pub mod Reads
