@@ -22,6 +22,7 @@ pub mod Did
 pub mod Doing
 pub mod Doings
 pub mod Evals
+pub mod Ended
 pub mod EvaluatedAt
 pub mod FailsSteps
 pub mod Fates

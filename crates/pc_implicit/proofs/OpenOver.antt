@@ -58,9 +58,15 @@ first-open id true [] first is = absurd cc
 first-open id true (t ∷ ts) first is = (t, refl, same-is t.id id first)
 first-open id false txns first is = absurd cc
 
-is-commit : (o : Option Call) → (o ≡ Some calls.Commit) ⊎ (o ≡ Some calls.Commit → ⊥)
+pub is-commit : (o : Option Call) → (o ≡ Some calls.Commit) ⊎ (o ≡ Some calls.Commit → ⊥)
 is-commit (Some calls.Commit) = inl refl
 is-commit o = inr (λ h. cc h)
+
+-- an open transaction was not told committed
+pub open_untold : (head : Head) (history : List (Entry Event)) → IsRun head history → (id : TxnId) → IsOpenHere (session_at head id history) id → told_at id history ≡ None
+open_untold head history run id o =
+    let agrees = open_agrees history (actors.Session id.session) (session_at head id history) o.t (agreed head history run (actors.Session id.session)) o.opened in
+    ap (λ i. told_at i history) (sym o.named) ∙ agrees.0.told ∙ agrees.1
 
 module _ (head : Head) where
   -- One more entry of the transaction's session.
@@ -151,14 +157,8 @@ module _ (head : Head) where
             unknown (subst (λ i. Has i (txns_of head i history)) whose
             (commit_known head history run w.send w.listed m.number m.range c.meta c.ts c.locks (w.sends ∙ ap (events.Send m.number m.range) asks)))
 
-    -- what was told of it, while it is open
-    open-untold : IsOpenHere (session_at head id history) id → told_at id history ≡ None
-    open-untold o =
-        let agrees = open_agrees history (actors.Session id.session) (session_at head id history) o.t (agreed head history run (actors.Session id.session)) o.opened in
-        ap (λ i. told_at i history) (sym o.named) ∙ agrees.0.told ∙ agrees.1
-
     -- it was open before, or it opens with the entry
-    opens : IsOpenHere (session_at head id (history ++ e ∷ [])) id
+    pub opens : IsOpenHere (session_at head id (history ++ e ∷ [])) id
         → ((new : TxnId) × (ts : ℕ) × (e.event ≡ events.Tell (answers.Begun new ts)) × (new ≡ id)) ⊎ IsOpenHere (session_at head id history) id
     opens o =
         let k = session_at head id history in
@@ -181,11 +181,11 @@ module _ (head : Head) where
         ]
 
     -- where the entry sends nothing, what was known stays so
-    over-unsent : IsKnownOver (session_at head id history) id → ((number range : ℕ) (request : Request) → e.event ≡ events.Send number range request → ⊥) → IsKnownOver (session_at head id (history ++ e ∷ [])) id
+    pub over-unsent : IsKnownOver (session_at head id history) id → ((number range : ℕ) (request : Request) → e.event ≡ events.Send number range request → ⊥) → IsKnownOver (session_at head id (history ++ e ∷ [])) id
     over-unsent over none = over-stays over (λ s whose now. absurd (none now.number now.range (stage_request s) now.sends)) (λ c whose now. none now.number now.range (commit_request c) now.sends)
 
     -- an answer that leaves it open, told in a commit, shows that it came to nothing
-    over-told : IsOpenHere (session_at head id history) id → (answer : Answer) → e.event ≡ events.Tell answer → is_open_told answer true ≡ true → call_of (session_at head id history) ≡ Some calls.Commit
+    pub over-told : IsOpenHere (session_at head id history) id → (answer : Answer) → e.event ≡ events.Tell answer → is_open_told answer true ≡ true → call_of (session_at head id history) ≡ Some calls.Commit
         → IsKnownOver (session_at head id history) id
     over-told o answer is stays call =
         let k = session_at head id history in
@@ -213,7 +213,7 @@ module _ (head : Head) where
                   over-unsent over (λ number range request sends. let both : events.Ask asks.0 asks.1 ≡ events.Send number range request = sym asks.2 ∙ sends in cc both)
               | inr within ↦
                   let call_same : call_of k2 ≡ call_of k = ap call_of (known_same head (actors.Session id.session) history e same) ∙ ap call_in (within-statement e.event k.statement within) in
-                  over_on (before was (λ call. elsewhere (call_same ∙ call))) (open-untold was) (λ here call. elsewhere (call_same ∙ call))
+                  over_on (before was (λ call. elsewhere (call_same ∙ call))) (open_untold head history run id was) (λ here call. elsewhere (call_same ∙ call))
             ]
           ]
         ]

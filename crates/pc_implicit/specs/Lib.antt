@@ -1,6 +1,7 @@
 pub mod Answers
 pub mod Causes
 pub mod Decided
+pub mod Ends
 pub mod Laws
 pub mod Reads
 pub mod Replied
