@@ -3,24 +3,25 @@ use Rattle.std.proofs.Common.{◌≡◌, ℕ, ◌≤◌, zero, suc, ◌⊎◌, i
 use Rattle.std.specs.Option.{option_and_then}
 use Rattle.std.proofs.lemmas.Option.{same_Some}
 use Rattle.pc_base.specs.declared.actor.ActorId.TheVariants as actors
+use Rattle.pc_base.specs.Rising.{AreRising}
 use Rattle.pc_coord.proofs.Closing.{closing-left, closing-may, opened3}
 use Rattle.pc_coord.proofs.Ending.{EndsWith, IsFinalAs, final_aborted, final_committed}
-use Rattle.pc_coord.proofs.Lists.{any_last}
 use Rattle.pc_coord.proofs.Replies.{last_said, learned_to, reply_known, still_open}
 use Rattle.pc_coord.proofs.Resting.{closed_told, told_in}
 use Rattle.pc_coord.proofs.RollingBack.{abort_request}
-use Rattle.pc_coord.proofs.Same.{same_txn-self}
 use Rattle.pc_coord.proofs.Steps.{counted-heard, heard}
-use Rattle.pc_coord.specs.Coordinating.{after_abort_reply, rolled_back_in, with_heard}
+use Rattle.pc_coord.specs.Coordinating.{after_abort_reply, rolled_back_with, with_heard}
 use Rattle.pc_coord.specs.Coordination.{Coordination, job_of}
 use Rattle.pc_coord.specs.declared.due.Due.TheVariants as dues
 use Rattle.pc_coord.specs.declared.due.Wait.TheVariants as waits
-use Rattle.pc_coord.specs.Events.{IsHeard}
+use Rattle.pc_coord.specs.Events.{HearsAwaited}
 use Rattle.pc_coord.specs.Knows.{Awaits, Knows}
 use Rattle.pc_coord.specs.Knows.Ending.{AwaitsAbort}
 use Rattle.pc_coord.specs.Knows.Held.{IsCounted}
 use Rattle.pc_coord.specs.Turning.{cause_in, cause_of}
 use Rattle.pc_history.specs.declared.pair.Pair.{Pair}
+use Rattle.pc_lists.proofs.Anywhere.{any_last}
+use Rattle.pc_lists.proofs.Same.{same_txn-self}
 use Rattle.pc_proto.specs.declared.answer.Answer.{Answer}
 use Rattle.pc_proto.specs.declared.answer.Answer.TheVariants as answers
 use Rattle.pc_proto.specs.declared.call.Call.TheVariants as calls
@@ -33,15 +34,16 @@ use Rattle.pc_proto.specs.declared.request.Request.{Request}
 use Rattle.pc_proto.specs.declared.view.View.{View}
 use Rattle.pc_proto.specs.declared.view.View.TheVariants as views
 use Rattle.pc_proto.specs.declared.why.Why.{Why}
+use Rattle.pc_proto.specs.Replies.{view_in}
+use Rattle.pc_proto.specs.Requests.{is_abort_of, is_about}
+use Rattle.pc_proto.specs.Views.{AbortsWith, final_fate}
 use Rattle.pc_world.specs.Answering.{IsAbortReply}
-use Rattle.pc_world.specs.Follows.FinishingJobs.{is_abort_of}
 use Rattle.pc_world.specs.Known.{Known, learn, open_txn}
 use Rattle.pc_world.specs.Known.Traffic.{Heard}
 use Rattle.pc_world.specs.Known.Transactions.{Txn, txn_heard}
-use Rattle.pc_world.specs.RangeOf.{AreRising}
 use Rattle.pc_world.specs.Send.Abort.{own_cause}
 use Rattle.pc_world.specs.Tell.End.{IsCauseTold}
-use Rattle.pc_world.specs.Views.{AbortsWith, ShowsAborted, WasAborted, final_fate, is_about, view_in}
+use Rattle.pc_world.specs.Views.{ShowsAborted, WasAborted}
 
 one_only : (P : Heard → Type 0) (h : Heard) → Any P (h ∷ []) → P h
 one_only P h (zero, x, low, is, p) = subst P (sym is) p
@@ -130,8 +132,8 @@ module _ (c : Coordination) (k : Known) (number step : ℕ) (view : View) (fate 
 
   ended : option_and_then final_fate (view_in reply) ≡ Some fate → Knows (after_abort_reply reply (with_heard reply c)) k3
   ended shows =
-      subst (λ txn. Knows (rolled_back_in why (option_and_then final_fate (view_in reply)) txn (with_heard reply c)) k3) (sym a.held)
-      (subst (λ f. Knows (rolled_back_in why f (Some a.x) (with_heard reply c)) k3) (sym shows) rolled_back)
+      subst (λ txn. Knows (rolled_back_with why (option_and_then final_fate (view_in reply)) txn (with_heard reply c)) k3) (sym a.held)
+      (subst (λ f. Knows (rolled_back_with why f (Some a.x) (with_heard reply c)) k3) (sym shows) rolled_back)
 
 abort_reply : (c : Coordination) (k : Known) (number step : ℕ) (reply : Reply) → AreRising c.splits → IsCounted c.session c.clock c.begun k → (a : AwaitsAbort k c.txn number) → IsAbortReply reply
     → Knows (after_abort_reply reply (with_heard reply c)) (reply_known number step (abort_request a.t a.anchor) reply k)
@@ -144,7 +146,7 @@ abort_reply c k number step (replies.Status (views.Pending epoch ts)) rising cou
 abort_reply c k number step (replies.Status (views.Staging epoch ts writes)) rising counted a kind = absurd cc
 abort_reply c k number step reply rising counted a kind = absurd kind
 
-pub abort_heard : (c : Coordination) (k : Known) (p : Pair Event) (number step : ℕ) (reply : Reply) → AreRising c.splits → IsHeard c number step reply k p → Awaits c.session c.clock c.begun c.txn number waits.Abort k
+pub abort_heard : (c : Coordination) (k : Known) (p : Pair Event) (number step : ℕ) (reply : Reply) → AreRising c.splits → HearsAwaited c number step reply k p → Awaits c.session c.clock c.begun c.txn number waits.Abort k
     → Knows (after_abort_reply reply (with_heard reply c)) (learn p k)
 abort_heard c k p number step reply rising is awaits =
     let a = awaits.reply in

@@ -4,6 +4,7 @@ use Rattle.std.proofs.lemmas.Bool.{ltb-true}
 use Rattle.std.proofs.lemmas.List.Elements.{All-nil}
 use Rattle.pc_base.specs.declared.transaction.Priority.{Priority}
 use Rattle.pc_base.specs.declared.transaction.TxnId.{TxnId}
+use Rattle.pc_base.specs.Rising.{AreRising}
 use Rattle.pc_coord.proofs.Ids.{new_commits, new_puts, new_views}
 use Rattle.pc_coord.proofs.Resting.{asked_knows, closed_told, match_false, match_true, rests}
 use Rattle.pc_coord.proofs.Steps.{all_heard-more, all_own-more, asked, counted-asked, told, told_is}
@@ -29,8 +30,7 @@ use Rattle.pc_world.specs.Known.Clock.{high_told}
 use Rattle.pc_world.specs.Known.Statements.{begun_told, is_open_told}
 use Rattle.pc_world.specs.Known.Transactions.{Txn, begun}
 use Rattle.pc_world.specs.Known.Writes.{IsProvedBy}
-use Rattle.pc_world.specs.RangeOf.{AreRising}
-use Rattle.pc_world.specs.StageFate.{IsRefused}
+use Rattle.pc_world.specs.StageFate.{WasCommitRefused}
 use Rattle.pc_world.specs.Tell.Begin.{clock_now}
 
 pub clock-rises : (reading high : ℕ) → high < clock_now reading high
@@ -139,7 +139,7 @@ module _ (c : Coordination) (k : Known) (rising : AreRising c.splits) (r : Rests
         behind = omega arith;
         at_begin = λ none. refl;
         below = omega arith;
-        refused = new_commits id (IsRefused k.heard) c.session k.begun (length k.sent) k.sent new r.counted.sent;
+        refused = new_commits id (WasCommitRefused k.heard) c.session k.begun (length k.sent) k.sent new r.counted.sent;
         views = new_views t c.session k.begun (length k.sent) k.heard refl new r.counted.heard;
       };
       proved = All-nil (IsProvedBy ts);

@@ -4,7 +4,7 @@ use Rattle.std.proofs.lemmas.List.Elements.{All-append, All-cons, All-head, All-
 use Rattle.pc_base.specs.declared.transaction.TxnId.{TxnId}
 use Rattle.pc_coord.proofs.Ids.{on_commits-longer}
 use Rattle.pc_coord.proofs.Steps.{all_heard-more, all_own-more}
-use Rattle.pc_coord.specs.Beside.{IsBeside, IsLaterBeside, IsOfBegun, is_beside}
+use Rattle.pc_coord.specs.Beside.{IsBeside, IsLaterBeside, IsOfBegun, is_of_round_or_job}
 use Rattle.pc_coord.specs.Coordination.{Coordination, with_clock}
 use Rattle.pc_coord.specs.declared.due.Due.TheVariants as dues
 use Rattle.pc_coord.specs.declared.transaction.InFlight.{InFlight}
@@ -14,29 +14,28 @@ use Rattle.pc_coord.specs.Knows.Held.{IsCounted, IsHeld, IsOpenAs, IsOwn, IsOwnH
 use Rattle.pc_coord.specs.Laws.{CoordinatingGoesOn}
 use Rattle.pc_proto.specs.declared.request.Request.{Request}
 use Rattle.pc_proto.specs.declared.request.Request.TheVariants as requests
+use Rattle.pc_proto.specs.Requests.{is_about, is_put_of}
 use Rattle.pc_world.specs.Known.{Known}
 use Rattle.pc_world.specs.Known.Traffic.{Heard, Sent}
 use Rattle.pc_world.specs.Known.Transactions.{Txn}
 use Rattle.pc_world.specs.Known.Writes.{last_seq_of}
-use Rattle.pc_world.specs.Send.Recovery.{is_put_of}
-use Rattle.pc_world.specs.StageFate.{Commit, EachCommit, IsRefused, OnCommit}
-use Rattle.pc_world.specs.Views.{is_about}
+use Rattle.pc_world.specs.StageFate.{EachCommit, OnCommit, SentCommit, WasCommitRefused}
 
 all_both : {X : Type 0} (P Q R : X → Type 0) → ((x : X) → P x → Q x → R x) → (xs : List X) → All P xs → All Q xs → All R xs
 all_both P Q R on [] p q = All-nil R
 all_both P Q R on (x ∷ xs) p q = All-cons R x xs (on x (All-head P x xs p) (All-head Q x xs q)) (all_both P Q R on xs (All-tail P x xs p) (All-tail Q x xs q))
 
-own_write-beside : (begun : ℕ) (request : Request) → is_beside request ≡ true → IsOwnWrite begun request
+own_write-beside : (begun : ℕ) (request : Request) → is_of_round_or_job request ≡ true → IsOwnWrite begun request
 own_write-beside begun (requests.Put meta seq ts key value) e = absurd cc
 own_write-beside begun (requests.Commit meta ts locks) e = absurd cc
 own_write-beside begun (requests.Stage meta ts now writes locks) e = absurd cc
 own_write-beside begun request e = tt
 
-no_put-beside : (id : TxnId) (epoch seq : ℕ) (request : Request) → is_beside request ≡ true → IsTrue (is_put_of id epoch seq request) → ⊥
+no_put-beside : (id : TxnId) (epoch seq : ℕ) (request : Request) → is_of_round_or_job request ≡ true → IsTrue (is_put_of id epoch seq request) → ⊥
 no_put-beside id epoch seq (requests.Put meta at ts key value) e is = cc
 no_put-beside id epoch seq request e is = cc
 
-no_commit-beside : (id : TxnId) (P : Commit → Type 0) (request : Request) → is_beside request ≡ true → OnCommit id P request
+no_commit-beside : (id : TxnId) (P : SentCommit → Type 0) (request : Request) → is_of_round_or_job request ≡ true → OnCommit id P request
 no_commit-beside id P (requests.Commit meta ts locks) e = absurd cc
 no_commit-beside id P request e = tt
 
@@ -92,7 +91,7 @@ module _ (c : Coordination) (start k : Known) (later : IsLaterBeside c start k) 
     -- the transaction's messages are those before, and no more was heard of its record
     pub plain-beside : (sent : List Sent) → IsPlain start t sent → IsPlain k t sent
     plain-beside sent p =
-        let refused : EachCommit t.id sent (IsRefused (start.heard ++ later.heard_more)) = on_commits-longer t.id start.heard later.heard_more sent p.refused in
+        let refused : EachCommit t.id sent (WasCommitRefused (start.heard ++ later.heard_more)) = on_commits-longer t.id start.heard later.heard_more sent p.refused in
         let views : All (IsPendingOf t) (start.heard ++ later.heard_more) =
         All-append (IsPendingOf t) start.heard later.heard_more p.views (All-weaker (λ h. IsBeside c h.request) (IsPendingOf t) pending-beside later.heard_more later.heard_beside) in
         record {
@@ -103,16 +102,16 @@ module _ (c : Coordination) (start k : Known) (later : IsLaterBeside c start k) 
           behind = p.behind;
           at_begin = p.at_begin;
           below = omega (arith, p.below, later.high);
-          refused = subst (λ heard. EachCommit t.id sent (IsRefused heard)) (sym later.heard) refused;
+          refused = subst (λ heard. EachCommit t.id sent (WasCommitRefused heard)) (sym later.heard) refused;
           views = subst (λ heard. All (IsPendingOf t) heard) (sym later.heard) views;
         }
 
     -- the messages beside it are none of its own
     more-beside : IsPlain k t start.sent → IsPlain k t k.sent
     more-beside p =
-        let refused : EachCommit t.id (start.sent ++ later.sent_more) (IsRefused k.heard) =
-        All-append (λ m. OnCommit t.id (IsRefused k.heard) m.request) start.sent later.sent_more p.refused
-        (All-weaker (λ m. IsBeside c m.request) (λ m. OnCommit t.id (IsRefused k.heard) m.request) (λ m is. no_commit-beside t.id (IsRefused k.heard) m.request is.kind) later.sent_more later.sent_beside) in
+        let refused : EachCommit t.id (start.sent ++ later.sent_more) (WasCommitRefused k.heard) =
+        All-append (λ m. OnCommit t.id (WasCommitRefused k.heard) m.request) start.sent later.sent_more p.refused
+        (All-weaker (λ m. IsBeside c m.request) (λ m. OnCommit t.id (WasCommitRefused k.heard) m.request) (λ m is. no_commit-beside t.id (WasCommitRefused k.heard) m.request is.kind) later.sent_more later.sent_beside) in
         record {
           number = p.number;
           reads = p.reads;
@@ -121,7 +120,7 @@ module _ (c : Coordination) (start k : Known) (later : IsLaterBeside c start k) 
           behind = p.behind;
           at_begin = p.at_begin;
           below = p.below;
-          refused = subst (λ sent. EachCommit t.id sent (IsRefused k.heard)) (sym later.sent) refused;
+          refused = subst (λ sent. EachCommit t.id sent (WasCommitRefused k.heard)) (sym later.sent) refused;
           views = p.views;
         }
 

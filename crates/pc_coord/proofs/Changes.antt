@@ -5,7 +5,7 @@ use Rattle.std.proofs.lemmas.Grind.{common_steps}
 use Rattle.std.proofs.lemmas.List.Elements.{All-cons, All-head, All-nil, All-tail}
 use Rattle.pc_coord.specs.declared.messages.Message.{Message}
 use Rattle.pc_coord.specs.declared.messages.Progress.TheVariants as progresses
-use Rattle.pc_coord.specs.Messages.{again, change_first, heard_as, is_unsent, met_at, sent_as, waits_at}
+use Rattle.pc_coord.specs.Messages.{again, change_first, is_unsent, met_at, replied_as, sent_as, waits_at}
 use Rattle.pc_proto.specs.declared.reply.Reply.{Reply}
 
 module _ {X : Type 0} (test : X → Bool) (change : X → X) where
@@ -98,11 +98,11 @@ pub none_sent : (number : ℕ) (messages : List Message) → position is_unsent 
 none_sent number messages none = changed_not is_unsent (sent_as number) messages none
 
 pub heard_first : (number : ℕ) (reply : Reply) (messages : List Message) (place : ℕ) (d : Message) → position (waits_at number) messages ≡ Some place
-    → slice_set messages place (heard_as number reply (slice_index_or messages place d)) ≡ change_first (waits_at number) (heard_as number reply) messages
-heard_first number reply messages place d found = changed_at (waits_at number) (heard_as number reply) messages place d found
+    → slice_set messages place (replied_as number reply (slice_index_or messages place d)) ≡ change_first (waits_at number) (replied_as number reply) messages
+heard_first number reply messages place d found = changed_at (waits_at number) (replied_as number reply) messages place d found
 
-pub none_heard : (number : ℕ) (reply : Reply) (messages : List Message) → position (waits_at number) messages ≡ None → change_first (waits_at number) (heard_as number reply) messages ≡ messages
-none_heard number reply messages none = changed_not (waits_at number) (heard_as number reply) messages none
+pub none_heard : (number : ℕ) (reply : Reply) (messages : List Message) → position (waits_at number) messages ≡ None → change_first (waits_at number) (replied_as number reply) messages ≡ messages
+none_heard number reply messages none = changed_not (waits_at number) (replied_as number reply) messages none
 
 pub again_first : (number : ℕ) (messages : List Message) (place : ℕ) (d : Message) → position (met_at number) messages ≡ Some place
     → slice_set messages place (record (slice_index_or messages place d) { progress = progresses.Unsent }) ≡ change_first (met_at number) again messages

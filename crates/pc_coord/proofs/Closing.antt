@@ -15,13 +15,12 @@ use Rattle.pc_proto.specs.declared.fate.Fate.{Fate}
 use Rattle.pc_proto.specs.declared.reply.Reply.{Reply}
 use Rattle.pc_proto.specs.declared.reply.Reply.TheVariants as replies
 use Rattle.pc_proto.specs.declared.view.View.{View}
-use Rattle.pc_proto.specs.Stamps.{reply_stamps, view_stamps}
+use Rattle.pc_proto.specs.Replies.{view_in}
+use Rattle.pc_proto.specs.Stamps.{greatest_of, reply_stamps, view_stamps}
 use Rattle.pc_world.specs.Follows.FinishingJobs.{left_if}
 use Rattle.pc_world.specs.Known.{Known, open_txn, txns_told}
-use Rattle.pc_world.specs.Known.Clock.{last_of}
 use Rattle.pc_world.specs.Known.Traffic.{Heard, replies_to}
 use Rattle.pc_world.specs.Known.Transactions.{Txn, txn_heard, txn_told}
-use Rattle.pc_world.specs.Views.{view_in}
 
 view-stamps : (reply : Reply) (view : View) → view_in reply ≡ Some view → reply_stamps reply ≡ view_stamps view
 view-stamps (replies.Status shown) view e = ap view_stamps (same_Some shown view e)
@@ -60,6 +59,6 @@ module _ (k : Known) (x : Transaction) (t : Txn) (anchor : List ℕ) (fate : Fat
   closing-may answer txns =
       let t4 : Txn = txn_told answer (replies_to k3.sent_now k3.heard_now) t3 in
       let here : Contains (t4 ∷ others3) t4 = (0, omega arith, refl) in
-      let low : last_of (view_stamps ends.view) ≤ (told answer k3).top = omega (arith, ap last_of (view-stamps h.reply ends.view ends.told)) in
+      let low : greatest_of (view_stamps ends.view) ≤ (told answer k3).top = omega (arith, ap greatest_of (view-stamps h.reply ends.view ends.told)) in
       subst (λ j. IfSome j (MayFinishJob (told answer k3))) (sym job_is)
       (may_finish t anchor fate k.heard h ends (told answer k3) x.has_read x.in_flight t4 refl low (subst (λ ts. Contains ts t4) (sym txns) here) refl refl)

@@ -2,20 +2,21 @@
 use Rattle.std.proofs.Common.{◌≡◌, ℕ, ◌≤◌, max, Bool, false, not, inl, inr, List, ◌∷◌, map, Some, None, refl, ap, ◌∙◌, subst, IsTrue}
 use Rattle.std.specs.Option.{option_map_or}
 use Rattle.std.proofs.lemmas.Bool.{and_from, eq-eqb}
+use Rattle.pc_base.specs.Rising.{AreRising}
 use Rattle.pc_base.specs.Transaction.{same_txn}
 use Rattle.pc_coord.proofs.Closing.{closing-left, closing-may, opened3}
 use Rattle.pc_coord.proofs.Ending.{EndsWith, IsFinalAs}
-use Rattle.pc_coord.proofs.Lists.{any_last}
 use Rattle.pc_coord.proofs.Replies.{still_open}
 use Rattle.pc_coord.proofs.Resting.{closed_told, match_false}
-use Rattle.pc_coord.proofs.Same.{same_txn-self}
 use Rattle.pc_coord.proofs.Steps.{counted-heard, heard}
-use Rattle.pc_coord.specs.Coordinating.{committed_in, with_heard}
+use Rattle.pc_coord.specs.Coordinating.{committed_with, with_heard}
 use Rattle.pc_coord.specs.Coordination.{Coordination, job_of}
 use Rattle.pc_coord.specs.declared.due.Due.TheVariants as dues
 use Rattle.pc_coord.specs.Knows.{Knows}
 use Rattle.pc_coord.specs.Knows.Ending.{AwaitsCommit}
 use Rattle.pc_coord.specs.Knows.Held.{IsCounted}
+use Rattle.pc_lists.proofs.Anywhere.{any_last}
+use Rattle.pc_lists.proofs.Same.{same_txn-self}
 use Rattle.pc_proto.specs.declared.answer.Answer.TheVariants as answers
 use Rattle.pc_proto.specs.declared.call.Call.TheVariants as calls
 use Rattle.pc_proto.specs.declared.fate.Fate.{Fate}
@@ -27,13 +28,12 @@ use Rattle.pc_proto.specs.declared.request.Request.TheVariants as requests
 use Rattle.pc_proto.specs.declared.view.View.{View}
 use Rattle.pc_proto.specs.declared.view.View.TheVariants as views
 use Rattle.pc_proto.specs.declared.why.Why.{Why}
-use Rattle.pc_proto.specs.Stamps.{view_stamps}
+use Rattle.pc_proto.specs.Stamps.{greatest_of, view_stamps}
+use Rattle.pc_proto.specs.Views.{AbortsWith, is_committed_at}
 use Rattle.pc_world.specs.Known.{Known, open_txn}
-use Rattle.pc_world.specs.Known.Clock.{last_of}
 use Rattle.pc_world.specs.Known.Traffic.{Heard}
 use Rattle.pc_world.specs.Known.Transactions.{Txn, meta_of, txn_heard}
-use Rattle.pc_world.specs.RangeOf.{AreRising}
-use Rattle.pc_world.specs.Views.{AbortsWith, ShowsAborted, is_committed_at, shows_committed}
+use Rattle.pc_world.specs.Views.{ShowsAborted, shows_committed}
 
 module _ (c : Coordination) (k : Known) (number step ts refusals : ℕ) (view : View) (rising : AreRising c.splits) (handed : c.job ≡ None) (counted : IsCounted c.session c.clock c.begun k) (a : AwaitsCommit k c.txn number ts refusals) where
   abbrev said : Request
@@ -49,7 +49,7 @@ module _ (c : Coordination) (k : Known) (number step ts refusals : ℕ) (view : 
   k3 = heard h k
 
   abbrev latest : ℕ
-  latest = max c.clock (last_of (view_stamps view))
+  latest = max c.clock (greatest_of (view_stamps view))
 
   pub counted-commit : IsCounted c.session latest c.begun k3
   counted-commit = counted-heard c.session c.clock c.begun k counted h a.last.counted (record { write = a.plain.number; record_of = λ id about whose. let e : a.t.id ≡ id = cc in subst (λ id. id.number ≤ k.begun) e a.plain.number })
@@ -76,7 +76,7 @@ module _ (c : Coordination) (k : Known) (number step ts refusals : ℕ) (view : 
     opened : open_txn k3 ≡ Some t3
     opened = opened3 k a.x a.t a.anchor fate h a.open_as ends
 
-    pub committed_told : (at epoch : ℕ) (locks : List (List ℕ)) → view ≡ views.Committed epoch at locks → fate ≡ fates.Committed epoch at → Knows (committed_in epoch at (Some a.x) (with_heard reply c)) k3
+    pub committed_told : (at epoch : ℕ) (locks : List (List ℕ)) → view ≡ views.Committed epoch at locks → fate ≡ fates.Committed epoch at → Knows (committed_with epoch at (Some a.x) (with_heard reply c)) k3
     committed_told at epoch locks is fated =
         let answer = answers.Committed a.x.id at in
         subst (λ f. Knows (record (with_heard reply c) { txn = None; due = dues.Tell answer; job = job_of (Some f) (Some a.x) }) k3) fated

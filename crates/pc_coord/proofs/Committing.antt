@@ -1,17 +1,18 @@
 -- A call commits: a transaction that wrote nothing at once, any other by a message.
 use Rattle.std.proofs.Common.{◌≡◌, ◌≢◌, ℕ, ◌+◌, ◌<◌, ◌≤◌, max, Bool, true, false, not, ◌&&◌, ◌==◌, inl, inr, List, [], ◌∷◌, ◌++◌, length, map, Option, Some, None, refl, sym, ap, ◌∙◌, subst, arith, All, Any, Contains, IsTrue, length-append}
 use Rattle.std.proofs.lemmas.List.Elements.{All-cons, All-nil, All-push, All-weaker}
+use Rattle.pc_base.specs.Rising.{AreRising}
 use Rattle.pc_base.specs.Transaction.{same_txn}
 use Rattle.pc_coord.proofs.Beginning.{no_messages, none_left}
 use Rattle.pc_coord.proofs.Ids.{no_stages, on_commits-if, views-as}
-use Rattle.pc_coord.proofs.Lists.{any_of, any_true_kept, at_least-weaker}
+use Rattle.pc_coord.proofs.Lists.{any_true_kept, at_least-weaker}
 use Rattle.pc_coord.proofs.NoTxn.{told_no_txn}
 use Rattle.pc_coord.proofs.Resting.{asked_knows, closed_told, match_false, open_is, rests}
-use Rattle.pc_coord.proofs.Same.{if_true, same_txn-self}
+use Rattle.pc_coord.proofs.Same.{if_true}
 use Rattle.pc_coord.proofs.Settled.{settled_asked}
 use Rattle.pc_coord.proofs.Steps.{asked, counted-asked, counted-sent, sent, sent_is, told}
 use Rattle.pc_coord.proofs.Undecided.{undecided}
-use Rattle.pc_coord.specs.Coordinating.{after_commit_call, end_in}
+use Rattle.pc_coord.specs.Coordinating.{after_commit_call, end_with}
 use Rattle.pc_coord.specs.Turning.{due_at_end, txn_at_end}
 use Rattle.pc_coord.specs.Coordination.{Coordination, commit_due}
 use Rattle.pc_coord.specs.declared.due.Due.TheVariants as dues
@@ -23,24 +24,26 @@ use Rattle.pc_coord.specs.Knows.Ending.{IsRefusedNow}
 use Rattle.pc_coord.specs.Knows.Held.{IsCounted, IsHeld, IsOpenAs, IsOwnHeard, IsOwnSent, IsSettled, PutsUpTo}
 use Rattle.pc_coord.specs.Transaction.{commit_of, refreshed, transaction_of}
 use Rattle.pc_history.specs.declared.pair.Pair.{Pair}
+use Rattle.pc_lists.proofs.Anywhere.{any_of}
+use Rattle.pc_lists.proofs.Same.{same_txn-self}
 use Rattle.pc_proto.specs.declared.answer.Answer.TheVariants as answers
 use Rattle.pc_proto.specs.declared.call.Call.TheVariants as calls
 use Rattle.pc_proto.specs.declared.event.Event.{Event}
 use Rattle.pc_proto.specs.declared.fate.Fate.{Fate}
 use Rattle.pc_proto.specs.declared.request.Request.{Request}
+use Rattle.pc_proto.specs.Replies.{is_undecided_status}
 use Rattle.pc_world.specs.Counting.{AtLeast}
 use Rattle.pc_world.specs.Follows.FinishingJobs.{left_if, settling}
 use Rattle.pc_world.specs.Follows.Resends.{MayGoAgain, WasRefusedNow}
 use Rattle.pc_world.specs.Known.{Known, call_in, learn, next_number, open_txn}
 use Rattle.pc_world.specs.Known.Reads.{IsGoodAt}
 use Rattle.pc_world.specs.Known.Reads.IsGoodTo.{AtOnce}
-use Rattle.pc_world.specs.Known.Traffic.{Heard, Sent, is_reply_to}
+use Rattle.pc_world.specs.Known.Traffic.{Heard, Sent, is_reply_to_one}
 use Rattle.pc_world.specs.Known.Transactions.{IsGood, Txn, meta_of, txn_sent}
 use Rattle.pc_world.specs.Known.Writes.{last_seq_of}
-use Rattle.pc_world.specs.RangeOf.{AreRising}
 use Rattle.pc_world.specs.SameRequest.{IsSameRequest}
 use Rattle.pc_world.specs.Send.Commit.{MaySendCommit}
-use Rattle.pc_world.specs.StageFate.{IsLate, is_unsettled_status}
+use Rattle.pc_world.specs.StageFate.{IsLate}
 use Rattle.pc_world.specs.Tell.Refusal.{WasMoved, is_moved}
 use Rattle.pc_world.specs.Views.{fate_heard}
 
@@ -70,7 +73,7 @@ both-kept false b c on h = absurd cc
 module _ (k : Known) (range : ℕ) (request : Request) where
   moved-kept : (h : Heard) → WasMoved k h → WasMoved (sent (next_number k) range request k) h
   moved-kept h was =
-      both-kept (is_reply_to k.sent_now h) (is_reply_to (sent (next_number k) range request k).sent_now h) (is_moved h.request h.reply)
+      both-kept (is_reply_to_one k.sent_now h) (is_reply_to_one (sent (next_number k) range request k).sent_now h) (is_moved h.request h.reply)
       (any_true_kept (λ m. m.number == h.number) k.sent_now (record { number = next_number k; range = range; request = request } ∷ [])) was
 
 -- The open transaction may commit now.
@@ -116,7 +119,7 @@ module _ (c : Coordination) (k : Known) (t : Txn) (anchor : List ℕ) (refusals 
       inr (by f.0 f.1 f.2)
     where
       by : (m : Sent) → IsRefusedNow k m → IsSameRequest request m.request → WasRefusedNow k request
-      by m refused (inl same) = record { commits = refl; refused = subst (λ r. Any (λ h. (h.request ≡ r) × IsTrue (is_unsettled_status h.reply)) k.heard_now) (sym same) refused.heard }
+      by m refused (inl same) = record { commits = refl; refused = subst (λ r. Any (λ h. (h.request ≡ r) × IsTrue (is_undecided_status h.reply)) k.heard_now) (sym same) refused.heard }
       by m refused (inr put) = absurd put
 
   awaits : (range : ℕ) → Awaits c.session c.clock c.begun (Some (refreshed (transaction_of false None t))) (next_number k) (waits.Commit t.write_ts refusals) (sent (next_number k) range request k)
@@ -283,7 +286,7 @@ module _ (c : Coordination) (k : Known) (x : Transaction) (t : Txn) (reading : �
   ends none (Some anchor) some = written anchor some none
 
 commit_by : (c : Coordination) (k : Known) (reading : ℕ) (txn : Option Transaction) → AreRising c.splits → c.job ≡ None → Suits calls.Commit txn → IsCounted c.session c.clock c.begun k → IsHeld txn k
-    → Knows (end_in txn c) (asked calls.Commit reading k)
+    → Knows (end_with txn c) (asked calls.Commit reading k)
 commit_by c k reading None rising handed suits counted closed = told_no_txn c k calls.Commit reading rising handed counted refl closed
 commit_by c k reading (Some x) rising handed suits counted (t, open_as, settled) = ends c k x t reading rising handed counted open_as settled suits x.anchor refl
 

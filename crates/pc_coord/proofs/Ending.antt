@@ -3,27 +3,29 @@ use Rattle.std.proofs.Common.{◌≡◌, ℕ, ◌+◌, ◌≤◌, Bool, true, fa
 use Rattle.std.specs.Option.{option_and_then, option_or}
 use Rattle.std.proofs.lemmas.Bool.{and_parts}
 use Rattle.std.proofs.lemmas.List.Elements.{All-cons, All-head, All-nil, All-tail}
-use Rattle.pc_coord.proofs.Lists.{any_last}
 use Rattle.pc_coord.specs.Coordination.{job_at}
 use Rattle.pc_coord.specs.declared.job.Job.{Job}
 use Rattle.pc_coord.specs.declared.transaction.InFlight.{InFlight}
 use Rattle.pc_coord.specs.Knows.{MayFinishJob, messages_left}
 use Rattle.pc_coord.specs.Knows.Held.{IsPendingOf, ShowsPending}
 use Rattle.pc_coord.specs.Transaction.{meta_in, transaction_of}
+use Rattle.pc_lists.proofs.Anywhere.{any_last}
 use Rattle.pc_proto.specs.declared.fate.Fate.{Fate}
 use Rattle.pc_proto.specs.declared.fate.Fate.TheVariants as fates
 use Rattle.pc_proto.specs.declared.reply.Reply.{Reply}
 use Rattle.pc_proto.specs.declared.reply.Reply.TheVariants as replies
 use Rattle.pc_proto.specs.declared.view.View.{View}
 use Rattle.pc_proto.specs.declared.view.View.TheVariants as views
-use Rattle.pc_proto.specs.Stamps.{fate_stamps, view_stamps}
+use Rattle.pc_proto.specs.Replies.{view_in}
+use Rattle.pc_proto.specs.Requests.{is_about, subject_anchor}
+use Rattle.pc_proto.specs.Stamps.{fate_stamps, greatest_of, view_stamps}
+use Rattle.pc_proto.specs.Views.{HasLocks, IsFateOf, final_fate}
 use Rattle.pc_world.specs.Follows.FinishingJobs.{settling}
 use Rattle.pc_world.specs.Known.{Known}
-use Rattle.pc_world.specs.Known.Clock.{last_of}
 use Rattle.pc_world.specs.Known.Traffic.{Heard}
 use Rattle.pc_world.specs.Known.Transactions.{Txn}
-use Rattle.pc_world.specs.Send.Settling.{HasLocks, IsFateOf, ShowsFate, ShowsFinal}
-use Rattle.pc_world.specs.Views.{anchor_heard, anchor_in, fate_heard, fate_shown, final_fate, is_about, shows_view, view_in}
+use Rattle.pc_world.specs.Send.Settling.{ShowsFate, ShowsFinal}
+use Rattle.pc_world.specs.Views.{anchor_heard, fate_heard, fate_shown, shows_view}
 
 -- a pending view shows no fate
 pending_no_fate : (reply : Reply) → ShowsPending reply → option_and_then final_fate (view_in reply) ≡ None
@@ -50,12 +52,12 @@ module _ (t : Txn) where
       ∙ fate-last heard h (All-tail (IsPendingOf t) x heard a)
 
   -- whichever view of it was heard first, its request named the anchor
-  pub anchor-last : (heard : List Heard) (h : Heard) → All (IsPendingOf t) heard → shows_view t.id h ≡ true → anchor_in h.request ≡ t.anchor → anchor_heard t.id (heard ++ h ∷ []) ≡ t.anchor
-  anchor-last [] h a shows anchored = ap (λ b. option_and_then (λ (h : Heard). anchor_in h.request) (cond b (Some h) None)) shows ∙ anchored
+  pub anchor-last : (heard : List Heard) (h : Heard) → All (IsPendingOf t) heard → shows_view t.id h ≡ true → subject_anchor h.request ≡ t.anchor → anchor_heard t.id (heard ++ h ∷ []) ≡ t.anchor
+  anchor-last [] h a shows anchored = ap (λ b. option_and_then (λ (h : Heard). subject_anchor h.request) (cond b (Some h) None)) shows ∙ anchored
   anchor-last (x ∷ heard) h a shows anchored = by (anchor-last heard h (All-tail (IsPendingOf t) x heard a) shows anchored) (shows_view t.id x) refl
     where
       by : anchor_heard t.id (heard ++ h ∷ []) ≡ t.anchor → (b : Bool) → shows_view t.id x ≡ b
-          → option_and_then (λ (h : Heard). anchor_in h.request) (cond b (Some x) (find (shows_view t.id) (heard ++ h ∷ []))) ≡ t.anchor
+          → option_and_then (λ (h : Heard). subject_anchor h.request) (cond b (Some x) (find (shows_view t.id) (heard ++ h ∷ []))) ≡ t.anchor
       by later true seen = (All-head (IsPendingOf t) x heard a (and_parts (is_about t.id x.request) (is_some (view_in x.reply)) seen).0).anchored
       by later false not = later
 
@@ -63,7 +65,7 @@ module _ (t : Txn) where
 pub record IsFinalAs (view : View) (fate : Fate) : Type 0 where
   pub shows : final_fate view ≡ Some fate
   pub fits : IsFateOf view fate
-  pub stamps : (top : ℕ) → last_of (view_stamps view) ≤ top → All (λ ts. ts ≤ top + 1) (fate_stamps fate)
+  pub stamps : (top : ℕ) → greatest_of (view_stamps view) ≤ top → All (λ ts. ts ≤ top + 1) (fate_stamps fate)
   pub shown : List (List ℕ)
   pub locked : HasLocks view shown
 
@@ -90,7 +92,7 @@ pub record EndsWith (t : Txn) (anchor : List ℕ) (fate : Fate) (heard : List He
   pub anchored : t.anchor ≡ Some anchor
   pub pending : All (IsPendingOf t) heard
   pub about : is_about t.id h.request ≡ true
-  pub named : anchor_in h.request ≡ Some anchor
+  pub named : subject_anchor h.request ≡ Some anchor
   pub view : View
   pub told : view_in h.reply ≡ Some view
   pub final : IsFinalAs view fate
@@ -116,7 +118,7 @@ module _ (t : Txn) (anchor : List ℕ) (fate : Fate) (heard : List Heard) (h : H
   left_is read w = ap (λ o. settling t o (Some anchor)) (sym fate_is) ∙ ap (settling t (fate_heard t.id (heard ++ h ∷ []))) (sym ends.anchored)
 
   -- and the job may be done
-  pub may_finish : (k : Known) (read : Bool) (w : Option InFlight) (t2 : Txn) → k.heard ≡ heard ++ h ∷ [] → last_of (view_stamps ends.view) ≤ k.top → Contains k.txns t2 → t2.id ≡ t.id → t2.locks ≡ t.locks
+  pub may_finish : (k : Known) (read : Bool) (w : Option InFlight) (t2 : Txn) → k.heard ≡ heard ++ h ∷ [] → greatest_of (view_stamps ends.view) ≤ k.top → Contains k.txns t2 → t2.id ≡ t.id → t2.locks ≡ t.locks
       → MayFinishJob k (record { meta = meta_in (transaction_of read w t) anchor; staged = None; fate = fate; locks = t.locks })
   may_finish k read w t2 all low there same locks = record {
     resolve =

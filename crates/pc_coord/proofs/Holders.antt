@@ -6,19 +6,19 @@ use Rattle.std.proofs.lemmas.List.Elements.{All-cons, All-head, All-nil, All-tai
 use Rattle.std.specs.List.{list_any}
 use Rattle.pc_base.specs.declared.transaction.TxnId.{TxnId}
 use Rattle.pc_base.specs.Transaction.{same_txn}
-use Rattle.pc_coord.proofs.Rounds.{count-append, count-cons, one_if}
 use Rattle.pc_coord.specs.declared.messages.Message.{Message}
 use Rattle.pc_coord.specs.declared.messages.Progress.{Progress}
 use Rattle.pc_coord.specs.declared.messages.Progress.TheVariants as progresses
 use Rattle.pc_coord.specs.Knows.Reading.{AreApart, AreDifferent, IsApart, holders_met}
-use Rattle.pc_coord.specs.Messages.{blocked_by, change_first, first_met, heard_as, holder_met, is_met, is_sent, met_at, progress_met, progress_met_at}
+use Rattle.pc_coord.specs.Messages.{blocked_by, change_first, first_met, holder_met, is_awaited, is_met, met_at, progress_met, progress_met_at, replied_as}
+use Rattle.pc_lists.proofs.Counts.{count-append, count-cons, one_if}
 use Rattle.pc_proto.specs.declared.reply.Reply.{Reply}
 use Rattle.pc_proto.specs.declared.reply.Reply.TheVariants as replies
-use Rattle.pc_world.specs.Send.Recovery.{is_conflict_with}
+use Rattle.pc_proto.specs.Replies.{is_conflict_with}
 
 -- the message that is first to be pushed met an intent
 pub first_found : (ms : List Message) (m : Message) → first_met ms ≡ Some m → find is_met ms ≡ Some m
-first_found ms m e = by (list_any is_sent ms) e
+first_found ms m e = by (list_any is_awaited ms) e
   where
     by : (b : Bool) → cond b None (find is_met ms) ≡ Some m → find is_met ms ≡ Some m
     by true e = absurd cc
@@ -105,8 +105,8 @@ held-met p m holder e = ap (λ o. count_by p (option_to_list o)) e ∙ (count-co
     more n = omega arith
 
 -- a message that heard a conflict has its holder, and one that heard a reply has none
-pub held-heard : (id : TxnId) (number : ℕ) (reply : Reply) (m : Message) → held (λ one. same_txn one id) (heard_as number reply m) ≡ one_if (is_conflict_with id reply)
-held-heard id number (replies.Conflict holder ts key) m = held-met (λ one. same_txn one id) (heard_as number (replies.Conflict holder ts key) m) holder.id refl
+pub held-heard : (id : TxnId) (number : ℕ) (reply : Reply) (m : Message) → held (λ one. same_txn one id) (replied_as number reply m) ≡ one_if (is_conflict_with id reply)
+held-heard id number (replies.Conflict holder ts key) m = held-met (λ one. same_txn one id) (replied_as number (replies.Conflict holder ts key) m) holder.id refl
 held-heard id number reply m = refl
 
 pub all_with : {X : Type 0} → (P Q : X → Type 0) (xs : List X) → All P xs → All Q xs → All (λ x. P x × Q x) xs

@@ -2,19 +2,17 @@
 use Rattle.std.proofs.Common.{◌≡◌, ℕ, ◌<◌, ◌≤◌, true, ◌&&◌, ◌==◌, false, List, [], ◌∷◌, ◌++◌, Option, Some, None, sym, ap, ◌∙◌, subst, arith, All, IsTrue}
 use Rattle.std.specs.Option.{option_map_or}
 use Rattle.std.proofs.lemmas.Bool.{and_parts, eqb-true}
-use Rattle.pc_coord.proofs.Lists.{any_kept}
 use Rattle.std.proofs.lemmas.List.Elements.{All-weaker}
 use Rattle.pc_base.specs.declared.transaction.TxnId.{TxnId}
 use Rattle.pc_base.specs.Transaction.{same_txn}
 use Rattle.pc_coord.specs.Knows.Held.{IsOwnHeard, IsOwnSent, IsOwnWrite, IsPendingOf, PutsUpTo}
+use Rattle.pc_lists.proofs.Anywhere.{any_kept}
 use Rattle.pc_proto.specs.declared.request.Request.{Request}
 use Rattle.pc_proto.specs.declared.request.Request.TheVariants as requests
-use Rattle.pc_proto.specs.RecordRows.{subject}
+use Rattle.pc_proto.specs.Requests.{is_about, is_put_of, subject}
 use Rattle.pc_world.specs.Known.Traffic.{Heard, Sent}
 use Rattle.pc_world.specs.Known.Transactions.{Txn}
-use Rattle.pc_world.specs.Send.Recovery.{is_put_of}
-use Rattle.pc_world.specs.Views.{is_about}
-use Rattle.pc_world.specs.StageFate.{Commit, EachCommit, EachStage, IsRefused, OnCommit, OnStage, Refuses, Stage}
+use Rattle.pc_world.specs.StageFate.{EachCommit, EachStage, OnCommit, OnStage, Refuses, SentCommit, SentStage, WasCommitRefused}
 
 -- two names that are the same are equal
 pub same-is : (one other : TxnId) → same_txn one other ≡ true → one ≡ other
@@ -26,20 +24,20 @@ same-is one other h =
 same-number : (one other : TxnId) → same_txn one other ≡ true → one.number ≡ other.number
 same-number one other h = eqb-true one.number other.number (and_parts (one.session == other.session) (one.number == other.number) h).1
 
-no_stage : (id : TxnId) (P : Stage → Type 0) (begun : ℕ) (request : Request) → IsOwnWrite begun request → OnStage id P request
+no_stage : (id : TxnId) (P : SentStage → Type 0) (begun : ℕ) (request : Request) → IsOwnWrite begun request → OnStage id P request
 no_stage id P begun (requests.Stage meta ts now writes locks) own = absurd own
 no_stage id P begun request own = tt
 
 -- no stage was sent
-pub no_stages : (id : TxnId) (P : Stage → Type 0) (session begun count : ℕ) (sent : List Sent) → All (IsOwnSent session begun count) sent → EachStage id sent P
+pub no_stages : (id : TxnId) (P : SentStage → Type 0) (session begun count : ℕ) (sent : List Sent) → All (IsOwnSent session begun count) sent → EachStage id sent P
 no_stages id P session begun count sent a = All-weaker (IsOwnSent session begun count) (λ m. OnStage id P m.request) (λ m own. no_stage id P begun m.request own.own.write) sent a
 
-new_commit : (id : TxnId) (P : Commit → Type 0) (begun : ℕ) (request : Request) → begun < id.number → IsOwnWrite begun request → OnCommit id P request
+new_commit : (id : TxnId) (P : SentCommit → Type 0) (begun : ℕ) (request : Request) → begun < id.number → IsOwnWrite begun request → OnCommit id P request
 new_commit id P begun (requests.Commit meta ts locks) new own = λ same. let e : meta.id.number ≡ id.number = same-number meta.id id same in absurd (omega arith)
 new_commit id P begun request new own = tt
 
 -- no commit of a new transaction was sent
-pub new_commits : (id : TxnId) (P : Commit → Type 0) (session begun count : ℕ) (sent : List Sent) → begun < id.number → All (IsOwnSent session begun count) sent → EachCommit id sent P
+pub new_commits : (id : TxnId) (P : SentCommit → Type 0) (session begun count : ℕ) (sent : List Sent) → begun < id.number → All (IsOwnSent session begun count) sent → EachCommit id sent P
 new_commits id P session begun count sent new a = All-weaker (IsOwnSent session begun count) (λ m. OnCommit id P m.request) (λ m own. new_commit id P begun m.request new own.own.write) sent a
 
 new_put : (id : TxnId) (epoch last begun : ℕ) (request : Request) → begun < id.number → IsOwnWrite begun request → (seq : ℕ) → IsTrue (is_put_of id epoch seq request) → seq ≤ last
@@ -81,20 +79,20 @@ puts-one t seq last m is low = λ n other. let e : seq ≡ n = put-seq t.id t.ep
 pub puts-more : (t : Txn) (low high : ℕ) (sent : List Sent) → low ≤ high → All (PutsUpTo t low) sent → All (PutsUpTo t high) sent
 puts-more t low high sent h a = All-weaker (PutsUpTo t low) (PutsUpTo t high) (λ m up seq is. let l : seq ≤ low = up seq is in omega arith) sent a
 
-on_commit-more : (id : TxnId) (P Q : Commit → Type 0) → ((c : Commit) → P c → Q c) → (request : Request) → OnCommit id P request → OnCommit id Q request
+on_commit-more : (id : TxnId) (P Q : SentCommit → Type 0) → ((c : SentCommit) → P c → Q c) → (request : Request) → OnCommit id P request → OnCommit id Q request
 on_commit-more id P Q on (requests.Commit meta ts locks) h = λ same. on (record { meta = meta; ts = ts; locks = locks }) (h same)
 on_commit-more id P Q on request h = tt
 
 -- a commit that was refused stays refused
-pub on_commits-longer : (id : TxnId) (heard more : List Heard) (sent : List Sent) → EachCommit id sent (IsRefused heard) → EachCommit id sent (IsRefused (heard ++ more))
+pub on_commits-longer : (id : TxnId) (heard more : List Heard) (sent : List Sent) → EachCommit id sent (WasCommitRefused heard) → EachCommit id sent (WasCommitRefused (heard ++ more))
 on_commits-longer id heard more sent a =
-    All-weaker (λ m. OnCommit id (IsRefused heard) m.request) (λ m. OnCommit id (IsRefused (heard ++ more)) m.request)
-    (λ m. on_commit-more id (IsRefused heard) (IsRefused (heard ++ more)) (λ c r. any_kept (Refuses c) heard more r) m.request) sent a
+    All-weaker (λ m. OnCommit id (WasCommitRefused heard) m.request) (λ m. OnCommit id (WasCommitRefused (heard ++ more)) m.request)
+    (λ m. on_commit-more id (WasCommitRefused heard) (WasCommitRefused (heard ++ more)) (λ c r. any_kept (Refuses c) heard more r) m.request) sent a
 
-pub on_commits-more : (id : TxnId) (heard : List Heard) (h : Heard) (sent : List Sent) → EachCommit id sent (IsRefused heard) → EachCommit id sent (IsRefused (heard ++ h ∷ []))
+pub on_commits-more : (id : TxnId) (heard : List Heard) (h : Heard) (sent : List Sent) → EachCommit id sent (WasCommitRefused heard) → EachCommit id sent (WasCommitRefused (heard ++ h ∷ []))
 on_commits-more id heard h sent a = on_commits-longer id heard (h ∷ []) sent a
 
-pub on_commits-if : (id : TxnId) (P : Commit → Type 0) (heard : List Heard) (sent : List Sent) → EachCommit id sent (IsRefused heard) → EachCommit id sent (λ c. P c → IsRefused heard c)
+pub on_commits-if : (id : TxnId) (P : SentCommit → Type 0) (heard : List Heard) (sent : List Sent) → EachCommit id sent (WasCommitRefused heard) → EachCommit id sent (λ c. P c → WasCommitRefused heard c)
 on_commits-if id P heard sent a =
-    All-weaker (λ m. OnCommit id (IsRefused heard) m.request) (λ m. OnCommit id (λ c. P c → IsRefused heard c) m.request)
-    (λ m. on_commit-more id (IsRefused heard) (λ c. P c → IsRefused heard c) (λ c r p. r) m.request) sent a
+    All-weaker (λ m. OnCommit id (WasCommitRefused heard) m.request) (λ m. OnCommit id (λ c. P c → WasCommitRefused heard c) m.request)
+    (λ m. on_commit-more id (WasCommitRefused heard) (λ c. P c → WasCommitRefused heard c) (λ c r p. r) m.request) sent a

@@ -2,6 +2,7 @@
 use Rattle.std.proofs.Common.{◌≡◌, ℕ, true, false, cond, List, [], ◌∷◌, map, None, Some, IfSome, refl, sym, ap, ◌∙◌, subst, All}
 use Rattle.std.specs.Option.{option_and_then}
 use Rattle.pc_base.specs.declared.actor.ActorId.TheVariants as actors
+use Rattle.pc_base.specs.Rising.{AreRising}
 use Rattle.pc_coord.proofs.Replies.{still_open}
 use Rattle.pc_coord.proofs.Resting.{told_in}
 use Rattle.pc_coord.proofs.Settled.{settled_told, with_reads}
@@ -11,9 +12,9 @@ use Rattle.pc_coord.specs.Coordination.{Coordination, with_due}
 use Rattle.pc_coord.specs.declared.due.Due.TheVariants as dues
 use Rattle.pc_coord.specs.declared.messages.Message.{Message}
 use Rattle.pc_coord.specs.declared.transaction.Transaction.{Transaction}
-use Rattle.pc_coord.specs.Knows.{Knows, MayFinishJob, Reads, Rests, messages_left}
+use Rattle.pc_coord.specs.Knows.{IsReadingNow, Knows, MayFinishJob, Rests, messages_left}
 use Rattle.pc_coord.specs.Knows.Held.{IsCounted, IsHeld, IsOpenAs, IsSettled}
-use Rattle.pc_coord.specs.Knows.Reading.{AreApart, AreDifferent, AreReadsOf, AwaitsReads, IsReadAt, Stands, holders_met}
+use Rattle.pc_coord.specs.Knows.Reading.{AreApart, AreDifferent, AreReadsOf, AwaitsReads, IsReadAt, StandsWith, holders_met}
 use Rattle.pc_coord.specs.Messages.{blocked_by, first_met}
 use Rattle.pc_coord.specs.Rounds.{IsPaced}
 use Rattle.pc_coord.specs.Suiting.{IsReader, SuitsNext}
@@ -29,7 +30,6 @@ use Rattle.pc_world.specs.Known.Statements.{Statement, begun_told, is_open_told}
 use Rattle.pc_world.specs.Known.Traffic.{replies_to}
 use Rattle.pc_world.specs.Known.Transactions.{Txn, txn_told}
 use Rattle.pc_world.specs.MayTell.{MayTellRow, is_past_range}
-use Rattle.pc_world.specs.RangeOf.{AreRising}
 
 -- A call is open that reads, in a transaction that wrote nothing.
 pub record IsInRead (c : Coordination) (k : Known) : Type 0 where
@@ -52,12 +52,12 @@ pub record Proceeds (c : Coordination) (k : Known) (messages : List Message) : T
   pub within : IsInRead c k
   pub asked : AreReadsOf c.splits within.x within.call (map (λ m. m.request) messages)
   pub different : AreDifferent (map (λ m. m.request) messages)
-  pub stand : All (Stands k within.t) messages
+  pub stand : All (StandsWith k within.t) messages
   pub apart : AreApart messages
   pub paced : IsPaced (holders_met messages) k
   pub at_read_ts : All (IsReadAt within.t.read_ts) k.heard_now
 
-pub proceeds : (c : Coordination) (k : Known) (messages : List Message) → AreRising c.splits → c.job ≡ None → Reads c k messages → Proceeds c k messages
+pub proceeds : (c : Coordination) (k : Known) (messages : List Message) → AreRising c.splits → c.job ≡ None → IsReadingNow c k messages → Proceeds c k messages
 proceeds c k messages rising none_left r =
     let a : AwaitsReads c.splits k c.txn messages = r.reads in
     record {

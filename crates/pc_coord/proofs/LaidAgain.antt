@@ -4,10 +4,11 @@ use Rattle.std.specs.List.{Any, Contains, list_any}
 use Rattle.std.specs.Option.{option_or}
 use Rattle.std.proofs.lemmas.List.{map-append}
 use Rattle.std.proofs.lemmas.List.Elements.{All-cons, All-nil, All-push, Contains-push}
+use Rattle.pc_base.specs.Rising.{AreRising}
 use Rattle.pc_base.specs.Transaction.{same_txn}
 use Rattle.pc_coord.proofs.Ids.{puts-one, views-as}
 use Rattle.pc_coord.proofs.Puts.{none_heard_next, own_put, put_for, said_last, undecided}
-use Rattle.pc_coord.proofs.Same.{if_true, same_epoch-self, same_txn-self}
+use Rattle.pc_coord.proofs.Same.{if_true, same_epoch-self}
 use Rattle.pc_coord.proofs.Steps.{counted-sent, sent, sent_is}
 use Rattle.pc_coord.proofs.Writes.{asked-key, asked-last_seq, asked-next, asked-proofs, asked-proved, asked-value, last_seq-push, put-again}
 use Rattle.pc_coord.specs.Coordination.{Coordination}
@@ -21,16 +22,16 @@ use Rattle.pc_coord.specs.Knows.Sending.{IsSendable}
 use Rattle.pc_coord.specs.Knows.Writing.{IsWriting, write_call}
 use Rattle.pc_coord.specs.Rounds.{IsPaced}
 use Rattle.pc_coord.specs.Transaction.{meta_in, put_of, transaction_of}
+use Rattle.pc_lists.proofs.Same.{same_txn-self}
 use Rattle.pc_proto.specs.declared.request.Request.{Request}
+use Rattle.pc_proto.specs.Requests.{is_put_of}
 use Rattle.pc_world.specs.Follows.Resends.{MayGoAgain}
 use Rattle.pc_world.specs.Known.{Known, next_number}
 use Rattle.pc_world.specs.Known.Traffic.{Sent}
 use Rattle.pc_world.specs.Known.Transactions.{Txn, meta_of, txn_sent, with_lock}
 use Rattle.pc_world.specs.Known.Writes.{Write, asked_again, last_seq_of}
-use Rattle.pc_world.specs.RangeOf.{AreRising}
 use Rattle.pc_world.specs.SameRequest.{IsSameRequest}
-use Rattle.pc_world.specs.Send.Recovery.{is_put_of}
-use Rattle.pc_world.specs.StageFate.{IsRefused, OnCommit}
+use Rattle.pc_world.specs.StageFate.{OnCommit, WasCommitRefused}
 
 -- The transaction once its last write was sent again.
 abbrev pub laid_again : Txn → Txn
@@ -155,7 +156,7 @@ module _ (c : Coordination) (k : Known) (conflicts : ℕ) (again : Bool) (counte
           behind = plain.behind;
           at_begin = plain.at_begin;
           below = plain.below;
-          refused = All-push (λ m. OnCommit t.id (IsRefused k.heard) m.request) k.sent m plain.refused tt;
+          refused = All-push (λ m. OnCommit t.id (WasCommitRefused k.heard) m.request) k.sent m plain.refused tt;
           views = views-as t t2 k.heard refl refl plain.views;
         }
 

@@ -4,11 +4,12 @@ use Rattle.std.specs.List.{Any, Contains}
 use Rattle.std.specs.Option.{option_or}
 use Rattle.std.proofs.lemmas.List.Elements.{All-cons, All-contains, All-nil, All-push, All-weaker, Contains-append_left, Contains-append_right, Contains-push}
 use Rattle.pc_base.specs.declared.transaction.TxnId.{TxnId}
+use Rattle.pc_base.specs.Rising.{AreRising}
 use Rattle.pc_base.specs.Span.{same_key}
 use Rattle.pc_base.specs.Transaction.{same_txn}
 use Rattle.pc_coord.proofs.Ids.{no_stages, puts-more, puts-one}
 use Rattle.pc_coord.proofs.Resting.{open_is}
-use Rattle.pc_coord.proofs.Same.{if_true, same_epoch-self, same_txn-self}
+use Rattle.pc_coord.proofs.Same.{if_true, same_epoch-self}
 use Rattle.pc_coord.proofs.Steps.{counted-sent, sent, sent_is}
 use Rattle.pc_coord.proofs.Writes.{all_are_proved, last_seq-push, put-new, with_lock-again}
 use Rattle.pc_coord.specs.Coordination.{Coordination, put_due}
@@ -21,21 +22,21 @@ use Rattle.pc_coord.specs.Knows.Held.{IsCounted, IsPendingOf, IsPlain, IsSettled
 use Rattle.pc_coord.specs.Knows.Sending.{IsSendable}
 use Rattle.pc_coord.specs.Knows.Writing.{IsWriting, write_call}
 use Rattle.pc_coord.specs.Rounds.{IsPaced}
-use Rattle.pc_coord.specs.Transaction.{put_of, transaction_of, with_write}
-use Rattle.pc_history.proofs.Lists.{all_from_contains}
+use Rattle.pc_coord.specs.Transaction.{put_of, transaction_of, with_own_write}
+use Rattle.pc_lists.proofs.Lists.{all_from_contains}
+use Rattle.pc_lists.proofs.Same.{same_txn-self}
 use Rattle.pc_proto.specs.declared.meta.TxnMeta.{TxnMeta}
 use Rattle.pc_proto.specs.declared.request.Request.{Request}
 use Rattle.pc_proto.specs.declared.request.Request.TheVariants as requests
+use Rattle.pc_proto.specs.Requests.{is_about, subject_anchor}
 use Rattle.pc_world.specs.Known.{Known, call_in, next_number}
 use Rattle.pc_world.specs.Known.Statements.{Statement}
 use Rattle.pc_world.specs.Known.Traffic.{Heard, Sent}
 use Rattle.pc_world.specs.Known.Transactions.{Txn, meta_of, txn_sent, with_lock}
 use Rattle.pc_world.specs.Known.Writes.{Write, last_seq_of}
-use Rattle.pc_world.specs.RangeOf.{AreRising}
 use Rattle.pc_world.specs.SameRequest.{IsSameRequest}
 use Rattle.pc_world.specs.Send.Put.{AsksFor}
-use Rattle.pc_world.specs.StageFate.{IsDead, IsRefused, OnCommit}
-use Rattle.pc_world.specs.Views.{anchor_in, is_about}
+use Rattle.pc_world.specs.StageFate.{IsDead, OnCommit, WasCommitRefused}
 use Rattle.pc_coord.proofs.Puts.{anchor-some, asks_for, no_put, none_heard_next, own_put, put_for, said_last, same_put, undecided}
 
 abbrev pub new_write : ℕ → ℕ → List ℕ → Option (List ℕ) → Write
@@ -50,7 +51,7 @@ laid key value t = record t {
 }
 
 abbrev pub first_put : List ℕ → Option (List ℕ) → Txn → Request
-first_put key value t = put_of (with_write key value (transaction_of false None t)) (unwrap_or t.anchor key) key value
+first_put key value t = put_of (with_own_write key value (transaction_of false None t)) (unwrap_or t.anchor key) key value
 
 sent-first : (key : List ℕ) (value : Option (List ℕ)) (t : Txn) → txn_sent (first_put key value t) t ≡ laid key value t
 sent-first key value t =
@@ -66,12 +67,12 @@ last-laid : (key : List ℕ) (value : Option (List ℕ)) (t : Txn) → last_seq_
 last-laid key value t = let e = last_seq-push t.writes (new_write (last_seq_of t.writes + 1) t.write_ts key value) in omega (arith, e)
 
 -- it is what the coordinator made of its own
-laid-same : (key : List ℕ) (value : Option (List ℕ)) (t : Txn) → with_write key value (transaction_of false None t) ≡ transaction_of false (Some (record { key = key; value = value })) (laid key value t)
+laid-same : (key : List ℕ) (value : Option (List ℕ)) (t : Txn) → with_own_write key value (transaction_of false None t) ≡ transaction_of false (Some (record { key = key; value = value })) (laid key value t)
 laid-same key value t =
     let F : ℕ → Transaction = λ n. record (transaction_of false (Some (record { key = key; value = value })) (laid key value t)) { seq = n } in
     ap F (sym (last-laid key value t))
 
-about-anchored : (id : TxnId) (request : Request) → is_about id request ≡ true → anchor_in request ≡ None → ⊥
+about-anchored : (id : TxnId) (request : Request) → is_about id request ≡ true → subject_anchor request ≡ None → ⊥
 about-anchored id (requests.Get other epoch seq ts key) about none = cc
 about-anchored id (requests.Scan other epoch seq ts span) about none = cc
 about-anchored id (requests.Put meta seq ts key value) about none = cc
@@ -81,7 +82,7 @@ about-anchored id (requests.Resolve other key fate) about none = cc
 about-anchored id requests.Records about none = cc
 about-anchored id request about none = cc
 
-anchor-kept : (id : TxnId) (key : List ℕ) (request : Request) (anchor : Option (List ℕ)) → is_about id request ≡ true → anchor_in request ≡ anchor → anchor_in request ≡ option_or anchor (Some key)
+anchor-kept : (id : TxnId) (key : List ℕ) (request : Request) (anchor : Option (List ℕ)) → is_about id request ≡ true → subject_anchor request ≡ anchor → subject_anchor request ≡ option_or anchor (Some key)
 anchor-kept id key request None about is = absurd (about-anchored id request about is)
 anchor-kept id key request (Some anchor) about is = is
 
@@ -101,7 +102,7 @@ module _ (c : Coordination) (k : Known) (key : List ℕ) (value : Option (List �
   w = record { key = key; value = value }
 
   abbrev x : Transaction
-  x = with_write key value (transaction_of false None t)
+  x = with_own_write key value (transaction_of false None t)
 
   abbrev request : Request
   request = first_put key value t
@@ -168,7 +169,7 @@ module _ (c : Coordination) (k : Known) (key : List ℕ) (value : Option (List �
           behind = plain.behind;
           at_begin = λ none. let e : Some (unwrap_or t.anchor key) ≡ None = sym (anchor-some t.anchor key) ∙ none in absurd cc;
           below = plain.below;
-          refused = All-push (λ m. OnCommit t.id (IsRefused k.heard) m.request) k.sent m plain.refused tt;
+          refused = All-push (λ m. OnCommit t.id (WasCommitRefused k.heard) m.request) k.sent m plain.refused tt;
           views = All-weaker (IsPendingOf t) (IsPendingOf t2) (pending-laid key value t) k.heard plain.views;
         }
 

@@ -1,5 +1,6 @@
 -- A call that needs a transaction is told where none is open.
 use Rattle.std.proofs.Common.{◌≡◌, ℕ, true, false, None, refl}
+use Rattle.pc_base.specs.Rising.{AreRising}
 use Rattle.pc_coord.proofs.Beginning.{no_messages, none_left}
 use Rattle.pc_coord.proofs.Resting.{closed_told, no_txn}
 use Rattle.pc_coord.proofs.Steps.{asked, counted-asked, told}
@@ -11,7 +12,6 @@ use Rattle.pc_proto.specs.declared.answer.Answer.TheVariants as answers
 use Rattle.pc_proto.specs.declared.call.Call.{Call}
 use Rattle.pc_world.specs.Known.{Known}
 use Rattle.pc_world.specs.MayTell.{needs_txn}
-use Rattle.pc_world.specs.RangeOf.{AreRising}
 
 pub told_no_txn : (c : Coordination) (k : Known) (call : Call) (reading : ℕ) → AreRising c.splits → c.job ≡ None → IsCounted c.session c.clock c.begun k → needs_txn call ≡ true → k.is_open ≡ false
     → Knows (record c { txn = None; due = dues.Tell answers.NoTxn }) (asked call reading k)

@@ -2,8 +2,8 @@
 use Rattle.std.proofs.Common.{◌≡◌, ℕ, ◌+◌, ◌≤◌, Bool, true, false, List, [], ◌∷◌, ◌++◌, count_by, sym, ap, ◌∙◌, subst, arith}
 use Rattle.pc_base.specs.declared.transaction.TxnId.{TxnId}
 use Rattle.pc_base.specs.Transaction.{same_txn}
-use Rattle.pc_coord.proofs.Rounds.{count-append, count-cons, one_if}
-use Rattle.pc_coord.specs.Rounds.{IsPaced, was_met, was_pushed, was_settled}
+use Rattle.pc_coord.specs.Rounds.{IsPaced, shows_resolve, was_met, was_pushed}
+use Rattle.pc_lists.proofs.Counts.{count-append, count-cons, one_if}
 use Rattle.pc_proto.specs.declared.meta.TxnMeta.{TxnMeta}
 use Rattle.pc_proto.specs.declared.reply.Reply.TheVariants as replies
 use Rattle.pc_world.specs.Known.{Known}
@@ -22,14 +22,14 @@ none_more b c e = subst (λ b. one_if b ≤ one_if c) (sym e) (by c)
     by true = omega arith
     by false = omega arith
 
-module _ (pending : List TxnId) (k new : Known) (h : Heard) (more : new.heard_now ≡ k.heard_now ++ h ∷ []) (no_push : (id : TxnId) → was_pushed id h ≡ false) (no_settle : (id : TxnId) → was_settled id h ≡ false) (paced : IsPaced pending k) where
+module _ (pending : List TxnId) (k new : Known) (h : Heard) (more : new.heard_now ≡ k.heard_now ++ h ∷ []) (no_push : (id : TxnId) → was_pushed id h ≡ false) (no_settle : (id : TxnId) → shows_resolve id h ≡ false) (paced : IsPaced pending k) where
   one_more : (p : Heard → Bool) → count_by p new.heard_now ≡ count_by p k.heard_now + one_if (p h)
   one_more p = ap (count_by p) more ∙ count-push p k.heard_now h
 
-  resolves : (id : TxnId) → count_by (was_settled id) new.heard_now ≤ count_by (was_pushed id) new.heard_now
+  resolves : (id : TxnId) → count_by (shows_resolve id) new.heard_now ≤ count_by (was_pushed id) new.heard_now
   resolves id =
-      let low = kept (count_by (was_settled id) k.heard_now) 0 (count_by (was_pushed id) k.heard_now) (count_by (was_settled id) new.heard_now) (count_by (was_pushed id) new.heard_now)
-      (one_if (was_settled id h)) (one_if (was_pushed id h)) (omega (arith, paced.resolves id)) (one_more (was_settled id)) (one_more (was_pushed id)) (none_more (was_settled id h) (was_pushed id h) (no_settle id)) in
+      let low = kept (count_by (shows_resolve id) k.heard_now) 0 (count_by (was_pushed id) k.heard_now) (count_by (shows_resolve id) new.heard_now) (count_by (was_pushed id) new.heard_now)
+      (one_if (shows_resolve id h)) (one_if (was_pushed id h)) (omega (arith, paced.resolves id)) (one_more (shows_resolve id)) (one_more (was_pushed id)) (none_more (shows_resolve id h) (was_pushed id h) (no_settle id)) in
       omega arith
 
   pub paced-heard : IsPaced pending new
@@ -59,7 +59,7 @@ module _ (pending : List TxnId) (k new : Known) (h : Heard) (more : new.heard_no
 pub paced-nothing : (k : Known) → k.heard_now ≡ [] → IsPaced [] k
 paced-nothing k none = record {
   pushes = λ id. pushes (count_by (was_pushed id) k.heard_now) (count_by (was_met id) k.heard_now) (ap (count_by (was_pushed id)) none);
-  resolves = λ id. resolves (count_by (was_settled id) k.heard_now) (count_by (was_pushed id) k.heard_now) (ap (count_by (was_settled id)) none);
+  resolves = λ id. resolves (count_by (shows_resolve id) k.heard_now) (count_by (was_pushed id) k.heard_now) (ap (count_by (shows_resolve id)) none);
 }
   where
     pushes : (p q : ℕ) → p ≡ 0 → p + 0 ≤ q

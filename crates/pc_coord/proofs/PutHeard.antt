@@ -4,17 +4,17 @@ use Rattle.std.proofs.Math.Seq.{take-append_seam}
 use Rattle.std.specs.List.{list_any}
 use Rattle.std.proofs.lemmas.List.Elements.{All-push}
 use Rattle.pc_base.specs.declared.actor.ActorId.TheVariants as actors
+use Rattle.pc_base.specs.Rising.{AreRising}
 use Rattle.pc_base.specs.Transaction.{same_txn}
 use Rattle.pc_coord.proofs.GivingUp.{write_within}
 use Rattle.pc_coord.proofs.Ids.{on_commits-more, views-as}
 use Rattle.pc_coord.proofs.LaidAgain.{last_is}
 use Rattle.pc_coord.proofs.LaidFirst.{first_knows}
 use Rattle.pc_coord.proofs.Puts.{asks_for}
-use Rattle.pc_coord.proofs.Lists.{any_last}
 use Rattle.pc_coord.proofs.Pacing.{paced-heard}
 use Rattle.pc_coord.proofs.Replies.{still_open}
 use Rattle.pc_coord.proofs.Resting.{open_is, told_in}
-use Rattle.pc_coord.proofs.Same.{if_true, same_epoch-self, same_txn-self}
+use Rattle.pc_coord.proofs.Same.{if_true, same_epoch-self}
 use Rattle.pc_coord.proofs.Settled.{settled_told}
 use Rattle.pc_coord.proofs.Steps.{counted-told, heard, told, told_is}
 use Rattle.pc_coord.proofs.Writes.{all_proved, proved-last_seq}
@@ -27,20 +27,22 @@ use Rattle.pc_coord.specs.Knows.Held.{IsCounted, IsHeld, IsPendingOf, IsPlain, I
 use Rattle.pc_coord.specs.Knows.Sending.{learned}
 use Rattle.pc_coord.specs.Knows.Writing.{AwaitsPut, write_call}
 use Rattle.pc_coord.specs.Rounds.{IsPaced}
-use Rattle.pc_coord.specs.Transaction.{landed, put_of, transaction_of, with_write}
+use Rattle.pc_coord.specs.Transaction.{landed, put_of, transaction_of, with_own_write}
 use Rattle.pc_coord.specs.Suiting.{IsWriter}
+use Rattle.pc_lists.proofs.Anywhere.{any_last}
+use Rattle.pc_lists.proofs.Same.{same_txn-self}
 use Rattle.pc_proto.specs.declared.answer.Answer.TheVariants as answers
 use Rattle.pc_proto.specs.declared.event.Event.TheVariants as events
 use Rattle.pc_proto.specs.declared.reply.Reply.TheVariants as replies
-use Rattle.pc_world.specs.Follows.PipelinedPuts.{IsHeardOf, IsToOwnPut, is_written}
+use Rattle.pc_proto.specs.Replies.{is_written}
+use Rattle.pc_proto.specs.Requests.{is_put_of}
+use Rattle.pc_world.specs.Follows.PipelinedPuts.{IsHeardOf, IsToOwnPut}
 use Rattle.pc_world.specs.Known.{Known, open_txn}
 use Rattle.pc_world.specs.Known.Statements.{Statement}
 use Rattle.pc_world.specs.Known.Traffic.{Heard, Sent}
 use Rattle.pc_world.specs.Known.Transactions.{Txn, txn_heard}
 use Rattle.pc_world.specs.Known.Writes.{IsProvedBy, Write, last_seq_of, proved_at}
 use Rattle.pc_world.specs.MayTell.{MayTell}
-use Rattle.pc_world.specs.RangeOf.{AreRising}
-use Rattle.pc_world.specs.Send.Recovery.{is_put_of}
 use Rattle.pc_world.specs.Tell.Data.{IsFirstPut, IsPutFor, sent_before}
 
 -- The transaction once its put was written at this timestamp.
@@ -126,12 +128,12 @@ module _ (k : Known) (txn : Option Transaction) (number step at conflicts : ℕ)
 
   module _ (c : Coordination) (rising : AreRising c.splits) (job : c.job ≡ None) (counted : IsCounted c.session c.clock c.begun k2) where
     -- a write of an earlier call is followed by the call's own
-    pub landed_lays : c.txn ≡ Some (with_write w.key w.value (landed at x)) → c.due ≡ put_due (with_write w.key w.value (landed at x)).anchor w.key w.value false (with_write w.key w.value (landed at x)) → Knows c k2
+    pub landed_lays : c.txn ≡ Some (with_own_write w.key w.value (landed at x)) → c.due ≡ put_due (with_own_write w.key w.value (landed at x)).anchor w.key w.value false (with_own_write w.key w.value (landed at x)) → Knows c k2
     landed_lays held due =
         let is : landed at x ≡ transaction_of false None t2 = landed-same ∙ ap (λ r. transaction_of r None t2) a.writing.unread in
         first_knows c k2 w.key w.value a.writing.reading t2 others a.writing.open_as.is_open first (a.writing.open_as.unread a.writing.unread) counted settled a.writing.call
-        a.writing.before a.writing.split paced rising job (held ∙ ap (λ x. Some (with_write w.key w.value x)) is)
-        (due ∙ ap (λ x. put_due (with_write w.key w.value x).anchor w.key w.value false (with_write w.key w.value x)) is)
+        a.writing.before a.writing.split paced rising job (held ∙ ap (λ x. Some (with_own_write w.key w.value x)) is)
+        (due ∙ ap (λ x. put_due (with_own_write w.key w.value x).anchor w.key w.value false (with_own_write w.key w.value x)) is)
 
     abbrev s : Statement
     s = record { call = write_call w.key w.value; reading = a.writing.reading }

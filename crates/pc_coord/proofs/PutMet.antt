@@ -2,11 +2,12 @@
 use Rattle.std.proofs.Common.{◌≡◌, ℕ, suc, ◌+◌, ◌<◌, ◌≤◌, max, nat_le, nat_lt, Bool, true, false, cond, ◌&&◌, ◌==◌, inl, inr, List, [], ◌∷◌, map, Option, Some, None, refl, sym, ap, ◌∙◌, subst, arith, IsTrue}
 use Rattle.std.proofs.lemmas.Bool.{leb-false, leb-true, lt-ltb}
 use Rattle.pc_base.specs.declared.actor.ActorId.TheVariants as actors
+use Rattle.pc_base.specs.Rising.{AreRising}
 use Rattle.pc_base.specs.Transaction.{same_txn}
 use Rattle.pc_coord.proofs.GivingUp.{blocked_gives, gives_up}
 use Rattle.pc_coord.proofs.Lists.{at_least-kept, at_least-push, last-push}
 use Rattle.pc_coord.proofs.Pacing.{paced-met}
-use Rattle.pc_coord.proofs.Same.{if_true, same_epoch-self, same_txn-self}
+use Rattle.pc_coord.proofs.Same.{if_true, same_epoch-self}
 use Rattle.pc_coord.proofs.Settled.{settled_heard}
 use Rattle.pc_coord.proofs.Steps.{heard}
 use Rattle.pc_coord.specs.Coordination.{Coordination}
@@ -19,19 +20,19 @@ use Rattle.pc_coord.specs.Knows.Writing.{AwaitsPut, IsWriting, write_call}
 use Rattle.pc_coord.specs.Messages.{one_more}
 use Rattle.pc_coord.specs.Transaction.{put_of, transaction_of}
 use Rattle.pc_coord.specs.Turning.{due_of_conflict, met_due}
+use Rattle.pc_lists.proofs.Same.{same_txn-self}
 use Rattle.pc_proto.specs.declared.answer.Answer.TheVariants as answers
 use Rattle.pc_proto.specs.declared.meta.TxnMeta.{TxnMeta}
 use Rattle.pc_proto.specs.declared.reply.Reply.{Reply}
 use Rattle.pc_proto.specs.declared.reply.Reply.TheVariants as replies
 use Rattle.pc_proto.specs.declared.request.Request.{Request}
+use Rattle.pc_proto.specs.Replies.{is_conflict_with}
 use Rattle.pc_world.specs.Counting.{AtLeast}
 use Rattle.pc_world.specs.Known.{Known}
 use Rattle.pc_world.specs.Known.Traffic.{Heard, Sent}
 use Rattle.pc_world.specs.Known.Transactions.{Txn, txn_heard}
 use Rattle.pc_world.specs.Known.Writes.{Write}
 use Rattle.pc_world.specs.MayTell.{MayTellRow}
-use Rattle.pc_world.specs.RangeOf.{AreRising}
-use Rattle.pc_world.specs.Send.Recovery.{is_conflict_with}
 use Rattle.pc_world.specs.Tell.Refusal.{IsConflictOf, IsUncommittedIn, MayBlock}
 
 -- a conflict changes nothing of the transaction

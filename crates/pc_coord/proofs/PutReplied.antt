@@ -1,5 +1,6 @@
 -- The reply to a put was heard.
 use Rattle.std.proofs.Common.{◌≡◌, ℕ, max, Bool, true, false, Some, None, refl, sym, ap, ◌∙◌, subst, arith}
+use Rattle.pc_base.specs.Rising.{AreRising}
 use Rattle.pc_coord.proofs.Learned.{learn_heard}
 use Rattle.pc_coord.proofs.PutHeard.{landed_lays, landed_tells}
 use Rattle.pc_coord.proofs.PutMet.{put_met}
@@ -9,7 +10,7 @@ use Rattle.pc_coord.specs.Coordination.{Coordination}
 use Rattle.pc_coord.specs.declared.due.Wait.TheVariants as waits
 use Rattle.pc_coord.specs.declared.transaction.InFlight.{InFlight}
 use Rattle.pc_coord.specs.declared.transaction.Transaction.{Transaction}
-use Rattle.pc_coord.specs.Events.{IsHeard}
+use Rattle.pc_coord.specs.Events.{HearsAwaited}
 use Rattle.pc_coord.specs.Knows.{Awaits, Knows}
 use Rattle.pc_coord.specs.Knows.Held.{IsCounted}
 use Rattle.pc_coord.specs.Knows.Writing.{AwaitsPut}
@@ -20,12 +21,10 @@ use Rattle.pc_proto.specs.declared.event.Event.{Event}
 use Rattle.pc_proto.specs.declared.reply.Reply.{Reply}
 use Rattle.pc_proto.specs.declared.reply.Reply.TheVariants as replies
 use Rattle.pc_proto.specs.declared.request.Request.{Request}
-use Rattle.pc_proto.specs.Stamps.{reply_stamps}
+use Rattle.pc_proto.specs.Stamps.{greatest_of, reply_stamps}
 use Rattle.pc_world.specs.Answering.{IsPutReply, MayAnswer}
 use Rattle.pc_world.specs.Known.{Known, learn}
-use Rattle.pc_world.specs.Known.Clock.{last_of}
 use Rattle.pc_world.specs.Known.Traffic.{Heard}
-use Rattle.pc_world.specs.RangeOf.{AreRising}
 
 module _ (c : Coordination) (k : Known) (number step conflicts : ℕ) (again : Bool) (rising : AreRising c.splits) (job : c.job ≡ None) (counted : IsCounted c.session c.clock c.begun k) (a : AwaitsPut k c.txn number conflicts again) where
   abbrev x : Transaction
@@ -37,7 +36,7 @@ module _ (c : Coordination) (k : Known) (number step conflicts : ℕ) (again : B
   abbrev put : Request
   put = put_of x a.writing.anchor w.key w.value
 
-  counted2 : (reply : Reply) → IsCounted c.session (max c.clock (last_of (reply_stamps reply))) c.begun (heard (record { number = number; request = put; reply = reply; step = step }) k)
+  counted2 : (reply : Reply) → IsCounted c.session (max c.clock (greatest_of (reply_stamps reply))) c.begun (heard (record { number = number; request = put; reply = reply; step = step }) k)
   counted2 reply =
       let e = ap (λ x. x.id.number) a.writing.open_as.same in
       counted-heard c.session c.clock c.begun k counted (record { number = number; request = put; reply = reply; step = step }) a.counted
@@ -64,7 +63,7 @@ module _ (c : Coordination) (k : Known) (number step conflicts : ℕ) (again : B
   replied reply kind = absurd kind
 
 -- the reply that a call that writes waited for was heard
-pub put_heard : (c : Coordination) (k : Known) (p : Pair Event) (number step : ℕ) (reply : Reply) (conflicts : ℕ) (again : Bool) → AreRising c.splits → c.job ≡ None → IsHeard c number step reply k p
+pub put_heard : (c : Coordination) (k : Known) (p : Pair Event) (number step : ℕ) (reply : Reply) (conflicts : ℕ) (again : Bool) → AreRising c.splits → c.job ≡ None → HearsAwaited c number step reply k p
     → Awaits c.session c.clock c.begun c.txn number (waits.Put conflicts again) k → Knows (after_put_reply number conflicts again reply (with_heard reply c)) (learn p k)
 put_heard c k p number step reply conflicts again rising job is awaits =
     let a : AwaitsPut k c.txn number conflicts again = awaits.reply in

@@ -6,22 +6,22 @@ use Rattle.std.proofs.lemmas.Bool.{and_from, eq-eqb}
 use Rattle.std.proofs.lemmas.List.Elements.{All-head, All-tail, All-weaker}
 use Rattle.pc_base.specs.Transaction.{same_txn}
 use Rattle.pc_coord.proofs.Lists.{find-last}
-use Rattle.pc_coord.proofs.Same.{same_txn-self}
 use Rattle.pc_coord.proofs.Steps.{sent}
 use Rattle.pc_coord.specs.Knows.Held.{IsOwnHeard, IsOwnSent, PutsUpTo}
 use Rattle.pc_coord.specs.Knows.Writing.{write_call}
+use Rattle.pc_lists.proofs.Same.{same_txn-self}
 use Rattle.pc_proto.specs.declared.call.Call.TheVariants as calls
 use Rattle.pc_proto.specs.declared.meta.TxnMeta.{TxnMeta}
 use Rattle.pc_proto.specs.declared.request.Request.{Request}
 use Rattle.pc_proto.specs.declared.request.Request.TheVariants as requests
+use Rattle.pc_proto.specs.Requests.{is_put_of}
 use Rattle.pc_world.specs.Follows.CallMessages.{IsFor}
-use Rattle.pc_world.specs.Follows.EarlyTell.{IsDecided}
+use Rattle.pc_world.specs.Follows.EarlyTell.{IsCommitKnown}
 use Rattle.pc_world.specs.Known.{Known, call_in, next_number}
 use Rattle.pc_world.specs.Known.Traffic.{Sent}
 use Rattle.pc_world.specs.Known.Transactions.{Txn}
 use Rattle.pc_world.specs.SameRequest.{IsSameRequest}
 use Rattle.pc_world.specs.Send.Put.{AsksFor}
-use Rattle.pc_world.specs.Send.Recovery.{is_put_of}
 
 pub anchor-some : (anchor : Option (List ℕ)) (key : List ℕ) → option_or anchor (Some key) ≡ Some (unwrap_or anchor key)
 anchor-some None key = refl
@@ -40,7 +40,7 @@ pub put_for : (key : List ℕ) (value : Option (List ℕ)) (meta : TxnMeta) (seq
 put_for key None meta seq ts = refl
 put_for key (Some value) meta seq ts = refl
 
-pub undecided : (k : Known) (key : List ℕ) (value : Option (List ℕ)) (reading : ℕ) → k.statement ≡ Some (record { call = write_call key value; reading = reading }) → (t : Txn) (ts : ℕ) → IsDecided k t ts → ⊥
+pub undecided : (k : Known) (key : List ℕ) (value : Option (List ℕ)) (reading : ℕ) → k.statement ≡ Some (record { call = write_call key value; reading = reading }) → (t : Txn) (ts : ℕ) → IsCommitKnown k t ts → ⊥
 undecided k key value reading call t ts d = no_commit key value (sym (ap call_in call) ∙ d.asked)
 
 pub own_put : (meta : TxnMeta) (seq ts : ℕ) (key : List ℕ) (value : Option (List ℕ)) → is_put_of meta.id meta.epoch seq (requests.Put meta seq ts key value) ≡ true

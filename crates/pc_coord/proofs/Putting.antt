@@ -1,6 +1,7 @@
 -- A call puts a write.
 use Rattle.std.proofs.Common.{◌≡◌, ℕ, true, false, List, Option, Some, None, refl, sym, ap, ◌∙◌, subst, arith}
 use Rattle.std.proofs.lemmas.List.{append-nil}
+use Rattle.pc_base.specs.Rising.{AreRising}
 use Rattle.pc_coord.proofs.LaidAgain.{again_knows}
 use Rattle.pc_coord.proofs.LaidFirst.{first_knows}
 use Rattle.pc_coord.proofs.NoTxn.{told_no_txn}
@@ -8,7 +9,7 @@ use Rattle.pc_coord.proofs.Pacing.{paced-nothing}
 use Rattle.pc_coord.proofs.Resting.{asked_knows, rests}
 use Rattle.pc_coord.proofs.Settled.{settled_asked}
 use Rattle.pc_coord.proofs.Steps.{asked, counted-asked}
-use Rattle.pc_coord.specs.Coordinating.{after_put, put_in}
+use Rattle.pc_coord.specs.Coordinating.{after_put, put_with}
 use Rattle.pc_coord.specs.Coordination.{Coordination, put_due}
 use Rattle.pc_coord.specs.declared.transaction.InFlight.{InFlight}
 use Rattle.pc_coord.specs.declared.transaction.Transaction.{Transaction}
@@ -16,14 +17,13 @@ use Rattle.pc_coord.specs.Events.{IsAsked, IsSameWrite, MayWrite, Suits}
 use Rattle.pc_coord.specs.Knows.{Knows}
 use Rattle.pc_coord.specs.Knows.Held.{IsCounted, IsHeld, IsOpenAs, IsSettled}
 use Rattle.pc_coord.specs.Knows.Writing.{IsWriting, write_call}
-use Rattle.pc_coord.specs.Transaction.{transaction_of, with_write}
+use Rattle.pc_coord.specs.Transaction.{transaction_of, with_own_write}
 use Rattle.pc_coord.specs.Turning.{write_due, write_txn}
 use Rattle.pc_history.specs.declared.pair.Pair.{Pair}
 use Rattle.pc_proto.specs.declared.event.Event.{Event}
 use Rattle.pc_world.specs.Known.{Known, learn}
 use Rattle.pc_world.specs.Known.Transactions.{Txn}
 use Rattle.pc_world.specs.MayTell.{needs_txn}
-use Rattle.pc_world.specs.RangeOf.{AreRising}
 
 needs : (key : List ℕ) (value : Option (List ℕ)) → needs_txn (write_call key value) ≡ true
 needs key None = refl
@@ -42,9 +42,9 @@ module _ (c : Coordination) (k : Known) (key : List ℕ) (value : Option (List �
 
   -- with no write in flight the call's own is laid
   lays : (t : Txn) → IsOpenAs (transaction_of false None t) k t → IsSettled k t None
-      → Knows (record c { txn = Some (with_write key value (transaction_of false None t)); due = write_due None key value (transaction_of false None t) }) k2
+      → Knows (record c { txn = Some (with_own_write key value (transaction_of false None t)); due = write_due None key value (transaction_of false None t) }) k2
   lays t open_as settled =
-      first_knows (record c { txn = Some (with_write key value (transaction_of false None t)); due = write_due None key value (transaction_of false None t) }) k2 key value reading t open_as.others
+      first_knows (record c { txn = Some (with_own_write key value (transaction_of false None t)); due = write_due None key value (transaction_of false None t) }) k2 key value reading t open_as.others
       open_as.is_open open_as.first (open_as.unread refl) counted2 (settled_asked (write_call key value) reading k t None settled) refl k.sent (sym (append-nil k.sent)) (paced-nothing k2 refl) rising job refl refl
 
   -- a write that is in flight is sent again
@@ -79,11 +79,11 @@ module _ (c : Coordination) (k : Known) (key : List ℕ) (value : Option (List �
       → Knows (record c { txn = Some (write_txn flight key value x); due = write_due flight key value x }) k2
   put_flight x None t flight open_as settled unread same =
       let is : x ≡ transaction_of false None t = open_as.same ∙ ap (λ r. transaction_of r x.in_flight t) unread ∙ ap (λ f. transaction_of false f t) flight in
-      subst (λ x. Knows (record c { txn = Some (with_write key value x); due = write_due None key value x }) k2) (sym is)
+      subst (λ x. Knows (record c { txn = Some (with_own_write key value x); due = write_due None key value x }) k2) (sym is)
       (lays t (subst (λ x. IsOpenAs x k t) is open_as) settled)
   put_flight x (Some w) t flight open_as settled unread same = lays_again x w t flight unread open_as settled same
 
-  put_by : (txn : Option Transaction) → IsHeld txn k → Suits (write_call key value) txn → Knows (put_in key value txn c) k2
+  put_by : (txn : Option Transaction) → IsHeld txn k → Suits (write_call key value) txn → Knows (put_with key value txn c) k2
   put_by None none suits = told_no_txn c k (write_call key value) reading rising job counted (needs key value) none
   put_by (Some x) (t, open_as, settled) suits =
       let may = may_write key value x suits in

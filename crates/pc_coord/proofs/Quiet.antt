@@ -6,10 +6,10 @@ use Rattle.pc_coord.specs.Knows.Reading.{IsRead}
 use Rattle.pc_proto.specs.declared.reply.Reply.{Reply}
 use Rattle.pc_proto.specs.declared.request.Request.{Request}
 use Rattle.pc_proto.specs.declared.request.Request.TheVariants as requests
+use Rattle.pc_proto.specs.Requests.{is_put_of}
 use Rattle.pc_world.specs.Known.Traffic.{Sent}
 use Rattle.pc_world.specs.Known.Transactions.{Txn, txn_heard, txn_sent}
-use Rattle.pc_world.specs.Send.Recovery.{is_put_of}
-use Rattle.pc_world.specs.StageFate.{Commit, OnCommit}
+use Rattle.pc_world.specs.StageFate.{OnCommit, SentCommit}
 
 max-zero : (n : ℕ) → max n 0 ≡ n
 max-zero n = omega arith
@@ -40,7 +40,7 @@ quiet_read (requests.Scan id epoch seq ts span) is = record {
 }
 quiet_read r is = absurd is
 
-pub read_no_commit : (r : Request) → IsRead r → (id : TxnId) (P : Commit → Type 0) → OnCommit id P r
+pub read_no_commit : (r : Request) → IsRead r → (id : TxnId) (P : SentCommit → Type 0) → OnCommit id P r
 read_no_commit (requests.Get id epoch seq ts key) is other P = tt
 read_no_commit (requests.Scan id epoch seq ts span) is other P = tt
 read_no_commit r is other P = absurd is

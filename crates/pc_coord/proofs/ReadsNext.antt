@@ -9,22 +9,23 @@ use Rattle.pc_coord.proofs.Holders.{first_found, found_passes, held, held-found,
 use Rattle.pc_coord.proofs.InRead.{IsInRead, Proceeds, proceeds}
 use Rattle.pc_coord.proofs.ReadsOf.{IsReadOfCall, all_reads, all_unmap, reads_no_commit, same_read}
 use Rattle.pc_coord.proofs.Resting.{open_is}
-use Rattle.pc_coord.proofs.Rounds.{one_if}
-use Rattle.pc_coord.proofs.Same.{same_txn-self}
 use Rattle.pc_coord.proofs.Standings.{IsOtherSent, contains-in}
 use Rattle.pc_coord.proofs.Waits.{unsent_idle, waits_as}
-use Rattle.pc_coord.specs.Coordination.{Coordination, waits_for}
+use Rattle.pc_coord.specs.Coordination.{Coordination, awaits_number}
 use Rattle.pc_coord.specs.declared.due.Due.TheVariants as dues
 use Rattle.pc_coord.specs.declared.messages.Message.{Message}
 use Rattle.pc_coord.specs.declared.messages.Progress.{Progress}
 use Rattle.pc_coord.specs.declared.messages.Progress.TheVariants as progresses
 use Rattle.pc_coord.specs.Knows.{Knows, KnowsAt, LeavesNothing, MayCome}
-use Rattle.pc_coord.specs.Knows.Reading.{HasMet, IsUnheard, Stands, StandsAs}
+use Rattle.pc_coord.specs.Knows.Reading.{HasMet, IsUnheard, StandsAs, StandsWith}
 use Rattle.pc_coord.specs.Knows.Sending.{AwaitsNone, IsConflictNow, IsSendable}
-use Rattle.pc_coord.specs.Messages.{first_met, holder_in, holder_met, is_met, is_unsent, next_by, next_in, next_of_met, progress_unsent, read_at, waits_at}
+use Rattle.pc_coord.specs.Messages.{first_met, holder_met, is_met, is_unsent, next_by, next_in, next_of_met, progress_unsent, read_at, waits_at}
+use Rattle.pc_lists.proofs.Counts.{one_if}
+use Rattle.pc_lists.proofs.Same.{same_txn-self}
 use Rattle.pc_proto.specs.declared.call.Call.TheVariants as calls
 use Rattle.pc_proto.specs.declared.reply.Reply.{Reply}
 use Rattle.pc_proto.specs.declared.request.Request.{Request}
+use Rattle.pc_proto.specs.Replies.{holder_in}
 use Rattle.pc_world.specs.Follows.Resends.{MayGoAgain}
 use Rattle.pc_world.specs.Known.{Known, call_in}
 use Rattle.pc_world.specs.SameRequest.{IsSameRequest}
@@ -110,8 +111,8 @@ module _ (c : Coordination) (k : Known) (ms : List Message) (p : Proceeds c k ms
     -- and none that is waited for is of the same request
     none_awaited : (m : Message) → find is_unsent ms ≡ Some m → IsReadOfCall c.splits w.x w.call m.request → AwaitsNone c k m.request
     none_awaited m next is number other waits said same =
-        let f = found_some (waits_at number) ms (ap (waits_for number) (sym due) ∙ waits) in
-        let stands : Stands k w.t f.0 = found_all (waits_at number) (Stands k w.t) ms f.0 f.1 p.stand in
+        let f = found_some (waits_at number) ms (ap (awaits_number number) (sym due) ∙ waits) in
+        let stands : StandsWith k w.t f.0 = found_all (waits_at number) (StandsWith k w.t) ms f.0 f.1 p.stand in
         let unheard : IsUnheard k number f.0.request = subst (λ progress. StandsAs k w.t f.0.request progress) (waits_as number f.0.progress f.2) stands.as_far in
         let this : other ≡ f.0.request = let both : Some other ≡ Some f.0.request = sym said ∙ unheard.said in cc in
         differ-found is_unsent (waits_at number) (λ z. unsent_idle number z.progress) ms m f.0 next f.1 p.different (same_read m.request other is.kind same ∙ this)
@@ -119,13 +120,13 @@ module _ (c : Coordination) (k : Known) (ms : List Message) (p : Proceeds c k ms
     come_by : (met unsent : Option Message) → first_met ms ≡ met → find is_unsent ms ≡ unsent → MayCome c k (next_by met unsent)
     come_by None None first next = tt
     come_by None (Some m) first next =
-        let stands : Stands k w.t m = found_all is_unsent (Stands k w.t) ms m next p.stand in
+        let stands : StandsWith k w.t m = found_all is_unsent (StandsWith k w.t) ms m next p.stand in
         let e : m.progress ≡ progresses.Unsent = unsent_as m (found_passes is_unsent ms m next) in
         let is : IsReadOfCall c.splits w.x w.call m.request = found_all is_unsent (λ m. IsReadOfCall c.splits w.x w.call m.request) ms m next reads_all in
         (sendable m is (subst (λ progress. StandsAs k w.t m.request progress) e stands.as_far), none_awaited m next is)
     come_by (Some m) unsent first next =
         let found : find is_met ms ≡ Some m = first_found ms m first in
-        come_met m found m.progress refl (found_all is_met (λ m. IsReadOfCall c.splits w.x w.call m.request) ms m found reads_all) (found_all is_met (Stands k w.t) ms m found p.stand).as_far
+        come_met m found m.progress refl (found_all is_met (λ m. IsReadOfCall c.splits w.x w.call m.request) ms m found reads_all) (found_all is_met (StandsWith k w.t) ms m found p.stand).as_far
 
     next_comes : MayCome c k (next_in ms)
     next_comes = come_by (first_met ms) (find is_unsent ms) refl refl

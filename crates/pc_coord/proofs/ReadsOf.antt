@@ -6,17 +6,17 @@ use Rattle.pc_base.specs.declared.actor.ActorId.TheVariants as actors
 use Rattle.pc_base.specs.declared.span.Span.{Span}
 use Rattle.pc_base.specs.declared.span.Span.TheVariants.{One, Between}
 use Rattle.pc_base.specs.declared.transaction.TxnId.{TxnId}
+use Rattle.pc_base.specs.Rising.{AreRising}
 use Rattle.pc_base.specs.Span.{contains, is_empty}
 use Rattle.pc_coord.proofs.Resting.{open_is}
 use Rattle.pc_coord.proofs.Writes.{all_are_proved}
-use Rattle.pc_coord.specs.Beside.{is_beside}
+use Rattle.pc_coord.specs.Beside.{is_of_round_or_job}
 use Rattle.pc_coord.specs.declared.messages.Message.{Message}
 use Rattle.pc_coord.specs.declared.transaction.Transaction.{Transaction}
 use Rattle.pc_coord.specs.Knows.Held.{IsOpenAs, IsSettled}
 use Rattle.pc_coord.specs.Knows.Reading.{AreDifferent, AreReadsOf, IsRead, IsReadAt, Tells}
 use Rattle.pc_coord.specs.Messages.{read_at}
-use Rattle.pc_coord.specs.Reading.{messages_of, span_piece, spans_from, spans_in}
-use Rattle.pc_coord.specs.Rounds.{is_resolve_of}
+use Rattle.pc_coord.specs.Reading.{scan_messages, span_piece, spans_from, spans_in}
 use Rattle.pc_coord.specs.Transaction.{get_of, scan_of}
 use Rattle.pc_proto.specs.declared.call.Call.{Call}
 use Rattle.pc_proto.specs.declared.call.Call.TheVariants as calls
@@ -25,6 +25,8 @@ use Rattle.pc_proto.specs.declared.reply.Reply.{Reply}
 use Rattle.pc_proto.specs.declared.reply.Reply.TheVariants as replies
 use Rattle.pc_proto.specs.declared.request.Request.{Request}
 use Rattle.pc_proto.specs.declared.request.Request.TheVariants as requests
+use Rattle.pc_proto.specs.Replies.{is_conflict}
+use Rattle.pc_proto.specs.Requests.{is_about, is_push_of, is_resolve_of}
 use Rattle.pc_proto.specs.Stamps.{request_stamps}
 use Rattle.pc_world.proofs.Pieces.{pieces-differ}
 use Rattle.pc_world.specs.Answering.{MayAnswer}
@@ -33,11 +35,9 @@ use Rattle.pc_world.specs.Known.{Known, call_of}
 use Rattle.pc_world.specs.Known.Reads.{read_heard}
 use Rattle.pc_world.specs.Known.Transactions.{Txn}
 use Rattle.pc_world.specs.MaySend.{MaySendRow}
-use Rattle.pc_world.specs.RangeOf.{AreDistinct, AreRising, earlier_end, later_start, piece, pieces, pieces_from}
+use Rattle.pc_world.specs.RangeOf.{AreDistinct, earlier_end, later_start, piece, pieces, pieces_from}
 use Rattle.pc_world.specs.SameRequest.{IsSameRequest}
-use Rattle.pc_world.specs.Send.Recovery.{is_conflict, is_push_of}
 use Rattle.pc_world.specs.Tell.Refusal.{MayBlock}
-use Rattle.pc_world.specs.Views.{is_about}
 
 -- A request that reads, as the call asks for it.
 pub record IsReadOfCall (splits : List (List ℕ)) (x : Transaction) (call : Call) (r : Request) : Type 0 where
@@ -52,7 +52,7 @@ pub record IsReadOfCall (splits : List (List ℕ)) (x : Transaction) (call : Cal
 
 -- A request that is of no round and of no record.
 pub record IsPlainRead (r : Request) : Type 0 where
-  pub coordinated : is_beside r ≡ false
+  pub coordinated : is_of_round_or_job r ≡ false
   pub no_record : (id : TxnId) → is_about id r ≡ false
   pub no_push : (id : TxnId) → is_push_of id r ≡ false
   pub no_resolve : (id : TxnId) → is_resolve_of id r ≡ false
@@ -193,13 +193,13 @@ spans-pieces : (splits : List (List ℕ)) (span : Span) → spans_in splits span
 spans-pieces splits (One key) = refl
 spans-pieces splits (Between from to) = spans-from 0 None splits from to
 
-requests-of : (x : Transaction) (ps : List (ℕ × Span)) → map (λ m. m.request) (messages_of x (map (λ p. p.1) ps)) ≡ map (λ p. scan_of x p.1) ps
+requests-of : (x : Transaction) (ps : List (ℕ × Span)) → map (λ m. m.request) (scan_messages x (map (λ p. p.1) ps)) ≡ map (λ p. scan_of x p.1) ps
 requests-of x [] = refl
 requests-of x (p ∷ ps) = ap (λ rs. scan_of x p.1 ∷ rs) (requests-of x ps)
 
 -- the messages of a scan are the scans of its pieces
-pub scans_are : (splits : List (List ℕ)) (x : Transaction) (span : Span) → AreReadsOf splits x (calls.Scan span) (map (λ m. m.request) (messages_of x (spans_in splits span)))
-scans_are splits x span = ap (λ spans. map (λ m. m.request) (messages_of x spans)) (spans-pieces splits span) ∙ requests-of x (pieces splits span)
+pub scans_are : (splits : List (List ℕ)) (x : Transaction) (span : Span) → AreReadsOf splits x (calls.Scan span) (map (λ m. m.request) (scan_messages x (spans_in splits span)))
+scans_are splits x span = ap (λ spans. map (λ m. m.request) (scan_messages x spans)) (spans-pieces splits span) ∙ requests-of x (pieces splits span)
 
 other_scan : (x : Transaction) (one other : Span) → (one ≡ other → ⊥) → scan_of x one ≡ scan_of x other → ⊥
 other_scan x one other not same = let e : one ≡ other = cc in not e

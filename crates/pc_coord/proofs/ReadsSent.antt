@@ -26,23 +26,23 @@ use Rattle.pc_coord.specs.declared.messages.Message.{Message}
 use Rattle.pc_coord.specs.declared.messages.Progress.{Progress}
 use Rattle.pc_coord.specs.declared.messages.Progress.TheVariants as progresses
 use Rattle.pc_coord.specs.declared.next.Next.TheVariants as nexts
-use Rattle.pc_coord.specs.Events.{IsSent}
+use Rattle.pc_coord.specs.Events.{SendsDue}
 use Rattle.pc_coord.specs.Knows.{Knows}
 use Rattle.pc_coord.specs.Knows.Held.{IsOpenAs, IsOwnHeard, IsOwnSent, IsSettled, PutsUpTo}
-use Rattle.pc_coord.specs.Knows.Reading.{AreReadsOf, AreDifferent, IsUnheard, Stands, StandsAs, holders_met}
-use Rattle.pc_coord.specs.Messages.{blocked_by, change_first, first_met, is_met, is_sent, is_unsent, next_in, progress_waits, sent_as, waits_at}
+use Rattle.pc_coord.specs.Knows.Reading.{AreReadsOf, AreDifferent, IsUnheard, StandsAs, StandsWith, holders_met}
+use Rattle.pc_coord.specs.Messages.{blocked_by, change_first, first_met, is_awaited, is_met, is_unsent, next_in, progress_waits, sent_as, waits_at}
 use Rattle.pc_coord.specs.Rounds.{IsPaced}
 use Rattle.pc_history.specs.declared.pair.Pair.{Pair}
 use Rattle.pc_proto.specs.declared.event.Event.{Event}
 use Rattle.pc_proto.specs.declared.event.Event.TheVariants as events
 use Rattle.pc_proto.specs.declared.request.Request.{Request}
+use Rattle.pc_proto.specs.Requests.{is_put_of}
 use Rattle.pc_world.specs.Known.{Known, learn, next_number}
 use Rattle.pc_world.specs.Known.Traffic.{Sent, request_sent}
 use Rattle.pc_world.specs.Known.Transactions.{txn_sent}
 use Rattle.pc_world.specs.Known.Writes.{last_seq_of}
 use Rattle.pc_world.specs.SameRequest.{IsSameRequest}
-use Rattle.pc_world.specs.Send.Recovery.{is_put_of}
-use Rattle.pc_world.specs.StageFate.{IsRefused, OnCommit}
+use Rattle.pc_world.specs.StageFate.{OnCommit, WasCommitRefused}
 
 -- The message does not wait under this number.
 abbrev IsFree : ℕ → Message → Type 0
@@ -90,7 +90,7 @@ module _ (c : Coordination) (k : Known) (ms : List Message) (p : Proceeds c k ms
   none_more : ks.heard_now ≡ k.heard_now ++ []
   none_more = sym (append-nil k.heard_now)
 
-  new_stands : Stands ks w.t (sent_as n m)
+  new_stands : StandsWith ks w.t (sent_as n m)
   new_stands = record {
     as_far = record {
       said =
@@ -101,7 +101,7 @@ module _ (c : Coordination) (k : Known) (ms : List Message) (p : Proceeds c k ms
       unheard = All-weaker (IsOwnHeard c.session k.begun (length k.sent)) (λ h. h.number ≢ n) (λ h own e. absurd (omega (arith, own.numbered))) k.heard w.counted.heard;
     };
     met =
-        let s : Stands k w.t m = found_all is_unsent (Stands k w.t) ms m found p.stand in
+        let s : StandsWith k w.t m = found_all is_unsent (StandsWith k w.t) ms m found p.stand in
         s.met;
   }
 
@@ -113,31 +113,31 @@ module _ (c : Coordination) (k : Known) (ms : List Message) (p : Proceeds c k ms
     unheard = u.unheard;
   }
 
-  still_stands : (y : Message) → (IsSameRequest y.request m.request → ⊥) → Stands k w.t y → Stands ks w.t y
+  still_stands : (y : Message) → (IsSameRequest y.request m.request → ⊥) → StandsWith k w.t y → StandsWith ks w.t y
   still_stands y other s =
       stands-kept k ks (now ∷ []) [] refl none_more w.t y (All-cons (IsOtherSent y.request) now [] other (All-nil (IsOtherSent y.request))) (All-nil (IsOther y.request))
       (λ number e. waits_on y.request number) s
 
   -- A message stands so, and reads.
   abbrev StandsRead : Message → Type 0
-  StandsRead y = Stands k w.t y × IsReadOfCall c.splits w.x w.call y.request
+  StandsRead y = StandsWith k w.t y × IsReadOfCall c.splits w.x w.call y.request
 
-  stand_all : All (Stands ks w.t) changed
+  stand_all : All (StandsWith ks w.t) changed
   stand_all =
-      changed_other AreTwo is_unsent (sent_as n) StandsRead (Stands ks w.t) ms m found
+      changed_other AreTwo is_unsent (sent_as n) StandsRead (StandsWith ks w.t) ms m found
       (λ y s two. still_stands y (λ same. two.differ (same_read y.request m.request s.1.kind same)) s.0)
       (λ y s two. still_stands y (λ same. two.differ (sym (same_read y.request m.request s.1.kind same))) s.0)
       (λ s. new_stands)
-      (all_with (Stands k w.t) (λ y. IsReadOfCall c.splits w.x w.call y.request) ms p.stand (reads_all c k ms p))
+      (all_with (StandsWith k w.t) (λ y. IsReadOfCall c.splits w.x w.call y.request) ms p.stand (reads_all c k ms p))
       (all_two ms p.different p.apart)
 
-  free_of : (y : Message) → Stands k w.t y → IsFree n y
+  free_of : (y : Message) → StandsWith k w.t y → IsFree n y
   free_of y s is =
       stands_free k n y (omega arith) y.progress is
       (λ number e. let u : IsUnheard k number y.request = subst (λ progress. StandsAs k w.t y.request progress) e s.as_far in u.counted)
 
   free : All (IsFree n) ms
-  free = All-weaker (Stands k w.t) (IsFree n) free_of ms p.stand
+  free = All-weaker (StandsWith k w.t) (IsFree n) free_of ms p.stand
 
   open_sent : IsOpenAs w.x ks w.t
   open_sent = record {
@@ -161,7 +161,7 @@ module _ (c : Coordination) (k : Known) (ms : List Message) (p : Proceeds c k ms
           behind = p.behind;
           at_begin = p.at_begin;
           below = p.below;
-          refused = All-push (λ m. OnCommit w.t.id (IsRefused k.heard) m.request) k.sent now p.refused (read_no_commit m.request is_read.kind w.t.id (IsRefused k.heard));
+          refused = All-push (λ m. OnCommit w.t.id (WasCommitRefused k.heard) m.request) k.sent now p.refused (read_no_commit m.request is_read.kind w.t.id (WasCommitRefused k.heard));
           views = p.views;
         };
         proved = w.settled.proved;
@@ -212,14 +212,14 @@ module _ (c : Coordination) (k : Known) (ms : List Message) (p : Proceeds c k ms
   -- while one is waited for, no conflict's round is made
   unblocked_sent : option_and_then blocked_by (first_met changed) ≡ None
   unblocked_sent =
-      let some : list_any is_sent changed ≡ true = changed_any is_unsent (sent_as n) is_sent ms m found (λ y. refl) in
+      let some : list_any is_awaited changed ≡ true = changed_any is_unsent (sent_as n) is_awaited ms m found (λ y. refl) in
       ap (λ b. option_and_then blocked_by (cond b None (find is_met changed))) some
 
   next_sends : Knows (with_due (dues.Read changed) c) ks
   next_sends = awaits c ks changed proceeds_sent unblocked_sent
 
 -- after the first message that is to be sent was sent
-pub reads_sent : (c : Coordination) (k : Known) (p : Pair Event) (number range : ℕ) (request : Request) (ms : List Message) → Knows c k → c.due ≡ dues.Read ms → IsSent c number range request k p
+pub reads_sent : (c : Coordination) (k : Known) (p : Pair Event) (number range : ℕ) (request : Request) (ms : List Message) → Knows c k → c.due ≡ dues.Read ms → SendsDue c number range request k p
     → Knows (with_due (dues.Read (change_first is_unsent (sent_as number) ms)) c) (learn p k)
 reads_sent c k p number range request ms knows due is =
     let comes : next_in ms ≡ nexts.Send request = ap next_of (sym due) ∙ is.due in

@@ -14,10 +14,10 @@ use Rattle.pc_coord.proofs.InRead.{IsInRead, Proceeds}
 use Rattle.pc_coord.proofs.ReadsNext.{reads_all, reads_of}
 use Rattle.pc_coord.proofs.ReadsOf.{IsReadOfCall, plain_read}
 use Rattle.pc_coord.proofs.ReadsTold.{reads_on, tells_blocked, tells_lost}
-use Rattle.pc_coord.proofs.Rounds.{HasLeft, not_beside, one_if, refused-heard, settled-again, settled-paced}
+use Rattle.pc_coord.proofs.Rounds.{HasLeft, not_beside, refused-heard, settled-again, settled-paced}
 use Rattle.pc_coord.proofs.Standings.{IsOther, IsOtherSent, conflicts-kept, stands-kept}
 use Rattle.pc_coord.proofs.Waits.{all_idle, conflict_idle, met_next}
-use Rattle.pc_coord.specs.Beside.{IsBeside, IsLaterBeside, is_beside}
+use Rattle.pc_coord.specs.Beside.{IsBeside, IsLaterBeside, is_of_round_or_job}
 use Rattle.pc_coord.specs.Coordinating.{read_round, reads_after_round}
 use Rattle.pc_coord.specs.Coordination.{Coordination, with_clock, with_due}
 use Rattle.pc_coord.specs.declared.due.Due.TheVariants as dues
@@ -27,19 +27,21 @@ use Rattle.pc_coord.specs.declared.next.Next.TheVariants as nexts
 use Rattle.pc_coord.specs.declared.round.Round.{Round}
 use Rattle.pc_coord.specs.declared.round.Round.TheVariants as rounds
 use Rattle.pc_coord.specs.Knows.{Knows}
-use Rattle.pc_coord.specs.Knows.Reading.{AreDifferent, AreReadsOf, HasMet, IsReadAt, Stands, StandsAs, holders_met}
-use Rattle.pc_coord.specs.Messages.{again, change_first, due_of_reads, first_met, holder_in, holder_met, is_met, is_sent, is_unsent, met_at, next_in, progress_met_at, progress_sent}
+use Rattle.pc_coord.specs.Knows.Reading.{AreDifferent, AreReadsOf, HasMet, IsReadAt, StandsAs, StandsWith, holders_met}
+use Rattle.pc_coord.specs.Messages.{again, change_first, due_of_reads, first_met, holder_met, is_awaited, is_met, is_unsent, met_at, next_in, progress_met_at, progress_sent}
 use Rattle.pc_coord.specs.Rounds.{EndsRound, IsSettledRound}
 use Rattle.pc_coord.specs.Turning.{blocked_due}
+use Rattle.pc_lists.proofs.Counts.{one_if}
 use Rattle.pc_proto.specs.declared.reply.Reply.{Reply}
 use Rattle.pc_proto.specs.declared.reply.Reply.TheVariants as replies
 use Rattle.pc_proto.specs.declared.request.Request.{Request}
 use Rattle.pc_proto.specs.declared.request.Request.TheVariants as requests
+use Rattle.pc_proto.specs.Replies.{holder_in}
 use Rattle.pc_world.specs.Known.{Known}
 use Rattle.pc_world.specs.Known.Reads.{read_heard}
 
 -- a message beside the coordinator reads nothing
-beside_reads : (ts : ℕ) (request : Request) (reply : Reply) → is_beside request ≡ true → All (λ r. r.ts ≡ ts) (read_heard request reply)
+beside_reads : (ts : ℕ) (request : Request) (reply : Reply) → is_of_round_or_job request ≡ true → All (λ r. r.ts ≡ ts) (read_heard request reply)
 beside_reads ts (requests.Get id epoch seq at key) reply is = absurd cc
 beside_reads ts (requests.Scan id epoch seq at span) reply is = absurd cc
 beside_reads ts request reply is = All-nil (λ r. r.ts ≡ ts)
@@ -69,11 +71,11 @@ module _ (c : Coordination) (start k : Known) (ms : List Message) (p : Proceeds 
     opened = beside.statement ∙ w.opened;
   }
 
-  others : (request : Request) → is_beside request ≡ false → All (IsOther request) beside.heard_more
+  others : (request : Request) → is_of_round_or_job request ≡ false → All (IsOther request) beside.heard_more
   others request coordinated =
       All-weaker (λ h. IsBeside c h.request) (IsOther request) (λ h is. not_beside request h.request coordinated is.kind) beside.heard_more beside.heard_beside
 
-  news : (request : Request) → is_beside request ≡ false → All (IsOtherSent request) beside.sent_more
+  news : (request : Request) → is_of_round_or_job request ≡ false → All (IsOtherSent request) beside.sent_more
   news request coordinated =
       All-weaker (λ m. IsBeside c m.request) (IsOtherSent request) (λ m is. not_beside request m.request coordinated is.kind) beside.sent_more beside.sent_beside
 
@@ -83,12 +85,12 @@ module _ (c : Coordination) (start k : Known) (ms : List Message) (p : Proceeds 
       All-weaker (λ h. IsBeside c h.request) (IsReadAt w.t.read_ts) (λ h is. beside_reads w.t.read_ts h.request h.reply is.kind) beside.heard_more beside.heard_beside in
       subst (λ hs. All (IsReadAt w.t.read_ts) hs) (sym beside.heard_now) (All-append (IsReadAt w.t.read_ts) start.heard_now beside.heard_more p.at_read_ts more)
 
-  module _ (number : ℕ) (conflict : Reply) (m : Message) (first : find is_met ms ≡ Some m) (at : m.progress ≡ progresses.Met number conflict) (idle : list_any is_sent ms ≡ false) where
+  module _ (number : ℕ) (conflict : Reply) (m : Message) (first : find is_met ms ≡ Some m) (at : m.progress ≡ progresses.Met number conflict) (idle : list_any is_awaited ms ≡ false) where
     found : find (met_at number) ms ≡ Some m
     found = found_at number ms m first (ap (progress_met_at number) at ∙ eq-eqb number number refl)
 
-    stands_m : Stands start w.t m
-    stands_m = found_all is_met (Stands start w.t) ms m first p.stand
+    stands_m : StandsWith start w.t m
+    stands_m = found_all is_met (StandsWith start w.t) ms m first p.stand
 
     has : HasMet start w.t number m.request conflict
     has = subst (λ progress. StandsAs start w.t m.request progress) at stands_m.as_far
@@ -103,7 +105,7 @@ module _ (c : Coordination) (start k : Known) (ms : List Message) (p : Proceeds 
     asked_again = change_first (met_at number) again ms
 
     module _ (round : IsSettledRound has.holder.id has.key start k) where
-      new_stands : Stands k w.t (again m)
+      new_stands : StandsWith k w.t (again m)
       new_stands = record {
         as_far =
             inr
@@ -114,20 +116,20 @@ module _ (c : Coordination) (start k : Known) (ms : List Message) (p : Proceeds 
 
       -- A message stands so, reads, and is not waited for.
       abbrev StandsIdle : Message → Type 0
-      StandsIdle y = (Stands start w.t y × IsReadOfCall c.splits w.x w.call y.request) × (is_sent y ≡ false)
+      StandsIdle y = (StandsWith start w.t y × IsReadOfCall c.splits w.x w.call y.request) × (is_awaited y ≡ false)
 
-      still_stands : (y : Message) → StandsIdle y → Stands k w.t y
+      still_stands : (y : Message) → StandsIdle y → StandsWith k w.t y
       still_stands y s =
           stands-kept start k beside.sent_more beside.heard_more beside.sent_now beside.heard_now w.t y (news y.request (plain_read y.request s.0.1.kind).coordinated)
           (others y.request (plain_read y.request s.0.1.kind).coordinated)
-          (λ n e u. let sent : is_sent y ≡ true = ap progress_sent e in absurd cc) s.0.0
+          (λ n e u. let sent : is_awaited y ≡ true = ap progress_sent e in absurd cc) s.0.0
 
-      stand_all : All (Stands k w.t) asked_again
+      stand_all : All (StandsWith k w.t) asked_again
       stand_all =
           let reads = reads_all c start ms p in
-          changed_found (met_at number) again StandsIdle (Stands k w.t) ms m found still_stands new_stands
-          (all_with (λ y. Stands start w.t y × IsReadOfCall c.splits w.x w.call y.request) (λ y. is_sent y ≡ false) ms
-          (all_with (Stands start w.t) (λ y. IsReadOfCall c.splits w.x w.call y.request) ms p.stand reads) (all_idle ms idle))
+          changed_found (met_at number) again StandsIdle (StandsWith k w.t) ms m found still_stands new_stands
+          (all_with (λ y. StandsWith start w.t y × IsReadOfCall c.splits w.x w.call y.request) (λ y. is_awaited y ≡ false) ms
+          (all_with (StandsWith start w.t) (λ y. IsReadOfCall c.splits w.x w.call y.request) ms p.stand reads) (all_idle ms idle))
 
       one_less : HasLeft has.holder.id (holders_met ms) (holders_met asked_again)
       one_less other =

@@ -3,7 +3,7 @@ use Rattle.std.proofs.Common.{◌≡◌, ℕ, true, cond, List, ◌∷◌, Some,
 use Rattle.pc_coord.proofs.Learned.{learn_heard, request_of}
 use Rattle.pc_coord.proofs.Steps.{heard, heard_is}
 use Rattle.pc_coord.specs.Coordination.{Coordination}
-use Rattle.pc_coord.specs.Events.{IsHeard}
+use Rattle.pc_coord.specs.Events.{HearsAwaited}
 use Rattle.pc_coord.specs.Knows.Ending.{IsLastSent}
 use Rattle.pc_history.specs.declared.pair.Pair.{Pair}
 use Rattle.pc_proto.specs.declared.answer.Answer.{Answer}
@@ -25,7 +25,7 @@ still_open k answer t others opened first =
 abbrev pub reply_known : ℕ → ℕ → Request → Reply → Known → Known
 reply_known number step request reply k = heard (record { number = number; request = request; reply = reply; step = step }) k
 
-pub learned_to : (c : Coordination) (k : Known) (p : Pair Event) (number step : ℕ) (reply : Reply) (request : Request) → IsHeard c number step reply k p → request_sent number k.sent ≡ Some request
+pub learned_to : (c : Coordination) (k : Known) (p : Pair Event) (number step : ℕ) (reply : Reply) (request : Request) → HearsAwaited c number step reply k p → request_sent number k.sent ≡ Some request
     → learn p k ≡ reply_known number step request reply k
 learned_to c k p number step reply request is said =
     learn_heard c k p number step reply request is said ∙ heard_is (record { number = number; request = request; reply = reply; step = step }) k

@@ -5,20 +5,22 @@ use Rattle.std.proofs.lemmas.List.Elements.{All-append, All-cons, All-nil}
 use Rattle.std.proofs.lemmas.List.Sums.{sum_by-append, sum_by-cons}
 use Rattle.pc_base.specs.declared.transaction.TxnId.{TxnId}
 use Rattle.pc_base.specs.Transaction.{same_txn}
-use Rattle.pc_coord.proofs.Ids.{same-is}
-use Rattle.pc_coord.proofs.Lists.{any_head, any_last}
-use Rattle.pc_coord.specs.Beside.{is_beside}
-use Rattle.pc_coord.specs.Rounds.{IsPaced, IsRefusedRound, IsSettledRound, is_resolve_of, was_met, was_pushed, was_settled}
+use Rattle.pc_coord.specs.Beside.{is_of_round_or_job}
+use Rattle.pc_coord.specs.Rounds.{IsPaced, IsRefusedRound, IsSettledRound, shows_resolve, was_met, was_pushed}
+use Rattle.pc_lists.proofs.Anywhere.{any_head, any_last}
+use Rattle.pc_lists.proofs.Same.{same_txn-is}
 use Rattle.pc_proto.specs.declared.fate.Fate.{Fate}
 use Rattle.pc_proto.specs.declared.meta.TxnMeta.{TxnMeta}
 use Rattle.pc_proto.specs.declared.reply.Reply.TheVariants as replies
 use Rattle.pc_proto.specs.declared.request.Request.{Request}
 use Rattle.pc_proto.specs.declared.request.Request.TheVariants as requests
-use Rattle.pc_world.specs.Follows.Resends.{MetConflictNow, ResolvedTo, WasDone, WasSettled}
+use Rattle.pc_proto.specs.Requests.{is_push_of, is_resolve_of}
+use Rattle.pc_world.specs.Follows.Resends.{MetConflictNow, WasDone, WasSettled}
 use Rattle.pc_world.specs.Known.{Known}
 use Rattle.pc_world.specs.Known.Traffic.{Heard}
 use Rattle.pc_world.specs.SameRequest.{IsSameRequest}
-use Rattle.pc_world.specs.Send.Recovery.{is_push_of, was_refused}
+use Rattle.pc_world.specs.Send.Recovery.{was_refused}
+use Rattle.pc_world.specs.Send.Settling.{ResolvedTo}
 
 -- One where it is so, else none.
 abbrev pub one_if : Bool → ℕ
@@ -31,7 +33,7 @@ pub count-cons : {X : Type 0} (p : X → Bool) (x : X) (xs : List X) → count_b
 count-cons {X = X} p x xs = let f : X → ℕ = λ y. one_if (p y) in sum_by-cons f x xs
 
 push_as : (id : TxnId) (request : Request) → is_push_of id request ≡ true → (other : TxnId) → is_push_of other request ≡ same_txn id other
-push_as id (requests.Push holder by level now goal) is other = ap (λ id. same_txn id other) (same-is holder.id id is)
+push_as id (requests.Push holder by level now goal) is other = ap (λ id. same_txn id other) (same_txn-is holder.id id is)
 push_as id request is other = absurd cc
 
 push_settles : (id : TxnId) (request : Request) → is_push_of id request ≡ true → (other : TxnId) → is_resolve_of other request ≡ false
@@ -45,17 +47,17 @@ resolve_pushes : (id : TxnId) (key : List ℕ) (fate : Fate) (h : Heard) → Res
 resolve_pushes id key fate h is other = ap (is_push_of other) is.asked
 
 -- the message of a round is not of one request with one that the coordinator gives
-pub not_beside : (request other : Request) → is_beside request ≡ false → is_beside other ≡ true → IsSameRequest request other → ⊥
-not_beside request other not is (inl same) = let e : is_beside request ≡ true = ap is_beside same ∙ is in cc
+pub not_beside : (request other : Request) → is_of_round_or_job request ≡ false → is_of_round_or_job other ≡ true → IsSameRequest request other → ⊥
+not_beside request other not is (inl same) = let e : is_of_round_or_job request ≡ true = ap is_of_round_or_job same ∙ is in cc
 not_beside (requests.Put meta seq ts key value) (requests.Put holder at now lock laid) not is (inr put) = cc
 not_beside request other not is (inr put) = absurd put
 
-push_beside : (id : TxnId) (request : Request) → is_push_of id request ≡ true → is_beside request ≡ true
+push_beside : (id : TxnId) (request : Request) → is_push_of id request ≡ true → is_of_round_or_job request ≡ true
 push_beside id (requests.Push holder by level now goal) is = refl
 push_beside id request is = absurd cc
 
-resolve_beside : (id : TxnId) (key : List ℕ) (fate : Fate) (h : Heard) → ResolvedTo id key fate h → is_beside h.request ≡ true
-resolve_beside id key fate h is = ap is_beside is.asked
+resolve_beside : (id : TxnId) (key : List ℕ) (fate : Fate) (h : Heard) → ResolvedTo id key fate h → is_of_round_or_job h.request ≡ true
+resolve_beside id key fate h is = ap is_of_round_or_job is.asked
 
 -- Of these transactions no more are the one than of those, but for this one.
 abbrev pub HasLeft : TxnId → List TxnId → List TxnId → Type 0
@@ -83,20 +85,20 @@ module _ (id : TxnId) (key : List ℕ) (start k : Known) (round : IsSettledRound
       record {
         pushes = λ other. omega (arith, pushes other, counted (was_met other), one other, paced.pushes other);
         resolves = λ other.
-            let a : one_if (was_settled other round.push) ≡ 0 = ap one_if (push_settles id round.push.request round.pushed other) in
-            let b : one_if (was_settled other round.resolve) ≡ one_if (same_txn id other) = ap one_if (resolve_as id key round.fate round.resolve round.resolved other) in
-            omega (arith, pushes other, counted (was_settled other), a, b, paced.resolves other);
+            let a : one_if (shows_resolve other round.push) ≡ 0 = ap one_if (push_settles id round.push.request round.pushed other) in
+            let b : one_if (shows_resolve other round.resolve) ≡ one_if (same_txn id other) = ap one_if (resolve_as id key round.fate round.resolve round.resolved other) in
+            omega (arith, pushes other, counted (shows_resolve other), a, b, paced.resolves other);
       }
 
   -- the messages of the round are not of one request with this one
-  pub settled-others : (request : Request) → is_beside request ≡ false → All (λ h. IsSameRequest request h.request → ⊥) made
+  pub settled-others : (request : Request) → is_of_round_or_job request ≡ false → All (λ h. IsSameRequest request h.request → ⊥) made
   settled-others request not =
       let Other : Heard → Type 0 = λ h. IsSameRequest request h.request → ⊥ in
       All-cons Other round.push (round.resolve ∷ []) (not_beside request round.push.request not (push_beside id round.push.request round.pushed))
       (All-cons Other round.resolve [] (not_beside request round.resolve.request not (resolve_beside id key round.fate round.resolve round.resolved)) (All-nil Other))
 
   -- after the round the request that met the conflict may go again
-  pub settled-again : (request : Request) → is_beside request ≡ false → (before : List Heard) (h : Heard) (later : List Heard) → start.heard_now ≡ before ++ h ∷ later → IsSameRequest request h.request
+  pub settled-again : (request : Request) → is_of_round_or_job request ≡ false → (before : List Heard) (h : Heard) (later : List Heard) → start.heard_now ≡ before ++ h ∷ later → IsSameRequest request h.request
       → All (λ h. IsSameRequest request h.request → ⊥) later → (holder : TxnMeta) (ts : ℕ) → holder.id ≡ id → h.reply ≡ replies.Conflict holder ts key → MetConflictNow k request
   settled-again request not before h later whole same last holder ts whose met = record {
     before = before;

@@ -7,13 +7,13 @@ use Rattle.pc_coord.specs.declared.transaction.InFlight.{InFlight}
 use Rattle.pc_coord.specs.Knows.Held.{AreProved, IsPendingOf, IsSettled}
 use Rattle.pc_proto.specs.declared.answer.Answer.{Answer}
 use Rattle.pc_proto.specs.declared.call.Call.{Call}
+use Rattle.pc_proto.specs.Requests.{is_about}
 use Rattle.pc_world.specs.Known.{Known}
 use Rattle.pc_world.specs.Known.Clock.{high_told}
 use Rattle.pc_world.specs.Known.Reads.{Read}
 use Rattle.pc_world.specs.Known.Statements.{begun_told}
 use Rattle.pc_world.specs.Known.Traffic.{Heard}
 use Rattle.pc_world.specs.Known.Transactions.{Txn}
-use Rattle.pc_world.specs.Views.{is_about}
 
 -- what holds between statements holds when the next call is asked
 pub settled_asked : (call : Call) (reading : ℕ) (k : Known) (t : Txn) (in_flight : Option InFlight) → IsSettled k t in_flight → IsSettled (asked call reading k) t in_flight

@@ -7,7 +7,7 @@ use Rattle.pc_coord.proofs.WriteRounds.{put_settled}
 use Rattle.pc_coord.proofs.WriteWaits.{round_waits}
 use Rattle.pc_coord.specs.Beside.{IsLaterBeside}
 use Rattle.pc_coord.specs.Coordinating.{after_round, due_after_round, reads_after_round}
-use Rattle.pc_coord.specs.Coordination.{Coordination, next_of, waits_for, with_clock, with_due}
+use Rattle.pc_coord.specs.Coordination.{Coordination, awaits_number, next_of, with_clock, with_due}
 use Rattle.pc_coord.specs.declared.due.Due.{Due}
 use Rattle.pc_coord.specs.declared.due.Due.TheVariants as dues
 use Rattle.pc_coord.specs.declared.next.Next.TheVariants as nexts
@@ -42,7 +42,7 @@ settled_ok c old new start k number conflict reader round (Ok u) made knows hear
     subst (λ n. Knows n k) (sym (made ∙ ap (after_round round number) heard)) (settled_after c start k number conflict reader round knows later ends next)
 settled_ok c old new start k number conflict reader round (Err e) made knows heard next later ends = tt
 
-settled_waits_at : (number other : ℕ) (conflict : Reply) (reader : Option ℕ) (round : Round) (txn : Option Transaction) (due : Due) → next_of due ≡ nexts.Conflict number conflict reader → waits_for other (due_after_round round number txn due) ≡ false
+settled_waits_at : (number other : ℕ) (conflict : Reply) (reader : Option ℕ) (round : Round) (txn : Option Transaction) (due : Due) → next_of due ≡ nexts.Conflict number conflict reader → awaits_number other (due_after_round round number txn due) ≡ false
 settled_waits_at number other conflict reader round txn (dues.Met met told conflicts again) next = round_waits other round told conflicts again txn
 settled_waits_at number other conflict reader round txn (dues.Read messages) next = reads_settled_waits other round messages number conflict reader next
 settled_waits_at number other conflict reader round txn dues.Nothing next = absurd cc
@@ -53,6 +53,6 @@ settled_waits_at number other conflict reader round txn (dues.Tell answer) next 
 
 -- after the round no reply is waited for
 pub settled_waits : (old new : Coordination) (number other : ℕ) (conflict : Reply) (reader : Option ℕ) (round : Round) (r : Result (Unit {0}) NoMemory) → OnOk r (new ≡ after_round round number old)
-    → next_of old.due ≡ nexts.Conflict number conflict reader → OnOk r (waits_for other new.due ≡ false)
-settled_waits old new number other conflict reader round (Ok u) made next = ap (λ c. waits_for other c.due) made ∙ settled_waits_at number other conflict reader round old.txn old.due next
+    → next_of old.due ≡ nexts.Conflict number conflict reader → OnOk r (awaits_number other new.due ≡ false)
+settled_waits old new number other conflict reader round (Ok u) made next = ap (λ c. awaits_number other c.due) made ∙ settled_waits_at number other conflict reader round old.txn old.due next
 settled_waits old new number other conflict reader round (Err e) made next = tt

@@ -5,25 +5,27 @@ use Rattle.std.proofs.lemmas.Bool.{ltb-false}
 use Rattle.std.proofs.lemmas.List.{append_assoc}
 use Rattle.std.proofs.lemmas.List.Elements.{All-append, All-weaker}
 use Rattle.pc_base.specs.declared.transaction.TxnId.{TxnId}
-use Rattle.pc_coord.proofs.Lists.{any_kept, any_true_kept, at_least-kept, at_least-push}
-use Rattle.pc_coord.proofs.Same.{same_txn-self}
+use Rattle.pc_coord.proofs.Lists.{any_true_kept, at_least-kept, at_least-push}
 use Rattle.pc_coord.specs.declared.messages.Message.{Message}
 use Rattle.pc_coord.specs.declared.messages.Progress.{Progress}
 use Rattle.pc_coord.specs.declared.messages.Progress.TheVariants as progresses
-use Rattle.pc_coord.specs.Knows.Reading.{HasMet, IsUnheard, IsUnsentNow, Stands, StandsAs, WasReplied}
-use Rattle.pc_coord.specs.Messages.{holder_in, holder_met, one_more}
+use Rattle.pc_coord.specs.Knows.Reading.{HasMet, IsUnheard, IsUnsentNow, StandsAs, StandsWith, WasRepliedNow}
+use Rattle.pc_coord.specs.Messages.{holder_met, one_more}
+use Rattle.pc_lists.proofs.Anywhere.{any_kept}
+use Rattle.pc_lists.proofs.Same.{same_txn-self}
 use Rattle.pc_proto.specs.declared.fate.Goal.{Goal}
 use Rattle.pc_proto.specs.declared.meta.TxnMeta.{TxnMeta}
 use Rattle.pc_proto.specs.declared.reply.Reply.{Reply}
 use Rattle.pc_proto.specs.declared.reply.Reply.TheVariants as replies
 use Rattle.pc_proto.specs.declared.request.Request.{Request}
+use Rattle.pc_proto.specs.Replies.{holder_in, is_conflict, is_conflict_with}
 use Rattle.pc_world.specs.Counting.{AtLeast, LastIs}
-use Rattle.pc_world.specs.Follows.Resends.{MetConflictNow, ResolvedTo, WasDone, WasFollowed}
+use Rattle.pc_world.specs.Follows.Resends.{MetConflictNow, WasDone, WasFollowed}
 use Rattle.pc_world.specs.Known.{Known}
 use Rattle.pc_world.specs.Known.Traffic.{Heard, Sent}
 use Rattle.pc_world.specs.Known.Transactions.{Txn}
 use Rattle.pc_world.specs.SameRequest.{IsSameRequest}
-use Rattle.pc_world.specs.Send.Recovery.{is_conflict, is_conflict_with}
+use Rattle.pc_world.specs.Send.Settling.{ResolvedTo}
 use Rattle.pc_world.specs.Tell.Refusal.{IsConflictOf, MetEight}
 
 module _ {X : Type 0} (P : X → Type 0) where
@@ -126,11 +128,11 @@ module _ (k k2 : Known) (sent_more : List Sent) (more : List Heard) (sent_now : 
       last = All-append (IsOther request) m.later more m.last others;
     }
 
-    replied-kept : (reply : Reply) → Any (WasReplied k request reply) k.heard_now → Any (WasReplied k2 request reply) k2.heard_now
+    replied-kept : (reply : Reply) → Any (WasRepliedNow k request reply) k.heard_now → Any (WasRepliedNow k2 request reply) k2.heard_now
     replied-kept reply (i, h, low, is, was) =
         let sent : list_any (λ m. m.number == h.number) k2.sent_now ≡ true = ap (list_any (λ m. m.number == h.number)) sent_now ∙ any_true_kept (λ m. m.number == h.number) k.sent_now sent_more was.sent_now in
-        let now : WasReplied k2 request reply h = record { sent_now = sent; asked = was.asked; told = was.told; tells = was.tells } in
-        subst (λ hs. Any (WasReplied k2 request reply) hs) (sym heard_now) (any_kept (WasReplied k2 request reply) k.heard_now more (i, h, low, is, now))
+        let now : WasRepliedNow k2 request reply h = record { sent_now = sent; asked = was.asked; told = was.told; tells = was.tells } in
+        subst (λ hs. Any (WasRepliedNow k2 request reply) hs) (sym heard_now) (any_kept (WasRepliedNow k2 request reply) k.heard_now more (i, h, low, is, now))
 
     -- the request is as far as before, where it is not waited for
     pub stands_as-kept : All (IsOtherSent request) sent_more → (t : Txn) (p : Progress) → ((number : ℕ) → p ≡ progresses.Sent number → IsUnheard k number request → IsUnheard k2 number request) → StandsAs k t request p → StandsAs k2 t request p
@@ -145,7 +147,7 @@ module _ (k k2 : Known) (sent_more : List Sent) (more : List Heard) (sent_now : 
   conflicts-kept request n a = subst (λ hs. AtLeast (IsConflictOf request) n hs) (sym heard_now) (at_least-kept (IsConflictOf request) n k.heard_now more a)
 
   -- the message is as far as before
-  pub stands-kept : (t : Txn) (m : Message) → All (IsOtherSent m.request) sent_more → All (IsOther m.request) more → ((number : ℕ) → m.progress ≡ progresses.Sent number → IsUnheard k number m.request → IsUnheard k2 number m.request) → Stands k t m → Stands k2 t m
+  pub stands-kept : (t : Txn) (m : Message) → All (IsOtherSent m.request) sent_more → All (IsOther m.request) more → ((number : ℕ) → m.progress ≡ progresses.Sent number → IsUnheard k number m.request → IsUnheard k2 number m.request) → StandsWith k t m → StandsWith k2 t m
   stands-kept t m news others waits s = record {
     as_far = stands_as-kept m.request others news t m.progress waits s.as_far;
     met = conflicts-kept m.request m.conflicts s.met;
@@ -155,7 +157,7 @@ conflict_with : (holder : TxnMeta) (ts : ℕ) (key : List ℕ) (reply : Reply) �
 conflict_with holder ts key reply is = ap (is_conflict_with holder.id) is ∙ same_txn-self holder.id
 
 -- the conflict that a message met
-pub met_of : (k : Known) (t : Txn) (m : Message) (holder : TxnId) → Stands k t m → holder_met m.progress ≡ Some holder → (number : ℕ) × (conflict : Reply) × (m.progress ≡ progresses.Met number conflict) × HasMet k t number m.request conflict
+pub met_of : (k : Known) (t : Txn) (m : Message) (holder : TxnId) → StandsWith k t m → holder_met m.progress ≡ Some holder → (number : ℕ) × (conflict : Reply) × (m.progress ≡ progresses.Met number conflict) × HasMet k t number m.request conflict
 met_of k t m holder s held = by m.progress refl held s.as_far
   where
     by : (p : Progress) → m.progress ≡ p → holder_met p ≡ Some holder → StandsAs k t m.request p → (number : ℕ) × (conflict : Reply) × (m.progress ≡ progresses.Met number conflict) × HasMet k t number m.request conflict
@@ -163,7 +165,7 @@ met_of k t m holder s held = by m.progress refl held s.as_far
     by p e held s = absurd cc
 
 -- a message that met eight intents blocks its call
-pub met_eight : (k : Known) (t : Txn) (m : Message) (holder : TxnId) → Stands k t m → 8 ≤ m.conflicts → holder_met m.progress ≡ Some holder → MetEight holder k.heard_now
+pub met_eight : (k : Known) (t : Txn) (m : Message) (holder : TxnId) → StandsWith k t m → 8 ≤ m.conflicts → holder_met m.progress ≡ Some holder → MetEight holder k.heard_now
 met_eight k t m holder s many held =
     let met = met_of k t m holder s held in
     let has : HasMet k t met.0 m.request met.1 = met.3 in

@@ -11,9 +11,9 @@ use Rattle.pc_proto.specs.declared.call.Call.{Call}
 use Rattle.pc_proto.specs.declared.event.Event.TheVariants as events
 use Rattle.pc_proto.specs.declared.request.Request.{Request}
 use Rattle.pc_proto.specs.declared.request.Request.TheVariants as requests
-use Rattle.pc_proto.specs.Stamps.{answer_stamps, reply_stamps, request_stamps}
+use Rattle.pc_proto.specs.Stamps.{answer_stamps, greatest_of, reply_stamps, request_stamps}
 use Rattle.pc_world.specs.Known.{Known, next_number, txns_told}
-use Rattle.pc_world.specs.Known.Clock.{high_told, last_of}
+use Rattle.pc_world.specs.Known.Clock.{high_told}
 use Rattle.pc_world.specs.Known.Statements.{begun_told, is_open_told}
 use Rattle.pc_world.specs.Known.Traffic.{Heard, Sent}
 use Rattle.pc_world.specs.Known.Transactions.{txn_heard, txn_sent}
@@ -38,7 +38,7 @@ abbrev pub sent : ℕ → ℕ → Request → Known → Known
 sent number range request k = record k {
   sent = k.sent ++ record { number = number; range = range; request = request } ∷ [];
   sent_now = k.sent_now ++ record { number = number; range = range; request = request } ∷ [];
-  top = max k.top (max (last_of (request_stamps request)) 0);
+  top = max k.top (max (greatest_of (request_stamps request)) 0);
   txns = map (txn_sent request) k.txns;
 }
 
@@ -51,7 +51,7 @@ sent_is number range request k =
 abbrev pub told : Answer → Known → Known
 told answer k = record k {
   statement = None;
-  top = max k.top (max (last_of (answer_stamps answer)) 0);
+  top = max k.top (max (greatest_of (answer_stamps answer)) 0);
   high = high_told answer k.high;
   begun = begun_told answer k.begun;
   is_open = is_open_told answer k.is_open;
@@ -71,8 +71,8 @@ abbrev pub heard : Heard → Known → Known
 heard h k = record k {
   heard = k.heard ++ h ∷ [];
   heard_now = k.heard_now ++ h ∷ [];
-  top = max k.top (max 0 (last_of (reply_stamps h.reply)));
-  high = max k.high (last_of (reply_stamps h.reply));
+  top = max k.top (max 0 (greatest_of (reply_stamps h.reply)));
+  high = max k.high (greatest_of (reply_stamps h.reply));
   txns = map (txn_heard k.sent (Some h)) k.txns;
 }
 
@@ -124,9 +124,9 @@ module _ (session latest count : ℕ) (k : Known) (counted : IsCounted session l
         heard = all_heard-more session k.begun k.begun (length k.sent) n k.heard (omega arith) (omega arith) counted.heard;
       }
 
-  pub counted-heard : (h : Heard) → h.number ≤ length k.sent → IsOwn session k.begun h.request → IsCounted session (max latest (last_of (reply_stamps h.reply))) count (heard h k)
+  pub counted-heard : (h : Heard) → h.number ≤ length k.sent → IsOwn session k.begun h.request → IsCounted session (max latest (greatest_of (reply_stamps h.reply))) count (heard h k)
   counted-heard h low own = record {
-    clock = ap (λ n. max n (last_of (reply_stamps h.reply))) counted.clock;
+    clock = ap (λ n. max n (greatest_of (reply_stamps h.reply))) counted.clock;
     below = omega (arith, counted.below);
     begun = counted.begun;
     sent = counted.sent;

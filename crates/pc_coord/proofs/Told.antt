@@ -1,6 +1,7 @@
 -- A coordinator at its beginning, and once its call was told what is due.
 use Rattle.std.proofs.Common.{◌≡◌, Bool, Option, Some, None, IfSome, refl, sym, ap, ◌∙◌, subst, arith, is_some}
 use Rattle.std.proofs.lemmas.List.Elements.{All-nil}
+use Rattle.pc_base.specs.Rising.{AreRising}
 use Rattle.pc_coord.proofs.Learned.{learn_own}
 use Rattle.pc_coord.proofs.Resting.{rests}
 use Rattle.pc_coord.specs.Coordination.{Coordination, next_of, with_due, without_job}
@@ -23,7 +24,6 @@ use Rattle.pc_proto.specs.declared.event.Event.{Event}
 use Rattle.pc_proto.specs.declared.event.Event.TheVariants as events
 use Rattle.pc_proto.specs.declared.request.Request.{Request}
 use Rattle.pc_world.specs.Known.{Known, learn, nothing_known}
-use Rattle.pc_world.specs.RangeOf.{AreRising}
 
 not_met : (request : Request) (progress : Progress) (answer : Answer) → next_of_met request progress ≡ nexts.Tell answer → ⊥
 not_met request (progresses.Met number conflict) answer e = cc

@@ -3,17 +3,20 @@ use Rattle.std.proofs.Common.{◌≡◌, ℕ, true, false, ◌⊎◌, inl, inr, 
 use Rattle.std.specs.Option.{option_map_or}
 use Rattle.std.proofs.lemmas.Bool.{and_parts}
 use Rattle.std.proofs.lemmas.Option.{same_Some}
-use Rattle.pc_coord.proofs.Lists.{any_of}
 use Rattle.pc_coord.specs.Knows.Held.{IsPendingOf, IsPlain, ShowsPending}
+use Rattle.pc_lists.proofs.Anywhere.{any_of}
 use Rattle.pc_proto.specs.declared.reply.Reply.{Reply}
 use Rattle.pc_proto.specs.declared.reply.Reply.TheVariants as replies
 use Rattle.pc_proto.specs.declared.view.View.TheVariants as views
-use Rattle.pc_world.specs.Follows.EarlyTell.{IsDecided}
+use Rattle.pc_proto.specs.Replies.{view_in}
+use Rattle.pc_proto.specs.Requests.{is_about}
+use Rattle.pc_proto.specs.Views.{is_committed_at, is_staging_at}
+use Rattle.pc_world.specs.Follows.EarlyTell.{IsCommitKnown}
 use Rattle.pc_world.specs.Known.{Known, open_txn}
 use Rattle.pc_world.specs.Known.Traffic.{Heard, Sent}
 use Rattle.pc_world.specs.Known.Transactions.{Txn}
-use Rattle.pc_world.specs.Tell.End.{IsImplicit, is_staging_at, shows_staging}
-use Rattle.pc_world.specs.Views.{WasCommitted, is_about, is_committed_at, shows_committed, view_in}
+use Rattle.pc_world.specs.Tell.End.{IsImplicit, shows_staging}
+use Rattle.pc_world.specs.Views.{WasCommitted, shows_committed}
 
 not_committed : (ts : ℕ) (reply : Reply) → ShowsPending reply → option_map_or (is_committed_at ts) (view_in reply) false ≡ true → ⊥
 not_committed ts (replies.Status (views.Pending epoch at)) is e = cc
@@ -44,7 +47,7 @@ module _ (t : Txn) (heard : List Heard) (pending : All (IsPendingOf t) heard) wh
       let parts = and_parts (is_about t.id f.0.request) (option_map_or (is_staging_at epoch ts) (view_in f.0.reply) false) f.2 in
       not_staging epoch ts f.0.reply (f.1 parts.0).pending parts.1
 
-pub undecided : (k : Known) (t : Txn) (sent : List Sent) → IsPlain k t sent → open_txn k ≡ Some t → (other : Txn) (ts : ℕ) → IsDecided k other ts → ⊥
+pub undecided : (k : Known) (t : Txn) (sent : List Sent) → IsPlain k t sent → open_txn k ≡ Some t → (other : Txn) (ts : ℕ) → IsCommitKnown k other ts → ⊥
 undecided k t sent plain opened other ts decided =
     let same : t ≡ other = same_Some t other (sym opened ∙ decided.opened) in
     let pending : All (IsPendingOf other) k.heard = subst (λ t. All (IsPendingOf t) k.heard) same plain.views in

@@ -6,7 +6,7 @@ use Rattle.std.proofs.lemmas.Bool.{and_parts, eqb-true}
 use Rattle.std.proofs.lemmas.List.Elements.{All-cons, All-head, All-nil, All-tail}
 use Rattle.pc_base.specs.declared.transaction.TxnId.{TxnId}
 use Rattle.pc_coord.specs.Coordinating.{reads_after_round}
-use Rattle.pc_coord.specs.Coordination.{waits_for}
+use Rattle.pc_coord.specs.Coordination.{awaits_number}
 use Rattle.pc_coord.specs.declared.due.Due.TheVariants as dues
 use Rattle.pc_coord.specs.declared.messages.Message.{Message}
 use Rattle.pc_coord.specs.declared.messages.Progress.{Progress}
@@ -15,12 +15,12 @@ use Rattle.pc_coord.specs.declared.next.Next.TheVariants as nexts
 use Rattle.pc_coord.specs.declared.round.Round.{Round}
 use Rattle.pc_coord.specs.declared.round.Round.TheVariants as rounds
 use Rattle.pc_coord.specs.Knows.Reading.{AreApart, IsApart}
-use Rattle.pc_coord.specs.Messages.{again, answer_of, blocked_by, change_first, due_by, due_of_reads, due_unless, first_met, heard_as, holder_met, is_heard, is_met, is_sent, is_unsent, met_at, met_or_heard, next_by, next_in, next_of_met, progress_heard, progress_sent, progress_unsent, progress_waits, sent_as, waits_at}
+use Rattle.pc_coord.specs.Messages.{again, answer_of, blocked_by, change_first, due_by, due_of_reads, due_unless, first_met, has_reply, holder_met, is_awaited, is_met, is_unsent, met_at, met_or_heard, next_by, next_in, next_of_met, progress_heard, progress_sent, progress_unsent, progress_waits, replied_as, sent_as, waits_at}
 use Rattle.pc_coord.specs.Turning.{blocked_due}
 use Rattle.pc_proto.specs.declared.answer.Answer.{Answer}
 use Rattle.pc_proto.specs.declared.reply.Reply.{Reply}
 use Rattle.pc_proto.specs.declared.request.Request.{Request}
-use Rattle.pc_world.specs.Send.Recovery.{is_conflict}
+use Rattle.pc_proto.specs.Replies.{is_conflict}
 
 -- a message that waits under a number went out under it
 pub waits_as : (n : ℕ) (p : Progress) → IsTrue (progress_waits n p) → p ≡ progresses.Sent n
@@ -41,7 +41,7 @@ heard_idle (progresses.Heard reply) is = refl
 heard_idle p is = absurd cc
 
 -- what was heard waits no more
-pub heard_waits : (n number : ℕ) (reply : Reply) (m : Message) → waits_at n (heard_as number reply m) ≡ false
+pub heard_waits : (n number : ℕ) (reply : Reply) (m : Message) → waits_at n (replied_as number reply m) ≡ false
 heard_waits n number reply m = elim (is_conflict reply) as (λ b. waits_at n (met_or_heard b number reply m) ≡ false) [ true ↦ refl | false ↦ refl ]
 
 or_parts : (a b : Bool) → (a || b) ≡ false → (a ≡ false) × (b ≡ false)
@@ -49,58 +49,58 @@ or_parts true b e = absurd cc
 or_parts false b e = (refl, e)
 
 -- where no reply is waited for, none is under any number
-pub none_waits : (n : ℕ) (ms : List Message) → list_any is_sent ms ≡ false → list_any (waits_at n) ms ≡ false
+pub none_waits : (n : ℕ) (ms : List Message) → list_any is_awaited ms ≡ false → list_any (waits_at n) ms ≡ false
 none_waits n [] e = refl
 none_waits n (m ∷ ms) e =
-    let parts = or_parts (is_sent m) (list_any is_sent ms) e in
+    let parts = or_parts (is_awaited m) (list_any is_awaited ms) e in
     ap (λ b. b || list_any (waits_at n) ms) (sent_waits n m.progress parts.0) ∙ none_waits n ms parts.1
 
-pub all_idle : (ms : List Message) → list_any is_sent ms ≡ false → All (λ m. is_sent m ≡ false) ms
-all_idle [] e = All-nil (λ (m : Message). is_sent m ≡ false)
-all_idle (m ∷ ms) e = let parts = or_parts (is_sent m) (list_any is_sent ms) e in All-cons (λ (m : Message). is_sent m ≡ false) m ms parts.0 (all_idle ms parts.1)
+pub all_idle : (ms : List Message) → list_any is_awaited ms ≡ false → All (λ m. is_awaited m ≡ false) ms
+all_idle [] e = All-nil (λ (m : Message). is_awaited m ≡ false)
+all_idle (m ∷ ms) e = let parts = or_parts (is_awaited m) (list_any is_awaited ms) e in All-cons (λ (m : Message). is_awaited m ≡ false) m ms parts.0 (all_idle ms parts.1)
 
-pub all_heard_idle : (ms : List Message) → list_all is_heard ms ≡ true → list_any is_sent ms ≡ false
+pub all_heard_idle : (ms : List Message) → list_all has_reply ms ≡ true → list_any is_awaited ms ≡ false
 all_heard_idle [] e = refl
 all_heard_idle (m ∷ ms) e =
-    let parts = and_parts (is_heard m) (list_all is_heard ms) e in
-    ap (λ b. b || list_any is_sent ms) (heard_idle m.progress parts.0) ∙ all_heard_idle ms parts.1
+    let parts = and_parts (has_reply m) (list_all has_reply ms) e in
+    ap (λ b. b || list_any is_awaited ms) (heard_idle m.progress parts.0) ∙ all_heard_idle ms parts.1
 
-again_idle : (n : ℕ) (ms : List Message) → list_any is_sent ms ≡ false → list_any is_sent (change_first (met_at n) again ms) ≡ false
+again_idle : (n : ℕ) (ms : List Message) → list_any is_awaited ms ≡ false → list_any is_awaited (change_first (met_at n) again ms) ≡ false
 again_idle n [] e = refl
 again_idle n (m ∷ ms) e =
-    let parts = or_parts (is_sent m) (list_any is_sent ms) e in
-    let later : list_any is_sent (m ∷ change_first (met_at n) again ms) ≡ false = ap (λ b. b || list_any is_sent (change_first (met_at n) again ms)) parts.0 ∙ again_idle n ms parts.1 in
-    elim (met_at n m) as (λ b. list_any is_sent (cond b (again m ∷ ms) (m ∷ change_first (met_at n) again ms)) ≡ false) [ true ↦ parts.1 | false ↦ later ]
+    let parts = or_parts (is_awaited m) (list_any is_awaited ms) e in
+    let later : list_any is_awaited (m ∷ change_first (met_at n) again ms) ≡ false = ap (λ b. b || list_any is_awaited (change_first (met_at n) again ms)) parts.0 ∙ again_idle n ms parts.1 in
+    elim (met_at n m) as (λ b. list_any is_awaited (cond b (again m ∷ ms) (m ∷ change_first (met_at n) again ms)) ≡ false) [ true ↦ parts.1 | false ↦ later ]
 
-due_by_waits : (n : ℕ) (made : Option Answer) → waits_for n (due_by made) ≡ false
+due_by_waits : (n : ℕ) (made : Option Answer) → awaits_number n (due_by made) ≡ false
 due_by_waits n None = refl
 due_by_waits n (Some answer) = refl
 
-pub blocked_waits : (n : ℕ) (holder : Option TxnId) → waits_for n (blocked_due holder) ≡ false
+pub blocked_waits : (n : ℕ) (holder : Option TxnId) → awaits_number n (blocked_due holder) ≡ false
 blocked_waits n None = refl
 blocked_waits n (Some holder) = refl
 
 -- where a conflict's round is to be made, nothing is waited for
-pub first_idle : (ms : List Message) (m : Message) → first_met ms ≡ Some m → list_any is_sent ms ≡ false
-first_idle ms m e = by (list_any is_sent ms) refl e
+pub first_idle : (ms : List Message) (m : Message) → first_met ms ≡ Some m → list_any is_awaited ms ≡ false
+first_idle ms m e = by (list_any is_awaited ms) refl e
   where
-    by : (b : Bool) → list_any is_sent ms ≡ b → cond b None (find is_met ms) ≡ Some m → list_any is_sent ms ≡ false
+    by : (b : Bool) → list_any is_awaited ms ≡ b → cond b None (find is_met ms) ≡ Some m → list_any is_awaited ms ≡ false
     by true is e = absurd cc
     by false is e = is
 
-unless_waits : (n : ℕ) (ms : List Message) (met : Option Message) → first_met ms ≡ met → waits_for n (due_unless (option_and_then blocked_by met) ms) ≡ list_any (waits_at n) ms
+unless_waits : (n : ℕ) (ms : List Message) (met : Option Message) → first_met ms ≡ met → awaits_number n (due_unless (option_and_then blocked_by met) ms) ≡ list_any (waits_at n) ms
 unless_waits n ms None e = refl
 unless_waits n ms (Some m) e = by (blocked_by m)
   where
-    by : (o : Option TxnId) → waits_for n (due_unless o ms) ≡ list_any (waits_at n) ms
+    by : (o : Option TxnId) → awaits_number n (due_unless o ms) ≡ list_any (waits_at n) ms
     by None = refl
     by (Some holder) = sym (none_waits n ms (first_idle ms m e))
 
 -- what is due of the messages waits for those that wait
-pub due_waits : (n : ℕ) (ms : List Message) → waits_for n (due_of_reads ms) ≡ list_any (waits_at n) ms
-due_waits n ms = by (list_all is_heard ms) refl
+pub due_waits : (n : ℕ) (ms : List Message) → awaits_number n (due_of_reads ms) ≡ list_any (waits_at n) ms
+due_waits n ms = by (list_all has_reply ms) refl
   where
-    by : (b : Bool) → list_all is_heard ms ≡ b → waits_for n (cond b (due_by (answer_of ms)) (due_unless (option_and_then blocked_by (first_met ms)) ms)) ≡ list_any (waits_at n) ms
+    by : (b : Bool) → list_all has_reply ms ≡ b → awaits_number n (cond b (due_by (answer_of ms)) (due_unless (option_and_then blocked_by (first_met ms)) ms)) ≡ list_any (waits_at n) ms
     by true all = due_by_waits n (answer_of ms) ∙ sym (none_waits n ms (all_heard_idle ms all))
     by false some = unless_waits n ms (first_met ms) refl
 
@@ -140,9 +140,9 @@ none_left false e is = refl
 
 module _ (number other : ℕ) (reply : Reply) where
   abbrev heard_in : List Message → List Message
-  heard_in ms = change_first (waits_at number) (heard_as number reply) ms
+  heard_in ms = change_first (waits_at number) (replied_as number reply) ms
 
-  here_waits : (y : Message) (ms : List Message) → All (IsApart y) ms → waits_at number y ≡ true → list_any (waits_at other) (heard_as number reply y ∷ ms) ≡ (list_any (waits_at other) (y ∷ ms) && not (number == other))
+  here_waits : (y : Message) (ms : List Message) → All (IsApart y) ms → waits_at number y ≡ true → list_any (waits_at other) (replied_as number reply y ∷ ms) ≡ (list_any (waits_at other) (y ∷ ms) && not (number == other))
   here_waits y ms apart is =
       ap (λ b. b || list_any (waits_at other) ms) (heard_waits other number reply y) ∙ by (number == other) refl
     where
@@ -179,12 +179,12 @@ module _ (number other : ℕ) (reply : Reply) where
       later is = sym (ap (λ b. b || list_any (waits_at number) ms) is) ∙ some
 
       by : (list_any (waits_at number) ms ≡ true → list_any (waits_at other) (heard_in ms) ≡ (list_any (waits_at other) ms && not (number == other))) → (b : Bool) → waits_at number y ≡ b
-          → list_any (waits_at other) (cond b (heard_as number reply y ∷ ms) (y ∷ heard_in ms)) ≡ (list_any (waits_at other) (y ∷ ms) && not (number == other))
+          → list_any (waits_at other) (cond b (replied_as number reply y ∷ ms) (y ∷ heard_in ms)) ≡ (list_any (waits_at other) (y ∷ ms) && not (number == other))
       by rest true is = here_waits y ms apart.0 is
       by rest false is = there_waits y ms is (rest (later is))
 
   -- after a reply to a message that reads, that one alone is waited for no more
-  pub reads_heard_waits : (ms : List Message) → AreApart ms → list_any (waits_at number) ms ≡ true → waits_for other (due_of_reads (heard_in ms)) ≡ (list_any (waits_at other) ms && not (number == other))
+  pub reads_heard_waits : (ms : List Message) → AreApart ms → list_any (waits_at number) ms ≡ true → awaits_number other (due_of_reads (heard_in ms)) ≡ (list_any (waits_at other) ms && not (number == other))
   reads_heard_waits ms apart some = due_waits other (heard_in ms) ∙ heard_less_waits ms apart some
 
 -- The next of the messages that is to be sent.
@@ -215,7 +215,7 @@ met_next (Some m) unsent number conflict reader e = (m, refl, by m.request m.pro
     by said p e = absurd cc
 
 -- where a conflict's round is due, no message is waited for
-pub conflict_idle : (ms : List Message) (number : ℕ) (conflict : Reply) (reader : Option ℕ) → next_in ms ≡ nexts.Conflict number conflict reader → list_any is_sent ms ≡ false
+pub conflict_idle : (ms : List Message) (number : ℕ) (conflict : Reply) (reader : Option ℕ) → next_in ms ≡ nexts.Conflict number conflict reader → list_any is_awaited ms ≡ false
 conflict_idle ms number conflict reader e =
     let next = met_next (first_met ms) (find is_unsent ms) number conflict reader e in
     first_idle ms next.0 next.1
@@ -224,7 +224,7 @@ pub reads_conflict_waits : (other : ℕ) (ms : List Message) (number : ℕ) (con
 reads_conflict_waits other ms number conflict reader e = none_waits other ms (conflict_idle ms number conflict reader e)
 
 -- nor is one after that round
-pub reads_settled_waits : (other : ℕ) (round : Round) (ms : List Message) (number : ℕ) (conflict : Reply) (reader : Option ℕ) → next_in ms ≡ nexts.Conflict number conflict reader → waits_for other (reads_after_round round number (dues.Read ms)) ≡ false
+pub reads_settled_waits : (other : ℕ) (round : Round) (ms : List Message) (number : ℕ) (conflict : Reply) (reader : Option ℕ) → next_in ms ≡ nexts.Conflict number conflict reader → awaits_number other (reads_after_round round number (dues.Read ms)) ≡ false
 reads_settled_waits other rounds.Again ms number conflict reader e =
     due_waits other (change_first (met_at number) again ms)
     ∙ none_waits other (change_first (met_at number) again ms) (again_idle number ms (conflict_idle ms number conflict reader e))

@@ -3,6 +3,7 @@ use Rattle.std.proofs.Common.{◌≡◌, ◌≢◌, ℕ, ◌+◌, ◌≤◌, Boo
 use Rattle.std.proofs.lemmas.List.Elements.{All-nil, Contains-push}
 use Rattle.std.specs.List.{Contains}
 use Rattle.pc_base.specs.declared.transaction.TxnId.{TxnId}
+use Rattle.pc_base.specs.Rising.{AreRising}
 use Rattle.pc_base.specs.Transaction.{same_txn}
 use Rattle.pc_coord.proofs.Beside.{counted-beside, open_as-beside, settled-beside}
 use Rattle.pc_coord.proofs.GivingUp.{blocked_gives, gives_up, unavailable_gives}
@@ -10,8 +11,7 @@ use Rattle.pc_coord.proofs.LaidAgain.{again_knows}
 use Rattle.pc_coord.proofs.Lists.{at_least-kept}
 use Rattle.pc_coord.proofs.PutMet.{may_block, uncommitted}
 use Rattle.pc_coord.proofs.Resting.{open_is}
-use Rattle.pc_coord.proofs.Rounds.{count-cons, first-left, one_if, refused-heard, settled-again, settled-paced}
-use Rattle.pc_coord.proofs.Same.{same_txn-self}
+use Rattle.pc_coord.proofs.Rounds.{first-left, refused-heard, settled-again, settled-paced}
 use Rattle.pc_coord.specs.Beside.{IsLaterBeside}
 use Rattle.pc_coord.specs.Coordination.{Coordination, with_clock, with_due}
 use Rattle.pc_coord.specs.declared.due.Due.TheVariants as dues
@@ -22,17 +22,19 @@ use Rattle.pc_coord.specs.declared.round.Round.TheVariants as rounds
 use Rattle.pc_coord.specs.Knows.{Knows, KnowsAt, LeavesNothing, MayCome, Meets}
 use Rattle.pc_coord.specs.Knows.Held.{IsCounted}
 use Rattle.pc_coord.specs.Knows.Writing.{HasMetPut, IsWriting, write_call}
-use Rattle.pc_coord.specs.Messages.{holder_in, read_at}
+use Rattle.pc_coord.specs.Messages.{read_at}
 use Rattle.pc_coord.specs.Rounds.{EndsRound, IsRefusedRound, IsSettledRound, was_met, was_pushed}
 use Rattle.pc_coord.specs.Transaction.{put_of}
 use Rattle.pc_coord.specs.Turning.{blocked_due, due_of_resend, due_of_round, resent}
+use Rattle.pc_lists.proofs.Counts.{count-cons, one_if}
+use Rattle.pc_lists.proofs.Same.{same_txn-self}
 use Rattle.pc_proto.specs.declared.answer.Answer.TheVariants as answers
 use Rattle.pc_proto.specs.declared.call.Call.TheVariants as calls
 use Rattle.pc_proto.specs.declared.reply.Reply.{Reply}
 use Rattle.pc_proto.specs.declared.reply.Reply.TheVariants as replies
+use Rattle.pc_proto.specs.Replies.{holder_in}
 use Rattle.pc_world.specs.Counting.{AtLeast}
 use Rattle.pc_world.specs.Known.{Known}
-use Rattle.pc_world.specs.RangeOf.{AreRising}
 use Rattle.pc_world.specs.SameRequest.{IsSameRequest}
 use Rattle.pc_world.specs.Tell.Refusal.{IsConflictOf, WasLost}
 

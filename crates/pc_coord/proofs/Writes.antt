@@ -4,11 +4,13 @@ use Rattle.std.specs.List.{Any, list_any}
 use Rattle.std.proofs.lemmas.Bool.{eq-eqb, ne_eqb, and_from}
 use Rattle.std.proofs.lemmas.Grind.{fold-append}
 use Rattle.std.proofs.lemmas.List.Elements.{All-cons, All-head, All-nil, All-tail, All-weaker}
-use Rattle.pc_coord.proofs.Lists.{any_kept, any_last, any_last_of}
-use Rattle.pc_coord.proofs.Same.{if_false, if_true, same_key-self}
+use Rattle.pc_coord.proofs.Lists.{any_last_of}
+use Rattle.pc_coord.proofs.Same.{if_false, if_true}
 use Rattle.std.proofs.lemmas.Cmp.{nat_list_cmp_total, tied_itself}
 use Rattle.std.specs.Ordering.{is_lt}
 use Rattle.pc_base.specs.Span.{key_below, same_key}
+use Rattle.pc_lists.proofs.Anywhere.{any_kept, any_last}
+use Rattle.pc_lists.proofs.Same.{same_key-self}
 use Rattle.pc_world.specs.Known.Transactions.{with_lock}
 use Rattle.pc_world.specs.Known.Writes.{IsProvedBy, Write, asked_again, is_proved, last_seq_of, proved_at, with_put}
 

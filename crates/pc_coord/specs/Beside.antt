@@ -5,17 +5,16 @@ use Rattle.pc_coord.specs.Coordination.{Coordination}
 use Rattle.pc_coord.specs.declared.transaction.Transaction.{Transaction}
 use Rattle.pc_proto.specs.declared.request.Request.{Request}
 use Rattle.pc_proto.specs.declared.request.Request.TheVariants as requests
-use Rattle.pc_proto.specs.RecordRows.{subject}
+use Rattle.pc_proto.specs.Requests.{is_about, subject}
 use Rattle.pc_world.specs.Known.{Known}
 use Rattle.pc_world.specs.Known.Traffic.{Heard, Sent}
-use Rattle.pc_world.specs.Views.{is_about}
 
 -- The request is one of a round or of a finishing job. Recoveries are not built yet.
-abbrev pub is_beside : Request → Bool
-is_beside (requests.Push holder by level now goal) = true
-is_beside (requests.Resolve id key fate) = true
-is_beside (requests.Remove id anchor) = true
-is_beside _ = false
+abbrev pub is_of_round_or_job : Request → Bool
+is_of_round_or_job (requests.Push holder by level now goal) = true
+is_of_round_or_job (requests.Resolve id key fate) = true
+is_of_round_or_job (requests.Remove id anchor) = true
+is_of_round_or_job _ = false
 
 -- If the request speaks of the record of a transaction of this session, that was begun.
 abbrev pub IsOfBegun : ℕ → ℕ → Request → Type 0
@@ -23,7 +22,7 @@ IsOfBegun session begun request = (id : TxnId) → subject request ≡ Some id �
 
 -- The request is one of a round or of a finishing job, and speaks of no record of the open transaction.
 pub record IsBeside (c : Coordination) (request : Request) : Type 0 where
-  pub kind : is_beside request ≡ true
+  pub kind : is_of_round_or_job request ≡ true
   pub begun : IsOfBegun c.session c.begun request
   pub other : (x : Transaction) → c.txn ≡ Some x → is_about x.id request ≡ false
 

@@ -12,9 +12,9 @@ use Rattle.pc_coord.specs.declared.transaction.Transaction.{Transaction}
 use Rattle.pc_coord.specs.declared.messages.Message.{Message}
 use Rattle.pc_coord.specs.declared.round.Round.{Round}
 use Rattle.pc_coord.specs.declared.round.Round.TheVariants as rounds
-use Rattle.pc_coord.specs.Messages.{again, change_first, due_of_reads, heard_as, holder_met, is_unsent, met_at, sent_as, waits_at}
+use Rattle.pc_coord.specs.Messages.{again, change_first, due_of_reads, holder_met, is_unsent, met_at, replied_as, sent_as, waits_at}
 use Rattle.pc_coord.specs.Reading.{due_of_get, due_of_scan, reading}
-use Rattle.pc_coord.specs.Transaction.{raised}
+use Rattle.pc_coord.specs.Transaction.{risen_to}
 use Rattle.pc_coord.specs.Turning.{blocked_due, cause_of, due_of_committed, due_of_conflict, due_of_end, due_of_put, due_of_retry, due_of_rollback, due_of_rolled_back, due_of_round, due_of_written, txn_of_end, txn_of_put, txn_of_retry, txn_of_rollback, txn_of_written}
 use Rattle.pc_proto.specs.declared.answer.Answer.TheVariants as answers
 use Rattle.pc_proto.specs.declared.call.Call.{Call}
@@ -26,10 +26,10 @@ use Rattle.pc_proto.specs.declared.reply.Reply.TheVariants as replies
 use Rattle.pc_proto.specs.declared.view.View.{View}
 use Rattle.pc_proto.specs.declared.view.View.TheVariants as views
 use Rattle.pc_proto.specs.declared.why.Why.{Why}
-use Rattle.pc_proto.specs.Stamps.{reply_stamps}
-use Rattle.pc_world.specs.Known.Clock.{last_of}
+use Rattle.pc_proto.specs.Replies.{view_in}
+use Rattle.pc_proto.specs.Stamps.{greatest_of, reply_stamps}
+use Rattle.pc_proto.specs.Views.{final_fate}
 use Rattle.pc_world.specs.Tell.Begin.{clock_now}
-use Rattle.pc_world.specs.Views.{final_fate, view_in}
 
 -- After a begin: past the clock's range it is told so, else a transaction is begun at the clock's time.
 abbrev pub after_begin : Priority → ℕ → Coordination → Coordination
@@ -38,20 +38,20 @@ after_begin priority reading c =
     else with_begun priority reading (clock_now reading c.clock) c
 
 -- After a put, or a deletion, with this as the open transaction.
-abbrev pub put_in : List ℕ → Option (List ℕ) → Option Transaction → Coordination → Coordination
-put_in key value txn c = record c { txn = txn_of_put key value txn; due = due_of_put key value txn }
+abbrev pub put_with : List ℕ → Option (List ℕ) → Option Transaction → Coordination → Coordination
+put_with key value txn c = record c { txn = txn_of_put key value txn; due = due_of_put key value txn }
 
 -- After a put, or a deletion.
 abbrev pub after_put : List ℕ → Option (List ℕ) → Coordination → Coordination
-after_put key value c = put_in key value c.txn c
+after_put key value c = put_with key value c.txn c
 
 -- After a commit is asked, with this as the open transaction.
-abbrev pub end_in : Option Transaction → Coordination → Coordination
-end_in txn c = record c { txn = txn_of_end txn; due = due_of_end txn }
+abbrev pub end_with : Option Transaction → Coordination → Coordination
+end_with txn c = record c { txn = txn_of_end txn; due = due_of_end txn }
 
 -- After a commit is asked.
 abbrev pub after_commit_call : Coordination → Coordination
-after_commit_call c = end_in c.txn c
+after_commit_call c = end_with c.txn c
 
 -- After a get, with this as the open transaction.
 abbrev pub get_in : List ℕ → Option Transaction → Coordination → Coordination
@@ -84,7 +84,7 @@ due_after_send number due = due
 
 -- What is due once this was replied to the message of this number, where it reads.
 abbrev pub due_after_read : ℕ → Reply → Due → Due
-due_after_read number reply (dues.Read messages) = due_of_reads (change_first (waits_at number) (heard_as number reply) messages)
+due_after_read number reply (dues.Read messages) = due_of_reads (change_first (waits_at number) (replied_as number reply) messages)
 due_after_read number reply _ = dues.Stuck
 
 -- After the reply to a message that reads.
@@ -108,7 +108,7 @@ awaited_at number _ = None
 
 -- The clock has heard every timestamp in the reply.
 abbrev pub with_heard : Reply → Coordination → Coordination
-with_heard reply c = record c { clock = max c.clock (last_of (reply_stamps reply)) }
+with_heard reply c = record c { clock = max c.clock (greatest_of (reply_stamps reply)) }
 
 -- The write in flight was written at this timestamp.
 abbrev pub written_in : Bool → ℕ → Option Transaction → Coordination → Coordination
@@ -120,12 +120,12 @@ after_put_reply number conflicts again (replies.Written ts) c = written_in again
 after_put_reply number conflicts again reply c = with_due (due_of_conflict number conflicts again reply) c
 
 -- After a commit was told committed, with this as the open transaction.
-abbrev pub committed_in : ℕ → ℕ → Option Transaction → Coordination → Coordination
-committed_in epoch ts txn c = record c { txn = None; due = due_of_committed ts txn; job = job_of (Some (fates.Committed epoch ts)) txn }
+abbrev pub committed_with : ℕ → ℕ → Option Transaction → Coordination → Coordination
+committed_with epoch ts txn c = record c { txn = None; due = due_of_committed ts txn; job = job_of (Some (fates.Committed epoch ts)) txn }
 
 -- After a commit was told committed, in this epoch and at this timestamp.
 abbrev pub after_committed : ℕ → ℕ → Coordination → Coordination
-after_committed epoch ts c = committed_in epoch ts c.txn c
+after_committed epoch ts c = committed_with epoch ts c.txn c
 
 -- How many refusals there are with this one.
 abbrev pub refusals_with : ℕ → ℕ → ℕ → ℕ
@@ -137,7 +137,7 @@ retry_in recorded refusals txn c = record c { txn = txn_of_retry refusals txn; d
 
 -- After a commit met a record that is not final.
 abbrev pub after_refused : ℕ → ℕ → ℕ → Coordination → Coordination
-after_refused ts recorded refusals c = retry_in recorded (refusals_with ts recorded refusals) (option_map (raised recorded) c.txn) c
+after_refused ts recorded refusals c = retry_in recorded (refusals_with ts recorded refusals) (option_map (risen_to recorded) c.txn) c
 
 -- After this view was replied to a commit at this timestamp, after so many refusals.
 abbrev pub after_view : ℕ → ℕ → View → Coordination → Coordination
@@ -153,12 +153,12 @@ after_commit_reply ts refusals (replies.Status view) c = after_view ts refusals 
 after_commit_reply ts refusals _ c = with_due dues.Stuck c
 
 -- After a rollback of this cause, with this as the open transaction; its record has this fate.
-abbrev pub rolled_back_in : Why → Option Fate → Option Transaction → Coordination → Coordination
-rolled_back_in why fate txn c = record c { txn = None; due = due_of_rolled_back why txn; job = job_of fate txn }
+abbrev pub rolled_back_with : Why → Option Fate → Option Transaction → Coordination → Coordination
+rolled_back_with why fate txn c = record c { txn = None; due = due_of_rolled_back why txn; job = job_of fate txn }
 
 -- After the reply to an abort.
 abbrev pub after_abort_reply : Reply → Coordination → Coordination
-after_abort_reply reply c = rolled_back_in (cause_of reply) (option_and_then final_fate (view_in reply)) c.txn c
+after_abort_reply reply c = rolled_back_with (cause_of reply) (option_and_then final_fate (view_in reply)) c.txn c
 
 -- After the reply to the message of this number, which was waited for.
 abbrev pub after_reply : ℕ → Wait → Reply → Coordination → Coordination

@@ -44,10 +44,10 @@ next_of (dues.Tell answer) = nexts.Tell answer
 next_of (dues.Read messages) = next_in messages
 
 -- It waits for the message of this number.
-abbrev pub waits_for : ℕ → Due → Bool
-waits_for number (dues.Hear awaited wait) = awaited == number
-waits_for number (dues.Read messages) = list_any (waits_at number) messages
-waits_for number _ = false
+abbrev pub awaits_number : ℕ → Due → Bool
+awaits_number number (dues.Hear awaited wait) = awaited == number
+awaits_number number (dues.Read messages) = list_any (waits_at number) messages
+awaits_number number _ = false
 
 -- This is due.
 abbrev pub with_due : Due → Coordination → Coordination

@@ -2,7 +2,7 @@
 use Rattle.std.specs.Prelude.{◌≡◌, ℕ, true, false, Option, None, Some, List, ⊤}
 use Rattle.pc_base.specs.declared.actor.ActorId.{ActorId}
 use Rattle.pc_base.specs.declared.entry.Entry.{Entry}
-use Rattle.pc_coord.specs.Coordination.{Coordination, next_of, waits_for}
+use Rattle.pc_coord.specs.Coordination.{Coordination, awaits_number, next_of}
 use Rattle.pc_coord.specs.declared.next.Next.TheVariants as nexts
 use Rattle.pc_coord.specs.declared.transaction.InFlight.{InFlight}
 use Rattle.pc_coord.specs.declared.transaction.Transaction.{Transaction}
@@ -60,15 +60,15 @@ pub record IsAsked (c : Coordination) (call : Call) (reading : ℕ) (k : Known) 
   pub handed : c.job ≡ None
 
 -- The request that was due went out under the session's next number.
-pub record IsSent (c : Coordination) (number range : ℕ) (request : Request) (k : Known) (p : Pair Event) : Type 0 where
+pub record SendsDue (c : Coordination) (number range : ℕ) (request : Request) (k : Known) (p : Pair Event) : Type 0 where
   pub due : next_of c.due ≡ nexts.Send request
   pub is : IsOf (events.Send number range request) p
   pub next : number ≡ next_number k
 
 -- The reply that was waited for was heard: the entry names an evaluation that answered so, as the message may be answered where
 -- nothing is staged.
-pub record IsHeard (c : Coordination) (number step : ℕ) (reply : Reply) (k : Known) (p : Pair Event) : Type 0 where
-  pub waited : waits_for number c.due ≡ true
+pub record HearsAwaited (c : Coordination) (number step : ℕ) (reply : Reply) (k : Known) (p : Pair Event) : Type 0 where
+  pub waited : awaits_number number c.due ≡ true
   pub event : p.entry.event ≡ events.Hear number step
   pub evaluation : Entry Event
   pub actor : ActorId

@@ -1,6 +1,7 @@
 -- How a coordinator stands beside what its session knows.
 use Rattle.std.specs.Prelude.{◌≡◌, ℕ, Bool, false, Option, None, Some, IfSome, List, [], ◌∷◌, ◌++◌, map, ⊤}
 use Rattle.pc_base.specs.declared.actor.ActorId.TheVariants as actors
+use Rattle.pc_base.specs.Rising.{AreRising}
 use Rattle.pc_coord.specs.Coordination.{Coordination}
 use Rattle.pc_coord.specs.declared.due.Due.{Due}
 use Rattle.pc_coord.specs.declared.due.Due.TheVariants as dues
@@ -27,7 +28,6 @@ use Rattle.pc_world.specs.Follows.PipelinedPuts.{TellsWritten}
 use Rattle.pc_world.specs.Known.{Known, next_number}
 use Rattle.pc_world.specs.Known.Statements.{Statement}
 use Rattle.pc_world.specs.MayTell.{MayTell}
-use Rattle.pc_world.specs.RangeOf.{AreRising}
 use Rattle.pc_world.specs.Send.Settling.{MayFinish}
 pub mod Ending
 pub mod Held
@@ -72,7 +72,7 @@ pub record SendsNow (c : Coordination) (k : Known) (request : Request) (wait : W
   pub after : (range : ℕ) → Awaits c.session c.clock c.begun c.txn (next_number k) wait (learned (events.Send (next_number k) range request) k)
 
 -- The messages of a call that reads are sent and heard.
-pub record Reads (c : Coordination) (k : Known) (messages : List Message) : Type 0 where
+pub record IsReadingNow (c : Coordination) (k : Known) (messages : List Message) : Type 0 where
   pub counted : IsCounted c.session c.clock c.begun k
   pub reads : AwaitsReads c.splits k c.txn messages
 
@@ -101,7 +101,7 @@ KnowsAt c k dues.Stuck = ⊥
 KnowsAt c k (dues.Send request wait) = SendsNow c k request wait
 KnowsAt c k (dues.Hear number wait) = Awaits c.session c.clock c.begun c.txn number wait k
 KnowsAt c k (dues.Met number conflict conflicts again) = Meets c k number conflict conflicts again
-KnowsAt c k (dues.Read messages) = Reads c k messages
+KnowsAt c k (dues.Read messages) = IsReadingNow c k messages
 KnowsAt c k (dues.Tell answer) = TellsNow c k answer
 
 -- What is left to be done is of the answer that is due, or was told last.

@@ -17,7 +17,7 @@ use Rattle.pc_proto.specs.declared.reply.Reply.{Reply}
 use Rattle.pc_proto.specs.declared.reply.Reply.TheVariants as replies
 use Rattle.pc_proto.specs.declared.request.Request.{Request}
 use Rattle.pc_proto.specs.declared.request.Request.TheVariants as requests
-use Rattle.pc_world.specs.Send.Recovery.{is_conflict}
+use Rattle.pc_proto.specs.Replies.{is_conflict}
 use Rattle.pc_world.specs.Tell.Data.{told_row}
 
 module _ {X : Type 0} (test : X → Bool) (change : X → X) where
@@ -47,8 +47,8 @@ progress_sent (progresses.Met number conflict) = false
 progress_sent (progresses.Heard reply) = false
 
 -- The reply to the message is waited for.
-abbrev pub is_sent : Message → Bool
-is_sent m = progress_sent m.progress
+abbrev pub is_awaited : Message → Bool
+is_awaited m = progress_sent m.progress
 
 abbrev pub progress_waits : ℕ → Progress → Bool
 progress_waits number (progresses.Sent sent) = sent == number
@@ -87,8 +87,8 @@ progress_heard (progresses.Sent number) = false
 progress_heard (progresses.Met number conflict) = false
 
 -- What the message asks for was heard.
-abbrev pub is_heard : Message → Bool
-is_heard m = progress_heard m.progress
+abbrev pub has_reply : Message → Bool
+has_reply m = progress_heard m.progress
 
 -- The message went out under this number.
 abbrev pub sent_as : ℕ → Message → Message
@@ -103,8 +103,8 @@ met_or_heard true number reply m = record m { conflicts = one_more m.conflicts; 
 met_or_heard false number reply m = record m { progress = progresses.Heard reply }
 
 -- This was replied to the message, which went out under this number.
-abbrev pub heard_as : ℕ → Reply → Message → Message
-heard_as number reply m = met_or_heard (is_conflict reply) number reply m
+abbrev pub replied_as : ℕ → Reply → Message → Message
+replied_as number reply m = met_or_heard (is_conflict reply) number reply m
 
 -- The message is to be sent again.
 abbrev pub again : Message → Message
@@ -112,7 +112,7 @@ again m = record m { progress = progresses.Unsent }
 
 -- The first message that waits for its conflict's round, once no reply is waited for any more.
 abbrev pub first_met : List Message → Option Message
-first_met messages = if list_any is_sent messages then None else find is_met messages
+first_met messages = if list_any is_awaited messages then None else find is_met messages
 
 -- The timestamp at which the request reads.
 abbrev pub read_at : Request → Option ℕ
@@ -174,13 +174,13 @@ abbrev pub value_heard : Progress → Option Answer
 value_heard (progresses.Heard (replies.Value origin value)) = Some (answers.Value value)
 value_heard _ = None
 
-abbrev pub value_by : Request → Progress → Option Answer
-value_by (requests.Get id epoch seq ts key) progress = value_heard progress
-value_by _ progress = None
+abbrev pub value_for : Request → Progress → Option Answer
+value_for (requests.Get id epoch seq ts key) progress = value_heard progress
+value_for _ progress = None
 
 -- The value that was heard to a get.
 abbrev pub value_in : Message → Option Answer
-value_in m = value_by m.request m.progress
+value_in m = value_for m.request m.progress
 
 abbrev pub value_first : List Message → Option Answer
 value_first [] = None
@@ -204,5 +204,5 @@ due_unless (Some holder) messages = dues.Tell (answers.Blocked holder)
 -- them.
 abbrev pub due_of_reads : List Message → Due
 due_of_reads messages =
-    if list_all is_heard messages then due_by (answer_of messages)
+    if list_all has_reply messages then due_by (answer_of messages)
     else due_unless (option_and_then blocked_by (first_met messages)) messages

@@ -28,8 +28,8 @@ spans_in splits (One key) = One key ∷ []
 spans_in splits (Between from to) = spans_from None splits from to
 
 -- A scan of each span, to be sent.
-abbrev pub messages_of : Transaction → List Span → List Message
-messages_of x spans = map (λ span. unsent (scan_of x span)) spans
+abbrev pub scan_messages : Transaction → List Span → List Message
+scan_messages x spans = map (λ span. unsent (scan_of x span)) spans
 
 -- The transaction, once it is asked to read.
 abbrev pub reading : Transaction → Transaction
@@ -43,4 +43,4 @@ due_of_get key (Some x) = due_of_reads (unsent (get_of (reading x) key) ∷ [])
 -- What is due after a scan was asked.
 abbrev pub due_of_scan : List (List ℕ) → Span → Option Transaction → Due
 due_of_scan splits span None = dues.Tell answers.NoTxn
-due_of_scan splits span (Some x) = due_of_reads (messages_of (reading x) (spans_in splits span))
+due_of_scan splits span (Some x) = due_of_reads (scan_messages (reading x) (spans_in splits span))

@@ -11,12 +11,14 @@ use Rattle.pc_proto.specs.declared.reply.Reply.TheVariants as replies
 use Rattle.pc_proto.specs.declared.request.Request.{Request}
 use Rattle.pc_proto.specs.declared.request.Request.TheVariants as requests
 use Rattle.pc_proto.specs.declared.view.View.{View}
-use Rattle.pc_world.specs.Follows.Resends.{ResolvedTo, goal_in}
+use Rattle.pc_proto.specs.Replies.{is_conflict_with}
+use Rattle.pc_proto.specs.Requests.{goal_in, is_push_of}
+use Rattle.pc_proto.specs.Views.{fate_after}
 use Rattle.pc_world.specs.Known.{Known}
 use Rattle.pc_world.specs.Known.Traffic.{Heard}
-use Rattle.pc_world.specs.Send.Recovery.{is_conflict_with, is_push_of, was_refused}
+use Rattle.pc_world.specs.Send.Recovery.{was_refused}
+use Rattle.pc_world.specs.Send.Settling.{ResolvedTo}
 use Rattle.pc_world.specs.Tell.Refusal.{WasLost}
-use Rattle.pc_world.specs.Views.{fate_after}
 
 -- A push of this transaction was heard.
 abbrev pub was_pushed : TxnId → Heard → Bool
@@ -28,8 +30,8 @@ is_resolve_of id (requests.Resolve other key fate) = same_txn other id
 is_resolve_of id _ = false
 
 -- A resolve of an intent of this transaction was heard.
-abbrev pub was_settled : TxnId → Heard → Bool
-was_settled id h = is_resolve_of id h.request
+abbrev pub shows_resolve : TxnId → Heard → Bool
+shows_resolve id h = is_resolve_of id h.request
 
 -- A conflict with this transaction was heard.
 abbrev pub was_met : TxnId → Heard → Bool
@@ -39,7 +41,7 @@ was_met id h = is_conflict_with id h.reply
 -- rounds, of these holders, are still to be made; and no more resolves than pushes.
 pub record IsPaced (pending : List TxnId) (k : Known) : Type 0 where
   pub pushes : (id : TxnId) → count_by (was_pushed id) k.heard_now + count_by (λ other. same_txn other id) pending ≤ count_by (was_met id) k.heard_now
-  pub resolves : (id : TxnId) → count_by (was_settled id) k.heard_now ≤ count_by (was_pushed id) k.heard_now
+  pub resolves : (id : TxnId) → count_by (shows_resolve id) k.heard_now ≤ count_by (was_pushed id) k.heard_now
 
 -- The round of a conflict with this holder at this key: it was pushed, and its intent was settled with the fate that the push left to it.
 pub record IsSettledRound (id : TxnId) (key : List ℕ) (start k : Known) : Type 0 where

@@ -29,8 +29,8 @@ transaction_of has_read in_flight t = record {
 }
 
 -- The transaction with one more write, which is in flight; no value is a deletion.
-abbrev pub with_write : List ℕ → Option (List ℕ) → Transaction → Transaction
-with_write key value x = record x {
+abbrev pub with_own_write : List ℕ → Option (List ℕ) → Transaction → Transaction
+with_own_write key value x = record x {
   anchor = option_or x.anchor (Some key);
   locks = with_lock key x.locks;
   seq = x.seq + 1;
@@ -38,8 +38,8 @@ with_write key value x = record x {
 }
 
 -- The transaction once it was raised to this timestamp.
-abbrev pub raised : ℕ → Transaction → Transaction
-raised ts x = record x { write_ts = max x.write_ts ts }
+abbrev pub risen_to : ℕ → Transaction → Transaction
+risen_to ts x = record x { write_ts = max x.write_ts ts }
 
 -- The transaction once its write in flight was written at this timestamp.
 abbrev pub landed : ℕ → Transaction → Transaction

@@ -9,8 +9,8 @@ use Rattle.pc_coord.specs.declared.round.Round.{Round}
 use Rattle.pc_coord.specs.declared.round.Round.TheVariants as rounds
 use Rattle.pc_coord.specs.declared.transaction.InFlight.{InFlight}
 use Rattle.pc_coord.specs.declared.transaction.Transaction.{Transaction}
-use Rattle.pc_coord.specs.Messages.{holder_in, one_more}
-use Rattle.pc_coord.specs.Transaction.{landed, put_of, refreshed, with_write}
+use Rattle.pc_coord.specs.Messages.{one_more}
+use Rattle.pc_coord.specs.Transaction.{landed, put_of, refreshed, with_own_write}
 use Rattle.pc_base.specs.declared.transaction.TxnId.{TxnId}
 use Rattle.pc_proto.specs.declared.answer.Answer.TheVariants as answers
 use Rattle.pc_proto.specs.declared.reply.Reply.{Reply}
@@ -18,16 +18,16 @@ use Rattle.pc_proto.specs.declared.view.View.{View}
 use Rattle.pc_proto.specs.declared.view.View.TheVariants as views
 use Rattle.pc_proto.specs.declared.why.Why.{Why}
 use Rattle.pc_proto.specs.declared.why.Why.TheVariants as whys
-use Rattle.pc_world.specs.Views.{view_in}
+use Rattle.pc_proto.specs.Replies.{holder_in, view_in}
 
 -- What is due of the transaction's write, which follows one that is in flight if there is one.
 abbrev pub write_due : Option InFlight → List ℕ → Option (List ℕ) → Transaction → Due
-write_due None key value x = put_due (with_write key value x).anchor key value false (with_write key value x)
+write_due None key value x = put_due (with_own_write key value x).anchor key value false (with_own_write key value x)
 write_due (Some w) key value x = put_due x.anchor w.key w.value true x
 
 -- The transaction once it is asked to write: where a write is in flight that one is sent again, and nothing changes.
 abbrev pub write_txn : Option InFlight → List ℕ → Option (List ℕ) → Transaction → Transaction
-write_txn None key value x = with_write key value x
+write_txn None key value x = with_own_write key value x
 write_txn (Some w) key value x = x
 
 -- What is due after a put was asked: a write that is in flight is proved first.
@@ -51,7 +51,7 @@ landed_due true ts (Some w) x = write_due None w.key w.value (landed ts x)
 abbrev pub landed_txn : Bool → ℕ → Option InFlight → Transaction → Transaction
 landed_txn again ts None x = landed ts x
 landed_txn false ts (Some w) x = landed ts x
-landed_txn true ts (Some w) x = with_write w.key w.value (landed ts x)
+landed_txn true ts (Some w) x = with_own_write w.key w.value (landed ts x)
 
 abbrev pub due_of_written : Bool → ℕ → Option Transaction → Due
 due_of_written again ts None = dues.Stuck

@@ -1,11 +1,12 @@
 ghost use Rattle.std.specs.Prelude.{◌≡◌, ℕ, ◌+◌, ◌<◌, max, true, false, ◌==◌, ◌||◌, ◌&&◌, not, is_some, IfOk, IfSome, OnOk, None, Some, Option};
+ghost use Rattle.pc_base.specs.Rising.{AreRising};
 ghost use Rattle.pc_coord.specs.Beside.{IsLaterBeside};
-ghost use Rattle.pc_coord.specs.Coordination.{Coordination, closed_with, new_coordination, next_of, waits_for, with_begun, with_clock, with_due, with_end, without_job};
+ghost use Rattle.pc_coord.specs.Coordination.{Coordination, awaits_number, closed_with, new_coordination, next_of, with_begun, with_clock, with_due, with_end, without_job};
 ghost use Rattle.pc_coord.specs.Coordinating.{FewRefused, after_abort_reply, after_begin, after_call, after_commit_call, after_commit_reply, after_committed, after_get, after_put, after_put_reply, after_read, after_refused, after_reply, after_rollback, after_round, after_scan, after_view, due_after_send, awaited_at, reads_after_round, sending_of, with_heard, written_in};
 ghost use Rattle.pc_coord.specs.declared.due.Due.TheVariants as dues;
 ghost use Rattle.pc_coord.specs.declared.next.Next.TheVariants as nexts;
 ghost use Rattle.pc_coord.specs.declared.transaction.Transaction.{Transaction};
-ghost use Rattle.pc_coord.specs.Events.{IsAsked, IsHeard, IsSent, IsTold};
+ghost use Rattle.pc_coord.specs.Events.{HearsAwaited, IsAsked, IsTold, SendsDue};
 ghost use Rattle.pc_coord.specs.Knows.{Knows, MayCome, MayFinishJob};
 ghost use Rattle.pc_coord.specs.Pusher.{IsPusherOf, pusher_of};
 ghost use Rattle.pc_coord.specs.Rounds.{EndsRound};
@@ -17,7 +18,6 @@ ghost use Rattle.pc_proto.specs.declared.fate.Fate.TheVariants as fates;
 ghost use Rattle.pc_proto.specs.declared.reply.Reply.{Reply};
 ghost use Rattle.pc_proto.specs.declared.request.Request.{Request};
 ghost use Rattle.pc_world.specs.Known.{Known, learn, nothing_known};
-ghost use Rattle.pc_world.specs.RangeOf.{AreRising};
 ghost use Rattle.pc_world.specs.Tell.Begin.{clock_now};
 
 use crate::due::{Due, Wait};
@@ -116,7 +116,7 @@ impl<'a> Coordinator<'a> {
     pub fn ask(&mut self, call: Call, reading: u64) -> Result<(), NoMemory>
         ensures made { OnOk result (self.new ≡ after_call call reading self.old) }
         ensures knows { (k : Known) (p : Pair Event) → Knows self.old k → IsAsked self.old call reading k p → OnOk result (Knows self.new (learn p k)) }
-        ensures waits { (number : ℕ) → OnOk result (waits_for number self.new.due ≡ false) }
+        ensures waits { (number : ℕ) → OnOk result (awaits_number number self.new.due ≡ false) }
         ensures session { self.new.session ≡ self.old.session }
         ensures splits { self.new.splits ≡ self.old.splits }
     {
@@ -271,8 +271,8 @@ impl<'a> Coordinator<'a> {
 
     /// The message that `next` gave went out under this number, the session's next one.
     pub fn sent(&mut self, number: u64) -> Result<(), NoMemory>
-        ensures knows { (k : Known) (p : Pair Event) (range : ℕ) (request : Request) → Knows self.old k → IsSent self.old number range request k p → OnOk result (Knows self.new (learn p k)) }
-        ensures waits { (request : Request) (other : ℕ) → next_of self.old.due ≡ nexts.Send request → OnOk result (waits_for other self.new.due ≡ (number == other || waits_for other self.old.due)) }
+        ensures knows { (k : Known) (p : Pair Event) (range : ℕ) (request : Request) → Knows self.old k → SendsDue self.old number range request k p → OnOk result (Knows self.new (learn p k)) }
+        ensures waits { (request : Request) (other : ℕ) → next_of self.old.due ≡ nexts.Send request → OnOk result (awaits_number other self.new.due ≡ (number == other || awaits_number other self.old.due)) }
         ensures session { self.new.session ≡ self.old.session }
         ensures splits { self.new.splits ≡ self.old.splits }
     {
@@ -303,8 +303,8 @@ impl<'a> Coordinator<'a> {
     /// The reply to the message of this number, which is waited for, was heard; it was evaluated at this step of the history. Refused
     /// for want of memory, and where the session's sequences are used up.
     pub fn heard(&mut self, number: u64, step: u64, reply: &Reply) -> Result<(), NoMemory>
-        ensures knows { (k : Known) (p : Pair Event) → Knows self.old k → IsHeard self.old number step reply.now k p → OnOk result (Knows self.new (learn p k)) }
-        ensures waits { (k : Known) (other : ℕ) → Knows self.old k → waits_for number self.old.due ≡ true → OnOk result (waits_for other self.new.due ≡ (waits_for other self.old.due && not (number == other))) }
+        ensures knows { (k : Known) (p : Pair Event) → Knows self.old k → HearsAwaited self.old number step reply.now k p → OnOk result (Knows self.new (learn p k)) }
+        ensures waits { (k : Known) (other : ℕ) → Knows self.old k → awaits_number number self.old.due ≡ true → OnOk result (awaits_number other self.new.due ≡ (awaits_number other self.old.due && not (number == other))) }
         ensures session { self.new.session ≡ self.old.session }
         ensures splits { self.new.splits ≡ self.old.splits }
     {
@@ -390,7 +390,7 @@ impl<'a> Coordinator<'a> {
     /// in it is to be given to `raise` before.
     pub fn settled(&mut self, number: u64, round: Round) -> Result<(), NoMemory>
         ensures knows { (c : Coordination) (start k : Known) (conflict : Reply) (reader : Option ℕ) → Knows c start → self.old ≡ with_clock k.high c → next_of c.due ≡ nexts.Conflict number conflict reader → IsLaterBeside c start k → EndsRound conflict round start k → OnOk result (Knows self.new k) }
-        ensures waits { (conflict : Reply) (reader : Option ℕ) (other : ℕ) → next_of self.old.due ≡ nexts.Conflict number conflict reader → OnOk result (waits_for other self.new.due ≡ false) }
+        ensures waits { (conflict : Reply) (reader : Option ℕ) (other : ℕ) → next_of self.old.due ≡ nexts.Conflict number conflict reader → OnOk result (awaits_number other self.new.due ≡ false) }
         ensures session { self.new.session ≡ self.old.session }
         ensures splits { self.new.splits ≡ self.old.splits }
     {

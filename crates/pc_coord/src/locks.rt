@@ -1,6 +1,6 @@
 ghost use Rattle.std.specs.Prelude.{◌≡◌, IfOk, false, slice_get};
 ghost use Rattle.std.specs.List.{position};
-ghost use Rattle.pc_coord.specs.Place.{place};
+ghost use Rattle.pc_coord.specs.Place.{lock_place};
 ghost use Rattle.std.specs.Option.{option_map_or};
 ghost use Rattle.pc_base.specs.Span.{key_at_most, same_key};
 ghost use Rattle.pc_world.specs.Known.Transactions.{with_lock};
@@ -23,7 +23,7 @@ pub fn with_lock(locks: &Keys, key: &Key) -> Result<Keys, NoMemory>
 
 /// The first place that the key is not behind, or the end.
 fn place_of(locks: &[Key], key: &Key) -> usize
-    ensures { result ≡ place key.now locks.now }
+    ensures { result ≡ lock_place key.now locks.now }
 {
     first_not_below(locks, key).unwrap_or(locks.len())
 }

@@ -1,7 +1,8 @@
 ghost use Rattle.std.specs.Prelude.{◌≡◌, ◌++◌, [], ◌∷◌, find, map, IfOk, OnOk};
 ghost use Rattle.std.specs.Option.{option_and_then, option_copied};
 ghost use Rattle.std.specs.List.{flat_map, list_all, list_any, position};
-ghost use Rattle.pc_coord.specs.Messages.{again, answer_of, blocked_by, change_first, due_by, due_of_reads, first_met, has_rows, heard_as, holder_in, holder_met, is_heard, is_met, is_sent, is_unsent, met_at, next_in, next_of_met, next_unmet, one_more, read_at, rows_told, sent_as, unsent, value_heard, value_in, waits_at};
+ghost use Rattle.pc_coord.specs.Messages.{again, answer_of, blocked_by, change_first, due_by, due_of_reads, first_met, has_reply, has_rows, holder_met, is_awaited, is_met, is_unsent, met_at, next_in, next_of_met, next_unmet, one_more, read_at, replied_as, rows_told, sent_as, unsent, value_heard, value_in, waits_at};
+ghost use Rattle.pc_proto.specs.Replies.{holder_in};
 ghost use Rattle.pc_world.specs.Tell.Data.{told_row};
 
 use crate::due::Due;
@@ -101,7 +102,7 @@ impl Messages {
 
     /// The reply to one of them is waited for.
     fn is_awaited(&self) -> bool
-        ensures { result ≡ list_any is_sent self.now }
+        ensures { result ≡ list_any is_awaited self.now }
     {
         self.items.iter().any(|message| message.is_sent())
     }
@@ -137,7 +138,7 @@ impl Messages {
     /// This was replied to the message of this number.
     #[tactic(auto, using(crate::proofs::Changes::heard_first, crate::proofs::Changes::none_heard))]
     pub fn heard(&mut self, number: u64, reply: Reply)
-        ensures { self.new ≡ change_first (waits_at number) (heard_as number reply) self.old }
+        ensures { self.new ≡ change_first (waits_at number) (replied_as number reply) self.old }
     {
         if let Some(place) = self.first_waiting(number) {
             self.items[place].hear(number, reply);
@@ -217,7 +218,7 @@ impl Messages {
     }
 
     fn all_heard(&self) -> bool
-        ensures { result ≡ list_all is_heard self.now }
+        ensures { result ≡ list_all has_reply self.now }
     {
         self.items.iter().all(|message| message.is_heard())
     }
@@ -259,7 +260,7 @@ impl Message {
     }
 
     fn is_sent(&self) -> bool
-        ensures { result ≡ is_sent self.now }
+        ensures { result ≡ is_awaited self.now }
     {
         matches!(self.progress, Progress::Sent { .. })
     }
@@ -317,7 +318,7 @@ impl Message {
 
     /// This was replied to it; it went out under this number.
     fn hear(&mut self, number: u64, reply: Reply)
-        ensures { self.new ≡ heard_as number reply self.old }
+        ensures { self.new ≡ replied_as number reply self.old }
     {
         if matches!(reply, Reply::Conflict { .. }) {
             self.conflicts = one_more(self.conflicts);
@@ -352,7 +353,7 @@ impl Message {
     }
 
     fn is_heard(&self) -> bool
-        ensures { result ≡ is_heard self.now }
+        ensures { result ≡ has_reply self.now }
     {
         matches!(self.progress, Progress::Heard { .. })
     }

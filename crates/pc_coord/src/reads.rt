@@ -2,7 +2,7 @@ ghost use Rattle.std.specs.Prelude.{◌≡◌, ◌++◌, find, None, Some, IfOk,
 ghost use Rattle.std.specs.Option.{option_map};
 ghost use Rattle.pc_coord.specs.Coordinating.{due_after_read, read_round, reads_after_round};
 ghost use Rattle.pc_coord.specs.Messages.{met_at};
-ghost use Rattle.pc_coord.specs.Reading.{due_of_get, due_of_scan, messages_of, reading, span_piece, spans_from, spans_in};
+ghost use Rattle.pc_coord.specs.Reading.{due_of_get, due_of_scan, reading, scan_messages, span_piece, spans_from, spans_in};
 ghost use Rattle.pc_world.specs.RangeOf.{earlier_end, later_start};
 
 use crate::due::Due;
@@ -92,7 +92,7 @@ fn messages_of(
     txn: &Transaction,
     span: &Span,
 ) -> Result<Messages, NoMemory>
-    ensures { IfOk result (λ made. made ≡ messages_of txn.now (spans_in splits.now span.now)) }
+    ensures { IfOk result (λ made. made ≡ scan_messages txn.now (spans_in splits.now span.now)) }
 {
     match span {
         Span::One(key) => {
@@ -112,7 +112,7 @@ fn pieces(
     from: &Option<Key>,
     to: &Option<Key>,
 ) -> Result<Messages, NoMemory>
-    ensures { IfOk result (λ made. made ≡ messages_of txn.now (spans_from None splits.now from.now to.now)) }
+    ensures { IfOk result (λ made. made ≡ scan_messages txn.now (spans_from None splits.now from.now to.now)) }
 {
     let mut messages = Messages::new(alloc);
     let mut low = None;
@@ -133,7 +133,7 @@ fn add_piece(
     from: Option<Key>,
     to: Option<Key>,
 ) -> Result<(), NoMemory>
-    ensures { OnOk result (messages.new ≡ messages.old ++ messages_of txn.now (span_piece from to)) }
+    ensures { OnOk result (messages.new ≡ messages.old ++ scan_messages txn.now (span_piece from to)) }
 {
     match Span::between(from, to) {
         Ok(span) => messages.add(txn.scan_request(span)),

@@ -1,13 +1,12 @@
 ghost use Rattle.std.specs.Prelude.{◌≡◌};
-ghost use Rattle.pc_proto.specs.Stamps.{origin_stamps, reply_stamps, row_stamps, view_stamps};
-ghost use Rattle.pc_world.specs.Known.Clock.{last_of};
+ghost use Rattle.pc_proto.specs.Stamps.{greatest_of, origin_stamps, reply_stamps, row_stamps, view_stamps};
 
 use pc_base::Timestamp;
 use pc_proto::{Origin, Reply, Rows, View, Why};
 
 /// The greatest timestamp in a reply, zero where there is none.
 pub fn last_stamp(reply: &Reply) -> Timestamp
-    ensures { result ≡ last_of (reply_stamps reply.now) }
+    ensures { result ≡ greatest_of (reply_stamps reply.now) }
 {
     match reply {
         Reply::Value { origin, .. } => stamp_of(origin),
@@ -24,7 +23,7 @@ pub fn last_stamp(reply: &Reply) -> Timestamp
 }
 
 fn last_of_view(view: &View) -> Timestamp
-    ensures { result ≡ last_of (view_stamps view.now) }
+    ensures { result ≡ greatest_of (view_stamps view.now) }
 {
     match view {
         View::Pending { ts, .. } | View::Staging { ts, .. } | View::Committed { ts, .. } => *ts,
@@ -37,7 +36,7 @@ fn last_of_view(view: &View) -> Timestamp
 }
 
 fn stamp_of(origin: &Origin) -> Timestamp
-    ensures { result ≡ last_of (origin_stamps origin.now) }
+    ensures { result ≡ greatest_of (origin_stamps origin.now) }
 {
     match origin {
         Origin::At(ts) => *ts,
@@ -46,7 +45,7 @@ fn stamp_of(origin: &Origin) -> Timestamp
 }
 
 fn last_of_rows(rows: &Rows) -> Timestamp
-    ensures { result ≡ last_of (row_stamps rows.now) }
+    ensures { result ≡ greatest_of (row_stamps rows.now) }
 {
     let mut last = Timestamp::ZERO;
     for row in rows.as_slice() {

@@ -1,5 +1,5 @@
 ghost use Rattle.std.specs.Prelude.{◌≡◌, false, ◌+◌, IfOk, OnOk, None, Some};
-ghost use Rattle.pc_coord.specs.Transaction.{abort_of, commit_of, get_of, meta_in, needs_refresh, put_of, refreshed, scan_of, transaction_of, with_write};
+ghost use Rattle.pc_coord.specs.Transaction.{abort_of, commit_of, get_of, meta_in, needs_refresh, put_of, refreshed, scan_of, transaction_of, with_own_write};
 ghost use Rattle.pc_coord.specs.Coordination.{abort_due, commit_due, job_at, put_due};
 ghost use Rattle.pc_coord.specs.Turning.{landed_due, landed_txn, resent, write_due, write_txn};
 ghost use Rattle.pc_world.specs.Known.Transactions.{begun};
@@ -64,7 +64,7 @@ impl Transaction {
 
     /// Takes one more write in, which is in flight. It is refused too where the sequences are used up.
     fn write(&mut self, key: &Key, value: Option<Value>) -> Result<(), NoMemory>
-        ensures { OnOk result (self.new ≡ with_write key.now value self.old) }
+        ensures { OnOk result (self.new ≡ with_own_write key.now value self.old) }
     {
         self.seq = following(self.seq)?;
         self.locks = with_lock(&self.locks, key)?;
@@ -103,7 +103,7 @@ impl Transaction {
 
     fn begin_write(&mut self, key: &Key, value: Option<Value>) -> Result<Due, NoMemory>
         ensures due { IfOk result (λ due. due ≡ write_due None key.now value self.old) }
-        ensures txn { OnOk result (self.new ≡ with_write key.now value self.old) }
+        ensures txn { OnOk result (self.new ≡ with_own_write key.now value self.old) }
     {
         self.write(key, value.copy()?)?;
         self.put_due(key, &value, false)

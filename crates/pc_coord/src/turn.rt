@@ -1,10 +1,11 @@
 ghost use Rattle.std.specs.Prelude.{◌≡◌, ◌<◌, None, Some, IfOk, OnOk, Option};
 ghost use Rattle.std.specs.Option.{option_and_then, option_map};
-ghost use Rattle.pc_coord.specs.Transaction.{raised, refreshed};
+ghost use Rattle.pc_coord.specs.Transaction.{refreshed, risen_to};
 ghost use Rattle.pc_coord.specs.Coordinating.{refusals_with};
 ghost use Rattle.pc_coord.specs.Coordination.{job_of};
 ghost use Rattle.pc_coord.specs.Turning.{blocked_due, cause_in, cause_of, due_of_commit, due_of_committed, due_of_conflict, due_of_end, due_of_put, due_of_resend, due_of_retry, due_of_rollback, due_of_rolled_back, due_of_round, due_of_written, txn_of_end, txn_of_put, txn_of_retry, txn_of_rollback, txn_of_written};
-ghost use Rattle.pc_world.specs.Views.{final_fate, view_in};
+ghost use Rattle.pc_proto.specs.Replies.{view_in};
+ghost use Rattle.pc_proto.specs.Views.{final_fate};
 
 use crate::due::Due;
 use crate::job::Job;
@@ -229,7 +230,7 @@ pub fn committed(txn: &Option<Transaction>, ts: Timestamp) -> Due
 
 /// A timestamp was heard at which the open transaction stands.
 pub fn raise(txn: &mut Option<Transaction>, ts: Timestamp)
-    ensures { txn.new ≡ option_map (raised ts) txn.old }
+    ensures { txn.new ≡ option_map (risen_to ts) txn.old }
 {
     if let Some(txn) = txn {
         txn.write_ts = txn.write_ts.max(ts);

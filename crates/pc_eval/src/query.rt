@@ -2,7 +2,7 @@
 //! nothing, the read bound goes up to the staged timestamp under no owner, so that the write never lands at or below it.
 
 ghost use Rattle.std.specs.Prelude.{◌≡◌};
-ghost use Rattle.pc_world.specs.Evaluation.Query.{bound_after_query, is_it, query, stands};
+ghost use Rattle.pc_world.specs.Evaluation.Query.{bound_after_query, is_it, query, write_stands};
 
 use crate::state::RangeState;
 use pc_base::{Key, Timestamp, TxnId};
@@ -31,7 +31,7 @@ impl RangeState {
 
     /// Whether the listed write stands at its key.
     pub fn stands(&self, id: TxnId, epoch: u32, seq: u32, ts: Timestamp, key: &Key) -> bool
-        ensures { result ≡ stands id epoch seq ts key.now self.now }
+        ensures { result ≡ write_stands id epoch seq ts key.now self.now }
     {
         self.intents
             .own_at(id, key)

@@ -8,7 +8,7 @@ ghost use Rattle.std.specs.Option.{option_to_list};
 ghost use Rattle.std.specs.Ordering.{nat_cmp};
 ghost use Rattle.pc_base.specs.Span.{contains};
 ghost use Rattle.pc_world.specs.Evaluation.{reply, state_after};
-ghost use Rattle.pc_world.specs.Evaluation.Scan.{keys_in, row_of, rows_in};
+ghost use Rattle.pc_world.specs.Evaluation.Scan.{keys_in, row_found, rows_in};
 
 use crate::put::conflict;
 use crate::state::RangeState;
@@ -70,7 +70,7 @@ impl RangeState {
 
 /// Adds the row of a key, where a value was found.
 fn add_row(rows: &mut Rows, key: Key, found: (Origin, Option<Value>)) -> Result<(), NoMemory>
-    ensures { OnOk result (rows.new ≡ rows.old ++ option_to_list (row_of key found)) }
+    ensures { OnOk result (rows.new ≡ rows.old ++ option_to_list (row_found key found)) }
 {
     let (origin, value) = found;
     if let Some(value) = value {

@@ -22,10 +22,10 @@ use Rattle.pc_history.specs.Closed.{Stands, spenders, names_step}
 use Rattle.pc_history.specs.Table.{IsPart, AllStand, Rules, uses_in, view_uses, Fits, IsStepTable}
 use Rattle.pc_history.specs.Steps.{after_acting, Acts, TellsAct}
 use Rattle.pc_history.proofs.Ids.{same_id-true, same_id-equal}
-use Rattle.pc_history.proofs.Lists.{sum_set, contains_cons, contains_head, contains_tail, contains_nil, elem_within}
 use Rattle.pc_history.proofs.Histories.{own-push_same, own-push_other, fine-push, named-same, stands-push}
 use Rattle.pc_history.proofs.Uses.{uses_of-use_one, spenders-push}
 use Rattle.pc_history.proofs.Fitting.{fits-actor, actor-fits, fits-by, part-in, above-in, word-is, table-tells}
+use Rattle.pc_lists.proofs.Lists.{contains_cons, contains_head, contains_nil, contains_tail, elem_within, sum_set}
 
 module _ {E : Type 0} (S : Sense E) where
   -- where one use of the named entry is gone, and one more entry spends it, the two together are as before

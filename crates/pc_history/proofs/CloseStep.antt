@@ -22,13 +22,13 @@ use Rattle.pc_history.specs.Closed.{Stands, ids_of, IsClosedPart, IsHistoryOf, A
 use Rattle.pc_history.specs.Table.{IsHandedIn, Rules, IsStepTable, count_of}
 use Rattle.pc_history.specs.Steps.{TellsClose, Closes}
 use Rattle.pc_history.specs.Ties.{entries_in}
-use Rattle.pc_history.proofs.Lists.{contains_cons, contains_head, contains_tail, contains_nil, contains_map, contains_in_map, nothing_contained, all_from_contains}
 use Rattle.pc_history.proofs.Histories.{own-contains, fine-kept, pairs_of-entries}
 use Rattle.pc_history.proofs.Counts.{count-some, sum_same, sum-own}
 use Rattle.pc_history.proofs.Uses.{eqb-same, eqb-differ}
 use Rattle.pc_history.proofs.NoteStep.{get-map}
 use Rattle.pc_history.proofs.LookStep.{loaded}
 use Rattle.pc_history.proofs.Fitting.{fits-opener, word-is}
+use Rattle.pc_lists.proofs.Lists.{all_from_contains, contains_cons, contains_head, contains_in_map, contains_map, contains_nil, contains_tail, nothing_contained}
 
 module _ {W E : Type 0} (S : Sense E) (world : Option W) (words : List ℕ) (views : List (View W E)) where
   closed-part : (table : IsStepTable S world words views) (part : Part E) → IsHandedIn S world table.history table.books part → IsClosedPart S table.history part

@@ -10,10 +10,10 @@ use Rattle.pc_history.specs.Parts.{uses_left, without_uses, with_uses}
 use Rattle.pc_history.specs.Closed.{Stands}
 use Rattle.pc_history.specs.Table.{AllStand, Rules, view_uses, Fits}
 use Rattle.pc_history.specs.Steps.{after_copying, copied_view}
-use Rattle.pc_history.proofs.Lists.{contains_cons, contains_head, contains_tail, contains_nil}
 use Rattle.pc_history.proofs.Uses.{uses_of-split}
 use Rattle.pc_history.proofs.SeatStep.{at_split, uses-split}
 use Rattle.pc_history.proofs.Fitting.{fits-note, note-fits}
+use Rattle.pc_lists.proofs.Lists.{contains_cons, contains_head, contains_nil, contains_tail}
 
 module _ {E : Type 0} (S : Sense E) (history : List (Entry E)) where
   stand-without : (uses : ℕ) (ks : List (Known E)) → AllStand S history ks → AllStand S history (without_uses uses ks)

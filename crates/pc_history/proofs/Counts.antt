@@ -8,8 +8,8 @@ use Rattle.pc_history.specs.Sense.{Sense}
 use Rattle.pc_history.specs.Own.{same_id, pairs_of, own}
 use Rattle.pc_history.specs.Table.{count_of}
 use Rattle.pc_history.proofs.Ids.{same_id-refl, same_id-true}
-use Rattle.pc_history.proofs.Lists.{contains_head, contains_tail, contains_cons, contains_nil, contains_map}
 use Rattle.pc_history.proofs.Histories.{pairs_of-entries}
+use Rattle.pc_lists.proofs.Lists.{contains_cons, contains_head, contains_map, contains_nil, contains_tail}
 
 count_step : (a x : ActorId) (ids : List ActorId) → count_of a (x ∷ ids) ≡ cond (same_id x a) 1 0 + count_of a ids
 count_step a x ids = sum_by-cons (λ y. cond (same_id y a) 1 0) x ids

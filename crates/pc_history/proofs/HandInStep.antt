@@ -16,10 +16,10 @@ use Rattle.pc_history.specs.Closed.{ids_of}
 use Rattle.pc_history.specs.Table.{Books, IsHandedIn, Rules, uses_in, Fits, count_of}
 use Rattle.pc_history.specs.Steps.{after_handing_in, spent}
 use Rattle.pc_history.proofs.Ids.{same_id-refl, same_id-differ}
-use Rattle.pc_history.proofs.Lists.{contains_in_map}
 use Rattle.pc_history.proofs.Counts.{count-push}
 use Rattle.pc_history.proofs.TakeStep.{at_two, uses-joined}
 use Rattle.pc_history.proofs.Fitting.{fits-actor, fits-opener, opener-fits, fits-by}
+use Rattle.pc_lists.proofs.Lists.{contains_in_map}
 
 -- nobody sits there any more
 abbrev left_seat : ActorId → Books → Books

@@ -12,7 +12,7 @@ use Rattle.pc_history.specs.History.{MayFollow, IsFineAfter, IsFine, AllKept}
 use Rattle.pc_history.specs.World.{IsWorld, NamesAtMostOne, HasAll}
 use Rattle.pc_history.specs.Closed.{Stands}
 use Rattle.pc_history.proofs.Ids.{same_id-true, same_id-equal, same_id-differ}
-use Rattle.pc_history.proofs.Lists.{contains_cons, contains_nil, contains_map, contains_in_map, contains_filter, contains_in_filter, get_contains, contains_get, get_append, find_none, find_some}
+use Rattle.pc_lists.proofs.Lists.{contains_cons, contains_filter, contains_get, contains_in_filter, contains_in_map, contains_map, contains_nil, find_none, find_some, get_append, get_contains}
 
 module _ {E : Type 0} (S : Sense E) where
   pub pairs_after-append : (before xs ys : List (Entry E)) → pairs_after S before (xs ++ ys) ≡ pairs_after S before xs ++ pairs_after S (before ++ xs) ys

@@ -9,16 +9,16 @@ use Rattle.pc_history.specs.declared.view.Part.{Part}
 use Rattle.pc_history.specs.declared.view.View.{View}
 use Rattle.pc_history.specs.Sense.{Sense}
 use Rattle.pc_history.specs.Own.{own, entries_of}
-use Rattle.pc_history.specs.Parts.{known, known_at, uses_of, noted, gave}
+use Rattle.pc_history.specs.Parts.{known_entry, known_entry_at, uses_of, noted, gave}
 use Rattle.pc_history.specs.Closed.{Stands}
 use Rattle.pc_history.specs.Table.{Books, IsPart, Rules, view_uses, Fits}
 use Rattle.pc_history.specs.Steps.{after_noting, noted_view}
-use Rattle.pc_history.proofs.Lists.{contains_cons, contains_nil, get_contains}
 use Rattle.pc_history.specs.History.{IsFine}
 use Rattle.pc_history.proofs.Histories.{Rises, own-contains, own-rises, fine-one, fine-below}
 use Rattle.pc_history.proofs.Uses.{more_given, given-here, given-elsewhere, eqb-differ, uses_of-cons}
 use Rattle.pc_history.proofs.SeatStep.{at_split, uses-split}
 use Rattle.pc_history.proofs.Fitting.{fits-actor, actor-fits, fits-by}
+use Rattle.pc_lists.proofs.Lists.{contains_cons, contains_nil, get_contains}
 
 get_some : {A : Type 0} (xs : List A) (i : ℕ) → i < length xs → (a : A) × (slice_get xs i ≡ Some a)
 get_some [] i h = absurd (omega arith)
@@ -74,8 +74,8 @@ module _ {X W E : Type 0} (sense : W → Sense E) (w : W) where
       let mine : Contains v.part.own p = get_contains v.part.own place p r.1 in
       let stands = own-contains S v.part.id table.history p (subst (λ ps. Contains ps p) actor.part_is.list mine) in
       let books' = give_at p.entry.step uses books in
-      let tells : noted place uses v.part ≡ known p.entry place uses ∷ [] = ap (λ o. known_at place uses o) r.1 in
-      let at_place : Stands S table.history (known p.entry place uses) =
+      let tells : noted place uses v.part ≡ known_entry p.entry place uses ∷ [] = ap (λ o. known_entry_at place uses o) r.1 in
+      let at_place : Stands S table.history (known_entry p.entry place uses) =
       subst (λ a. slice_get (entries_of (own S a table.history)) place ≡ Some p.entry) (sym stands.1)
       (subst (λ ps. slice_get (entries_of ps) place ≡ Some p.entry) actor.part_is.list (get-map (λ (q : Pair E). q.entry) v.part.own place p r.1)) in
       let differ : (part : Part E) → books.seat_of part.id ≢ seat + 1 → part.id ≢ p.entry.actor = λ part h same. h (ap books.seat_of (same ∙ stands.1) ∙ actor.sits) in
@@ -94,14 +94,14 @@ module _ {X W E : Type 0} (sense : W → Sense E) (w : W) where
             ap (λ b. books.given_of n + cond b uses 0) no' ∙ (let z = table.fresh n past in omega arith));
         uses = (λ n.
             let total = uses-split n s.views seat v left right at in
-            let new' : view_uses n right ≡ cond (eqb p.entry.step n) uses 0 = ap (λ ks. uses_of n ks) tells ∙ (let c = uses_of-cons n (known p.entry place uses) [] in let z : uses_of {E = E} n [] ≡ 0 = refl in omega arith) in
+            let new' : view_uses n right ≡ cond (eqb p.entry.step n) uses 0 = ap (λ ks. uses_of n ks) tells ∙ (let c = uses_of-cons n (known_entry p.entry place uses) [] in let z : uses_of {E = E} n [] ≡ 0 = refl in omega arith) in
             let old = table.uses n in
             omega arith);
         fits = (λ k u at_k.
             elim (at_split s.views seat k left right u at_k) [
               | inl e ↦ subst (λ z. Fits S (Some w) table.history books' k z) e.1 record {
                 world_is = actor.world_is;
-                stand = (λ l c. elim (contains_cons (known p.entry place uses) [] l (subst (λ ks. Contains ks l) tells c)) [
+                stand = (λ l c. elim (contains_cons (known_entry p.entry place uses) [] l (subst (λ ks. Contains ks l) tells c)) [
                   | inl same ↦ subst (λ z. Stands S table.history z) same at_place
                   | inr later ↦ absurd (contains_nil l later)
                 ]);

@@ -5,7 +5,7 @@ use lib.ListN.{get_elem?}
 use Rattle.pc_history.specs.declared.view.View.{View}
 use Rattle.pc_history.specs.Sense.{Sense}
 use Rattle.pc_history.specs.Table.{Books, Fits, IsStepTable, opening_view}
-use Rattle.pc_history.proofs.Lists.{contains_nil}
+use Rattle.pc_lists.proofs.Lists.{contains_nil}
 
 abbrev empty_books : Books
 empty_books = record { seat_of = (λ id. 0); given_of = (λ step. 0); seated = [] }

@@ -15,9 +15,9 @@ use Rattle.pc_history.specs.Own.{same_id, own}
 use Rattle.pc_history.specs.Table.{Books, IsHandedIn, Rules, uses_in, view_uses, Fits}
 use Rattle.pc_history.specs.Steps.{after_seating, seated_view}
 use Rattle.pc_history.proofs.Ids.{same_id-refl, same_id-differ, same_id-true}
-use Rattle.pc_history.proofs.Lists.{nothing_contained, contains_nil, elem_push, sum_set, length_set}
 use Rattle.pc_history.proofs.Histories.{own-contains}
 use Rattle.pc_history.proofs.Fitting.{fits-opener, opener-fits, fits-by}
+use Rattle.pc_lists.proofs.Lists.{contains_nil, elem_push, length_set, nothing_contained, sum_set}
 
 -- what stands in a list in which one element was replaced and one was added
 pub at_split : {A : Type 0} (xs : List A) (i k : ℕ) (a b c : A) → get_elem? (slice_set xs i a ++ b ∷ []) k ≡ found.some c

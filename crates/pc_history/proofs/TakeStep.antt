@@ -10,9 +10,9 @@ use Rattle.pc_history.specs.declared.view.View.{View}
 use Rattle.pc_history.specs.Sense.{Sense}
 use Rattle.pc_history.specs.Table.{Rules, uses_in, view_uses, Fits}
 use Rattle.pc_history.specs.Steps.{after_taking, spent}
-use Rattle.pc_history.proofs.Lists.{sum_set}
 use Rattle.pc_history.proofs.Uses.{uses_of-append}
 use Rattle.pc_history.proofs.Fitting.{fits-actor, fits-note, actor-fits}
+use Rattle.pc_lists.proofs.Lists.{sum_set}
 
 -- what stands in a list in which two elements were replaced
 pub at_two : {A : Type 0} (xs : List A) (i j k : ℕ) (a b c : A) → get_elem? (slice_set (slice_set xs i a) j b) k ≡ found.some c

@@ -10,7 +10,7 @@ use Rattle.pc_history.specs.Own.{named_in, pair, pairs_of}
 use Rattle.pc_history.specs.Parts.{uses_at, uses_of, use_one, uses_left, without_uses, with_uses}
 use Rattle.pc_history.specs.Closed.{spenders, names_step}
 use Rattle.pc_history.proofs.Histories.{pairs_of-push, Rises, rises-least}
-use Rattle.pc_history.proofs.Lists.{map_same, get_contains}
+use Rattle.pc_lists.proofs.Lists.{get_contains, map_same}
 
 pub eqb-true : (m n : ℕ) → eqb m n ≡ true → m ≡ n
 eqb-true m n h = grind arith

@@ -10,8 +10,8 @@ use Rattle.pc_history.specs.Own.{pair, entries_of, named_in}
 
 module _ {E : Type 0} where
   -- An entry as it is known, with its place and its uses.
-  abbrev pub known : Entry E → ℕ → ℕ → Known E
-  known entry place uses = record { entry = entry; place = place; uses = uses }
+  abbrev pub known_entry : Entry E → ℕ → ℕ → Known E
+  known_entry entry place uses = record { entry = entry; place = place; uses = uses }
 
   -- An actor that has just been seated.
   abbrev pub newcomer : ActorId → Part E
@@ -56,13 +56,13 @@ module _ {E : Type 0} where
   gave place uses part = record part { given = slice_set part.given place (slice_index part.given place + uses) }
 
   -- What a note tells of the entry at this place, if there is one.
-  abbrev pub known_at : ℕ → ℕ → Option (Pair E) → List (Known E)
-  known_at place uses None = []
-  known_at place uses (Some p) = known p.entry place uses ∷ []
+  abbrev pub known_entry_at : ℕ → ℕ → Option (Pair E) → List (Known E)
+  known_entry_at place uses None = []
+  known_entry_at place uses (Some p) = known_entry p.entry place uses ∷ []
 
   -- What a note of the actor's own entry at this place tells.
   abbrev pub noted : ℕ → ℕ → Part E → List (Known E)
-  noted place uses part = known_at place uses (slice_get part.own place)
+  noted place uses part = known_entry_at place uses (slice_get part.own place)
 
   -- How many uses a note has.
   abbrev pub uses_left : List (Known E) → ℕ
@@ -85,12 +85,12 @@ module _ {E : Type 0} (S : Sense E) where
   named_by part event = named_in S (knowledge part) event
 
   -- The event is local in the actor's own list.
-  abbrev pub IsLocal : Part E → E → Type 0
-  IsLocal part event = S.local part.id part.own event (named_by part event)
+  abbrev pub IsLocalFor : Part E → E → Type 0
+  IsLocalFor part event = S.local part.id part.own event (named_by part event)
 
   -- What the actor stored or knows causes the event.
-  abbrev pub IsCaused : Part E → E → Type 0
-  IsCaused part event = S.caused (knowledge part) event part.id
+  abbrev pub IsCausedFor : Part E → E → Type 0
+  IsCausedFor part event = S.caused (knowledge part) event part.id
 
   -- The actor has a use of the entry that the event names, if the event spends one.
   abbrev pub CanSpend : Part E → E → Type 0

@@ -1,6 +1,6 @@
 ghost use Rattle.std.specs.Prelude.{◌≡◌, ℕ, ◌<◌, ◌≤◌, ◌-◌, ◌^◌, length, IsOk, OnOk, OnErr, IfOk, Some, All};
 ghost use Rattle.pc_history.specs.Own.{entries_of};
-ghost use Rattle.pc_history.specs.Parts.{knowledge, IsLocal, IsCaused, CanSpend, acted, gave, noted, told};
+ghost use Rattle.pc_history.specs.Parts.{knowledge, CanSpend, IsCausedFor, IsLocalFor, acted, gave, noted, told};
 ghost use Rattle.pc_history.specs.Closed.{IsSound};
 ghost use Rattle.pc_history.specs.Steps.{TellsAct, TellsLook};
 ghost use Rattle.pc_history.specs.Ties.{ActorIsTied, ActorFields};
@@ -68,8 +68,8 @@ impl<W: World, N: Named<W>> Actor<W, N> {
     pub fn act(&mut self, event: W::Event) -> u64
         requires spare { 1 ≤ self.old.spare }
         requires short { length self.old.part.own < 2 ^ 32 }
-        requires local { IsLocal (W.sense self.old.world) self.old.part event }
-        requires caused { IsCaused (W.sense self.old.world) self.old.part event }
+        requires local { IsLocalFor (W.sense self.old.world) self.old.part event }
+        requires caused { IsCausedFor (W.sense self.old.world) self.old.part event }
         requires can_spend { CanSpend (W.sense self.old.world) self.old.part event }
         ensures stored { self.new ≡ record self.old {
           part = acted (W.sense self.old.world) result event self.old.part;
@@ -122,8 +122,8 @@ impl<W: World, N: Named<W>> Actor<W, N> {
         requires asked { J.asked ≡ Some event }
         requires spare { 1 ≤ self.old.spare }
         requires short { length self.old.part.own < 2 ^ 32 }
-        requires local { IsLocal (W.sense self.old.world) self.old.part event }
-        requires caused { IsCaused (W.sense self.old.world) self.old.part event }
+        requires local { IsLocalFor (W.sense self.old.world) self.old.part event }
+        requires caused { IsCausedFor (W.sense self.old.world) self.old.part event }
         requires can_spend { CanSpend (W.sense self.old.world) self.old.part event }
         ensures stored { self.new ≡ record self.old {
           part = acted (W.sense self.old.world) result event self.old.part;

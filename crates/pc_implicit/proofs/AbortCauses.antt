@@ -22,7 +22,7 @@ use Rattle.pc_implicit.proofs.StagesRefuted.{listed_there}
 use Rattle.pc_implicit.proofs.StaysOrRefuted.{replied_along}
 use Rattle.pc_implicit.specs.Causes.{HasItsCause, IsCauseAt, IsFoundMissing, IsGivenUpBy, IsPushedBy}
 use Rattle.pc_implicit.specs.Decided.{decision}
-use Rattle.pc_implicit.specs.Reads.{Evaluated}
+use Rattle.pc_implicit.specs.Reads.{RangeEvaluated}
 use Rattle.pc_implicit.specs.Stages.{WasStaged}
 use Rattle.pc_implicit.specs.Writes.{home_of}
 use Rattle.pc_proto.specs.declared.call.Call.TheVariants as calls
@@ -38,9 +38,9 @@ use Rattle.pc_proto.specs.declared.request.Request.{Request}
 use Rattle.pc_proto.specs.declared.request.Request.TheVariants as requests
 use Rattle.pc_proto.specs.declared.why.Why.{Why}
 use Rattle.pc_proto.specs.declared.why.Why.TheVariants as whys
-use Rattle.pc_proto.specs.RecordRows.{subject}
 use Rattle.pc_proto.specs.RecordRows.Push.{wins}
 use Rattle.pc_proto.specs.RecordRows.Reached.{is_staged_at, status_of}
+use Rattle.pc_proto.specs.Requests.{subject}
 use Rattle.pc_world.proofs.Prefixes.{run_front, run_induction}
 use Rattle.pc_world.specs.After.{known_at, place_at}
 use Rattle.pc_world.specs.Known.{call_of, open_txn}
@@ -80,7 +80,7 @@ given-up head before e id (whys.Missing key by) g = absurd (no-miss g.t.restart 
 -- One more entry, which changes the transaction's record.
 module _ (head : Head) (history : List (Entry Event)) (run : IsRun head history) (e : Entry Event) (id : TxnId)
     (c : ChangesPlace head history e id (home_of head id history) (home_of head id (history ++ e ∷ []))) where
-  evaluates : (request : Request) → c.ev.request ≡ request → Evaluated head history c.ev.range (λ asked reply. asked ≡ request) e
+  evaluates : (request : Request) → c.ev.request ≡ request → RangeEvaluated head history c.ev.range (λ asked reply. asked ≡ request) e
   evaluates request is = record {
     evaluated = c.ev.there;
     request = c.ev.request;

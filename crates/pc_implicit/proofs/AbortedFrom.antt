@@ -18,11 +18,11 @@ use Rattle.pc_proto.specs.declared.request.Request.TheVariants as requests
 use Rattle.pc_proto.specs.declared.why.Why.{Why}
 use Rattle.pc_proto.specs.declared.why.Why.TheVariants as whys
 use Rattle.pc_proto.specs.Place.{Place, Nothing, Kept, Marked, Change, Become, Finish, Stay, after, is_decided, is_final}
-use Rattle.pc_proto.specs.RecordRows.{change, unless_decided}
+use Rattle.pc_proto.specs.RecordRows.{place_change, unless_decided}
 use Rattle.pc_proto.specs.RecordRows.Abort.{abort}
 use Rattle.pc_proto.specs.RecordRows.Beat.{beat}
 use Rattle.pc_proto.specs.RecordRows.Commit.{commit}
-use Rattle.pc_proto.specs.RecordRows.Push.{There, Refuse, Doubt, Do, Verdict, is_staged, on_verdict, push, pushed, verdict, wins}
+use Rattle.pc_proto.specs.RecordRows.Push.{There, Refuse, Doubt, Do, Verdict, is_staged, on_verdict, push, push_verdict, pushed, wins}
 use Rattle.pc_proto.specs.RecordRows.Reached.{is_reached, is_staged_at}
 use Rattle.pc_proto.specs.RecordRows.Recover.{decided, recover}
 use Rattle.pc_proto.specs.RecordRows.Remove.{remove}
@@ -87,7 +87,7 @@ pushes holder by level now goals.Abort p = won (wins holder level now p) refl (i
     won true is false =
         becomes p (requests.Push holder by level now goals.Abort) (standings.Aborted (whys.Pushed by)) _ refl (λ why named. let same : whys.Pushed by ≡ why = cc in ByPush holder by level now refl (sym same) is)
     won false is c = stays p (requests.Push holder by level now goals.Abort)
-pushes holder by level now (goals.Move target) p = of (verdict holder level now (goals.Move target) p)
+pushes holder by level now (goals.Move target) p = of (push_verdict holder level now (goals.Move target) p)
   where
     of : (v : Verdict) → SaysAborts p (requests.Push holder by level now (goals.Move target)) (on_verdict v (pushed holder by (goals.Move target) p))
     of There = stays p (requests.Push holder by level now (goals.Move target))
@@ -105,7 +105,7 @@ removes id anchor (Kept r) = by (is_final r.status.standing) refl
 removes id anchor (Marked s) = stays (Marked s) (requests.Remove id anchor)
 
 -- what is aborted after a request was so before, or the request aborts it
-pub aborted_from : (request : Request) (p : Place) → SaysAborts p request (change request p)
+pub aborted_from : (request : Request) (p : Place) → SaysAborts p request (place_change request p)
 aborted_from (requests.Beat meta ts now) p = unless p (requests.Beat meta ts now) (beat meta ts now p) (beats meta ts now p)
 aborted_from (requests.Stage meta ts now writes locks) p =
     unless p (requests.Stage meta ts now writes locks) (stage meta ts now writes locks p)

@@ -8,15 +8,15 @@ use Rattle.pc_base.specs.declared.transaction.TxnId.{TxnId}
 use Rattle.pc_base.specs.Transaction.{same_txn}
 use Rattle.pc_history.specs.History.{MayFollow}
 use Rattle.pc_history.specs.Own.{named_in, own}
-use Rattle.pc_implicit.proofs.Agreed.{begun_next, open_there, owned}
+use Rattle.pc_implicit.proofs.Agreed.{begun-grows, begun_next, open_there, owned}
 use Rattle.pc_implicit.proofs.CommitCalls.{is-begin, is-tell, open-before, same-told}
 use Rattle.pc_implicit.proofs.Commits.{act_of}
-use Rattle.pc_implicit.proofs.Did.{begun-grows, numbered-at, session_at}
+use Rattle.pc_implicit.proofs.Did.{numbered-at, session_at}
 use Rattle.pc_implicit.proofs.Doing.{Does, same_or_not}
-use Rattle.pc_implicit.proofs.Keyed.{same-is}
 use Rattle.pc_implicit.proofs.Moves.{first_after, is_first, open_is_first}
 use Rattle.pc_implicit.proofs.OpenReads.{within-statement}
 use Rattle.pc_implicit.proofs.StagesKnown.{HasSent, dead_more, heard_goes_on, none_sent, sent_cases, stage_of, stage_sent}
+use Rattle.pc_lists.proofs.Same.{same_txn-is}
 use Rattle.pc_proto.specs.declared.answer.Answer.{Answer}
 use Rattle.pc_proto.specs.declared.answer.Answer.TheVariants as answers
 use Rattle.pc_proto.specs.declared.call.Call.{Call}
@@ -38,7 +38,7 @@ use Rattle.pc_world.specs.Operations.{is_last_after}
 use Rattle.pc_world.specs.Run.{IsRun, protocol}
 use Rattle.pc_world.specs.Send.Abort.{MaySendAbort}
 use Rattle.pc_world.specs.Send.Put.{AsksFor}
-use Rattle.pc_world.specs.StageFate.{IsDead, Stage, stage_request}
+use Rattle.pc_world.specs.StageFate.{IsDead, SentStage, stage_request}
 use Rattle.pc_world.specs.Tell.Refusal.{MayBlock}
 
 -- ---- a rollback is told nothing that leaves its transaction open
@@ -87,7 +87,7 @@ module _ (head : Head) (actor : ActorId) (k : Known) (is_open : k.is_open ≡ tr
 pub record IsGivenUp (k : Known) (id : TxnId) : Type 0 where
   pub begun : id.number ≤ k.begun
   pub ends : is_first id k.txns ≡ true → k.is_open ≡ true → call_of k ≡ Some calls.Rollback
-  pub dead : (s : Stage) → HasSent k.sent (stage_request s) → s.meta.id ≡ id → IsDead k.heard s
+  pub dead : (s : SentStage) → HasSent k.sent (stage_request s) → s.meta.id ≡ id → IsDead k.heard s
 
 module _ (head : Head) where
   -- One more entry of the transaction's session.
@@ -117,7 +117,7 @@ module _ (head : Head) where
           | inl new ↦
               let next = begun_next head (actors.Session id.session) k new.0 new.1 (subst (Does head (actors.Session id.session) k) new.2 abort-does) in
               let it : same_txn new.0 id ≡ true = ap (λ event. is_last_after id event (is_first id k.txns)) (sym new.2) ∙ sym first-then ∙ first in
-              let eq : new.0.number ≡ id.number = ap (λ (i : TxnId). i.number) (same-is new.0 id it) in
+              let eq : new.0.number ≡ id.number = ap (λ (i : TxnId). i.number) (same_txn-is new.0 id it) in
               let at : new.0.number ≡ k.begun + 1 = next.1 in
               absurd (let none : ⊥ = omega (arith, eq, at, begun) in none)
           | inr none ↦
@@ -139,7 +139,7 @@ module _ (head : Head) where
         ]
 
     -- its stages stay dead, and it sends none
-    dead-then : IsGivenUp (session_at head id history) id → (s : Stage) → HasSent (session_at head id (history ++ e ∷ [])).sent (stage_request s) → s.meta.id ≡ id → IsDead (session_at head id (history ++ e ∷ [])).heard s
+    dead-then : IsGivenUp (session_at head id history) id → (s : SentStage) → HasSent (session_at head id (history ++ e ∷ [])).sent (stage_request s) → s.meta.id ≡ id → IsDead (session_at head id (history ++ e ∷ [])).heard s
     dead-then up s sent whose =
         let actor : ActorId = actors.Session id.session in
         let k = session_at head id history in

@@ -8,12 +8,13 @@ use Rattle.pc_base.specs.declared.actor.ActorId.TheVariants as actors
 use Rattle.pc_base.specs.declared.entry.Entry.{Entry}
 use Rattle.pc_base.specs.declared.transaction.TxnId.{TxnId}
 use Rattle.pc_base.specs.Transaction.{same_txn}
-use Rattle.pc_history.proofs.Lists.{contains_cons, contains_head, contains_nil}
 use Rattle.pc_history.specs.History.{MayFollow}
 use Rattle.pc_history.specs.Own.{named_in, own, pair}
 use Rattle.pc_implicit.proofs.Doing.{Does, does, same_or_not, told_by_row}
 use Rattle.pc_implicit.proofs.Firsts.{first_push, or_none}
-use Rattle.pc_implicit.proofs.Keyed.{same-is, same-itself}
+use Rattle.pc_lists.proofs.Each.{each-map, each-weaker}
+use Rattle.pc_lists.proofs.Lists.{contains_cons, contains_head, contains_nil}
+use Rattle.pc_lists.proofs.Same.{same_txn-is, same_txn-self}
 use Rattle.pc_proto.specs.declared.answer.Answer.{Answer}
 use Rattle.pc_proto.specs.declared.answer.Answer.TheVariants as answers
 use Rattle.pc_proto.specs.declared.event.Event.{Event}
@@ -21,12 +22,11 @@ use Rattle.pc_proto.specs.declared.event.Event.TheVariants as events
 use Rattle.pc_proto.specs.declared.meta.TxnMeta.{TxnMeta}
 use Rattle.pc_proto.specs.declared.request.Request.{Request}
 use Rattle.pc_proto.specs.declared.request.Request.TheVariants as requests
-use Rattle.pc_world.proofs.Each.{each-map, each-weaker}
 use Rattle.pc_world.proofs.Knowing.{known_other, known_same}
 use Rattle.pc_world.proofs.Prefixes.{run_induction}
 use Rattle.pc_world.specs.After.{known_at}
 use Rattle.pc_world.specs.Committed.{anchor_in, committed_by, committed_in, key_put, key_sent, told_at}
-use Rattle.pc_world.specs.Known.{Known, begun_by, first_if, learn, open_txn, told_first, txns_after}
+use Rattle.pc_world.specs.Known.{Known, first_if, learn, open_txn, told_first, txn_begun, txns_after}
 use Rattle.pc_world.specs.Known.Statements.{Statement, begun_after, is_open_after}
 use Rattle.pc_world.specs.Known.Traffic.{Heard, Sent, heard_by, replies_to}
 use Rattle.pc_world.specs.Known.Transactions.{Txn, anchor_sent, txn_heard, txn_sent, txn_told}
@@ -145,7 +145,7 @@ pub record IsSilent (id : TxnId) (event : Event) : Type 0 where
 
 -- what is given for one transaction is not given for another
 pub none_unless : {Y : Type 0} (one other : TxnId) (y : Y) (b : Bool) → same_txn one other ≡ b → (one ≡ other → ⊥) → (if b then Some y else None) ≡ None
-none_unless one other y true e differ = absurd (differ (same-is one other e))
+none_unless one other y true e differ = absurd (differ (same_txn-is one other e))
 none_unless one other y false e differ = refl
 
 pub silent : (actor : ActorId) (n : ℕ) (id : TxnId) (event : Event) → SaysOwn actor n event → (IsOwn actor n id → ⊥) → IsSilent id event
@@ -213,7 +213,7 @@ EndsOpen k answer = ⊤
 
 -- What is new after the event is so.
 abbrev pub BeginsAs : (Txn → Type 0) → Known → Answer → Type 0
-BeginsAs B k (answers.Begun id ts) = (id.number ≡ k.begun + 1) × B (begun_by k.statement id ts)
+BeginsAs B k (answers.Begun id ts) = (id.number ≡ k.begun + 1) × B (txn_begun k.statement id ts)
 BeginsAs B k answer = ⊤
 
 module _ (A B : Txn → Type 0) where
@@ -237,7 +237,7 @@ module _ (A B : Txn → Type 0) where
   committed-agree actor n id ts replied true (x ∷ xs) t on opened same numbered unended each =
       let first : x ≡ t = cc in
       let is : id ≡ x.id = same ∙ ap (λ (y : Txn). y.id) (sym first) in
-      let itself : same_txn id x.id ≡ true = ap (λ i. same_txn i x.id) is ∙ same-itself x.id in
+      let itself : same_txn id x.id ≡ true = ap (λ i. same_txn i x.id) is ∙ same_txn-self x.id in
       let number : id.number ≡ x.id.number = ap (λ (i : TxnId). i.number) is in
       let other : (u : Txn) → u.id.number < x.id.number → IsSilent u.id (events.Tell (answers.Committed id ts)) =
       λ u below. record { put = refl; told = none_unless id u.id ts (same_txn id u.id) refl (λ e. let m : id.number ≡ u.id.number = ap (λ (i : TxnId). i.number) e in omega arith); begin = refl } in (
@@ -304,7 +304,7 @@ module _ (actor : ActorId) where
   numbered-first answer replied n true (t ∷ ts) numbered = (numbered.0, numbered.1, numbered.2)
   numbered-first answer replied n false txns numbered = numbered
 
-  numbered-begun : (s : Option Statement) (id : TxnId) (ts n : ℕ) (txns : List Txn) → actor ≡ actors.Session id.session → id.number ≡ n → AreNumbered actor n txns → AreNumbered actor (n + 1) (begun_by s id ts ∷ txns)
+  numbered-begun : (s : Option Statement) (id : TxnId) (ts n : ℕ) (txns : List Txn) → actor ≡ actors.Session id.session → id.number ≡ n → AreNumbered actor n txns → AreNumbered actor (n + 1) (txn_begun s id ts ∷ txns)
   numbered-begun None id ts n txns own same numbered = (own, omega arith, subst (λ m. AreNumbered actor m txns) (sym same) numbered)
   numbered-begun (Some s) id ts n txns own same numbered = (own, omega arith, subst (λ m. AreNumbered actor m txns) (sym same) numbered)
 
@@ -337,7 +337,7 @@ unended-first answer replied same true [] unended = tt
 unended-first answer replied same true (t ∷ ts) unended = same t ∙ unended
 unended-first answer replied same false txns unended = tt
 
-unended-begun : (s : Option Statement) (id : TxnId) (ts : ℕ) (txns : List Txn) → IsUnended true (begun_by s id ts ∷ txns)
+unended-begun : (s : Option Statement) (id : TxnId) (ts : ℕ) (txns : List Txn) → IsUnended true (txn_begun s id ts ∷ txns)
 unended-begun None id ts txns = refl
 unended-begun (Some s) id ts txns = refl
 
@@ -363,14 +363,14 @@ ends-open head actor k (events.Tell answer) may = tt
 ends-open head actor k event may = tt
 
 begins-as : (head : Head) (actor : ActorId) (B : Txn → Type 0) (k : Known) (event : Event) → Does head actor k event
-    → ((id : TxnId) (ts : ℕ) → event ≡ events.Tell (answers.Begun id ts) → actor ≡ actors.Session id.session → id.number ≡ k.begun + 1 → B (begun_by k.statement id ts))
+    → ((id : TxnId) (ts : ℕ) → event ≡ events.Tell (answers.Begun id ts) → actor ≡ actors.Session id.session → id.number ≡ k.begun + 1 → B (txn_begun k.statement id ts))
     → OnTold (BeginsAs B k) event
 begins-as head actor B k (events.Tell (answers.Begun id ts)) may new = let next = begun_next head actor k id ts may in (next.1, new id ts refl next.0 next.1)
 begins-as head actor B k (events.Tell answer) may new = tt
 begins-as head actor B k event may new = tt
 
 module _ (history : List (Entry Event)) (e : Entry Event) where
-  begun-agrees : (s : Option Statement) (id : TxnId) (ts : ℕ) → e.event ≡ events.Tell (answers.Begun id ts) → IsNew history id → Agrees (history ++ e ∷ []) (begun_by s id ts)
+  begun-agrees : (s : Option Statement) (id : TxnId) (ts : ℕ) → e.event ≡ events.Tell (answers.Begun id ts) → IsNew history id → Agrees (history ++ e ∷ []) (txn_begun s id ts)
   begun-agrees s id ts is new = by s
     where
       anchor : anchor_in id (history ++ e ∷ []) ≡ None
@@ -382,9 +382,9 @@ module _ (history : List (Entry Event)) (e : Entry Event) where
       begin : begun_at id (history ++ e ∷ []) ≡ Some ts
       begin =
           first_push (λ x. begun_told_in id x.event) history e ∙ ap (λ o. option_or o (begun_told_in id e.event)) new.begin ∙ ap (begun_told_in id) is
-          ∙ ap (λ b. if b then Some ts else None) (same-itself id)
+          ∙ ap (λ b. if b then Some ts else None) (same_txn-self id)
 
-      by : (s : Option Statement) → Agrees (history ++ e ∷ []) (begun_by s id ts)
+      by : (s : Option Statement) → Agrees (history ++ e ∷ []) (txn_begun s id ts)
       by None = record { anchor = anchor; told = told; begin = begin }
       by (Some s) = record { anchor = anchor; told = told; begin = begin }
 

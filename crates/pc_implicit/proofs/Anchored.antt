@@ -8,12 +8,12 @@ use Rattle.pc_base.specs.declared.actor.ActorId.{ActorId}
 use Rattle.pc_base.specs.declared.actor.ActorId.TheVariants as actors
 use Rattle.pc_base.specs.declared.entry.Entry.{Entry}
 use Rattle.pc_base.specs.declared.transaction.TxnId.{TxnId}
-use Rattle.pc_history.proofs.Lists.{contains_nil}
 use Rattle.pc_history.specs.Own.{named_in, own}
 use Rattle.pc_implicit.proofs.Agreed.{Agrees, Knows, agreed, open_there, owned, says_own}
 use Rattle.pc_implicit.proofs.Doing.{Does, does}
 use Rattle.pc_implicit.proofs.Firsts.{first_push}
-use Rattle.pc_implicit.proofs.Keyed.{same-itself}
+use Rattle.pc_lists.proofs.Lists.{contains_nil}
+use Rattle.pc_lists.proofs.Same.{same_txn-self}
 use Rattle.pc_proto.specs.declared.event.Event.{Event}
 use Rattle.pc_proto.specs.declared.event.Event.TheVariants as events
 use Rattle.pc_proto.specs.declared.meta.TxnMeta.{TxnMeta}
@@ -73,7 +73,7 @@ module _ (head : Head) (history : List (Entry Event)) (e : Entry Event) (k : Kno
         | inl f ↦
             let agrees : Agrees history f.t = each_contained (Agrees history) k.txns f.t knows.agrees (open_there k f.t f.opened) in
             let before : anchor_in meta.id history ≡ f.t.anchor = ap (λ (m : TxnMeta). anchor_in m.id history) f.whose ∙ agrees.anchor in
-            let sends : key_sent meta.id e.event ≡ Some key = ap (key_sent meta.id) is ∙ ap (λ b. if b then Some key else None) (same-itself meta.id) in
+            let sends : key_sent meta.id e.event ≡ Some key = ap (key_sent meta.id) is ∙ ap (λ b. if b then Some key else None) (same_txn-self meta.id) in
             first_push (λ x. key_sent meta.id x.event) history e ∙ ap (λ o. option_or o (key_sent meta.id e.event)) before ∙ ap (option_or f.t.anchor) sends ∙ or-unwrap f.t.anchor key
             ∙ ap (λ (m : TxnMeta). Some m.anchor) (sym f.whose)
         | inr a ↦ anchor_stays meta.id history e meta.anchor (meta-anchored a.t meta a.mine a.whose)

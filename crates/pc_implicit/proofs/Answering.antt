@@ -13,8 +13,9 @@ use Rattle.pc_base.specs.declared.transaction.Who.{Who}
 use Rattle.pc_base.specs.Span.{contains, key_below}
 use Rattle.pc_base.specs.Transaction.{same_txn}
 use Rattle.pc_history.specs.Own.{own}
-use Rattle.pc_implicit.proofs.Keyed.{same-itself}
 use Rattle.pc_implicit.proofs.Recorded.{IsBacked, IsRecorded, backed-unstaged, recorded}
+use Rattle.pc_lists.proofs.Each.{each-choose, each-weaker}
+use Rattle.pc_lists.proofs.Same.{same_txn-self}
 use Rattle.pc_proto.specs.declared.event.Event.{Event}
 use Rattle.pc_proto.specs.declared.fate.Goal.{Goal}
 use Rattle.pc_proto.specs.declared.fate.Goal.TheVariants as goals
@@ -32,10 +33,10 @@ use Rattle.pc_proto.specs.Place.{Place, Nothing, Kept, Marked, Change, Stay, aft
 use Rattle.pc_proto.specs.RecordRows.{answer, push_reply, unless_decided}
 use Rattle.pc_proto.specs.RecordRows.Abort.{abort}
 use Rattle.pc_proto.specs.RecordRows.Commit.{commit}
-use Rattle.pc_proto.specs.RecordRows.Push.{Verdict, There, Refuse, Doubt, Do, is_staged, is_there, on_verdict, push, pushed, verdict, wins}
+use Rattle.pc_proto.specs.RecordRows.Push.{Verdict, There, Refuse, Doubt, Do, is_staged, on_verdict, push, push_verdict, pushed, reaches_goal, wins}
 use Rattle.pc_proto.specs.RecordRows.Reached.{is_reached}
 use Rattle.pc_proto.specs.Table.{place_of}
-use Rattle.pc_world.proofs.Each.{each-choose, each-weaker}
+use Rattle.pc_proto.specs.Views.{is_final_view}
 use Rattle.pc_world.proofs.Stamps.Searches.{some-kept}
 use Rattle.pc_world.specs.After.{state_at}
 use Rattle.pc_world.specs.Answering.{IsGetReply, IsPushReply, IsPutReply, IsScanReply, IsUnstagedView, MayAnswer}
@@ -43,8 +44,7 @@ use Rattle.pc_world.specs.Evaluation.{reply}
 use Rattle.pc_world.specs.Evaluation.Get.{found_at, get_blocker, get_reply}
 use Rattle.pc_world.specs.Evaluation.Put.{PutOutcome, Stands, Lands, first_outcome, laid, overtaken, own_outcome, put_reply, write_ts}
 use Rattle.pc_world.specs.Evaluation.Scan.{rows_in, scan_reply}
-use Rattle.pc_world.specs.Exchange.{IsReplyTo}
-use Rattle.pc_world.specs.Known.Transactions.{is_final_view}
+use Rattle.pc_world.specs.Exchange.{IsPossibleReply}
 use Rattle.pc_world.specs.Local.{Head}
 use Rattle.pc_world.specs.RangeState.{RangeState}
 use Rattle.pc_world.specs.Run.{IsRun, protocol}
@@ -62,7 +62,7 @@ module _ (id : TxnId) where
   IsAnothersThere e = e.1.meta.id ≡ id → ⊥
 
   differs : (other : TxnId) → same_txn other id ≡ false → other ≡ id → ⊥
-  differs other differ is = let same : same_txn other id ≡ true = ap (λ one. same_txn one id) is ∙ same-itself id in cc
+  differs other differ is = let same : same_txn other id ≡ true = ap (λ one. same_txn one id) is ∙ same_txn-self id in cc
 
   other-differs : (o : Option Intent) → IfSome (kept_if (λ i. not (same_txn i.meta.id id)) o) IsAnothers
   other-differs None = tt
@@ -131,7 +131,7 @@ decided-there Nothing h = absurd cc
 decided-there (Kept r) h = tt
 decided-there (Marked s) h = tt
 
-moved-there : (goal : Goal) (p : Place) → is_there goal p ≡ true → IsThere p
+moved-there : (goal : Goal) (p : Place) → reaches_goal goal p ≡ true → IsThere p
 moved-there goals.Abort Nothing h = absurd cc
 moved-there (goals.Move target) Nothing h = absurd cc
 moved-there goal (Kept r) h = tt
@@ -189,7 +189,7 @@ module _ (history : List (Entry Event)) (range : ℕ) (id : TxnId) where
     abbrev verdict_by : Bool → Bool → Bool → Verdict
     verdict_by there won staged = if there then There else if won then (if staged then Doubt else Do) else Refuse
 
-    verdict-kind : (there won staged : Bool) → is_there goal p ≡ there → is_staged p ≡ staged
+    verdict-kind : (there won staged : Bool) → reaches_goal goal p ≡ there → is_staged p ≡ staged
         → IsPushReply (push_reply (verdict_by there won staged) p (after p (on_verdict (verdict_by there won staged) (pushed holder by goal p))))
     verdict-kind true won staged is_it is = there-view p h (moved-there goal p is_it)
     verdict-kind false false staged is_it is = tt
@@ -199,9 +199,9 @@ module _ (history : List (Entry Event)) (range : ℕ) (id : TxnId) where
     push-kind : (level : Priority) (now : ℕ) → IsPushReply (answer (requests.Push holder by level now goal) p)
     push-kind level now = when (is_decided p) refl
       where
-        when : (b : Bool) → is_decided p ≡ b → IsPushReply (if b then replies.Status (view_of p) else push_reply (verdict holder level now goal p) p (after p (push holder by level now goal p)))
+        when : (b : Bool) → is_decided p ≡ b → IsPushReply (if b then replies.Status (view_of p) else push_reply (push_verdict holder level now goal p) p (after p (push holder by level now goal p)))
         when true decided = there-view p h (decided-there p decided)
-        when false more = verdict-kind (is_there goal p) (wins holder level now p) (is_staged p) refl refl
+        when false more = verdict-kind (reaches_goal goal p) (wins holder level now p) (is_staged p) refl refl
 
 -- ---- each request
 
@@ -225,5 +225,5 @@ pub replies_are_of_their_kind : (head : Head) (history : List (Entry Event)) (ra
 replies_are_of_their_kind head history range request run only = may-answer history range request (state_at head range history) (recorded head history run only range)
 
 -- what a range answers after a history is a reply to the request
-pub reply_is_one : (head : Head) (history : List (Entry Event)) (range : ℕ) (request : Request) → IsReplyTo request (reply request (state_at head range history))
+pub reply_is_one : (head : Head) (history : List (Entry Event)) (range : ℕ) (request : Request) → IsPossibleReply request (reply request (state_at head range history))
 reply_is_one head history range request = record { own = own (protocol head) (actors.Range range) history; is = refl }

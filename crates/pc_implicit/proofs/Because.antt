@@ -5,13 +5,13 @@ use Rattle.std.proofs.lemmas.List.Sums.{AllPass-from_list_all, list_all-from_All
 use Rattle.std.specs.List.{list_all}
 use Rattle.pc_base.specs.declared.entry.Entry.{Entry}
 use Rattle.pc_base.specs.declared.transaction.TxnId.{TxnId}
-use Rattle.pc_history.proofs.Lists.{all_from_contains}
 use Rattle.pc_implicit.proofs.HomeOver.{home_anchored}
 use Rattle.pc_implicit.proofs.Homes.{home_is}
 use Rattle.pc_implicit.proofs.StagedAs.{staged_as}
 use Rattle.pc_implicit.proofs.StageWords.{ByDecision, ByStaging, ByTelling, CommitsBy, IsBecause, StagesAs}
 use Rattle.pc_implicit.specs.Decided.{decision}
 use Rattle.pc_implicit.specs.Writes.{home_of}
+use Rattle.pc_lists.proofs.Lists.{all_from_contains}
 use Rattle.pc_proto.specs.declared.event.Event.{Event}
 use Rattle.pc_proto.specs.declared.record.Record.{Record}
 use Rattle.pc_proto.specs.declared.record.Standing.{Standing}
@@ -24,7 +24,7 @@ use Rattle.pc_world.specs.Committed.{IsCommitted, anchor_in, commit_at, commit_b
 use Rattle.pc_world.specs.Local.{Head}
 use Rattle.pc_world.specs.RangeOf.{range_of}
 use Rattle.pc_world.specs.Run.{IsRun}
-use Rattle.pc_world.specs.StageFate.{Stage}
+use Rattle.pc_world.specs.StageFate.{SentStage}
 
 -- How a standing commits at this timestamp: it is committed there, or it stages there and all is present.
 data HowCommits (standing : Standing) (at : ℕ) (present : Bool) (ts : ℕ) : Type 0 where
@@ -51,7 +51,7 @@ module _ (head : Head) (history : List (Entry Event)) where
   committed-status s ts standing at = λ i. record { standing = standing i; epoch = s.epoch; ts = at i }
 
   -- a listed write of the stage is present as the record has it
-  present-as : (s : Stage) (r : Record) (id : TxnId) → s.meta.id ≡ id → StagesAs s r → (w : List ℕ × ℕ) → is_present head history id r.status.epoch r.status.ts w ≡ is_present head history s.meta.id s.meta.epoch s.ts w
+  present-as : (s : SentStage) (r : Record) (id : TxnId) → s.meta.id ≡ id → StagesAs s r → (w : List ℕ × ℕ) → is_present head history id r.status.epoch r.status.ts w ≡ is_present head history s.meta.id s.meta.epoch s.ts w
   present-as s r id whose stages w =
       ap (λ i. is_present head history i r.status.epoch r.status.ts w) (sym whose)
       ∙ ap (λ n. is_present head history s.meta.id n r.status.ts w) stages.epoch_is ∙ ap (λ t. is_present head history s.meta.id s.meta.epoch t w) stages.ts_is
@@ -106,7 +106,7 @@ module _ (head : Head) (history : List (Entry Event)) where
       ∙ ap (commit_by r.status.standing r.status.ts) all ∙ ap (λ standing. commit_by standing r.status.ts true) staging
 
   -- a stage by which its transaction is committed commits it
-  pub commits_by_is : (s : Stage) → CommitsBy head history s → IsCommitted head history s.meta.id s.ts
+  pub commits_by_is : (s : SentStage) → CommitsBy head history s → IsCommitted head history s.meta.id s.ts
   commits_by_is s by =
       let r = by.r in
       let id = s.meta.id in

@@ -9,17 +9,17 @@ use Rattle.pc_base.specs.declared.actor.ActorId.TheVariants as actors
 use Rattle.pc_base.specs.declared.entry.Entry.{Entry}
 use Rattle.pc_base.specs.declared.transaction.TxnId.{TxnId}
 use Rattle.pc_base.specs.Transaction.{same_txn}
-use Rattle.pc_history.proofs.Lists.{contains_head, contains_nil, contains_tail}
 use Rattle.pc_history.specs.History.{MayFollow}
 use Rattle.pc_implicit.proofs.Agreed.{Agrees, agreed, begun_at, begun_next, begun_told_in, open_there}
-use Rattle.pc_implicit.proofs.Anchored.{each_contained}
 use Rattle.pc_implicit.proofs.Clocks.{begun_above, high_grows, learnt_below}
 use Rattle.pc_implicit.proofs.Commits.{act_of}
 use Rattle.pc_implicit.proofs.Deciders.{decided_by}
 use Rattle.pc_implicit.proofs.Doing.{Does}
 use Rattle.pc_implicit.proofs.Firsts.{first_push}
-use Rattle.pc_implicit.proofs.Keyed.{same-is, same-itself}
 use Rattle.pc_implicit.proofs.OwnSplit.{own_split}
+use Rattle.pc_lists.proofs.Each.{each-contains}
+use Rattle.pc_lists.proofs.Lists.{contains_head, contains_nil, contains_tail}
+use Rattle.pc_lists.proofs.Same.{same_txn-is, same_txn-self}
 use Rattle.pc_proto.specs.declared.answer.Answer.TheVariants as answers
 use Rattle.pc_proto.specs.declared.event.Event.{Event}
 use Rattle.pc_proto.specs.declared.event.Event.TheVariants as events
@@ -27,7 +27,7 @@ use Rattle.pc_world.proofs.Prefixes.{run_front, run_induction}
 use Rattle.pc_world.specs.After.{known_at}
 use Rattle.pc_world.specs.CommitOrder.{all_begun, begun_in}
 use Rattle.pc_world.specs.Committed.{IsCommitted}
-use Rattle.pc_world.specs.Known.{known}
+use Rattle.pc_world.specs.Known.{known_of}
 use Rattle.pc_world.specs.Legal.{BeganAfter, TellsBegun}
 use Rattle.pc_world.specs.Local.{Head}
 use Rattle.pc_world.specs.Run.{IsRun, protocol}
@@ -56,7 +56,7 @@ module _ (head : Head) where
       let next = begun_next head e.actor k id ts (subst (Does head e.actor k) is (act_of head history e may)) in
       let fresh = (agreed head history run e.actor).fresh id next.0 (omega (arith, next.1)) in
       first_push (λ x. begun_told_in id x.event) history e ∙ ap (λ o. option_or o (begun_told_in id e.event)) fresh.begin ∙ ap (begun_told_in id) is
-      ∙ ap (λ b. if b then Some ts else None) (same-itself id)
+      ∙ ap (λ b. if b then Some ts else None) (same_txn-self id)
 
   -- a transaction is told begun once
   pub begun_once : (history : List (Entry Event)) → IsRun head history → (e : Entry Event) → Contains history e → (id : TxnId) (ts : ℕ) → e.event ≡ events.Tell (answers.Begun id ts) → begun_at id history ≡ Some ts
@@ -81,7 +81,7 @@ module _ (head : Head) (history : List (Entry Event)) (run : IsRun head history)
       let split : IsRun head (d.before ++ d.e ∷ d.later) = subst (IsRun head) d.whole run in
       let run_before : IsRun head d.before = run_front head d.before (d.e ∷ d.later) split in
       let k = known_at head actor d.before in
-      let agrees : Agrees d.before d.t = each_contained (Agrees d.before) k.txns d.t (agreed head d.before run_before actor).agrees (open_there k d.t d.opened) in
+      let agrees : Agrees d.before d.t = each-contains (Agrees d.before) k.txns d.t (agreed head d.before run_before actor).agrees (open_there k d.t d.opened) in
       let above : IsAbove d.before id ts = record { begin = d.t.begin; begun = ap (λ i. begun_at i d.before) (sym d.named) ∙ agrees.begin; low = d.good.begun } in
       subst (λ h. IsAbove h id ts) (sym d.whole) (above-along d.before (d.e ∷ d.later) id ts above)
 
@@ -96,14 +96,14 @@ module _ (head : Head) (history : List (Entry Event)) (run : IsRun head history)
   -- a transaction that began after its session knew of another's commit is committed above it
   pub committed_above : (id other : TxnId) (ts later : ℕ) → BeganAfter head history id other → IsCommitted head history id ts → IsCommitted head history other later → ts < later
   committed_above id other ts later b is also =
-      let learnt : ts ≤ (known (b.before ++ b.learning ∷ [])).high =
+      let learnt : ts ≤ (known_of (b.before ++ b.learning ∷ [])).high =
       learnt_below head history run other.session b.before b.learning (b.between ++ b.begin ∷ b.later)
       (b.whole ∙ append_assoc b.before (b.learning ∷ b.between) (b.begin ∷ b.later)) id ts b.learns is in
       let upto = b.before ++ b.learning ∷ b.between in
-      let grown : (known (b.before ++ b.learning ∷ [])).high ≤ (known upto).high =
-      subst (λ es. (known (b.before ++ b.learning ∷ [])).high ≤ (known es).high) (append_assoc b.before (b.learning ∷ []) b.between) (high_grows (b.before ++ b.learning ∷ []) b.between) in
+      let grown : (known_of (b.before ++ b.learning ∷ [])).high ≤ (known_of upto).high =
+      subst (λ es. (known_of (b.before ++ b.learning ∷ [])).high ≤ (known_of es).high) (append_assoc b.before (b.learning ∷ []) b.between) (high_grows (b.before ++ b.learning ∷ []) b.between) in
       let told = tells-what other b.begin.entry.event b.begins in
-      let began : (known upto).high < told.0 = begun_above head history run other.session upto b.begin b.later b.whole other told.0 told.1 in
+      let began : (known_of upto).high < told.0 = begun_above head history run other.session upto b.begin b.later b.whole other told.0 told.1 in
       let s = own_split (protocol head) (actors.Session other.session) history upto b.begin b.later b.whole in
       let there : Contains history b.begin.entry =
       subst (λ h. Contains h b.begin.entry) (sym s.whole) (Contains-append_right s.front (b.begin.entry ∷ s.back) b.begin.entry (contains_head b.begin.entry s.back)) in
@@ -114,7 +114,7 @@ begun-what : (id : TxnId) (ts : ℕ) (event : Event) → begun_told_in id event 
 begun-what id ts (events.Tell (answers.Begun other at)) h = by (same_txn other id) refl h
   where
     by : (b : Bool) → same_txn other id ≡ b → (if b then Some at else None) ≡ Some ts → begun_in (events.Tell (answers.Begun other at)) ≡ Some id
-    by true same h = ap Some (same-is other id same)
+    by true same h = ap Some (same_txn-is other id same)
     by false same h = absurd cc
 begun-what id ts (events.Tell answer) h = absurd cc
 begun-what id ts event h = absurd cc

@@ -12,8 +12,8 @@ use Rattle.pc_proto.specs.declared.request.Request.{Request}
 use Rattle.pc_proto.specs.declared.request.Request.TheVariants as requests
 use Rattle.pc_proto.specs.Intents.{first_other}
 use Rattle.pc_world.specs.Evaluation.{bound_after}
-use Rattle.pc_world.specs.Evaluation.Get.{get_blocker, read_bound}
-use Rattle.pc_world.specs.Evaluation.Query.{stands}
+use Rattle.pc_world.specs.Evaluation.Get.{bound_after_read, get_blocker}
+use Rattle.pc_world.specs.Evaluation.Query.{write_stands}
 use Rattle.pc_world.specs.Evaluation.Refresh.{refreshed_bound, refuter_in}
 use Rattle.pc_world.specs.RangeState.{RangeState}
 
@@ -47,7 +47,7 @@ owner-then ts reader b h = let s = shared b.owner reader in grind (arith, common
 pub raised-stands : (ts : ℕ) (reader : Option TxnId) (b : ReadBound) → BoundStands b (raised ts reader b)
 raised-stands ts reader b = record { ts = omega arith; owner = owner-then ts reader b }
 
-read-stands : (blocker : Option Intent) (id : TxnId) (ts : ℕ) (b : ReadBound) → BoundStands b (read_bound blocker id ts b)
+read-stands : (blocker : Option Intent) (id : TxnId) (ts : ℕ) (b : ReadBound) → BoundStands b (bound_after_read blocker id ts b)
 read-stands None id ts b = raised-stands ts (Some id) b
 read-stands (Some i) id ts b = stands-itself b
 
@@ -63,7 +63,7 @@ bound-row : (request : Request) (s : RangeState) → BoundStands s.bound (bound_
 bound-row (requests.Get id epoch seq ts key) s = read-stands (get_blocker id ts key s) id ts s.bound
 bound-row (requests.Scan id epoch seq ts span) s = read-stands (option_map (λ e. e.1) (first_other span ts id s.intents)) id ts s.bound
 bound-row (requests.Refresh id from to span) s = refreshed-stands (refuter_in id from to span s) id to s.bound
-bound-row (requests.Query id epoch seq ts key by) s = query-stands (stands id epoch seq ts key s) ts s.bound
+bound-row (requests.Query id epoch seq ts key by) s = query-stands (write_stands id epoch seq ts key s) ts s.bound
 bound-row request s = stands-itself s.bound
 
 pub bound_goes_on : GoesOn (λ s t. BoundStands s.bound t.bound)

@@ -14,10 +14,10 @@ use Rattle.pc_implicit.proofs.Commits.{act_of}
 use Rattle.pc_implicit.proofs.Did.{MovedOn, moved_on, numbered-at, session_at}
 use Rattle.pc_implicit.proofs.Doing.{Does, same_or_not}
 use Rattle.pc_implicit.proofs.Doings.{doing-other}
-use Rattle.pc_implicit.proofs.Keyed.{same-is}
 use Rattle.pc_implicit.proofs.Moves.{Moves, Puts, Reads, Restarts, Stays, TellsRead, first_after, first_is_open, is_first, open_is_first}
 use Rattle.pc_implicit.proofs.OpenReads.{AsksForNone, IsWithin, within-last, within-open, within-statement}
 use Rattle.pc_implicit.proofs.SessionCommits.{IsStill, written}
+use Rattle.pc_lists.proofs.Same.{same_txn-is}
 use Rattle.pc_proto.specs.declared.answer.Answer.{Answer}
 use Rattle.pc_proto.specs.declared.answer.Answer.TheVariants as answers
 use Rattle.pc_proto.specs.declared.call.Call.{Call}
@@ -149,7 +149,7 @@ module _ (head : Head) (id : TxnId) where
               let next = begun_next head (actors.Session id.session) k begun.0 begun.1 (subst (Does head (actors.Session id.session) k) begun.2 own-does) in
               let it : same_txn begun.0 id ≡ true =
               ap (λ event. is_last_after id event (is_first id k.txns)) (sym begun.2) ∙ sym (first-is (is_last_after id e.event (is_first id k.txns)) refl) ∙ first in
-              let eq : begun.0.number ≡ id.number = ap (λ (i : TxnId). i.number) (same-is begun.0 id it) in
+              let eq : begun.0.number ≡ id.number = ap (λ (i : TxnId). i.number) (same_txn-is begun.0 id it) in
               let low : t.id.number < k.begun + 1 = (owned (actors.Session id.session) (k.begun + 1) k.txns t (numbered-at head history run id) mine).1 in
               let own_number : t.id.number ≡ id.number = ap (λ (i : TxnId). i.number) named in
               let at : begun.0.number ≡ k.begun + 1 = next.1 in

@@ -25,8 +25,9 @@ use Rattle.pc_proto.specs.declared.reply.Reply.{Reply}
 use Rattle.pc_proto.specs.declared.request.Request.{Request}
 use Rattle.pc_proto.specs.declared.request.Request.TheVariants as requests
 use Rattle.pc_proto.specs.Place.{Place, Nothing, Kept, Marked, Stay, Become, after, is_final}
-use Rattle.pc_proto.specs.RecordRows.{change, subject, table_after}
+use Rattle.pc_proto.specs.RecordRows.{place_change, table_after}
 use Rattle.pc_proto.specs.RecordRows.Reached.{is_staged_at, status_of}
+use Rattle.pc_proto.specs.Requests.{subject}
 use Rattle.pc_proto.specs.Table.{Table, applied_to, place_of}
 use Rattle.pc_world.proofs.Knowing.{state_other}
 use Rattle.pc_world.specs.After.{place_at, state_at}
@@ -46,7 +47,7 @@ pub record Reaches (meta : TxnMeta) (at : ℕ) (epoch ts : ℕ) (p : Place) : Ty
 
 -- what a commit decides it reaches
 commit-reaches : (meta : TxnMeta) (at : ℕ) (locks : List (List ℕ)) (epoch ts : ℕ) (p : Place) → decision p ≡ None
-    → decision (after p (change (requests.Commit meta at locks) p)) ≡ Some (status_of standings.Committed epoch ts) → Reaches meta at epoch ts p
+    → decision (after p (place_change (requests.Commit meta at locks) p)) ≡ Some (status_of standings.Committed epoch ts) → Reaches meta at epoch ts p
 commit-reaches meta at locks epoch ts Nothing none is =
     let same = status_same meta.epoch epoch at ts is in
     record { epoch_is = same.0; ts_is = same.1; epoch_low = omega arith; ts_low = omega arith }
@@ -131,10 +132,10 @@ module _ (head : Head) (history : List (Entry Event)) (run : IsRun head history)
       ARecovery anchor (asked ∙ ap (λ i. requests.Recover i epoch ts anchor findings.All) whose) staged))
       (λ before. absurd (none-anywhere ev.range before)) decided
 
-  commit-place : (meta : TxnMeta) (at : ℕ) (locks : List (List ℕ)) (t : Table) → meta.id ≡ id → place_of id (table_after (requests.Commit meta at locks) t) ≡ after (place_of id t) (change (requests.Commit meta at locks) (place_of id t))
+  commit-place : (meta : TxnMeta) (at : ℕ) (locks : List (List ℕ)) (t : Table) → meta.id ≡ id → place_of id (table_after (requests.Commit meta at locks) t) ≡ after (place_of id t) (place_change (requests.Commit meta at locks) (place_of id t))
   commit-place meta at locks t whose =
-      subst (λ i. place_of i (applied_to meta.id (change (requests.Commit meta at locks) (place_of meta.id t)) t) ≡ after (place_of i t) (change (requests.Commit meta at locks) (place_of i t))) whose
-      (place_after meta.id (change (requests.Commit meta at locks) (place_of meta.id t)) t)
+      subst (λ i. place_of i (applied_to meta.id (place_change (requests.Commit meta at locks) (place_of meta.id t)) t) ≡ after (place_of i t) (place_change (requests.Commit meta at locks) (place_of i t))) whose
+      (place_after meta.id (place_change (requests.Commit meta at locks) (place_of meta.id t)) t)
 
   at-home : (range : ℕ) (anchor : List ℕ) → range ≡ range_of head.splits anchor → anchor_in id history ≡ Some anchor → place_at head range id history ≡ home_of head id history
   at-home range anchor there anchored = ap (λ r. place_at head r id history) there ∙ sym (home_is head id history anchor anchored)
@@ -148,7 +149,7 @@ module _ (head : Head) (history : List (Entry Event)) (run : IsRun head history)
       let anchored = commit_anchored head history run ev.send ev.listed number ev.range meta at locks sends in
       let here : place_at head ev.range id history ≡ home_of head id history = at-home ev.range meta.anchor anchored.there (ap (λ i. anchor_in i history) (sym whose) ∙ anchored.anchor) in
       let undecided : decision (place_of id s.table) ≡ None = ap decision here ∙ none in
-      let made : decision (after (place_of id s.table) (change (requests.Commit meta at locks) (place_of id s.table))) ≡ Some (status_of standings.Committed epoch ts) =
+      let made : decision (after (place_of id s.table) (place_change (requests.Commit meta at locks) (place_of id s.table))) ≡ Some (status_of standings.Committed epoch ts) =
       ap decision (sym (commit-place meta at locks s.table whose)) ∙ ap (λ r. decision (place_of id (state_after r s).table)) (sym asks) ∙ decided in
       let r = commit-reaches meta at locks epoch ts (place_of id s.table) undecided made in
       record {

@@ -8,7 +8,6 @@ use Rattle.std.specs.Option.{option_or}
 use Rattle.pc_base.specs.declared.entry.Entry.{Entry}
 use Rattle.pc_base.specs.declared.transaction.TxnId.{TxnId}
 use Rattle.pc_history.proofs.Histories.{fine-one}
-use Rattle.pc_history.proofs.Lists.{contains_head, contains_tail}
 use Rattle.pc_history.specs.History.{MayFollow}
 use Rattle.pc_implicit.proofs.Because.{because, kept_commits}
 use Rattle.pc_implicit.proofs.Firsts.{first_push}
@@ -23,6 +22,7 @@ use Rattle.pc_implicit.proofs.Written.{one_send}
 use Rattle.pc_implicit.specs.Decided.{decision}
 use Rattle.pc_implicit.specs.Stages.{IsThere}
 use Rattle.pc_implicit.specs.Writes.{home_of, own_intent}
+use Rattle.pc_lists.proofs.Lists.{contains_head, contains_tail}
 use Rattle.pc_proto.specs.declared.answer.Answer.TheVariants as answers
 use Rattle.pc_proto.specs.declared.event.Event.{Event}
 use Rattle.pc_proto.specs.declared.event.Event.TheVariants as events
@@ -31,14 +31,14 @@ use Rattle.pc_proto.specs.declared.reply.Reply.{Reply}
 use Rattle.pc_proto.specs.declared.request.Request.{Request}
 use Rattle.pc_proto.specs.declared.request.Request.TheVariants as requests
 use Rattle.pc_proto.specs.Place.{Kept}
-use Rattle.pc_proto.specs.RecordRows.{subject}
 use Rattle.pc_proto.specs.RecordRows.Reached.{status_of}
+use Rattle.pc_proto.specs.Requests.{subject}
 use Rattle.pc_world.proofs.Knowing.{run_push}
 use Rattle.pc_world.proofs.Prefixes.{run_front, run_may}
 use Rattle.pc_world.specs.Committed.{IsCommitted, anchor_in, commit_at, commit_point, commit_ts, committed_in, is_present, key_sent, told_at}
 use Rattle.pc_world.specs.Local.{Head}
 use Rattle.pc_world.specs.Run.{IsRun, protocol}
-use Rattle.pc_world.specs.StageFate.{Stage}
+use Rattle.pc_world.specs.StageFate.{SentStage}
 
 -- How an entry makes a transaction committed: it tells so; or it evaluates a request to its record, which is decided then or stages with
 -- all writes present; or it evaluates the put of the last write that was missing.
@@ -46,9 +46,9 @@ pub data MadeBy (head : Head) (front : List (Entry Event)) (e : Entry Event) (id
   ByTell : (ts : ℕ) → e.event ≡ events.Tell (answers.Committed id ts) → MadeBy head front e id
   ByRecord : (epoch ts : ℕ) → decision (home_of head id (front ++ e ∷ [])) ≡ Some (status_of standings.Committed epoch ts)
       → ChangesPlace head front e id (home_of head id front) (home_of head id (front ++ e ∷ [])) → MadeBy head front e id
-  ByStage : (s : Stage) → CommitsBy head (front ++ e ∷ []) s → s.meta.id ≡ id
+  ByStage : (s : SentStage) → CommitsBy head (front ++ e ∷ []) s → s.meta.id ≡ id
       → ChangesPlace head front e id (home_of head id front) (home_of head id (front ++ e ∷ [])) → MadeBy head front e id
-  ByPut : (s : Stage) → CommitsBy head (front ++ e ∷ []) s → s.meta.id ≡ id → (w : List ℕ × ℕ) → Contains s.writes w
+  ByPut : (s : SentStage) → CommitsBy head (front ++ e ∷ []) s → s.meta.id ≡ id → (w : List ℕ × ℕ) → Contains s.writes w
       → IsLaidOver front e s.meta.id w.0 (own_intent head s.meta.id w.0 front) (own_intent head s.meta.id w.0 (front ++ e ∷ [])) → MadeBy head front e id
 
 -- The transaction of a request: of a put, or of one to its record.
@@ -90,7 +90,7 @@ some-fails test (x ∷ xs) h =
 
 module _ (head : Head) (front : List (Entry Event)) (e : Entry Event) (run : IsRun head front) (may : MayFollow (protocol head) front e) where
   -- a write of the stage that was absent is present after the entry: it evaluates a put of it
-  put-lays : (s : Stage) → CommitsBy head (front ++ e ∷ []) s → home_of head s.meta.id (front ++ e ∷ []) ≡ home_of head s.meta.id front → (w : List ℕ × ℕ) → Contains s.writes w → (IsThere head front s w → ⊥)
+  put-lays : (s : SentStage) → CommitsBy head (front ++ e ∷ []) s → home_of head s.meta.id (front ++ e ∷ []) ≡ home_of head s.meta.id front → (w : List ℕ × ℕ) → Contains s.writes w → (IsThere head front s w → ⊥)
       → MadeBy head front e s.meta.id
   put-lays s by same w listed absent =
       let now = there_is s w head (front ++ e ∷ []) (by.present w listed) in
@@ -109,7 +109,7 @@ module _ (head : Head) (front : List (Entry Event)) (e : Entry Event) (run : IsR
       ]
 
   -- what it takes for a staging record to commit its transaction after the entry, and not before
-  staging-made : (s : Stage) → CommitsBy head (front ++ e ∷ []) s → commit_ts head front s.meta.id ≡ None → MadeBy head front e s.meta.id
+  staging-made : (s : SentStage) → CommitsBy head (front ++ e ∷ []) s → commit_ts head front s.meta.id ≡ None → MadeBy head front e s.meta.id
   staging-made s by none =
       elim (home_over head front run e may s.meta.id) [
         | inr c ↦ ByStage s by refl c

@@ -12,15 +12,13 @@ use Rattle.pc_base.specs.declared.entry.Entry.{Entry}
 use Rattle.pc_base.specs.declared.transaction.TxnId.{TxnId}
 use Rattle.pc_base.specs.Transaction.{same_txn}
 use Rattle.pc_history.proofs.Histories.{fine_after-back}
-use Rattle.pc_history.proofs.Lists.{contains_nil}
 use Rattle.pc_history.specs.History.{IsFineAfter, MayFollow}
 use Rattle.pc_history.specs.Own.{named_in, own}
 use Rattle.pc_implicit.proofs.Agreed.{Agrees, IsUnended, Knows, agreed, begun_at, committed_row, none_unless, open_there}
-use Rattle.pc_implicit.proofs.Anchored.{anchor_stays, each_contained}
+use Rattle.pc_implicit.proofs.Anchored.{anchor_stays}
 use Rattle.pc_implicit.proofs.Doing.{Does, does}
 use Rattle.pc_implicit.proofs.Firsts.{first_push}
 use Rattle.pc_implicit.proofs.Hearing.{IsSo, heard_is_so}
-use Rattle.pc_implicit.proofs.Keyed.{same-is}
 use Rattle.pc_implicit.proofs.Metas.{subject_anchored}
 use Rattle.pc_implicit.proofs.Recorded.{IsBacked, IsRecorded, WasSent, recorded}
 use Rattle.pc_implicit.proofs.Runs.{decisions_stand, kept-status}
@@ -28,6 +26,9 @@ use Rattle.pc_implicit.proofs.Sent.{unstaged_front, unstaged_induction}
 use Rattle.pc_implicit.proofs.Shown.{IsUnstaged, WasAnswered}
 use Rattle.pc_implicit.proofs.Views.{subject-is}
 use Rattle.pc_implicit.specs.Decided.{decision}
+use Rattle.pc_lists.proofs.Each.{each-contains}
+use Rattle.pc_lists.proofs.Lists.{contains_nil}
+use Rattle.pc_lists.proofs.Same.{same_txn-is}
 use Rattle.pc_proto.specs.declared.answer.Answer.TheVariants as answers
 use Rattle.pc_proto.specs.declared.event.Event.{Event}
 use Rattle.pc_proto.specs.declared.event.Event.TheVariants as events
@@ -41,8 +42,10 @@ use Rattle.pc_proto.specs.declared.request.Request.TheVariants as requests
 use Rattle.pc_proto.specs.declared.view.View.{View}
 use Rattle.pc_proto.specs.declared.view.View.TheVariants as views
 use Rattle.pc_proto.specs.Place.{Place, Nothing, Kept, Marked, is_final}
-use Rattle.pc_proto.specs.RecordRows.{subject}
 use Rattle.pc_proto.specs.RecordRows.Reached.{status_of}
+use Rattle.pc_proto.specs.Replies.{view_in}
+use Rattle.pc_proto.specs.Requests.{is_about, is_push_of, subject}
+use Rattle.pc_proto.specs.Views.{is_committed_at, is_staging_at}
 use Rattle.pc_world.proofs.Knowing.{run_push}
 use Rattle.pc_world.proofs.Prefixes.{run_front}
 use Rattle.pc_world.specs.After.{known_at, place_at}
@@ -53,10 +56,10 @@ use Rattle.pc_world.specs.Local.{Head}
 use Rattle.pc_world.specs.RangeOf.{range_of}
 use Rattle.pc_world.specs.Run.{IsRun, protocol}
 use Rattle.pc_world.specs.Send.Put.{MaySendPut}
-use Rattle.pc_world.specs.Send.Recovery.{WasStaging, is_push_of}
-use Rattle.pc_world.specs.Tell.End.{is_staging_at, shows_staging}
+use Rattle.pc_world.specs.Send.Recovery.{WasStaging}
+use Rattle.pc_world.specs.Tell.End.{shows_staging}
 use Rattle.pc_world.specs.Unstaged.{NothingIsStaged}
-use Rattle.pc_world.specs.Views.{WasCommitted, is_about, is_committed_at, view_in}
+use Rattle.pc_world.specs.Views.{WasCommitted}
 
 -- The range of the transaction's anchor has it committed at this timestamp.
 pub record IsDecided (head : Head) (history : List (Entry Event)) (id : TxnId) (ts : ℕ) : Type 0 where
@@ -121,7 +124,7 @@ unended-none false (x ∷ xs) t unended opened = absurd cc
 -- the open transaction was not told committed, and the history has of it what its session knows
 pub open_agrees : (history : List (Entry Event)) (actor : ActorId) (k : Known) (t : Txn) → Knows history actor k → first_if k.is_open k.txns ≡ Some t → Agrees history t × (t.committed ≡ None)
 open_agrees history actor k t knows opened =
-    (each_contained (Agrees history) k.txns t knows.agrees (open_there k t opened), unended-none k.is_open k.txns t knows.unended opened)
+    (each-contains (Agrees history) k.txns t knows.agrees (open_there k t opened), unended-none k.is_open k.txns t knows.unended opened)
 
 -- no put of a transaction is sent once it was told committed without one
 no-put-row : (history : List (Entry Event)) (actor : ActorId) (k : Known) (id : TxnId) (ts : ℕ) (meta : TxnMeta) (seq at : ℕ) (key : List ℕ) (value : Option (List ℕ)) → Knows history actor k
@@ -135,7 +138,7 @@ no-put-row history actor k id ts meta seq at key value knows none told may same 
           absurd cc
       | inr a ↦
           let is : a.t.id ≡ id = ap (λ (m : TxnMeta). m.id) (sym a.whose.same) ∙ same in
-          let agrees = each_contained (Agrees history) k.txns a.t knows.agrees a.mine in
+          let agrees = each-contains (Agrees history) k.txns a.t knows.agrees a.mine in
           let both : None ≡ Some meta.anchor = sym none ∙ ap (λ i. anchor_in i history) (sym is) ∙ agrees.anchor ∙ a.whose.anchored in
           absurd cc
     ]
@@ -216,7 +219,7 @@ module _ (head : Head) (history : List (Entry Event)) (run : IsRun head history)
   pub heard_decided : (actor : ActorId) (id : TxnId) (ts : ℕ) → WasCommitted (known_at head actor history).heard id ts → IsDecided head history id ts
   heard_decided actor id ts (n, h, inside, at, shows) =
       let parts = and_parts (is_about id h.request) (option_map_or (is_committed_at ts) (view_in h.reply) false) shows in
-      let w = each_contained (IsSo head history actor) (known_at head actor history).heard h (heard_is_so head history run actor) (n, inside, at) in
+      let w = each-contains (IsSo head history actor) (known_at head actor history).heard h (heard_is_so head history run actor) (n, inside, at) in
       shown_decided actor h.number h.request h.reply id ts w (subject-is id (subject h.request) parts.0) parts.1
 
 module _ (head : Head) (history : List (Entry Event)) (run : IsRun head history) (only : NothingIsStaged history) where
@@ -224,7 +227,7 @@ module _ (head : Head) (history : List (Entry Event)) (run : IsRun head history)
   pub none_staging : (actor : ActorId) (id : TxnId) (epoch ts : ℕ) → Any (λ h. IsTrue (shows_staging id epoch ts h)) (known_at head actor history).heard → ⊥
   none_staging actor id epoch ts (n, h, inside, at, shows) =
       let parts = and_parts (is_about id h.request) (option_map_or (is_staging_at epoch ts) (view_in h.reply) false) shows in
-      let w = each_contained (IsSo head history actor) (known_at head actor history).heard h (heard_is_so head history run actor) (n, inside, at) in
+      let w = each-contains (IsSo head history actor) (known_at head actor history).heard h (heard_is_so head history run actor) (n, inside, at) in
       unstaged (view_in h.reply) (λ view told. (w.shows id view (subject-is id (subject h.request) parts.0) told).unstaged only) parts.1
     where
       unstaged : (o : Option View) → ((view : View) → o ≡ Some view → IsUnstaged view) → option_map_or (is_staging_at epoch ts) o false ≡ true → ⊥
@@ -233,13 +236,13 @@ module _ (head : Head) (history : List (Entry Event)) (run : IsRun head history)
       unstaged (Some view) not_so is = absurd cc
 
   push-about : (id : TxnId) (request : Request) → is_push_of id request ≡ true → subject request ≡ Some id
-  push-about id (requests.Push holder by level now goal) h = ap Some (same-is holder.id id h)
+  push-about id (requests.Push holder by level now goal) h = ap Some (same_txn-is holder.id id h)
   push-about id request h = absurd cc
 
   -- so nobody may recover
   pub none_unsure : (actor : ActorId) (id : TxnId) (epoch ts : ℕ) (writes : List (List ℕ × ℕ)) → WasStaging (known_at head actor history).heard id epoch ts writes → ⊥
   none_unsure actor id epoch ts writes (n, h, inside, at, met) =
-      let w = each_contained (IsSo head history actor) (known_at head actor history).heard h (heard_is_so head history run actor) (n, inside, at) in
+      let w = each-contains (IsSo head history actor) (known_at head actor history).heard h (heard_is_so head history run actor) (n, inside, at) in
       (w.shows id (views.Staging epoch ts writes) (push-about id h.request met.pushed) (ap view_in met.staging)).unstaged only
 
   -- a commit that is told is why the transaction is committed, or it has no anchor and is told committed where it began

@@ -8,24 +8,26 @@ use Rattle.pc_base.specs.declared.actor.ActorId.TheVariants as actors
 use Rattle.pc_base.specs.declared.entry.Entry.{Entry}
 use Rattle.pc_base.specs.declared.transaction.TxnId.{TxnId}
 use Rattle.pc_base.specs.Transaction.{same_txn}
-use Rattle.pc_history.proofs.Lists.{contains_nil}
 use Rattle.pc_history.specs.History.{MayFollow}
 use Rattle.pc_implicit.proofs.Agreed.{agreed}
-use Rattle.pc_implicit.proofs.Anchored.{commit_anchored, each_contained}
+use Rattle.pc_implicit.proofs.Anchored.{commit_anchored}
 use Rattle.pc_implicit.proofs.Commits.{act_of, heard_decided}
 use Rattle.pc_implicit.proofs.Doing.{Does}
 use Rattle.pc_implicit.proofs.Hearing.{IsSo, heard_is_so}
 use Rattle.pc_implicit.proofs.Homes.{home_is, home_on}
-use Rattle.pc_implicit.proofs.Keyed.{same-itself}
 use Rattle.pc_implicit.proofs.Lift.{over}
 use Rattle.pc_implicit.proofs.Metas.{subject_anchored}
+use Rattle.pc_implicit.proofs.Moves.{one_named}
 use Rattle.pc_implicit.proofs.PutsSent.{all-each}
 use Rattle.pc_implicit.proofs.Refusals.{sent_known}
-use Rattle.pc_implicit.proofs.Turns.{IsAnswered, Restarted, Turn, WentOn, Wrote, comes_from, one_txn}
+use Rattle.pc_implicit.proofs.Turns.{IsAnswered, Restarted, Turn, WentOn, Wrote, comes_from}
 use Rattle.pc_implicit.proofs.Views.{Stands, places_go_on}
 use Rattle.pc_implicit.proofs.WriteLists.{IsAlike, alike_each}
 use Rattle.pc_implicit.specs.Decided.{IsNotBelow, decision, epoch_of, time_of}
 use Rattle.pc_implicit.specs.Writes.{home_of, txns_of}
+use Rattle.pc_lists.proofs.Each.{each-contains}
+use Rattle.pc_lists.proofs.Lists.{contains_nil}
+use Rattle.pc_lists.proofs.Same.{same_txn-self}
 use Rattle.pc_proto.specs.declared.answer.Answer.TheVariants as answers
 use Rattle.pc_proto.specs.declared.event.Event.{Event}
 use Rattle.pc_proto.specs.declared.event.Event.TheVariants as events
@@ -36,18 +38,20 @@ use Rattle.pc_proto.specs.declared.request.Request.TheVariants as requests
 use Rattle.pc_proto.specs.Place.{Place, Nothing, Kept, Marked, Stay, Become, after, is_final, view_of}
 use Rattle.pc_proto.specs.RecordRows.{answer}
 use Rattle.pc_proto.specs.RecordRows.Reached.{status_of}
+use Rattle.pc_proto.specs.Replies.{is_undecided_status}
+use Rattle.pc_proto.specs.Views.{is_final_view}
 use Rattle.pc_world.proofs.Knowing.{run_push}
 use Rattle.pc_world.proofs.Prefixes.{run_induction}
 use Rattle.pc_world.specs.After.{known_at, place_at, state_at}
 use Rattle.pc_world.specs.Committed.{anchor_in}
 use Rattle.pc_world.specs.Evaluation.{reply}
 use Rattle.pc_world.specs.Known.Traffic.{Heard, Sent}
-use Rattle.pc_world.specs.Known.Transactions.{Txn, is_final_view}
+use Rattle.pc_world.specs.Known.Transactions.{Txn}
 use Rattle.pc_world.specs.Known.Writes.{IsProvedBy, Write}
 use Rattle.pc_world.specs.Local.{Head}
 use Rattle.pc_world.specs.Run.{IsRun, protocol}
 use Rattle.pc_world.specs.Send.Commit.{MaySendCommit}
-use Rattle.pc_world.specs.StageFate.{Commit, IsRefused, IsUncommitted, OnCommit, is_unsettled_status}
+use Rattle.pc_world.specs.StageFate.{IsUncommitted, OnCommit, SentCommit, WasCommitRefused}
 
 -- The place is past this epoch or timestamp.
 abbrev pub IsBeyond : ℕ → ℕ → Place → Type 0
@@ -76,7 +80,7 @@ undecided-then p q stands none =
     ]
 
 -- a record that is not decided, and that a commit leaves so, is past it
-passes : (meta : TxnMeta) (ts : ℕ) (locks : List (List ℕ)) (p : Place) → decision p ≡ None → is_unsettled_status (answer (requests.Commit meta ts locks) p) ≡ true → IsBeyond meta.epoch ts p
+passes : (meta : TxnMeta) (ts : ℕ) (locks : List (List ℕ)) (p : Place) → decision p ≡ None → is_undecided_status (answer (requests.Commit meta ts locks) p) ≡ true → IsBeyond meta.epoch ts p
 passes meta ts locks Nothing none h = absurd cc
 passes meta ts locks (Kept r) none h = by (is_final r.status.standing) refl (nat_le r.status.epoch meta.epoch && nat_le r.status.ts ts) refl h
   where
@@ -94,7 +98,7 @@ passes meta ts locks (Marked s) none h = absurd cc
 
 module _ (head : Head) (history : List (Entry Event)) (run : IsRun head history) where
   refused-at : (actor : ActorId) (h : Heard) → IsSo head history actor h → (meta : TxnMeta) (ts : ℕ) (locks : List (List ℕ)) → decision (home_of head meta.id history) ≡ None
-      → h.request ≡ requests.Commit meta ts locks → is_unsettled_status h.reply ≡ true → IsBeyond meta.epoch ts (home_of head meta.id history)
+      → h.request ≡ requests.Commit meta ts locks → is_undecided_status h.reply ≡ true → IsBeyond meta.epoch ts (home_of head meta.id history)
   refused-at actor h so meta ts locks none asked unsettled =
       let sends : so.send.event ≡ events.Send h.number so.range (requests.Commit meta ts locks) = so.sends ∙ ap (events.Send h.number so.range) asked in
       let anchored = subject_anchored head history run so.send so.listed h.number so.range (requests.Commit meta ts locks) meta.id sends refl in
@@ -103,13 +107,13 @@ module _ (head : Head) (history : List (Entry Event)) (run : IsRun head history)
       let p = place_at head so.range meta.id so.front in
       let told : h.reply ≡ answer (requests.Commit meta ts locks) p = so.answers ∙ ap (λ r. reply r (state_at head so.range so.front)) asked in
       let stands : Stands p (place_at head so.range meta.id history) = subst (λ x. Stands p (place_at head so.range meta.id x)) so.whole (over _ (places_go_on meta.id) head so.range so.front so.back) in
-      let past : IsBeyond meta.epoch ts p = passes meta ts locks p (undecided-then p (place_at head so.range meta.id history) stands (ap decision there ∙ none)) (ap is_unsettled_status (sym told) ∙ unsettled) in
+      let past : IsBeyond meta.epoch ts p = passes meta ts locks p (undecided-then p (place_at head so.range meta.id history) stands (ap decision there ∙ none)) (ap is_undecided_status (sym told) ∙ unsettled) in
       subst (IsBeyond meta.epoch ts) there (beyond-on meta.epoch ts p (place_at head so.range meta.id history) stands.rises past)
 
   -- the record of a transaction that is not decided is past each commit that its session heard to be refused
-  pub refused_beyond : (actor : ActorId) (c : Commit) → decision (home_of head c.meta.id history) ≡ None → IsRefused (known_at head actor history).heard c → IsBeyond c.meta.epoch c.ts (home_of head c.meta.id history)
+  pub refused_beyond : (actor : ActorId) (c : SentCommit) → decision (home_of head c.meta.id history) ≡ None → WasCommitRefused (known_at head actor history).heard c → IsBeyond c.meta.epoch c.ts (home_of head c.meta.id history)
   refused_beyond actor c none (n, h, inside, at, refuses) =
-      refused-at actor h (each_contained (IsSo head history actor) (known_at head actor history).heard h (heard_is_so head history run actor) (n, inside, at)) c.meta c.ts c.locks none refuses.asked refuses.unsettled
+      refused-at actor h (each-contains (IsSo head history actor) (known_at head actor history).heard h (heard_is_so head history run actor) (n, inside, at)) c.meta c.ts c.locks none refuses.asked refuses.unsettled
 
   -- where a session knows its transaction uncommitted, and it is not decided, the record is past each commit that was sent
   uncommitted-beyond : (a : Entry Event) → Contains history a → (number range : ℕ) (meta : TxnMeta) (ts : ℕ) (locks : List (List ℕ)) → a.event ≡ events.Send number range (requests.Commit meta ts locks)
@@ -120,9 +124,9 @@ module _ (head : Head) (history : List (Entry Event)) (run : IsRun head history)
       let same : a.actor ≡ actor = (commit_anchored head history run a there number range meta ts locks is).whose in
       let m : Sent = record { number = number; range = range; request = requests.Commit meta ts locks } in
       let sent : Contains (known_at head actor history).sent m = subst (λ x. Contains (known_at head x history).sent m) same (sent_known head history run a there number range (requests.Commit meta ts locks) is) in
-      let on : OnCommit id (IsRefused (known_at head actor history).heard) (requests.Commit meta ts locks) =
-      All-contains (λ (x : Sent). OnCommit id (IsRefused (known_at head actor history).heard) x.request) (known_at head actor history).sent m uncommitted.commits sent in
-      refused_beyond actor (record { meta = meta; ts = ts; locks = locks }) none (on (ap (λ i. same_txn i id) whose ∙ same-itself id))
+      let on : OnCommit id (WasCommitRefused (known_at head actor history).heard) (requests.Commit meta ts locks) =
+      All-contains (λ (x : Sent). OnCommit id (WasCommitRefused (known_at head actor history).heard) x.request) (known_at head actor history).sent m uncommitted.commits sent in
+      refused_beyond actor (record { meta = meta; ts = ts; locks = locks }) none (on (ap (λ i. same_txn i id) whose ∙ same_txn-self id))
 
 -- What has become of a commit of this epoch and timestamp: its transaction is decided; or it is of the present epoch, each write of which
 -- is proved at or below its timestamp; or the record is past it.
@@ -168,7 +172,7 @@ module _ (head : Head) where
       let act : Does head e.actor (known_at head e.actor history) (events.Send number range (requests.Commit meta ts locks)) = subst (Does head e.actor (known_at head e.actor history)) is (act_of head history e may) in
       let row = subst (λ x. MaySendCommit (known_at head x history) (record { meta = meta; ts = ts; locks = locks })) own act.row in
       let t_is : row.t ≡ t =
-      one_txn (actors.Session meta.id.session) (k.begun + 1) k.txns row.t t (agreed head history run (actors.Session meta.id.session)).numbered row.mine inside (ap (λ (m : TxnMeta). m.id) (sym row.whose.same) ∙ sym same) in
+      one_named (actors.Session meta.id.session) (k.begun + 1) k.txns row.t t (agreed head history run (actors.Session meta.id.session)).numbered row.mine inside (ap (λ (m : TxnMeta). m.id) (sym row.whose.same) ∙ sym same) in
       let epoch : meta.epoch ≡ t.epoch = ap (λ (m : TxnMeta). m.epoch) row.whose.same ∙ ap (λ (x : Txn). x.epoch) t_is in
       elim row.decided [
         | inl decides ↦

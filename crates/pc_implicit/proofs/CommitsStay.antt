@@ -22,21 +22,21 @@ use Rattle.pc_world.proofs.Prefixes.{run_front}
 use Rattle.pc_world.specs.Committed.{IsCommitted}
 use Rattle.pc_world.specs.Local.{Head}
 use Rattle.pc_world.specs.Run.{IsRun, protocol}
-use Rattle.pc_world.specs.StageFate.{Stage}
+use Rattle.pc_world.specs.StageFate.{SentStage}
 
 -- The transaction of the stage is committed by it, or decided committed at its timestamp.
-abbrev pub StaysCommitted : Head → List (Entry Event) → Stage → Type 0
+abbrev pub StaysCommitted : Head → List (Entry Event) → SentStage → Type 0
 StaysCommitted head history s =
     CommitsBy head history s ⊎ ((epoch : ℕ) × (decision (home_of head s.meta.id history) ≡ Some (status_of standings.Committed epoch s.ts)))
 
 module _ (head : Head) where
   -- no write of a stage by which its transaction is committed was refuted
-  pub none_refuted : (history : List (Entry Event)) → IsRun head history → (s : Stage) → CommitsBy head history s → SomeRefuted history s → ⊥
+  pub none_refuted : (history : List (Entry Event)) → IsRun head history → (s : SentStage) → CommitsBy head history s → SomeRefuted history s → ⊥
   none_refuted history run s by some =
       refuted_absent head history run s some.write (staging_open head history s by.r by.home by.stages).undecided some.refuted (by.present some.write some.listed)
 
   -- a stage by which its transaction is committed does so after one more entry, or the transaction is decided committed
-  pub record_stays : (history : List (Entry Event)) (e : Entry Event) → IsRun head history → MayFollow (protocol head) history e → (s : Stage) → CommitsBy head history s → StaysCommitted head (history ++ e ∷ []) s
+  pub record_stays : (history : List (Entry Event)) (e : Entry Event) → IsRun head history → MayFollow (protocol head) history e → (s : SentStage) → CommitsBy head history s → StaysCommitted head (history ++ e ∷ []) s
   record_stays history e run may s by =
       let now = history ++ e ∷ [] in
       let whole : IsRun head now = run_push head history e run may in
@@ -55,7 +55,7 @@ module _ (head : Head) where
         | NowCommitted epoch decided ↦ inr (epoch, decided)
       ]
 
-  stays-once : (history : List (Entry Event)) (e : Entry Event) → IsRun head history → MayFollow (protocol head) history e → (s : Stage) → StaysCommitted head history s → StaysCommitted head (history ++ e ∷ []) s
+  stays-once : (history : List (Entry Event)) (e : Entry Event) → IsRun head history → MayFollow (protocol head) history e → (s : SentStage) → StaysCommitted head history s → StaysCommitted head (history ++ e ∷ []) s
   stays-once history e run may s stays =
       elim stays [
         | inl by ↦ record_stays history e run may s by
@@ -73,7 +73,7 @@ module _ (head : Head) where
           subst P (append_assoc front (e ∷ []) es) (along (front ++ e ∷ []) es (run_push head front e run fine.0) fine.1 (step front e run fine.0 holds))
 
   -- so it does in every longer run
-  pub commits_on : (front back : List (Entry Event)) → IsRun head (front ++ back) → (s : Stage) → CommitsBy head front s → StaysCommitted head (front ++ back) s
+  pub commits_on : (front back : List (Entry Event)) → IsRun head (front ++ back) → (s : SentStage) → CommitsBy head front s → StaysCommitted head (front ++ back) s
   commits_on front back run s by = goes_along (λ h. StaysCommitted head h s) (λ history e run may stays. stays-once history e run may s stays) front back run (inl by)
 
   -- what is committed is so after one more entry

@@ -12,7 +12,6 @@ use Rattle.pc_base.specs.declared.transaction.TxnId.{TxnId}
 use Rattle.pc_base.specs.declared.version.Version.{Version}
 use Rattle.pc_base.specs.Versions.{above_newest}
 use Rattle.pc_history.specs.History.{MayFollow}
-use Rattle.pc_implicit.proofs.Anchored.{each_contained}
 use Rattle.pc_implicit.proofs.Doing.{same_or_not}
 use Rattle.pc_implicit.proofs.Evals.{NamedMessage, of_entry, range_evaluates}
 use Rattle.pc_implicit.proofs.IntentKeys.{each-found}
@@ -25,7 +24,8 @@ use Rattle.pc_implicit.proofs.SettledVersions.{last-of}
 use Rattle.pc_implicit.proofs.VersionSearches.{above_newest-each}
 use Rattle.pc_implicit.proofs.WriteLists.{Laid}
 use Rattle.pc_implicit.specs.Decided.{decision}
-use Rattle.pc_implicit.specs.Writes.{StandsBy, home_of, own_intent, txns_of, writes_at}
+use Rattle.pc_implicit.specs.Writes.{LastWriteStands, home_of, own_intent, txns_of, writes_on}
+use Rattle.pc_lists.proofs.Each.{each-contains}
 use Rattle.pc_proto.specs.declared.event.Event.{Event}
 use Rattle.pc_proto.specs.declared.event.Event.TheVariants as events
 use Rattle.pc_proto.specs.declared.meta.TxnMeta.{TxnMeta}
@@ -124,10 +124,10 @@ module _ (head : Head) (id : TxnId) (key : List ℕ) (ts : ℕ) where
 
   -- What a transaction that is decided committed above this timestamp wrote at the key.
   module _ (history : List (Entry Event)) (run : IsRun head history) (epoch at : ℕ) (decided : decision (home_of head id history) ≡ Some (status_of standings.Committed epoch at)) (above : ts < at)
-      (t : Txn) (known : Contains (txns_of head id history) t) (named : t.id ≡ id) (x : Laid) (wrote : Contains (writes_at key t.writes) x) where
-    stands-so : (value : Option (List ℕ)) × StandsBy head history t key value at
+      (t : Txn) (known : Contains (txns_of head id history) t) (named : t.id ≡ id) (x : Laid) (wrote : Contains (writes_on key t.writes) x) where
+    stands-so : (value : Option (List ℕ)) × LastWriteStands head history t key value at
     stands-so =
-        let l = last-of (writes_at key t.writes) x wrote in
+        let l = last-of (writes_on key t.writes) x wrote in
         let w = l.1 in
         (w.1, (settled head history run id epoch at decided).stand t known named key l.0 w.0 w.1 l.2)
 
@@ -145,7 +145,7 @@ module _ (head : Head) (id : TxnId) (key : List ℕ) (ts : ℕ) where
         ]
 
     -- where it has none that has all its writes at or below the timestamp, it has none there
-    pub off_now : ((i : Intent) → own_intent head id key history ≡ Some i → i.meta.epoch ≡ t.epoch → i.history ≡ writes_at key t.writes → i.ts ≤ ts → ⊥) → IsOff head history id key ts
+    pub off_now : ((i : Intent) → own_intent head id key history ≡ Some i → i.meta.epoch ≡ t.epoch → i.history ≡ writes_on key t.writes → i.ts ≤ ts → ⊥) → IsOff head history id key ts
     unfolding same-own
     off_now whole i own =
         let s = stands-so in

@@ -10,10 +10,9 @@ use Rattle.pc_base.specs.declared.actor.ActorId.{ActorId}
 use Rattle.pc_base.specs.declared.actor.ActorId.TheVariants as actors
 use Rattle.pc_base.specs.declared.entry.Entry.{Entry}
 use Rattle.pc_base.specs.declared.transaction.TxnId.{TxnId}
-use Rattle.pc_history.proofs.Lists.{contains_head, contains_tail}
 use Rattle.pc_history.specs.History.{MayFollow}
 use Rattle.pc_implicit.proofs.Agreed.{Agrees, agreed, committed_row, open_there, owned}
-use Rattle.pc_implicit.proofs.Anchored.{commit_anchored, each_contained}
+use Rattle.pc_implicit.proofs.Anchored.{commit_anchored}
 use Rattle.pc_implicit.proofs.CommitCalls.{IsSettled, commit-asks, settled_along}
 use Rattle.pc_implicit.proofs.Did.{moved_on, session_at}
 use Rattle.pc_implicit.proofs.Doing.{Does, same_or_not}
@@ -22,6 +21,8 @@ use Rattle.pc_implicit.proofs.Firsts.{first_push}
 use Rattle.pc_implicit.proofs.Moves.{Moves, Puts, Reads, Restarts, Stays, TellsRead, open_is_first}
 use Rattle.pc_implicit.proofs.Refusals.{never_refused}
 use Rattle.pc_implicit.specs.Decided.{decision}
+use Rattle.pc_lists.proofs.Each.{each-contains}
+use Rattle.pc_lists.proofs.Lists.{contains_head, contains_tail}
 use Rattle.pc_proto.specs.declared.answer.Answer.{Answer}
 use Rattle.pc_proto.specs.declared.answer.Answer.TheVariants as answers
 use Rattle.pc_proto.specs.declared.call.Call.TheVariants as calls
@@ -33,6 +34,9 @@ use Rattle.pc_proto.specs.declared.record.Status.{Status}
 use Rattle.pc_proto.specs.declared.reply.Reply.{Reply}
 use Rattle.pc_proto.specs.declared.request.Request.{Request}
 use Rattle.pc_proto.specs.declared.request.Request.TheVariants as requests
+use Rattle.pc_proto.specs.Replies.{view_in}
+use Rattle.pc_proto.specs.Requests.{is_about, subject}
+use Rattle.pc_proto.specs.Views.{is_staging_at}
 use Rattle.pc_world.proofs.Knowing.{known_same, state_other}
 use Rattle.pc_world.proofs.Prefixes.{run_front, run_may}
 use Rattle.pc_world.specs.After.{known_at, place_at, state_at}
@@ -69,12 +73,10 @@ use Rattle.pc_implicit.proofs.StageWords.{ByDecision, ByStaging, ByTelling, Comm
 use Rattle.pc_implicit.proofs.Views.{subject-is}
 use Rattle.pc_implicit.specs.Stages.{WasStaged}
 use Rattle.pc_implicit.specs.Writes.{home_of, place_under}
-use Rattle.pc_proto.specs.RecordRows.{subject}
 use Rattle.pc_proto.specs.RecordRows.Reached.{status_of}
 use Rattle.pc_proto.specs.Place.{Place, Nothing}
-use Rattle.pc_world.specs.StageFate.{IsDead, Stage, stage_request}
-use Rattle.pc_world.specs.Tell.End.{is_staging_at, shows_staging}
-use Rattle.pc_world.specs.Views.{is_about, view_in}
+use Rattle.pc_world.specs.StageFate.{IsDead, SentStage, stage_request}
+use Rattle.pc_world.specs.Tell.End.{shows_staging}
 
 pub told-there : (id : TxnId) (ts : ℕ) (history : List (Entry Event)) → told_at id history ≡ Some ts → (x : Entry Event) × Contains history x × (x.event ≡ events.Tell (answers.Committed id ts))
 told-there id ts [] h = absurd cc
@@ -245,7 +247,7 @@ module _ (head : Head) (front : List (Entry Event)) (e : Entry Event) (back : Li
       not-told actor t named mine may = elim may [
         | inl open_now ↦ open_now
         | inr told ↦
-            let agrees : Agrees before t = each_contained (Agrees before) (known_at head actor before).txns t (agreed head before run-sent actor).agrees mine in
+            let agrees : Agrees before t = each-contains (Agrees before) (known_at head actor before).txns t (agreed head before run-sent actor).agrees mine in
             let x = told-there t.id ts before (agrees.told ∙ told) in
             let is = told_committed head before run-sent x.0 x.1 t.id ts x.2 in
             absurd (not-earlier before (n.ev.send ∷ later) whole ts (subst (λ i. IsCommitted head before i ts) named is))
@@ -289,7 +291,7 @@ module _ (head : Head) (front : List (Entry Event)) (e : Entry Event) (back : Li
 
   -- ---- by a stage
 
-  module _ (s : Stage) (c : CommitsBy head (front ++ e ∷ []) s) (whose : s.meta.id ≡ id) (at : s.ts ≡ ts) where
+  module _ (s : SentStage) (c : CommitsBy head (front ++ e ∷ []) s) (whose : s.meta.id ≡ id) (at : s.ts ≡ ts) where
     by-stage : IsDecisive
     unfolding run-now joined
     by-stage =

@@ -8,7 +8,6 @@ use Rattle.pc_base.specs.declared.actor.ActorId.TheVariants as actors
 use Rattle.pc_base.specs.declared.entry.Entry.{Entry}
 use Rattle.pc_base.specs.declared.transaction.TxnId.{TxnId}
 use Rattle.pc_base.specs.Transaction.{same_txn}
-use Rattle.pc_history.proofs.Lists.{contains_nil}
 use Rattle.pc_history.specs.History.{MayFollow}
 use Rattle.pc_history.specs.Own.{named_in}
 use Rattle.pc_implicit.proofs.Agreed.{AreNumbered, IsOwn, SaysOwn, agreed, begun_next, says_own}
@@ -16,11 +15,12 @@ use Rattle.pc_implicit.proofs.Commits.{act_of}
 use Rattle.pc_implicit.proofs.Doing.{Does, same_or_not}
 use Rattle.pc_implicit.proofs.Doings.{IsCallOf, call-after, doing-other, doing-same, doing_at}
 use Rattle.pc_implicit.proofs.Fronts.{IsFront, front_more, front_on, front_same}
-use Rattle.pc_implicit.proofs.Keyed.{same-is}
 use Rattle.pc_implicit.proofs.Moves.{IsListed, IsNewlyBegun, Moved, Moves, Puts, Reads, Restarts, Stays, TellsRead, comes_from, first_after, is_first, moved, one_named}
 use Rattle.pc_implicit.proofs.SessionCommits.{written}
 use Rattle.pc_implicit.proofs.SessionReads.{last_seq_done}
 use Rattle.pc_implicit.proofs.Writings.{RiseFrom, is_a_write, last_filtered, last_written, rise_push}
+use Rattle.pc_lists.proofs.Lists.{contains_nil}
+use Rattle.pc_lists.proofs.Same.{same_txn-is}
 use Rattle.pc_proto.specs.declared.answer.Answer.{Answer}
 use Rattle.pc_proto.specs.declared.answer.Answer.TheVariants as answers
 use Rattle.pc_proto.specs.declared.call.Call.{Call}
@@ -30,7 +30,7 @@ use Rattle.pc_proto.specs.declared.request.Request.TheVariants as requests
 use Rattle.pc_world.proofs.Knowing.{known_other, known_same, run_push}
 use Rattle.pc_world.proofs.Prefixes.{run_front, run_induction, run_may}
 use Rattle.pc_world.specs.After.{known_at}
-use Rattle.pc_world.specs.Known.{Known, begun_by, txns_after}
+use Rattle.pc_world.specs.Known.{Known, txn_begun, txns_after}
 use Rattle.pc_world.specs.Known.Statements.{Statement, begun_after}
 use Rattle.pc_world.specs.Known.Traffic.{Heard, heard_by}
 use Rattle.pc_world.specs.Known.Transactions.{Txn}
@@ -82,7 +82,7 @@ listed-after k event t u done after listed (Restarts key ts opened told epoch re
 module _ (actor : ActorId) (id : TxnId) where
   fresh-if : {Y : Type 0} (b : Bool) (one : TxnId) (n : ℕ) (x y : Y) (c : Bool) → same_txn one id ≡ b → IsOwn actor n one → n ≤ id.number → (if (b && c) then x else y) ≡ y
   fresh-if true one n x y c same own fresh =
-      let is : one.number ≡ id.number = ap (λ (i : TxnId). i.number) (same-is one id same) in
+      let is : one.number ≡ id.number = ap (λ (i : TxnId). i.number) (same_txn-is one id same) in
       let low : one.number < n = own.1 in
       absurd (let no : ⊥ = omega (arith, low, is, fresh) in no)
   fresh-if false one n x y c same own fresh = refl
@@ -93,7 +93,7 @@ module _ (actor : ActorId) (id : TxnId) where
     where
       by : (b : Bool) → same_txn t.id id ≡ b → same_txn t.id id ≡ false
       by true same =
-          let is : t.id.number ≡ id.number = ap (λ (i : TxnId). i.number) (same-is t.id id same) in
+          let is : t.id.number ≡ id.number = ap (λ (i : TxnId). i.number) (same_txn-is t.id id same) in
           let low : t.id.number < n = numbered.1 in
           absurd (let no : ⊥ = omega (arith, low, is, fresh) in no)
       by false other = other
@@ -115,11 +115,11 @@ begun-grows (events.Tell (answers.Begun id ts)) n = omega arith
 begun-grows (events.Tell answer) n = omega arith
 begun-grows event n = omega arith
 
-begun-writes : (s : Option Statement) (id : TxnId) (ts : ℕ) → IsListed (begun_by s id ts) []
+begun-writes : (s : Option Statement) (id : TxnId) (ts : ℕ) → IsListed (txn_begun s id ts) []
 begun-writes None id ts = record { same = refl; rise = tt }
 begun-writes (Some s) id ts = record { same = refl; rise = tt }
 
-begun-named : (s : Option Statement) (id : TxnId) (ts : ℕ) → (begun_by s id ts).id ≡ id
+begun-named : (s : Option Statement) (id : TxnId) (ts : ℕ) → (txn_begun s id ts).id ≡ id
 begun-named None id ts = refl
 begun-named (Some s) id ts = refl
 

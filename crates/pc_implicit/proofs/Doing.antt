@@ -12,7 +12,7 @@ use Rattle.pc_proto.specs.declared.answer.Answer.{Answer}
 use Rattle.pc_proto.specs.declared.answer.Answer.TheVariants as answers
 use Rattle.pc_proto.specs.declared.event.Event.{Event}
 use Rattle.pc_proto.specs.declared.event.Event.TheVariants as events
-use Rattle.pc_world.specs.Known.{Known, known}
+use Rattle.pc_world.specs.Known.{Known, known_of}
 use Rattle.pc_world.specs.Local.{Head, MayComeNext, MayHear}
 use Rattle.pc_world.specs.MaySend.{MaySend}
 use Rattle.pc_world.specs.MayTell.{MayTell, MayTellRow, is_past_range, needs_txn}
@@ -24,7 +24,7 @@ Does head actor k (events.Tell answer) = MayTell head.splits actor k answer
 Does head actor k (events.Hear number step) = MayHear k number
 Does head actor k _ = ⊤
 
-pub does : (head : Head) (actor : ActorId) (own : List (Pair Event)) (event : Event) (named : Option (Entry Event)) → MayComeNext head actor own event named → Does head actor (known own) event
+pub does : (head : Head) (actor : ActorId) (own : List (Pair Event)) (event : Event) (named : Option (Entry Event)) → MayComeNext head actor own event named → Does head actor (known_of own) event
 does head (actors.Range range) own (events.Eval sender number told) named may = tt
 does head (actors.Range range) own event named may = absurd may
 does head (actors.Session session) own (events.Send number range request) named may = may

@@ -18,7 +18,6 @@ use Rattle.pc_implicit.proofs.Firsts.{first_push}
 use Rattle.pc_implicit.proofs.Forward.{Has, has_more}
 use Rattle.pc_implicit.proofs.HeardViews.{so_of, view_is_so}
 use Rattle.pc_implicit.proofs.Homes.{home_is}
-use Rattle.pc_implicit.proofs.Keyed.{same-is}
 use Rattle.pc_implicit.proofs.KnownOver.{IsKnownOver}
 use Rattle.pc_implicit.proofs.Metas.{place_anchored}
 use Rattle.pc_implicit.proofs.Moves.{open_is_first}
@@ -34,6 +33,7 @@ use Rattle.pc_implicit.proofs.StageWords.{ByDecision, ByStaging, ByTelling}
 use Rattle.pc_implicit.specs.Decided.{StaysTrue, decision}
 use Rattle.pc_implicit.specs.Ends.{SaysGivenUp, SaysOver, TellsOpen}
 use Rattle.pc_implicit.specs.Writes.{home_of, place_under, txns_of}
+use Rattle.pc_lists.proofs.Same.{same_txn-is}
 use Rattle.pc_proto.specs.declared.answer.Answer.{Answer}
 use Rattle.pc_proto.specs.declared.answer.Answer.TheVariants as answers
 use Rattle.pc_proto.specs.declared.call.Call.{Call}
@@ -46,6 +46,8 @@ use Rattle.pc_proto.specs.declared.view.View.{View}
 use Rattle.pc_proto.specs.declared.view.View.TheVariants as views
 use Rattle.pc_proto.specs.declared.why.Why.{Why}
 use Rattle.pc_proto.specs.RecordRows.Reached.{status_of}
+use Rattle.pc_proto.specs.Requests.{is_about}
+use Rattle.pc_proto.specs.Views.{AbortsWith}
 use Rattle.pc_world.proofs.Knowing.{known_other, known_same, run_push}
 use Rattle.pc_world.proofs.Prefixes.{run_front, run_may}
 use Rattle.pc_world.specs.After.{known_at, place_at}
@@ -56,7 +58,6 @@ use Rattle.pc_world.specs.Known.Transactions.{Txn}
 use Rattle.pc_world.specs.Local.{Head}
 use Rattle.pc_world.specs.Run.{IsRun, protocol}
 use Rattle.pc_world.specs.StageFate.{IsDead, stage_request}
-use Rattle.pc_world.specs.Views.{AbortsWith, is_about}
 
 -- ---- what is not committed
 
@@ -154,7 +155,7 @@ module _ (head : Head) (id : TxnId) where
             record { t = row.t; opened = subst (λ a. open_txn (known_at head a history) ≡ Some row.t) actor row.opened; named = named }
 
         by : (b : Bool) → same_txn other id ≡ b → (if b then Some ts else None) ≡ None
-        by true same = absurd (o.closed (open-told (same-is other id same)))
+        by true same = absurd (o.closed (open-told (same_txn-is other id same)))
         by false differ = refl
     quiet event may = refl
 

@@ -9,7 +9,6 @@ use Rattle.pc_base.specs.declared.entry.Entry.{Entry}
 use Rattle.pc_base.specs.declared.transaction.TxnId.{TxnId}
 use Rattle.pc_base.specs.declared.transaction.Who.{Who}
 use Rattle.pc_history.specs.History.{MayFollow}
-use Rattle.pc_implicit.proofs.Anchored.{each_contained}
 use Rattle.pc_implicit.proofs.CommittedElsewhere.{IsOff, at-most, off_more, off_now, version_over}
 use Rattle.pc_implicit.proofs.Did.{one_known}
 use Rattle.pc_implicit.proofs.Doing.{Does}
@@ -37,7 +36,8 @@ use Rattle.pc_implicit.proofs.Written.{missed_more}
 use Rattle.pc_implicit.specs.Decided.{decision, time_of}
 use Rattle.pc_implicit.specs.Replied.{QueryMissed, WasProven, WasReplied}
 use Rattle.pc_implicit.specs.Stages.{IsThere, WasStaged}
-use Rattle.pc_implicit.specs.Writes.{home_of, own_intent, txns_of, writes_at}
+use Rattle.pc_implicit.specs.Writes.{home_of, own_intent, txns_of, writes_on}
+use Rattle.pc_lists.proofs.Each.{each-contains, each-weaker}
 use Rattle.pc_proto.specs.declared.event.Event.{Event}
 use Rattle.pc_proto.specs.declared.event.Event.TheVariants as events
 use Rattle.pc_proto.specs.declared.fate.Finding.TheVariants as findings
@@ -52,10 +52,10 @@ use Rattle.pc_proto.specs.declared.request.Request.TheVariants as requests
 use Rattle.pc_proto.specs.declared.why.Why.{Why}
 use Rattle.pc_proto.specs.Intents.{last_seq}
 use Rattle.pc_proto.specs.Place.{Place, Kept, Become, Stay, after, is_final}
-use Rattle.pc_proto.specs.RecordRows.{change, subject}
+use Rattle.pc_proto.specs.RecordRows.{place_change}
 use Rattle.pc_proto.specs.RecordRows.Reached.{alive_at, is_staging, status_of}
 use Rattle.pc_proto.specs.RecordRows.Stage.{stage}
-use Rattle.pc_world.proofs.Each.{each-weaker}
+use Rattle.pc_proto.specs.Requests.{subject}
 use Rattle.pc_world.proofs.Knowing.{run_push}
 use Rattle.pc_world.proofs.Prefixes.{run_front}
 use Rattle.pc_world.specs.After.{known_at}
@@ -67,7 +67,7 @@ use Rattle.pc_world.specs.Local.{Head}
 use Rattle.pc_world.specs.RangeState.{RangeState}
 use Rattle.pc_world.specs.Run.{IsRun, protocol}
 use Rattle.pc_world.specs.Send.Recovery.{MaySendRecover}
-use Rattle.pc_world.specs.StageFate.{Stage, stage_request}
+use Rattle.pc_world.specs.StageFate.{SentStage, stage_request}
 
 -- a request to a record changes no intent
 keeps-intents : (request : Request) (id : TxnId) → subject request ≡ Some id → (s : RangeState) → intents_after request s ≡ s.intents
@@ -76,8 +76,8 @@ keeps-intents (requests.Resolve one key fate) id about s = absurd cc
 keeps-intents request id about s = refl
 
 -- a stage that a staging record does not have yet, and that reaches it, makes it stage so
-stage-makes : (r : Record) (s : Stage) → r.status.standing ≡ standings.Staging → r.status.epoch ≤ s.meta.epoch → r.status.ts ≤ s.ts → (s.meta.epoch ≡ r.status.epoch → s.ts ≡ r.status.ts → ⊥)
-    → (now : Record) × (after (Kept r) (change (stage_request s) (Kept r)) ≡ Kept now) × (now.status ≡ status_of standings.Staging s.meta.epoch s.ts)
+stage-makes : (r : Record) (s : SentStage) → r.status.standing ≡ standings.Staging → r.status.epoch ≤ s.meta.epoch → r.status.ts ≤ s.ts → (s.meta.epoch ≡ r.status.epoch → s.ts ≡ r.status.ts → ⊥)
+    → (now : Record) × (after (Kept r) (place_change (stage_request s) (Kept r)) ≡ Kept now) × (now.status ≡ status_of standings.Staging s.meta.epoch s.ts)
 stage-makes r s staging epoch ts differ =
     let now : Record = record { meta = s.meta; status = status_of standings.Staging s.meta.epoch s.ts; activity = alive_at (Kept r) s.now; writes = s.writes; locks = s.locks } in
     let undecided : is_final r.status.standing ≡ false = ap is_final staging in
@@ -105,15 +105,15 @@ stage-makes r s staging epoch ts differ =
     by false other false = refl
 
 -- What is laid at the key by a write of the transaction.
-put-laid : (t : Txn) (epoch : ℕ) (w : List ℕ × ℕ) (value : Option (List ℕ)) → HasPut t epoch w.1 w.0 value → epoch ≡ t.epoch → Contains (writes_at w.0 t.writes) (w.1, value)
+put-laid : (t : Txn) (epoch : ℕ) (w : List ℕ × ℕ) (value : Option (List ℕ)) → HasPut t epoch w.1 w.0 value → epoch ≡ t.epoch → Contains (writes_on w.0 t.writes) (w.1, value)
 put-laid t epoch w value put same =
     let v = put.written same in
     let laid_as : Laid = (v.0.seq, v.0.value) in
     let is : laid_as ≡ (w.1, value) = (λ i. (v.2 i, v.4 i)) in
-    subst (Contains (writes_at w.0 t.writes)) is (written_at w.0 t.writes v.0 v.1 v.3)
+    subst (Contains (writes_on w.0 t.writes)) is (written_at w.0 t.writes v.0 v.1 v.3)
 
 -- One more entry of the run of a staging that fails.
-module _ (head : Head) (s : Stage) (history : List (Entry Event)) (run : IsRun head history) (e : Entry Event) (may : MayFollow (protocol head) history e) (sent : WasStaged history s) (g : IsInEpoch head (history ++ e ∷ []) s) where
+module _ (head : Head) (s : SentStage) (history : List (Entry Event)) (run : IsRun head history) (e : Entry Event) (may : MayFollow (protocol head) history e) (sent : WasStaged history s) (g : IsInEpoch head (history ++ e ∷ []) s) where
   whole : IsRun head (history ++ e ∷ [])
   whole = run_push head history e run may
 
@@ -163,7 +163,7 @@ module _ (head : Head) (s : Stage) (history : List (Entry Event)) (run : IsRun h
         (λ i own i_epoch i_whole low.
         let kept = own-kept head history e s.meta.id epoch at c.actor c.number c.told c.is c.ev (keeps-intents c.ev.request s.meta.id c.about) f.w.0 in
         let last : f.w.1 ≤ last_seq i =
-        each_contained (λ (x : Laid). x.0 ≤ last_seq i) i.history (f.w.1, f.value) (each_low i.history) (subst (λ l. Contains l (f.w.1, f.value)) (sym i_whole) laid_there) in
+        each-contains (λ (x : Laid). x.0 ≤ last_seq i) i.history (f.w.1, f.value) (each_low i.history) (subst (λ l. Contains l (f.w.1, f.value)) (sym i_whole) laid_there) in
         refuted_absent head history run s f.w undecided refuted
         (is_there s f.w head history (i, sym kept ∙ own, record { epoch_is = i_epoch ∙ same; has = last; low = low })))))
 
@@ -178,7 +178,7 @@ module _ (head : Head) (s : Stage) (history : List (Entry Event)) (run : IsRun h
 
       -- A write that a stage of the record's epoch and timestamp lists, and that a query missed there.
       record IsMissedThere : Type 0 where
-        x : Stage
+        x : SentStage
         x_sent : WasStaged history x
         x_whose : x.meta.id ≡ s.meta.id
         x_epoch : x.meta.epoch ≡ r.status.epoch
@@ -224,13 +224,13 @@ module _ (head : Head) (s : Stage) (history : List (Entry Event)) (run : IsRun h
           let x_epoch : m.x.meta.epoch ≡ r.status.epoch = m.x_epoch in
           let epochs : r.status.epoch ≡ s.meta.epoch = omega (arith, x_low, x_epoch, epoch_low, same) in
           let v = known.written (omega (arith, x_epoch, epochs, same)) (key, m.seq) m.listed in
-          let v_there : Contains (writes_at key t.writes) (v.0.seq, v.0.value) = written_at key t.writes v.0 v.1 v.2 in
-          let l = last-of (writes_at key t.writes) (v.0.seq, v.0.value) v_there in
+          let v_there : Contains (writes_on key t.writes) (v.0.seq, v.0.value) = written_at key t.writes v.0 v.1 v.2 in
+          let l = last-of (writes_on key t.writes) (v.0.seq, v.0.value) v_there in
           let rise = rise_at key 0 t.writes (orderly head history run (actors.Session t.id.session) t own).rise in
-          let most : fold (λ most (y : Laid). max most y.0) 0 (writes_at key t.writes) ≡ l.1.0 =
+          let most : fold (λ most (y : Laid). max most y.0) 0 (writes_on key t.writes) ≡ l.1.0 =
           ap (fold (λ most (y : Laid). max most y.0) 0) l.2 ∙ rise_last 0 l.0 l.1 (subst (RiseAt 0) l.2 rise) in
-          let all_low : Each (λ (y : Laid). y.0 ≤ l.1.0) (writes_at key t.writes) = subst (λ n. Each (λ (y : Laid). y.0 ≤ n) (writes_at key t.writes)) most (each_low (writes_at key t.writes)) in
-          let v_low : v.0.seq ≤ l.1.0 = each_contained (λ (y : Laid). y.0 ≤ l.1.0) (writes_at key t.writes) (v.0.seq, v.0.value) all_low v_there in
+          let all_low : Each (λ (y : Laid). y.0 ≤ l.1.0) (writes_on key t.writes) = subst (λ n. Each (λ (y : Laid). y.0 ≤ n) (writes_on key t.writes)) most (each_low (writes_on key t.writes)) in
+          let v_low : v.0.seq ≤ l.1.0 = each-contains (λ (y : Laid). y.0 ≤ l.1.0) (writes_on key t.writes) (v.0.seq, v.0.value) all_low v_there in
           let v_seq : v.0.seq ≡ m.seq = v.3 in
           let wl = unwritten-at key t.writes l.1 (subst (λ ys. Contains ys l.1) (sym l.2) (Contains-push l.0 l.1)) in
           let missed : QueryMissed history s.meta.id s.meta.epoch key m.seq r.status.ts = subst (λ n. QueryMissed history s.meta.id n key m.seq r.status.ts) epochs m.missed in
@@ -250,10 +250,10 @@ module _ (head : Head) (s : Stage) (history : List (Entry Event)) (run : IsRun h
                   let i = r2.0 in
                   let stands = r2.2 in
                   let has : seq ≤ last_seq i = stands.has in
-                  let among : Each (λ y. Contains (writes_at key t.writes) y) i.history = (hold.among i r2.1).each stands.epoch_is in
+                  let among : Each (λ y. Contains (writes_on key t.writes) y) i.history = (hold.among i r2.1).each stands.epoch_is in
                   let greatest : last_seq i ≤ l.1.0 =
                   last_low l.1.0 0 i.history (omega arith)
-                  (each-weaker (λ y. Contains (writes_at key t.writes) y) (λ (y : Laid). y.0 ≤ l.1.0) (λ y there. each_contained (λ (z : Laid). z.0 ≤ l.1.0) (writes_at key t.writes) y all_low there) i.history among) in
+                  (each-weaker (λ y. Contains (writes_on key t.writes) y) (λ (y : Laid). y.0 ≤ l.1.0) (λ y there. each-contains (λ (z : Laid). z.0 ≤ l.1.0) (writes_on key t.writes) y all_low there) i.history among) in
                   let time : i.ts ≤ max p (time_of (home_of head t.id history)) = stands.low (omega (arith, greatest, reached)) in
                   let home_time : time_of (home_of head t.id history) ≡ r.status.ts = ap (λ j. time_of (home_of head j history)) named ∙ ap time_of home in
                   let there : IsThere head history (record s { ts = r.status.ts }) (key, m.seq) =
@@ -276,8 +276,8 @@ module _ (head : Head) (s : Stage) (history : List (Entry Event)) (run : IsRun h
     record-changes not_there c =
         let now = history ++ e ∷ [] in
         let request = c.ev.request in
-        let q = after (Kept r) (change request (Kept r)) in
-        let later : home_of head s.meta.id now ≡ q = c.changed ∙ ap (λ p. after p (change request p)) home in
+        let q = after (Kept r) (place_change request (Kept r)) in
+        let later : home_of head s.meta.id now ≡ q = c.changed ∙ ap (λ p. after p (place_change request p)) home in
         let still : (x : Record) → q ≡ Kept x → x.status.standing ≡ standings.Staging → s.meta.epoch ≤ x.status.epoch → s.ts ≤ x.status.ts → Fails head now s =
         λ x is x_staging x_epoch x_ts. fails-as f (WhileStaged x (later ∙ is) x_staging x_epoch x_ts (refuted_more history e s f.w refuted)) in
         let above : (epoch at : ℕ) → decision q ≡ Some (status_of standings.Committed epoch at) → s.ts ≤ at → Fails head now s =
@@ -296,7 +296,7 @@ module _ (head : Head) (s : Stage) (history : List (Entry Event)) (run : IsRun h
               absurd (before-g.unaborted c.ev.send c.ev.listed c.number c.ev.range meta why locks (c.ev.sends ∙ ap (events.Send c.number c.ev.range) asks) whose)
           | ByStage x asks epoch_reached ts_reached differ ↦
               let m = stage-makes r x staging epoch_reached ts_reached differ in
-              let made : q ≡ Kept m.0 = ap (λ y. after (Kept r) (change y (Kept r))) asks ∙ m.1 in
+              let made : q ≡ Kept m.0 = ap (λ y. after (Kept r) (place_change y (Kept r))) asks ∙ m.1 in
               let status = m.2 in
               let epochs : m.0.status.epoch ≡ x.meta.epoch = ap (λ (y : Status). y.epoch) status in
               let times : m.0.status.ts ≡ x.ts = ap (λ (y : Status). y.ts) status in

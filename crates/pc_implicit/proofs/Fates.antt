@@ -4,8 +4,6 @@ use Rattle.std.proofs.lemmas.List.Elements.{Contains-push_cases}
 use Rattle.pc_base.specs.declared.actor.ActorId.{ActorId}
 use Rattle.pc_base.specs.declared.entry.Entry.{Entry}
 use Rattle.pc_base.specs.declared.transaction.TxnId.{TxnId}
-use Rattle.pc_history.proofs.Lists.{contains_nil}
-use Rattle.pc_implicit.proofs.Anchored.{each_contained}
 use Rattle.pc_implicit.proofs.Commits.{act_of}
 use Rattle.pc_implicit.proofs.Doing.{Does}
 use Rattle.pc_implicit.proofs.Hearing.{IsSo, heard_is_so}
@@ -14,6 +12,8 @@ use Rattle.pc_implicit.proofs.Metas.{subject_anchored}
 use Rattle.pc_implicit.proofs.Views.{Stands, subject-is}
 use Rattle.pc_implicit.specs.Decided.{StaysTrue, decision, time_of}
 use Rattle.pc_implicit.specs.Writes.{home_of}
+use Rattle.pc_lists.proofs.Each.{each-contains}
+use Rattle.pc_lists.proofs.Lists.{contains_nil}
 use Rattle.pc_proto.specs.declared.event.Event.{Event}
 use Rattle.pc_proto.specs.declared.event.Event.TheVariants as events
 use Rattle.pc_proto.specs.declared.fate.Fate.{Fate}
@@ -24,13 +24,14 @@ use Rattle.pc_proto.specs.declared.view.View.{View}
 use Rattle.pc_proto.specs.declared.view.View.TheVariants as views
 use Rattle.pc_proto.specs.declared.why.Why.{Why}
 use Rattle.pc_proto.specs.Place.{Place}
-use Rattle.pc_proto.specs.RecordRows.{subject}
 use Rattle.pc_proto.specs.RecordRows.Reached.{status_of}
+use Rattle.pc_proto.specs.Requests.{subject}
+use Rattle.pc_proto.specs.Views.{IsFateOf}
 use Rattle.pc_world.proofs.Prefixes.{run_induction}
 use Rattle.pc_world.specs.After.{known_at, place_at}
 use Rattle.pc_world.specs.Local.{Head}
 use Rattle.pc_world.specs.Run.{IsRun}
-use Rattle.pc_world.specs.Send.Settling.{IsFateOf, MaySendResolve}
+use Rattle.pc_world.specs.Send.Settling.{MaySendResolve}
 
 -- The fate is that of the transaction of which its anchor's range has this.
 abbrev pub FateIsSo : Fate → Place → Type 0
@@ -65,7 +66,7 @@ module _ (head : Head) where
   -- what an actor may resolve is so
   shown-fate : (history : List (Entry Event)) → IsRun head history → (actor : ActorId) (id : TxnId) (fate : Fate) → MaySendResolve (known_at head actor history) id fate → FateIsSo fate (home_of head id history)
   shown-fate history run actor id fate (n, h, inside, at, shows) =
-      let w = each_contained (IsSo head history actor) (known_at head actor history).heard h (heard_is_so head history run actor) (n, inside, at) in
+      let w = each-contains (IsSo head history actor) (known_at head actor history).heard h (heard_is_so head history run actor) (n, inside, at) in
       let about : subject h.request ≡ Some id = subject-is id (subject h.request) shows.about in
       let anchored = subject_anchored head history run w.send w.listed h.number w.range h.request id w.sends about in
       let there : place_at head w.range id history ≡ home_of head id history =

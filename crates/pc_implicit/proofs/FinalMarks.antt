@@ -15,11 +15,11 @@ use Rattle.pc_proto.specs.declared.record.Status.{Status}
 use Rattle.pc_proto.specs.declared.request.Request.{Request}
 use Rattle.pc_proto.specs.declared.request.Request.TheVariants as requests
 use Rattle.pc_proto.specs.Place.{Place, Nothing, Kept, Marked, Change, Become, Finish, Stay, after, is_decided, is_final}
-use Rattle.pc_proto.specs.RecordRows.{change}
+use Rattle.pc_proto.specs.RecordRows.{place_change}
 use Rattle.pc_proto.specs.RecordRows.Abort.{abort}
 use Rattle.pc_proto.specs.RecordRows.Beat.{beat}
 use Rattle.pc_proto.specs.RecordRows.Commit.{commit}
-use Rattle.pc_proto.specs.RecordRows.Push.{Verdict, There, Refuse, Doubt, Do, on_verdict, push, pushed, verdict}
+use Rattle.pc_proto.specs.RecordRows.Push.{Verdict, There, Refuse, Doubt, Do, on_verdict, push, push_verdict, pushed}
 use Rattle.pc_proto.specs.RecordRows.Reached.{activity_of, alive_at, is_reached, is_staged_at, status_of}
 use Rattle.pc_proto.specs.RecordRows.Recover.{decided, recover}
 use Rattle.pc_proto.specs.RecordRows.Remove.{remove}
@@ -63,7 +63,7 @@ remove-marks (Kept r) h = by (is_final r.status.standing) refl
     by false open_yet = tt
 remove-marks (Marked s) h = h
 
-mark-row : (request : Request) (p : Place) → MarksFinal p → MarksFinal (after p (change request p))
+mark-row : (request : Request) (p : Place) → MarksFinal p → MarksFinal (after p (place_change request p))
 mark-row (requests.Beat meta ts now) p h = either (is_decided p) p Stay (beat meta ts now p) h (beat-marks meta ts now p h)
 mark-row (requests.Stage meta ts now writes locks) p h = either (is_decided p) p Stay (stage meta ts now writes locks p) h
     (either (is_reached p meta.epoch ts && not (is_staged_at p meta.epoch ts)) p
@@ -73,7 +73,7 @@ mark-row (requests.Commit meta ts locks) p h = either (is_decided p) p Stay (com
     (Become (record { meta = meta; status = status_of standings.Committed meta.epoch ts; activity = activity_of p meta.born; writes = []; locks = locks })) Stay tt h)
 mark-row (requests.Abort meta why locks) p h = either (is_decided p) p Stay (abort meta why locks p) h tt
 mark-row (requests.Push holder by level now goal) p h =
-    either (is_decided p) p Stay (push holder by level now goal p) h (push-marks holder by goal (verdict holder level now goal p) p h)
+    either (is_decided p) p Stay (push holder by level now goal p) h (push-marks holder by goal (push_verdict holder level now goal p) p h)
 mark-row (requests.Recover id epoch ts anchor finding) p h = either (is_decided p) p Stay (recover epoch ts finding p) h (either (is_staged_at p epoch ts) p (decided finding p) Stay (decided-marks finding p h) h)
 mark-row (requests.Remove id anchor) p h = remove-marks p h
 mark-row request p h = h

@@ -5,13 +5,13 @@ use Rattle.std.proofs.lemmas.List.Elements.{Contains-push, Contains-push_cases}
 use Rattle.pc_base.specs.declared.actor.ActorId.{ActorId}
 use Rattle.pc_base.specs.declared.actor.ActorId.TheVariants as actors
 use Rattle.pc_base.specs.declared.entry.Entry.{Entry}
-use Rattle.pc_history.proofs.Lists.{contains_nil}
-use Rattle.pc_implicit.proofs.Anchored.{each_contained}
 use Rattle.pc_implicit.proofs.Did.{session_at}
 use Rattle.pc_implicit.proofs.Hearing.{WasSentBy, sent_is_so}
 use Rattle.pc_implicit.proofs.StagesKnown.{HasSent, dead_more, heard_goes_on, stage_sent}
 use Rattle.pc_implicit.proofs.StagesSent.{stage_owner}
 use Rattle.pc_implicit.specs.Stages.{WasStaged}
+use Rattle.pc_lists.proofs.Each.{each-contains}
+use Rattle.pc_lists.proofs.Lists.{contains_nil}
 use Rattle.pc_proto.specs.declared.event.Event.{Event}
 use Rattle.pc_proto.specs.declared.event.Event.TheVariants as events
 use Rattle.pc_world.proofs.Knowing.{run_push}
@@ -21,10 +21,10 @@ use Rattle.pc_world.specs.Known.Traffic.{Heard}
 use Rattle.pc_world.specs.Local.{Head}
 use Rattle.pc_world.specs.Run.{IsRun}
 use Rattle.pc_world.specs.Send.Stage.{MaySendNewStage}
-use Rattle.pc_world.specs.StageFate.{IsDead, Stage, stage_request}
+use Rattle.pc_world.specs.StageFate.{IsDead, SentStage, stage_request}
 
 -- The stage was sent for the first time by this entry.
-pub record IsFirstStaged (head : Head) (history : List (Entry Event)) (s : Stage) : Type 0 where
+pub record IsFirstStaged (head : Head) (history : List (Entry Event)) (s : SentStage) : Type 0 where
   pub before : List (Entry Event)
   pub a : Entry Event
   pub later : List (Entry Event)
@@ -36,12 +36,12 @@ pub record IsFirstStaged (head : Head) (history : List (Entry Event)) (s : Stage
   pub new : MaySendNewStage (session_at head s.meta.id before) s
 
 module _ (head : Head) where
-  staged-of : (history : List (Entry Event)) → IsRun head history → (actor : ActorId) (s : Stage) → HasSent (known_at head actor history).sent (stage_request s) → WasStaged history s
+  staged-of : (history : List (Entry Event)) → IsRun head history → (actor : ActorId) (s : SentStage) → HasSent (known_at head actor history).sent (stage_request s) → WasStaged history s
   staged-of history run actor s (n, m, inside, at, asks) =
-      let w = each_contained (WasSentBy head history actor) (known_at head actor history).sent m (sent_is_so head history run actor) (n, inside, at) in
+      let w = each-contains (WasSentBy head history actor) (known_at head actor history).sent m (sent_is_so head history run actor) (n, inside, at) in
       record { send = w.send; listed = w.listed; number = m.number; range = m.range; sends = w.sends ∙ ap (events.Send m.number m.range) asks }
 
-  first-more : (history : List (Entry Event)) (e : Entry Event) (s : Stage) → IsFirstStaged head history s → IsFirstStaged head (history ++ e ∷ []) s
+  first-more : (history : List (Entry Event)) (e : Entry Event) (s : SentStage) → IsFirstStaged head history s → IsFirstStaged head (history ++ e ∷ []) s
   first-more history e s f = record {
     before = f.before;
     a = f.a;
@@ -55,8 +55,8 @@ module _ (head : Head) where
   }
 
   -- each stage that was sent was once sent for the first time
-  pub first_staged : (history : List (Entry Event)) → IsRun head history → (s : Stage) → WasStaged history s → IsFirstStaged head history s
-  first_staged = run_induction head (λ history. (s : Stage) → WasStaged history s → IsFirstStaged head history s)
+  pub first_staged : (history : List (Entry Event)) → IsRun head history → (s : SentStage) → WasStaged history s → IsFirstStaged head history s
+  first_staged = run_induction head (λ history. (s : SentStage) → WasStaged history s → IsFirstStaged head history s)
       (λ s w. absurd (contains_nil w.send w.listed)) (λ history e run may all s w.
       elim (Contains-push_cases history e w.send w.listed) [
         | inl before ↦ first-more history e s (all s (record { send = w.send; listed = before; number = w.number; range = w.range; sends = w.sends }))
@@ -83,6 +83,6 @@ module _ (head : Head) where
       )
 
   -- what is known to be dead is so in every longer history
-  pub dead_along : (actor : ActorId) (front back : List (Entry Event)) (s : Stage) → IsDead (known_at head actor front).heard s → IsDead (known_at head actor (front ++ back)).heard s
+  pub dead_along : (actor : ActorId) (front back : List (Entry Event)) (s : SentStage) → IsDead (known_at head actor front).heard s → IsDead (known_at head actor (front ++ back)).heard s
   dead_along actor front back s dead =
       let more = heard_along actor front back in subst (λ l. IsDead l s) (sym more.1) (dead_more (known_at head actor front).heard more.0 s dead)

@@ -5,12 +5,12 @@ use Rattle.pc_base.specs.declared.actor.ActorId.{ActorId}
 use Rattle.pc_base.specs.declared.actor.ActorId.TheVariants as actors
 use Rattle.pc_base.specs.declared.entry.Entry.{Entry}
 use Rattle.pc_base.specs.declared.transaction.TxnId.{TxnId}
-use Rattle.pc_history.proofs.Lists.{contains_cons, contains_head, contains_map, contains_nil, contains_tail}
 use Rattle.pc_history.specs.Own.{named_in}
 use Rattle.pc_implicit.proofs.Anchored.{commit_anchored}
 use Rattle.pc_implicit.proofs.Commits.{act_of}
 use Rattle.pc_implicit.proofs.Doing.{Does, same_or_not}
 use Rattle.pc_implicit.specs.Writes.{txns_of}
+use Rattle.pc_lists.proofs.Lists.{contains_cons, contains_head, contains_map, contains_nil, contains_tail}
 use Rattle.pc_proto.specs.declared.answer.Answer.{Answer}
 use Rattle.pc_proto.specs.declared.answer.Answer.TheVariants as answers
 use Rattle.pc_proto.specs.declared.event.Event.{Event}
@@ -20,7 +20,7 @@ use Rattle.pc_proto.specs.declared.request.Request.TheVariants as requests
 use Rattle.pc_world.proofs.Knowing.{known_other, known_same, run_push}
 use Rattle.pc_world.proofs.Prefixes.{run_induction}
 use Rattle.pc_world.specs.After.{known_at}
-use Rattle.pc_world.specs.Known.{Known, begun_by, told_first, txns_after, txns_told}
+use Rattle.pc_world.specs.Known.{Known, told_first, txn_begun, txns_after, txns_told}
 use Rattle.pc_world.specs.Known.Traffic.{Heard, heard_by, replies_to}
 use Rattle.pc_world.specs.Known.Transactions.{Txn, txn_heard, txn_sent, txn_told}
 use Rattle.pc_world.specs.Local.{Head}
@@ -40,7 +40,7 @@ has-first id answer replied true (t ∷ ts) h =
 has-first id answer replied false txns h = h
 
 has-told : (id : TxnId) (answer : Answer) (k : Known) → Has id k.txns → Has id (txns_told answer k)
-has-told id (answers.Begun other ts) k h = (h.0, contains_tail (begun_by k.statement other ts) k.txns h.0 h.1, h.2)
+has-told id (answers.Begun other ts) k h = (h.0, contains_tail (txn_begun k.statement other ts) k.txns h.0 h.1, h.2)
 has-told id answer k h = has-first id answer (replies_to k.sent_now k.heard_now) k.is_open k.txns h
 
 has-after : (id : TxnId) (event : Event) (h : Option Heard) (k : Known) → Has id k.txns → Has id (txns_after event h k)

@@ -10,13 +10,11 @@ use Rattle.pc_base.specs.declared.entry.Entry.{Entry}
 use Rattle.pc_base.specs.declared.transaction.TxnId.{TxnId}
 use Rattle.pc_base.specs.declared.transaction.Who.{Who}
 use Rattle.pc_base.specs.Transaction.{same_txn}
-use Rattle.pc_implicit.proofs.Anchored.{each_contained}
 use Rattle.pc_implicit.proofs.Doing.{Does}
 use Rattle.pc_implicit.proofs.EvaluatedAt.{answered_at, sent_at}
 use Rattle.pc_implicit.proofs.Hearing.{WasSentBy, sent_is_so}
 use Rattle.pc_implicit.proofs.HeardViews.{so_of}
 use Rattle.pc_implicit.proofs.Homes.{home_is}
-use Rattle.pc_implicit.proofs.Keyed.{same-is}
 use Rattle.pc_implicit.proofs.Metas.{subject_anchored}
 use Rattle.pc_implicit.proofs.Presence.{staged_along}
 use Rattle.pc_implicit.proofs.RepliedAt.{replied_at}
@@ -29,6 +27,8 @@ use Rattle.pc_implicit.proofs.Views.{reply-view}
 use Rattle.pc_implicit.specs.Replied.{QueryFound}
 use Rattle.pc_implicit.specs.Stages.{IsOpenTo, WasStaged, WasThere}
 use Rattle.pc_implicit.specs.Writes.{home_of}
+use Rattle.pc_lists.proofs.Each.{each-contains}
+use Rattle.pc_lists.proofs.Same.{same_txn-is}
 use Rattle.pc_proto.specs.declared.event.Event.{Event}
 use Rattle.pc_proto.specs.declared.event.Event.TheVariants as events
 use Rattle.pc_proto.specs.declared.record.Record.{Record}
@@ -40,21 +40,21 @@ use Rattle.pc_proto.specs.declared.request.Request.{Request}
 use Rattle.pc_proto.specs.declared.request.Request.TheVariants as requests
 use Rattle.pc_proto.specs.declared.view.View.TheVariants as views
 use Rattle.pc_proto.specs.Place.{Place, Nothing, Kept, Marked, is_final, status_view, view_of}
-use Rattle.pc_proto.specs.RecordRows.{subject}
+use Rattle.pc_proto.specs.Replies.{view_in}
+use Rattle.pc_proto.specs.Requests.{is_push_of, subject}
 use Rattle.pc_proto.specs.Table.{place_of}
 use Rattle.pc_world.proofs.Prefixes.{run_front}
 use Rattle.pc_world.specs.After.{known_at, place_at, state_at}
 use Rattle.pc_world.specs.Evaluation.{state_after}
 use Rattle.pc_world.specs.Evaluation.{reply as reply_of}
-use Rattle.pc_world.specs.Evaluation.Query.{stands}
+use Rattle.pc_world.specs.Evaluation.Query.{write_stands}
 use Rattle.pc_world.specs.Known.Traffic.{Sent}
-use Rattle.pc_world.specs.Known.Transactions.{has_staged, is_stage_of, lists}
+use Rattle.pc_world.specs.Known.Transactions.{has_staged, is_stage_of, lists_write}
 use Rattle.pc_world.specs.Local.{Head}
 use Rattle.pc_world.specs.RangeState.{RangeState}
 use Rattle.pc_world.specs.Run.{IsRun}
-use Rattle.pc_world.specs.Send.Recovery.{MaySendQuery, WasStaging, is_push_of}
-use Rattle.pc_world.specs.StageFate.{Stage}
-use Rattle.pc_world.specs.Views.{view_in}
+use Rattle.pc_world.specs.Send.Recovery.{MaySendQuery, WasStaging}
+use Rattle.pc_world.specs.StageFate.{SentStage}
 
 -- a staging view is that of a record which stages so
 pub view_stages : (p : Place) (epoch ts : ℕ) (writes : List (List ℕ × ℕ)) → ((s : _) → p ≡ Marked s → is_final s.standing ≡ true) → view_of p ≡ views.Staging epoch ts writes
@@ -78,7 +78,7 @@ view_stages (Marked s) epoch ts writes final is = absurd (by s.standing (final s
     by (standings.Aborted why) f is = absurd cc
 
 pub push_about : (id : TxnId) (request : Request) → is_push_of id request ≡ true → subject request ≡ Some id
-push_about id (requests.Push holder by level now goal) h = ap Some (same-is holder.id id h)
+push_about id (requests.Push holder by level now goal) h = ap Some (same_txn-is holder.id id h)
 push_about id request h = absurd cc
 
 module _ (head : Head) (history : List (Entry Event)) (run : IsRun head history) where
@@ -127,30 +127,30 @@ module _ (head : Head) (history : List (Entry Event)) (run : IsRun head history)
 
   -- a stage that its session knows it sent
   staged-own : (id : TxnId) (epoch ts seq : ℕ) (key : List ℕ) (number range : ℕ) (request : Request) (a : Entry Event) → Contains history a → a.event ≡ events.Send number range request
-      → is_stage_of id epoch ts key seq request ≡ true → (x : Stage) × WasStaged history x × (x.meta.id ≡ id) × (x.meta.epoch ≡ epoch) × (x.ts ≡ ts)
+      → is_stage_of id epoch ts key seq request ≡ true → (x : SentStage) × WasStaged history x × (x.meta.id ≡ id) × (x.meta.epoch ≡ epoch) × (x.ts ≡ ts)
   staged-own id epoch ts seq key number range (requests.Stage meta at now writes locks) a there sends is =
-      let parts = and_parts (same_txn meta.id id && meta.epoch == epoch) (at == ts && lists key seq writes) is in
+      let parts = and_parts (same_txn meta.id id && meta.epoch == epoch) (at == ts && lists_write key seq writes) is in
       let own = and_parts (same_txn meta.id id) (meta.epoch == epoch) parts.0 in
-      let rest = and_parts (at == ts) (lists key seq writes) parts.1 in
-      let x : Stage = record { meta = meta; ts = at; now = now; writes = writes; locks = locks } in
+      let rest = and_parts (at == ts) (lists_write key seq writes) parts.1 in
+      let x : SentStage = record { meta = meta; ts = at; now = now; writes = writes; locks = locks } in
       let sent : WasStaged history x = record { send = a; listed = there; number = number; range = range; sends = sends } in
-      (x, sent, same-is meta.id id own.0, eqb-true meta.epoch epoch own.1, eqb-true at ts rest.0)
+      (x, sent, same_txn-is meta.id id own.0, eqb-true meta.epoch epoch own.1, eqb-true at ts rest.0)
   staged-own id epoch ts seq key number range request a there sends is = absurd cc
 
   -- who may query a write has seen its transaction stage there, or staged there itself
   asker-saw : (actor : ActorId) (id : TxnId) (epoch seq ts : ℕ) (key : List ℕ) (by : Who) → MaySendQuery actor (known_at head actor history) id epoch seq ts key by
-      → (x : Stage) × WasStaged history x × (x.meta.id ≡ id) × (x.meta.epoch ≡ epoch) × (x.ts ≡ ts)
+      → (x : SentStage) × WasStaged history x × (x.meta.id ≡ id) × (x.meta.epoch ≡ epoch) × (x.ts ≡ ts)
   asker-saw actor id epoch seq ts key by may =
       elim may.why [
         | inl listed ↦ let sent = staging_heard actor id epoch ts listed.writes listed.staging in (sent.stage, sent.sent, sent.whose, sent.epoch_is, sent.ts_is)
         | inr own ↦ from-own own.staged
       ]
     where
-      from-own : IsTrue (has_staged (known_at head actor history).sent id epoch ts key seq) → (x : Stage) × WasStaged history x × (x.meta.id ≡ id) × (x.meta.epoch ≡ epoch) × (x.ts ≡ ts)
+      from-own : IsTrue (has_staged (known_at head actor history).sent id epoch ts key seq) → (x : SentStage) × WasStaged history x × (x.meta.id ≡ id) × (x.meta.epoch ≡ epoch) × (x.ts ≡ ts)
       from-own staged =
           let any = Any-from_list_any (λ (m : Sent). is_stage_of id epoch ts key seq m.request) (known_at head actor history).sent staged in
           let m = any.1 in
-          let w = each_contained (WasSentBy head history actor) (known_at head actor history).sent m (sent_is_so head history run actor) (any.0, any.2, any.3) in
+          let w = each-contains (WasSentBy head history actor) (known_at head actor history).sent m (sent_is_so head history run actor) (any.0, any.2, any.3) in
           staged-own id epoch ts seq key m.number m.range m.request w.send w.listed w.sends any.4
 
 module _ (head : Head) (history : List (Entry Event)) (run : IsRun head history) where
@@ -159,7 +159,7 @@ module _ (head : Head) (history : List (Entry Event)) (run : IsRun head history)
   found-stands false told = absurd cc
 
   -- a write that a query found was present since its stage was sent
-  pub found_there : (s : Stage) → WasStaged history s → IsOpenTo head history s → (w : List ℕ × ℕ) → QueryFound history s.meta.id s.meta.epoch w.0 w.1 s.ts → WasThere head history s w
+  pub found_there : (s : SentStage) → WasStaged history s → IsOpenTo head history s → (w : List ℕ × ℕ) → QueryFound history s.meta.id s.meta.epoch w.0 w.1 s.ts → WasThere head history s w
   found_there s sent opened w found =
       let request = requests.Query s.meta.id s.meta.epoch w.1 s.ts w.0 found.by in
       let at = replied_at head history run request replies.Found found.replied in
@@ -173,12 +173,12 @@ module _ (head : Head) (history : List (Entry Event)) (run : IsRun head history)
       let early : WasStaged at.before x = subst (λ h. WasStaged h x) (sym asked.whole) (staged_along asked.before (at.send ∷ asked.later) x saw.1) in
       let also : WasStaged history x = subst (λ h. WasStaged h x) (sym at.whole) (staged_along at.before (at.e ∷ at.later) x early) in
       let one : x ≡ s = one_staged head history run s x sent also saw.2 saw.3 saw.4 opened in
-      let standing : stands s.meta.id s.meta.epoch w.1 s.ts w.0 (state_at head found.replied.range at.before) ≡ true =
-      found-stands (stands s.meta.id s.meta.epoch w.1 s.ts w.0 (state_at head found.replied.range at.before)) at.at.answers in
+      let standing : write_stands s.meta.id s.meta.epoch w.1 s.ts w.0 (state_at head found.replied.range at.before) ≡ true =
+      found-stands (write_stands s.meta.id s.meta.epoch w.1 s.ts w.0 (state_at head found.replied.range at.before)) at.at.answers in
       record {
         front = at.before;
         back = at.e ∷ at.later;
         whole = at.whole;
         staged = subst (WasStaged at.before) one early;
-        there = subst (λ r. stands s.meta.id s.meta.epoch w.1 s.ts w.0 (state_at head r at.before) ≡ true) at.at.goes standing;
+        there = subst (λ r. write_stands s.meta.id s.meta.epoch w.1 s.ts w.0 (state_at head r at.before) ≡ true) at.at.goes standing;
       }

@@ -2,7 +2,7 @@
 use Rattle.std.proofs.Common.{◌≡◌, List, [], ◌∷◌, ◌++◌, Contains, inl, inr, refl, sym, ap, subst, ◌∙◌}
 use Rattle.std.proofs.lemmas.List.{append_assoc, append-nil}
 use Rattle.std.specs.Prelude.{⊤}
-use Rattle.pc_history.proofs.Lists.{contains_cons, contains_nil}
+use Rattle.pc_lists.proofs.Lists.{contains_cons, contains_nil}
 
 -- The second list begins with the first.
 pub record IsFront {X : Type 0} (xs ys : List X) : Type 0 where

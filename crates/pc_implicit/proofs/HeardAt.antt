@@ -7,9 +7,7 @@ use Rattle.std.specs.Option.{option_to_list}
 use Rattle.pc_base.specs.declared.actor.ActorId.{ActorId}
 use Rattle.pc_base.specs.declared.entry.Entry.{Entry}
 use Rattle.pc_base.specs.declared.transaction.TxnId.{TxnId}
-use Rattle.pc_history.proofs.Lists.{get_append, get_push}
 use Rattle.pc_history.specs.Own.{named_in}
-use Rattle.pc_implicit.proofs.Anchored.{each_contained}
 use Rattle.pc_implicit.proofs.Doing.{same_or_not}
 use Rattle.pc_implicit.proofs.Evals.{NamedMessage, of_entry}
 use Rattle.pc_implicit.proofs.Fronts.{split_there}
@@ -20,13 +18,15 @@ use Rattle.pc_implicit.proofs.Runs.{answered}
 use Rattle.pc_implicit.proofs.Written.{one_send}
 use Rattle.pc_implicit.specs.Replied.{WasReplied}
 use Rattle.pc_implicit.specs.Writes.{home_of}
+use Rattle.pc_lists.proofs.Each.{each-append, each-contains, each-weaker}
+use Rattle.pc_lists.proofs.Lists.{get_append, get_push}
 use Rattle.pc_proto.specs.declared.event.Event.{Event}
 use Rattle.pc_proto.specs.declared.event.Event.TheVariants as events
 use Rattle.pc_proto.specs.declared.request.Request.{Request}
 use Rattle.pc_proto.specs.declared.view.View.{View}
 use Rattle.pc_proto.specs.Place.{view_of}
-use Rattle.pc_proto.specs.RecordRows.{subject}
-use Rattle.pc_world.proofs.Each.{each-append, each-weaker}
+use Rattle.pc_proto.specs.Replies.{view_in}
+use Rattle.pc_proto.specs.Requests.{subject}
 use Rattle.pc_world.proofs.Knowing.{known_other, known_same, run_push}
 use Rattle.pc_world.proofs.Prefixes.{run_front, run_induction, run_may, run_step}
 use Rattle.pc_world.specs.After.{known_at, place_at}
@@ -36,7 +36,6 @@ use Rattle.pc_world.specs.Known.Traffic.{Heard, heard_by, reply_in, reply_named,
 use Rattle.pc_world.specs.Local.{Head}
 use Rattle.pc_world.specs.Named.{request_in, request_named}
 use Rattle.pc_world.specs.Run.{IsRun, protocol}
-use Rattle.pc_world.specs.Views.{view_in}
 
 -- The evaluation of the message that was heard, at the step that was heard.
 pub record IsStepped (history : List (Entry Event)) (actor : ActorId) (h : Heard) : Type 0 where
@@ -93,8 +92,8 @@ module _ (head : Head) where
   module _ (history : List (Entry Event)) (run : IsRun head history) (actor : ActorId) (h : Heard) where
     pub heard_at : Contains (known_at head actor history).heard h → HeardAt head history actor h
     heard_at there =
-        let s = each_contained (IsStepped history actor) (known_at head actor history).heard h (heard_steps history run actor) there in
-        let so = each_contained (IsSo head history actor) (known_at head actor history).heard h (heard_is_so head history run actor) there in
+        let s = each-contains (IsStepped history actor) (known_at head actor history).heard h (heard_steps history run actor) there in
+        let so = each-contains (IsSo head history actor) (known_at head actor history).heard h (heard_is_so head history run actor) there in
         let split = split_there history s.eval s.listed in
         let split_run : IsRun head (split.before ++ s.eval ∷ split.later) = subst (IsRun head) split.whole run in
         let run_before : IsRun head split.before = run_front head split.before (s.eval ∷ split.later) split_run in

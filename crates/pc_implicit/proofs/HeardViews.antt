@@ -5,7 +5,6 @@ use Rattle.std.specs.Option.{option_map_or}
 use Rattle.pc_base.specs.declared.actor.ActorId.{ActorId}
 use Rattle.pc_base.specs.declared.entry.Entry.{Entry}
 use Rattle.pc_base.specs.declared.transaction.TxnId.{TxnId}
-use Rattle.pc_implicit.proofs.Anchored.{each_contained}
 use Rattle.pc_implicit.proofs.Commits.{committed-view}
 use Rattle.pc_implicit.proofs.Hearing.{IsSo, heard_is_so}
 use Rattle.pc_implicit.proofs.Homes.{home_is}
@@ -15,6 +14,7 @@ use Rattle.pc_implicit.proofs.Views.{Stands, places_go_on, subject-is}
 use Rattle.pc_implicit.specs.Decided.{StaysTrue, decision}
 use Rattle.pc_implicit.specs.Replied.{WasReplied}
 use Rattle.pc_implicit.specs.Writes.{home_of}
+use Rattle.pc_lists.proofs.Each.{each-contains}
 use Rattle.pc_proto.specs.declared.event.Event.{Event}
 use Rattle.pc_proto.specs.declared.event.Event.TheVariants as events
 use Rattle.pc_proto.specs.declared.record.Standing.TheVariants as standings
@@ -24,15 +24,16 @@ use Rattle.pc_proto.specs.declared.request.Request.{Request}
 use Rattle.pc_proto.specs.declared.view.View.{View}
 use Rattle.pc_proto.specs.declared.view.View.TheVariants as views
 use Rattle.pc_proto.specs.Place.{Place}
-use Rattle.pc_proto.specs.RecordRows.{subject}
 use Rattle.pc_proto.specs.RecordRows.Reached.{status_of}
+use Rattle.pc_proto.specs.Replies.{view_in}
+use Rattle.pc_proto.specs.Requests.{is_about, subject}
+use Rattle.pc_proto.specs.Views.{is_committed_at, is_staging_at}
 use Rattle.pc_world.specs.After.{known_at, place_at, state_at}
 use Rattle.pc_world.specs.Evaluation.{reply as reply_of}
 use Rattle.pc_world.specs.Known.Traffic.{Heard}
 use Rattle.pc_world.specs.Local.{Head}
 use Rattle.pc_world.specs.Run.{IsRun}
-use Rattle.pc_world.specs.Tell.End.{is_staging_at}
-use Rattle.pc_world.specs.Views.{WasCommitted, is_about, is_committed_at, view_in}
+use Rattle.pc_world.specs.Views.{WasCommitted}
 
 -- what is not decided in the end was not decided before
 pub undecided_from : (p q : Place) → Stands p q → decision q ≡ None → decision p ≡ None
@@ -96,7 +97,7 @@ module _ (head : Head) (history : List (Entry Event)) where
 
     -- what an actor knows to be heard is so
     pub so_of : (actor : ActorId) (h : Heard) → Contains (known_at head actor history).heard h → IsSo head history actor h
-    so_of actor h there = each_contained (IsSo head history actor) (known_at head actor history).heard h (heard_is_so head history run actor) there
+    so_of actor h there = each-contains (IsSo head history actor) (known_at head actor history).heard h (heard_is_so head history run actor) there
 
     -- a view of a transaction that was heard is true of its record
     pub view_is_so : (actor : ActorId) (h : Heard) → IsSo head history actor h → (id : TxnId) (view : View) → IsTrue (is_about id h.request) → view_in h.reply ≡ Some view → StaysTrue view (home_of head id history)

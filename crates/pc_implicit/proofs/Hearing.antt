@@ -12,11 +12,11 @@ use Rattle.pc_history.specs.Own.{named_in, same_id}
 use Rattle.pc_implicit.proofs.Asked.{asked_is_named}
 use Rattle.pc_implicit.proofs.Doing.{same_or_not}
 use Rattle.pc_implicit.proofs.Shown.{WasAnswered, answered_more, shown}
+use Rattle.pc_lists.proofs.Each.{each-append, each-weaker}
 use Rattle.pc_proto.specs.declared.event.Event.{Event}
 use Rattle.pc_proto.specs.declared.event.Event.TheVariants as events
 use Rattle.pc_proto.specs.declared.reply.Reply.{Reply}
 use Rattle.pc_proto.specs.declared.request.Request.{Request}
-use Rattle.pc_world.proofs.Each.{each-append, each-weaker}
 use Rattle.pc_world.proofs.Knowing.{known_other, known_same}
 use Rattle.pc_world.proofs.Prefixes.{run_induction}
 use Rattle.pc_world.proofs.World.{names_one}

@@ -11,9 +11,9 @@ use Rattle.pc_history.specs.Own.{named_in, own}
 use Rattle.pc_implicit.proofs.Agreed.{SaysOwn, agreed, says_own}
 use Rattle.pc_implicit.proofs.Doing.{does}
 use Rattle.pc_implicit.proofs.Firsts.{first_push}
-use Rattle.pc_implicit.proofs.Keyed.{same-is}
 use Rattle.pc_implicit.proofs.MetaRows.{ReplyHas, reply_has}
 use Rattle.pc_implicit.proofs.Metas.{HasAnchor, metas_agree}
+use Rattle.pc_lists.proofs.Same.{same_txn-is}
 use Rattle.pc_proto.specs.declared.event.Event.{Event}
 use Rattle.pc_proto.specs.declared.event.Event.TheVariants as events
 use Rattle.pc_proto.specs.declared.meta.TxnMeta.{TxnMeta}
@@ -32,7 +32,7 @@ sender-is : (actor : ActorId) (n : ℕ) (event : Event) (id : TxnId) (anchor : L
 sender-is actor n (events.Send number range (requests.Put meta seq ts key value)) id anchor says sent = by (same_txn meta.id id) refl sent
   where
     by : (b : Bool) → same_txn meta.id id ≡ b → (if b then Some key else None) ≡ Some anchor → actor ≡ actors.Session id.session
-    by true same sent = subst (λ (i : TxnId). actor ≡ actors.Session i.session) (same-is meta.id id same) says.0
+    by true same sent = subst (λ (i : TxnId). actor ≡ actors.Session i.session) (same_txn-is meta.id id same) says.0
     by false differ sent = absurd cc
 sender-is actor n (events.Send number range request) id anchor says sent = absurd cc
 sender-is actor n event id anchor says sent = absurd cc

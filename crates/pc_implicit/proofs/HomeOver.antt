@@ -18,7 +18,8 @@ use Rattle.pc_proto.specs.declared.event.Event.TheVariants as events
 use Rattle.pc_proto.specs.declared.record.Record.{Record}
 use Rattle.pc_proto.specs.declared.reply.Reply.{Reply}
 use Rattle.pc_proto.specs.Place.{Place, Nothing, Kept, after}
-use Rattle.pc_proto.specs.RecordRows.{change, subject}
+use Rattle.pc_proto.specs.RecordRows.{place_change}
+use Rattle.pc_proto.specs.Requests.{subject}
 use Rattle.pc_proto.specs.Table.{place_of}
 use Rattle.pc_world.proofs.Knowing.{state_other}
 use Rattle.pc_world.specs.After.{place_at, state_at}
@@ -36,7 +37,7 @@ pub record ChangesPlace (head : Head) (history : List (Entry Event)) (e : Entry 
   pub is : e.event ≡ events.Eval actor number told
   pub ev : NamedMessage head history e.actor actor number told
   pub about : subject ev.request ≡ Some id
-  pub changed : q ≡ after p (change ev.request p)
+  pub changed : q ≡ after p (place_change ev.request p)
 
 -- the record of which a transaction has one is on the range of its anchor
 pub home_anchored : (head : Head) (id : TxnId) (history : List (Entry Event)) (r : Record) → home_of head id history ≡ Kept r → (anchor : List ℕ) × (anchor_in id history ≡ Some anchor)
@@ -57,7 +58,7 @@ module _ (head : Head) (history : List (Entry Event)) (run : IsRun head history)
             let p = place_at head ev.range id history in
             let s = state_at head ev.range history in
             let state = evaluated_state head history e what.0 what.1 ev.range what.2 ev what.3 in
-            let P : Place → Type 0 = λ q. (q ≡ p) ⊎ ((subject ev.request ≡ Some id) × (q ≡ after p (change ev.request p))) in
+            let P : Place → Type 0 = λ q. (q ≡ p) ⊎ ((subject ev.request ≡ Some id) × (q ≡ after p (place_change ev.request p))) in
             let now : P (place_at head ev.range id (history ++ e ∷ [])) =
             subst (λ (x : RangeState). P (place_of id x.table)) (sym state) (place_kept P ev.request id s.table (λ about before. inr (about, refl)) (inl refl)) in
             let over : (place_at head ev.range id (history ++ e ∷ []) ≡ p) ⊎ ChangesPlace head history e id p (place_at head ev.range id (history ++ e ∷ [])) =
@@ -101,6 +102,6 @@ module _ (head : Head) (history : List (Entry Event)) (run : IsRun head history)
                   is = c.is;
                   ev = c.ev;
                   about = c.about;
-                  changed = later ∙ c.changed ∙ ap (λ p. after p (change c.ev.request p)) (sym before);
+                  changed = later ∙ c.changed ∙ ap (λ p. after p (place_change c.ev.request p)) (sym before);
                 })
           ]

@@ -10,11 +10,9 @@ use Rattle.pc_base.specs.declared.actor.ActorId.{ActorId}
 use Rattle.pc_base.specs.declared.actor.ActorId.TheVariants as actors
 use Rattle.pc_base.specs.declared.entry.Entry.{Entry}
 use Rattle.pc_base.specs.declared.transaction.TxnId.{TxnId}
-use Rattle.pc_history.proofs.Lists.{all_from_contains}
 use Rattle.pc_history.specs.History.{MayFollow}
 use Rattle.pc_implicit.proofs.AbortsSent.{IsGivenUp, given_up}
 use Rattle.pc_implicit.proofs.Agreed.{agreed, open_there}
-use Rattle.pc_implicit.proofs.Anchored.{each_contained}
 use Rattle.pc_implicit.proofs.Because.{commits_by_is}
 use Rattle.pc_implicit.proofs.CommittedElsewhere.{at-most}
 use Rattle.pc_implicit.proofs.CommitsStay.{goes_along}
@@ -45,7 +43,9 @@ use Rattle.pc_implicit.proofs.Written.{IsFoundNow, IsWrittenNow, proven_cases, p
 use Rattle.pc_implicit.specs.Decided.{decision, time_of}
 use Rattle.pc_implicit.specs.Replied.{WasProven}
 use Rattle.pc_implicit.specs.Stages.{IsOpenTo, IsThere, WasStaged, WasThere}
-use Rattle.pc_implicit.specs.Writes.{home_of, own_intent, txns_of, writes_at}
+use Rattle.pc_implicit.specs.Writes.{home_of, own_intent, txns_of, writes_on}
+use Rattle.pc_lists.proofs.Each.{each-contains, each-weaker}
+use Rattle.pc_lists.proofs.Lists.{all_from_contains}
 use Rattle.pc_proto.specs.declared.call.Call.{Call}
 use Rattle.pc_proto.specs.declared.call.Call.TheVariants as calls
 use Rattle.pc_proto.specs.declared.event.Event.{Event}
@@ -62,9 +62,10 @@ use Rattle.pc_proto.specs.declared.view.View.TheVariants as views
 use Rattle.pc_proto.specs.declared.why.Why.{Why}
 use Rattle.pc_proto.specs.Intents.{last_seq, own_at}
 use Rattle.pc_proto.specs.Place.{Place, Kept}
-use Rattle.pc_proto.specs.RecordRows.{subject}
 use Rattle.pc_proto.specs.RecordRows.Reached.{status_of}
-use Rattle.pc_world.proofs.Each.{each-weaker}
+use Rattle.pc_proto.specs.Replies.{view_in}
+use Rattle.pc_proto.specs.Requests.{is_about, subject}
+use Rattle.pc_proto.specs.Views.{is_staging_at}
 use Rattle.pc_world.proofs.Knowing.{run_push, state_other}
 use Rattle.pc_world.proofs.Prefixes.{run_front, run_may}
 use Rattle.pc_world.specs.After.{known_at}
@@ -77,9 +78,8 @@ use Rattle.pc_world.specs.Local.{Head}
 use Rattle.pc_world.specs.RangeOf.{range_of}
 use Rattle.pc_world.specs.RangeState.{RangeState}
 use Rattle.pc_world.specs.Run.{IsRun, protocol}
-use Rattle.pc_world.specs.StageFate.{IsDead, Stage, stage_request}
-use Rattle.pc_world.specs.Tell.End.{IsImplicit, is_staging_at, shows_staging}
-use Rattle.pc_world.specs.Views.{is_about, view_in}
+use Rattle.pc_world.specs.StageFate.{IsDead, SentStage, stage_request}
+use Rattle.pc_world.specs.Tell.End.{IsImplicit, shows_staging}
 
 -- what an entry proves was proven after it
 now-proven : (head : Head) (before : List (Entry Event)) (e : Entry Event) (id : TxnId) (epoch : ℕ) (key : List ℕ) (seq p : ℕ) → ProvesNow head before e id epoch key seq p → WasProven (before ++ e ∷ []) id epoch key seq p
@@ -126,14 +126,14 @@ proven-along front (e ∷ es) id epoch key seq p proven =
     subst (λ h. WasProven h id epoch key seq p) (append_assoc front (e ∷ []) es) (proven-along (front ++ e ∷ []) es id epoch key seq p (proven_more front e id epoch key seq p proven))
 
 -- a send proves nothing
-send-proves-nothing : (head : Head) (before : List (Entry Event)) (e : Entry Event) (id : TxnId) (epoch : ℕ) (key : List ℕ) (seq p number range : ℕ) (s : Stage) → e.event ≡ events.Send number range (stage_request s) → ProvesNow head before e id epoch key seq p → ⊥
+send-proves-nothing : (head : Head) (before : List (Entry Event)) (e : Entry Event) (id : TxnId) (epoch : ℕ) (key : List ℕ) (seq p number range : ℕ) (s : SentStage) → e.event ≡ events.Send number range (stage_request s) → ProvesNow head before e id epoch key seq p → ⊥
 send-proves-nothing head before e id epoch key seq p number range s sends gives =
     elim gives [
       | inl w ↦ (let both : events.Send number range (stage_request s) ≡ events.Eval w.actor w.number _ = sym sends ∙ w.is in cc both)
       | inr f ↦ (let both : events.Send number range (stage_request s) ≡ events.Eval f.replied.actor f.replied.number _ = sym sends ∙ f.replied.is in cc both)
     ]
 
-module _ (head : Head) (s : Stage) where
+module _ (head : Head) (s : SentStage) where
   in-epoch-front : (front back : List (Entry Event)) → IsRun head (front ++ back) → IsInEpoch head (front ++ back) s → IsInEpoch head front s
   in-epoch-front front [] run g = subst (λ h. IsInEpoch head h s) (append-nil front) g
   in-epoch-front front (e ∷ es) run g =
@@ -207,16 +207,16 @@ module _ (head : Head) (s : Stage) where
                         let i = r2.0 in
                         let stands = r2.2 in
                         let has : seq ≤ last_seq i = stands.has in
-                        let all_low : Each (λ (y : Laid). y.0 ≤ w.1) (writes_at w.0 t.writes) =
-                        recursion_from_All (λ (y : Laid). y.0 ≤ w.1) (writes_at w.0 t.writes)
-                        (all_from_contains (λ (y : Laid). y.0 ≤ w.1) (writes_at w.0 t.writes)
+                        let all_low : Each (λ (y : Laid). y.0 ≤ w.1) (writes_on w.0 t.writes) =
+                        recursion_from_All (λ (y : Laid). y.0 ≤ w.1) (writes_on w.0 t.writes)
+                        (all_from_contains (λ (y : Laid). y.0 ≤ w.1) (writes_on w.0 t.writes)
                         (λ y there. let u = unwritten-at w.0 t.writes y there in
                         let seq_is : u.0.seq ≡ y.0 = u.3 in
                         let low = new_last head f.before f.a (session_at head id f.before) s t new refl o w listed u.0 u.1 u.2 in
                         omega (arith, seq_is, low))) in
                         let greatest : last_seq i ≤ w.1 =
                         last_low w.1 0 i.history (omega arith)
-                        (each-weaker (λ y. Contains (writes_at w.0 t.writes) y) (λ (y : Laid). y.0 ≤ w.1) (λ y there. each_contained (λ (v : Laid). v.0 ≤ w.1) (writes_at w.0 t.writes) y all_low there)
+                        (each-weaker (λ y. Contains (writes_on w.0 t.writes) y) (λ (y : Laid). y.0 ≤ w.1) (λ y there. each-contains (λ (v : Laid). v.0 ≤ w.1) (writes_on w.0 t.writes) y all_low there)
                         i.history ((hold.among i r2.1).each stands.epoch_is)) in
                         let time : i.ts ≤ max p (time_of (home_of head t.id f.before)) = stands.low (omega (arith, greatest, reached)) in
                         let home_same : time_of (home_of head t.id f.before) ≡ time_of (home_of head id f.before) = ap (λ j. time_of (home_of head j f.before)) named in
@@ -363,16 +363,16 @@ module _ (head : Head) (s : Stage) where
         elim known.lists [
           | inl dead ↦ absurd (refuted-fails history run sent r home stages g not-failed (dead_refuted head history run s sent opened dead))
           | inr lists ↦
-              let all_low : Each (λ (y : Laid). y.0 ≤ w.1) (writes_at w.0 t.writes) =
-              recursion_from_All (λ (y : Laid). y.0 ≤ w.1) (writes_at w.0 t.writes)
-              (all_from_contains (λ (y : Laid). y.0 ≤ w.1) (writes_at w.0 t.writes)
+              let all_low : Each (λ (y : Laid). y.0 ≤ w.1) (writes_on w.0 t.writes) =
+              recursion_from_All (λ (y : Laid). y.0 ≤ w.1) (writes_on w.0 t.writes)
+              (all_from_contains (λ (y : Laid). y.0 ≤ w.1) (writes_on w.0 t.writes)
               (λ y there. let u = unwritten-at w.0 t.writes y there in
               let seq_is : u.0.seq ≡ y.0 = u.3 in
               let low = lists.1.last w listed u.0 u.1 u.2 in
               omega (arith, seq_is, low))) in
               let greatest : last_seq i ≤ w.1 =
               last_low w.1 0 i.history (omega arith)
-              (each-weaker (λ y. Contains (writes_at w.0 t.writes) y) (λ (y : Laid). y.0 ≤ w.1) (λ y there. each_contained (λ (x : Laid). x.0 ≤ w.1) (writes_at w.0 t.writes) y all_low there)
+              (each-weaker (λ y. Contains (writes_on w.0 t.writes) y) (λ (y : Laid). y.0 ≤ w.1) (λ y there. each-contains (λ (x : Laid). x.0 ≤ w.1) (writes_on w.0 t.writes) y all_low there)
               i.history ((hold.among i r2.1).each stands.epoch_is)) in
               let time : i.ts ≤ max p.0 (time_of (home_of head t.id history)) = stands.low greatest in
               let home_time : time_of (home_of head t.id history) ≡ s.ts = ap (λ j. time_of (home_of head j history)) named ∙ ap time_of home ∙ stages.ts_is in
@@ -418,7 +418,7 @@ implicit_is_committed head history run t ts opened call implicit =
     let proved : (w : Write) → Contains t.writes w → (p : ℕ) × (p ≤ s.ts) × WasProven history t.id t.epoch w.key w.seq p =
     λ w there.
     let (m, p, p_inside, p_at, low) = All-contains (IsProvedBy ts) t.writes w implicit.proved there in
-    let answers = each_contained (AreAnswers history id t.epoch) t.writes w (orderly head history run actor t mine).answers there in
+    let answers = each-contains (AreAnswers history id t.epoch) t.writes w (orderly head history run actor t mine).answers there in
     (p, omega (arith, low, ts_is), answers p (m, p_inside, p_at)) in
     let unaborted : (x : Entry Event) → Contains history x → (number range : ℕ) (meta : TxnMeta) (why : Why) (locks : List (List ℕ)) → x.event ≡ events.Send number range (requests.Abort meta why locks) → meta.id ≡ s.meta.id → ⊥ =
     λ x there number range meta why locks sends whose.

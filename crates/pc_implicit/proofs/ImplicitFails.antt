@@ -28,7 +28,7 @@ use Rattle.pc_implicit.proofs.Missing.{missed_stays}
 use Rattle.pc_implicit.specs.Decided.{decision}
 use Rattle.pc_implicit.specs.Replied.{QueryMissed, WasProven}
 use Rattle.pc_implicit.specs.Stages.{IsThere, WasStaged}
-use Rattle.pc_implicit.specs.Writes.{home_of, own_intent, txns_of, writes_at}
+use Rattle.pc_implicit.specs.Writes.{home_of, own_intent, txns_of, writes_on}
 use Rattle.pc_proto.specs.declared.event.Event.{Event}
 use Rattle.pc_proto.specs.declared.event.Event.TheVariants as events
 use Rattle.pc_proto.specs.declared.meta.TxnMeta.{TxnMeta}
@@ -48,19 +48,19 @@ use Rattle.pc_world.specs.Known.Writes.{Write}
 use Rattle.pc_world.specs.Local.{Head}
 use Rattle.pc_world.specs.Operations.{Operation}
 use Rattle.pc_world.specs.Run.{IsRun, protocol}
-use Rattle.pc_world.specs.StageFate.{Stage, stage_request}
+use Rattle.pc_world.specs.StageFate.{SentStage, stage_request}
 
 -- The transaction is in the stage's epoch still, and no abort of it was sent.
-pub record IsInEpoch (head : Head) (history : List (Entry Event)) (s : Stage) : Type 0 where
+pub record IsInEpoch (head : Head) (history : List (Entry Event)) (s : SentStage) : Type 0 where
   pub epoch : (t : Txn) → Contains (txns_of head s.meta.id history) t → t.id ≡ s.meta.id → t.epoch ≤ s.meta.epoch
   pub unaborted : (a : Entry Event) → Contains history a → (number range : ℕ) (meta : TxnMeta) (why : Why) (locks : List (List ℕ)) → a.event ≡ events.Send number range (requests.Abort meta why locks) → meta.id ≡ s.meta.id → ⊥
 
 -- Neither this write nor a later one of its key is proven at or below the staged timestamp.
-abbrev pub IsUnproven : List (Entry Event) → Stage → List ℕ × ℕ → Type 0
+abbrev pub IsUnproven : List (Entry Event) → SentStage → List ℕ × ℕ → Type 0
 IsUnproven history s w = (seq p : ℕ) → w.1 ≤ seq → WasProven history s.meta.id s.meta.epoch w.0 seq p → s.ts < p
 
 -- Why it gets no proof at or below the staged timestamp any more.
-pub data StaysUnproven (head : Head) (history : List (Entry Event)) (s : Stage) (w : List ℕ × ℕ) : Type 0 where
+pub data StaysUnproven (head : Head) (history : List (Entry Event)) (s : SentStage) (w : List ℕ × ℕ) : Type 0 where
   WhileStaged : (r : Record) → home_of head s.meta.id history ≡ Kept r → r.status.standing ≡ standings.Staging → s.meta.epoch ≤ r.status.epoch → s.ts ≤ r.status.ts
       → WasRefuted history s w → StaysUnproven head history s w
   WhereCommitted : (epoch at : ℕ) → decision (home_of head s.meta.id history) ≡ Some (status_of standings.Committed epoch at) → s.ts < at
@@ -68,14 +68,14 @@ pub data StaysUnproven (head : Head) (history : List (Entry Event)) (s : Stage) 
   SinceMissed : (seq at : ℕ) → seq ≤ w.1 → s.ts ≤ at → QueryMissed history s.meta.id s.meta.epoch w.0 seq at → StaysUnproven head history s w
 
 -- The staging fails: some write of its epoch is not proven at or below its timestamp, and stays so.
-pub record Fails (head : Head) (history : List (Entry Event)) (s : Stage) : Type 0 where
+pub record Fails (head : Head) (history : List (Entry Event)) (s : SentStage) : Type 0 where
   pub w : List ℕ × ℕ
   pub value : Option (List ℕ)
   pub wrote : (t : Txn) → Contains (txns_of head s.meta.id history) t → t.id ≡ s.meta.id → HasPut t s.meta.epoch w.1 w.0 value
   pub unproven : IsUnproven history s w
   pub stays : StaysUnproven head history s w
 
-module _ (head : Head) (s : Stage) where
+module _ (head : Head) (s : SentStage) where
   -- ---- what is so before one more entry, where it is so after it
 
   module _ (history : List (Entry Event)) (run : IsRun head history) (e : Entry Event) (may : MayFollow (protocol head) history e) where

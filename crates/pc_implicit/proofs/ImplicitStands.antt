@@ -9,7 +9,7 @@ use Rattle.pc_implicit.proofs.StageWords.{CommitsBy, ListsLast, StagesLast}
 use Rattle.pc_implicit.proofs.WriteLists.{Laid}
 use Rattle.pc_implicit.specs.Decided.{decision, time_of}
 use Rattle.pc_implicit.specs.Stages.{IsThere}
-use Rattle.pc_implicit.specs.Writes.{home_of, own_intent, txns_of, writes_at}
+use Rattle.pc_implicit.specs.Writes.{home_of, own_intent, txns_of, writes_on}
 use Rattle.pc_proto.specs.declared.event.Event.{Event}
 use Rattle.pc_proto.specs.declared.record.Intent.{Intent}
 use Rattle.pc_proto.specs.Intents.{last_seq}
@@ -19,7 +19,7 @@ use Rattle.pc_world.specs.Evaluation.Query.{is_found}
 use Rattle.pc_world.specs.Known.Transactions.{Txn}
 use Rattle.pc_world.specs.Local.{Head}
 use Rattle.pc_world.specs.Run.{IsRun}
-use Rattle.pc_world.specs.StageFate.{IsDead, Stage}
+use Rattle.pc_world.specs.StageFate.{IsDead, SentStage}
 
 -- an intent that is found is so
 pub found_is : (epoch seq ts : ℕ) (o : Option Intent) → is_found epoch seq ts o ≡ true → (i : Intent) × (o ≡ Some i) × (i.meta.epoch ≡ epoch) × (seq ≤ last_seq i) × (i.ts ≤ ts)
@@ -30,7 +30,7 @@ found_is epoch seq ts (Some i) h =
     (i, refl, eqb-true i.meta.epoch epoch parts.0, leb-true seq (last_seq i) rest.0, leb-true i.ts ts rest.1)
 
 -- A stage by which its transaction is committed, of which its session knows what it lists, and that is not known dead.
-module _ (head : Head) (history : List (Entry Event)) (run : IsRun head history) (s : Stage) (by : CommitsBy head history s) (last : StagesLast head history)
+module _ (head : Head) (history : List (Entry Event)) (run : IsRun head history) (s : SentStage) (by : CommitsBy head history s) (last : StagesLast head history)
     (alive : IsDead (known_at head (actors.Session s.meta.id.session) history).heard s → ⊥) where
   -- its transaction is not decided
   pub implied_undecided : decision (home_of head s.meta.id history) ≡ None
@@ -49,7 +49,7 @@ module _ (head : Head) (history : List (Entry Event)) (run : IsRun head history)
     implied_epoch = sym lists-last.0
 
     -- and all that it wrote at a key stands in an intent
-    pub implied_whole : (key : List ℕ) (front : List Laid) (seq : ℕ) (value : Option (List ℕ)) → writes_at key t.writes ≡ front ++ (seq, value) ∷ [] → HasWhole head history t key s.ts
+    pub implied_whole : (key : List ℕ) (front : List Laid) (seq : ℕ) (value : Option (List ℕ)) → writes_on key t.writes ≡ front ++ (seq, value) ∷ [] → HasWhole head history t key s.ts
     implied_whole key front seq value is =
         let own : Contains (txns_of head t.id history) t = subst (λ i. Contains (txns_of head i history) t) (sym same) known in
         let none : decision (home_of head t.id history) ≡ None = subst (λ i. decision (home_of head i history) ≡ None) (sym same) implied_undecided in

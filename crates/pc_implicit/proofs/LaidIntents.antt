@@ -7,14 +7,14 @@ use Rattle.pc_base.specs.Keyed.{set_at, without}
 use Rattle.pc_base.specs.Span.{same_key}
 use Rattle.pc_base.specs.Transaction.{same_txn}
 use Rattle.pc_base.specs.Versions.{above_newest}
-use Rattle.pc_implicit.proofs.Keyed.{same-is}
+use Rattle.pc_lists.proofs.Same.{same_txn-is}
 use Rattle.pc_proto.specs.declared.fate.Fate.{Fate}
 use Rattle.pc_proto.specs.declared.fate.Fate.TheVariants as fates
 use Rattle.pc_proto.specs.declared.meta.TxnMeta.{TxnMeta}
 use Rattle.pc_proto.specs.declared.record.Intent.{Intent}
 use Rattle.pc_proto.specs.Intents.{fresh, grown, intent_at, kept_if, last_value, other_at, own_at}
 use Rattle.pc_world.specs.Evaluation.IntentChange.{Drop, intents_with}
-use Rattle.pc_world.specs.Evaluation.Put.{Stands, Lands, first_outcome, laid, overtaken, own_outcome, put_change, put_outcome, write_ts}
+use Rattle.pc_world.specs.Evaluation.Put.{Stands, Lands, first_outcome, laid, outcome_of_put, overtaken, own_outcome, put_change, write_ts}
 use Rattle.pc_world.specs.Evaluation.Resolve.{change_for, is_committed_by, new_versions, version_for}
 use Rattle.pc_world.specs.RangeState.{RangeState}
 
@@ -31,7 +31,7 @@ kept-from test (Some y) x h = by (test y) refl h
 pub own-there : (id : TxnId) (key : List ℕ) (es : List (List ℕ × Intent)) (i : Intent) → own_at id key es ≡ Some i → (intent_at key es ≡ Some i) × (i.meta.id ≡ id)
 own-there id key es i h =
     let kept = kept-from (λ (i : Intent). same_txn i.meta.id id) (intent_at key es) i h in
-    (kept.0, same-is i.meta.id id kept.1)
+    (kept.0, same_txn-is i.meta.id id kept.1)
 
 -- The intent is the transaction's own, and lies where the bound and the key's versions leave it.
 pub record LandsAt (meta : TxnMeta) (key : List ℕ) (s : RangeState) (i : Intent) : Type 0 where
@@ -49,7 +49,7 @@ laid-lands meta seq ts key value (Some i) s mine = by (i.meta.epoch == meta.epoc
 
 -- what is so of the intents, and after each that lands there, is so after a put
 pub put-intents : (Q : List (List ℕ × Intent) → Type 0) (meta : TxnMeta) (seq ts : ℕ) (key : List ℕ) (value : Option (List ℕ)) (s : RangeState)
-    → ((i : Intent) → LandsAt meta key s i → Q (set_at same_key key i s.intents)) → Q s.intents → Q (intents_with key (put_change (put_outcome meta seq ts key value s)) s.intents)
+    → ((i : Intent) → LandsAt meta key s i → Q (set_at same_key key i s.intents)) → Q s.intents → Q (intents_with key (put_change (outcome_of_put meta seq ts key value s)) s.intents)
 put-intents Q meta seq ts key value s lays stays = by (other_at meta.id key s.intents) (own_at meta.id key s.intents) (λ i there. (own-there meta.id key s.intents i there).1)
   where
     lands : (b : Bool) (at : ℕ) (i : Intent) → LandsAt meta key s i → Q (intents_with key (put_change (if b then Stands at else Lands i)) s.intents)

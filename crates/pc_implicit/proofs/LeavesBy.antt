@@ -18,14 +18,14 @@ use Rattle.pc_proto.specs.declared.request.Request.TheVariants as requests
 use Rattle.pc_proto.specs.declared.why.Why.{Why}
 use Rattle.pc_proto.specs.declared.why.Why.TheVariants as whys
 use Rattle.pc_proto.specs.Place.{Place, Kept, Change, Become, Finish, Stay, after, is_decided, is_final}
-use Rattle.pc_proto.specs.RecordRows.{change, unless_decided}
+use Rattle.pc_proto.specs.RecordRows.{place_change, unless_decided}
 use Rattle.pc_proto.specs.RecordRows.Beat.{beat}
 use Rattle.pc_proto.specs.RecordRows.Commit.{commit}
 use Rattle.pc_proto.specs.RecordRows.Push.{push}
 use Rattle.pc_proto.specs.RecordRows.Reached.{activity_of, alive_at, is_reached, is_staged_at, is_staging, status_of}
 use Rattle.pc_proto.specs.RecordRows.Recover.{decided, recover}
 use Rattle.pc_proto.specs.RecordRows.Stage.{stage}
-use Rattle.pc_world.specs.StageFate.{Stage, stage_request}
+use Rattle.pc_world.specs.StageFate.{SentStage, stage_request}
 
 -- The record stages still, with the status and the list of this one.
 pub record StagesStill (r : Record) (q : Place) : Type 0 where
@@ -41,7 +41,7 @@ pub data LeavesBy (r : Record) (request : Request) (q : Place) : Type 0 where
   ByCommit : (meta : TxnMeta) (ts : ℕ) (locks : List (List ℕ)) → request ≡ requests.Commit meta ts locks → r.status.epoch ≤ meta.epoch → r.status.ts ≤ ts
       → decision q ≡ Some (status_of standings.Committed meta.epoch ts) → LeavesBy r request q
   ByAbort : (meta : TxnMeta) (why : Why) (locks : List (List ℕ)) → request ≡ requests.Abort meta why locks → LeavesBy r request q
-  ByStage : (s : Stage) → request ≡ stage_request s → r.status.epoch ≤ s.meta.epoch → r.status.ts ≤ s.ts → (s.meta.epoch ≡ r.status.epoch → s.ts ≡ r.status.ts → ⊥)
+  ByStage : (s : SentStage) → request ≡ stage_request s → r.status.epoch ≤ s.meta.epoch → r.status.ts ≤ s.ts → (s.meta.epoch ≡ r.status.epoch → s.ts ≡ r.status.ts → ⊥)
       → LeavesBy r request q
   ByFound : (id : TxnId) (anchor : List ℕ) → request ≡ requests.Recover id r.status.epoch r.status.ts anchor findings.All
       → decision q ≡ Some (status_of standings.Committed r.status.epoch r.status.ts) → LeavesBy r request q
@@ -72,7 +72,7 @@ module _ (r : Record) (staging : r.status.standing ≡ standings.Staging) where
   stage-makes meta ts now writes locks =
       Become (record { meta = meta; status = status_of standings.Staging meta.epoch ts; activity = alive_at (Kept r) now; writes = writes; locks = locks })
 
-  by-commit : (meta : TxnMeta) (ts : ℕ) (locks : List (List ℕ)) → LeavesBy r (requests.Commit meta ts locks) (after (Kept r) (change (requests.Commit meta ts locks) (Kept r)))
+  by-commit : (meta : TxnMeta) (ts : ℕ) (locks : List (List ℕ)) → LeavesBy r (requests.Commit meta ts locks) (after (Kept r) (place_change (requests.Commit meta ts locks) (Kept r)))
   by-commit meta ts locks = unless (requests.Commit meta ts locks) (commit meta ts locks (Kept r)) (cases (is_reached (Kept r) meta.epoch ts) refl)
     where
       cases : (b : Bool) → is_reached (Kept r) meta.epoch ts ≡ b → LeavesBy r (requests.Commit meta ts locks) (after (Kept r) (if b then commit-makes meta ts locks else Stay))
@@ -82,7 +82,7 @@ module _ (r : Record) (staging : r.status.standing ≡ standings.Staging) where
       cases false past = Stages itself
 
   by-stage : (meta : TxnMeta) (ts now : ℕ) (writes : List (List ℕ × ℕ)) (locks : List (List ℕ))
-      → LeavesBy r (requests.Stage meta ts now writes locks) (after (Kept r) (change (requests.Stage meta ts now writes locks) (Kept r)))
+      → LeavesBy r (requests.Stage meta ts now writes locks) (after (Kept r) (place_change (requests.Stage meta ts now writes locks) (Kept r)))
   by-stage meta ts now writes locks = unless (requests.Stage meta ts now writes locks) (stage meta ts now writes locks (Kept r)) (cases (is_reached (Kept r) meta.epoch ts) refl (is_staged_at (Kept r) meta.epoch ts) refl)
     where
       elsewhere : is_staged_at (Kept r) meta.epoch ts ≡ false → meta.epoch ≡ r.status.epoch → ts ≡ r.status.ts → ⊥
@@ -102,7 +102,7 @@ module _ (r : Record) (staging : r.status.standing ≡ standings.Staging) where
       cases false past c is = Stages itself
 
   by-push : (holder : TxnMeta) (by : Who) (level : Priority) (now : ℕ) (goal : Goal)
-      → LeavesBy r (requests.Push holder by level now goal) (after (Kept r) (change (requests.Push holder by level now goal) (Kept r)))
+      → LeavesBy r (requests.Push holder by level now goal) (after (Kept r) (place_change (requests.Push holder by level now goal) (Kept r)))
   by-push holder by level now goal =
       unless (requests.Push holder by level now goal) (push holder by level now goal (Kept r)) (Stages (subst (StagesStill r) (sym (stays goal)) itself))
     where
@@ -111,7 +111,7 @@ module _ (r : Record) (staging : r.status.standing ≡ standings.Staging) where
       stays (goals.Move target) = grind (arith, common_steps, is-staging)
 
   by-recover : (id : TxnId) (epoch ts : ℕ) (anchor : List ℕ) (finding : Finding)
-      → LeavesBy r (requests.Recover id epoch ts anchor finding) (after (Kept r) (change (requests.Recover id epoch ts anchor finding) (Kept r)))
+      → LeavesBy r (requests.Recover id epoch ts anchor finding) (after (Kept r) (place_change (requests.Recover id epoch ts anchor finding) (Kept r)))
   by-recover id epoch ts anchor finding = unless (requests.Recover id epoch ts anchor finding) (recover epoch ts finding (Kept r)) (cases finding (is_staged_at (Kept r) epoch ts) refl)
     where
       asks : is_staged_at (Kept r) epoch ts ≡ true → (f : Finding) → requests.Recover id epoch ts anchor f ≡ requests.Recover id r.status.epoch r.status.ts anchor f
@@ -128,7 +128,7 @@ module _ (r : Record) (staging : r.status.standing ≡ standings.Staging) where
       cases f false apart = Stages itself
 
   -- how each request changes it
-  pub leaves_by : (request : Request) → LeavesBy r request (after (Kept r) (change request (Kept r)))
+  pub leaves_by : (request : Request) → LeavesBy r request (after (Kept r) (place_change request (Kept r)))
   leaves_by (requests.Beat meta ts now) =
       unless (requests.Beat meta ts now) (beat meta ts now (Kept r)) (Stages (record { now = record r { activity = max r.activity now }; kept = refl; same_status = refl; same_writes = refl }))
   leaves_by (requests.Stage meta ts now writes locks) = by-stage meta ts now writes locks

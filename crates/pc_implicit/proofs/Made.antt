@@ -20,10 +20,10 @@ use Rattle.pc_proto.specs.declared.request.Request.{Request}
 use Rattle.pc_proto.specs.declared.request.Request.TheVariants as requests
 use Rattle.pc_proto.specs.declared.why.Why.{Why}
 use Rattle.pc_proto.specs.Place.{Place, Nothing, Kept, Marked, Change, Stay, Become, after, is_decided, is_final}
-use Rattle.pc_proto.specs.RecordRows.{change, unless_decided}
+use Rattle.pc_proto.specs.RecordRows.{place_change, unless_decided}
 use Rattle.pc_proto.specs.RecordRows.Abort.{abort}
 use Rattle.pc_proto.specs.RecordRows.Beat.{beat}
-use Rattle.pc_proto.specs.RecordRows.Push.{Verdict, There, Refuse, Doubt, Do, on_verdict, push, pushed, verdict}
+use Rattle.pc_proto.specs.RecordRows.Push.{Verdict, There, Refuse, Doubt, Do, on_verdict, push, push_verdict, pushed}
 use Rattle.pc_proto.specs.RecordRows.Reached.{alive_at, is_reached, is_staged_at, is_staging, status_of}
 use Rattle.pc_proto.specs.RecordRows.Recover.{decided, recover}
 use Rattle.pc_proto.specs.RecordRows.Stage.{stage}
@@ -76,13 +76,13 @@ module _ (history : List (Entry Event)) (range : ℕ) (id : TxnId) (epoch ts : �
   -- what is committed after a request that is no stage was so before, or the request is a commit
   pub made_by_commit : (p : Place) (X : Type 0) → (decision p ≡ Some (status_of standings.Committed epoch ts) → X) → IsRecorded history range id p → (request : Request) → IsNoStage request
       → ((meta : TxnMeta) (at : ℕ) (locks : List (List ℕ)) → request ≡ requests.Commit meta at locks → X)
-      → decision (after p (change request p)) ≡ Some (status_of standings.Committed epoch ts) → X
+      → decision (after p (place_change request p)) ≡ Some (status_of standings.Committed epoch ts) → X
   unfolding Gives
   made_by_commit p X old recorded (requests.Beat meta at now) is commits = gives-unless p X old (beat meta at now p) (beat-made meta at now p X old)
   made_by_commit p X old recorded (requests.Commit meta at locks) is commits = λ h. commits meta at locks refl
   made_by_commit p X old recorded (requests.Abort meta why locks) is commits = gives-unless p X old (abort meta why locks p) (abort-made meta why locks p X)
   made_by_commit p X old recorded (requests.Push holder by level now goal) is commits =
-      gives-unless p X old (push holder by level now goal p) (push-made holder by goal (verdict holder level now goal p) p X old)
+      gives-unless p X old (push holder by level now goal p) (push-made holder by goal (push_verdict holder level now goal p) p X old)
   made_by_commit p X old recorded (requests.Recover other at_epoch at anchor finding) is commits =
       gives-unless p X old (recover at_epoch at finding p)
       (λ h. old (ap (λ c. decision (after p c)) (sym (recovers_nothing history range id p at_epoch at finding recorded)) ∙ h))
@@ -147,11 +147,11 @@ module _ (epoch ts : ℕ) (p : Place) (X : Type 0) (old : decision p ≡ Some (s
   -- what is committed after a request was so before, or the request is a commit, or a recovery of its staging that found all
   pub made_by : (request : Request) → ((meta : TxnMeta) (at : ℕ) (locks : List (List ℕ)) → request ≡ requests.Commit meta at locks → X)
       → ((id : TxnId) (anchor : List ℕ) → request ≡ requests.Recover id epoch ts anchor findings.All → is_staged_at p epoch ts ≡ true → X)
-      → decision (after p (change request p)) ≡ Some (status_of standings.Committed epoch ts) → X
+      → decision (after p (place_change request p)) ≡ Some (status_of standings.Committed epoch ts) → X
   made_by (requests.Beat meta at now) commits recovers = unless-made (beat meta at now p) (beat-made-so meta at now)
   made_by (requests.Commit meta at locks) commits recovers = λ h. commits meta at locks refl
   made_by (requests.Abort meta why locks) commits recovers = unless-made (abort meta why locks p) (λ h. absurd cc)
-  made_by (requests.Push holder by level now goal) commits recovers = unless-made (push holder by level now goal p) (push-made-so holder by goal (verdict holder level now goal p))
+  made_by (requests.Push holder by level now goal) commits recovers = unless-made (push holder by level now goal p) (push-made-so holder by goal (push_verdict holder level now goal p))
   made_by (requests.Recover id at_epoch at anchor finding) commits recovers =
       unless-made (recover at_epoch at finding p) (recover-made at_epoch at finding (λ all staged epochs times.
       recovers id anchor

@@ -12,6 +12,7 @@ use Rattle.pc_base.specs.declared.transaction.Who.{Who}
 use Rattle.pc_base.specs.Keyed.{at, in_order}
 use Rattle.pc_base.specs.Span.{contains, key_below, same_key}
 use Rattle.pc_base.specs.Transaction.{same_txn, txn_cmp}
+use Rattle.pc_lists.proofs.Each.{each-at, each-choose, each-filter, each-set_at, each-without}
 use Rattle.pc_proto.specs.declared.fate.Fate.{Fate}
 use Rattle.pc_proto.specs.declared.fate.Fate.TheVariants as fates
 use Rattle.pc_proto.specs.declared.fate.Finding.{Finding}
@@ -29,23 +30,23 @@ use Rattle.pc_proto.specs.declared.request.Request.{Request}
 use Rattle.pc_proto.specs.declared.request.Request.TheVariants as requests
 use Rattle.pc_proto.specs.Intents.{first_other, fresh, grown, intent_at, kept_if, lesser_key, other_at, own_at}
 use Rattle.pc_proto.specs.Place.{Place, Nothing, Kept, Marked, Change, Stay, Become, Finish, after, is_decided, is_final, view_of}
-use Rattle.pc_proto.specs.RecordRows.{change, push_reply, subject, table_for}
+use Rattle.pc_proto.specs.RecordRows.{place_change, push_reply, table_for}
 use Rattle.pc_proto.specs.RecordRows.Abort.{abort}
 use Rattle.pc_proto.specs.RecordRows.Beat.{beat}
 use Rattle.pc_proto.specs.RecordRows.Commit.{commit}
-use Rattle.pc_proto.specs.RecordRows.Push.{Verdict, There, Refuse, Doubt, Do, on_verdict, push, pushed, verdict}
+use Rattle.pc_proto.specs.RecordRows.Push.{Verdict, There, Refuse, Doubt, Do, on_verdict, push, push_verdict, pushed}
 use Rattle.pc_proto.specs.RecordRows.Reached.{activity_of, alive_at, at_epoch, is_reached, is_staged_at, status_of}
-use Rattle.pc_proto.specs.RecordRows.Records.{listed}
+use Rattle.pc_proto.specs.RecordRows.Records.{listed_metas}
 use Rattle.pc_proto.specs.RecordRows.Recover.{decided, recover}
 use Rattle.pc_proto.specs.RecordRows.Remove.{remove}
 use Rattle.pc_proto.specs.RecordRows.Stage.{stage}
+use Rattle.pc_proto.specs.Requests.{subject}
 use Rattle.pc_proto.specs.Table.{Table, place_of, record_or_mark, records_after}
-use Rattle.pc_world.proofs.Each.{each-at, each-choose, each-filter, each-set_at, each-without}
 use Rattle.pc_world.specs.Evaluation.{intents_after, reply, state_after}
 use Rattle.pc_world.specs.Evaluation.Get.{found_at, get_blocker, get_reply}
 use Rattle.pc_world.specs.Evaluation.IntentChange.{IntentChange, Leave, Lay, Drop, intents_with}
-use Rattle.pc_world.specs.Evaluation.Put.{PutOutcome, Stands, Lands, first_outcome, laid, overtaken, own_outcome, put_change, put_outcome, put_reply, write_ts}
-use Rattle.pc_world.specs.Evaluation.Query.{stands}
+use Rattle.pc_world.specs.Evaluation.Put.{PutOutcome, Stands, Lands, first_outcome, laid, outcome_of_put, overtaken, own_outcome, put_change, put_reply, write_ts}
+use Rattle.pc_world.specs.Evaluation.Query.{write_stands}
 use Rattle.pc_world.specs.Evaluation.Refresh.{refresh_reply, refuter_in}
 use Rattle.pc_world.specs.Evaluation.Resolve.{change_for}
 use Rattle.pc_world.specs.Evaluation.Scan.{rows_in, scan_reply}
@@ -155,7 +156,7 @@ module _ (Has : TxnId → List ℕ → Type 0) where
 
   intents-have : (request : Request) (s : RangeState) → RequestHas Has request → Each (λ e. MetaHas Has e.1.meta) s.intents → Each (λ e. MetaHas Has e.1.meta) (intents_after request s)
   intents-have (requests.Put meta seq ts key value) s h a =
-      with-change key (put_change (put_outcome meta seq ts key value s)) s.intents
+      with-change key (put_change (outcome_of_put meta seq ts key value s)) s.intents
       (put-lays (other_at meta.id key s.intents) (own_outcome meta seq ts key value (own_at meta.id key s.intents) s)
       (own-lays meta seq ts key value (own_at meta.id key s.intents) s h (found (λ i. same_txn i.meta.id meta.id) key s.intents a))) a
   intents-have (requests.Resolve id key fate) s h a =
@@ -205,7 +206,7 @@ module _ (Has : TxnId → List ℕ → Type 0) where
   remove-makes (Kept r) = makes-either (is_final r.status.standing) (Finish r.status) Stay tt tt
   remove-makes (Marked s) = tt
 
-  change-makes : (request : Request) (p : Place) → RequestHas Has request → PlaceHas p → Makes (change request p)
+  change-makes : (request : Request) (p : Place) → RequestHas Has request → PlaceHas p → Makes (place_change request p)
   unfolding Makes
   change-makes (requests.Beat meta ts now) p h a = makes-either (is_decided p) Stay (beat meta ts now p) tt (beat-makes meta ts now p h a)
   change-makes (requests.Stage meta ts now writes locks) p h a =
@@ -218,7 +219,7 @@ module _ (Has : TxnId → List ℕ → Type 0) where
       (Become (record { meta = meta; status = status_of standings.Committed meta.epoch ts; activity = activity_of p meta.born; writes = []; locks = locks })) Stay h tt)
   change-makes (requests.Abort meta why locks) p h a = makes-either (is_decided p) Stay (abort meta why locks p) tt h
   change-makes (requests.Push holder by level now goal) p h a =
-      makes-either (is_decided p) Stay (push holder by level now goal p) tt (push-makes holder by goal (verdict holder level now goal p) p h)
+      makes-either (is_decided p) Stay (push holder by level now goal p) tt (push-makes holder by goal (push_verdict holder level now goal p) p h)
   change-makes (requests.Recover id epoch ts anchor finding) p h a =
       makes-either (is_decided p) Stay (recover epoch ts finding p) tt (makes-either (is_staged_at p epoch ts) (decided finding p) Stay (decided-makes finding p a) tt)
   change-makes (requests.Remove id anchor) p h a = remove-makes p
@@ -243,7 +244,7 @@ module _ (Has : TxnId → List ℕ → Type 0) where
   unfolding OwnRecord
   records-for None request t h a = a
   records-for (Some id) request t h a =
-      records-with id (change request (place_of id t)) t.records
+      records-with id (place_change request (place_of id t)) t.records
       (change-makes request (place_of id t) h (place-has (at same_txn id t.records) (at same_txn id t.marks) (each-at OwnRecord same_txn id t.records a))) a
 
   -- over evaluation
@@ -302,7 +303,7 @@ module _ (Has : TxnId → List ℕ → Type 0) where
   seconds [] a = tt
   seconds (e ∷ es) a = (a.0, seconds es a.1)
 
-  listed-has : (records : List (TxnId × Record)) → Each (λ e. MetaHas Has e.1.meta) records → Each (MetaHas Has) (listed records)
+  listed-has : (records : List (TxnId × Record)) → Each (λ e. MetaHas Has e.1.meta) records → Each (MetaHas Has) (listed_metas records)
   listed-has records a =
       seconds (in_order txn_cmp (map (λ (e : TxnId × Record). (e.0, at_epoch e.1.status.epoch e.1.meta)) records))
       (each-ordered (λ (m : TxnMeta). Has m.id m.anchor) txn_cmp [] (map (λ (e : TxnId × Record). (e.0, at_epoch e.1.status.epoch e.1.meta)) records) tt (at-epochs records a))
@@ -320,11 +321,11 @@ module _ (Has : TxnId → List ℕ → Type 0) where
   reply_has (requests.Put meta seq ts key value) s a =
       put-has key (other_at meta.id key s.intents) meta seq ts value (own_at meta.id key s.intents) s (found (λ i. not (same_txn i.meta.id meta.id)) key s.intents a.intents)
   reply_has (requests.Refresh id from to span) s a = refresh-has (refuter_in id from to span s)
-  reply_has (requests.Query id epoch seq ts key by) s a = reply-either (stands id epoch seq ts key s) replies.Found replies.Missing tt tt
+  reply_has (requests.Query id epoch seq ts key by) s a = reply-either (write_stands id epoch seq ts key s) replies.Found replies.Missing tt tt
   reply_has (requests.Push holder by level now goal) s a =
       let p = place_of holder.id s.table in
-      reply-either (is_decided p) (replies.Status (view_of p)) (push_reply (verdict holder level now goal p) p (after p (push holder by level now goal p))) tt
-      (push-has (verdict holder level now goal p) p (after p (push holder by level now goal p)))
+      reply-either (is_decided p) (replies.Status (view_of p)) (push_reply (push_verdict holder level now goal p) p (after p (push holder by level now goal p))) tt
+      (push-has (push_verdict holder level now goal p) p (after p (push holder by level now goal p)))
   reply_has (requests.Remove id anchor) s a = let p = place_of id s.table in reply-either (is_decided p) replies.Removed (replies.Status (view_of p)) tt tt
   reply_has requests.Records s a = listed-has s.table.records a.records
   reply_has request s a = tt

@@ -12,11 +12,10 @@ use Rattle.pc_base.specs.declared.entry.Entry.{Entry}
 use Rattle.pc_base.specs.declared.transaction.Priority.{Priority}
 use Rattle.pc_base.specs.declared.transaction.TxnId.{TxnId}
 use Rattle.pc_base.specs.declared.transaction.Who.{Who}
-use Rattle.pc_history.proofs.Lists.{contains_nil}
 use Rattle.pc_history.specs.History.{MayFollow}
 use Rattle.pc_history.specs.Own.{named_in}
 use Rattle.pc_implicit.proofs.Agreed.{Knows, agreed, open_there}
-use Rattle.pc_implicit.proofs.Anchored.{anchor_stays, commit_anchored, each_contained, meta-anchored, put_anchored}
+use Rattle.pc_implicit.proofs.Anchored.{anchor_stays, commit_anchored, meta-anchored, put_anchored}
 use Rattle.pc_implicit.proofs.Doing.{Does, does, same_or_not}
 use Rattle.pc_implicit.proofs.Evals.{NamedMessage, of_entry, range_evaluates}
 use Rattle.pc_implicit.proofs.Hearing.{IsSo, WasSentBy, heard_is_so, now_is_so, sent_is_so}
@@ -24,6 +23,9 @@ use Rattle.pc_implicit.proofs.MetaRows.{MetaHas, ReplyHas, RequestHas, StateHas,
 use Rattle.pc_implicit.proofs.Recorded.{evaluated_state}
 use Rattle.pc_implicit.proofs.Runs.{reply_is}
 use Rattle.pc_implicit.proofs.Views.{subject-is}
+use Rattle.pc_lists.proofs.Each.{each-at, each-contains, each-weaker}
+use Rattle.pc_lists.proofs.Lists.{contains_nil}
+use Rattle.pc_lists.proofs.Same.{same_txn-is}
 use Rattle.pc_proto.specs.declared.event.Event.{Event}
 use Rattle.pc_proto.specs.declared.event.Event.TheVariants as events
 use Rattle.pc_proto.specs.declared.fate.Goal.{Goal}
@@ -32,8 +34,8 @@ use Rattle.pc_proto.specs.declared.reply.Reply.{Reply}
 use Rattle.pc_proto.specs.declared.reply.Reply.TheVariants as replies
 use Rattle.pc_proto.specs.declared.request.Request.{Request}
 use Rattle.pc_proto.specs.declared.request.Request.TheVariants as requests
-use Rattle.pc_proto.specs.RecordRows.{subject}
-use Rattle.pc_world.proofs.Each.{each-at, each-weaker}
+use Rattle.pc_proto.specs.Replies.{ConflictsWith, view_in}
+use Rattle.pc_proto.specs.Requests.{is_about, subject, subject_anchor as anchor_of}
 use Rattle.pc_world.proofs.Knowing.{run_push, state_other}
 use Rattle.pc_world.proofs.Prefixes.{run_induction}
 use Rattle.pc_world.specs.After.{known_at, place_at, state_at}
@@ -46,11 +48,10 @@ use Rattle.pc_world.specs.MaySend.{MaySend}
 use Rattle.pc_world.specs.RangeOf.{GoesTo, range_of}
 use Rattle.pc_world.specs.RangeState.{RangeState}
 use Rattle.pc_world.specs.Run.{IsRun, protocol}
-use Rattle.pc_world.specs.Send.Push.{ConflictsWith, Lists, MaySendPush}
+use Rattle.pc_world.specs.Send.Push.{ListsRecord, MaySendPush}
 use Rattle.pc_world.specs.Send.Stage.{MaySendStage}
-use Rattle.pc_world.specs.StageFate.{Stage}
-use Rattle.pc_world.specs.Views.{anchor_heard, is_about, shows_view, view_in}
-use Rattle.pc_world.specs.Views.{anchor_in as anchor_of}
+use Rattle.pc_world.specs.StageFate.{SentStage}
+use Rattle.pc_world.specs.Views.{anchor_heard, shows_view}
 use Rattle.pc_proto.specs.Place.{Place, Nothing}
 use Rattle.pc_implicit.proofs.Places.{place_kept}
 use Rattle.pc_proto.specs.Table.{place_of}
@@ -58,7 +59,6 @@ use Rattle.pc_proto.specs.Intents.{intent_at, kept_if, own_at}
 use Rattle.pc_proto.specs.declared.record.Intent.{Intent}
 use Rattle.pc_base.specs.Span.{same_key}
 use Rattle.pc_base.specs.Transaction.{same_txn}
-use Rattle.pc_implicit.proofs.Keyed.{same-is}
 
 -- The history has this anchor of the transaction.
 abbrev pub HasAnchor : List (Entry Event) → TxnId → List ℕ → Type 0
@@ -133,8 +133,8 @@ module _ (Has : TxnId → List ℕ → Type 0) where
   met-has holder (replies.Conflict other ts key) h is = subst (MetaHas Has) is h
   met-has holder r h is = absurd is
 
-  listed-has : (holder : TxnMeta) (r : Reply) → ReplyHas Has r → Lists holder r → MetaHas Has holder
-  listed-has holder (replies.Listed metas) h is = each_contained (MetaHas Has) metas holder h is
+  listed-has : (holder : TxnMeta) (r : Reply) → ReplyHas Has r → ListsRecord holder r → MetaHas Has holder
+  listed-has holder (replies.Listed metas) h is = each-contains (MetaHas Has) metas holder h is
   listed-has holder r h is = absurd is
 
 -- ---- one more entry
@@ -151,12 +151,12 @@ module _ (head : Head) (history : List (Entry Event)) (run : IsRun head history)
       let (n, h, inside, at, is) = may.conflict in
       let actor = actors.Session number in
       met-has (HasAnchor history) holder h.reply
-      (heard-reply actor h (each_contained (IsSo head history actor) (known_at head actor history).heard_now h (now_is_so head history run actor) (n, inside, at))) is.conflict
+      (heard-reply actor h (each-contains (IsSo head history actor) (known_at head actor history).heard_now h (now_is_so head history run actor) (n, inside, at))) is.conflict
   push-anchor (actors.Recoverer number) holder by level now goal may =
       let (n, h, inside, at, is) = may.was_listed in
       let actor = actors.Recoverer number in
       listed-has (HasAnchor history) holder h.reply
-      (heard-reply actor h (each_contained (IsSo head history actor) (known_at head actor history).heard_now h (now_is_so head history run actor) (n, inside, at))) is
+      (heard-reply actor h (each-contains (IsSo head history actor) (known_at head actor history).heard_now h (now_is_so head history run actor) (n, inside, at))) is
   push-anchor (actors.Range number) holder by level now goal may = absurd may
 
   known-anchor : (actor : ActorId) (id : TxnId) (anchor : List ℕ) → anchor_heard id (known_at head actor history).heard ≡ Some anchor → HasAnchor history id anchor
@@ -164,14 +164,14 @@ module _ (head : Head) (history : List (Entry Event)) (run : IsRun head history)
       heard-anchor (HasAnchor history) id anchor (known_at head actor history).heard
       (each-weaker (IsSo head history actor) (λ h. RequestHas (HasAnchor history) h.request) (heard-request actor) (known_at head actor history).heard (heard_is_so head history run actor)) is
 
-  stage-anchor : (e : Entry Event) (s : Stage) → MaySendStage (known_at head e.actor history) s → MetaHas (HasAnchor history) s.meta
+  stage-anchor : (e : Entry Event) (s : SentStage) → MaySendStage (known_at head e.actor history) s → MetaHas (HasAnchor history) s.meta
   stage-anchor e s may =
       let k = known_at head e.actor history in
       elim may [
         | inl new ↦ meta-anchored head history e k (agreed head history run e.actor) new.t s.meta (open_there k new.t new.opened) new.whose
         | inr again ↦
             let (n, m, inside, at, is) = again.before in
-            let w = each_contained (WasSentBy head history e.actor) k.sent m (sent_is_so head history run e.actor) (n, inside, at) in
+            let w = each-contains (WasSentBy head history e.actor) k.sent m (sent_is_so head history run e.actor) (n, inside, at) in
             let has : GoesTo head.splits m.request m.range × RequestHas (HasAnchor history) m.request = subst (EventHas head history) w.sends (all.entries w.send w.listed) in
             subst (RequestHas (HasAnchor history)) is has.1
       ]
@@ -315,5 +315,5 @@ module _ (head : Head) where
         where
           by_id : (b : Bool) → same_txn i.meta.id id ≡ b → (if b then Some i else None) ≡ None
           by_id true same =
-              let both : None ≡ Some i.meta.anchor = sym none ∙ ap (λ i. anchor_in i history) (sym (same-is i.meta.id id same)) ∙ has in absurd cc
+              let both : None ≡ Some i.meta.anchor = sym none ∙ ap (λ i. anchor_in i history) (sym (same_txn-is i.meta.id id same)) ∙ has in absurd cc
           by_id false same = refl

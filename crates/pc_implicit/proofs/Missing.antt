@@ -13,7 +13,7 @@ use Rattle.pc_implicit.proofs.OwnKeys.{AsBefore, IsGone, IsLaid, IsMoved, laid_t
 use Rattle.pc_implicit.proofs.Reading.{answered_so}
 use Rattle.pc_implicit.proofs.RepliedAt.{replied_at}
 use Rattle.pc_implicit.specs.Decided.{BoundStands}
-use Rattle.pc_implicit.specs.Reads.{Evaluated}
+use Rattle.pc_implicit.specs.Reads.{RangeEvaluated}
 use Rattle.pc_implicit.specs.Replied.{QueryMissed}
 use Rattle.pc_implicit.specs.Staging.{IsMissedQuery, StaysMissing}
 use Rattle.pc_proto.specs.declared.event.Event.{Event}
@@ -27,7 +27,7 @@ use Rattle.pc_world.proofs.Prefixes.{run_front, run_may}
 use Rattle.pc_world.specs.After.{state_at}
 use Rattle.pc_world.specs.Evaluation.{bound_after, intents_after, reply, state_after}
 use Rattle.pc_world.specs.Evaluation.Put.{laid, write_ts}
-use Rattle.pc_world.specs.Evaluation.Query.{is_found, is_it, stands}
+use Rattle.pc_world.specs.Evaluation.Query.{is_found, is_it, write_stands}
 use Rattle.pc_world.specs.Local.{Head}
 use Rattle.pc_world.specs.RangeOf.{range_of}
 use Rattle.pc_world.specs.RangeState.{RangeState}
@@ -64,9 +64,9 @@ module _ (id : TxnId) (epoch seq ts : ℕ) (key : List ℕ) where
 
   closed-step : (request : Request) (s : RangeState) → StaysMissing id epoch seq ts key s → (writer : TxnId) → ts < free_from writer (bound_after request s)
   closed-step request s missing writer =
-      let stands : BoundStands s.bound (bound_after request s) = bound_goes_on.step request s in
+      let write_stands : BoundStands s.bound (bound_after request s) = bound_goes_on.step request s in
       let before = missing.closed writer in
-      let rises = free_from-rises writer s.bound (bound_after request s) stands in
+      let rises = free_from-rises writer s.bound (bound_after request s) write_stands in
       omega (arith, before, rises)
 
   -- What stays missing of the first state does so of the second.
@@ -84,9 +84,9 @@ module _ (id : TxnId) (epoch seq ts : ℕ) (key : List ℕ) where
   raised-closes b writer = grind (arith, common_steps)
 
   missed-now : (by : Who) (s : RangeState) → replies.Missing ≡ reply (requests.Query id epoch seq ts key by) s → StaysMissing id epoch seq ts key (state_after (requests.Query id epoch seq ts key by) s)
-  missed-now by s told = cases (stands id epoch seq ts key s) refl told
+  missed-now by s told = cases (write_stands id epoch seq ts key s) refl told
     where
-      cases : (b : Bool) → stands id epoch seq ts key s ≡ b → replies.Missing ≡ (if b then replies.Found else replies.Missing) → StaysMissing id epoch seq ts key (state_after (requests.Query id epoch seq ts key by) s)
+      cases : (b : Bool) → write_stands id epoch seq ts key s ≡ b → replies.Missing ≡ (if b then replies.Found else replies.Missing) → StaysMissing id epoch seq ts key (state_after (requests.Query id epoch seq ts key by) s)
       cases true is told = absurd cc
       cases false is told = record {
         absent = is;
@@ -111,7 +111,7 @@ module _ (id : TxnId) (epoch seq ts : ℕ) (key : List ℕ) where
       by-told told is same = absurd same
   missed-query request s missed = absurd missed
 
-  pub missing_stays : (head : Head) (range : ℕ) (before : List (Entry Event)) (e : Entry Event) (later : List (Entry Event)) → IsRun head (before ++ e ∷ later) → Evaluated head before range (IsMissedQuery id epoch seq ts key) e
+  pub missing_stays : (head : Head) (range : ℕ) (before : List (Entry Event)) (e : Entry Event) (later : List (Entry Event)) → IsRun head (before ++ e ∷ later) → RangeEvaluated head before range (IsMissedQuery id epoch seq ts key) e
       → StaysMissing id epoch seq ts key (state_at head range (before ++ e ∷ later))
   missing_stays head range before e later run a =
       let so = answered_so head before range (IsMissedQuery id epoch seq ts key) e (run_front head before (e ∷ later) run) (run_may head before e later run) a in

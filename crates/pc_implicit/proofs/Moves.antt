@@ -8,14 +8,14 @@ use Rattle.std.specs.Bool.{MatchBool}
 use Rattle.pc_base.specs.declared.actor.ActorId.{ActorId}
 use Rattle.pc_base.specs.declared.transaction.TxnId.{TxnId}
 use Rattle.pc_base.specs.Transaction.{same_txn}
-use Rattle.pc_history.proofs.Lists.{contains_cons, contains_filter, contains_head, contains_in_map, contains_map, contains_nil, contains_tail}
 use Rattle.pc_implicit.proofs.Agreed.{AreNumbered, open_is, open_there, owned}
 use Rattle.pc_implicit.proofs.Doing.{Does, told_by_row}
 use Rattle.pc_implicit.proofs.Doings.{IsCallOf, call_is}
-use Rattle.pc_implicit.proofs.Keyed.{same-is, same-itself}
 use Rattle.pc_implicit.proofs.SessionCommits.{written}
 use Rattle.pc_implicit.proofs.SessionReads.{plain}
 use Rattle.pc_implicit.proofs.Writings.{RiseFrom, any_contained, any_filtered, any_written, is_a_write, last_written, none_above, written_asked, written_heard, written_map}
+use Rattle.pc_lists.proofs.Lists.{contains_cons, contains_filter, contains_head, contains_in_map, contains_map, contains_nil, contains_tail}
+use Rattle.pc_lists.proofs.Same.{same_txn-is, same_txn-self}
 use Rattle.pc_proto.specs.declared.answer.Answer.{Answer}
 use Rattle.pc_proto.specs.declared.answer.Answer.TheVariants as answers
 use Rattle.pc_proto.specs.declared.call.Call.{Call}
@@ -26,7 +26,7 @@ use Rattle.pc_proto.specs.declared.meta.TxnMeta.{TxnMeta}
 use Rattle.pc_proto.specs.declared.reply.Origin.{Origin}
 use Rattle.pc_proto.specs.declared.request.Request.{Request}
 use Rattle.pc_proto.specs.declared.request.Request.TheVariants as requests
-use Rattle.pc_world.specs.Known.{Known, begun_by, call_of, call_in, first_if, open_txn, told_first, txns_after}
+use Rattle.pc_world.specs.Known.{Known, call_of, call_in, first_if, open_txn, told_first, txn_begun, txns_after}
 use Rattle.pc_world.specs.Known.Reads.{reads_heard}
 use Rattle.pc_world.specs.Known.Statements.{Statement}
 use Rattle.pc_world.specs.Known.Traffic.{Heard, replies_to}
@@ -55,7 +55,7 @@ first-told id answer replied true [] = refl
 first-told id answer replied true (t ∷ ts) = refl
 first-told id answer replied false txns = refl
 
-first-begun : (id other : TxnId) (s : Option Statement) (ts : ℕ) (txns : List Txn) → is_first id (begun_by s other ts ∷ txns) ≡ same_txn other id
+first-begun : (id other : TxnId) (s : Option Statement) (ts : ℕ) (txns : List Txn) → is_first id (txn_begun s other ts ∷ txns) ≡ same_txn other id
 first-begun id other None ts txns = refl
 first-begun id other (Some s) ts txns = refl
 
@@ -97,12 +97,12 @@ first_is_open actor k t numbered there first opened =
   where
     by : (txns : List Txn) → is_first t.id txns ≡ true → Contains txns t → ((u : Txn) → Contains txns u → u.id ≡ t.id → u ≡ t) → first_if true txns ≡ Some t
     by [] first there one = absurd cc
-    by (x ∷ xs) first there one = ap Some (one x (contains_head x xs) (same-is x.id t.id first))
+    by (x ∷ xs) first there one = ap Some (one x (contains_head x xs) (same_txn-is x.id t.id first))
 
 pub open_is_first : (k : Known) (t : Txn) → open_txn k ≡ Some t → (is_first t.id k.txns ≡ true) × (k.is_open ≡ true)
 open_is_first k t opened =
     let is = open_is k.is_open k.txns t opened in
-    (ap (is_first t.id) is.2 ∙ same-itself t.id, is.0)
+    (ap (is_first t.id) is.2 ∙ same_txn-self t.id, is.0)
 
 -- ---- what an event does
 
@@ -147,7 +147,7 @@ module _ (head : Head) (actor : ActorId) (k : Known) (numbered : AreNumbered act
     first-put : MaySendFirst k meta seq ts key value → same_txn meta.id t.id ≡ true
         → Moves k event t (txn_sent (requests.Put meta seq ts key value) t) done (done_sent t.id (requests.Put meta seq ts key value) done)
     first-put f same =
-        let is : f.t ≡ t = same-one f.t (open_there k f.t f.opened) (ap (λ (m : TxnMeta). m.id) (sym f.whose) ∙ same-is meta.id t.id same) in
+        let is : f.t ≡ t = same-one f.t (open_there k f.t f.opened) (ap (λ (m : TxnMeta). m.id) (sym f.whose) ∙ same_txn-is meta.id t.id same) in
         let epoch : meta.epoch ≡ t.epoch = ap (λ (m : TxnMeta). m.epoch) f.whose ∙ ap (λ (x : Txn). x.epoch) is in
         let next : seq ≡ last_seq_of t.writes + 1 = f.next ∙ ap (λ (x : Txn). last_seq_of x.writes + 1) is in
         let none : list_any (is_write seq) (map written t.writes) ≡ false = none_above seq (map written t.writes) (next ∙ ap (λ n. n + 1) (last_written t.writes)) in
@@ -164,7 +164,7 @@ module _ (head : Head) (actor : ActorId) (k : Known) (numbered : AreNumbered act
     again-put : MaySendAgain k meta seq ts key value → same_txn meta.id t.id ≡ true
         → Moves k event t (txn_sent (requests.Put meta seq ts key value) t) done (done_sent t.id (requests.Put meta seq ts key value) done)
     again-put a same =
-        let is : a.t ≡ t = same-one a.t a.mine (ap (λ (m : TxnMeta). m.id) (sym a.whose.same) ∙ same-is meta.id t.id same) in
+        let is : a.t ≡ t = same-one a.t a.mine (ap (λ (m : TxnMeta). m.id) (sym a.whose.same) ∙ same_txn-is meta.id t.id same) in
         let epoch : meta.epoch ≡ t.epoch = ap (λ (m : TxnMeta). m.epoch) a.whose.same ∙ ap (λ (x : Txn). x.epoch) is in
         let own : (same_txn meta.id t.id && meta.epoch == t.epoch) ≡ true = and_from (same_txn meta.id t.id) (meta.epoch == t.epoch) same (eq-eqb meta.epoch t.epoch epoch) in
         let there : Contains t.writes a.w = subst (λ (x : Txn). Contains x.writes a.w) is a.written in
@@ -195,7 +195,7 @@ module _ (head : Head) (actor : ActorId) (k : Known) (numbered : AreNumbered act
   module _ (meta : TxnMeta) (seq ts : ℕ) (key : List ℕ) (value : Option (List ℕ)) (done : List Operation) (listed : IsListed t done) where
     first-among : MaySendFirst k meta seq ts key value → same_txn meta.id t.id ≡ true → (meta.epoch ≡ t.epoch) × Contains (done_sent t.id (requests.Put meta seq ts key value) done) (Write key seq value)
     first-among f same =
-        let is : f.t ≡ t = same-one f.t (open_there k f.t f.opened) (ap (λ (m : TxnMeta). m.id) (sym f.whose) ∙ same-is meta.id t.id same) in
+        let is : f.t ≡ t = same-one f.t (open_there k f.t f.opened) (ap (λ (m : TxnMeta). m.id) (sym f.whose) ∙ same_txn-is meta.id t.id same) in
         let next : seq ≡ last_seq_of t.writes + 1 = f.next ∙ ap (λ (x : Txn). last_seq_of x.writes + 1) is in
         let none : list_any (is_write seq) (map written t.writes) ≡ false = none_above seq (map written t.writes) (next ∙ ap (λ n. n + 1) (last_written t.writes)) in
         let any : list_any (is_write seq) done ≡ false = sym (any_filtered seq done) ∙ ap (list_any (is_write seq)) listed.same ∙ none in
@@ -206,7 +206,7 @@ module _ (head : Head) (actor : ActorId) (k : Known) (numbered : AreNumbered act
 
     again-among : MaySendAgain k meta seq ts key value → same_txn meta.id t.id ≡ true → (meta.epoch ≡ t.epoch) × Contains (done_sent t.id (requests.Put meta seq ts key value) done) (Write key seq value)
     again-among a same =
-        let is : a.t ≡ t = same-one a.t a.mine (ap (λ (m : TxnMeta). m.id) (sym a.whose.same) ∙ same-is meta.id t.id same) in
+        let is : a.t ≡ t = same-one a.t a.mine (ap (λ (m : TxnMeta). m.id) (sym a.whose.same) ∙ same_txn-is meta.id t.id same) in
         let there : Contains t.writes a.w = subst (λ (x : Txn). Contains x.writes a.w) is a.written in
         let listed_there : Contains (filter is_a_write done) (written a.w) = subst (λ os. Contains os (written a.w)) (sym listed.same) (contains_map written t.writes a.w there) in
         let this : written a.w ≡ Write key seq value = λ i. Write (sym a.same_place i) (sym a.same_sequence i) (sym a.same_value i) in
@@ -289,7 +289,7 @@ module _ (head : Head) (actor : ActorId) (k : Known) (numbered : AreNumbered act
   in-rest answer replied [] there other = absurd (contains_nil t there)
   in-rest answer replied (x ∷ xs) there other =
       elim (contains_cons x xs t there) [
-        | inl same ↦ absurd (let both : true ≡ false = sym (same-itself t.id) ∙ ap (λ (y : Txn). same_txn y.id t.id) (sym same) ∙ other in cc both)
+        | inl same ↦ absurd (let both : true ≡ false = sym (same_txn-self t.id) ∙ ap (λ (y : Txn). same_txn y.id t.id) (sym same) ∙ other in cc both)
         | inr later ↦ contains_tail (txn_told answer replied x) xs t later
       ]
 
@@ -343,7 +343,7 @@ module _ (head : Head) (actor : ActorId) (k : Known) (numbered : AreNumbered act
     }
     moved (events.Tell (answers.Begun id ts)) h listed may = record {
       u = t;
-      there = contains_tail (begun_by k.statement id ts) k.txns t mine;
+      there = contains_tail (txn_begun k.statement id ts) k.txns t mine;
       named = refl;
       moves = Stays refl refl refl (told-if d.is_last (answers.Begun id ts) d.call d.done refl);
     }
@@ -357,7 +357,7 @@ pub record IsNewlyBegun (event : Event) (k : Known) (u : Txn) : Type 0 where
   pub id : TxnId
   pub ts : ℕ
   pub told : event ≡ events.Tell (answers.Begun id ts)
-  pub is : u ≡ begun_by k.statement id ts
+  pub is : u ≡ txn_begun k.statement id ts
 
 -- It was known before, by its name.
 pub record WasKnown (k : Known) (u : Txn) : Type 0 where
@@ -387,7 +387,7 @@ pub comes_from : (k : Known) (event : Event) (h : Option Heard) (u : Txn) → Co
 comes_from k (events.Send number range request) h u there = inr (from-map k (txn_sent request) u (λ t. refl) there)
 comes_from k (events.Hear number step) h u there = inr (from-map k (txn_heard k.sent h) u (λ t. refl) there)
 comes_from k (events.Tell (answers.Begun id ts)) h u there =
-    elim (contains_cons (begun_by k.statement id ts) k.txns u there) [
+    elim (contains_cons (txn_begun k.statement id ts) k.txns u there) [
       | inl same ↦ inl (record { id = id; ts = ts; told = refl; is = sym same })
       | inr later ↦ inr (record { t = u; mine = later; named = refl })
     ]

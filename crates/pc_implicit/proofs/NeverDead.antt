@@ -35,20 +35,22 @@ use Rattle.pc_proto.specs.declared.reply.Reply.{Reply}
 use Rattle.pc_proto.specs.declared.request.Request.{Request}
 use Rattle.pc_proto.specs.declared.view.View.{View}
 use Rattle.pc_proto.specs.Place.{Place, Nothing, Kept, Marked, Stay, after, is_final, status_view, view_of}
-use Rattle.pc_proto.specs.RecordRows.{answer, subject}
+use Rattle.pc_proto.specs.RecordRows.{answer}
 use Rattle.pc_proto.specs.RecordRows.Reached.{status_of}
 use Rattle.pc_proto.specs.RecordRows.Stage.{stage}
+use Rattle.pc_proto.specs.Replies.{view_in}
+use Rattle.pc_proto.specs.Requests.{is_about, subject}
+use Rattle.pc_proto.specs.Views.{is_final_view}
 use Rattle.pc_world.proofs.Prefixes.{run_front}
 use Rattle.pc_world.specs.After.{place_at, state_at}
 use Rattle.pc_world.specs.Committed.{anchor_in}
 use Rattle.pc_world.specs.Evaluation.{reply as reply_of}
 use Rattle.pc_world.specs.Known.Traffic.{Heard}
-use Rattle.pc_world.specs.Known.Transactions.{is_final_view}
 use Rattle.pc_world.specs.Local.{Head}
 use Rattle.pc_world.specs.RangeOf.{range_of}
 use Rattle.pc_world.specs.Run.{IsRun}
-use Rattle.pc_world.specs.StageFate.{IsDead, RefutesRecord, RefutesWrite, Stage, is_past, shows_past, stage_request}
-use Rattle.pc_world.specs.Views.{is_about, shows_unsettled, view_in}
+use Rattle.pc_world.specs.StageFate.{IsDead, RefutesRecord, RefutesWrite, SentStage, is_past_stage, shows_past, stage_request}
+use Rattle.pc_world.specs.Views.{shows_undecided}
 
 -- Of two beginnings of one list one is a beginning of the other.
 pub either_front : {X : Type 0} (xs ys vs ws : List X) → xs ++ ys ≡ vs ++ ws → IsFront xs vs ⊎ IsFront vs xs
@@ -81,11 +83,11 @@ unsettled-place (Kept r) marks h = by (is_final r.status.standing) refl
     by false pending = refl
 unsettled-place (Marked m) marks h = let both : true ≡ false = sym (final-told m.standing m.epoch m.ts [] [] (marks m refl)) ∙ h in absurd cc
 
-staged-undecided : (s : Stage) (r : Record) → StagesAs s r → decision (Kept r) ≡ None
+staged-undecided : (s : SentStage) (r : Record) → StagesAs s r → decision (Kept r) ≡ None
 staged-undecided s r stages = ap (λ standing. cond (is_final standing) (Some r.status) None) stages.staging
 
 -- the record of a stage does not tell it that it went another way, nor did what it stands on
-staged-not-told : (s : Stage) (p q : Place) (r : Record) → Stands p q → q ≡ Kept r → StagesAs s r → shows_past s (answer (stage_request s) p) ≡ true → ⊥
+staged-not-told : (s : SentStage) (p q : Place) (r : Record) → Stands p q → q ≡ Kept r → StagesAs s r → shows_past s (answer (stage_request s) p) ≡ true → ⊥
 staged-not-told s p q r stands is stages past =
     let undecided : decision q ≡ None = ap decision is ∙ staged-undecided s r stages in
     let beyond = stage_passes s p (undecided_from p q stands undecided) past in
@@ -96,21 +98,21 @@ staged-not-told s p q r stands is stages past =
     elim beyond [ inl later ↦ omega (arith, later, epochs, epoch) | inr above ↦ omega (arith, above, times, ts) ]
 
 -- neither does a decided one
-decided-not-told : (s : Stage) (p : Place) (epoch ts : ℕ) → decision p ≡ Some (status_of standings.Committed epoch ts) → shows_past s (answer (stage_request s) p) ≡ true → ⊥
+decided-not-told : (s : SentStage) (p : Place) (epoch ts : ℕ) → decision p ≡ Some (status_of standings.Committed epoch ts) → shows_past s (answer (stage_request s) p) ≡ true → ⊥
 decided-not-told s Nothing epoch ts decided past = cc decided
 decided-not-told s (Kept r) epoch ts decided past = by (is_final r.status.standing) refl decided past
   where
     by : (b : Bool) → is_final r.status.standing ≡ b → cond b (Some r.status) None ≡ Some (status_of standings.Committed epoch ts)
-        → is_past s (view_of (after (Kept r) (cond b Stay (stage s.meta s.ts s.now s.writes s.locks (Kept r))))) ≡ true → ⊥
+        → is_past_stage s (view_of (after (Kept r) (cond b Stay (stage s.meta s.ts s.now s.writes s.locks (Kept r))))) ≡ true → ⊥
     by true final is past =
         let same : r.status ≡ status_of standings.Committed epoch ts = cc is in
-        let both : false ≡ true = ap (λ (x : Status). is_past s (status_view x.standing x.epoch x.ts r.writes r.locks)) (sym same) ∙ past in cc both
+        let both : false ≡ true = ap (λ (x : Status). is_past_stage s (status_view x.standing x.epoch x.ts r.writes r.locks)) (sym same) ∙ past in cc both
     by false pending is past = cc is
 decided-not-told s (Marked m) epoch ts decided past =
     let same : m ≡ status_of standings.Committed epoch ts = cc decided in
-    let both : false ≡ true = ap (λ (x : Status). is_past s (status_view x.standing x.epoch x.ts [] [])) (sym same) ∙ past in cc both
+    let both : false ≡ true = ap (λ (x : Status). is_past_stage s (status_view x.standing x.epoch x.ts [] [])) (sym same) ∙ past in cc both
 
-unsettled-view : (id : TxnId) (request : Request) (reply : Reply) → shows_unsettled id request reply ≡ true → (is_about id request ≡ true) × (view : View) × (view_in reply ≡ Some view) × (is_final_view view ≡ false)
+unsettled-view : (id : TxnId) (request : Request) (reply : Reply) → shows_undecided id request reply ≡ true → (is_about id request ≡ true) × (view : View) × (view_in reply ≡ Some view) × (is_final_view view ≡ false)
 unsettled-view id request reply h =
     let parts = and_parts (is_about id request) (option_map_or (λ view. not (is_final_view view)) (view_in reply) false) h in
     let v = by (view_in reply) parts.1 in
@@ -140,18 +142,18 @@ module _ (head : Head) where
       by (Some anchor) is = marks_final head (range_of head.splits anchor) id history m is
 
   -- what was refuted stays so
-  refuted-along : (front back : List (Entry Event)) (s : Stage) (w : List ℕ × ℕ) → WasRefuted front s w → WasRefuted (front ++ back) s w
+  refuted-along : (front back : List (Entry Event)) (s : SentStage) (w : List ℕ × ℕ) → WasRefuted front s w → WasRefuted (front ++ back) s w
   refuted-along front [] s w refuted = subst (λ h. WasRefuted h s w) (sym (append-nil front)) refuted
   refuted-along front (e ∷ es) s w refuted = subst (λ h. WasRefuted h s w) (append_assoc front (e ∷ []) es) (refuted-along (front ++ e ∷ []) es s w (refuted_more front e s w refuted))
 
   -- a stage is evaluated by its transaction's record
-  staged-home : (history : List (Entry Event)) → IsRun head history → (s : Stage) → WasStaged history s → home_of head s.meta.id history ≡ place_at head (range_of head.splits s.meta.anchor) s.meta.id history
+  staged-home : (history : List (Entry Event)) → IsRun head history → (s : SentStage) → WasStaged history s → home_of head s.meta.id history ≡ place_at head (range_of head.splits s.meta.anchor) s.meta.id history
   staged-home history run s sent =
       let a = subject_anchored head history run sent.send sent.listed sent.number sent.range (stage_request s) s.meta.id sent.sends refl in
       let there : sent.range ≡ range_of head.splits s.meta.anchor = goes_to head history run sent.send sent.listed sent.number sent.range (stage_request s) sent.sends in
       home_is head s.meta.id history a.anchor a.anchored ∙ ap (λ r. place_at head r s.meta.id history) (sym a.there ∙ there)
 
-module _ (head : Head) (front back : List (Entry Event)) (run : IsRun head (front ++ back)) (s : Stage) (c : CommitsBy head front s) where
+module _ (head : Head) (front back : List (Entry Event)) (run : IsRun head (front ++ back)) (s : SentStage) (c : CommitsBy head front s) where
   run-first : IsRun head front
   run-first = run_front head front back run
 
@@ -190,7 +192,7 @@ module _ (head : Head) (front back : List (Entry Event)) (run : IsRun head (fron
       ]
 
   -- and none of its writes is known to be refuted before the transaction is decided
-  not-refuted : (h g : Heard) → Contains (session_at head s.meta.id (front ++ back)).heard h → Contains (session_at head s.meta.id (front ++ back)).heard g → h.step < g.step → RefutesWrite s h → shows_unsettled s.meta.id g.request g.reply ≡ true → ⊥
+  not-refuted : (h g : Heard) → Contains (session_at head s.meta.id (front ++ back)).heard h → Contains (session_at head s.meta.id (front ++ back)).heard g → h.step < g.step → RefutesWrite s h → shows_undecided s.meta.id g.request g.reply ≡ true → ⊥
   unfolding run-first
   not-refuted h g there also after refutes unsettled =
       let id = s.meta.id in

@@ -6,7 +6,6 @@ use Rattle.pc_base.specs.declared.actor.ActorId.{ActorId}
 use Rattle.pc_base.specs.declared.actor.ActorId.TheVariants as actors
 use Rattle.pc_base.specs.declared.entry.Entry.{Entry}
 use Rattle.pc_base.specs.declared.transaction.TxnId.{TxnId}
-use Rattle.pc_history.proofs.Lists.{contains_nil}
 use Rattle.pc_history.specs.History.{MayFollow}
 use Rattle.pc_history.specs.Own.{named_in}
 use Rattle.pc_implicit.proofs.Agreed.{agreed, begun_at, committed_row, open_there, owned}
@@ -17,22 +16,23 @@ use Rattle.pc_implicit.proofs.Evals.{of_entry}
 use Rattle.pc_implicit.proofs.Firsts.{first_push}
 use Rattle.pc_implicit.proofs.HeardViews.{heard_decides}
 use Rattle.pc_implicit.proofs.Homes.{home_commits}
-use Rattle.pc_implicit.proofs.Keyed.{same-itself}
 use Rattle.pc_implicit.proofs.Recovered.{recovered_so, replies_what}
 use Rattle.pc_implicit.proofs.Shown.{answer_shows}
 use Rattle.pc_implicit.proofs.StageWords.{ImplicitIsCommitted}
+use Rattle.pc_lists.proofs.Lists.{contains_nil}
+use Rattle.pc_lists.proofs.Same.{same_txn-self}
 use Rattle.pc_proto.specs.declared.answer.Answer.TheVariants as answers
 use Rattle.pc_proto.specs.declared.call.Call.TheVariants as calls
 use Rattle.pc_proto.specs.declared.event.Event.{Event}
 use Rattle.pc_proto.specs.declared.event.Event.TheVariants as events
 use Rattle.pc_proto.specs.declared.request.Request.{Request}
 use Rattle.pc_proto.specs.declared.request.Request.TheVariants as requests
-use Rattle.pc_proto.specs.RecordRows.{subject}
+use Rattle.pc_proto.specs.Requests.{Commits, subject}
 use Rattle.pc_world.proofs.Knowing.{run_push}
 use Rattle.pc_world.proofs.Prefixes.{run_front, run_induction, run_may}
 use Rattle.pc_world.specs.After.{known_at}
 use Rattle.pc_world.specs.Committed.{IsCommitted, anchor_in, commit_at, committed_in, key_sent, told_at}
-use Rattle.pc_world.specs.Decisions.{Acknowledges, AnswersCommitted, Commits, HasOneDecision, TellsCommit}
+use Rattle.pc_world.specs.Decisions.{Acknowledges, AnswersCommitted, HasOneDecision, TellsCommit}
 use Rattle.pc_world.specs.Known.{Known, call_in, call_of, open_txn}
 use Rattle.pc_world.specs.Known.Transactions.{Txn}
 use Rattle.pc_world.specs.Local.{Head}
@@ -89,7 +89,7 @@ module _ (head : Head) (implicit : (history : List (Entry Event)) → IsRun head
     told-now id ts is none untold =
         let anchor : anchor_in id (before ++ e ∷ []) ≡ None = first_push (λ x. key_sent id x.event) before e ∙ ap (λ o. option_or o (key_sent id e.event)) none ∙ ap (key_sent id) is in
         ap (commit_at head (before ++ e ∷ []) id) anchor ∙ first_push (λ x. committed_in id x.event) before e ∙ ap (λ o. option_or o (committed_in id e.event)) untold ∙ ap (committed_in id) is
-        ∙ ap (λ b. if b then Some ts else None) (same-itself id)
+        ∙ ap (λ b. if b then Some ts else None) (same_txn-self id)
 
     -- what is told committed is committed
     pub tell_committed : (id : TxnId) (ts : ℕ) → e.event ≡ events.Tell (answers.Committed id ts) → IsCommitted head (before ++ e ∷ []) id ts

@@ -8,7 +8,6 @@ use Rattle.pc_base.specs.Transaction.{same_txn}
 use Rattle.pc_history.specs.History.{MayFollow}
 use Rattle.pc_history.specs.Own.{named_in, own}
 use Rattle.pc_implicit.proofs.Agreed.{agreed, begun_next, owned}
-use Rattle.pc_implicit.proofs.Anchored.{each_contained}
 use Rattle.pc_implicit.proofs.CommitCalls.{is-begin, is-tell, open-before, same-told, told_open}
 use Rattle.pc_implicit.proofs.Commits.{act_of, open_agrees}
 use Rattle.pc_implicit.proofs.Did.{numbered-at, session_at}
@@ -16,7 +15,6 @@ use Rattle.pc_implicit.proofs.Doing.{Does, same_or_not}
 use Rattle.pc_implicit.proofs.Forward.{Has, commit_known}
 use Rattle.pc_implicit.proofs.HeardViews.{heard_decides}
 use Rattle.pc_implicit.proofs.Hearing.{sent_is_so}
-use Rattle.pc_implicit.proofs.Keyed.{same-is}
 use Rattle.pc_implicit.proofs.KnownOver.{IsKnownOver, over_of}
 use Rattle.pc_implicit.proofs.Moves.{first_after, is_first, open_is_first}
 use Rattle.pc_implicit.proofs.OpenReads.{within-statement}
@@ -26,6 +24,8 @@ use Rattle.pc_implicit.proofs.StagesKnown.{HasSent, SendsNow, commit_sent, dead_
 use Rattle.pc_implicit.proofs.StagesSent.{staged_txn}
 use Rattle.pc_implicit.specs.Stages.{WasStaged}
 use Rattle.pc_implicit.specs.Writes.{txns_of}
+use Rattle.pc_lists.proofs.Each.{each-contains}
+use Rattle.pc_lists.proofs.Same.{same_txn-is}
 use Rattle.pc_proto.specs.declared.answer.Answer.{Answer}
 use Rattle.pc_proto.specs.declared.answer.Answer.TheVariants as answers
 use Rattle.pc_proto.specs.declared.call.Call.{Call}
@@ -45,7 +45,7 @@ use Rattle.pc_world.specs.Known.Transactions.{Txn}
 use Rattle.pc_world.specs.Local.{Head, MayComeNext, MayDo}
 use Rattle.pc_world.specs.Operations.{is_last_after}
 use Rattle.pc_world.specs.Run.{IsRun, protocol}
-use Rattle.pc_world.specs.StageFate.{Commit, IsDead, IsRefused, IsUncommitted, Stage, commit_request, stage_request}
+use Rattle.pc_world.specs.StageFate.{IsDead, IsUncommitted, SentCommit, SentStage, WasCommitRefused, commit_request, stage_request}
 
 -- The transaction is the one that is open.
 pub record IsOpenHere (k : Known) (id : TxnId) : Type 0 where
@@ -55,7 +55,7 @@ pub record IsOpenHere (k : Known) (id : TxnId) : Type 0 where
 
 first-open : (id : TxnId) (b : Bool) (txns : List Txn) → is_first id txns ≡ true → b ≡ true → (t : Txn) × (first_if b txns ≡ Some t) × (t.id ≡ id)
 first-open id true [] first is = absurd cc
-first-open id true (t ∷ ts) first is = (t, refl, same-is t.id id first)
+first-open id true (t ∷ ts) first is = (t, refl, same_txn-is t.id id first)
 first-open id false txns first is = absurd cc
 
 pub is-commit : (o : Option Call) → (o ≡ Some calls.Commit) ⊎ (o ≡ Some calls.Commit → ⊥)
@@ -79,8 +79,8 @@ module _ (head : Head) where
 
     -- what was known stays so, where no new stage or commit of it is sent
     over-stays : IsKnownOver (session_at head id history) id
-        → ((s : Stage) → s.meta.id ≡ id → SendsNow head history e (actors.Session id.session) (stage_request s) → HasSent (session_at head id history).sent (stage_request s))
-        → ((c : Commit) → c.meta.id ≡ id → SendsNow head history e (actors.Session id.session) (commit_request c) → ⊥)
+        → ((s : SentStage) → s.meta.id ≡ id → SendsNow head history e (actors.Session id.session) (stage_request s) → HasSent (session_at head id history).sent (stage_request s))
+        → ((c : SentCommit) → c.meta.id ≡ id → SendsNow head history e (actors.Session id.session) (commit_request c) → ⊥)
         → IsKnownOver (session_at head id (history ++ e ∷ [])) id
     over-stays over old_stage no_commit =
         let actor : ActorId = actors.Session id.session in
@@ -92,7 +92,7 @@ module _ (head : Head) where
               elim (sent_cases head history e actor (stage_request s) sent) [ inl old ↦ on old | inr now ↦ on (old_stage s whose now) ];
           refused = λ c sent whose.
               elim (sent_cases head history e actor (commit_request c) sent) [
-                | inl old ↦ subst (λ l. IsRefused l c) (sym more.1) (refused_more k.heard more.0 c (over.refused c old whose))
+                | inl old ↦ subst (λ l. WasCommitRefused l c) (sym more.1) (refused_more k.heard more.0 c (over.refused c old whose))
                 | inr now ↦ absurd (no_commit c whose now)
               ];
         }
@@ -102,14 +102,14 @@ module _ (head : Head) where
         → IsKnownOver (session_at head id (history ++ e ∷ [])) id
     over_on over untold elsewhere = over-stays over old-stage no-commit
       where
-        old-stage : (s : Stage) → s.meta.id ≡ id → SendsNow head history e (actors.Session id.session) (stage_request s) → HasSent (session_at head id history).sent (stage_request s)
+        old-stage : (s : SentStage) → s.meta.id ≡ id → SendsNow head history e (actors.Session id.session) (stage_request s) → HasSent (session_at head id history).sent (stage_request s)
         old-stage s whose now =
             elim (stage_sent head history e may (actors.Session id.session) s now) [
               | inl old ↦ old
               | inr new ↦ absurd (elsewhere (record { t = new.t; opened = new.opened; named = sym (ap (λ (m : TxnMeta). m.id) new.whose.same) ∙ whose }) new.asked)
             ]
 
-        no-commit : (c : Commit) → c.meta.id ≡ id → SendsNow head history e (actors.Session id.session) (commit_request c) → ⊥
+        no-commit : (c : SentCommit) → c.meta.id ≡ id → SendsNow head history e (actors.Session id.session) (commit_request c) → ⊥
         no-commit c whose now =
             let actor : ActorId = actors.Session id.session in
             let row = commit_sent head history e may actor c now in
@@ -118,7 +118,7 @@ module _ (head : Head) where
               | inl decides ↦ elim decides.may [
                 | inl here ↦ elsewhere (record { t = row.t; opened = here.0; named = named }) here.1
                 | inr told ↦
-                    let agrees = each_contained _ (session_at head id history).txns row.t (agreed head history run actor).agrees row.mine in
+                    let agrees = each-contains _ (session_at head id history).txns row.t (agreed head history run actor).agrees row.mine in
                     let both : ◌≡◌ {A = Option ℕ} None (Some c.ts) = sym untold ∙ ap (λ i. told_at i history) (sym named) ∙ agrees.told ∙ told in
                     cc both
               ]
@@ -145,15 +145,15 @@ module _ (head : Head) where
             let its : h.0.id.number ≡ new.number = ap (λ (i : TxnId). i.number) (h.2 ∙ sym eq) in
             omega (arith, low, number, its)
 
-        none-staged : (s : Stage) → HasSent (session_at head id history).sent (stage_request s) → s.meta.id ≡ id → ⊥
+        none-staged : (s : SentStage) → HasSent (session_at head id history).sent (stage_request s) → s.meta.id ≡ id → ⊥
         none-staged s (n, m, inside, at, asks) whose =
-            let w = each_contained _ (session_at head id history).sent m (sent_is_so head history run (actors.Session id.session)) (n, inside, at) in
+            let w = each-contains _ (session_at head id history).sent m (sent_is_so head history run (actors.Session id.session)) (n, inside, at) in
             let sent : WasStaged history s = record { send = w.send; listed = w.listed; number = m.number; range = m.range; sends = w.sends ∙ ap (events.Send m.number m.range) asks } in
             unknown (subst (λ i. Has i (txns_of head i history)) whose (staged_txn head history run s sent))
 
-        none-committed : (c : Commit) → HasSent (session_at head id history).sent (commit_request c) → c.meta.id ≡ id → ⊥
+        none-committed : (c : SentCommit) → HasSent (session_at head id history).sent (commit_request c) → c.meta.id ≡ id → ⊥
         none-committed c (n, m, inside, at, asks) whose =
-            let w = each_contained _ (session_at head id history).sent m (sent_is_so head history run (actors.Session id.session)) (n, inside, at) in
+            let w = each-contains _ (session_at head id history).sent m (sent_is_so head history run (actors.Session id.session)) (n, inside, at) in
             unknown (subst (λ i. Has i (txns_of head i history)) whose
             (commit_known head history run w.send w.listed m.number m.range c.meta c.ts c.locks (w.sends ∙ ap (events.Send m.number m.range) asks)))
 
@@ -172,7 +172,7 @@ module _ (head : Head) where
         elim (is-begin head id e.event) [
           | inl new ↦
               let it : same_txn new.0 id ≡ true = ap (λ event. is_last_after id event (is_first id k.txns)) (sym new.2) ∙ sym first_then ∙ first in
-              inl (new.0, new.1, new.2, same-is new.0 id it)
+              inl (new.0, new.1, new.2, same_txn-is new.0 id it)
           | inr none ↦
               let was_first : is_first id k.txns ≡ true = sym (same-told head id e.event (is_first id k.txns) none) ∙ sym first_then ∙ first in
               let was_open : k.is_open ≡ true = open-before head id e.event k.is_open none (sym open_then ∙ here.1) in

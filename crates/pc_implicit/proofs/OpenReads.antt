@@ -18,6 +18,7 @@ use Rattle.pc_implicit.proofs.Moves.{Moves, Puts, Reads, Restarts, Stays, first_
 use Rattle.pc_implicit.proofs.SessionCommits.{written}
 use Rattle.pc_implicit.proofs.SessionReads.{last_seq_done}
 use Rattle.pc_implicit.proofs.Writings.{last_written}
+use Rattle.pc_lists.proofs.Each.{each-append, each-weaker}
 use Rattle.pc_proto.specs.declared.answer.Answer.{Answer}
 use Rattle.pc_proto.specs.declared.answer.Answer.TheVariants as answers
 use Rattle.pc_proto.specs.declared.call.Call.{Call}
@@ -26,7 +27,6 @@ use Rattle.pc_proto.specs.declared.event.Event.{Event}
 use Rattle.pc_proto.specs.declared.event.Event.TheVariants as events
 use Rattle.pc_proto.specs.declared.request.Request.{Request}
 use Rattle.pc_proto.specs.declared.request.Request.TheVariants as requests
-use Rattle.pc_world.proofs.Each.{each-append, each-weaker}
 use Rattle.pc_world.proofs.Knowing.{known_other, known_same, run_push}
 use Rattle.pc_world.proofs.Prefixes.{run_induction}
 use Rattle.pc_world.specs.After.{known_at}

@@ -5,8 +5,7 @@ use Rattle.pc_base.specs.declared.transaction.TxnId.{TxnId}
 use Rattle.pc_base.specs.Keyed.{at, set_at, without}
 use Rattle.pc_base.specs.Span.{same_key}
 use Rattle.pc_base.specs.Transaction.{same_txn}
-use Rattle.pc_implicit.proofs.IntentKeys.{same_key-equal, same_key-is}
-use Rattle.pc_implicit.proofs.Keyed.{same-is, same-itself}
+use Rattle.pc_lists.proofs.Same.{same_key-equal, same_key-is, same_txn-is, same_txn-self}
 use Rattle.pc_proto.specs.declared.fate.Fate.{Fate}
 use Rattle.pc_proto.specs.declared.fate.Fate.TheVariants as fates
 use Rattle.pc_proto.specs.declared.meta.TxnMeta.{TxnMeta}
@@ -17,8 +16,8 @@ use Rattle.pc_proto.specs.declared.request.Request.TheVariants as requests
 use Rattle.pc_proto.specs.Intents.{fresh, grown, kept_if, other_at, own_at}
 use Rattle.pc_world.specs.Evaluation.{intents_after, reply}
 use Rattle.pc_world.specs.Evaluation.IntentChange.{IntentChange, Leave, Lay, Drop, intents_with}
-use Rattle.pc_world.specs.Evaluation.Put.{PutOutcome, Stands, Lands, first_outcome, is_overtaken_by, laid, overtaken, own_outcome, put_change, put_outcome, put_reply, write_ts}
-use Rattle.pc_world.specs.Evaluation.Resolve.{change_for, intent_change}
+use Rattle.pc_world.specs.Evaluation.Put.{PutOutcome, Stands, Lands, first_outcome, is_overtaken_by, laid, outcome_of_put, overtaken, own_outcome, put_change, put_reply, write_ts}
+use Rattle.pc_world.specs.Evaluation.Resolve.{change_for, resolve_change}
 use Rattle.pc_world.specs.RangeState.{RangeState}
 
 at-set : (key k : List ℕ) (i : Intent) (xs : List (List ℕ × Intent)) → at same_key k (set_at same_key key i xs) ≡ cond (same_key key k) (Some i) (at same_key k xs)
@@ -113,7 +112,7 @@ module _ (id : TxnId) (k : List ℕ) where
   laid-apart meta seq ts value None apart of = apart
   laid-apart meta seq ts value (Some i) apart of = grind (arith, of i refl)
 
-  put-stays : (meta : TxnMeta) (seq ts : ℕ) (key : List ℕ) (value : Option (List ℕ)) (s : RangeState) → same_txn meta.id id ≡ false → own_at id k (intents_with key (put_change (put_outcome meta seq ts key value s)) s.intents) ≡ own_at id k s.intents
+  put-stays : (meta : TxnMeta) (seq ts : ℕ) (key : List ℕ) (value : Option (List ℕ)) (s : RangeState) → same_txn meta.id id ≡ false → own_at id k (intents_with key (put_change (outcome_of_put meta seq ts key value s)) s.intents) ≡ own_at id k s.intents
   put-stays meta seq ts key value s apart = by-other (other_at meta.id key s.intents) refl
     where
       by-over : (own : Option Intent) → own_at meta.id key s.intents ≡ own → own_at id key s.intents ≡ None → (b : Bool) → own_at id k (intents_with key (put_change (cond b (Stands 0) (Lands (laid meta seq (write_ts meta ts key own s) value own)))) s.intents) ≡ own_at id k s.intents
@@ -133,7 +132,7 @@ module _ (id : TxnId) (k : List ℕ) where
           by-own (own_at meta.id key s.intents) refl (not-own-free meta.id id (at same_key key s.intents) apart e)
           (overtaken meta seq (own_at meta.id key s.intents)) refl
 
-  resolve-stays : (one : TxnId) (key : List ℕ) (fate : Fate) (s : RangeState) → same_txn one id ≡ false → own_at id k (intents_with key (intent_change one key fate s) s.intents) ≡ own_at id k s.intents
+  resolve-stays : (one : TxnId) (key : List ℕ) (fate : Fate) (s : RangeState) → same_txn one id ≡ false → own_at id k (intents_with key (resolve_change one key fate s) s.intents) ≡ own_at id k s.intents
   resolve-stays one key fate s apart = by-own (own_at one key s.intents) refl fate
     where
       by-own : (own : Option Intent) → own_at one key s.intents ≡ own → (fate : Fate) → own_at id k (intents_with key (change_for fate own) s.intents) ≡ own_at id k s.intents
@@ -153,7 +152,7 @@ module _ (id : TxnId) (k : List ℕ) where
   laid-own meta seq ts value (Some i) is of = grind (arith, of i refl)
 
   laid-whose : (meta : TxnMeta) (seq ts : ℕ) (value : Option (List ℕ)) (s : RangeState) → meta.id ≡ id → same_txn (laid meta seq ts value (own_at id k s.intents)).meta.id id ≡ true
-  laid-whose meta seq ts value s same = laid-own meta seq ts value (own_at id k s.intents) (ap (λ i. same_txn i id) same ∙ same-itself id) (λ j is. own_is id (at same_key k s.intents) j is)
+  laid-whose meta seq ts value s same = laid-own meta seq ts value (own_at id k s.intents) (ap (λ i. same_txn i id) same ∙ same_txn-self id) (λ j is. own_is id (at same_key k s.intents) j is)
 
   -- The own intent after a put of the transaction at the key that came to this.
   abbrev own-after : RangeState → PutOutcome → Option Intent
@@ -187,10 +186,10 @@ module _ (id : TxnId) (k : List ℕ) where
           subst (λ x. OwnChange id k (requests.Put meta seq ts x value) s (own_at id k (intents_after (requests.Put meta seq ts x value) s))) (sym (same_key-is key k e))
           (subst (λ i. OwnChange id k (requests.Put meta seq ts k value) s (own-after s (first_outcome (other_at meta.id k s.intents) (own_outcome meta seq ts k value (own_at i k s.intents) s))))
           (sym same) (put-lays meta seq ts value s same))
-      by-key same false e = AsBefore (change-elsewhere key (put_change (put_outcome meta seq ts key value s)) s.intents e)
+      by-key same false e = AsBefore (change-elsewhere key (put_change (outcome_of_put meta seq ts key value s)) s.intents e)
 
       by-id : (b : Bool) → same_txn meta.id id ≡ b → OwnChange id k (requests.Put meta seq ts key value) s (own_at id k (intents_after (requests.Put meta seq ts key value) s))
-      by-id true e = by-key (same-is meta.id id e) (same_key key k) refl
+      by-id true e = by-key (same_txn-is meta.id id e) (same_key key k) refl
       by-id false e = AsBefore (put-stays meta seq ts key value s e)
 
   settles : (fate : Fate) (s : RangeState) (own : Option Intent) → own_at id k s.intents ≡ own
@@ -210,10 +209,10 @@ module _ (id : TxnId) (k : List ℕ) where
           subst (λ x. OwnChange id k (requests.Resolve one x fate) s (own_at id k (intents_after (requests.Resolve one x fate) s))) (sym (same_key-is key k e))
           (subst (λ i. OwnChange id k (requests.Resolve i k fate) s (own_at id k (intents_after (requests.Resolve i k fate) s))) (sym same)
           (settles fate s (own_at id k s.intents) refl))
-      by-key same false e = AsBefore (change-elsewhere key (intent_change one key fate s) s.intents e)
+      by-key same false e = AsBefore (change-elsewhere key (resolve_change one key fate s) s.intents e)
 
       by-id : (b : Bool) → same_txn one id ≡ b → OwnChange id k (requests.Resolve one key fate) s (own_at id k (intents_after (requests.Resolve one key fate) s))
-      by-id true e = by-key (same-is one id e) (same_key key k) refl
+      by-id true e = by-key (same_txn-is one id e) (same_key key k) refl
       by-id false e = AsBefore (resolve-stays one key fate s e)
 
   -- what becomes of the own intent at a key over a request

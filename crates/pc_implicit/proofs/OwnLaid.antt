@@ -4,14 +4,14 @@ use Rattle.std.proofs.lemmas.Bool.{and_cases, and_parts, eq-eqb, eqb-true, leb-f
 use Rattle.std.proofs.lemmas.List.{append_assoc}
 use Rattle.std.proofs.lemmas.List.Elements.{Contains-append_left}
 use Rattle.std.specs.List.{AllByRecursion as Each}
-use Rattle.pc_history.proofs.Lists.{contains_head}
 use Rattle.pc_implicit.proofs.WriteLists.{Laid, RiseAt, each_low, fronts_meet, last_low, last_push, rise_later}
 use Rattle.pc_implicit.specs.Decided.{time_of}
+use Rattle.pc_lists.proofs.Each.{each-append, each-front, each-weaker}
+use Rattle.pc_lists.proofs.Lists.{contains_head}
 use Rattle.pc_proto.specs.declared.meta.TxnMeta.{TxnMeta}
 use Rattle.pc_proto.specs.declared.record.Intent.{Intent}
 use Rattle.pc_proto.specs.Intents.{fresh, grown, last_seq}
 use Rattle.pc_proto.specs.Place.{Place}
-use Rattle.pc_world.proofs.Each.{each-append, each-front, each-weaker}
 use Rattle.pc_world.specs.Evaluation.Put.{is_overtaken_by, laid, overtaken}
 
 -- The intent is of this epoch or an earlier one; if of this one, each of its writes is one of these, and it has one.

@@ -2,7 +2,6 @@
 use Rattle.std.proofs.Common.{◌≡◌, ℕ, ◌≤◌, max, true, false, inl, inr, List, [], ◌∷◌, ◌++◌, Option, None, Some, sym, ap, subst, ◌∙◌, arith}
 use Rattle.pc_base.specs.declared.entry.Entry.{Entry}
 use Rattle.pc_base.specs.declared.transaction.TxnId.{TxnId}
-use Rattle.pc_history.proofs.Lists.{contains_nil}
 use Rattle.pc_history.specs.History.{MayFollow}
 use Rattle.pc_implicit.proofs.Anchored.{put_anchored}
 use Rattle.pc_implicit.proofs.Homes.{undecided_before}
@@ -16,6 +15,7 @@ use Rattle.pc_implicit.specs.Decided.{decision}
 use Rattle.pc_implicit.specs.Replied.{WasWritten}
 use Rattle.pc_implicit.specs.Staging.{IsPastWrite}
 use Rattle.pc_implicit.specs.Writes.{home_of, own_intent}
+use Rattle.pc_lists.proofs.Lists.{contains_nil}
 use Rattle.pc_proto.specs.declared.event.Event.{Event}
 use Rattle.pc_proto.specs.declared.event.Event.TheVariants as events
 use Rattle.pc_proto.specs.declared.meta.TxnMeta.{TxnMeta}

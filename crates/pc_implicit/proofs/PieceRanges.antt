@@ -4,7 +4,7 @@ use Rattle.std.proofs.lemmas.List.Elements.{Contains-append_cases, Contains-appe
 use Rattle.pc_base.specs.declared.span.Span.{Span}
 use Rattle.pc_base.specs.declared.span.Span.TheVariants.{One, Between}
 use Rattle.pc_base.specs.Span.{is_empty, key_below}
-use Rattle.pc_history.proofs.Lists.{contains_cons, contains_nil}
+use Rattle.pc_lists.proofs.Lists.{contains_cons, contains_nil}
 use Rattle.pc_world.specs.RangeOf.{earlier_end, later_start, piece, pieces, pieces_from, range_of}
 
 if-same : {X : Type 0} (b : Bool) (x : X) → (if b then x else x) ≡ x

@@ -18,12 +18,12 @@ use Rattle.pc_implicit.proofs.Commits.{ByRecord, ByTell, decision_commits, why_c
 use Rattle.pc_implicit.proofs.Doing.{same_or_not}
 use Rattle.pc_implicit.proofs.Evals.{NamedMessage, of_entry, range_evaluates}
 use Rattle.pc_implicit.proofs.Firsts.{first_push}
-use Rattle.pc_implicit.proofs.Keyed.{same-is}
 use Rattle.pc_implicit.proofs.Made.{decided_sent, made_by_commit}
 use Rattle.pc_implicit.proofs.Places.{place_kept}
 use Rattle.pc_implicit.proofs.Recorded.{evaluated_state, recorded}
 use Rattle.pc_implicit.proofs.Sent.{unstaged_front, unstaged_sent}
 use Rattle.pc_implicit.specs.Decided.{decision}
+use Rattle.pc_lists.proofs.Same.{same_txn-is}
 use Rattle.pc_proto.specs.declared.answer.Answer.TheVariants as answers
 use Rattle.pc_proto.specs.declared.event.Event.{Event}
 use Rattle.pc_proto.specs.declared.event.Event.TheVariants as events
@@ -31,8 +31,8 @@ use Rattle.pc_proto.specs.declared.meta.TxnMeta.{TxnMeta}
 use Rattle.pc_proto.specs.declared.record.Standing.TheVariants as standings
 use Rattle.pc_proto.specs.declared.reply.Reply.{Reply}
 use Rattle.pc_proto.specs.declared.request.Request.TheVariants as requests
-use Rattle.pc_proto.specs.RecordRows.{subject}
 use Rattle.pc_proto.specs.RecordRows.Reached.{status_of}
+use Rattle.pc_proto.specs.Requests.{subject}
 use Rattle.pc_proto.specs.Table.{place_of}
 use Rattle.pc_world.proofs.Knowing.{run_push, state_other}
 use Rattle.pc_world.proofs.Prefixes.{run_front, run_may}
@@ -62,7 +62,7 @@ pub told-what : (id : TxnId) (ts : ℕ) (event : Event) → committed_in id even
 told-what id ts (events.Tell (answers.Committed other at)) h = by (same_txn other id) refl h
   where
     by : (b : Bool) → same_txn other id ≡ b → (if b then Some at else None) ≡ Some ts → events.Tell (answers.Committed other at) ≡ events.Tell (answers.Committed id ts)
-    by true e h = let same : at ≡ ts = cc in ap (λ i. events.Tell (answers.Committed i at)) (same-is other id e) ∙ ap (λ t. events.Tell (answers.Committed id t)) same
+    by true e h = let same : at ≡ ts = cc in ap (λ i. events.Tell (answers.Committed i at)) (same_txn-is other id e) ∙ ap (λ t. events.Tell (answers.Committed id t)) same
     by false e h = absurd cc
 told-what id ts (events.Tell answer) h = absurd cc
 told-what id ts event h = absurd cc

@@ -27,19 +27,19 @@ use Rattle.pc_world.specs.Evaluation.Put.{overtaken}
 use Rattle.pc_world.specs.Evaluation.Query.{is_found}
 use Rattle.pc_world.specs.Local.{Head}
 use Rattle.pc_world.specs.Run.{IsRun, protocol}
-use Rattle.pc_world.specs.StageFate.{Stage}
+use Rattle.pc_world.specs.StageFate.{SentStage}
 
 -- The own intent is the listed write: of the stage's epoch, with the listed sequence or a later one, at or below its timestamp.
-pub record IsListedWrite (s : Stage) (w : List ℕ × ℕ) (i : Intent) : Type 0 where
+pub record IsListedWrite (s : SentStage) (w : List ℕ × ℕ) (i : Intent) : Type 0 where
   pub epoch_is : i.meta.epoch ≡ s.meta.epoch
   pub has : w.1 ≤ last_seq i
   pub low : i.ts ≤ s.ts
 
 -- Some own intent is the listed write.
-abbrev pub HasListed : Stage → List ℕ × ℕ → Option Intent → Type 0
+abbrev pub HasListed : SentStage → List ℕ × ℕ → Option Intent → Type 0
 HasListed s w own = (i : Intent) × (own ≡ Some i) × IsListedWrite s w i
 
-module _ (s : Stage) (w : List ℕ × ℕ) where
+module _ (s : SentStage) (w : List ℕ × ℕ) where
   found-listed : (own : Option Intent) → is_found s.meta.epoch w.1 s.ts own ≡ true → HasListed s w own
   found-listed None h = absurd cc
   found-listed (Some i) h =
@@ -64,7 +64,7 @@ module _ (s : Stage) (w : List ℕ × ℕ) where
     is_there has = listed-found (own_intent head s.meta.id w.0 history) has
 
 -- what was refuted is absent, while the transaction is not decided
-pub refuted_absent : (head : Head) (history : List (Entry Event)) → IsRun head history → (s : Stage) (w : List ℕ × ℕ) → decision (home_of head s.meta.id history) ≡ None → WasRefuted history s w → IsThere head history s w → ⊥
+pub refuted_absent : (head : Head) (history : List (Entry Event)) → IsRun head history → (s : SentStage) (w : List ℕ × ℕ) → decision (home_of head s.meta.id history) ≡ None → WasRefuted history s w → IsThere head history s w → ⊥
 refuted_absent head history run s w undecided refuted there =
     elim refuted [
       | inl above ↦
@@ -82,7 +82,7 @@ refuted_absent head history run s w undecided refuted there =
     ]
 
 -- what was refuted was so in every longer history
-pub refuted_more : (history : List (Entry Event)) (e : Entry Event) (s : Stage) (w : List ℕ × ℕ) → WasRefuted history s w → WasRefuted (history ++ e ∷ []) s w
+pub refuted_more : (history : List (Entry Event)) (e : Entry Event) (s : SentStage) (w : List ℕ × ℕ) → WasRefuted history s w → WasRefuted (history ++ e ∷ []) s w
 refuted_more history e s w refuted =
     elim refuted [
       | inl above ↦ inl (record { at = above.at; above = above.above; written = written_more history e s.meta.id s.meta.epoch w.0 w.1 above.at above.written })
@@ -103,19 +103,19 @@ ends_or_before (y ∷ xs) (f ∷ front) back x split =
     ]
 
 -- a stage that was sent was sent in every longer history
-pub staged_along : (front back : List (Entry Event)) (s : Stage) → WasStaged front s → WasStaged (front ++ back) s
+pub staged_along : (front back : List (Entry Event)) (s : SentStage) → WasStaged front s → WasStaged (front ++ back) s
 staged_along front back s sent = record { send = sent.send; listed = Contains-append_left front back sent.send sent.listed; number = sent.number; range = sent.range; sends = sent.sends }
 
 module _ (head : Head) where
   -- a write that was present at some time is so now, or was so before
-  pub there_cases : (history : List (Entry Event)) (e : Entry Event) (s : Stage) (w : List ℕ × ℕ) → WasThere head (history ++ e ∷ []) s w → IsThere head (history ++ e ∷ []) s w ⊎ WasThere head history s w
+  pub there_cases : (history : List (Entry Event)) (e : Entry Event) (s : SentStage) (w : List ℕ × ℕ) → WasThere head (history ++ e ∷ []) s w → IsThere head (history ++ e ∷ []) s w ⊎ WasThere head history s w
   there_cases history e s w was =
       elim (ends_or_before history was.front was.back e was.whole) [
         | inl now ↦ inl (subst (λ h. IsThere head h s w) (sym now) was.there)
         | inr before ↦ inr (record { front = was.front; back = before.0; whole = before.1; staged = was.staged; there = was.there })
       ]
 
-  pub there_more : (history : List (Entry Event)) (e : Entry Event) (s : Stage) (w : List ℕ × ℕ) → WasThere head history s w → WasThere head (history ++ e ∷ []) s w
+  pub there_more : (history : List (Entry Event)) (e : Entry Event) (s : SentStage) (w : List ℕ × ℕ) → WasThere head history s w → WasThere head (history ++ e ∷ []) s w
   there_more history e s w was = record {
     front = was.front;
     back = was.back ++ e ∷ [];
@@ -125,7 +125,7 @@ module _ (head : Head) where
   }
 
   -- a stage to which a record is open after an entry was so before it
-  pub open_before : (history : List (Entry Event)) (e : Entry Event) (s : Stage) → IsOpenTo head (history ++ e ∷ []) s → IsOpenTo head history s
+  pub open_before : (history : List (Entry Event)) (e : Entry Event) (s : SentStage) → IsOpenTo head (history ++ e ∷ []) s → IsOpenTo head history s
   open_before history e s opened =
       let on = home_on head s.meta.id history e in
       let epoch = opened.epoch_low in
@@ -134,11 +134,11 @@ module _ (head : Head) where
       let rises_ts = on.rises.ts in
       record { undecided = undecided_before head s.meta.id history e opened.undecided; epoch_low = omega (arith, epoch, rises_epoch); ts_low = omega (arith, ts, rises_ts) }
 
-  staged-by : (history : List (Entry Event)) (s : Stage) (w : List ℕ × ℕ) → WasThere head history s w → WasStaged history s
+  staged-by : (history : List (Entry Event)) (s : SentStage) (w : List ℕ × ℕ) → WasThere head history s w → WasStaged history s
   staged-by history s w was = subst (λ h. WasStaged h s) (sym was.whole) (staged_along was.front was.back s was.staged)
 
   -- what fails so does so after one more entry, while the stage is open
-  fails-more : (history : List (Entry Event)) (e : Entry Event) → IsRun head (history ++ e ∷ []) → (s : Stage) → IsOpenTo head (history ++ e ∷ []) s → FailsSo head history s → FailsSo head (history ++ e ∷ []) s
+  fails-more : (history : List (Entry Event)) (e : Entry Event) → IsRun head (history ++ e ∷ []) → (s : SentStage) → IsOpenTo head (history ++ e ∷ []) s → FailsSo head history s → FailsSo head (history ++ e ∷ []) s
   fails-more history e run s opened fails =
       let refuted = refuted_more history e s fails.write fails.refuted in
       record {
@@ -153,7 +153,7 @@ module _ (head : Head) where
 
 -- Over one more entry, where a newer put that was sent means that some listed write was refuted.
 module _ (head : Head) (history : List (Entry Event)) (run : IsRun head history) (later : LaterIsRefuted head history) (e : Entry Event) (may : MayFollow (protocol head) history e)
-    (all : AllStand head history) (s : Stage) (opened : IsOpenTo head (history ++ e ∷ []) s) (lasts : FailsSo head (history ++ e ∷ []) s → ⊥) where
+    (all : AllStand head history) (s : SentStage) (opened : IsOpenTo head (history ++ e ∷ []) s) (lasts : FailsSo head (history ++ e ∷ []) s → ⊥) where
   whole : IsRun head (history ++ e ∷ [])
   whole = run_push head history e run may
 
@@ -229,7 +229,7 @@ module _ (head : Head) where
       stands-on head history run (later_is_refuted head history run) e may all s opened lasts w listed was absent)
 
   -- so where each was present, all are
-  pub staged_writes_stay : (history : List (Entry Event)) (s : Stage) → IsRun head history → IsOpenTo head history s → ((w : List ℕ × ℕ) → Contains s.writes w → WasThere head history s w)
+  pub staged_writes_stay : (history : List (Entry Event)) (s : SentStage) → IsRun head history → IsOpenTo head history s → ((w : List ℕ × ℕ) → Contains s.writes w → WasThere head history s w)
       → (w : List ℕ × ℕ) → Contains s.writes w → IsThere head history s w
   staged_writes_stay history s run opened was w listed = by (is_present head history s.meta.id s.meta.epoch s.ts w) refl
     where

@@ -12,15 +12,15 @@ use Rattle.pc_base.specs.declared.entry.Entry.{Entry}
 use Rattle.pc_base.specs.declared.transaction.TxnId.{TxnId}
 use Rattle.pc_base.specs.Span.{same_key}
 use Rattle.pc_base.specs.Transaction.{same_txn}
-use Rattle.pc_history.proofs.Lists.{contains_head}
 use Rattle.pc_history.specs.Own.{named_in}
-use Rattle.pc_implicit.proofs.Anchored.{each_contained}
 use Rattle.pc_implicit.proofs.Doing.{same_or_not}
 use Rattle.pc_implicit.proofs.EvaluatedAt.{answered_at, evaluated_more, goes_to}
 use Rattle.pc_implicit.proofs.Hearing.{IsSo, heard-event}
-use Rattle.pc_implicit.proofs.Keyed.{same-is}
 use Rattle.pc_implicit.proofs.SessionReads.{ByPut, ByQuery, WasEvaluated, WasProved}
 use Rattle.pc_implicit.proofs.Shown.{WasAnswered}
+use Rattle.pc_lists.proofs.Each.{each-append, each-contains, each-map, each-weaker}
+use Rattle.pc_lists.proofs.Lists.{contains_head}
+use Rattle.pc_lists.proofs.Same.{same_txn-is}
 use Rattle.pc_proto.specs.declared.answer.Answer.{Answer}
 use Rattle.pc_proto.specs.declared.answer.Answer.TheVariants as answers
 use Rattle.pc_proto.specs.declared.event.Event.{Event}
@@ -29,12 +29,11 @@ use Rattle.pc_proto.specs.declared.reply.Reply.{Reply}
 use Rattle.pc_proto.specs.declared.reply.Reply.TheVariants as replies
 use Rattle.pc_proto.specs.declared.request.Request.{Request}
 use Rattle.pc_proto.specs.declared.request.Request.TheVariants as requests
-use Rattle.pc_world.proofs.Each.{each-append, each-map, each-weaker}
 use Rattle.pc_world.proofs.Knowing.{known_other, known_same}
 use Rattle.pc_world.proofs.Prefixes.{run_induction}
 use Rattle.pc_world.specs.After.{known_at}
 use Rattle.pc_world.specs.Caused.{IsCaused}
-use Rattle.pc_world.specs.Known.{Known, begun_by, told_first, txns_after}
+use Rattle.pc_world.specs.Known.{Known, told_first, txn_begun, txns_after}
 use Rattle.pc_world.specs.Known.Statements.{Statement}
 use Rattle.pc_world.specs.Known.Traffic.{Heard, Sent, heard_by, replies_to}
 use Rattle.pc_world.specs.Known.Transactions.{Txn, txn_heard, txn_sent, txn_told}
@@ -121,7 +120,7 @@ module _ (head : Head) (history : List (Entry Event)) (id : TxnId) (epoch : ℕ)
         let there : w.range ≡ range_of head.splits key = goes_to head history run w.send w.listed number w.range (requests.Put meta seq ts key value) w.sends in
         written-proven key seq reply ws
         (λ at told.
-        ByPut meta ts value (same-is meta.id id parts.0) (eqb-true meta.epoch epoch parts.1)
+        ByPut meta ts value (same_txn-is meta.id id parts.0) (eqb-true meta.epoch epoch parts.1)
         (subst (λ r. WasEvaluated head history r (requests.Put meta seq ts key value) (replies.Written at)) there
         (subst (WasEvaluated head history w.range (requests.Put meta seq ts key value)) told (evaluated-so (requests.Put meta seq ts key value) reply w)))) each)
         each
@@ -130,7 +129,7 @@ module _ (head : Head) (history : List (Entry Event)) (id : TxnId) (epoch : ℕ)
         (λ is.
         let parts = and_parts (same_txn other id) (at_epoch == epoch) is in
         let there : w.range ≡ range_of head.splits key = goes_to head history run w.send w.listed number w.range (requests.Query other at_epoch seq ts key by) w.sends in
-        let named : other ≡ id = same-is other id parts.0 in
+        let named : other ≡ id = same_txn-is other id parts.0 in
         let same : at_epoch ≡ epoch = eqb-true at_epoch epoch parts.1 in
         found-proven key seq ts reply ws
         (λ told.
@@ -166,7 +165,7 @@ module _ (head : Head) where
     first-proven answer replied true (t ∷ ts) each = (told-proven answer replied t each.0, each.1)
     first-proven answer replied false txns each = each
 
-    begun-proven : (s : Option Statement) (id : TxnId) (ts : ℕ) → AreProven history (begun_by s id ts)
+    begun-proven : (s : Option Statement) (id : TxnId) (ts : ℕ) → AreProven history (txn_begun s id ts)
     begun-proven None id ts = tt
     begun-proven (Some s) id ts = tt
 
@@ -199,8 +198,8 @@ module _ (head : Head) where
   pub proofs_are_so : (history : List (Entry Event)) → IsRun head history → (actor : ActorId) (t : Txn) (w : WriteMade) (at : ℕ) → Contains (known_at head actor history).txns t → Contains t.writes w → Contains w.proofs at
       → WasProved head history t.id t.epoch w.seq w.key at
   proofs_are_so history run actor t w at mine written proof =
-      each_contained (WasProved head history t.id t.epoch w.seq w.key) w.proofs at
-      (each_contained (IsProven head history t.id t.epoch) t.writes w (each_contained (AreProven history) (known_at head actor history).txns t (proven history run actor) mine) written) proof
+      each-contains (WasProved head history t.id t.epoch w.seq w.key) w.proofs at
+      (each-contains (IsProven head history t.id t.epoch) t.writes w (each-contains (AreProven history) (known_at head actor history).txns t (proven history run actor) mine) written) proof
 
   some-proof : (ats : List ℕ) → list_any (λ at. true) ats ≡ true → (at : ℕ) × Contains ats at
   some-proof [] is = absurd cc

@@ -6,7 +6,6 @@ use Rattle.std.proofs.lemmas.List.{append_assoc}
 use Rattle.pc_base.specs.declared.actor.ActorId.{ActorId}
 use Rattle.pc_base.specs.declared.entry.Entry.{Entry}
 use Rattle.pc_base.specs.declared.transaction.TxnId.{TxnId}
-use Rattle.pc_history.proofs.Lists.{contains_nil}
 use Rattle.pc_history.specs.History.{MayFollow}
 use Rattle.pc_implicit.proofs.EvaluatedAt.{goes_to}
 use Rattle.pc_implicit.proofs.OwnKeys.{LaidNow, StoodThere, laid_time, put_written}
@@ -16,6 +15,7 @@ use Rattle.pc_implicit.proofs.Runs.{reply_is}
 use Rattle.pc_implicit.proofs.Written.{IsFoundNow, IsRepliedNow, IsWrittenNow, proven_cases}
 use Rattle.pc_implicit.specs.Replied.{WasProven}
 use Rattle.pc_implicit.specs.Writes.{own_intent}
+use Rattle.pc_lists.proofs.Lists.{contains_nil}
 use Rattle.pc_proto.specs.declared.event.Event.{Event}
 use Rattle.pc_proto.specs.declared.event.Event.TheVariants as events
 use Rattle.pc_proto.specs.declared.meta.TxnMeta.{TxnMeta}
@@ -29,7 +29,7 @@ use Rattle.pc_world.proofs.Prefixes.{run_induction}
 use Rattle.pc_world.specs.After.{state_at}
 use Rattle.pc_world.specs.Evaluation.{intents_after, reply as reply_of, state_after}
 use Rattle.pc_world.specs.Evaluation.Put.{laid}
-use Rattle.pc_world.specs.Evaluation.Query.{is_found, is_it, stands}
+use Rattle.pc_world.specs.Evaluation.Query.{is_found, is_it, write_stands}
 use Rattle.pc_world.specs.Local.{Head}
 use Rattle.pc_world.specs.RangeOf.{range_of}
 use Rattle.pc_world.specs.RangeState.{RangeState}
@@ -126,7 +126,7 @@ module _ (head : Head) (history : List (Entry Event)) (run : IsRun head history)
       let r = w.replied in
       let there : r.ev.range ≡ range_of head.splits key = goes_to head history run r.ev.send r.ev.listed r.number r.ev.range (requests.Query id epoch seq ts key w.by) (r.ev.sends ∙ ap (events.Send r.number r.ev.range) r.asks) in
       let a = answers-here (requests.Query id epoch seq ts key w.by) replies.Found r there in
-      by (own_at id key s.intents) refl (is-found (stands id epoch seq ts key s) a.answer) a.left
+      by (own_at id key s.intents) refl (is-found (write_stands id epoch seq ts key s) a.answer) a.left
     where
       is-found : (b : Bool) → (if b then replies.Found else replies.Missing) ≡ replies.Found → b ≡ true
       is-found true h = refl

@@ -6,7 +6,6 @@ use Rattle.pc_base.specs.declared.actor.ActorId.TheVariants as actors
 use Rattle.pc_base.specs.declared.entry.Entry.{Entry}
 use Rattle.pc_base.specs.declared.transaction.TxnId.{TxnId}
 use Rattle.pc_base.specs.Transaction.{same_txn}
-use Rattle.pc_history.proofs.Lists.{contains_nil}
 use Rattle.pc_history.specs.History.{MayFollow}
 use Rattle.pc_implicit.proofs.Agreed.{agreed, says_own}
 use Rattle.pc_implicit.proofs.Anchored.{put_anchored}
@@ -14,9 +13,10 @@ use Rattle.pc_implicit.proofs.Commits.{act_of}
 use Rattle.pc_implicit.proofs.Did.{CameFrom, came_from, does_agree, newly_fresh, numbered-at, session_at}
 use Rattle.pc_implicit.proofs.Doing.{Does}
 use Rattle.pc_implicit.proofs.Doings.{doing-same, doing_at}
-use Rattle.pc_implicit.proofs.Keyed.{same-itself}
 use Rattle.pc_implicit.proofs.Moves.{IsListed, Moves, Puts, Reads, Restarts, Stays, put_among}
 use Rattle.pc_implicit.proofs.SessionReads.{IsAmong}
+use Rattle.pc_lists.proofs.Lists.{contains_nil}
+use Rattle.pc_lists.proofs.Same.{same_txn-self}
 use Rattle.pc_proto.specs.declared.answer.Answer.TheVariants as answers
 use Rattle.pc_proto.specs.declared.event.Event.{Event}
 use Rattle.pc_proto.specs.declared.event.Event.TheVariants as events
@@ -81,7 +81,7 @@ module _ (head : Head) where
       let same : e.actor ≡ actors.Session id.session = own ∙ ap (λ (i : TxnId). actors.Session i.session) named in
       let acts : Does head (actors.Session id.session) k (events.Send number range (requests.Put meta seq ts key value)) = subst (λ a. Does head a (known_at head a history) (events.Send number range (requests.Put meta seq ts key value))) same act in
       let listed : IsListed t (operations_of history id) = (does_agree head history run id).listed t c.mine c.named in
-      let it : same_txn meta.id t.id ≡ true = ap (λ i. same_txn meta.id i) (c.named ∙ sym named) ∙ same-itself meta.id in
+      let it : same_txn meta.id t.id ≡ true = ap (λ i. same_txn meta.id i) (c.named ∙ sym named) ∙ same_txn-self meta.id in
       let among = put_among head (actors.Session id.session) k (numbered-at head history run id) t c.mine meta seq ts key value (operations_of history id) listed acts.row it in
       let done : operations_of (history ++ e ∷ []) id ≡ done_sent t.id (requests.Put meta seq ts key value) (operations_of history id) =
       ap (λ (x : Doing). x.done) (doing-same id history e same) ∙ ap (λ event. done_after id event (doing_at id history)) is

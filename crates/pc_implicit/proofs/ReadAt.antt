@@ -8,7 +8,6 @@ use Rattle.pc_base.specs.declared.entry.Entry.{Entry}
 use Rattle.pc_base.specs.declared.span.Span.{Span}
 use Rattle.pc_base.specs.declared.transaction.TxnId.{TxnId}
 use Rattle.pc_base.specs.Span.{contains}
-use Rattle.pc_history.proofs.Lists.{contains_in_filter, contains_in_map}
 use Rattle.pc_implicit.proofs.Agreed.{open_there}
 use Rattle.pc_implicit.proofs.Did.{Grows, GrownTo, grown_to, one_known, session_at, writes_are_done}
 use Rattle.pc_implicit.proofs.EvaluatedAt.{AnsweredAt, SentAt}
@@ -18,6 +17,7 @@ use Rattle.pc_implicit.proofs.PutsDone.{puts_are_done}
 use Rattle.pc_implicit.proofs.SessionCommits.{written}
 use Rattle.pc_implicit.proofs.SessionReads.{EvaluatesAt, IsReadAt, WasProved, last_seq_done, seq_of}
 use Rattle.pc_implicit.proofs.Writings.{RiseFrom, is_a_write, last_written, seq_below}
+use Rattle.pc_lists.proofs.Lists.{contains_in_filter, contains_in_map}
 use Rattle.pc_proto.specs.declared.event.Event.{Event}
 use Rattle.pc_proto.specs.declared.reply.Reply.{Reply}
 use Rattle.pc_proto.specs.declared.request.Request.{Request}

@@ -9,9 +9,7 @@ use Rattle.pc_base.specs.declared.entry.Entry.{Entry}
 use Rattle.pc_base.specs.declared.span.Span.{Span}
 use Rattle.pc_base.specs.declared.span.Span.TheVariants.{One}
 use Rattle.pc_base.specs.declared.transaction.TxnId.{TxnId}
-use Rattle.pc_history.proofs.Lists.{contains_cons, contains_head, contains_in_filter, contains_nil, contains_tail}
 use Rattle.pc_implicit.proofs.Agreed.{open_there}
-use Rattle.pc_implicit.proofs.Anchored.{each_contained}
 use Rattle.pc_implicit.proofs.Did.{session_at}
 use Rattle.pc_implicit.proofs.Doing.{Does}
 use Rattle.pc_implicit.proofs.EvaluatedAt.{AnsweredAt, SentAt, answered_at, one_sent, sent_at}
@@ -20,6 +18,8 @@ use Rattle.pc_implicit.proofs.OpenReads.{IsReadNow, StandsSo, now_was_sent, read
 use Rattle.pc_implicit.proofs.PieceRanges.{piece_range}
 use Rattle.pc_implicit.proofs.ReadAt.{is_read_at}
 use Rattle.pc_implicit.proofs.SessionReads.{IsReadAt, ReadsFrom, ReadsPieces, plain}
+use Rattle.pc_lists.proofs.Each.{each-contains}
+use Rattle.pc_lists.proofs.Lists.{contains_cons, contains_head, contains_in_filter, contains_nil, contains_tail}
 use Rattle.pc_proto.specs.declared.call.Call.{Call}
 use Rattle.pc_proto.specs.declared.call.Call.TheVariants as calls
 use Rattle.pc_proto.specs.declared.event.Event.{Event}
@@ -34,7 +34,7 @@ use Rattle.pc_world.specs.After.{known_at}
 use Rattle.pc_world.specs.Known.{Known, call_of, open_txn}
 use Rattle.pc_world.specs.Known.Reads.{Read as ReadMade, read_heard, reads_heard}
 use Rattle.pc_world.specs.Known.Statements.{Statement}
-use Rattle.pc_world.specs.Known.Traffic.{Heard, Sent, is_reply_to, replies_to}
+use Rattle.pc_world.specs.Known.Traffic.{Heard, Sent, is_reply_to_one, replies_to}
 use Rattle.pc_world.specs.Known.Transactions.{Txn}
 use Rattle.pc_world.specs.Known.Writes.{last_seq_of}
 use Rattle.pc_world.specs.Local.{Head}
@@ -114,14 +114,14 @@ module _ (head : Head) (history : List (Entry Event)) (run : IsRun head history)
   heard-reads h there now =
       let actor = actors.Session id.session in
       let m = any-number h.number (session_at head id history).sent_now now in
-      let sent : WasSentBy head history actor m.0 = each_contained (WasSentBy head history actor) (session_at head id history).sent_now m.0 (now_was_sent head history run actor) m.1 in
-      let w : IsSo head history actor h = each_contained (IsSo head history actor) (session_at head id history).heard_now h (now_is_so head history run actor) there in
+      let sent : WasSentBy head history actor m.0 = each-contains (WasSentBy head history actor) (session_at head id history).sent_now m.0 (now_was_sent head history run actor) m.1 in
+      let w : IsSo head history actor h = each-contains (IsSo head history actor) (session_at head id history).heard_now h (now_is_so head history run actor) there in
       let sends : sent.send.event ≡ events.Send h.number m.0.range m.0.request = sent.sends ∙ ap (λ n. events.Send n m.0.range m.0.request) m.2 in
       let one : sent.send ≡ w.send = one_sent head history run actor h.number h.reply sent.send w.send m.0.range w.range m.0.request h.request sent.listed w.listed sent.whose w.whose sends w.sends in
       let both : events.Send h.number m.0.range m.0.request ≡ events.Send h.number w.range h.request = sym sends ∙ ap (λ (x : Entry Event). x.event) one ∙ w.sends in
       let same : m.0.request ≡ h.request = cc both in
       subst (IsReadNow (session_at head id history)) same
-      (each_contained (λ (m : Sent). IsReadNow (session_at head id history) m.request) (session_at head id history).sent_now m.0 (reads_now head history run id.session s asked) m.1)
+      (each-contains (λ (m : Sent). IsReadNow (session_at head id history) m.request) (session_at head id history).sent_now m.0 (reads_now head history run id.session s asked) m.1)
 
   -- the open transaction stands as the read says
   stands : (other : TxnId) (epoch seq : ℕ) → StandsSo (session_at head id history) other epoch seq → (other ≡ id) × (epoch ≡ t.epoch) × (last_seq_of t.writes ≡ seq)
@@ -132,7 +132,7 @@ module _ (head : Head) (history : List (Entry Event)) (run : IsRun head history)
 
   module _ (h : Heard) (there : Contains (session_at head id history).heard_now h) (now : IsTrue (was_sent_now (session_at head id history) h)) where
     so : IsSo head history (actors.Session id.session) h
-    so = each_contained (IsSo head history (actors.Session id.session)) (session_at head id history).heard_now h (now_is_so head history run (actors.Session id.session)) there
+    so = each-contains (IsSo head history (actors.Session id.session)) (session_at head id history).heard_now h (now_is_so head history run (actors.Session id.session)) there
 
     answered : (request : Request) (told : Reply) → h.request ≡ request → h.reply ≡ told → AnsweredAt head history (actors.Session id.session) h.number so.range request told
     answered request told is also =
@@ -144,7 +144,7 @@ module _ (head : Head) (history : List (Entry Event)) (run : IsRun head history)
     kept read inside =
         let replied = replies_to (session_at head id history).sent_now (session_at head id history).heard_now in
         Contains-append_right t.reads (reads_heard replied) read
-        (in-flat (λ (g : Heard). read_heard g.request g.reply) replied h read (contains_in_filter (is_reply_to (session_at head id history).sent_now) (session_at head id history).heard_now h there now) inside)
+        (in-flat (λ (g : Heard). read_heard g.request g.reply) replied h read (contains_in_filter (is_reply_to_one (session_at head id history).sent_now) (session_at head id history).heard_now h there now) inside)
 
     -- where the message was sent
     sent-from : (number range : ℕ) (request : Request) (told : Reply) (a : AnsweredAt head history (actors.Session id.session) number range request told)

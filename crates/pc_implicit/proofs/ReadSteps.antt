@@ -13,11 +13,11 @@ use Rattle.pc_base.specs.Transaction.{same_txn}
 use Rattle.pc_implicit.proofs.Bounds.{bound_goes_on}
 use Rattle.pc_implicit.proofs.ClosedBounds.{free_from-rises}
 use Rattle.pc_implicit.proofs.IntentKeys.{each-found, each-laid, each-left, each-replaced}
-use Rattle.pc_implicit.proofs.Keyed.{same-itself, same-is}
 use Rattle.pc_implicit.proofs.LaidIntents.{LandsAt, Turns, own-there, put-intents, resolve-intents, resolve-turns}
 use Rattle.pc_implicit.proofs.Lift.{GoesOn}
 use Rattle.pc_implicit.specs.Decided.{BoundStands}
 use Rattle.pc_implicit.specs.Reads.{GrowsAbove, HasRead}
+use Rattle.pc_lists.proofs.Same.{same_txn-is, same_txn-self}
 use Rattle.pc_proto.specs.declared.fate.Fate.{Fate}
 use Rattle.pc_proto.specs.declared.record.Intent.{Intent}
 use Rattle.pc_proto.specs.declared.request.Request.{Request}
@@ -42,9 +42,9 @@ module _ (id : TxnId) (span : Span) (ts : ℕ) where
       (λ i lands. each-laid IsClear key i s.intents (λ k same inside low. by i lands low (same_txn meta.id id) refl) a) a
     where
       by : (i : Intent) → LandsAt meta key s i → i.ts ≤ ts → (b : Bool) → same_txn meta.id id ≡ b → i.meta.id ≡ id
-      by i lands low true is = lands.mine ∙ same-is meta.id id is
+      by i lands low true is = lands.mine ∙ same_txn-is meta.id id is
       by i lands low false is =
-          let differ : meta.id ≡ id → ⊥ = λ same. let itself : same_txn meta.id id ≡ true = subst (λ j. same_txn meta.id j ≡ true) same (same-itself meta.id) in cc in
+          let differ : meta.id ≡ id → ⊥ = λ same. let itself : same_txn meta.id id ≡ true = subst (λ j. same_txn meta.id j ≡ true) same (same_txn-self meta.id) in cc in
           let closed : ts < free_from meta.id s.bound = read.closed meta.id differ in
           let free = lands.free in
           absurd (omega (arith, closed, free, low))

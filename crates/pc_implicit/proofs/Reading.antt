@@ -18,15 +18,16 @@ use Rattle.pc_history.specs.History.{MayFollow}
 use Rattle.pc_history.specs.Own.{named_in}
 use Rattle.pc_implicit.proofs.ClosedBounds.{raised-closed}
 use Rattle.pc_implicit.proofs.Evals.{of_entry, range_evaluates}
-use Rattle.pc_implicit.proofs.IntentKeys.{differ-found, same_key-is}
-use Rattle.pc_implicit.proofs.Keyed.{same-is}
+use Rattle.pc_implicit.proofs.IntentKeys.{differ-found}
 use Rattle.pc_implicit.proofs.Lift.{over}
 use Rattle.pc_implicit.proofs.ReadSteps.{IsAbove, IsClear, StaysRead, read_goes_on}
 use Rattle.pc_implicit.proofs.RisingVersions.{versions_rise}
 use Rattle.pc_implicit.proofs.Runs.{reply_is}
 use Rattle.pc_implicit.proofs.VersionSearches.{none-between, none-other}
 use Rattle.pc_implicit.specs.Versions.{IsRising}
-use Rattle.pc_implicit.specs.Reads.{Evaluated, GrowsAbove, HasRead, IsRead, IsRefresh, Reads, Refreshes}
+use Rattle.pc_implicit.specs.Reads.{GrowsAbove, HasRead, IsReadOfSpan, IsRefresh, RangeEvaluated, Reads, Refreshes}
+use Rattle.pc_lists.proofs.Each.{each-weaker}
+use Rattle.pc_lists.proofs.Same.{same_key-is, same_txn-is}
 use Rattle.pc_proto.specs.declared.event.Event.{Event}
 use Rattle.pc_proto.specs.declared.record.Intent.{Intent}
 use Rattle.pc_proto.specs.declared.reply.Origin.{Origin}
@@ -34,12 +35,11 @@ use Rattle.pc_proto.specs.declared.reply.Reply.{Reply}
 use Rattle.pc_proto.specs.declared.request.Request.{Request}
 use Rattle.pc_proto.specs.declared.request.Request.TheVariants as requests
 use Rattle.pc_proto.specs.Intents.{first_other, intent_at, kept_if}
-use Rattle.pc_world.proofs.Each.{each-weaker}
 use Rattle.pc_world.proofs.Knowing.{state_same}
 use Rattle.pc_world.proofs.Prefixes.{run_front, run_may}
 use Rattle.pc_world.specs.After.{state_at}
 use Rattle.pc_world.specs.Evaluation.{reply, state_after}
-use Rattle.pc_world.specs.Evaluation.Get.{found_at, get_blocker, get_reply, read_bound}
+use Rattle.pc_world.specs.Evaluation.Get.{bound_after_read, found_at, get_blocker, get_reply}
 use Rattle.pc_world.specs.Evaluation.Refresh.{refresh_reply, refreshed_bound, refuter, refuter_in}
 use Rattle.pc_world.specs.Evaluation.Scan.{rows_in, scan_reply}
 use Rattle.pc_world.specs.Known.Traffic.{reply_in}
@@ -55,7 +55,7 @@ pub record AnsweredSo (head : Head) (before : List (Entry Event)) (range : ℕ) 
   pub is : P request (reply request (state_at head range before))
   pub after : state_at head range (before ++ e ∷ []) ≡ state_after request (state_at head range before)
 
-pub answered_so : (head : Head) (before : List (Entry Event)) (range : ℕ) (P : Request → Reply → Type 0) (e : Entry Event) → IsRun head before → MayFollow (protocol head) before e → Evaluated head before range P e → AnsweredSo head before range P e
+pub answered_so : (head : Head) (before : List (Entry Event)) (range : ℕ) (P : Request → Reply → Type 0) (e : Entry Event) → IsRun head before → MayFollow (protocol head) before e → RangeEvaluated head before range P e → AnsweredSo head before range P e
 answered_so head before range P e run may a =
     let what = range_evaluates head before e range may a.evaluated in
     let ev = of_entry head before e what.0 what.1 what.2 run may what.3 in
@@ -83,7 +83,7 @@ module _ (reader : TxnId) (at : ℕ) (i : Intent) where
       blocked false is none = let above : at < i.ts = grind arith in omega (arith, above, low)
 
       by : (b : Bool) → same_txn i.meta.id reader ≡ b → kept_if (λ i. nat_le i.ts at) (if not b then Some i else None) ≡ None → i.meta.id ≡ reader
-      by true is none = same-is i.meta.id reader is
+      by true is none = same_txn-is i.meta.id reader is
       by false is none = absurd (blocked (nat_le i.ts at) refl none)
 
 carried : (id reader : TxnId) (span piece : Span) (ts at : ℕ) (s : RangeState) → reader ≡ id → span ≡ piece → at ≡ ts → HasRead reader piece at s → HasRead id span ts s
@@ -101,21 +101,21 @@ module _ (s : RangeState) (rising : IsRising s) where
       s.intents (differ-found key s.intents rising.single))
 
   module _ (id : TxnId) (span : Span) (ts : ℕ) where
-    get-read : (reader : TxnId) (epoch seq at : ℕ) (key : List ℕ) (o : Option Intent) → get_blocker reader at key s ≡ o → (found : Origin × Option (List ℕ)) → IsRead id span ts (requests.Get reader epoch seq at key) (get_reply o key found)
-        → HasRead id span ts (record s { bound = read_bound o reader at s.bound })
+    get-read : (reader : TxnId) (epoch seq at : ℕ) (key : List ℕ) (o : Option Intent) → get_blocker reader at key s ≡ o → (found : Origin × Option (List ℕ)) → IsReadOfSpan id span ts (requests.Get reader epoch seq at key) (get_reply o key found)
+        → HasRead id span ts (record s { bound = bound_after_read o reader at s.bound })
     get-read reader epoch seq at key None none found h =
         carried id reader span (One key) ts at (record s { bound = raised at (Some reader) s.bound }) h.0 h.1 h.2
         (record { clear = get-clear reader at key none; closed = raised-closed reader at s.bound })
     get-read reader epoch seq at key (Some i) met found h = absurd h
 
-    scan-read : (reader : TxnId) (epoch seq at : ℕ) (piece : Span) (o : Option (List ℕ × Intent)) → first_other piece at reader s.intents ≡ o → (rows : List (List ℕ × Origin × List ℕ)) → IsRead id span ts (requests.Scan reader epoch seq at piece) (scan_reply o rows)
-        → HasRead id span ts (record s { bound = read_bound (option_map (λ e. e.1) o) reader at s.bound })
+    scan-read : (reader : TxnId) (epoch seq at : ℕ) (piece : Span) (o : Option (List ℕ × Intent)) → first_other piece at reader s.intents ≡ o → (rows : List (List ℕ × Origin × List ℕ)) → IsReadOfSpan id span ts (requests.Scan reader epoch seq at piece) (scan_reply o rows)
+        → HasRead id span ts (record s { bound = bound_after_read (option_map (λ e. e.1) o) reader at s.bound })
     scan-read reader epoch seq at piece None none rows h =
         carried id reader span piece ts at (record s { bound = raised at (Some reader) s.bound }) h.0 h.1 h.2
         (record { clear = All-from_recursion (IsClear reader piece at) s.intents (none-other piece at reader s.intents none); closed = raised-closed reader at s.bound })
     scan-read reader epoch seq at piece (Some e) met rows h = absurd h
 
-    read-now : (request : Request) → IsRead id span ts request (reply request s) → HasRead id span ts (state_after request s) × ((state_after request s).versions ≡ s.versions)
+    read-now : (request : Request) → IsReadOfSpan id span ts request (reply request s) → HasRead id span ts (state_after request s) × ((state_after request s).versions ≡ s.versions)
     read-now (requests.Get reader epoch seq at key) h =
         let r = get-read reader epoch seq at key (get_blocker reader at key s) refl (found_at reader epoch seq at key s) h in
         (record { clear = r.clear; closed = r.closed }, refl)
@@ -184,7 +184,7 @@ module _ (head : Head) (range : ℕ) (id : TxnId) (span : Span) where
       → HasRead id span ts (state_at head range (before ++ e ∷ later)) × GrowsAbove id span ts (state_at head range before).versions (state_at head range (before ++ e ∷ later)).versions
   reads_stand ts before e later run a =
       let s = state_at head range before in
-      let so = answered_so head before range (IsRead id span ts) e (run_front head before (e ∷ later) run) (run_may head before e later run) a in
+      let so = answered_so head before range (IsReadOfSpan id span ts) e (run_front head before (e ∷ later) run) (run_may head before e later run) a in
       let now = read-now s (versions_rise head range before) id span ts so.request so.is in
       let here : HasRead id span ts (state_at head range (before ++ e ∷ [])) = subst (HasRead id span ts) (sym so.after) now.0 in
       let on = reads-on ts before e later here in

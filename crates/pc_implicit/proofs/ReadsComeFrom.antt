@@ -6,7 +6,6 @@ use Rattle.pc_base.specs.declared.actor.ActorId.TheVariants as actors
 use Rattle.pc_base.specs.declared.entry.Entry.{Entry}
 use Rattle.pc_base.specs.declared.span.Span.{Span}
 use Rattle.pc_base.specs.declared.transaction.TxnId.{TxnId}
-use Rattle.pc_history.proofs.Lists.{contains_nil}
 use Rattle.pc_history.specs.History.{MayFollow}
 use Rattle.pc_implicit.proofs.Commits.{act_of}
 use Rattle.pc_implicit.proofs.Did.{came_from, newly_done, session_at}
@@ -15,6 +14,7 @@ use Rattle.pc_implicit.proofs.Fronts.{EachAfter, IsFront, each_after_push, each_
 use Rattle.pc_implicit.proofs.Moves.{Moves, Puts, Reads, Restarts, Stays, TellsRead}
 use Rattle.pc_implicit.proofs.ReadSources.{now-read, rows-from, value-from}
 use Rattle.pc_implicit.proofs.SessionReads.{ComesFrom, IsReadAt, ReadsFrom, ReadsPieces}
+use Rattle.pc_lists.proofs.Lists.{contains_nil}
 use Rattle.pc_proto.specs.declared.answer.Answer.{Answer}
 use Rattle.pc_proto.specs.declared.answer.Answer.TheVariants as answers
 use Rattle.pc_proto.specs.declared.call.Call.{Call}

@@ -25,14 +25,15 @@ use Rattle.pc_proto.specs.declared.reply.Reply.{Reply}
 use Rattle.pc_proto.specs.declared.request.Request.{Request}
 use Rattle.pc_proto.specs.declared.request.Request.TheVariants as requests
 use Rattle.pc_proto.specs.Place.{Place, Nothing, Kept, Marked, Change, Stay, Become, Finish, after, is_decided, is_final}
-use Rattle.pc_proto.specs.RecordRows.{change, subject}
+use Rattle.pc_proto.specs.RecordRows.{place_change}
 use Rattle.pc_proto.specs.RecordRows.Abort.{abort}
 use Rattle.pc_proto.specs.RecordRows.Beat.{beat}
 use Rattle.pc_proto.specs.RecordRows.Commit.{commit}
-use Rattle.pc_proto.specs.RecordRows.Push.{Verdict, There, Refuse, Doubt, Do, on_verdict, push, pushed, verdict}
+use Rattle.pc_proto.specs.RecordRows.Push.{Verdict, There, Refuse, Doubt, Do, on_verdict, push, push_verdict, pushed}
 use Rattle.pc_proto.specs.RecordRows.Reached.{activity_of, is_reached, is_staged_at, is_staging, status_of}
 use Rattle.pc_proto.specs.RecordRows.Recover.{decided, recover}
 use Rattle.pc_proto.specs.RecordRows.Remove.{remove}
+use Rattle.pc_proto.specs.Requests.{subject}
 use Rattle.pc_proto.specs.Table.{place_of}
 use Rattle.pc_world.proofs.Knowing.{state_other, state_same}
 use Rattle.pc_world.specs.After.{place_at, state_at}
@@ -142,7 +143,7 @@ module _ (history : List (Entry Event)) (range : ℕ) where
   sent-there send number (requests.Commit meta ts locks) listed sends = record { send = send; listed = listed; number = number; meta = meta; locks = locks; sends = sends; whose = refl }
   sent-there send number request listed sends = tt
 
-  recorded-row : (id : TxnId) (request : Request) (p : Place) → IsNoStage request → SentThere request → subject request ≡ Some id → IsRecorded history range id p → IsRecorded history range id (after p (change request p))
+  recorded-row : (id : TxnId) (request : Request) (p : Place) → IsNoStage request → SentThere request → subject request ≡ Some id → IsRecorded history range id p → IsRecorded history range id (after p (place_change request p))
   unfolding SentThere Here
   recorded-row id (requests.Beat meta ts now) p is sent about h = either history range id (is_decided p) p Stay (beat meta ts now p) h (beat-recorded history range id meta ts now p h)
   recorded-row id (requests.Commit meta ts locks) p is sent about h =
@@ -153,7 +154,7 @@ module _ (history : List (Entry Event)) (range : ℕ) where
       (subst (λ i. WasSent history range i ts) same sent) h)
   recorded-row id (requests.Abort meta why locks) p is sent about h = either history range id (is_decided p) p Stay (abort meta why locks p) h tt
   recorded-row id (requests.Push holder by level now goal) p is sent about h =
-      either history range id (is_decided p) p Stay (push holder by level now goal p) h (push-recorded history range id holder by goal (verdict holder level now goal p) p h)
+      either history range id (is_decided p) p Stay (push holder by level now goal p) h (push-recorded history range id holder by goal (push_verdict holder level now goal p) p h)
   recorded-row id (requests.Recover other epoch ts anchor finding) p is sent about h =
       either history range id (is_decided p) p Stay (recover epoch ts finding p) h
       (subst (λ c. IsRecorded history range id (after p c)) (sym (recovers_nothing history range id p epoch ts finding h)) h)

@@ -44,21 +44,22 @@ use Rattle.pc_proto.specs.declared.view.View.TheVariants as views
 use Rattle.pc_proto.specs.declared.why.Why.{Why}
 use Rattle.pc_proto.specs.declared.why.Why.TheVariants as whys
 use Rattle.pc_proto.specs.Place.{Place, Nothing, Kept, Marked, Stay, after, is_final, status_view, view_of}
-use Rattle.pc_proto.specs.RecordRows.{change}
+use Rattle.pc_proto.specs.RecordRows.{place_change}
 use Rattle.pc_proto.specs.RecordRows.Reached.{is_staged_at, is_staging, status_of}
 use Rattle.pc_proto.specs.RecordRows.Recover.{decided, recover}
+use Rattle.pc_proto.specs.Replies.{view_in}
+use Rattle.pc_proto.specs.Requests.{Recovers}
 use Rattle.pc_world.proofs.Prefixes.{run_front, run_may}
 use Rattle.pc_world.specs.After.{known_at, place_at, state_at}
 use Rattle.pc_world.specs.Committed.{IsCommitted}
-use Rattle.pc_world.specs.Decisions.{AnswersCommitted, Recovers}
+use Rattle.pc_world.specs.Decisions.{AnswersCommitted}
 use Rattle.pc_world.specs.Evaluation.{reply as reply_of}
 use Rattle.pc_world.specs.Known.Traffic.{reply_in}
 use Rattle.pc_world.specs.Local.{Head}
 use Rattle.pc_world.specs.Named.{request_in, request_named}
 use Rattle.pc_world.specs.Run.{IsRun, protocol}
 use Rattle.pc_world.specs.Send.Recovery.{MaySendRecover, WasFound}
-use Rattle.pc_world.specs.StageFate.{Stage, stage_request}
-use Rattle.pc_world.specs.Views.{view_in}
+use Rattle.pc_world.specs.StageFate.{SentStage, stage_request}
 
 -- the evaluation that gives a reply
 pub replies_what : (event : Event) (reply : Reply) → reply_in event ≡ Some reply → (actor : ActorId) × (number : ℕ) × (event ≡ events.Eval actor number reply)
@@ -95,7 +96,7 @@ view-decides (Marked s) epoch ts locks is = by s.standing refl s.epoch refl s.ts
 
 -- what becomes of a place over a recovery: it stays, or it is a staging record
 pub data IsRecovering (id : TxnId) (epoch ts : ℕ) (anchor : List ℕ) (finding : Finding) (p : Place) : Type 0 where
-  LeavesIt : after p (change (requests.Recover id epoch ts anchor finding) p) ≡ p → IsRecovering id epoch ts anchor finding p
+  LeavesIt : after p (place_change (requests.Recover id epoch ts anchor finding) p) ≡ p → IsRecovering id epoch ts anchor finding p
   OfStaging : (r : Record) → p ≡ Kept r → r.status.standing ≡ standings.Staging → IsRecovering id epoch ts anchor finding p
 
 recovering : (id : TxnId) (epoch ts : ℕ) (anchor : List ℕ) (finding : Finding) (p : Place) → IsRecovering id epoch ts anchor finding p
@@ -122,7 +123,7 @@ module _ (head : Head) (before : List (Entry Event)) (run : IsRun head before) (
     (send : Entry Event) (listed : Contains before send) (number range : ℕ) (anchor : List ℕ)
     (sends : send.event ≡ events.Send number range (requests.Recover id r.status.epoch r.status.ts anchor findings.All)) where
   -- each write was found, so it was present
-  found-one : (s : Stage) → WasStaged before s → IsOpenTo head before s → (front back : List (Entry Event)) → front ++ back ≡ before → IsRun head front → (actor : ActorId) (w : List ℕ × ℕ) → s.meta.id ≡ id → s.meta.epoch ≡ r.status.epoch → s.ts ≡ r.status.ts
+  found-one : (s : SentStage) → WasStaged before s → IsOpenTo head before s → (front back : List (Entry Event)) → front ++ back ≡ before → IsRun head front → (actor : ActorId) (w : List ℕ × ℕ) → s.meta.id ≡ id → s.meta.epoch ≡ r.status.epoch → s.ts ≡ r.status.ts
       → Any (WasFound id r.status.epoch r.status.ts w) (known_at head actor front).heard → WasThere head before s w
   found-one s sent opened front back joined run_of actor w whose epoch ts (n, h, inside, at, found) =
       let request = requests.Query id r.status.epoch w.1 r.status.ts w.0 found.by in
@@ -132,7 +133,7 @@ module _ (head : Head) (before : List (Entry Event)) (run : IsRun head before) (
       found_there head before run s sent opened w (record { by = found.by; replied = subst (λ q. WasReplied before q replies.Found) asks replied })
 
   -- so its stage commits it
-  found_all : (s : Stage) × CommitsBy head before s × (s.meta.id ≡ id) × (s.ts ≡ r.status.ts)
+  found_all : (s : SentStage) × CommitsBy head before s × (s.meta.id ≡ id) × (s.ts ≡ r.status.ts)
   found_all =
       let as_sent = staged_as head before run id r home staging in
       let s = as_sent.stage in
@@ -149,7 +150,7 @@ module _ (head : Head) (before : List (Entry Event)) (run : IsRun head before) (
       let also : WasStaged before seen.stage = subst (λ h. WasStaged h seen.stage) joined (staged_along at.before (send ∷ at.later) seen.stage seen.sent) in
       let one : seen.stage ≡ s =
       one_staged head before run s seen.stage as_sent.sent also (seen.whose ∙ sym as_sent.whose) (seen.epoch_is ∙ sym as_sent.epoch_is) (seen.ts_is ∙ sym as_sent.ts_is) opened in
-      let writes : s.writes ≡ row.writes = ap (λ (x : Stage). x.writes) (sym one) ∙ seen.writes_are in
+      let writes : s.writes ≡ row.writes = ap (λ (x : SentStage). x.writes) (sym one) ∙ seen.writes_are in
       let was : (w : List ℕ × ℕ) → Contains s.writes w → WasThere head before s w =
       λ w listed.
       found-one s as_sent.sent opened at.before (send ∷ at.later) joined run_of send.actor w as_sent.whose as_sent.epoch_is as_sent.ts_is
@@ -178,12 +179,12 @@ module _ (head : Head) (before : List (Entry Event)) (run : IsRun head before) w
   -- what a recovery decides committed was committed
   recovered-staging : (id : TxnId) (epoch ts : ℕ) (anchor : List ℕ) (finding : Finding) (number range : ℕ) (send : Entry Event) → Contains before send
       → send.event ≡ events.Send number range (requests.Recover id epoch ts anchor finding) → (r : Record) → home_of head id before ≡ Kept r → r.status.standing ≡ standings.Staging
-      → (at_epoch at : ℕ) → decision (after (Kept r) (change (requests.Recover id epoch ts anchor finding) (Kept r))) ≡ Some (status_of standings.Committed at_epoch at) → IsCommitted head before id at
+      → (at_epoch at : ℕ) → decision (after (Kept r) (place_change (requests.Recover id epoch ts anchor finding) (Kept r))) ≡ Some (status_of standings.Committed at_epoch at) → IsCommitted head before id at
   recovered-staging id epoch ts anchor finding number range send listed sends r home staging at_epoch at decides =
       elim (leaves_by r staging (requests.Recover id epoch ts anchor finding)) [
         | Stages still ↦
             let unfinal : is_final still.now.status.standing ≡ false = ap (λ (x : Status). is_final x.standing) still.same_status ∙ ap is_final staging in
-            let none : decision (after (Kept r) (change (requests.Recover id epoch ts anchor finding) (Kept r))) ≡ None =
+            let none : decision (after (Kept r) (place_change (requests.Recover id epoch ts anchor finding) (Kept r))) ≡ None =
             ap decision still.kept ∙ ap (λ b. if b then Some still.now.status else None) unfinal in
             let both : None ≡ Some (status_of standings.Committed at_epoch at) = sym none ∙ decides in absurd cc
         | ByCommit meta t locks asks epoch_low ts_low so ↦ absurd cc
@@ -204,12 +205,12 @@ module _ (head : Head) (before : List (Entry Event)) (run : IsRun head before) w
       not-committed : (why : Why) → standings.Aborted why ≡ standings.Committed → ⊥
       not-committed why same = absurd cc
 
-      no-stage : (s : Stage) → requests.Recover id epoch ts anchor finding ≡ stage_request s → ⊥
+      no-stage : (s : SentStage) → requests.Recover id epoch ts anchor finding ≡ stage_request s → ⊥
       no-stage s asks = absurd cc
 
   answers-so : (id : TxnId) (epoch ts : ℕ) (anchor : List ℕ) (finding : Finding) (number range : ℕ) (send : Entry Event) → Contains before send
       → send.event ≡ events.Send number range (requests.Recover id epoch ts anchor finding) → (at_epoch at : ℕ)
-      → decision (after (home_of head id before) (change (requests.Recover id epoch ts anchor finding) (home_of head id before))) ≡ Some (status_of standings.Committed at_epoch at)
+      → decision (after (home_of head id before) (place_change (requests.Recover id epoch ts anchor finding) (home_of head id before))) ≡ Some (status_of standings.Committed at_epoch at)
       → IsCommitted head before id at
   answers-so id epoch ts anchor finding number range send listed sends at_epoch at decides =
       let p = home_of head id before in
@@ -217,7 +218,7 @@ module _ (head : Head) (before : List (Entry Event)) (run : IsRun head before) w
       elim (recovering id epoch ts anchor finding p) [
         | LeavesIt same ↦ home_commits head id before at_epoch at (ap decision (sym same) ∙ decides)
         | OfStaging r home staging ↦
-            recovered-staging id epoch ts anchor finding number range send listed sends r home staging at_epoch at (ap (λ q. decision (after q (change request q))) (sym home) ∙ decides)
+            recovered-staging id epoch ts anchor finding number range send listed sends r home staging at_epoch at (ap (λ q. decision (after q (place_change request q))) (sym home) ∙ decides)
       ]
 
   -- what a recovery answers committed was committed before it
@@ -234,12 +235,12 @@ module _ (head : Head) (before : List (Entry Event)) (run : IsRun head before) w
       let anchored = subject_anchored head before run ev.send ev.listed what.1 ev.range request id sends refl in
       let home : place_at head ev.range id before ≡ home_of head id before = ap (λ r. place_at head r id before) anchored.there ∙ sym (home_is head id before anchored.anchor anchored.anchored) in
       let told : a.reply ≡ reply_of request (state_at head ev.range before) = reply_is head before e what.0 what.1 a.reply may what.2 ev ∙ ap (λ q. reply_of q (state_at head ev.range before)) is in
-      let answer_is : a.reply ≡ replies.Status (view_of (after (home_of head id before) (change request (home_of head id before)))) =
-      told ∙ ap (λ p. replies.Status (view_of (after p (change request p)))) home in
+      let answer_is : a.reply ≡ replies.Status (view_of (after (home_of head id before) (place_change request (home_of head id before)))) =
+      told ∙ ap (λ p. replies.Status (view_of (after p (place_change request p)))) home in
       let view = committed-view ts (view_in a.reply) a.shown in
-      let shown : Some (view_of (after (home_of head id before) (change request (home_of head id before)))) ≡ Some (views.Committed view.0 ts view.1) = sym (ap view_in answer_is) ∙ view.2 in
+      let shown : Some (view_of (after (home_of head id before) (place_change request (home_of head id before)))) ≡ Some (views.Committed view.0 ts view.1) = sym (ap view_in answer_is) ∙ view.2 in
       answers-so id kind.0 kind.1 kind.2 kind.3 what.1 ev.range ev.send ev.listed sends view.0 ts
-      (view-decides (after (home_of head id before) (change request (home_of head id before))) view.0 ts view.1 (one-view shown))
+      (view-decides (after (home_of head id before) (place_change request (home_of head id before))) view.0 ts view.1 (one-view shown))
     where
       one-view : {x y : View} → ◌≡◌ {A = Option View} (Some x) (Some y) → x ≡ y
       one-view h = cc

@@ -5,16 +5,16 @@ use Rattle.std.proofs.lemmas.List.{append_assoc}
 use Rattle.std.proofs.lemmas.List.Elements.{All-contains, Contains-append_left, Contains-push, Contains-push_cases}
 use Rattle.pc_base.specs.declared.actor.ActorId.{ActorId}
 use Rattle.pc_base.specs.declared.entry.Entry.{Entry}
-use Rattle.pc_history.proofs.Lists.{contains_nil}
-use Rattle.pc_implicit.proofs.Anchored.{each_contained}
 use Rattle.pc_implicit.proofs.Doing.{same_or_not}
 use Rattle.pc_implicit.proofs.EvaluatedAt.{goes_to}
 use Rattle.pc_implicit.proofs.Hearing.{IsSo, heard_is_so}
-use Rattle.pc_implicit.proofs.Keyed.{same-itself}
 use Rattle.pc_implicit.proofs.Lift.{over}
 use Rattle.pc_implicit.proofs.Runs.{kept-status}
 use Rattle.pc_implicit.proofs.Views.{Stands, places_go_on}
 use Rattle.pc_implicit.specs.Decided.{decision, epoch_of, time_of}
+use Rattle.pc_lists.proofs.Each.{each-contains}
+use Rattle.pc_lists.proofs.Lists.{contains_nil}
+use Rattle.pc_lists.proofs.Same.{same_txn-self}
 use Rattle.pc_proto.specs.declared.event.Event.{Event}
 use Rattle.pc_proto.specs.declared.event.Event.TheVariants as events
 use Rattle.pc_proto.specs.declared.meta.TxnMeta.{TxnMeta}
@@ -28,17 +28,18 @@ use Rattle.pc_proto.specs.Place.{Place, Nothing, Kept, Marked, Become, Stay, aft
 use Rattle.pc_proto.specs.RecordRows.{answer}
 use Rattle.pc_proto.specs.RecordRows.Commit.{commit}
 use Rattle.pc_proto.specs.RecordRows.Reached.{activity_of, is_reached, status_of}
+use Rattle.pc_proto.specs.Replies.{is_undecided_status}
+use Rattle.pc_proto.specs.Views.{is_final_view}
 use Rattle.pc_world.proofs.Knowing.{known_other, known_same}
 use Rattle.pc_world.proofs.Prefixes.{run_front, run_induction}
 use Rattle.pc_world.specs.After.{known_at, place_at, state_at}
 use Rattle.pc_world.specs.Evaluation.{reply as reply_of}
 use Rattle.pc_world.specs.Known.{Known}
 use Rattle.pc_world.specs.Known.Traffic.{Heard, Sent, sent_by}
-use Rattle.pc_world.specs.Known.Transactions.{is_final_view}
 use Rattle.pc_world.specs.Local.{Head}
 use Rattle.pc_world.specs.RangeOf.{range_of}
 use Rattle.pc_world.specs.Run.{IsRun}
-use Rattle.pc_world.specs.StageFate.{IsRefused, IsUncommitted, OnCommit, is_unsettled_status}
+use Rattle.pc_world.specs.StageFate.{IsUncommitted, OnCommit, WasCommitRefused}
 
 -- the epoch and the timestamp of a decided place
 decided-at : (q : Place) (s : Status) → decision q ≡ Some s → (epoch_of q ≡ s.epoch) × (time_of q ≡ s.ts)
@@ -56,7 +57,7 @@ module _ (meta : TxnMeta) (ts : ℕ) (locks : List (List ℕ)) (q : Place) (deci
       cc no
 
   kept-answer : (r : Record) → Stands (Kept r) q → (b : Bool) → is_final r.status.standing ≡ b
-      → is_unsettled_status (replies.Status (view_of (after (Kept r) (if b then Stay else commit meta ts locks (Kept r))))) ≡ true → ⊥
+      → is_undecided_status (replies.Status (view_of (after (Kept r) (if b then Stay else commit meta ts locks (Kept r))))) ≡ true → ⊥
   kept-answer r stands true final more = final-view r.status r.writes r.locks (stands.decided r.status (ap (λ b. if b then Some r.status else None) final)) more
   kept-answer r stands false pending more =
       let at = decided-at q (status_of standings.Committed meta.epoch ts) decided in
@@ -68,14 +69,14 @@ module _ (meta : TxnMeta) (ts : ℕ) (locks : List (List ℕ)) (q : Place) (deci
       and_from (nat_le r.status.epoch meta.epoch) (nat_le r.status.ts ts) (le-leb r.status.epoch meta.epoch (omega (arith, epoch, epoch_is))) (le-leb r.status.ts ts (omega (arith, time, time_is))) in
       let no : false ≡ true =
       ap
-      (λ b. is_unsettled_status (replies.Status (view_of (after (Kept r)
+      (λ b. is_undecided_status (replies.Status (view_of (after (Kept r)
       (if b
       then Become (record { meta = meta; status = status_of standings.Committed meta.epoch ts; activity = activity_of (Kept r) meta.born; writes = []; locks = locks })
       else Stay))))) (sym reached) ∙ more in
       cc no
 
   -- it is answered with a final view wherever the place goes on to that
-  pub answered-final : (p : Place) → Stands p q → is_unsettled_status (answer (requests.Commit meta ts locks) p) ≡ true → ⊥
+  pub answered-final : (p : Place) → Stands p q → is_undecided_status (answer (requests.Commit meta ts locks) p) ≡ true → ⊥
   answered-final Nothing stands more = cc more
   answered-final (Kept r) stands more = kept-answer r stands (is_final r.status.standing) refl more
   answered-final (Marked s) stands more = final-view s [] [] (stands.decided s refl) more
@@ -114,7 +115,7 @@ module _ (head : Head) where
     run-before = run_front head front back run
 
     -- no answer to it was unsettled
-    answered-settled : (actor : ActorId) (h : Heard) → IsSo head front actor h → h.request ≡ requests.Commit meta ts locks → is_unsettled_status h.reply ≡ true → ⊥
+    answered-settled : (actor : ActorId) (h : Heard) → IsSo head front actor h → h.request ≡ requests.Commit meta ts locks → is_undecided_status h.reply ≡ true → ⊥
     answered-settled actor h w asked unsettled =
         let commit : Request = requests.Commit meta ts locks in
         let one : range ≡ range_of head.splits meta.anchor = goes_to head front run-before a there number range commit sends in
@@ -125,12 +126,12 @@ module _ (head : Head) where
         let whole : w.front ++ (w.back ++ back) ≡ front ++ back = sym (append_assoc w.front w.back back) ∙ ap (λ l. l ++ back) w.whole in
         let stands : Stands (place_at head range meta.id w.front) (place_at head range meta.id (front ++ back)) =
         subst (λ l. Stands (place_at head range meta.id w.front) (place_at head range meta.id l)) whole (over _ (places_go_on meta.id) head range w.front (w.back ++ back)) in
-        answered-final meta ts locks (place_at head range meta.id (front ++ back)) decided (place_at head range meta.id w.front) stands (ap is_unsettled_status (sym told) ∙ unsettled)
+        answered-final meta ts locks (place_at head range meta.id (front ++ back)) decided (place_at head range meta.id w.front) stands (ap is_undecided_status (sym told) ∙ unsettled)
 
     -- so it is not known refused
-    pub not_refused : IsRefused (known_at head a.actor front).heard (record { meta = meta; ts = ts; locks = locks }) → ⊥
+    pub not_refused : WasCommitRefused (known_at head a.actor front).heard (record { meta = meta; ts = ts; locks = locks }) → ⊥
     not_refused (n, h, inside, at, r) =
-        answered-settled a.actor h (each_contained (IsSo head front a.actor) (known_at head a.actor front).heard h (heard_is_so head front run-before a.actor) (n, inside, at)) r.asked r.unsettled
+        answered-settled a.actor h (each-contains (IsSo head front a.actor) (known_at head a.actor front).heard h (heard_is_so head front run-before a.actor) (n, inside, at)) r.asked r.unsettled
 
     -- nor is its transaction known uncommitted
     pub never_refused : IsUncommitted meta.id (known_at head a.actor front).sent (known_at head a.actor front).heard → ⊥
@@ -138,5 +139,5 @@ module _ (head : Head) where
         let k = known_at head a.actor front in
         let m : Sent = record { number = number; range = range; request = requests.Commit meta ts locks } in
         let sent : Contains k.sent m = sent_known front run-before a there number range (requests.Commit meta ts locks) sends in
-        let on : OnCommit meta.id (IsRefused k.heard) (requests.Commit meta ts locks) = All-contains (λ (x : Sent). OnCommit meta.id (IsRefused k.heard) x.request) k.sent m uncommitted.commits sent in
-        not_refused (on (same-itself meta.id))
+        let on : OnCommit meta.id (WasCommitRefused k.heard) (requests.Commit meta ts locks) = All-contains (λ (x : Sent). OnCommit meta.id (WasCommitRefused k.heard) x.request) k.sent m uncommitted.commits sent in
+        not_refused (on (same_txn-self meta.id))

@@ -13,7 +13,7 @@ use Rattle.pc_proto.specs.declared.request.Request.{Request}
 use Rattle.pc_proto.specs.declared.request.Request.TheVariants as requests
 use Rattle.pc_proto.specs.declared.why.Why.{Why}
 use Rattle.pc_proto.specs.Place.{Place, Nothing, Kept, Marked, Change, Stay, after, is_decided}
-use Rattle.pc_proto.specs.RecordRows.{change, unless_decided}
+use Rattle.pc_proto.specs.RecordRows.{place_change, unless_decided}
 use Rattle.pc_proto.specs.RecordRows.Abort.{abort}
 use Rattle.pc_proto.specs.RecordRows.Beat.{beat}
 use Rattle.pc_proto.specs.RecordRows.Commit.{commit}
@@ -36,7 +36,7 @@ unless-keeps : (p : Place) (c : Change) (s : Status) → decision p ≡ Some s �
 unless-keeps p c s h = let d : is_decided p ≡ true = decided-if p s h in ap (λ b. decision (after p (if b then Stay else c))) d ∙ h
 
 -- a decision stands
-pub decision-row : (s : Status) (request : Request) (p : Place) → decision p ≡ Some s → decision (after p (change request p)) ≡ Some s
+pub decision-row : (s : Status) (request : Request) (p : Place) → decision p ≡ Some s → decision (after p (place_change request p)) ≡ Some s
 decision-row s (requests.Beat meta ts now) p h = unless-keeps p (beat meta ts now p) s h
 decision-row s (requests.Stage meta ts now writes locks) p h = unless-keeps p (stage meta ts now writes locks p) s h
 decision-row s (requests.Commit meta ts locks) p h = unless-keeps p (commit meta ts locks p) s h
@@ -90,7 +90,7 @@ unless-rises p c true rises = not-below-itself p
 unless-rises p c false rises = rises refl
 
 -- neither the epoch nor the timestamp falls
-pub rises-row : (request : Request) (p : Place) → IsNotBelow p (after p (change request p))
+pub rises-row : (request : Request) (p : Place) → IsNotBelow p (after p (place_change request p))
 rises-row (requests.Beat meta ts now) p = unless-rises p (beat meta ts now p) (is_decided p) (λ d. beat-rises meta ts now p)
 rises-row (requests.Stage meta ts now writes locks) p = unless-rises p (stage meta ts now writes locks p) (is_decided p) (λ d. stage-rises meta ts now writes locks p)
 rises-row (requests.Commit meta ts locks) p = unless-rises p (commit meta ts locks p) (is_decided p) (λ d. commit-rises meta ts locks p)
@@ -104,7 +104,7 @@ unless-decides : (p : Place) (c : Change) → is_decided p ≡ true → is_decid
 unless-decides p c d = ap (λ b. is_decided (after p (if b then Stay else c))) d ∙ d
 
 -- what is decided stays decided
-pub decided-row : (request : Request) (p : Place) → is_decided p ≡ true → is_decided (after p (change request p)) ≡ true
+pub decided-row : (request : Request) (p : Place) → is_decided p ≡ true → is_decided (after p (place_change request p)) ≡ true
 decided-row (requests.Beat meta ts now) p d = unless-decides p (beat meta ts now p) d
 decided-row (requests.Stage meta ts now writes locks) p d = unless-decides p (stage meta ts now writes locks p) d
 decided-row (requests.Commit meta ts locks) p d = unless-decides p (commit meta ts locks p) d

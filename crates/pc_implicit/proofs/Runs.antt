@@ -24,19 +24,19 @@ use Rattle.pc_proto.specs.declared.view.View.{View}
 use Rattle.pc_proto.specs.declared.view.View.TheVariants as views
 use Rattle.pc_proto.specs.Place.{Place, Nothing, Kept, Marked, is_final, status_view, view_of}
 use Rattle.pc_proto.specs.RecordRows.Reached.{is_staged_at, status_of}
+use Rattle.pc_proto.specs.Replies.{view_in}
 use Rattle.pc_proto.specs.Table.{place_of}
+use Rattle.pc_proto.specs.Views.{is_final_view}
 use Rattle.pc_world.proofs.Knowing.{state_same}
 use Rattle.pc_world.proofs.Prefixes.{run_front, run_may}
 use Rattle.pc_world.specs.After.{place_at, state_at}
 use Rattle.pc_world.specs.Evaluation.{reply, state_after}
 use Rattle.pc_world.specs.Known.Traffic.{reply_in}
-use Rattle.pc_world.specs.Known.Transactions.{is_final_view}
 use Rattle.pc_world.specs.Local.{Head, IsAnswer, MayComeNext, MayEvaluate}
 use Rattle.pc_world.specs.Named.{request_in, request_named}
 use Rattle.pc_world.specs.RangeState.{RangeState}
 use Rattle.pc_world.specs.Run.{IsRun, protocol}
 use Rattle.pc_world.specs.StateOf.{state_with}
-use Rattle.pc_world.specs.Views.{view_in}
 
 pub decisions_stand : (head : Head) (range : ℕ) (id : TxnId) (front back : List (Entry Event)) (s : Status) → decision (place_at head range id front) ≡ Some s → decision (place_at head range id (front ++ back)) ≡ Some s
 decisions_stand head range id front back s h = (over _ (places_go_on id) head range front back).decided s h

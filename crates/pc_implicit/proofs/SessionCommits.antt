@@ -19,7 +19,7 @@ use Rattle.pc_world.specs.Local.{Head}
 use Rattle.pc_world.specs.Operations.{Operation, Write, operations_of}
 use Rattle.pc_world.specs.Send.Commit.{MayDecide}
 use Rattle.pc_world.specs.Send.Stage.{MaySendNewStage}
-use Rattle.pc_world.specs.StageFate.{Stage, stage_request}
+use Rattle.pc_world.specs.StageFate.{SentStage, stage_request}
 
 -- A write as the operation that it is.
 abbrev pub written : WriteMade → Operation
@@ -46,7 +46,7 @@ pub record DecidesByTell (t : Txn) (ts : ℕ) (e : Entry Event) : Type 0 where
 pub record DecidesByStage (k : Known) (t : Txn) (ts : ℕ) (e : Entry Event) : Type 0 where
   pub number : ℕ
   pub range : ℕ
-  pub stage : Stage
+  pub stage : SentStage
   pub sends : e.event ≡ events.Send number range (stage_request stage)
   pub new : MaySendNewStage k stage
   pub own : new.t ≡ t

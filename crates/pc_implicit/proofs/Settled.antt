@@ -6,7 +6,6 @@ use Rattle.std.specs.Option.{option_map_or, option_or}
 use Rattle.pc_base.specs.declared.actor.ActorId.TheVariants as actors
 use Rattle.pc_base.specs.declared.entry.Entry.{Entry}
 use Rattle.pc_base.specs.declared.transaction.TxnId.{TxnId}
-use Rattle.pc_history.proofs.Lists.{contains_nil}
 use Rattle.pc_history.specs.History.{MayFollow}
 use Rattle.pc_implicit.proofs.Anchored.{put_anchored}
 use Rattle.pc_implicit.proofs.CommitPoint.{ByCommit, ByRecovery, RecoversNow, decides_how}
@@ -23,12 +22,16 @@ use Rattle.pc_implicit.proofs.ImplicitStands.{implied_epoch, implied_whole}
 use Rattle.pc_implicit.proofs.Turns.{IsAnswered, Restarted, WentOn, Wrote, comes_from, Turn}
 use Rattle.pc_implicit.proofs.WriteLists.{Laid, AreAlike}
 use Rattle.pc_implicit.specs.Decided.{decision}
-use Rattle.pc_implicit.specs.Writes.{StandsBy, home_of, place_under, txns_of, writes_at}
+use Rattle.pc_implicit.specs.Writes.{LastWriteStands, home_of, place_under, txns_of, writes_on}
+use Rattle.pc_lists.proofs.Lists.{contains_nil}
 use Rattle.pc_proto.specs.declared.event.Event.{Event}
 use Rattle.pc_proto.specs.declared.record.Standing.TheVariants as standings
 use Rattle.pc_proto.specs.declared.record.Status.{Status}
+use Rattle.pc_proto.specs.Replies.{view_in}
+use Rattle.pc_proto.specs.Requests.{Recovers}
 use Rattle.pc_proto.specs.Table.{place_of}
 use Rattle.pc_proto.specs.RecordRows.Reached.{is_staged_at, is_staging, status_of}
+use Rattle.pc_proto.specs.Views.{is_committed_at}
 use Rattle.pc_world.proofs.Knowing.{run_push}
 use Rattle.pc_world.proofs.Prefixes.{run_induction}
 use Rattle.pc_world.specs.After.{known_at, place_at, state_at}
@@ -39,8 +42,7 @@ use Rattle.pc_world.specs.Known.Writes.{Write}
 use Rattle.pc_world.specs.Local.{Head}
 use Rattle.pc_world.specs.Run.{IsRun, protocol}
 use Rattle.pc_world.specs.StageFate.{IsDead}
-use Rattle.pc_world.specs.Views.{is_committed_at, view_in}
-use Rattle.pc_world.specs.Decisions.{AnswersCommitted, Recovers}
+use Rattle.pc_world.specs.Decisions.{AnswersCommitted}
 use Rattle.pc_world.specs.Evaluation.{intents_after, reply as reply_of}
 use Rattle.pc_world.specs.Known.Traffic.{reply_in}
 use Rattle.pc_world.specs.Named.{request_in, request_named}
@@ -52,7 +54,7 @@ use Rattle.pc_proto.specs.declared.reply.Reply.TheVariants as replies
 use Rattle.pc_proto.specs.declared.request.Request.{Request}
 use Rattle.pc_proto.specs.declared.request.Request.TheVariants as requests
 use Rattle.pc_proto.specs.Place.{Place, Nothing, Kept, Marked, after, is_final, status_view, view_of}
-use Rattle.pc_proto.specs.RecordRows.{change, table_after}
+use Rattle.pc_proto.specs.RecordRows.{place_change, table_after}
 use Rattle.pc_implicit.proofs.Firsts.{first_push}
 use Rattle.pc_implicit.proofs.SettledNow.{HasWhole, IsImplied, IsSettled, settled_by, settled_now}
 use Rattle.pc_implicit.proofs.SettledOn.{settled_more}
@@ -86,10 +88,10 @@ module _ (head : Head) (history : List (Entry Event)) (run : IsRun head history)
   answers-commit =
       let ev = now.ev in
       let s = state_at head ev.range history in
-      let place : place_at head ev.range id (history ++ e ∷ []) ≡ after (place_of id s.table) (change recovery (place_of id s.table)) =
+      let place : place_at head ev.range id (history ++ e ∷ []) ≡ after (place_of id s.table) (place_change recovery (place_of id s.table)) =
       ap (λ (x : RangeState). place_of id x.table) (evaluated_state head history e now.actor now.number ev.range now.reply ev now.is)
       ∙ ap (λ r. place_of id (table_after r s.table)) now.asks
-      ∙ place_after id (change recovery (place_of id s.table)) s.table in
+      ∙ place_after id (place_change recovery (place_of id s.table)) s.table in
       let told : now.reply ≡ replies.Status (view_of (place_at head ev.range id (history ++ e ∷ []))) =
       reply_is head history e now.actor now.number now.reply may now.is ev ∙ ap (λ r. reply_of r s) now.asks ∙ ap (λ p. replies.Status (view_of p)) (sym place) in
       record {
@@ -189,7 +191,7 @@ module _ (head : Head) where
 
   -- what a committed transaction wrote stands
   pub writes_of_committed : (history : List (Entry Event)) (t : Txn) (ts : ℕ) (key : List ℕ) (front : List Laid) (seq : ℕ) (value : Option (List ℕ)) → IsRun head history
-      → Contains (txns_of head t.id history) t → IsCommitted head history t.id ts → writes_at key t.writes ≡ front ++ (seq, value) ∷ [] → StandsBy head history t key value ts
+      → Contains (txns_of head t.id history) t → IsCommitted head history t.id ts → writes_on key t.writes ≡ front ++ (seq, value) ∷ [] → LastWriteStands head history t key value ts
   writes_of_committed history t ts key front seq value run known committed is =
       elim (because head history run t.id ts committed) [
         | ByDecision epoch decided ↦ (settled head history run t.id epoch ts decided).stand t known refl key front seq value is
@@ -197,7 +199,7 @@ module _ (head : Head) where
             let whole = implied_whole head history run s commits (stages_last head history run) (not_dead head history run s commits) t (subst (λ i. Contains (txns_of head i history) t) (sym whose) known) (sym whose) key front seq value is in
             inr (subst (HasWhole head history t key) ts_is whole)
         | ByTelling none told ↦
-            let both : writes_at key [] ≡ front ++ (seq, value) ∷ [] = ap (writes_at key) (sym (unwritten history run t known none)) ∙ is in
+            let both : writes_on key [] ≡ front ++ (seq, value) ∷ [] = ap (writes_on key) (sym (unwritten history run t known none)) ∙ is in
             absurd (empty front (seq, value) both)
       ]
     where

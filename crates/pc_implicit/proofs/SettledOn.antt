@@ -10,7 +10,7 @@ use Rattle.pc_base.specs.declared.transaction.TxnId.{TxnId}
 use Rattle.pc_base.specs.declared.version.Version.{Version}
 use Rattle.pc_history.specs.History.{MayFollow}
 use Rattle.pc_implicit.proofs.Agreed.{IsNew}
-use Rattle.pc_implicit.proofs.Anchored.{commit_anchored, each_contained}
+use Rattle.pc_implicit.proofs.Anchored.{commit_anchored}
 use Rattle.pc_implicit.proofs.Made.{status_same}
 use Rattle.pc_implicit.proofs.Doing.{same_or_not}
 use Rattle.pc_implicit.proofs.Evals.{NamedMessage, of_entry, range_evaluates}
@@ -26,7 +26,8 @@ use Rattle.pc_implicit.proofs.Turns.{IsAnswered, Restarted, WentOn, Wrote, comes
 use Rattle.pc_implicit.proofs.VersionSteps.{makes_version, version_stays}
 use Rattle.pc_implicit.proofs.WriteLists.{Laid, RiseAt, alike_at, each_low, rise_at, rise_value, written_at}
 use Rattle.pc_implicit.specs.Decided.{decision, epoch_of, time_of}
-use Rattle.pc_implicit.specs.Writes.{IsWholeBy, StandsBy, home_of, own_intent, place_under, txns_of, writes_at}
+use Rattle.pc_implicit.specs.Writes.{IsWholeBy, LastWriteStands, home_of, own_intent, place_under, txns_of, writes_on}
+use Rattle.pc_lists.proofs.Each.{each-contains}
 use Rattle.pc_proto.specs.declared.event.Event.{Event}
 use Rattle.pc_proto.specs.declared.event.Event.TheVariants as events
 use Rattle.pc_proto.specs.declared.fate.Fate.{Fate}
@@ -51,7 +52,7 @@ use Rattle.pc_world.specs.Local.{Head}
 use Rattle.pc_world.specs.RangeOf.{range_of}
 use Rattle.pc_world.specs.RangeState.{RangeState}
 use Rattle.pc_world.specs.Run.{IsRun, protocol}
-use Rattle.pc_world.specs.StageFate.{Commit, IsDead, IsRefused, IsUncommitted, Stage, commit_request, stage_request}
+use Rattle.pc_world.specs.StageFate.{IsDead, IsUncommitted, SentCommit, SentStage, WasCommitRefused, commit_request, stage_request}
 use Rattle.pc_implicit.proofs.SettledNow.{IsSettled, WasAsked, WasImplied}
 use Rattle.pc_implicit.proofs.StagesKnown.{HasSent}
 use Rattle.pc_implicit.proofs.StagesSent.{has_sent_commit, has_sent_stage}
@@ -80,7 +81,7 @@ implied-more head history e id epoch ts w = record {
 }
 
 -- a stage that was sent was sent in every longer history
-pub staged_along : (front back history : List (Entry Event)) → front ++ back ≡ history → (s : Stage) → WasStaged front s → WasStaged history s
+pub staged_along : (front back history : List (Entry Event)) → front ++ back ≡ history → (s : SentStage) → WasStaged front s → WasStaged history s
 staged_along front back history whole s w = record {
   send = w.send;
   listed = subst (λ h. Contains h w.send) whole (Contains-append_left front back w.send w.listed);
@@ -113,7 +114,7 @@ module _ (head : Head) (history : List (Entry Event)) (run : IsRun head history)
       ap (λ r. state_at head r (history ++ e ∷ [])) (sym there) ∙ evaluated_state head history e actor number ev.range told ev is
       ∙ ap (λ r. state_after ev.request (state_at head r history)) there
 
-  put-past : (meta : TxnMeta) (seq0 ts0 : ℕ) (value0 : Option (List ℕ)) (i : Intent) → ev.request ≡ requests.Put meta seq0 ts0 key value0 → meta.id ≡ t.id → i.meta.epoch ≡ t.epoch → i.history ≡ writes_at key t.writes
+  put-past : (meta : TxnMeta) (seq0 ts0 : ℕ) (value0 : Option (List ℕ)) (i : Intent) → ev.request ≡ requests.Put meta seq0 ts0 key value0 → meta.id ≡ t.id → i.meta.epoch ≡ t.epoch → i.history ≡ writes_on key t.writes
       → own_at t.id key s.intents ≡ Some i → overtaken meta seq0 (own_at t.id key s.intents) ≡ false → ⊥
   unfolding s
   put-past meta seq0 ts0 value0 i asked whose same whole own over =
@@ -127,15 +128,15 @@ module _ (head : Head) (history : List (Entry Event)) (run : IsRun head history)
       let past : last_seq i < seq0 = free.1 equal in
       let w = put.written (sym equal ∙ same) in
       let laid : Contains i.history (w.0.seq, w.0.value) = subst (λ l. Contains l (w.0.seq, w.0.value)) (sym whole) (written_at key t.writes w.0 w.1 w.3) in
-      let below : w.0.seq ≤ last_seq i = each_contained (λ (x : Laid). x.0 ≤ last_seq i) i.history (w.0.seq, w.0.value) (each_low i.history) laid in
+      let below : w.0.seq ≤ last_seq i = each-contains (λ (x : Laid). x.0 ≤ last_seq i) i.history (w.0.seq, w.0.value) (each_low i.history) laid in
       let seq : w.0.seq ≡ seq0 = w.2 in
       omega (arith, past, below, seq)
 
   fate-so : (fate : Fate) → ev.request ≡ requests.Resolve t.id key fate → FateIsSo fate (home_of head t.id history)
   fate-so fate asked = fates_are_so head history run ev.send ev.listed number ev.range t.id key fate (ev.sends ∙ ap (events.Send number ev.range) asked)
 
-  intent-stands : (front : List Laid) (seq : ℕ) (value : Option (List ℕ)) → writes_at key t.writes ≡ front ++ (seq, value) ∷ [] → (i : Intent) → own_at t.id key s.intents ≡ Some i → IsWholeBy t key ts i
-      → StandsBy head (history ++ e ∷ []) t key value ts
+  intent-stands : (front : List Laid) (seq : ℕ) (value : Option (List ℕ)) → writes_on key t.writes ≡ front ++ (seq, value) ∷ [] → (i : Intent) → own_at t.id key s.intents ≡ Some i → IsWholeBy t key ts i
+      → LastWriteStands head (history ++ e ∷ []) t key value ts
   unfolding s
   intent-stands front seq value at_key i own w =
       let later : own_intent head t.id key (history ++ e ∷ []) ≡ own_at t.id key (intents_after ev.request s) = ap (λ (x : RangeState). own_at t.id key x.intents) state-is in
@@ -151,7 +152,7 @@ module _ (head : Head) (history : List (Entry Event)) (run : IsRun head history)
         | IsGone fate j asked ends there eq ↦ gone fate ends asked (fate-so fate asked)
       ]
     where
-      gone : (fate : Fate) → Ends fate → ev.request ≡ requests.Resolve t.id key fate → FateIsSo fate (home_of head t.id history) → StandsBy head (history ++ e ∷ []) t key value ts
+      gone : (fate : Fate) → Ends fate → ev.request ≡ requests.Resolve t.id key fate → FateIsSo fate (home_of head t.id history) → LastWriteStands head (history ++ e ∷ []) t key value ts
       gone (fates.Committed at_epoch at) ends asked so =
           let both : Some (status_of standings.Committed at_epoch at) ≡ Some (status_of standings.Committed epoch ts) = sym so ∙ decided in
           let same = status_same at_epoch epoch at ts both in
@@ -172,7 +173,7 @@ module _ (head : Head) (history : List (Entry Event)) (run : IsRun head history)
       gone (fates.Pending at) ends asked so = absurd ends
 
   -- what stood at the key stands after it
-  pub eval_stands : (front : List Laid) (seq : ℕ) (value : Option (List ℕ)) → writes_at key t.writes ≡ front ++ (seq, value) ∷ [] → StandsBy head history t key value ts → StandsBy head (history ++ e ∷ []) t key value ts
+  pub eval_stands : (front : List Laid) (seq : ℕ) (value : Option (List ℕ)) → writes_on key t.writes ≡ front ++ (seq, value) ∷ [] → LastWriteStands head history t key value ts → LastWriteStands head (history ++ e ∷ []) t key value ts
   unfolding s
   eval_stands front seq value at_key stands =
       elim stands [
@@ -193,12 +194,12 @@ module _ (head : Head) (history : List (Entry Event)) (run : IsRun head history)
       (subst (λ i. decision (home_of head i history) ≡ Some (status_of standings.Committed epoch ts)) (sym a.whose) decided) in
       let place : decision (place_at head a.range a.meta.id (history ++ [])) ≡ Some (status_of standings.Committed a.meta.epoch ts) =
       subst (λ h. decision (place_at head a.range a.meta.id h) ≡ Some (status_of standings.Committed a.meta.epoch ts)) (sym (append-nil history)) (ap decision there ∙ as_sent) in
-      let c : Commit = record { meta = a.meta; ts = ts; locks = a.locks } in
+      let c : SentCommit = record { meta = a.meta; ts = ts; locks = a.locks } in
       let sent = has_sent_commit head history run a.send a.listed a.number a.range c a.sends in
       let known : HasSent (known_at head (actors.Session id.session) history).sent (commit_request c) = subst (λ (i : TxnId). HasSent (known_at head (actors.Session i.session) history).sent (commit_request c)) a.whose sent in
       let who : actors.Session id.session ≡ a.send.actor = ap (λ (i : TxnId). actors.Session i.session) (sym a.whose) ∙ sym anchored.whose in
       not_refused head history [] (subst (IsRun head) (sym (append-nil history)) run) a.send a.listed a.number a.range a.meta ts a.locks a.sends place
-      (subst (λ actor. IsRefused (known_at head actor history).heard c) who (over.refused c known a.whose))
+      (subst (λ actor. WasCommitRefused (known_at head actor history).heard c) who (over.refused c known a.whose))
 
   stage-not-dead : IsKnownOver (known_at head (actors.Session id.session) history) id → WasImplied head history id epoch ts → ⊥
   stage-not-dead over w =
@@ -224,7 +225,7 @@ module _ (head : Head) (history : List (Entry Event)) (run : IsRun head history)
 
   -- so it goes on as it was
   pub goes_on : (u : Txn) → Contains (txns_of head id (history ++ e ∷ [])) u → u.id ≡ id
-      → (t : Txn) × Contains (txns_of head id history) t × (t.id ≡ id) × (u.epoch ≡ t.epoch) × ((key : List ℕ) → writes_at key u.writes ≡ writes_at key t.writes)
+      → (t : Txn) × Contains (txns_of head id history) t × (t.id ≡ id) × (u.epoch ≡ t.epoch) × ((key : List ℕ) → writes_on key u.writes ≡ writes_on key t.writes)
   goes_on u there same =
       elim (comes_from head history run e may (actors.Session id.session) u there) [
         | inl b ↦ absurd (new-none b.new)
@@ -242,8 +243,8 @@ module _ (head : Head) (history : List (Entry Event)) (run : IsRun head history)
           let none : anchor_in id history ≡ None = ap (λ i. anchor_in i history) (sym same) ∙ new.anchor in
           let both : decision Nothing ≡ Some (status_of standings.Committed epoch ts) = ap (λ o. decision (place_under head id history o)) (sym none) ∙ decided in absurd cc
 
-  stands-as : (t u : Txn) (key : List ℕ) (value : Option (List ℕ)) → u.id ≡ t.id → u.epoch ≡ t.epoch → writes_at key u.writes ≡ writes_at key t.writes
-      → StandsBy head (history ++ e ∷ []) t key value ts → StandsBy head (history ++ e ∷ []) u key value ts
+  stands-as : (t u : Txn) (key : List ℕ) (value : Option (List ℕ)) → u.id ≡ t.id → u.epoch ≡ t.epoch → writes_on key u.writes ≡ writes_on key t.writes
+      → LastWriteStands head (history ++ e ∷ []) t key value ts → LastWriteStands head (history ++ e ∷ []) u key value ts
   stands-as t u key value same epochs writes stands =
       elim stands [
         | inl version ↦
@@ -257,8 +258,8 @@ module _ (head : Head) (history : List (Entry Event)) (run : IsRun head history)
             )
       ]
 
-  still-stands : (t : Txn) → Contains (txns_of head id history) t → t.id ≡ id → (key : List ℕ) (front : List Laid) (seq : ℕ) (value : Option (List ℕ)) → writes_at key t.writes ≡ front ++ (seq, value) ∷ []
-      → StandsBy head (history ++ e ∷ []) t key value ts
+  still-stands : (t : Txn) → Contains (txns_of head id history) t → t.id ≡ id → (key : List ℕ) (front : List Laid) (seq : ℕ) (value : Option (List ℕ)) → writes_on key t.writes ≡ front ++ (seq, value) ∷ []
+      → LastWriteStands head (history ++ e ∷ []) t key value ts
   still-stands t known same key front seq value is =
       let before = settled.stand t known same key front seq value is in
       elim (same_or_not e.actor (actors.Range (range_of head.splits key))) [

@@ -6,10 +6,8 @@ use Rattle.pc_base.specs.declared.actor.ActorId.{ActorId}
 use Rattle.pc_base.specs.declared.actor.ActorId.TheVariants as actors
 use Rattle.pc_base.specs.declared.entry.Entry.{Entry}
 use Rattle.pc_base.specs.declared.version.Version.{Version}
-use Rattle.pc_history.proofs.Lists.{contains_head, contains_nil}
 use Rattle.pc_history.specs.History.{MayFollow}
 use Rattle.pc_implicit.proofs.Agreed.{agreed}
-use Rattle.pc_implicit.proofs.Anchored.{each_contained}
 use Rattle.pc_implicit.proofs.Doing.{same_or_not}
 use Rattle.pc_implicit.proofs.Evals.{NamedMessage, of_entry, range_evaluates}
 use Rattle.pc_implicit.proofs.Fates.{fates_are_so}
@@ -18,16 +16,18 @@ use Rattle.pc_implicit.proofs.Homes.{home_commits, home_on}
 use Rattle.pc_implicit.proofs.IntentKeys.{each-found}
 use Rattle.pc_implicit.proofs.LaidIntents.{own-there}
 use Rattle.pc_implicit.proofs.Metas.{EventHas, metas_agree}
+use Rattle.pc_implicit.proofs.Moves.{one_named}
 use Rattle.pc_implicit.proofs.OwnStanding.{own_hold}
 use Rattle.pc_implicit.proofs.PutsSent.{orderly}
 use Rattle.pc_implicit.proofs.Recorded.{evaluated_state}
 use Rattle.pc_implicit.proofs.RisingVersions.{LiesAbove, versions_rise}
 use Rattle.pc_implicit.proofs.Settled.{settled}
-use Rattle.pc_implicit.proofs.Turns.{one_txn}
 use Rattle.pc_implicit.proofs.VersionSteps.{IsMade, version_cases}
 use Rattle.pc_implicit.proofs.WriteLists.{Laid, RiseAt, rise_at, rise_value}
 use Rattle.pc_implicit.specs.Decided.{decision}
-use Rattle.pc_implicit.specs.Writes.{IsOfCommitted, home_of, own_intent, txns_of, writes_at}
+use Rattle.pc_implicit.specs.Writes.{IsOfCommitted, home_of, own_intent, txns_of, writes_on}
+use Rattle.pc_lists.proofs.Each.{each-contains}
+use Rattle.pc_lists.proofs.Lists.{contains_head, contains_nil}
 use Rattle.pc_proto.specs.declared.event.Event.{Event}
 use Rattle.pc_proto.specs.declared.event.Event.TheVariants as events
 use Rattle.pc_proto.specs.declared.fate.Fate.TheVariants as fates
@@ -61,7 +61,7 @@ pub record IsOf (head : Head) (history : List (Entry Event)) (range : ℕ) (v : 
   pub whose : t.id ≡ v.id
   pub front : List Laid
   pub seq : ℕ
-  pub last : writes_at v.key t.writes ≡ front ++ (seq, v.value) ∷ []
+  pub last : writes_on v.key t.writes ≡ front ++ (seq, v.value) ∷ []
 
 pub last-of : (ws : List Laid) (x : Laid) → Contains ws x → (front : List Laid) × (w : Laid) × (ws ≡ front ++ w ∷ [])
 last-of [] x there = absurd (contains_nil x there)
@@ -83,7 +83,7 @@ module _ (head : Head) (history : List (Entry Event)) (run : IsRun head history)
       let on = has_more head history e (actors.Session v.id.session) v.id (o.t, o.known, o.whose) in
       let g = goes_on head history run e may v.id o.epoch v.ts o.decided before on.0 on.1 on.2 in
       let numbered = (agreed head history run (actors.Session v.id.session)).numbered in
-      let same : g.0 ≡ o.t = one_txn (actors.Session v.id.session) _ (known_at head (actors.Session v.id.session) history).txns g.0 o.t numbered g.1 o.known (g.2 ∙ sym o.whose) in
+      let same : g.0 ≡ o.t = one_named (actors.Session v.id.session) _ (known_at head (actors.Session v.id.session) history).txns g.0 o.t numbered g.1 o.known (g.2 ∙ sym o.whose) in
       record {
         epoch = o.epoch;
         decided = (home_on head v.id history e).decided (status_of standings.Committed o.epoch v.ts) o.decided;
@@ -93,7 +93,7 @@ module _ (head : Head) (history : List (Entry Event)) (run : IsRun head history)
         whose = on.2;
         front = o.front;
         seq = o.seq;
-        last = g.4 v.key ∙ ap (λ (x : Txn). writes_at v.key x.writes) same ∙ o.last;
+        last = g.4 v.key ∙ ap (λ (x : Txn). writes_on v.key x.writes) same ∙ o.last;
       }
 
   -- what a resolve made a version of
@@ -134,8 +134,8 @@ module _ (head : Head) (history : List (Entry Event)) (run : IsRun head history)
           let epoch : m.i.meta.epoch ≡ t.epoch = m.epoch_is ∙ sym (s.epochs t known same) in
           let among = (own_hold head history run t own v.key).among m.i (own-is there t same) in
           let some = among.some epoch in
-          let inside : Contains (writes_at v.key t.writes) some.0 = each_contained (λ x. Contains (writes_at v.key t.writes) x) m.i.history some.0 (among.each epoch) some.1 in
-          let l = last-of (writes_at v.key t.writes) some.0 inside in
+          let inside : Contains (writes_on v.key t.writes) some.0 = each-contains (λ x. Contains (writes_on v.key t.writes) x) m.i.history some.0 (among.each epoch) some.1 in
+          let l = last-of (writes_on v.key t.writes) some.0 inside in
           let w = l.1 in
           let low = m.low in
           elim (s.stand t known same v.key l.0 w.0 w.1 l.2) [
@@ -146,7 +146,7 @@ module _ (head : Head) (history : List (Entry Event)) (run : IsRun head history)
             | inr intent ↦
                 let one : intent.0 ≡ m.i = let both : Some intent.0 ≡ Some m.i = sym intent.1 ∙ own-is there t same in cc both in
                 let whole : m.i.history ≡ l.0 ++ w ∷ [] = ap (λ (i : Intent). i.history) (sym one) ∙ intent.2.whole ∙ l.2 in
-                let rise : RiseAt 0 (writes_at v.key t.writes) = rise_at v.key 0 t.writes (orderly head history run (actors.Session t.id.session) t own).rise in
+                let rise : RiseAt 0 (writes_on v.key t.writes) = rise_at v.key 0 t.writes (orderly head history run (actors.Session t.id.session) t own).rise in
                 record {
                   epoch = m.epoch;
                   decided = decided;
@@ -156,7 +156,7 @@ module _ (head : Head) (history : List (Entry Event)) (run : IsRun head history)
                   whose = same;
                   front = l.0;
                   seq = w.0;
-                  last = is-last v m.i l.0 w (writes_at v.key t.writes) whole l.2 rise m.last;
+                  last = is-last v m.i l.0 w (writes_on v.key t.writes) whole l.2 rise m.last;
                 }
           ]
 

@@ -6,7 +6,6 @@ use Rattle.std.specs.Prelude.{⊤}
 use Rattle.pc_base.specs.declared.actor.ActorId.{ActorId}
 use Rattle.pc_base.specs.declared.entry.Entry.{Entry}
 use Rattle.pc_base.specs.declared.transaction.TxnId.{TxnId}
-use Rattle.pc_history.proofs.Lists.{contains_nil}
 use Rattle.pc_history.specs.History.{MayFollow}
 use Rattle.pc_history.specs.Own.{named_in}
 use Rattle.pc_implicit.proofs.Evals.{NamedMessage, of_entry}
@@ -17,6 +16,7 @@ use Rattle.pc_implicit.proofs.Sent.{unstaged_front}
 use Rattle.pc_implicit.proofs.Views.{Stands, places_go_on, true-on, view-true}
 use Rattle.pc_implicit.specs.Answers.{Answers}
 use Rattle.pc_implicit.specs.Decided.{StaysTrue}
+use Rattle.pc_lists.proofs.Lists.{contains_nil}
 use Rattle.pc_proto.specs.declared.event.Event.{Event}
 use Rattle.pc_proto.specs.declared.event.Event.TheVariants as events
 use Rattle.pc_proto.specs.declared.record.Standing.{Standing}
@@ -26,7 +26,8 @@ use Rattle.pc_proto.specs.declared.request.Request.{Request}
 use Rattle.pc_proto.specs.declared.view.View.{View}
 use Rattle.pc_proto.specs.declared.view.View.TheVariants as views
 use Rattle.pc_proto.specs.Place.{Place, Nothing, Kept, Marked, status_view, view_of}
-use Rattle.pc_proto.specs.RecordRows.{subject}
+use Rattle.pc_proto.specs.Replies.{view_in}
+use Rattle.pc_proto.specs.Requests.{subject}
 use Rattle.pc_world.proofs.Knowing.{run_push}
 use Rattle.pc_world.proofs.Prefixes.{run_induction}
 use Rattle.pc_world.specs.After.{place_at, state_at}
@@ -36,7 +37,6 @@ use Rattle.pc_world.specs.Local.{Head}
 use Rattle.pc_world.specs.Named.{request_in, request_named}
 use Rattle.pc_world.specs.Run.{IsRun, protocol}
 use Rattle.pc_world.specs.Unstaged.{NothingIsStaged}
-use Rattle.pc_world.specs.Views.{view_in}
 
 -- The view is not that of a staging record.
 abbrev pub IsUnstaged : View → Type 0

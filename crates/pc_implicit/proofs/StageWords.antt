@@ -24,12 +24,12 @@ use Rattle.pc_world.specs.Known.Traffic.{Heard}
 use Rattle.pc_world.specs.Known.Transactions.{Txn}
 use Rattle.pc_world.specs.Known.Writes.{IsProvedBy, Write}
 use Rattle.pc_world.specs.Local.{Head}
-use Rattle.pc_world.specs.StageFate.{IsDead, Stage}
+use Rattle.pc_world.specs.StageFate.{IsDead, SentStage}
 use Rattle.pc_world.specs.Tell.End.{IsImplicit}
 
 -- The transaction sent a stage of this epoch and timestamp with these writes.
 pub record WasStagedAs (history : List (Entry Event)) (id : TxnId) (epoch ts : ℕ) (writes : List (List ℕ × ℕ)) : Type 0 where
-  pub stage : Stage
+  pub stage : SentStage
   pub sent : WasStaged history stage
   pub whose : stage.meta.id ≡ id
   pub epoch_is : stage.meta.epoch ≡ epoch
@@ -37,23 +37,23 @@ pub record WasStagedAs (history : List (Entry Event)) (id : TxnId) (epoch ts : �
   pub writes_are : stage.writes ≡ writes
 
 -- The write was written above this timestamp.
-pub record WasAbove (history : List (Entry Event)) (s : Stage) (w : List ℕ × ℕ) : Type 0 where
+pub record WasAbove (history : List (Entry Event)) (s : SentStage) (w : List ℕ × ℕ) : Type 0 where
   pub at : ℕ
   pub above : s.ts < at
   pub written : WasWritten history s.meta.id s.meta.epoch w.0 w.1 at
 
 -- A write of the stage was refuted: it was written above the staged timestamp, or a query missed it there.
-abbrev pub WasRefuted : List (Entry Event) → Stage → List ℕ × ℕ → Type 0
+abbrev pub WasRefuted : List (Entry Event) → SentStage → List ℕ × ℕ → Type 0
 WasRefuted history s w = WasAbove history s w ⊎ QueryMissed history s.meta.id s.meta.epoch w.0 w.1 s.ts
 
 -- Some listed write of the stage was refuted.
-pub record SomeRefuted (history : List (Entry Event)) (s : Stage) : Type 0 where
+pub record SomeRefuted (history : List (Entry Event)) (s : SentStage) : Type 0 where
   pub write : List ℕ × ℕ
   pub listed : Contains s.writes write
   pub refuted : WasRefuted history s write
 
 -- Some listed write of the stage was refuted, and was present at no time since the stage was sent.
-pub record FailsSo (head : Head) (history : List (Entry Event)) (s : Stage) : Type 0 where
+pub record FailsSo (head : Head) (history : List (Entry Event)) (s : SentStage) : Type 0 where
   pub write : List ℕ × ℕ
   pub listed : Contains s.writes write
   pub refuted : WasRefuted history s write
@@ -62,12 +62,12 @@ pub record FailsSo (head : Head) (history : List (Entry Event)) (s : Stage) : Ty
 -- Present or fails: a listed write of an open stage that was once present is so, or else the stage fails.
 abbrev pub AllStand : Head → List (Entry Event) → Type 0
 AllStand head history =
-    (s : Stage) → IsOpenTo head history s → (w : List ℕ × ℕ) → Contains s.writes w → WasThere head history s w
+    (s : SentStage) → IsOpenTo head history s → (w : List ℕ × ℕ) → Contains s.writes w → WasThere head history s w
     → (IsThere head history s w → ⊥) → (FailsSo head history s → ⊥) → ⊥
 
 -- A put of the stage's transaction at this key that is newer than the stage's write there: of a later epoch, or of its epoch with a
 -- later sequence.
-pub record IsNewerPut (s : Stage) (w : List ℕ × ℕ) (meta : TxnMeta) (seq : ℕ) : Type 0 where
+pub record IsNewerPut (s : SentStage) (w : List ℕ × ℕ) (meta : TxnMeta) (seq : ℕ) : Type 0 where
   pub whose : meta.id ≡ s.meta.id
   pub epoch_reached : s.meta.epoch ≤ meta.epoch
   pub seq_past : meta.epoch ≡ s.meta.epoch → w.1 < seq
@@ -75,25 +75,25 @@ pub record IsNewerPut (s : Stage) (w : List ℕ × ℕ) (meta : TxnMeta) (seq : 
 -- Where a newer put of a listed write of an open stage was sent, some listed write was refuted.
 abbrev pub LaterIsRefuted : Head → List (Entry Event) → Type 0
 LaterIsRefuted head history =
-    (s : Stage) → WasStaged history s → IsOpenTo head history s → (w : List ℕ × ℕ) → Contains s.writes w
+    (s : SentStage) → WasStaged history s → IsOpenTo head history s → (w : List ℕ × ℕ) → Contains s.writes w
     → (send : Entry Event) → Contains history send → (number range : ℕ) (meta : TxnMeta) (seq ts : ℕ) (value : Option (List ℕ))
     → send.event ≡ events.Send number range (requests.Put meta seq ts w.0 value) → IsNewerPut s w meta seq → SomeRefuted history s
 
 -- A stage that is open and known dead, or known late, has a refuted write.
-abbrev pub RefutedIf : (List Heard → Stage → Type 0) → Head → List (Entry Event) → Type 0
+abbrev pub RefutedIf : (List Heard → SentStage → Type 0) → Head → List (Entry Event) → Type 0
 RefutedIf IsSo head history =
-    (s : Stage) → WasStaged history s → IsOpenTo head history s → IsSo (known_at head (actors.Session s.meta.id.session) history).heard s
+    (s : SentStage) → WasStaged history s → IsOpenTo head history s → IsSo (known_at head (actors.Session s.meta.id.session) history).heard s
     → SomeRefuted history s
 
 -- The record of the stage's transaction is this one, and it stages so.
-pub record StagesAs (s : Stage) (r : Record) : Type 0 where
+pub record StagesAs (s : SentStage) (r : Record) : Type 0 where
   pub staging : r.status.standing ≡ standings.Staging
   pub epoch_is : r.status.epoch ≡ s.meta.epoch
   pub ts_is : r.status.ts ≡ s.ts
   pub writes_are : r.writes ≡ s.writes
 
 -- The transaction is committed by this stage: its record stages so, and each listed write is present.
-pub record CommitsBy (head : Head) (history : List (Entry Event)) (s : Stage) : Type 0 where
+pub record CommitsBy (head : Head) (history : List (Entry Event)) (s : SentStage) : Type 0 where
   pub sent : WasStaged history s
   pub r : Record
   pub home : home_of head s.meta.id history ≡ Kept r
@@ -104,11 +104,11 @@ pub record CommitsBy (head : Head) (history : List (Entry Event)) (s : Stage) : 
 -- no anchor, it was told so.
 pub data IsBecause (head : Head) (history : List (Entry Event)) (id : TxnId) (ts : ℕ) : Type 0 where
   ByDecision : (epoch : ℕ) → decision (home_of head id history) ≡ Some (status_of standings.Committed epoch ts) → IsBecause head history id ts
-  ByStaging : (s : Stage) → CommitsBy head history s → s.meta.id ≡ id → s.ts ≡ ts → IsBecause head history id ts
+  ByStaging : (s : SentStage) → CommitsBy head history s → s.meta.id ≡ id → s.ts ≡ ts → IsBecause head history id ts
   ByTelling : anchor_in id history ≡ None → told_at id history ≡ Some ts → IsBecause head history id ts
 
 -- What becomes of a staging by which its transaction is committed: it stages still, as before, or is decided committed there.
-pub data StaysImplicit (s : Stage) (p : Place) : Type 0 where
+pub data StaysImplicit (s : SentStage) (p : Place) : Type 0 where
   StillStaged : (r : Record) → p ≡ Kept r → StagesAs s r → StaysImplicit s p
   NowCommitted : (epoch : ℕ) → decision p ≡ Some (status_of standings.Committed epoch s.ts) → StaysImplicit s p
 
@@ -120,13 +120,13 @@ ImplicitIsCommitted head history =
 
 -- Of a stage of a transaction's present epoch: each write at a listed key is listed or earlier, and each write is listed or proved
 -- at or below the staged timestamp.
-pub record ListsLast (t : Txn) (s : Stage) : Type 0 where
+pub record ListsLast (t : Txn) (s : SentStage) : Type 0 where
   pub last : (x : List ℕ × ℕ) → Contains s.writes x → (w : Write) → Contains t.writes w → w.key ≡ x.0 → w.seq ≤ x.1
   pub covered : (w : Write) → Contains t.writes w → Contains s.writes (w.key, w.seq) ⊎ IsProvedBy s.ts w
 
 -- What a session knows of a stage that it sent and of its transaction: the stage is of no later epoch, it is dead or lists what was
 -- written last in the present epoch, and what it lists of the present epoch is what was written in it.
-pub record IsKnownLast (heard : List Heard) (t : Txn) (s : Stage) : Type 0 where
+pub record IsKnownLast (heard : List Heard) (t : Txn) (s : SentStage) : Type 0 where
   pub epoch_low : s.meta.epoch ≤ t.epoch
   pub lists : IsDead heard s ⊎ ((s.meta.epoch ≡ t.epoch) × ListsLast t s)
   pub written : s.meta.epoch ≡ t.epoch → (x : List ℕ × ℕ) → Contains s.writes x → (w : Write) × Contains t.writes w × (w.key ≡ x.0) × (w.seq ≡ x.1)
@@ -134,5 +134,5 @@ pub record IsKnownLast (heard : List Heard) (t : Txn) (s : Stage) : Type 0 where
 -- So it is of each stage that was sent.
 abbrev pub StagesLast : Head → List (Entry Event) → Type 0
 StagesLast head history =
-    (s : Stage) → WasStaged history s → (t : Txn) → Contains (txns_of head s.meta.id history) t → t.id ≡ s.meta.id
+    (s : SentStage) → WasStaged history s → (t : Txn) → Contains (txns_of head s.meta.id history) t → t.id ≡ s.meta.id
     → IsKnownLast (known_at head (actors.Session s.meta.id.session) history).heard t s

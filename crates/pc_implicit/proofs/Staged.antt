@@ -18,7 +18,7 @@ use Rattle.pc_proto.specs.declared.record.Standing.TheVariants as standings
 use Rattle.pc_proto.specs.declared.request.Request.{Request}
 use Rattle.pc_proto.specs.declared.request.Request.TheVariants as requests
 use Rattle.pc_proto.specs.Place.{Place, Nothing, Kept, Marked, Change, Stay, after, is_decided, is_final}
-use Rattle.pc_proto.specs.RecordRows.{change, unless_decided}
+use Rattle.pc_proto.specs.RecordRows.{place_change, unless_decided}
 use Rattle.pc_proto.specs.RecordRows.Abort.{abort}
 use Rattle.pc_proto.specs.RecordRows.Beat.{beat}
 use Rattle.pc_proto.specs.RecordRows.Commit.{commit}
@@ -49,7 +49,7 @@ past-differs epoch ts (Kept r) h =
 past-differs epoch ts (Marked s) h = refl
 
 -- what is past stays past
-past-row : (epoch ts : ℕ) (request : Request) (p : Place) → IsPast epoch ts p → IsPast epoch ts (after p (change request p))
+past-row : (epoch ts : ℕ) (request : Request) (p : Place) → IsPast epoch ts p → IsPast epoch ts (after p (place_change request p))
 past-row epoch ts request p h =
     let rises = rises-row request p in
     elim h [
@@ -87,7 +87,7 @@ unless-staged epoch at p c h k = by (is_decided p)
     by false = k
 
 -- a staging stays, or is past
-staged-row : (epoch at : ℕ) (request : Request) (p : Place) → is_staged_at p epoch at ≡ true → StagesOrPast epoch at (after p (change request p))
+staged-row : (epoch at : ℕ) (request : Request) (p : Place) → is_staged_at p epoch at ≡ true → StagesOrPast epoch at (after p (place_change request p))
 staged-row epoch at request Nothing h = absurd cc
 staged-row epoch at (requests.Beat meta ts now) (Kept r) h = unless-staged epoch at (Kept r) (beat meta ts now (Kept r)) h (staged-beat epoch at meta ts now r h)
 staged-row epoch at (requests.Stage meta ts now writes locks) (Kept r) h = unless-staged epoch at (Kept r) (stage meta ts now writes locks (Kept r)) h (staged-stage epoch at meta ts now writes locks r h)

@@ -22,23 +22,24 @@ use Rattle.pc_proto.specs.declared.record.Status.{Status}
 use Rattle.pc_proto.specs.declared.request.Request.{Request}
 use Rattle.pc_proto.specs.declared.request.Request.TheVariants as requests
 use Rattle.pc_proto.specs.Place.{Place, Nothing, Kept, Marked, Change, Become, Finish, Stay, after, is_decided, is_final}
-use Rattle.pc_proto.specs.RecordRows.{change, subject, unless_decided}
+use Rattle.pc_proto.specs.RecordRows.{place_change, unless_decided}
 use Rattle.pc_proto.specs.RecordRows.Beat.{beat}
 use Rattle.pc_proto.specs.RecordRows.Commit.{commit}
-use Rattle.pc_proto.specs.RecordRows.Push.{There, Refuse, Doubt, Do, Verdict, on_verdict, push, pushed, verdict}
+use Rattle.pc_proto.specs.RecordRows.Push.{There, Refuse, Doubt, Do, Verdict, on_verdict, push, push_verdict, pushed}
 use Rattle.pc_proto.specs.RecordRows.Reached.{is_reached, is_staged_at}
 use Rattle.pc_proto.specs.RecordRows.Recover.{decided, recover}
 use Rattle.pc_proto.specs.RecordRows.Remove.{remove}
 use Rattle.pc_proto.specs.RecordRows.Stage.{stage}
+use Rattle.pc_proto.specs.Requests.{subject}
 use Rattle.pc_world.proofs.Prefixes.{run_induction}
 use Rattle.pc_world.specs.Local.{Head}
 use Rattle.pc_world.specs.Run.{IsRun}
-use Rattle.pc_world.specs.StageFate.{Stage, stage_request}
+use Rattle.pc_world.specs.StageFate.{SentStage, stage_request}
 
 -- Where a staging record comes from over a request: it staged so before, or the request is its stage.
 pub data StagedFrom (p : Place) (request : Request) (r : Record) : Type 0 where
   StagedBefore : (old : Record) → p ≡ Kept old → old.status ≡ r.status → old.writes ≡ r.writes → StagedFrom p request r
-  StagedBy : (s : Stage) → request ≡ stage_request s → r.status.epoch ≡ s.meta.epoch → r.status.ts ≡ s.ts → r.writes ≡ s.writes → StagedFrom p request r
+  StagedBy : (s : SentStage) → request ≡ stage_request s → r.status.epoch ≡ s.meta.epoch → r.status.ts ≡ s.ts → r.writes ≡ s.writes → StagedFrom p request r
 
 -- Whatever record stages after the change, it comes from there.
 abbrev SaysFrom : Place → Request → Change → Type 0
@@ -81,7 +82,7 @@ goes-on old x request status writes r is staging =
     StagedBefore old refl (status ∙ ap (λ (y : Record). y.status) same) (writes ∙ ap (λ (y : Record). y.writes) same)
 
 -- what it becomes stages as the request says
-becomes-stage : (p : Place) (x : Record) (s : Stage) → x.status.epoch ≡ s.meta.epoch → x.status.ts ≡ s.ts → x.writes ≡ s.writes → SaysFrom p (stage_request s) (Become x)
+becomes-stage : (p : Place) (x : Record) (s : SentStage) → x.status.epoch ≡ s.meta.epoch → x.status.ts ≡ s.ts → x.writes ≡ s.writes → SaysFrom p (stage_request s) (Become x)
 becomes-stage p x s epoch ts writes r is staging =
     let same : r ≡ x = let both : Kept x ≡ Kept r = is in sym (cc both) in
     StagedBy s refl (ap (λ (y : Record). y.status.epoch) same ∙ epoch) (ap (λ (y : Record). y.status.ts) same ∙ ts) (ap (λ (y : Record). y.writes) same ∙ writes)
@@ -107,7 +108,7 @@ from-recover id epoch ts anchor finding p = either p (requests.Recover id epoch 
     by (Marked s) f = stays (Marked s) (requests.Recover id epoch ts anchor finding)
 
 from-push : (holder : TxnMeta) (by : Who) (level : Priority) (now : ℕ) (goal : Goal) (p : Place) → SaysFrom p (requests.Push holder by level now goal) (push holder by level now goal p)
-from-push holder by level now goal p = on-verdict p (requests.Push holder by level now goal) (verdict holder level now goal p) (pushed holder by goal p) (of goal)
+from-push holder by level now goal p = on-verdict p (requests.Push holder by level now goal) (push_verdict holder level now goal p) (pushed holder by goal p) (of goal)
   where
     of : (g : Goal) → SaysFrom p (requests.Push holder by level now goal) (pushed holder by g p)
     of goals.Abort = becomes p (requests.Push holder by level now goal) _ (λ same. cc)
@@ -119,7 +120,7 @@ from-remove id anchor (Kept r) = either (Kept r) (requests.Remove id anchor) (is
 from-remove id anchor (Marked s) = stays (Marked s) (requests.Remove id anchor)
 
 -- where a staging record comes from over a request
-pub staged_from : (request : Request) (p : Place) (r : Record) → after p (change request p) ≡ Kept r → r.status.standing ≡ standings.Staging → StagedFrom p request r
+pub staged_from : (request : Request) (p : Place) (r : Record) → after p (place_change request p) ≡ Kept r → r.status.standing ≡ standings.Staging → StagedFrom p request r
 staged_from (requests.Beat meta ts now) p = unless p (requests.Beat meta ts now) (beat meta ts now p) (from-beat meta ts now p)
 staged_from (requests.Stage meta ts now writes locks) p = unless p (requests.Stage meta ts now writes locks) (stage meta ts now writes locks p) (from-stage meta ts now writes locks p)
 staged_from (requests.Commit meta ts locks) p =
@@ -131,7 +132,7 @@ staged_from (requests.Recover id epoch ts anchor finding) p = unless p (requests
 staged_from (requests.Remove id anchor) p = from-remove id anchor p
 staged_from request p = stays p request
 
-pub staged_more : (history : List (Entry Event)) (e : Entry Event) (s : Stage) → WasStaged history s → WasStaged (history ++ e ∷ []) s
+pub staged_more : (history : List (Entry Event)) (e : Entry Event) (s : SentStage) → WasStaged history s → WasStaged (history ++ e ∷ []) s
 staged_more history e s sent = record { send = sent.send; listed = Contains-append_left history (e ∷ []) sent.send sent.listed; number = sent.number; range = sent.range; sends = sent.sends }
 
 staged-as-more : (history : List (Entry Event)) (e : Entry Event) (id : TxnId) (epoch ts : ℕ) (writes : List (List ℕ × ℕ)) → WasStagedAs history id epoch ts writes → WasStagedAs (history ++ e ∷ []) id epoch ts writes

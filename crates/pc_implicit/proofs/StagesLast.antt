@@ -5,20 +5,21 @@ use Rattle.std.proofs.lemmas.List.Elements.{All-contains, Contains-append_left}
 use Rattle.pc_base.specs.declared.actor.ActorId.{ActorId}
 use Rattle.pc_base.specs.declared.actor.ActorId.TheVariants as actors
 use Rattle.pc_base.specs.declared.entry.Entry.{Entry}
-use Rattle.pc_history.proofs.Lists.{contains_cons, contains_filter, contains_in_filter, contains_in_map, contains_map, contains_nil}
 use Rattle.pc_implicit.proofs.Agreed.{agreed, open_there}
-use Rattle.pc_implicit.proofs.Anchored.{each_contained}
 use Rattle.pc_implicit.proofs.Hearing.{WasSentBy, sent_is_so}
-use Rattle.pc_implicit.proofs.IntentKeys.{same_key-equal}
 use Rattle.pc_implicit.proofs.Metas.{subject_anchored}
+use Rattle.pc_implicit.proofs.Moves.{one_named}
 use Rattle.pc_implicit.proofs.PutsSent.{AreOrderly, orderly, puts_sent}
 use Rattle.pc_implicit.proofs.StagesKnown.{HasSent, dead_more, heard_goes_on, none_sent, sent_cases, stage_of, stage_sent}
 use Rattle.pc_implicit.proofs.StagesRefuted.{dead_refuted}
 use Rattle.pc_implicit.proofs.StagesSent.{has_sent_stage, staged_txn}
 use Rattle.pc_implicit.proofs.StageWords.{IsKnownLast, LaterIsRefuted, StagesLast}
-use Rattle.pc_implicit.proofs.Turns.{IsAnswered, Restarted, Turn, WentOn, Wrote, comes_from, one_txn}
+use Rattle.pc_implicit.proofs.Turns.{IsAnswered, Restarted, Turn, WentOn, Wrote, comes_from}
 use Rattle.pc_implicit.proofs.WriteLists.{AreAlike, AreInTurn, IsAlike, Rise, alike_back, alike_on}
 use Rattle.pc_implicit.specs.Writes.{txns_of}
+use Rattle.pc_lists.proofs.Each.{each-contains}
+use Rattle.pc_lists.proofs.Lists.{contains_cons, contains_filter, contains_in_filter, contains_in_map, contains_map, contains_nil}
+use Rattle.pc_lists.proofs.Same.{same_key-equal}
 use Rattle.pc_proto.specs.declared.answer.Answer.TheVariants as answers
 use Rattle.pc_proto.specs.declared.event.Event.{Event}
 use Rattle.pc_proto.specs.declared.event.Event.TheVariants as events
@@ -34,7 +35,7 @@ use Rattle.pc_world.specs.Known.Writes.{IsProvedBy, Write, is_proved, listed_as,
 use Rattle.pc_world.specs.Local.{Head}
 use Rattle.pc_world.specs.Run.{IsRun}
 use Rattle.pc_world.specs.Send.Stage.{MaySendNewStage}
-use Rattle.pc_world.specs.StageFate.{IsDead, Stage, stage_request}
+use Rattle.pc_world.specs.StageFate.{IsDead, SentStage, stage_request}
 
 -- ---- writes
 
@@ -72,7 +73,7 @@ pair-of w x key seq writes there = subst (Contains writes) (λ i. (sym key i, sy
 
 -- ---- one more entry
 
-module _ (head : Head) (history : List (Entry Event)) (e : Entry Event) (k : Known) (more : List Heard) (s : Stage) (t u : Txn) where
+module _ (head : Head) (history : List (Entry Event)) (e : Entry Event) (k : Known) (more : List Heard) (s : SentStage) (t u : Txn) where
   -- what is known of a stage that was sent before
   last-turn : HasSent k.sent (stage_request s) → s.meta.id ≡ t.id → IsKnownLast k.heard t s → Turn history e k t u → IsKnownLast (k.heard ++ more) u s
   last-turn sent whose l (WentOn epoch alike) =
@@ -184,16 +185,16 @@ module _ (head : Head) (history : List (Entry Event)) (e : Entry Event) (k : Kno
 module _ (head : Head) where
   KnowLast : List (Entry Event) → Type 0
   KnowLast history =
-      (actor : ActorId) (s : Stage) → HasSent (known_at head actor history).sent (stage_request s) → (t : Txn) → Contains (known_at head actor history).txns t → t.id ≡ s.meta.id → IsKnownLast (known_at head actor history).heard t s
+      (actor : ActorId) (s : SentStage) → HasSent (known_at head actor history).sent (stage_request s) → (t : Txn) → Contains (known_at head actor history).txns t → t.id ≡ s.meta.id → IsKnownLast (known_at head actor history).heard t s
 
   -- a stage that was sent is of a transaction with an anchor
-  pub anchored-so : (history : List (Entry Event)) → IsRun head history → (actor : ActorId) (s : Stage) → HasSent (known_at head actor history).sent (stage_request s) → (anchor : List ℕ) × (anchor_in s.meta.id history ≡ Some anchor)
+  pub anchored-so : (history : List (Entry Event)) → IsRun head history → (actor : ActorId) (s : SentStage) → HasSent (known_at head actor history).sent (stage_request s) → (anchor : List ℕ) × (anchor_in s.meta.id history ≡ Some anchor)
   anchored-so history run actor s (n, m, inside, at, asks) =
-      let w = each_contained (WasSentBy head history actor) (known_at head actor history).sent m (sent_is_so head history run actor) (n, inside, at) in
+      let w = each-contains (WasSentBy head history actor) (known_at head actor history).sent m (sent_is_so head history run actor) (n, inside, at) in
       let a = subject_anchored head history run w.send w.listed m.number m.range (stage_request s) s.meta.id (w.sends ∙ ap (events.Send m.number m.range) asks) refl in
       (a.anchor, a.anchored)
 
-  know-last : (history : List (Entry Event)) → IsRun head history → (actor : ActorId) (s : Stage) → HasSent (known_at head actor history).sent (stage_request s) → (t : Txn) → Contains (known_at head actor history).txns t → t.id ≡ s.meta.id
+  know-last : (history : List (Entry Event)) → IsRun head history → (actor : ActorId) (s : SentStage) → HasSent (known_at head actor history).sent (stage_request s) → (t : Txn) → Contains (known_at head actor history).txns t → t.id ≡ s.meta.id
       → IsKnownLast (known_at head actor history).heard t s
   unfolding KnowLast
   know-last = run_induction head KnowLast (λ actor s sent t there whose. absurd (none_sent (stage_request s) sent)) (λ history e run may all actor s sent u there whose.
@@ -217,13 +218,13 @@ module _ (head : Head) where
               | inr now ↦ elim (stage_sent head history e may actor s now) [
                 | inl old ↦ before old
                 | inr new ↦
-                    let own : new.t ≡ c.t = one_txn actor (k.begun + 1) k.txns new.t c.t (agreed head history run actor).numbered (open_there k new.t new.opened) c.there (ap (λ (m : TxnMeta). m.id) (sym new.whose.same) ∙ named) in
+                    let own : new.t ≡ c.t = one_named actor (k.begun + 1) k.txns new.t c.t (agreed head history run actor).numbered (open_there k new.t new.opened) c.there (ap (λ (m : TxnMeta). m.id) (sym new.whose.same) ∙ named) in
                     by history e run actor s u c.t now.number now.range now.sends new own (orderly head history run actor c.t c.there) more.0 c.turn
               ]
             ]
       ]))
     where
-      by : (history : List (Entry Event)) (e : Entry Event) → IsRun head history → (actor : ActorId) (s : Stage) (u t : Txn) (number range : ℕ) → e.event ≡ events.Send number range (stage_request s)
+      by : (history : List (Entry Event)) (e : Entry Event) → IsRun head history → (actor : ActorId) (s : SentStage) (u t : Txn) (number range : ℕ) → e.event ≡ events.Send number range (stage_request s)
           → (new : MaySendNewStage (known_at head actor history) s) → new.t ≡ t → AreOrderly history t → (more : List Heard) → Turn history e (known_at head actor history) t u → IsKnownLast ((known_at head actor history).heard ++ more) u s
       by history e run actor s u t number range sends new own o more (WentOn epoch alike) = new-known head history e (known_at head actor history) more s t u new own o epoch alike
       by history e run actor s u t number range sends new own o more (Wrote w f epoch writes) =
@@ -256,7 +257,7 @@ module _ (head : Head) where
       ]
 
 -- a new stage lists the last write at each listed key
-pub new_last : (head : Head) (history : List (Entry Event)) (e : Entry Event) (k : Known) (s : Stage) (t : Txn) (new : MaySendNewStage k s) → new.t ≡ t → AreOrderly history t
+pub new_last : (head : Head) (history : List (Entry Event)) (e : Entry Event) (k : Known) (s : SentStage) (t : Txn) (new : MaySendNewStage k s) → new.t ≡ t → AreOrderly history t
     → (x : List ℕ × ℕ) → Contains s.writes x → (w : Write) → Contains t.writes w → w.key ≡ x.0 → w.seq ≤ x.1
 new_last head history e k s t new own o x there w inside key =
     let v = listed-from head history e k [] s t t new own o x there in

@@ -23,9 +23,9 @@ use Rattle.pc_proto.specs.declared.request.Request.TheVariants as requests
 use Rattle.pc_proto.specs.declared.why.Why.{Why}
 use Rattle.pc_world.specs.Local.{Head}
 use Rattle.pc_world.specs.Run.{IsRun}
-use Rattle.pc_world.specs.StageFate.{Commit, IsDead, Stage, commit_request, stage_request}
+use Rattle.pc_world.specs.StageFate.{IsDead, SentCommit, SentStage, commit_request, stage_request}
 
-module _ (head : Head) (history : List (Entry Event)) (run : IsRun head history) (s : Stage) (sent : WasStaged history s) (opened : IsOpenTo head history s) where
+module _ (head : Head) (history : List (Entry Event)) (run : IsRun head history) (s : SentStage) (sent : WasStaged history s) (opened : IsOpenTo head history s) where
   -- where an abort was sent, the stage has a refuted write
   pub abort_refutes : (a : Entry Event) → Contains history a → (number range : ℕ) (meta : TxnMeta) (why : Why) (locks : List (List ℕ)) → a.event ≡ events.Send number range (requests.Abort meta why locks) → meta.id ≡ s.meta.id → SomeRefuted history s
   abort_refutes a there number range meta why locks sends whose =
@@ -36,7 +36,7 @@ module _ (head : Head) (history : List (Entry Event)) (run : IsRun head history)
 
   module _ (whole : SomeRefuted history s → ⊥) where
     -- a commit that was sent is at its timestamp, or the record is past it
-    pub commit_beside : (a : Entry Event) → Contains history a → (number range : ℕ) (c : Commit) → a.event ≡ events.Send number range (commit_request c) → c.meta.id ≡ s.meta.id
+    pub commit_beside : (a : Entry Event) → Contains history a → (number range : ℕ) (c : SentCommit) → a.event ≡ events.Send number range (commit_request c) → c.meta.id ≡ s.meta.id
         → (c.ts ≡ s.ts) ⊎ IsBeyond c.meta.epoch c.ts (home_of head s.meta.id history)
     commit_beside a there number range c sends whose =
         let actor : ActorId = actors.Session s.meta.id.session in
@@ -56,7 +56,7 @@ module _ (head : Head) (history : List (Entry Event)) (run : IsRun head history)
         ]
 
     -- another stage that was sent lies below it, or the record is past that one
-    pub stage_beside : (x : Stage) → WasStaged history x → x.meta.id ≡ s.meta.id → (x ≡ s) ⊎ ((x.ts < s.ts) ⊎ IsBeyond x.meta.epoch x.ts (home_of head s.meta.id history))
+    pub stage_beside : (x : SentStage) → WasStaged history x → x.meta.id ≡ s.meta.id → (x ≡ s) ⊎ ((x.ts < s.ts) ⊎ IsBeyond x.meta.epoch x.ts (home_of head s.meta.id history))
     stage_beside x also whose =
         let actor : ActorId = actors.Session s.meta.id.session in
         let known : HasSent (session_at head s.meta.id history).sent (stage_request x) = subst (λ i. HasSent (session_at head i history).sent (stage_request x)) whose (has_sent_stage head history run x also) in

@@ -5,7 +5,6 @@ use Rattle.pc_base.specs.declared.actor.ActorId.{ActorId}
 use Rattle.pc_base.specs.declared.actor.ActorId.TheVariants as actors
 use Rattle.pc_base.specs.declared.entry.Entry.{Entry}
 use Rattle.pc_base.specs.declared.transaction.TxnId.{TxnId}
-use Rattle.pc_history.proofs.Lists.{contains_nil}
 use Rattle.pc_implicit.proofs.Agreed.{agreed, open_there, owned}
 use Rattle.pc_implicit.proofs.Anchored.{commit_anchored}
 use Rattle.pc_implicit.proofs.Commits.{act_of}
@@ -17,6 +16,7 @@ use Rattle.pc_implicit.proofs.Refusals.{sent_known}
 use Rattle.pc_implicit.proofs.StagesKnown.{HasSent}
 use Rattle.pc_implicit.specs.Stages.{WasStaged}
 use Rattle.pc_implicit.specs.Writes.{txns_of}
+use Rattle.pc_lists.proofs.Lists.{contains_nil}
 use Rattle.pc_proto.specs.declared.event.Event.{Event}
 use Rattle.pc_proto.specs.declared.event.Event.TheVariants as events
 use Rattle.pc_proto.specs.declared.meta.TxnMeta.{TxnMeta}
@@ -31,7 +31,7 @@ use Rattle.pc_world.specs.Local.{Head}
 use Rattle.pc_world.specs.Run.{IsRun}
 use Rattle.pc_world.specs.Send.Abort.{MaySendAbort}
 use Rattle.pc_world.specs.Send.Stage.{MaySendStage}
-use Rattle.pc_world.specs.StageFate.{Commit, Stage, commit_request, stage_request}
+use Rattle.pc_world.specs.StageFate.{SentCommit, SentStage, commit_request, stage_request}
 
 module _ (head : Head) (history : List (Entry Event)) (run : IsRun head history) where
   owner-of : (before : List (Entry Event)) → IsRun head before → (actor : ActorId) (t : Txn) (id : TxnId) → Contains (known_at head actor before).txns t → id ≡ t.id → actor ≡ actors.Session id.session
@@ -45,7 +45,7 @@ module _ (head : Head) (history : List (Entry Event)) (run : IsRun head history)
       (n, record { number = number; range = range; request = request }, inside, at, refl)
 
   -- who sent a stage
-  pub stage_owner : (s : Stage) (w : WasStaged history s) → w.send.actor ≡ actors.Session s.meta.id.session
+  pub stage_owner : (s : SentStage) (w : WasStaged history s) → w.send.actor ≡ actors.Session s.meta.id.session
   stage_owner s w =
       let at = sent_at head history run w.send w.listed in
       let run_before : IsRun head at.before = run_front head at.before (w.send ∷ at.later) (subst (IsRun head) at.whole run) in
@@ -58,11 +58,11 @@ module _ (head : Head) (history : List (Entry Event)) (run : IsRun head history)
       ]
 
   -- its session knows that it was sent
-  pub has_sent_stage : (s : Stage) → WasStaged history s → HasSent (session_at head s.meta.id history).sent (stage_request s)
+  pub has_sent_stage : (s : SentStage) → WasStaged history s → HasSent (session_at head s.meta.id history).sent (stage_request s)
   has_sent_stage s w = known-to w.send w.listed w.number w.range (stage_request s) s.meta.id w.sends (stage_owner s w)
 
   -- so it is of a commit
-  pub has_sent_commit : (a : Entry Event) → Contains history a → (number range : ℕ) (c : Commit) → a.event ≡ events.Send number range (commit_request c) → HasSent (session_at head c.meta.id history).sent (commit_request c)
+  pub has_sent_commit : (a : Entry Event) → Contains history a → (number range : ℕ) (c : SentCommit) → a.event ≡ events.Send number range (commit_request c) → HasSent (session_at head c.meta.id history).sent (commit_request c)
   has_sent_commit a there number range c sends =
       known-to a there number range (commit_request c) c.meta.id sends (commit_anchored head history run a there number range c.meta c.ts c.locks sends).whose
 
@@ -79,12 +79,12 @@ module _ (head : Head) (history : List (Entry Event)) (run : IsRun head history)
       (owner-of at.before run_before a.actor row.t meta.id (open_there k row.t row.opened) (ap (λ (m : TxnMeta). m.id) row.whose.same))
 
 -- a session knows each transaction of which it sent a stage
-pub staged_txn : (head : Head) (history : List (Entry Event)) → IsRun head history → (s : Stage) → WasStaged history s → Has s.meta.id (txns_of head s.meta.id history)
+pub staged_txn : (head : Head) (history : List (Entry Event)) → IsRun head history → (s : SentStage) → WasStaged history s → Has s.meta.id (txns_of head s.meta.id history)
 staged_txn head history run s w = along history run w.send w.listed w.number w.range s w.sends
   where
-    along : (history : List (Entry Event)) → IsRun head history → (a : Entry Event) → Contains history a → (number range : ℕ) (s : Stage) → a.event ≡ events.Send number range (stage_request s) → Has s.meta.id (txns_of head s.meta.id history)
+    along : (history : List (Entry Event)) → IsRun head history → (a : Entry Event) → Contains history a → (number range : ℕ) (s : SentStage) → a.event ≡ events.Send number range (stage_request s) → Has s.meta.id (txns_of head s.meta.id history)
     along = run_induction head
-        (λ history. (a : Entry Event) → Contains history a → (number range : ℕ) (s : Stage) → a.event ≡ events.Send number range (stage_request s) → Has s.meta.id (txns_of head s.meta.id history))
+        (λ history. (a : Entry Event) → Contains history a → (number range : ℕ) (s : SentStage) → a.event ≡ events.Send number range (stage_request s) → Has s.meta.id (txns_of head s.meta.id history))
         (λ a there. absurd (contains_nil a there)) (λ history e run may all a there number range s is.
         has_more head history e (actors.Session s.meta.id.session) s.meta.id
         (elim (Contains-push_cases history e a there) [

@@ -30,14 +30,15 @@ use Rattle.pc_proto.specs.declared.reply.Reply.TheVariants as replies
 use Rattle.pc_proto.specs.declared.request.Request.{Request}
 use Rattle.pc_proto.specs.declared.request.Request.TheVariants as requests
 use Rattle.pc_proto.specs.Place.{Place, Kept, after, is_final}
-use Rattle.pc_proto.specs.RecordRows.{change, subject}
+use Rattle.pc_proto.specs.RecordRows.{place_change}
 use Rattle.pc_proto.specs.RecordRows.Reached.{status_of}
+use Rattle.pc_proto.specs.Requests.{subject}
 use Rattle.pc_world.proofs.Prefixes.{run_front}
 use Rattle.pc_world.specs.After.{known_at}
 use Rattle.pc_world.specs.Local.{Head}
 use Rattle.pc_world.specs.Run.{IsRun, protocol}
 use Rattle.pc_world.specs.Send.Recovery.{MaySendRecover}
-use Rattle.pc_world.specs.StageFate.{Stage}
+use Rattle.pc_world.specs.StageFate.{SentStage}
 
 pub replied_along : (front back history : List (Entry Event)) → front ++ back ≡ history → (request : Request) (reply : Reply) → WasReplied front request reply → WasReplied history request reply
 replied_along front back history whole request reply w = record {
@@ -51,7 +52,7 @@ replied_along front back history whole request reply w = record {
   told = w.told;
 }
 
-staged-so-along : (front back history : List (Entry Event)) → front ++ back ≡ history → (s : Stage) → WasStaged front s → WasStaged history s
+staged-so-along : (front back history : List (Entry Event)) → front ++ back ≡ history → (s : SentStage) → WasStaged front s → WasStaged history s
 staged-so-along front back history whole s w = record {
   send = w.send;
   listed = subst (λ h. Contains h w.send) whole (Contains-append_left front back w.send w.listed);
@@ -61,7 +62,7 @@ staged-so-along front back history whole s w = record {
 }
 
 -- A stage as which the record stages is open.
-pub staging_open : (head : Head) (history : List (Entry Event)) (s : Stage) (r : Record) → home_of head s.meta.id history ≡ Kept r → StagesAs s r → IsOpenTo head history s
+pub staging_open : (head : Head) (history : List (Entry Event)) (s : SentStage) (r : Record) → home_of head s.meta.id history ≡ Kept r → StagesAs s r → IsOpenTo head history s
 staging_open head history s r home stages =
     let epoch : epoch_of (home_of head s.meta.id history) ≡ s.meta.epoch = ap epoch_of home ∙ stages.epoch_is in
     let ts : time_of (home_of head s.meta.id history) ≡ s.ts = ap time_of home ∙ stages.ts_is in
@@ -73,7 +74,7 @@ staging_open head history s r home stages =
 
 -- One more entry, where no write of the stage was refuted.
 module _ (head : Head) (history : List (Entry Event)) (run : IsRun head history) (e : Entry Event) (may : MayFollow (protocol head) history e)
-    (s : Stage) (sent : WasStaged history s) (r : Record) (home : home_of head s.meta.id history ≡ Kept r) (stages : StagesAs s r) (whole : SomeRefuted history s → ⊥) where
+    (s : SentStage) (sent : WasStaged history s) (r : Record) (home : home_of head s.meta.id history ≡ Kept r) (stages : StagesAs s r) (whole : SomeRefuted history s → ⊥) where
   opened : IsOpenTo head history s
   opened = staging_open head history s r home stages
 
@@ -95,7 +96,7 @@ module _ (head : Head) (history : List (Entry Event)) (run : IsRun head history)
       let seen : WasStagedAs at.before id epoch ts row.writes = staging_heard head at.before run_before a.actor id epoch ts row.writes row.staging in
       let one : seen.stage ≡ s =
       one_staged head history run s seen.stage sent (staged-so-along at.before (a ∷ at.later) history joined seen.stage seen.sent) (seen.whose ∙ whose) (seen.epoch_is ∙ epochs) (seen.ts_is ∙ times) opened in
-      let writes : row.writes ≡ s.writes = sym seen.writes_are ∙ ap (λ (x : Stage). x.writes) one in
+      let writes : row.writes ≡ s.writes = sym seen.writes_are ∙ ap (λ (x : SentStage). x.writes) one in
       let asks : requests.Query id epoch missed.seq ts key by ≡ requests.Query s.meta.id s.meta.epoch missed.seq s.ts key by = λ i. requests.Query (whose i) (epochs i) missed.seq (times i) key by in
       whole (record {
         write = (key, missed.seq);
@@ -108,7 +109,7 @@ module _ (head : Head) (history : List (Entry Event)) (run : IsRun head history)
   unfolding opened
   changed-stays p q kept c =
       let ev = c.ev in
-      let made : q ≡ after (Kept r) (change ev.request (Kept r)) = c.changed ∙ ap (λ x. after x (change ev.request x)) kept in
+      let made : q ≡ after (Kept r) (place_change ev.request (Kept r)) = c.changed ∙ ap (λ x. after x (place_change ev.request x)) kept in
       elim (subst (LeavesBy r ev.request) (sym made) (leaves_by r stages.staging ev.request)) [
         | Stages still ↦
             StillStaged still.now still.kept (record {
@@ -130,7 +131,7 @@ module _ (head : Head) (history : List (Entry Event)) (run : IsRun head history)
             let whose : x.meta.id ≡ s.meta.id = let both : Some x.meta.id ≡ Some s.meta.id = sym (ap subject asks) ∙ c.about in cc both in
             let also : WasStaged history x = record { send = ev.send; listed = ev.listed; number = c.number; range = ev.range; sends = ev.sends ∙ ap (events.Send c.number ev.range) asks } in
             elim (stage_beside head history run s sent opened whole x also whose) [
-              | inl same ↦ absurd (elsewhere (ap (λ (y : Stage). y.meta.epoch) same ∙ sym stages.epoch_is) (ap (λ (y : Stage). y.ts) same ∙ sym stages.ts_is))
+              | inl same ↦ absurd (elsewhere (ap (λ (y : SentStage). y.meta.epoch) same ∙ sym stages.epoch_is) (ap (λ (y : SentStage). y.ts) same ∙ sym stages.ts_is))
               | inr other ↦ elim other [
                 | inl below ↦ let ts_is : r.status.ts ≡ s.ts = stages.ts_is in absurd (omega (arith, below, ts_low, ts_is))
                 | inr beyond ↦ absurd (not-past x.meta.epoch x.ts epoch_low ts_low beyond)

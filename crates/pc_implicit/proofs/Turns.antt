@@ -9,17 +9,16 @@ use Rattle.pc_base.specs.declared.entry.Entry.{Entry}
 use Rattle.pc_base.specs.declared.transaction.TxnId.{TxnId}
 use Rattle.pc_base.specs.Span.{same_key}
 use Rattle.pc_base.specs.Transaction.{same_txn}
-use Rattle.pc_history.proofs.Lists.{contains_cons, contains_head, contains_nil, contains_tail}
 use Rattle.pc_history.specs.History.{MayFollow}
 use Rattle.pc_history.specs.Own.{named_in}
 use Rattle.pc_implicit.proofs.Agreed.{AreNumbered, IsNew, Knows, agreed, begun_next, open_there, owned}
 use Rattle.pc_implicit.proofs.Commits.{act_of}
 use Rattle.pc_implicit.proofs.Doing.{Does, same_or_not, told_by_row}
 use Rattle.pc_implicit.proofs.Hearing.{IsSo, heard-event}
-use Rattle.pc_implicit.proofs.Keyed.{same-is}
-use Rattle.pc_implicit.proofs.IntentKeys.{same_key-is}
 use Rattle.pc_implicit.proofs.WriteLists.{AreAlike, IsAlike, alike-itself, alike_map, alike_themselves}
 use Rattle.pc_implicit.specs.Replied.{QueryFound, WasProven, WasReplied, WasWritten}
+use Rattle.pc_lists.proofs.Lists.{contains_cons, contains_head, contains_nil, contains_tail}
+use Rattle.pc_lists.proofs.Same.{same_key-is, same_txn-is}
 use Rattle.pc_proto.specs.declared.answer.Answer.{Answer}
 use Rattle.pc_proto.specs.declared.answer.Answer.TheVariants as answers
 use Rattle.pc_proto.specs.declared.event.Event.{Event}
@@ -31,7 +30,7 @@ use Rattle.pc_proto.specs.declared.request.Request.{Request}
 use Rattle.pc_proto.specs.declared.request.Request.TheVariants as requests
 use Rattle.pc_world.proofs.Knowing.{known_other, known_same}
 use Rattle.pc_world.specs.After.{known_at}
-use Rattle.pc_world.specs.Known.{Known, begun_by, first_if, open_txn, told_first, txns_after, txns_told}
+use Rattle.pc_world.specs.Known.{Known, first_if, open_txn, told_first, txn_begun, txns_after, txns_told}
 use Rattle.pc_world.specs.Known.Statements.{Statement}
 use Rattle.pc_world.specs.Known.Traffic.{Heard, heard_by, replies_to}
 use Rattle.pc_world.specs.Known.Transactions.{Txn, txn_heard, txn_sent, txn_told}
@@ -231,7 +230,7 @@ module _ (head : Head) (history : List (Entry Event)) (run : IsRun head history)
     where
       by : (b : Bool) → (same_txn meta.id t.id && meta.epoch == t.epoch) ≡ b → (u : Txn) → u.id ≡ t.id → u.epoch ≡ t.epoch → u.writes ≡ cond b (with_put seq ts key value t.writes) t.writes → Comes history e k u
       by true own u same epoch writes =
-          put-comes number range meta seq ts key value is may.row t u there (same-is meta.id t.id (and_parts (same_txn meta.id t.id) (meta.epoch == t.epoch) own).0) same epoch writes
+          put-comes number range meta seq ts key value is may.row t u there (same_txn-is meta.id t.id (and_parts (same_txn meta.id t.id) (meta.epoch == t.epoch) own).0) same epoch writes
       by false other u same epoch writes = still t u there same epoch writes
   sent-comes number range request is may t there = still t (txn_sent request t) there refl refl refl
 
@@ -266,7 +265,7 @@ module _ (head : Head) (history : List (Entry Event)) (run : IsRun head history)
       by true own writes =
           let parts = and_parts (same_txn meta.id t.id) (meta.epoch == t.epoch) own in
           let answered : WasWritten history t.id t.epoch key seq at =
-          subst (λ i. WasWritten history i t.epoch key seq at) (same-is meta.id t.id parts.0)
+          subst (λ i. WasWritten history i t.epoch key seq at) (same_txn-is meta.id t.id parts.0)
           (subst (λ n. WasWritten history meta.id n key seq at) (eqb-true meta.epoch t.epoch parts.1) (record { meta = meta; asked = ts; value = value; whose = refl; epoch_is = refl; replied = replied-so h (requests.Put meta seq ts key value) (replies.Written at) so asked told })) in
           proved-comes key seq at t u (inl answered) there same epoch writes
       by false other writes = still t u there same epoch writes
@@ -281,7 +280,7 @@ module _ (head : Head) (history : List (Entry Event)) (run : IsRun head history)
       by true own writes =
           let parts = and_parts (same_txn id t.id) (epoch_at == t.epoch) own in
           let found : QueryFound history t.id t.epoch key seq ts =
-          subst (λ i. QueryFound history i t.epoch key seq ts) (same-is id t.id parts.0)
+          subst (λ i. QueryFound history i t.epoch key seq ts) (same_txn-is id t.id parts.0)
           (subst (λ n. QueryFound history id n key seq ts) (eqb-true epoch_at t.epoch parts.1) (record { by = asker; replied = replied-so h (requests.Query id epoch_at seq ts key asker) replies.Found so asked told })) in
           proved-comes key seq ts t u (inr found) there same epoch writes
       by false other writes = still t u there same epoch writes
@@ -327,13 +326,13 @@ module _ (head : Head) (history : List (Entry Event)) (run : IsRun head history)
           ]
       by false txns opened whole there = still u u (subst (λ l. Contains l u) (sym whole) there) refl refl refl
 
-  begun-comes : (s : Option Statement) (id : TxnId) (ts : ℕ) → e.event ≡ events.Tell (answers.Begun id ts) → IsNew history id → Comes history e k (begun_by s id ts)
+  begun-comes : (s : Option Statement) (id : TxnId) (ts : ℕ) → e.event ≡ events.Tell (answers.Begun id ts) → IsNew history id → Comes history e k (txn_begun s id ts)
   begun-comes None id ts is new = inl (record { ts = ts; tells = is; new = new; epoch = refl; unwritten = refl })
   begun-comes (Some s) id ts is new = inl (record { ts = ts; tells = is; new = new; epoch = refl; unwritten = refl })
 
   tell-comes : (answer : Answer) → e.event ≡ events.Tell answer → Does head e.actor k (events.Tell answer) → (u : Txn) → Contains (txns_told answer k) u → Comes history e k u
   tell-comes (answers.Begun id ts) is may u there =
-      elim (contains_cons (begun_by k.statement id ts) k.txns u there) [
+      elim (contains_cons (txn_begun k.statement id ts) k.txns u there) [
         | inl same ↦
             let next = begun_next head e.actor k id ts may in
             subst (Comes history e k) same (begun-comes k.statement id ts is (knows.fresh id next.0 (omega (arith, next.1))))

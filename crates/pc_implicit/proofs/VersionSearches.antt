@@ -10,11 +10,10 @@ use Rattle.pc_base.specs.declared.version.Version.{Version}
 use Rattle.pc_base.specs.Span.{contains, key_below, same_key}
 use Rattle.pc_base.specs.Transaction.{same_txn}
 use Rattle.pc_base.specs.Versions.{above_newest, first_between, later, sooner}
-use Rattle.pc_implicit.proofs.IntentKeys.{same_key-equal}
-use Rattle.pc_implicit.proofs.Keyed.{same-is}
+use Rattle.pc_lists.proofs.Each.{each-weaker}
+use Rattle.pc_lists.proofs.Same.{same_key-equal, same_txn-is}
 use Rattle.pc_proto.specs.declared.record.Intent.{Intent}
 use Rattle.pc_proto.specs.Intents.{first_other, lesser_key}
-use Rattle.pc_world.proofs.Each.{each-weaker}
 
 -- what is so of each element that a test keeps is so of each that passes it
 pub each-passing : {X : Type 0} (P : X → Type 0) (test : X → Bool) (xs : List X) → Each P (filter test xs) → Each (λ x. test x ≡ true → P x) xs
@@ -85,7 +84,7 @@ none-other span ts id es h =
     (none-passes lesser_key lesser-some (λ e. contains span e.0 && (nat_le e.1.ts ts && not (same_txn e.1.meta.id id))) es h)
   where
     by : (e : List ℕ × Intent) → ((contains span e.0 && (nat_le e.1.ts ts && not (same_txn e.1.meta.id id))) ≡ true → ⊥) → contains span e.0 ≡ true → e.1.ts ≤ ts → (b : Bool) → same_txn e.1.meta.id id ≡ b → e.1.meta.id ≡ id
-    by e none inside low true is = same-is e.1.meta.id id is
+    by e none inside low true is = same_txn-is e.1.meta.id id is
     by e none inside low false is = absurd (none (grind arith))
 
 -- where a search found no version between two timestamps, each above the first is above the second

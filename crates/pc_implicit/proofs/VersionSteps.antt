@@ -5,8 +5,8 @@ use Rattle.std.proofs.lemmas.List.Elements.{Contains-append_cases, Contains-appe
 use Rattle.pc_base.specs.declared.entry.Entry.{Entry}
 use Rattle.pc_base.specs.declared.transaction.TxnId.{TxnId}
 use Rattle.pc_base.specs.declared.version.Version.{Version}
-use Rattle.pc_history.proofs.Lists.{contains_cons, contains_head, contains_nil}
 use Rattle.pc_implicit.proofs.Lift.{GoesOn, over}
+use Rattle.pc_lists.proofs.Lists.{contains_cons, contains_head, contains_nil}
 use Rattle.pc_proto.specs.declared.event.Event.{Event}
 use Rattle.pc_proto.specs.declared.fate.Fate.{Fate}
 use Rattle.pc_proto.specs.declared.fate.Fate.TheVariants as fates

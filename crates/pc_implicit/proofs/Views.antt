@@ -3,11 +3,11 @@ use Rattle.std.proofs.Common.{◌≡◌, ℕ, Bool, true, false, if◌then◌els
 use Rattle.std.specs.Option.{option_map_or}
 use Rattle.pc_base.specs.declared.transaction.TxnId.{TxnId}
 use Rattle.pc_base.specs.Transaction.{same_txn}
-use Rattle.pc_implicit.proofs.Keyed.{same-is}
 use Rattle.pc_implicit.proofs.Lift.{GoesOn}
 use Rattle.pc_implicit.proofs.Places.{at_place, place_after}
 use Rattle.pc_implicit.proofs.Rows.{decision-row, not-below-itself, rises-row}
 use Rattle.pc_implicit.specs.Decided.{HasReached, IsNotBelow, StaysTrue, decision}
+use Rattle.pc_lists.proofs.Same.{same_txn-is}
 use Rattle.pc_proto.specs.declared.record.Record.{Record}
 use Rattle.pc_proto.specs.declared.record.Standing.{Standing}
 use Rattle.pc_proto.specs.declared.record.Standing.TheVariants as standings
@@ -18,14 +18,15 @@ use Rattle.pc_proto.specs.declared.request.Request.TheVariants as requests
 use Rattle.pc_proto.specs.declared.view.View.{View}
 use Rattle.pc_proto.specs.declared.view.View.TheVariants as views
 use Rattle.pc_proto.specs.Place.{Place, Nothing, Kept, Marked, Change, Finish, Stay, after, is_decided, is_final, status_view, view_of}
-use Rattle.pc_proto.specs.RecordRows.{answer, change, push_reply, subject}
-use Rattle.pc_proto.specs.RecordRows.Push.{Verdict, There, Refuse, Doubt, Do, on_verdict, pushed, verdict}
+use Rattle.pc_proto.specs.RecordRows.{answer, place_change, push_reply}
+use Rattle.pc_proto.specs.RecordRows.Push.{Verdict, There, Refuse, Doubt, Do, on_verdict, push_verdict, pushed}
 use Rattle.pc_proto.specs.RecordRows.Reached.{status_of}
 use Rattle.pc_proto.specs.RecordRows.Remove.{remove}
+use Rattle.pc_proto.specs.Replies.{view_in}
+use Rattle.pc_proto.specs.Requests.{subject}
 use Rattle.pc_proto.specs.Table.{Table, applied_to, place_of}
 use Rattle.pc_world.specs.Evaluation.{reply, state_after}
 use Rattle.pc_world.specs.RangeState.{RangeState}
-use Rattle.pc_world.specs.Views.{view_in}
 
 -- The decision stands, and neither the epoch nor the timestamp falls.
 pub record Stands (p q : Place) : Type 0 where
@@ -99,16 +100,16 @@ remove-said (Kept r) view h = kept-said (is_final r.status.standing) r view h
 remove-said (Marked s) view h = absurd cc
 
 -- the view in an answer is that of the place after the request
-answer-view : (request : Request) (p : Place) (view : View) → view_in (answer request p) ≡ Some view → view ≡ view_of (after p (change request p))
-answer-view (requests.Push holder by level now goal) p view h = push-said (is_decided p) (verdict holder level now goal p) (pushed holder by goal p) p view h
+answer-view : (request : Request) (p : Place) (view : View) → view_in (answer request p) ≡ Some view → view ≡ view_of (after p (place_change request p))
+answer-view (requests.Push holder by level now goal) p view h = push-said (is_decided p) (push_verdict holder level now goal p) (pushed holder by goal p) p view h
 answer-view (requests.Remove id anchor) p view h = remove-said p view h
-answer-view request p view h = one-view (view_of (after p (change request p))) view h
+answer-view request p view h = one-view (view_of (after p (place_change request p))) view h
 
-from-answer : (own id : TxnId) (request : Request) (t : Table) (view : View) → ◌≡◌ {A = Option TxnId} (Some own) (Some id) → view_in (answer request (place_of own t)) ≡ Some view → view ≡ view_of (place_of id (applied_to own (change request (place_of own t)) t))
+from-answer : (own id : TxnId) (request : Request) (t : Table) (view : View) → ◌≡◌ {A = Option TxnId} (Some own) (Some id) → view_in (answer request (place_of own t)) ≡ Some view → view ≡ view_of (place_of id (applied_to own (place_change request (place_of own t)) t))
 from-answer own id request t view is h =
     let same : own ≡ id = cc in
     let p = place_of own t in
-    let c = change request p in
+    let c = place_change request p in
     subst (λ i. view ≡ view_of (place_of i (applied_to own c t))) same
     (answer-view request p view h ∙ ap view_of (sym (place_after own c t)))
 
@@ -126,4 +127,4 @@ reply-view request s id view is h = absurd cc
 -- what speaks of a transaction's record has it for its subject
 pub subject-is : (id : TxnId) (o : Option TxnId) → option_map_or (λ other. same_txn other id) o false ≡ true → o ≡ Some id
 subject-is id None h = absurd cc
-subject-is id (Some other) h = ap Some (same-is other id h)
+subject-is id (Some other) h = ap Some (same_txn-is other id h)

@@ -5,11 +5,12 @@ use Rattle.std.specs.List.{AllByRecursion as Each, AllPairs}
 use Rattle.pc_base.specs.declared.version.Version.{Version}
 use Rattle.pc_base.specs.Span.{same_key}
 use Rattle.pc_base.specs.Versions.{later, visible}
-use Rattle.pc_history.proofs.Lists.{contains_cons, contains_nil}
-use Rattle.pc_implicit.proofs.IntentKeys.{pairs-first, pairs-rest, same_key-equal, same_key-is}
+use Rattle.pc_implicit.proofs.IntentKeys.{pairs-first, pairs-rest}
 use Rattle.pc_implicit.proofs.RisingVersions.{Rise}
 use Rattle.pc_implicit.proofs.VersionSearches.{none-passes}
-use Rattle.pc_world.proofs.Each.{each-always, each-append, each-back, each-weaker}
+use Rattle.pc_lists.proofs.Each.{each-always, each-append, each-back, each-weaker}
+use Rattle.pc_lists.proofs.Lists.{contains_cons, contains_nil}
+use Rattle.pc_lists.proofs.Same.{same_key-equal, same_key-is}
 
 later-some : (best : Option Version) (v : Version) → later best v ≡ None → ⊥
 later-some None v h = cc

@@ -27,7 +27,7 @@ use Rattle.pc_world.proofs.World.{names_one}
 use Rattle.pc_world.specs.After.{state_at}
 use Rattle.pc_world.specs.Committed.{anchor_in, key_sent}
 use Rattle.pc_world.specs.Evaluation.{reply as reply_of}
-use Rattle.pc_world.specs.Evaluation.Query.{is_found, stands}
+use Rattle.pc_world.specs.Evaluation.Query.{is_found, write_stands}
 use Rattle.pc_world.specs.Local.{Head}
 use Rattle.pc_world.specs.Named.{is_send_of}
 use Rattle.pc_world.specs.Run.{IsRun, protocol}
@@ -193,6 +193,6 @@ none_found head history run id epoch key seq ts none w =
     let before : IsRun head a.front = run_front head a.front a.back (subst (IsRun head) (sym a.whole) run) in
     let early : anchor_in id a.front ≡ None = none_front (λ x. key_sent id x.event) a.front a.back (ap (anchor_in id) a.whole ∙ none) in
     let own = no_intent head a.front before w.replied.range id key early in
-    let nothing : stands id epoch seq ts key (state_at head w.replied.range a.front) ≡ false = ap (is_found epoch seq ts) own in
+    let nothing : write_stands id epoch seq ts key (state_at head w.replied.range a.front) ≡ false = ap (is_found epoch seq ts) own in
     let both : replies.Found ≡ replies.Missing = a.answers ∙ ap (λ b. if b then replies.Found else replies.Missing) nothing in
     absurd cc

@@ -9,12 +9,12 @@ use Rattle.pc_proto.specs.declared.reply.Reply.{Reply}
 use Rattle.pc_proto.specs.declared.request.Request.{Request}
 use Rattle.pc_proto.specs.declared.view.View.{View}
 use Rattle.pc_proto.specs.declared.view.View.TheVariants as views
-use Rattle.pc_proto.specs.RecordRows.{subject}
+use Rattle.pc_proto.specs.Replies.{view_in}
+use Rattle.pc_proto.specs.Requests.{subject}
 use Rattle.pc_world.specs.Known.Traffic.{reply_in}
 use Rattle.pc_world.specs.Local.{Head}
 use Rattle.pc_world.specs.Named.{request_named}
 use Rattle.pc_world.specs.Run.{protocol}
-use Rattle.pc_world.specs.Views.{view_in}
 
 -- After this history the range evaluated a request to the transaction's record, and answered this view.
 pub record Answers (head : Head) (before : List (Entry Event)) (range : ℕ) (id : TxnId) (view : View) (e : Entry Event) : Type 0 where

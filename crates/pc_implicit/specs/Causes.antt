@@ -6,7 +6,7 @@ use Rattle.pc_base.specs.declared.transaction.Priority.{Priority}
 use Rattle.pc_base.specs.declared.transaction.TxnId.{TxnId}
 use Rattle.pc_base.specs.declared.transaction.Who.{Who}
 use Rattle.pc_implicit.specs.Decided.{decision}
-use Rattle.pc_implicit.specs.Reads.{Evaluated}
+use Rattle.pc_implicit.specs.Reads.{RangeEvaluated}
 use Rattle.pc_implicit.specs.Replied.{WasReplied}
 use Rattle.pc_implicit.specs.Stages.{WasStaged}
 use Rattle.pc_implicit.specs.Writes.{home_of}
@@ -29,7 +29,7 @@ use Rattle.pc_world.specs.Known.Transactions.{Txn}
 use Rattle.pc_world.specs.Local.{Head}
 use Rattle.pc_world.specs.Run.{IsRun}
 use Rattle.pc_world.specs.Send.Abort.{own_cause}
-use Rattle.pc_world.specs.StageFate.{Stage}
+use Rattle.pc_world.specs.StageFate.{SentStage}
 
 -- With this entry the transaction becomes aborted, for this cause: it was not decided before, and its record says so after it.
 pub record IsAbortedAt (head : Head) (before : List (Entry Event)) (e : Entry Event) (id : TxnId) (why : Why) : Type 0 where
@@ -44,7 +44,7 @@ pub record IsPushedBy (head : Head) (before : List (Entry Event)) (e : Entry Eve
   pub holder : TxnMeta
   pub level : Priority
   pub now : ℕ
-  pub push : Evaluated head before range (λ request reply. request ≡ requests.Push holder by level now goals.Abort) e
+  pub push : RangeEvaluated head before range (λ request reply. request ≡ requests.Push holder by level now goals.Abort) e
   pub whose : holder.id ≡ id
   pub won : wins holder level now (place_at head range id before) ≡ true
 
@@ -55,9 +55,9 @@ pub record IsFoundMissing (head : Head) (before : List (Entry Event)) (e : Entry
   pub epoch : ℕ
   pub ts : ℕ
   pub anchor : List ℕ
-  pub recovery : Evaluated head before range (λ request reply. request ≡ requests.Recover id epoch ts anchor (findings.Missing key by)) e
+  pub recovery : RangeEvaluated head before range (λ request reply. request ≡ requests.Recover id epoch ts anchor (findings.Missing key by)) e
   pub staging : is_staged_at (place_at head range id before) epoch ts ≡ true
-  pub stage : Stage
+  pub stage : SentStage
   pub sent : WasStaged before stage
   pub whose : stage.meta.id ≡ id
   pub epoch_is : stage.meta.epoch ≡ epoch
@@ -72,7 +72,7 @@ pub record IsGivenUpBy (head : Head) (before : List (Entry Event)) (e : Entry Ev
   pub range : ℕ
   pub meta : TxnMeta
   pub locks : List (List ℕ)
-  pub abort : Evaluated head before range (λ request reply. request ≡ requests.Abort meta why locks) e
+  pub abort : RangeEvaluated head before range (λ request reply. request ≡ requests.Abort meta why locks) e
   pub front : List (Entry Event)
   pub send : Entry Event
   pub back : List (Entry Event)

@@ -13,13 +13,13 @@ use Rattle.pc_proto.specs.declared.reply.Reply.TheVariants as replies
 use Rattle.pc_proto.specs.declared.request.Request.{Request}
 use Rattle.pc_proto.specs.declared.view.View.{View}
 use Rattle.pc_proto.specs.RecordRows.Reached.{is_staged_at}
+use Rattle.pc_proto.specs.Views.{is_final_view}
 use Rattle.pc_world.specs.After.{place_at, state_at}
 use Rattle.pc_world.specs.Answering.{MayAnswer}
 use Rattle.pc_world.specs.Committed.{IsCommitted, commit_point}
 use Rattle.pc_world.specs.Decisions.{HasOneDecision}
 use Rattle.pc_world.specs.Evaluation.{reply}
-use Rattle.pc_world.specs.Known.{known}
-use Rattle.pc_world.specs.Known.Transactions.{is_final_view}
+use Rattle.pc_world.specs.Known.{known_of}
 use Rattle.pc_world.specs.Local.{Head, IsActorOf}
 use Rattle.pc_world.specs.Run.{IsRun, protocol}
 use Rattle.pc_world.specs.Unstaged.{NothingIsStaged}
@@ -89,7 +89,7 @@ abbrev pub HoldersWereBegun : Type 0
 HoldersWereBegun =
     (head : Head) (history : List (Entry Event)) (range : ℕ) (request : Request) (holder : TxnMeta) (ts : ℕ) (key : List ℕ)
     → IsRun head history → reply request (state_at head range history) ≡ replies.Conflict holder ts key
-    → holder.id.number ≤ (known (own (protocol head) (actors.Session holder.id.session) history)).begun
+    → holder.id.number ≤ (known_of (own (protocol head) (actors.Session holder.id.session) history)).begun
 
 -- And its session is one of the head's.
 abbrev pub HeadsHaveHolders : Type 0

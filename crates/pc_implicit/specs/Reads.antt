@@ -22,7 +22,7 @@ use Rattle.pc_world.specs.RangeState.{RangeState}
 use Rattle.pc_world.specs.Run.{IsRun, protocol}
 
 -- After this history the range evaluated a request, and its request and reply are so.
-pub record Evaluated (head : Head) (before : List (Entry Event)) (range : ℕ) (P : Request → Reply → Type 0) (e : Entry Event) : Type 0 where
+pub record RangeEvaluated (head : Head) (before : List (Entry Event)) (range : ℕ) (P : Request → Reply → Type 0) (e : Entry Event) : Type 0 where
   pub evaluated : e.actor ≡ actors.Range range
   pub request : Request
   pub asked : request_named (named_in (protocol head) before e.event) ≡ Some request
@@ -31,12 +31,12 @@ pub record Evaluated (head : Head) (before : List (Entry Event)) (range : ℕ) (
   pub is : P request reply
 
 -- The transaction read the span at this timestamp: a get found what stands at its one key, or a scan the rows of its piece.
-abbrev pub IsRead : TxnId → Span → ℕ → Request → Reply → Type 0
-IsRead id span ts (requests.Get reader epoch seq at key) (replies.Value origin value) =
+abbrev pub IsReadOfSpan : TxnId → Span → ℕ → Request → Reply → Type 0
+IsReadOfSpan id span ts (requests.Get reader epoch seq at key) (replies.Value origin value) =
     (reader ≡ id) × (span ≡ One key) × (at ≡ ts)
-IsRead id span ts (requests.Scan reader epoch seq at piece) (replies.Rows rows) =
+IsReadOfSpan id span ts (requests.Scan reader epoch seq at piece) (replies.Rows rows) =
     (reader ≡ id) × (span ≡ piece) × (at ≡ ts)
-IsRead id span ts _ _ = ⊥
+IsReadOfSpan id span ts _ _ = ⊥
 
 -- What the transaction read of the span at the first timestamp was refreshed to the second.
 abbrev pub IsRefresh : TxnId → Span → ℕ → ℕ → Request → Reply → Type 0
@@ -46,11 +46,11 @@ IsRefresh id span from to _ _ = ⊥
 
 -- After this history the range evaluated a read of the span at this timestamp, and answered what it found.
 abbrev pub Reads : Head → List (Entry Event) → ℕ → TxnId → Span → ℕ → Entry Event → Type 0
-Reads head before range id span ts e = Evaluated head before range (IsRead id span ts) e
+Reads head before range id span ts e = RangeEvaluated head before range (IsReadOfSpan id span ts) e
 
 -- After this history the range evaluated a refresh of the span, and answered that it held.
 abbrev pub Refreshes : Head → List (Entry Event) → ℕ → TxnId → Span → ℕ → ℕ → Entry Event → Type 0
-Refreshes head before range id span from to e = Evaluated head before range (IsRefresh id span from to) e
+Refreshes head before range id span from to e = RangeEvaluated head before range (IsRefresh id span from to) e
 
 -- The transaction has read the span up to this timestamp in the range: no other's intent lies there at or below it, and the bound
 -- leaves others only later timestamps.

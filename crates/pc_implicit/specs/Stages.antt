@@ -7,10 +7,10 @@ use Rattle.pc_proto.specs.declared.event.Event.{Event}
 use Rattle.pc_proto.specs.declared.event.Event.TheVariants as events
 use Rattle.pc_world.specs.Committed.{is_present}
 use Rattle.pc_world.specs.Local.{Head}
-use Rattle.pc_world.specs.StageFate.{Stage, stage_request}
+use Rattle.pc_world.specs.StageFate.{SentStage, stage_request}
 
 -- The stage was sent.
-pub record WasStaged (history : List (Entry Event)) (s : Stage) : Type 0 where
+pub record WasStaged (history : List (Entry Event)) (s : SentStage) : Type 0 where
   pub send : Entry Event
   pub listed : Contains history send
   pub number : ℕ
@@ -18,17 +18,17 @@ pub record WasStaged (history : List (Entry Event)) (s : Stage) : Type 0 where
   pub sends : send.event ≡ events.Send number range (stage_request s)
 
 -- The transaction's record is not past the stage: it is not decided, and neither its epoch nor its timestamp is past the stage's.
-pub record IsOpenTo (head : Head) (history : List (Entry Event)) (s : Stage) : Type 0 where
+pub record IsOpenTo (head : Head) (history : List (Entry Event)) (s : SentStage) : Type 0 where
   pub undecided : decision (home_of head s.meta.id history) ≡ None
   pub epoch_low : epoch_of (home_of head s.meta.id history) ≤ s.meta.epoch
   pub ts_low : time_of (home_of head s.meta.id history) ≤ s.ts
 
 -- The write is present as the stage lists it: in its epoch, at or below its timestamp.
-abbrev pub IsThere : Head → List (Entry Event) → Stage → List ℕ × ℕ → Type 0
+abbrev pub IsThere : Head → List (Entry Event) → SentStage → List ℕ × ℕ → Type 0
 IsThere head history s w = is_present head history s.meta.id s.meta.epoch s.ts w ≡ true
 
 -- The write was so present at some time since the stage was sent.
-pub record WasThere (head : Head) (history : List (Entry Event)) (s : Stage) (w : List ℕ × ℕ) : Type 0 where
+pub record WasThere (head : Head) (history : List (Entry Event)) (s : SentStage) (w : List ℕ × ℕ) : Type 0 where
   pub front : List (Entry Event)
   pub back : List (Entry Event)
   pub whole : history ≡ front ++ back

@@ -5,7 +5,7 @@ use Rattle.pc_base.specs.Bound.{free_from}
 use Rattle.pc_base.specs.declared.entry.Entry.{Entry}
 use Rattle.pc_base.specs.declared.transaction.TxnId.{TxnId}
 use Rattle.pc_implicit.specs.Decided.{decision}
-use Rattle.pc_implicit.specs.Reads.{Evaluated}
+use Rattle.pc_implicit.specs.Reads.{RangeEvaluated}
 use Rattle.pc_implicit.specs.Replied.{WasWritten}
 use Rattle.pc_implicit.specs.Stages.{IsOpenTo, IsThere, WasThere}
 use Rattle.pc_implicit.specs.Writes.{home_of, own_intent}
@@ -16,18 +16,19 @@ use Rattle.pc_proto.specs.declared.reply.Reply.TheVariants as replies
 use Rattle.pc_proto.specs.declared.request.Request.{Request}
 use Rattle.pc_proto.specs.declared.request.Request.TheVariants as requests
 use Rattle.pc_proto.specs.Intents.{last_seq}
+use Rattle.pc_proto.specs.Requests.{Recovers}
 use Rattle.pc_world.specs.After.{state_at}
 use Rattle.pc_world.specs.Committed.{IsCommitted}
-use Rattle.pc_world.specs.Decisions.{AnswersCommitted, Recovers}
-use Rattle.pc_world.specs.Evaluation.Query.{stands}
+use Rattle.pc_world.specs.Decisions.{AnswersCommitted}
+use Rattle.pc_world.specs.Evaluation.Query.{write_stands}
 use Rattle.pc_world.specs.Local.{Head}
 use Rattle.pc_world.specs.RangeState.{RangeState}
 use Rattle.pc_world.specs.Run.{IsRun}
-use Rattle.pc_world.specs.StageFate.{Stage}
+use Rattle.pc_world.specs.StageFate.{SentStage}
 
 -- The write is missing at the timestamp and can't come there any more: the range leaves every writer only later timestamps.
 pub record StaysMissing (id : TxnId) (epoch seq ts : ℕ) (key : List ℕ) (s : RangeState) : Type 0 where
-  pub absent : stands id epoch seq ts key s ≡ false
+  pub absent : write_stands id epoch seq ts key s ≡ false
   pub closed : (writer : TxnId) → ts < free_from writer s.bound
 
 -- A query of this write at this timestamp missed it.
@@ -40,7 +41,7 @@ IsMissedQuery id epoch seq ts key _ _ = ⊥
 abbrev pub MissingStays : Type 0
 MissingStays =
     (head : Head) (range : ℕ) (id : TxnId) (epoch seq ts : ℕ) (key : List ℕ) (before : List (Entry Event)) (e : Entry Event) (later : List (Entry Event))
-    → IsRun head (before ++ e ∷ later) → Evaluated head before range (IsMissedQuery id epoch seq ts key) e
+    → IsRun head (before ++ e ∷ later) → RangeEvaluated head before range (IsMissedQuery id epoch seq ts key) e
     → StaysMissing id epoch seq ts key (state_at head range (before ++ e ∷ later))
 
 -- The intent is past the write: of its epoch, with its sequence or a later one, or of a later epoch; and not below its timestamp.
@@ -60,7 +61,7 @@ WrittenStays =
 -- was sent.
 abbrev pub StagedWritesStay : Type 0
 StagedWritesStay =
-    (head : Head) (history : List (Entry Event)) (s : Stage)
+    (head : Head) (history : List (Entry Event)) (s : SentStage)
     → IsRun head history → IsOpenTo head history s → ((w : List ℕ × ℕ) → Contains s.writes w → WasThere head history s w)
     → (w : List ℕ × ℕ) → Contains s.writes w → IsThere head history s w
 

@@ -20,8 +20,8 @@ use Rattle.pc_world.specs.RangeOf.{range_of}
 use Rattle.pc_world.specs.Run.{IsRun}
 
 -- What these writes lay at the key, each value under its sequence.
-abbrev pub writes_at : List ℕ → List Write → List (ℕ × Option (List ℕ))
-writes_at key writes = map (λ w. (w.seq, w.value)) (filter (λ w. same_key w.key key) writes)
+abbrev pub writes_on : List ℕ → List Write → List (ℕ × Option (List ℕ))
+writes_on key writes = map (λ w. (w.seq, w.value)) (filter (λ w. same_key w.key key) writes)
 
 -- The transactions of the session that began this one.
 abbrev pub txns_of : Head → TxnId → List (Entry Event) → List Txn
@@ -43,13 +43,13 @@ own_intent head id key history = own_at id key (state_at head (range_of head.spl
 -- The intent has the first writes at the key of the transaction's epoch, at least one.
 pub record IsFrontOf (t : Txn) (key : List ℕ) (i : Intent) : Type 0 where
   pub rest : List (ℕ × Option (List ℕ))
-  pub whole : i.history ++ rest ≡ writes_at key t.writes
+  pub whole : i.history ++ rest ≡ writes_on key t.writes
   pub first : ℕ × Option (List ℕ)
   pub some : Contains i.history first
 
 -- The write stands as an intent of the epoch; while it is the intent's last one, that lies no higher than where it was written or
 -- where the transaction's record has gone.
-pub record StandsAs (t : Txn) (home : Place) (seq ts : ℕ) (i : Intent) : Type 0 where
+pub record StandsAsIntent (t : Txn) (home : Place) (seq ts : ℕ) (i : Intent) : Type 0 where
   pub epoch : i.meta.epoch ≡ t.epoch
   pub has : seq ≤ last_seq i
   pub low : last_seq i ≤ seq → i.ts ≤ max ts (time_of home)
@@ -61,7 +61,7 @@ pub record OwnStand (head : Head) (history : List (Entry Event)) (t : Txn) (key 
   pub front : decision (home_of head t.id history) ≡ None → (i : Intent) → own_intent head t.id key history ≡ Some i → i.meta.epoch ≡ t.epoch
       → IsFrontOf t key i
   pub written : decision (home_of head t.id history) ≡ None → (seq ts : ℕ) → WasProven history t.id t.epoch key seq ts
-      → (i : Intent) × (own_intent head t.id key history ≡ Some i) × StandsAs t (home_of head t.id history) seq ts i
+      → (i : Intent) × (own_intent head t.id key history ≡ Some i) × StandsAsIntent t (home_of head t.id history) seq ts i
 
 -- What a transaction wrote in its epoch stands in its intents while it is not decided.
 abbrev pub OwnIntentsStand : Type 0
@@ -80,12 +80,12 @@ ProofsWereWritten =
 pub record IsWholeBy (t : Txn) (key : List ℕ) (ts : ℕ) (i : Intent) : Type 0 where
   pub epoch : i.meta.epoch ≡ t.epoch
   pub low : i.ts ≤ ts
-  pub whole : i.history ≡ writes_at key t.writes
+  pub whole : i.history ≡ writes_on key t.writes
 
 -- The transaction's last write at the key stands as a version at this timestamp, or all its writes there as an intent that is not
 -- above it.
-abbrev pub StandsBy : Head → List (Entry Event) → Txn → List ℕ → Option (List ℕ) → ℕ → Type 0
-StandsBy head history t key value ts =
+abbrev pub LastWriteStands : Head → List (Entry Event) → Txn → List ℕ → Option (List ℕ) → ℕ → Type 0
+LastWriteStands head history t key value ts =
     Contains (state_at head (range_of head.splits key) history).versions (record { key = key; ts = ts; id = t.id; value = value })
     ⊎ ((i : Intent) × (own_intent head t.id key history ≡ Some i) × IsWholeBy t key ts i)
 
@@ -95,7 +95,7 @@ WritesOfCommitted =
     (head : Head) (history : List (Entry Event)) (t : Txn) (ts : ℕ) (key : List ℕ)
     (front : List (ℕ × Option (List ℕ))) (seq : ℕ) (value : Option (List ℕ))
     → IsRun head history → Contains (txns_of head t.id history) t → IsCommitted head history t.id ts
-    → writes_at key t.writes ≡ front ++ (seq, value) ∷ [] → StandsBy head history t key value ts
+    → writes_on key t.writes ≡ front ++ (seq, value) ∷ [] → LastWriteStands head history t key value ts
 
 -- The version is the last write at its key of a transaction that is committed at its timestamp, in the key's range.
 pub record IsOfCommitted (head : Head) (history : List (Entry Event)) (range : ℕ) (v : Version) : Type 0 where
@@ -106,7 +106,7 @@ pub record IsOfCommitted (head : Head) (history : List (Entry Event)) (range : �
   pub whose : t.id ≡ v.id
   pub front : List (ℕ × Option (List ℕ))
   pub seq : ℕ
-  pub last : writes_at v.key t.writes ≡ front ++ (seq, v.value) ∷ []
+  pub last : writes_on v.key t.writes ≡ front ++ (seq, v.value) ∷ []
 
 -- Each version is of a committed transaction.
 abbrev pub VersionsAreCommitted : Type 0

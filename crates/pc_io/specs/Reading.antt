@@ -9,9 +9,9 @@ IsAllOf None bytes = ⊤
 IsAllOf (Some left) bytes = bytes ≡ left
 
 -- a source that tells its bytes has none left
-abbrev pub LeavesNothing : Option (List ℕ) → Option (List ℕ) → Type 0
-LeavesNothing None rest = ⊤
-LeavesNothing (Some left) rest = rest ≡ Some []
+abbrev pub HasNoneLeft : Option (List ℕ) → Option (List ℕ) → Type 0
+HasNoneLeft None rest = ⊤
+HasNoneLeft (Some left) rest = rest ≡ Some []
 
 -- what was read is the front of what was left, of at most so many bytes
 abbrev pub TakesAtMost : ℕ → Option (List ℕ) → Option (List ℕ) → Type 0

@@ -3,7 +3,7 @@
 ghost use Rattle.std.specs.Prelude.{◌≡◌, ◌+◌, ◌-◌, ◌<◌, ◌≤◌, ◌↔◌, ◌⊎◌, min, [], ◌++◌, length, take, drop, Contains, Some, IfOk, OnErr, IsErr};
 ghost use Rattle.std.specs.Io.{ReadsAtMost, WritesAtMost};
 ghost use Rattle.std.specs.Io.KnownBytes.{ReadConsumes, WriteAppends};
-ghost use Rattle.pc_io.specs.Counts.{raised};
+ghost use Rattle.pc_base.specs.Counts.{saturating_next};
 ghost use Rattle.pc_io.specs.Causes.{HasCause};
 
 use crate::failure::Failed;
@@ -80,10 +80,10 @@ impl Source for MemSource {
         ensures cause { HasCause self.old.faults self.new.faults result }
 
         // It fails exactly at the listed calls, and then nothing else happens.
-        ensures fails { IsErr result ↔ Contains self.old.failing (raised self.old.calls) }
+        ensures fails { IsErr result ↔ Contains self.old.failing (saturating_next self.old.calls) }
         ensures err { OnErr result (self.new ≡ record self.old {
-          calls = raised self.old.calls;
-          faults = raised self.old.faults;
+          calls = saturating_next self.old.calls;
+          faults = saturating_next self.old.faults;
         }) }
         ensures kept { OnErr result (into.new ≡ into.old) }
 
@@ -91,7 +91,7 @@ impl Source for MemSource {
         ensures most { IfOk result (λ count. count ≡ min (length self.old.left) (length into.old)) }
         ensures ok { IfOk result (λ count. self.new ≡ record self.old {
           left = drop count self.old.left;
-          calls = raised self.old.calls;
+          calls = saturating_next self.old.calls;
         }) }
         ensures given { IfOk result (λ count. into.new ≡ take count self.old.left ++ drop count into.old) }
     {
@@ -186,11 +186,11 @@ impl Sink for MemSink {
         ensures cause { HasCause self.old.faults self.new.faults result }
 
         // It fails exactly at the listed calls and where there is no room for a byte.
-        ensures fails { IsErr result ↔ (Contains self.old.failing (raised self.old.calls)
+        ensures fails { IsErr result ↔ (Contains self.old.failing (saturating_next self.old.calls)
             ⊎ ((0 < length bytes.now) × (self.old.room ≤ length self.old.taken))) }
         ensures err { OnErr result (self.new ≡ record self.old {
-          calls = raised self.old.calls;
-          faults = raised self.old.faults;
+          calls = saturating_next self.old.calls;
+          faults = saturating_next self.old.faults;
         }) }
 
         // Else it takes as much as there is room for.
@@ -198,7 +198,7 @@ impl Sink for MemSink {
             count ≡ min (length bytes.now) (self.old.room - length self.old.taken)) }
         ensures ok { IfOk result (λ count. self.new ≡ record self.old {
           taken = self.old.taken ++ take count bytes.now;
-          calls = raised self.old.calls;
+          calls = saturating_next self.old.calls;
         }) }
     {
         let listed = self.schedule.begin();

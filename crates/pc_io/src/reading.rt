@@ -4,9 +4,9 @@ ghost use Rattle.std.specs.Prelude.{◌≡◌, ℕ, ◌+◌, ◌<◌, ◌≤◌,
 ghost use Rattle.std.specs.Io.{ReadsAtMost};
 ghost use Rattle.std.specs.Io.KnownBytes.{ReadConsumes};
 ghost use Rattle.std.specs.declared.option.Option.{Option};
-ghost use Rattle.pc_io.specs.Counts.{raised};
+ghost use Rattle.pc_base.specs.Counts.{saturating_next};
 ghost use Rattle.pc_io.specs.Causes.{HasCause};
-ghost use Rattle.pc_io.specs.Reading.{IsAllOf, LeavesNothing, TakesAtMost, TakesExactly};
+ghost use Rattle.pc_io.specs.Reading.{HasNoneLeft, IsAllOf, TakesAtMost, TakesExactly};
 
 use crate::failure::Failed;
 use std::alloc::{AllocError, Global};
@@ -71,7 +71,7 @@ pub fn read_all<S: Source>(
     limit: usize,
 ) -> Result<Vec<u8>, ReadFault>
     ensures ok { IfOk result (λ bytes. IsAllOf (S.left source.old) bytes.items) }
-    ensures end { OnOk result (LeavesNothing (S.left source.old) (S.left source.new)) }
+    ensures end { OnOk result (HasNoneLeft (S.left source.old) (S.left source.new)) }
     ensures within { IfOk result (λ bytes. length bytes.items ≤ limit) }
 
     // Refused as too long exactly where one byte more than the limit was read.
@@ -79,7 +79,7 @@ pub fn read_all<S: Source>(
         IsErrOf result (ReadFault.TooLong (limit + 1)) ↔ TakesExactly (limit + 1) left (S.left source.new)) }
     ensures number { (bytes : ℕ) → result ≡ Err (ReadFault.TooLong bytes) → bytes ≡ limit + 1 }
     // One failure ends it.
-    ensures failed { result ≡ Err ReadFault.Failed → S.faults source.new ≡ raised (S.faults source.old) }
+    ensures failed { result ≡ Err ReadFault.Failed → S.faults source.new ≡ saturating_next (S.faults source.old) }
     ensures count { ¬ (result ≡ Err ReadFault.Failed) → S.faults source.new ≡ S.faults source.old }
 
     // Whatever the answer: what was read is the front of what was left.

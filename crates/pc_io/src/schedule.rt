@@ -1,7 +1,7 @@
 //! Which calls of a source or a sink in memory fail.
 
 ghost use Rattle.std.specs.Prelude.{◌≡◌, ◌↔◌, Contains, IsTrue};
-ghost use Rattle.pc_io.specs.Counts.{raised};
+ghost use Rattle.pc_base.specs.Counts.{saturating_next};
 
 use crate::failure::Failed;
 
@@ -28,8 +28,8 @@ impl Schedule {
 
     /// Counts one more call, and says whether it is to fail.
     pub fn begin(&mut self) -> bool
-        ensures listed { IsTrue result ↔ Contains self.old.failing.items (raised self.old.calls) }
-        ensures counted { self.new ≡ record self.old { calls = raised self.old.calls } }
+        ensures listed { IsTrue result ↔ Contains self.old.failing.items (saturating_next self.old.calls) }
+        ensures counted { self.new ≡ record self.old { calls = saturating_next self.old.calls } }
     {
         self.calls = self.calls.saturating_add(1);
         self.failing.contains(&self.calls)
@@ -37,7 +37,7 @@ impl Schedule {
 
     /// Counts one more fault.
     pub fn fail(&mut self) -> Failed
-        ensures { self.new ≡ record self.old { faults = raised self.old.faults } }
+        ensures { self.new ≡ record self.old { faults = saturating_next self.old.faults } }
     {
         self.faults = self.faults.saturating_add(1);
         Failed

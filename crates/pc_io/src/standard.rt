@@ -3,7 +3,7 @@
 ghost use Rattle.std.specs.Prelude.{◌≡◌, ◌<◌, length, IfOk, OnErr, OnOk, None};
 ghost use Rattle.std.specs.Io.{ReadsAtMost, WritesAtMost};
 ghost use Rattle.std.specs.Io.KnownBytes.{ReadConsumes, WriteAppends};
-ghost use Rattle.pc_io.specs.Counts.{raised};
+ghost use Rattle.pc_base.specs.Counts.{saturating_next};
 ghost use Rattle.pc_io.specs.Causes.{HasCause};
 
 use crate::failure::Failed;
@@ -57,7 +57,7 @@ impl<R: Read> Source for StdSource<R> {
         // The bytes are those of the reader, where it tells them.
         ensures known { ReadConsumes self.old.known self.new.known result into.new }
         ensures ok { OnOk result (self.new.faults ≡ self.old.faults) }
-        ensures err { OnErr result (self.new.faults ≡ raised self.old.faults) }
+        ensures err { OnErr result (self.new.faults ≡ saturating_next self.old.faults) }
     {
         match self.inner.read(into) {
             Ok(count) => Ok(count),
@@ -115,7 +115,7 @@ impl<W: Write> Sink for StdSink<W> {
         // The bytes go to the writer, where it tells them.
         ensures known { WriteAppends self.old.known self.new.known result bytes.now }
         ensures ok { OnOk result (self.new.faults ≡ self.old.faults) }
-        ensures err { OnErr result (self.new.faults ≡ raised self.old.faults) }
+        ensures err { OnErr result (self.new.faults ≡ saturating_next self.old.faults) }
     {
         match self.inner.write(bytes) {
             Ok(count) if count > 0 || bytes.is_empty() => Ok(count),

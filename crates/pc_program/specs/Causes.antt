@@ -37,16 +37,16 @@ UnlessWriting (statuses.TooLong bytes) fact = fact
 UnlessWriting statuses.NoMemory fact = fact
 
 -- The whole output was made, and its writing began.
-abbrev pub IsWriting : Status → Type 0
-IsWriting statuses.Done = ⊤
-IsWriting (statuses.NotRun line rule) = ⊥
-IsWriting statuses.Usage = ⊥
-IsWriting statuses.ReadFault = ⊥
-IsWriting (statuses.WriteFault written) = ⊤
-IsWriting (statuses.Workload number) = ⊥
-IsWriting (statuses.Journal line) = ⊥
-IsWriting (statuses.TooLong bytes) = ⊥
-IsWriting statuses.NoMemory = ⊥
+abbrev pub HasBegunWriting : Status → Type 0
+HasBegunWriting statuses.Done = ⊤
+HasBegunWriting (statuses.NotRun line rule) = ⊥
+HasBegunWriting statuses.Usage = ⊥
+HasBegunWriting statuses.ReadFault = ⊥
+HasBegunWriting (statuses.WriteFault written) = ⊤
+HasBegunWriting (statuses.Workload number) = ⊥
+HasBegunWriting (statuses.Journal line) = ⊥
+HasBegunWriting (statuses.TooLong bytes) = ⊥
+HasBegunWriting statuses.NoMemory = ⊥
 
 -- What the fact says of the number of bytes that a failed write left behind.
 abbrev pub IfWriteFault : Status → (ℕ → Type 0) → Type 0

@@ -1,8 +1,8 @@
 ghost use Rattle.std.specs.Prelude.{◌≡◌, ℕ, ◌+◌, ◌≤◌, ◌↔◌, ◌⊎◌, IsTrue, IsSome, IfSome, codes, map, take, string_bytes};
 ghost use Rattle.std.specs.Io.KnownBytes.{Appends};
-ghost use Rattle.pc_io.specs.Counts.{raised};
-ghost use Rattle.pc_io.specs.Reading.{LeavesNothing, TakesAtMost, TakesExactly};
-ghost use Rattle.pc_program.specs.Causes.{AskForRun, HasWritten, HasWrittenOf, IfDone, IfRead, IfRefused, IfWriteFault, IsAfterReading, IsFront, IsOfRun, IsWhole, IsWriting, UnlessWriteFault, UnlessWriting};
+ghost use Rattle.pc_base.specs.Counts.{saturating_next};
+ghost use Rattle.pc_io.specs.Reading.{HasNoneLeft, TakesAtMost, TakesExactly};
+ghost use Rattle.pc_program.specs.Causes.{AskForRun, HasBegunWriting, HasWritten, HasWrittenOf, IfDone, IfRead, IfRefused, IfWriteFault, IsAfterReading, IsFront, IsOfRun, IsWhole, UnlessWriteFault, UnlessWriting};
 ghost use Rattle.pc_work.specs.Built.{IsBuilt};
 ghost use Rattle.pc_work.specs.Workload.{IsJson, workload_in};
 
@@ -33,16 +33,16 @@ pub fn pcommit<S: Source, K: Sink, M: Clocks, G: Gate>(
     ensures usage_reads_nothing { result ≡ Status.Usage → source.new ≡ source.old }
 
     // A fault is answered exactly where a call of the object that was handed in failed, and the first failure ends it.
-    ensures read_fault { result ≡ Status.ReadFault → S.faults source.new ≡ raised (S.faults source.old) }
+    ensures read_fault { result ≡ Status.ReadFault → S.faults source.new ≡ saturating_next (S.faults source.old) }
     ensures read_count { ¬ (result ≡ Status.ReadFault) → S.faults source.new ≡ S.faults source.old }
-    ensures write_fault { IfWriteFault result (λ written. K.faults sink.new ≡ raised (K.faults sink.old)) }
+    ensures write_fault { IfWriteFault result (λ written. K.faults sink.new ≡ saturating_next (K.faults sink.old)) }
     ensures write_count { UnlessWriteFault result (K.faults sink.new ≡ K.faults sink.old) }
 
     // Too long exactly where one byte more than the limit was read; else the source was read to its end.
     ensures too_long { IfSome (S.left source.old) (λ left. AskForRun (map string_bytes words.now) →
         ((result ≡ Status.TooLong (INPUT_BYTES + 1)) ↔ TakesExactly (INPUT_BYTES + 1) left (S.left source.new))) }
     ensures too_long_by_one { (bytes : ℕ) → result ≡ Status.TooLong bytes → bytes ≡ INPUT_BYTES + 1 }
-    ensures read_whole { IfRead result (LeavesNothing (S.left source.old) (S.left source.new)) }
+    ensures read_whole { IfRead result (HasNoneLeft (S.left source.old) (S.left source.new)) }
     ensures read_most { TakesAtMost (INPUT_BYTES + 1) (S.left source.old) (S.left source.new) }
 
     // The bytes decide what becomes of the workload: no JSON, another form, or accepted and run.
@@ -51,7 +51,7 @@ pub fn pcommit<S: Source, K: Sink, M: Clocks, G: Gate>(
     ensures other_form { IfRead result (IfSome (S.left source.old) (λ bytes.
         (result ≡ Status.Workload 10) ↔ (IsJson bytes × (workload_in bytes ≡ None)))) }
     ensures accepted { IfRead result (IfSome (S.left source.old) (λ bytes.
-        IsWriting result ↔ (IsJson bytes × IsSome (workload_in bytes)))) }
+        HasBegunWriting result ↔ (IsJson bytes × IsSome (workload_in bytes)))) }
 
     ensures refused { IfRefused result (λ number. (number ≡ 1) ⊎ (number ≡ 10)) }
 
@@ -95,10 +95,10 @@ fn run<K: Sink, M: Clocks, G: Gate>(
 ) -> Status
     ensures no_json { IfRead result ((result ≡ Status.Workload 1) ↔ ¬ (IsJson bytes.now)) }
     ensures other_form { IfRead result ((result ≡ Status.Workload 10) ↔ (IsJson bytes.now × (workload_in bytes.now ≡ None))) }
-    ensures accepted { IfRead result (IsWriting result ↔ (IsJson bytes.now × IsSome (workload_in bytes.now))) }
+    ensures accepted { IfRead result (HasBegunWriting result ↔ (IsJson bytes.now × IsSome (workload_in bytes.now))) }
     ensures done { IfDone result (HasWritten (M.rules clocks.old) (Some bytes.now) (K.taken sink.old) (K.taken sink.new) IsWhole) }
     ensures part { IfWriteFault result (λ written. HasWritten (M.rules clocks.old) (Some bytes.now) (K.taken sink.old) (K.taken sink.new) (IsFront written)) }
-    ensures write_fault { IfWriteFault result (λ written. K.faults sink.new ≡ raised (K.faults sink.old)) }
+    ensures write_fault { IfWriteFault result (λ written. K.faults sink.new ≡ saturating_next (K.faults sink.old)) }
     ensures write_count { UnlessWriteFault result (K.faults sink.new ≡ K.faults sink.old) }
     ensures unwritten { UnlessWriting result (sink.new ≡ sink.old) }
     ensures refused { IfRefused result (λ number. (number ≡ 1) ⊎ (number ≡ 10)) }
@@ -122,10 +122,10 @@ fn write_output<K: Sink, M: Clocks, G: Gate>(
     requires { IsBuilt work.now }
     ensures done { IfDone result (HasWrittenOf work.now (M.rules clocks.old) (K.taken sink.old) (K.taken sink.new) IsWhole) }
     ensures part { IfWriteFault result (λ written. HasWrittenOf work.now (M.rules clocks.old) (K.taken sink.old) (K.taken sink.new) (IsFront written)) }
-    ensures write_fault { IfWriteFault result (λ written. K.faults sink.new ≡ raised (K.faults sink.old)) }
+    ensures write_fault { IfWriteFault result (λ written. K.faults sink.new ≡ saturating_next (K.faults sink.old)) }
     ensures write_count { UnlessWriteFault result (K.faults sink.new ≡ K.faults sink.old) }
     ensures unwritten { UnlessWriting result (sink.new ≡ sink.old) }
-    ensures kind { (result ≡ Status.NoMemory) ⊎ IsWriting result }
+    ensures kind { (result ≡ Status.NoMemory) ⊎ HasBegunWriting result }
 {
     match output(alloc, work, clocks, gate) {
         Ok(out) => write_whole(sink, &out),
@@ -137,9 +137,9 @@ fn write_whole<K: Sink>(sink: &mut K, out: &[u8]) -> Status
     ensures done { IfDone result (Appends (K.taken sink.old) (K.taken sink.new) out.now) }
     ensures part { IfWriteFault result (λ written. Appends (K.taken sink.old) (K.taken sink.new) (take written out.now)) }
     ensures short { IfWriteFault result (λ written. written < length out.now) }
-    ensures write_fault { IfWriteFault result (λ written. K.faults sink.new ≡ raised (K.faults sink.old)) }
+    ensures write_fault { IfWriteFault result (λ written. K.faults sink.new ≡ saturating_next (K.faults sink.old)) }
     ensures write_count { UnlessWriteFault result (K.faults sink.new ≡ K.faults sink.old) }
-    ensures kind { IsWriting result }
+    ensures kind { HasBegunWriting result }
 {
     match write_all(sink, out) {
         Ok(()) => Status::Done,

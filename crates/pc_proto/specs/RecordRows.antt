@@ -11,8 +11,8 @@ use Rattle.pc_proto.specs.Table.{Table, place_of, applied_to}
 use Rattle.pc_proto.specs.RecordRows.Abort.{abort}
 use Rattle.pc_proto.specs.RecordRows.Beat.{beat}
 use Rattle.pc_proto.specs.RecordRows.Commit.{commit}
-use Rattle.pc_proto.specs.RecordRows.Push.{push, verdict, Verdict, There, Refuse, Doubt, Do}
-use Rattle.pc_proto.specs.RecordRows.Records.{listed}
+use Rattle.pc_proto.specs.RecordRows.Push.{push, push_verdict, Verdict, There, Refuse, Doubt, Do}
+use Rattle.pc_proto.specs.RecordRows.Records.{listed_metas}
 use Rattle.pc_proto.specs.RecordRows.Recover.{recover}
 use Rattle.pc_proto.specs.RecordRows.Remove.{remove}
 use Rattle.pc_proto.specs.RecordRows.Stage.{stage}
@@ -31,15 +31,15 @@ abbrev pub unless_decided : Place → Change → Change
 unless_decided p change = if is_decided p then Stay else change
 
 -- What a request does to the place of its transaction.
-abbrev pub change : Request → Place → Change
-change (requests.Beat meta ts now) p = unless_decided p (beat meta ts now p)
-change (requests.Stage meta ts now writes locks) p = unless_decided p (stage meta ts now writes locks p)
-change (requests.Commit meta ts locks) p = unless_decided p (commit meta ts locks p)
-change (requests.Abort meta why locks) p = unless_decided p (abort meta why locks p)
-change (requests.Push holder by level now goal) p = unless_decided p (push holder by level now goal p)
-change (requests.Recover id epoch ts anchor finding) p = unless_decided p (recover epoch ts finding p)
-change (requests.Remove id anchor) p = remove p
-change _ p = Stay
+abbrev pub place_change : Request → Place → Change
+place_change (requests.Beat meta ts now) p = unless_decided p (beat meta ts now p)
+place_change (requests.Stage meta ts now writes locks) p = unless_decided p (stage meta ts now writes locks p)
+place_change (requests.Commit meta ts locks) p = unless_decided p (commit meta ts locks p)
+place_change (requests.Abort meta why locks) p = unless_decided p (abort meta why locks p)
+place_change (requests.Push holder by level now goal) p = unless_decided p (push holder by level now goal p)
+place_change (requests.Recover id epoch ts anchor finding) p = unless_decided p (recover epoch ts finding p)
+place_change (requests.Remove id anchor) p = remove p
+place_change _ p = Stay
 
 -- The transaction whose record a request speaks of.
 abbrev pub subject : Request → Option TxnId
@@ -63,14 +63,14 @@ push_reply Do before after = replies.Status (view_of after)
 abbrev pub answer : Request → Place → Reply
 answer (requests.Push holder by level now goal) p =
     if is_decided p then replies.Status (view_of p)
-    else push_reply (verdict holder level now goal p) p (after p (push holder by level now goal p))
+    else push_reply (push_verdict holder level now goal p) p (after p (push holder by level now goal p))
 answer (requests.Remove id anchor) p = if is_decided p then replies.Removed else replies.Status (view_of p)
-answer request p = replies.Status (view_of (after p (change request p)))
+answer request p = replies.Status (view_of (after p (place_change request p)))
 
 -- The table after a request that speaks of this transaction, or of none.
 abbrev pub table_for : Option TxnId → Request → Table → Table
 table_for None request table = table
-table_for (Some id) request table = applied_to id (change request (place_of id table)) table
+table_for (Some id) request table = applied_to id (place_change request (place_of id table)) table
 
 -- What a request makes of a range's records and marks.
 abbrev pub table_after : Request → Table → Table
@@ -78,7 +78,7 @@ table_after request table = table_for (subject request) request table
 
 -- The reply to a request that speaks of this transaction, or that lists the records.
 abbrev pub reply_for : Option TxnId → Request → Table → Reply
-reply_for None request table = replies.Listed (listed table.records)
+reply_for None request table = replies.Listed (listed_metas table.records)
 reply_for (Some id) request table = answer request (place_of id table)
 
 -- What a range answers to a request by its records and marks.

@@ -13,8 +13,8 @@ pub record Table : Type 0 where
   pub marks : List (TxnId × Status)
 
 -- Neither records nor marks.
-abbrev pub no_table : Table
-no_table = record { records = []; marks = [] }
+abbrev pub empty_table : Table
+empty_table = record { records = []; marks = [] }
 
 -- The record where there is one, else the mark, else nothing.
 abbrev pub record_or_mark : Option Record → Option Status → Place

@@ -6,6 +6,7 @@ use Rattle.pc_base.specs.declared.actor.ActorId.{ActorId}
 use Rattle.pc_base.specs.declared.actor.ActorId.TheVariants as actors
 use Rattle.pc_base.specs.declared.transaction.Priority.{Priority}
 use Rattle.pc_base.specs.declared.transaction.Who.{Who}
+use Rattle.pc_lists.proofs.Anywhere.{any_kept}
 use Rattle.pc_proto.specs.declared.event.Event.{Event}
 use Rattle.pc_proto.specs.declared.event.Event.TheVariants as events
 use Rattle.pc_proto.specs.declared.fate.Goal.{Goal}
@@ -15,15 +16,14 @@ use Rattle.pc_proto.specs.declared.view.View.{View}
 use Rattle.pc_proto.specs.Stamps.{fate_stamps, goal_stamps}
 use Rattle.pc_push.specs.declared.progress.Progress.{Progress}
 use Rattle.pc_push.specs.declared.progress.Progress.TheVariants as progress
-use Rattle.pc_push.specs.PushKnows.{HasMetStaging, IsDone, MayPush, PushKnows, StandsAt}
-use Rattle.pc_push.specs.Pushing.{Pushing, push_of, resolve_of}
-use Rattle.pc_world.proofs.Anywhere.{any_kept}
+use Rattle.pc_push.specs.PushKnows.{HasMetStaging, IsSettledOrLeft, MayPush, PushKnows, StandsAt}
+use Rattle.pc_push.specs.Pushing.{Pushing, holder_resolve, push_of}
 use Rattle.pc_world.proofs.Exchange.{ever_later, heard_later, kept_later, later-itself, later-later, top_later}
 use Rattle.pc_world.specs.Exchange.{IsLater, is_message}
 use Rattle.pc_world.specs.Known.{Known, first_if, known_after}
 use Rattle.pc_world.specs.Known.Traffic.{Heard}
 use Rattle.pc_world.specs.Known.Transactions.{Txn, txn_heard, txn_sent}
-use Rattle.pc_world.specs.Send.Push.{Lists, MaySendPush, RecovererPush, SessionPush, StoodInTheWay}
+use Rattle.pc_world.specs.Send.Push.{ListsRecord, MaySendPush, RecovererPush, SessionPush, StoodInTheWay}
 use Rattle.pc_world.specs.Send.Settling.{ShowsFate}
 
 first_mapped : (f : Txn → Txn) (is_open : Bool) (txns : List Txn) (t : Txn) → first_if is_open txns ≡ Some t → first_if is_open (map f txns) ≡ Some (f t)
@@ -54,14 +54,14 @@ module _ (holder : TxnMeta) (by : Who) (level : Priority) (reading : ℕ) (goal 
   recoverer_step : (number : ℕ) (event : Event) (h : Option Heard) (top high : ℕ) (k : Known) → IsTrue (is_message event) → k.top ≤ top → RecovererPush number k holder by reading goal → RecovererPush number (known_after event h top high k) holder by reading goal
   recoverer_step number (events.Send sent range request) h top high k message up may = record {
     asked = may.asked;
-    was_listed = any_kept (λ h. Lists holder h.reply) k.heard_now (option_to_list h) may.was_listed;
+    was_listed = any_kept (λ h. ListsRecord holder h.reply) k.heard_now (option_to_list h) may.was_listed;
     whose = may.whose;
     to_abort = may.to_abort;
     read_now = may.read_now;
   }
   recoverer_step number (events.Hear sent step) h top high k message up may = record {
     asked = may.asked;
-    was_listed = any_kept (λ h. Lists holder h.reply) k.heard_now (option_to_list h) may.was_listed;
+    was_listed = any_kept (λ h. ListsRecord holder h.reply) k.heard_now (option_to_list h) may.was_listed;
     whose = may.whose;
     to_abort = may.to_abort;
     read_now = may.read_now;
@@ -94,8 +94,8 @@ module _ (start k later : Known) (m : Pushing) (is : IsLater k later) where
     heard = heard_later start k later (push_of m) (replies.Unsure view) met.heard is;
   }
 
-  done_later : IsDone start k m → IsDone start later m
-  done_later (inl was) = inl (record { fate = was.fate; heard = heard_later start k later (resolve_of m was.fate) replies.Resolved was.heard is })
+  done_later : IsSettledOrLeft start k m → IsSettledOrLeft start later m
+  done_later (inl was) = inl (record { fate = was.fate; heard = heard_later start k later (holder_resolve m was.fate) replies.Resolved was.heard is })
   done_later (inr left) = inr (record {
     met = left.met;
     staging = staging_later left.met left.staging;

@@ -5,6 +5,7 @@ use Rattle.pc_base.specs.declared.transaction.TxnId.{TxnId}
 use Rattle.pc_base.specs.Keyed.{at}
 use Rattle.pc_base.specs.Transaction.{same_txn}
 use Rattle.pc_history.specs.declared.pair.Pair.{Pair}
+use Rattle.pc_lists.proofs.Each.{each-at, each-set_at}
 use Rattle.pc_proto.specs.declared.event.Event.{Event}
 use Rattle.pc_proto.specs.declared.fate.Finding.{Finding}
 use Rattle.pc_proto.specs.declared.fate.Goal.TheVariants as goals
@@ -14,14 +15,14 @@ use Rattle.pc_proto.specs.declared.record.Status.{Status}
 use Rattle.pc_proto.specs.declared.request.Request.{Request}
 use Rattle.pc_proto.specs.declared.request.Request.TheVariants as requests
 use Rattle.pc_proto.specs.Place.{Place, Nothing, Kept, Marked, Change, Stay, Become, Finish, is_decided, is_final}
-use Rattle.pc_proto.specs.RecordRows.{change, subject, table_for}
+use Rattle.pc_proto.specs.RecordRows.{place_change, table_for}
 use Rattle.pc_proto.specs.RecordRows.Commit.{commit}
-use Rattle.pc_proto.specs.RecordRows.Push.{Verdict, There, Refuse, Doubt, Do, on_verdict, verdict}
+use Rattle.pc_proto.specs.RecordRows.Push.{Verdict, There, Refuse, Doubt, Do, on_verdict, push_verdict}
 use Rattle.pc_proto.specs.RecordRows.Reached.{is_staged_at}
 use Rattle.pc_proto.specs.RecordRows.Recover.{decided}
 use Rattle.pc_proto.specs.RecordRows.Stage.{stage}
+use Rattle.pc_proto.specs.Requests.{subject}
 use Rattle.pc_proto.specs.Table.{Table, applied_to, place_of, record_or_mark}
-use Rattle.pc_world.proofs.Each.{each-at, each-set_at}
 use Rattle.pc_world.specs.Named.{request_named}
 use Rattle.pc_world.specs.RangeState.{RangeState, no_state}
 use Rattle.pc_world.specs.StateOf.{evaluated, state_of, state_with}
@@ -57,15 +58,15 @@ stage_final meta ts now writes locks p = grind arith
 commit_final : (meta : TxnMeta) (ts : ℕ) (locks : List (List ℕ)) (p : Place) → leaves_final (commit meta ts locks p) ≡ true
 commit_final meta ts locks p = grind arith
 
-change_final : (request : Request) (p : Place) → leaves_final (change request p) ≡ true
+change_final : (request : Request) (p : Place) → leaves_final (place_change request p) ≡ true
 change_final (requests.Beat meta ts now) Nothing = refl
 change_final (requests.Beat meta ts now) (Kept r) = either (is_final r.status.standing) Stay _ refl refl
 change_final (requests.Beat meta ts now) (Marked s) = refl
 change_final (requests.Stage meta ts now writes locks) p = either (is_decided p) Stay _ refl (stage_final meta ts now writes locks p)
 change_final (requests.Commit meta ts locks) p = either (is_decided p) Stay _ refl (commit_final meta ts locks p)
 change_final (requests.Abort meta why locks) p = either (is_decided p) Stay _ refl refl
-change_final (requests.Push holder by level now goals.Abort) p = either (is_decided p) Stay _ refl (pushed_final (verdict holder level now goals.Abort p) _ refl)
-change_final (requests.Push holder by level now (goals.Move target)) p = either (is_decided p) Stay _ refl (pushed_final (verdict holder level now (goals.Move target) p) _ refl)
+change_final (requests.Push holder by level now goals.Abort) p = either (is_decided p) Stay _ refl (pushed_final (push_verdict holder level now goals.Abort p) _ refl)
+change_final (requests.Push holder by level now (goals.Move target)) p = either (is_decided p) Stay _ refl (pushed_final (push_verdict holder level now (goals.Move target) p) _ refl)
 change_final (requests.Recover id epoch ts anchor finding) p =
     either (is_decided p) Stay _ refl (either (is_staged_at p epoch ts) (decided finding p) Stay (decided_final finding p) refl)
 change_final (requests.Remove id anchor) (Kept r) = finish_if (is_final r.status.standing) r.status refl
@@ -87,7 +88,7 @@ applied_final id (Finish s) table h marks = each-set_at IsFinalMark same_txn id 
 
 table_final : (subject : Option TxnId) (request : Request) (table : Table) → AreFinal table → AreFinal (table_for subject request table)
 table_final None request table marks = marks
-table_final (Some id) request table marks = applied_final id (change request (place_of id table)) table (change_final request (place_of id table)) marks
+table_final (Some id) request table marks = applied_final id (place_change request (place_of id table)) table (change_final request (place_of id table)) marks
 
 state_final : (request : Option Request) (s : RangeState) → AreFinal s.table → AreFinal (state_with request s).table
 state_final None s marks = marks

@@ -17,16 +17,15 @@ use Rattle.pc_proto.specs.declared.view.View.{View}
 use Rattle.pc_proto.specs.declared.view.View.TheVariants as views
 use Rattle.pc_proto.specs.Place.{Place, Nothing, Kept, Marked, after, is_decided, is_final, status_view, view_of}
 use Rattle.pc_proto.specs.RecordRows.{push_reply}
-use Rattle.pc_proto.specs.RecordRows.Push.{Verdict, There, Refuse, Doubt, Do, is_staged, is_there, on_verdict, push, pushed, verdict, wins}
+use Rattle.pc_proto.specs.RecordRows.Push.{Verdict, There, Refuse, Doubt, Do, is_staged, on_verdict, push, push_verdict, pushed, reaches_goal, wins}
 use Rattle.pc_proto.specs.RecordRows.Reached.{is_staging}
+use Rattle.pc_proto.specs.Requests.{Recovers}
 use Rattle.pc_proto.specs.Table.{place_of}
-use Rattle.pc_push.proofs.Marks.{IsFinalPlace, place_final}
-use Rattle.pc_push.specs.PushKnows.{Recovers}
+use Rattle.pc_proto.specs.Views.{IsFateOf, final_fate}
 use Rattle.pc_push.specs.Pushing.{Pushing, push_of}
-use Rattle.pc_world.specs.Exchange.{IsReplyTo}
-use Rattle.pc_world.specs.Send.Settling.{IsFateOf}
+use Rattle.pc_world.proofs.FinalMarks.{IsFinalPlace, place_final}
+use Rattle.pc_world.specs.Exchange.{IsPossibleReply}
 use Rattle.pc_world.specs.StateOf.{state_of}
-use Rattle.pc_world.specs.Views.{final_fate}
 
 -- The view is a staging one.
 pub record IsStagingView (view : View) : Type 0 where
@@ -59,7 +58,7 @@ reached_shows standings.Staging epoch ts target writes locks low none = low
 reached_shows standings.Committed epoch ts target writes locks low none = absurd cc
 reached_shows (standings.Aborted why) epoch ts target writes locks low none = absurd cc
 
-there_shows : (p : Place) (target : ℕ) → is_there (goals.Move target) p ≡ true → final_fate (view_of p) ≡ None → IsFateOf (view_of p) (fates.Pending target)
+there_shows : (p : Place) (target : ℕ) → reaches_goal (goals.Move target) p ≡ true → final_fate (view_of p) ≡ None → IsFateOf (view_of p) (fates.Pending target)
 there_shows Nothing target h none = absurd cc
 there_shows (Kept r) target h none =
     let low : target ≤ r.status.ts = grind arith in
@@ -80,8 +79,8 @@ module _ (holder : TxnMeta) (by : Who) where
   done_shows goals.Abort p target is none = absurd cc
   done_shows (goals.Move ts) p target is none = let low : target ≤ ts = let same : ts ≡ target = cc in omega arith in low
 
-  push_shows : (v : Verdict) (goal : Goal) (p : Place) → (v ≡ There → is_there goal p ≡ true) → (v ≡ Doubt → is_staged p ≡ true) → IsPushReply goal (push_reply v p (after p (on_verdict v (pushed holder by goal p))))
-  push_shows There goal p there doubt = λ target is none. there_shows p target (subst (λ g. is_there g p ≡ true) is (there refl)) none
+  push_shows : (v : Verdict) (goal : Goal) (p : Place) → (v ≡ There → reaches_goal goal p ≡ true) → (v ≡ Doubt → is_staged p ≡ true) → IsPushReply goal (push_reply v p (after p (on_verdict v (pushed holder by goal p))))
+  push_shows There goal p there doubt = λ target is none. there_shows p target (subst (λ g. reaches_goal g p ≡ true) is (there refl)) none
   push_shows Refuse goal p there doubt = tt
   push_shows Doubt goal p there doubt = staged_shows p (doubt refl)
   push_shows Do goal p there doubt = done_shows goal p
@@ -105,11 +104,11 @@ answer_when : (b : Bool) (goal : Goal) (p : Place) (other : Reply) → is_decide
 answer_when true goal p other is final h = λ target goal none. absurd (decided_shows p final is none)
 answer_when false goal p other is final h = h
 
-pub push_answers : (m : Pushing) (told : Reply) → IsReplyTo (push_of m) told → IsPushReply m.goal told
+pub push_answers : (m : Pushing) (told : Reply) → IsPossibleReply (push_of m) told → IsPushReply m.goal told
 push_answers m told is =
     let p = place_of m.holder.id (state_of is.own).table in
-    let v = verdict m.holder m.level m.reading m.goal p in
-    let there = is_there m.goal p in
+    let v = push_verdict m.holder m.level m.reading m.goal p in
+    let there = reaches_goal m.goal p in
     let won = wins m.holder m.level m.reading p in
     subst (IsPushReply m.goal) (sym is.is)
     (answer_when (is_decided p) m.goal p (push_reply v p (after p (push m.holder m.by m.level m.reading m.goal p))) refl (place_final m.holder.id is.own)
@@ -120,9 +119,9 @@ abbrev pub IsStatus : Reply → Type 0
 IsStatus (replies.Status view) = Unit {0}
 IsStatus _ = ⊥
 
-pub recovery_answers : (id : TxnId) (request : Request) (told : Reply) → Recovers id request → IsReplyTo request told → IsStatus told
+pub recovery_answers : (id : TxnId) (request : Request) (told : Reply) → Recovers id request → IsPossibleReply request told → IsStatus told
 recovery_answers id (requests.Recover other epoch ts anchor finding) told recovers is = subst IsStatus (sym is.is) tt
 recovery_answers id request told recovers is = absurd recovers
 
-pub resolve_answers : (id : TxnId) (key : List ℕ) (fate : Fate) (told : Reply) → IsReplyTo (requests.Resolve id key fate) told → told ≡ replies.Resolved
+pub resolve_answers : (id : TxnId) (key : List ℕ) (fate : Fate) (told : Reply) → IsPossibleReply (requests.Resolve id key fate) told → told ≡ replies.Resolved
 resolve_answers id key fate told is = is.is

@@ -7,6 +7,7 @@ use Rattle.pc_base.specs.declared.actor.ActorId.{ActorId}
 use Rattle.pc_base.specs.declared.memory.NoMemory.{NoMemory}
 use Rattle.pc_base.specs.declared.transaction.TxnId.{TxnId}
 use Rattle.pc_base.specs.Transaction.{same_txn}
+use Rattle.pc_lists.proofs.Anywhere.{any_weaker}
 use Rattle.pc_proto.specs.declared.fate.Fate.{Fate}
 use Rattle.pc_proto.specs.declared.fate.Fate.TheVariants as fates
 use Rattle.pc_proto.specs.declared.fate.Goal.{Goal}
@@ -17,33 +18,33 @@ use Rattle.pc_proto.specs.declared.request.Request.{Request}
 use Rattle.pc_proto.specs.declared.request.Request.TheVariants as requests
 use Rattle.pc_proto.specs.declared.view.View.{View}
 use Rattle.pc_proto.specs.declared.view.View.TheVariants as views
+use Rattle.pc_proto.specs.Replies.{view_in}
+use Rattle.pc_proto.specs.Requests.{Recovers, is_about}
 use Rattle.pc_proto.specs.Stamps.{fate_stamps, goal_stamps, reply_stamps, view_stamps}
+use Rattle.pc_proto.specs.Views.{IsFateOf, fate_after, final_fate, is_final_view, moved_fate}
 use Rattle.pc_push.proofs.Going.{push_later, stamps_later, stands_later}
-use Rattle.pc_push.proofs.Replies.{IsPushReply, IsStatus, push_answers, recovery_answers, resolve_answers}
 use Rattle.pc_push.specs.declared.progress.Progress.{Progress}
 use Rattle.pc_push.specs.declared.progress.Progress.TheVariants as progress
-use Rattle.pc_push.specs.PushKnows.{Asks, AsksAt, HasMetStaging, MayCome, MayPush, MaySettle, PushKnows, Recovers, StandsAt}
-use Rattle.pc_push.specs.Pushing.{Pushing, after_reply, due_at, heard_at, next_of, progress_after_push, progress_after_recovery, push_of, resolve_of, resolving, with_progress}
-use Rattle.pc_world.proofs.Anywhere.{any_weaker}
+use Rattle.pc_push.specs.PushKnows.{Asks, AsksAt, HasMetStaging, MayPush, MaySettle, PushKnows, RoundMayCome, StandsAt}
+use Rattle.pc_push.specs.Pushing.{Pushing, holder_resolve, progress_after_push, progress_after_recovery, push_of, resolve_or, round_after, round_due, round_heard, round_next, with_progress}
 use Rattle.pc_world.proofs.Exchange.{answered, heard_earlier, heard_ever, later-later}
+use Rattle.pc_world.proofs.RoundReplies.{IsGoalReply, IsStatus, push_answers, recovery_answers, resolve_answers}
 use Rattle.pc_world.specs.declared.machine.MachineNext.{MachineNext}
-use Rattle.pc_world.specs.Exchange.{HeardSince, IsExchange, IsLater, IsReplyTo, WasAnswered}
+use Rattle.pc_world.specs.Exchange.{HeardSince, IsExchange, IsLater, IsPossibleReply, WasAnswered}
 use Rattle.pc_world.specs.Known.{Known}
-use Rattle.pc_world.specs.Known.Transactions.{is_final_view}
-use Rattle.pc_world.specs.Send.Settling.{IsFateOf, MaySendResolve, ShowsFate}
-use Rattle.pc_world.specs.Views.{fate_after, final_fate, is_about, moved_fate, view_in}
+use Rattle.pc_world.specs.Send.Settling.{MaySendResolve, ShowsFate}
 
 -- what is due is allowed
-come_at : (splits : List (List ℕ)) (actor : ActorId) (start k : Known) (m : Pushing) (p : Progress) → MayPush actor k m → StandsAt start k m p → MayCome splits actor start k m (due_at p m)
+come_at : (splits : List (List ℕ)) (actor : ActorId) (start k : Known) (m : Pushing) (p : Progress) → MayPush actor k m → StandsAt start k m p → RoundMayCome splits actor start k m (round_due p m)
 come_at splits actor start k m progress.Push may stands = record { row = may.row; stamps = may.stamps }
 come_at splits actor start k m progress.Refused may stands = (refl, stands)
 come_at splits actor start k m (progress.Unsure view) may stands = stands
 come_at splits actor start k m (progress.Resolve fate) may stands = record { row = stands.row; stamps = stands.stamps }
 come_at splits actor start k m progress.Over may stands = stands
 
-pub next_may : (m : Pushing) (r : Result MachineNext NoMemory) → IfOk r (λ next. next ≡ next_of m) → (splits : List (List ℕ)) (actor : ActorId) (start k : Known) → PushKnows actor start k m → IfOk r (MayCome splits actor start k m)
+pub next_may : (m : Pushing) (r : Result MachineNext NoMemory) → IfOk r (λ next. next ≡ round_next m) → (splits : List (List ℕ)) (actor : ActorId) (start k : Known) → PushKnows actor start k m → IfOk r (RoundMayCome splits actor start k m)
 next_may m (Ok next) is splits actor start k knows =
-    subst (MayCome splits actor start k m) (sym is)
+    subst (RoundMayCome splits actor start k m) (sym is)
     (come_at splits actor start k m m.progress (push_later actor start k m knows.since knows.may) knows.stands)
 next_may m (Err e) is splits actor start k knows = tt
 
@@ -90,13 +91,13 @@ module _ (top : ℕ) where
     pub fits : IsFateOf view fate
     pub stamps : AreKnown (fate_stamps fate)
 
-  moved_suits : (goal : Goal) (view : View) (fate : Fate) → moved_fate goal ≡ Some fate → final_fate view ≡ None → IsPushReply goal (replies.Status view) → AreKnown (goal_stamps goal) → Suits view fate
+  moved_suits : (goal : Goal) (view : View) (fate : Fate) → moved_fate goal ≡ Some fate → final_fate view ≡ None → IsGoalReply goal (replies.Status view) → AreKnown (goal_stamps goal) → Suits view fate
   moved_suits (goals.Move target) view fate is none reply low =
       let same : fates.Pending target ≡ fate = cc in
       subst (Suits view) same (record { fits = reply target refl none; stamps = low })
   moved_suits goals.Abort view fate is none reply low = absurd cc
 
-  fate_suits : (goal : Goal) (view : View) (fate : Fate) (final : Option Fate) → final_fate view ≡ final → option_or final (moved_fate goal) ≡ Some fate → IsPushReply goal (replies.Status view) → AreKnown (goal_stamps goal) → AreKnown (view_stamps view) → Suits view fate
+  fate_suits : (goal : Goal) (view : View) (fate : Fate) (final : Option Fate) → final_fate view ≡ final → option_or final (moved_fate goal) ≡ Some fate → IsGoalReply goal (replies.Status view) → AreKnown (goal_stamps goal) → AreKnown (view_stamps view) → Suits view fate
   fate_suits goal view fate (Some other) is chosen reply goal_low view_low =
       let same : final_fate view ≡ Some fate = is ∙ chosen in
       record { fits = final_fits view fate same; stamps = final_stamps view fate same view_low }
@@ -149,13 +150,13 @@ module _ (actor : ActorId) (start k later : Known) (m : Pushing) (request : Requ
       stamps = suits.stamps;
     }
 
-    pushed_on : (fate : Option Fate) → fate_after m.goal view ≡ fate → is_about m.holder.id request ≡ true → IsPushReply m.goal (replies.Status view) → StandsAt start later m (resolving fate progress.Push)
+    pushed_on : (fate : Option Fate) → fate_after m.goal view ≡ fate → is_about m.holder.id request ≡ true → IsGoalReply m.goal (replies.Status view) → StandsAt start later m (resolve_or fate progress.Push)
     pushed_on None is about reply = tt
     pushed_on (Some fate) is about reply =
         let goal_low = stamps_later start later (goal_stamps m.goal) (since (replies.Status view) was) knows.may.stamps in
         settles fate about (fate_suits later.top m.goal view fate (final_fate view) refl is reply goal_low (low (replies.Status view) was))
 
-    recovered_on : (fate : Option Fate) (met : View) → final_fate view ≡ fate → Recovers m.holder.id request → HasMetStaging start later m met → StandsAt start later m (resolving fate progress.Over)
+    recovered_on : (fate : Option Fate) (met : View) → final_fate view ≡ fate → Recovers m.holder.id request → HasMetStaging start later m met → StandsAt start later m (resolve_or fate progress.Over)
     recovered_on None met is recovers staging = inr (record {
       met = met;
       staging = staging;
@@ -170,7 +171,7 @@ module _ (actor : ActorId) (start k later : Known) (m : Pushing) (request : Requ
         (record { fits = final_fits view fate is; stamps = final_stamps later.top view fate is (low (replies.Status view) was) })
 
   -- the reply to the push
-  after_push_at : (reply : Reply) → request ≡ push_of m → WasAnswered k later request reply → IsPushReply m.goal reply → StandsAt start later m (progress_after_push m.goal reply)
+  after_push_at : (reply : Reply) → request ≡ push_of m → WasAnswered k later request reply → IsGoalReply m.goal reply → StandsAt start later m (progress_after_push m.goal reply)
   after_push_at (replies.Status view) asked was is =
       pushed_on view was (fate_after m.goal view) refl (ap (is_about m.holder.id) asked ∙ same-itself m.holder.id) is
   after_push_at (replies.Refused view) asked was is = record { view = view; heard = subst (λ q. HeardSince start later q (replies.Refused view)) asked (heard_it (replies.Refused view) was) }
@@ -188,18 +189,18 @@ module _ (actor : ActorId) (start k later : Known) (m : Pushing) (request : Requ
   after_recovery_at (replies.Status view) met recovers was is staging = recovered_on view was (final_fate view) met refl recovers staging
   after_recovery_at reply met recovers was is staging = absurd is
 
-  after_resolve_at : (reply : Reply) (fate : Fate) → request ≡ resolve_of m fate → WasAnswered k later request reply → IsReplyTo request reply → StandsAt start later m progress.Over
+  after_resolve_at : (reply : Reply) (fate : Fate) → request ≡ holder_resolve m fate → WasAnswered k later request reply → IsPossibleReply request reply → StandsAt start later m progress.Over
   after_resolve_at reply fate asked was is =
-      let told : reply ≡ replies.Resolved = resolve_answers m.holder.id m.key fate reply (subst (λ q. IsReplyTo q reply) asked is) in
+      let told : reply ≡ replies.Resolved = resolve_answers m.holder.id m.key fate reply (subst (λ q. IsPossibleReply q reply) asked is) in
       inl (record {
         fate = fate;
-        heard = subst (HeardSince start later (resolve_of m fate)) told (subst (λ q. HeardSince start later q reply) asked (heard_it reply was));
+        heard = subst (HeardSince start later (holder_resolve m fate)) told (subst (λ q. HeardSince start later q reply) asked (heard_it reply was));
       })
 
-  heard_by_progress : (p : Progress) (reply : Reply) → StandsAt start k m p → AsksAt p m request → WasAnswered k later request reply → IsReplyTo request reply → PushKnows actor start later (heard_at p reply m)
+  heard_by_progress : (p : Progress) (reply : Reply) → StandsAt start k m p → AsksAt p m request → WasAnswered k later request reply → IsPossibleReply request reply → PushKnows actor start later (round_heard p reply m)
   heard_by_progress progress.Push reply stands asked was is =
       goes_to reply was (progress_after_push m.goal reply)
-      (after_push_at reply asked was (push_answers m reply (subst (λ q. IsReplyTo q reply) asked is)))
+      (after_push_at reply asked was (push_answers m reply (subst (λ q. IsPossibleReply q reply) asked is)))
   heard_by_progress (progress.Unsure view) reply stands asked was is =
       goes_to reply was (progress_after_recovery reply)
       (after_recovery_at reply view asked was (recovery_answers m.holder.id request reply asked is)
@@ -212,8 +213,8 @@ on_ok : (r : Result (Unit {0}) NoMemory) (P Q : Type 0) → (P → Q) → OnOk r
 on_ok (Ok u) P Q f p = f p
 on_ok (Err e) P Q f p = tt
 
-pub heard_ok : (m new : Pushing) (reply : Reply) (r : Result (Unit {0}) NoMemory) → OnOk r (new ≡ after_reply reply m) → (actor : ActorId) (start k later : Known) (request : Request) → PushKnows actor start k m → Asks m request → WasAnswered k later request reply → IsReplyTo request reply
+pub heard_ok : (m new : Pushing) (reply : Reply) (r : Result (Unit {0}) NoMemory) → OnOk r (new ≡ round_after reply m) → (actor : ActorId) (start k later : Known) (request : Request) → PushKnows actor start k m → Asks m request → WasAnswered k later request reply → IsPossibleReply request reply
     → OnOk r (PushKnows actor start later new)
 heard_ok m new reply r made actor start k later request knows asks was is =
-    on_ok r (new ≡ after_reply reply m) (PushKnows actor start later new)
+    on_ok r (new ≡ round_after reply m) (PushKnows actor start later new)
     (λ e. subst (PushKnows actor start later) (sym e) (heard_by_progress actor start k later m request knows m.progress reply knows.stands asks was is)) made

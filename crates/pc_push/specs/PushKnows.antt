@@ -9,14 +9,14 @@ use Rattle.pc_proto.specs.declared.request.Request.TheVariants as requests
 use Rattle.pc_proto.specs.declared.view.View.{View}
 use Rattle.pc_proto.specs.declared.view.View.TheVariants as views
 use Rattle.pc_proto.specs.Stamps.{fate_stamps, goal_stamps}
+use Rattle.pc_proto.specs.Views.{is_final_view}
 use Rattle.pc_push.specs.declared.progress.Progress.{Progress}
 use Rattle.pc_push.specs.declared.progress.Progress.TheVariants as progress
-use Rattle.pc_push.specs.Pushing.{Pushing, push_of, resolve_of}
+use Rattle.pc_push.specs.Pushing.{Pushing, holder_resolve, push_of}
 use Rattle.pc_world.specs.declared.machine.MachineNext.{MachineNext}
 use Rattle.pc_world.specs.declared.machine.MachineNext.TheVariants as nexts
 use Rattle.pc_world.specs.Exchange.{HeardSince, IsAllowed, IsLater}
 use Rattle.pc_world.specs.Known.{Known}
-use Rattle.pc_world.specs.Known.Transactions.{is_final_view}
 use Rattle.pc_world.specs.Send.Push.{MaySendPush}
 use Rattle.pc_world.specs.Send.Settling.{MaySendResolve}
 
@@ -31,7 +31,7 @@ pub record MaySettle (k : Known) (m : Pushing) (fate : Fate) : Type 0 where
   pub stamps : All (λ ts. ts ≤ k.top + 1) (fate_stamps fate)
 
 -- The push was heard to be refused.
-pub record WasRefused (start k : Known) (m : Pushing) : Type 0 where
+pub record WasPushRefused (start k : Known) (m : Pushing) : Type 0 where
   pub view : View
   pub heard : HeardSince start k (push_of m) (replies.Refused view)
 
@@ -44,9 +44,9 @@ pub record HasMetStaging (start k : Known) (m : Pushing) (view : View) : Type 0 
   pub heard : HeardSince start k (push_of m) (replies.Unsure view)
 
 -- A reply to the resolve of the holder's intent was heard.
-pub record WasResolved (start k : Known) (m : Pushing) : Type 0 where
+pub record WasHolderResolved (start k : Known) (m : Pushing) : Type 0 where
   pub fate : Fate
-  pub heard : HeardSince start k (resolve_of m fate) replies.Resolved
+  pub heard : HeardSince start k (holder_resolve m fate) replies.Resolved
 
 -- The request recovers this transaction.
 abbrev pub Recovers : TxnId → Request → Type 0
@@ -64,15 +64,15 @@ pub record WasLeft (start k : Known) (m : Pushing) : Type 0 where
   pub unsettled : is_final_view view ≡ false
 
 -- The intent was settled, or is left to whoever holds it.
-abbrev pub IsDone : Known → Known → Pushing → Type 0
-IsDone start k m = WasResolved start k m ⊎ WasLeft start k m
+abbrev pub IsSettledOrLeft : Known → Known → Pushing → Type 0
+IsSettledOrLeft start k m = WasHolderResolved start k m ⊎ WasLeft start k m
 
 abbrev pub StandsAt : Known → Known → Pushing → Progress → Type 0
 StandsAt start k m progress.Push = ⊤
-StandsAt start k m progress.Refused = WasRefused start k m
+StandsAt start k m progress.Refused = WasPushRefused start k m
 StandsAt start k m (progress.Unsure view) = HasMetStaging start k m view
 StandsAt start k m (progress.Resolve fate) = MaySettle k m fate
-StandsAt start k m progress.Over = IsDone start k m
+StandsAt start k m progress.Over = IsSettledOrLeft start k m
 
 -- The machine stands by what its actor knew when it was made, and by what it knows now.
 pub record PushKnows (actor : ActorId) (start k : Known) (m : Pushing) : Type 0 where
@@ -82,17 +82,17 @@ pub record PushKnows (actor : ActorId) (start k : Known) (m : Pushing) : Type 0 
 
 -- What comes next is allowed: a request may be sent, a push that is given as refused was, a record that is given was met staging,
 -- and the end comes only once the intent was settled or the holder left undecided.
-abbrev pub MayCome : List (List ℕ) → ActorId → Known → Known → Pushing → MachineNext → Type 0
-MayCome splits actor start k m (nexts.Send request) = IsAllowed splits actor k request
-MayCome splits actor start k m (nexts.Refused id) = (id ≡ m.holder.id) × WasRefused start k m
-MayCome splits actor start k m (nexts.Settled view) = HasMetStaging start k m view
-MayCome splits actor start k m nexts.Finished = IsDone start k m
-MayCome splits actor start k m (nexts.Changed view) = ⊥
+abbrev pub RoundMayCome : List (List ℕ) → ActorId → Known → Known → Pushing → MachineNext → Type 0
+RoundMayCome splits actor start k m (nexts.Send request) = IsAllowed splits actor k request
+RoundMayCome splits actor start k m (nexts.Refused id) = (id ≡ m.holder.id) × WasPushRefused start k m
+RoundMayCome splits actor start k m (nexts.Settled view) = HasMetStaging start k m view
+RoundMayCome splits actor start k m nexts.Finished = IsSettledOrLeft start k m
+RoundMayCome splits actor start k m (nexts.Changed view) = ⊥
 
 abbrev pub AsksAt : Progress → Pushing → Request → Type 0
 AsksAt progress.Push m request = request ≡ push_of m
 AsksAt (progress.Unsure view) m request = Recovers m.holder.id request
-AsksAt (progress.Resolve fate) m request = request ≡ resolve_of m fate
+AsksAt (progress.Resolve fate) m request = request ≡ holder_resolve m fate
 AsksAt progress.Refused m request = ⊥
 AsksAt progress.Over m request = ⊥
 

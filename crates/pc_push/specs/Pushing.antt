@@ -10,11 +10,11 @@ use Rattle.pc_proto.specs.declared.reply.Reply.{Reply}
 use Rattle.pc_proto.specs.declared.reply.Reply.TheVariants as replies
 use Rattle.pc_proto.specs.declared.request.Request.{Request}
 use Rattle.pc_proto.specs.declared.request.Request.TheVariants as requests
+use Rattle.pc_proto.specs.Views.{fate_after, final_fate}
 use Rattle.pc_push.specs.declared.progress.Progress.{Progress}
 use Rattle.pc_push.specs.declared.progress.Progress.TheVariants as progress
 use Rattle.pc_world.specs.declared.machine.MachineNext.{MachineNext}
 use Rattle.pc_world.specs.declared.machine.MachineNext.TheVariants as nexts
-use Rattle.pc_world.specs.Views.{fate_after, final_fate}
 
 -- A round: whose intent stands in the way, and at which key; who pushes, at which level and reading, and what for; and how far
 -- it has come.
@@ -43,33 +43,33 @@ abbrev pub push_of : Pushing → Request
 push_of m = requests.Push m.holder m.by m.level m.reading m.goal
 
 -- The request that settles the holder's intent.
-abbrev pub resolve_of : Pushing → Fate → Request
-resolve_of m fate = requests.Resolve m.holder.id m.key fate
+abbrev pub holder_resolve : Pushing → Fate → Request
+holder_resolve m fate = requests.Resolve m.holder.id m.key fate
 
-abbrev pub due_at : Progress → Pushing → MachineNext
-due_at progress.Push m = nexts.Send (push_of m)
-due_at progress.Refused m = nexts.Refused m.holder.id
-due_at (progress.Unsure view) m = nexts.Settled view
-due_at (progress.Resolve fate) m = nexts.Send (resolve_of m fate)
-due_at progress.Over m = nexts.Finished
+abbrev pub round_due : Progress → Pushing → MachineNext
+round_due progress.Push m = nexts.Send (push_of m)
+round_due progress.Refused m = nexts.Refused m.holder.id
+round_due (progress.Unsure view) m = nexts.Settled view
+round_due (progress.Resolve fate) m = nexts.Send (holder_resolve m fate)
+round_due progress.Over m = nexts.Finished
 
 -- What is due.
-abbrev pub next_of : Pushing → MachineNext
-next_of m = due_at m.progress m
+abbrev pub round_next : Pushing → MachineNext
+round_next m = round_due m.progress m
 
 -- The intent is settled with this fate, if there is one.
-abbrev pub resolving : Option Fate → Progress → Progress
-resolving None otherwise = otherwise
-resolving (Some fate) otherwise = progress.Resolve fate
+abbrev pub resolve_or : Option Fate → Progress → Progress
+resolve_or None otherwise = otherwise
+resolve_or (Some fate) otherwise = progress.Resolve fate
 
 abbrev pub progress_after_push : Goal → Reply → Progress
-progress_after_push goal (replies.Status view) = resolving (fate_after goal view) progress.Push
+progress_after_push goal (replies.Status view) = resolve_or (fate_after goal view) progress.Push
 progress_after_push goal (replies.Refused view) = progress.Refused
 progress_after_push goal (replies.Unsure view) = progress.Unsure view
 progress_after_push goal _ = progress.Push
 
 abbrev pub progress_after_recovery : Reply → Progress
-progress_after_recovery (replies.Status view) = resolving (final_fate view) progress.Over
+progress_after_recovery (replies.Status view) = resolve_or (final_fate view) progress.Over
 progress_after_recovery _ = progress.Over
 
 abbrev pub with_progress : Progress → Pushing → Pushing
@@ -83,13 +83,13 @@ after_push reply m = with_progress (progress_after_push m.goal reply) m
 abbrev pub after_recovery : Reply → Pushing → Pushing
 after_recovery reply m = with_progress (progress_after_recovery reply) m
 
-abbrev pub heard_at : Progress → Reply → Pushing → Pushing
-heard_at progress.Push reply m = after_push reply m
-heard_at (progress.Unsure view) reply m = after_recovery reply m
-heard_at (progress.Resolve fate) reply m = with_progress progress.Over m
-heard_at progress.Refused reply m = m
-heard_at progress.Over reply m = m
+abbrev pub round_heard : Progress → Reply → Pushing → Pushing
+round_heard progress.Push reply m = after_push reply m
+round_heard (progress.Unsure view) reply m = after_recovery reply m
+round_heard (progress.Resolve fate) reply m = with_progress progress.Over m
+round_heard progress.Refused reply m = m
+round_heard progress.Over reply m = m
 
 -- After a reply: to what was due, or to a recovery.
-abbrev pub after_reply : Reply → Pushing → Pushing
-after_reply reply m = heard_at m.progress reply m
+abbrev pub round_after : Reply → Pushing → Pushing
+round_after reply m = round_heard m.progress reply m

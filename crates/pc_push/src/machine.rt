@@ -2,13 +2,13 @@ ghost use Rattle.std.specs.Prelude.{◌≡◌, ◌<◌, ℕ, true, IfOk, IfSome,
 ghost use Rattle.pc_base.specs.declared.actor.ActorId.{ActorId};
 ghost use Rattle.pc_base.specs.Timestamp.{greatest};
 ghost use Rattle.pc_proto.specs.declared.request.Request.{Request};
-ghost use Rattle.pc_push.specs.Pushing.{IsStart, after_recovery, after_push, after_reply, goal_of, next_of, push_of, resolving};
-ghost use Rattle.pc_push.specs.PushKnows.{Asks, MayCome, MayPush, PushKnows};
+ghost use Rattle.pc_proto.specs.Replies.{is_conflict};
+ghost use Rattle.pc_proto.specs.Views.{fate_after, final_fate};
+ghost use Rattle.pc_push.specs.Pushing.{IsStart, after_recovery, after_push, goal_of, push_of, resolve_or, round_after, round_next};
+ghost use Rattle.pc_push.specs.PushKnows.{Asks, MayPush, PushKnows, RoundMayCome};
 ghost use Rattle.pc_world.specs.declared.machine.MachineNext.TheVariants as nexts;
-ghost use Rattle.pc_world.specs.Exchange.{IsReplyTo, WasAnswered};
+ghost use Rattle.pc_world.specs.Exchange.{IsPossibleReply, WasAnswered};
 ghost use Rattle.pc_world.specs.Known.{Known};
-ghost use Rattle.pc_world.specs.Send.Recovery.{is_conflict};
-ghost use Rattle.pc_world.specs.Views.{fate_after, final_fate};
 
 use crate::progress::Progress;
 use pc_base::{Key, NoMemory, Priority, Timestamp, TryCopy, Who};
@@ -71,14 +71,14 @@ impl PushMachine {
 
     /// What is due.
     pub fn next(&self) -> Result<MachineNext, NoMemory>
-        ensures due { IfOk result (λ next. next ≡ next_of self.now) }
-        ensures may { (splits : List (List ℕ)) (actor : ActorId) (start k : Known) → PushKnows actor start k self.now → IfOk result (MayCome splits actor start k self.now) }
+        ensures due { IfOk result (λ next. next ≡ round_next self.now) }
+        ensures may { (splits : List (List ℕ)) (actor : ActorId) (start k : Known) → PushKnows actor start k self.now → IfOk result (RoundMayCome splits actor start k self.now) }
     {
         self.next_due()
     }
 
     fn next_due(&self) -> Result<MachineNext, NoMemory>
-        ensures { IfOk result (λ next. next ≡ next_of self.now) }
+        ensures { IfOk result (λ next. next ≡ round_next self.now) }
     {
         match &self.progress {
             Progress::Push => self.push(),
@@ -107,15 +107,15 @@ impl PushMachine {
 
     /// This reply was heard: to the request that `next` gave, or, once it gave a staging record, to a recovery of that.
     pub fn heard(&mut self, reply: &Reply) -> Result<(), NoMemory>
-        ensures made { OnOk result (self.new ≡ after_reply reply.now self.old) }
+        ensures made { OnOk result (self.new ≡ round_after reply.now self.old) }
         ensures err { OnErr result (self.new ≡ self.old) }
-        ensures knows { (actor : ActorId) (start k later : Known) (request : Request) → PushKnows actor start k self.old → Asks self.old request → WasAnswered k later request reply.now → IsReplyTo request reply.now → OnOk result (PushKnows actor start later self.new) }
+        ensures knows { (actor : ActorId) (start k later : Known) (request : Request) → PushKnows actor start k self.old → Asks self.old request → WasAnswered k later request reply.now → IsPossibleReply request reply.now → OnOk result (PushKnows actor start later self.new) }
     {
         self.hear(reply)
     }
 
     fn hear(&mut self, reply: &Reply) -> Result<(), NoMemory>
-        ensures ok { OnOk result (self.new ≡ after_reply reply.now self.old) }
+        ensures ok { OnOk result (self.new ≡ round_after reply.now self.old) }
         ensures err { OnErr result (self.new ≡ self.old) }
     {
         match &self.progress {
@@ -168,7 +168,7 @@ fn goal_for(reader: Option<Timestamp>) -> Goal
 
 /// The intent is settled with this fate, if there is one.
 fn resolving(fate: Option<Fate>, otherwise: Progress) -> Progress
-    ensures { result ≡ resolving fate otherwise }
+    ensures { result ≡ resolve_or fate otherwise }
 {
     match fate {
         Some(fate) => Progress::Resolve(fate),

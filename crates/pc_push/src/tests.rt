@@ -1,5 +1,5 @@
 ghost use Rattle.std.specs.Prelude.{◌≡◌, true, IfOk};
-ghost use Rattle.pc_world.specs.Send.Recovery.{is_conflict};
+ghost use Rattle.pc_proto.specs.Replies.{is_conflict};
 
 use crate::PushMachine;
 use pc_base::{Items, Key, Priority, Timestamp, TxnId, Who};

@@ -2,7 +2,7 @@
 //! decided first stays as it is.
 
 ghost use Rattle.std.specs.Prelude.{◌≡◌, IfOk, OnOk, OnErr};
-ghost use Rattle.pc_proto.specs.RecordRows.{change, record_reply, table_after};
+ghost use Rattle.pc_proto.specs.RecordRows.{place_change, record_reply, table_after};
 ghost use Rattle.pc_record.specs.RecordOf.{becoming};
 
 use crate::place::Place;
@@ -33,7 +33,7 @@ fn aborted(
     why: &Why,
     locks: &Keys,
 ) -> Result<Option<Record>, NoMemory>
-    ensures { IfOk result (λ made. becoming made ≡ change (Request.Abort meta.now why.now locks.now) place.now) }
+    ensures { IfOk result (λ made. becoming made ≡ place_change (Request.Abort meta.now why.now locks.now) place.now) }
 {
     if place.is_decided() {
         return Ok(None);

@@ -2,7 +2,7 @@
 //! takes a silent holder for gone: the holder's activity goes up.
 
 ghost use Rattle.std.specs.Prelude.{◌≡◌, IfOk, OnOk, OnErr, [], max};
-ghost use Rattle.pc_proto.specs.RecordRows.{change, record_reply, table_after};
+ghost use Rattle.pc_proto.specs.RecordRows.{place_change, record_reply, table_after};
 ghost use Rattle.pc_proto.specs.RecordRows.Reached.{status_of};
 ghost use Rattle.pc_record.specs.RecordOf.{becoming};
 
@@ -34,7 +34,7 @@ fn alive(
     ts: Timestamp,
     now: u64,
 ) -> Result<Option<Record>, NoMemory>
-    ensures { IfOk result (λ made. becoming made ≡ change (Request.Beat meta.now ts now) place.now) }
+    ensures { IfOk result (λ made. becoming made ≡ place_change (Request.Beat meta.now ts now) place.now) }
 {
     if place.is_decided() {
         return Ok(None);

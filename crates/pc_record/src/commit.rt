@@ -2,7 +2,7 @@
 //! that one of them decided first, or that stands past the commit's epoch or timestamp, stays as it is.
 
 ghost use Rattle.std.specs.Prelude.{◌≡◌, IfOk, OnOk, OnErr};
-ghost use Rattle.pc_proto.specs.RecordRows.{change, record_reply, table_after};
+ghost use Rattle.pc_proto.specs.RecordRows.{place_change, record_reply, table_after};
 ghost use Rattle.pc_record.specs.RecordOf.{becoming};
 
 use crate::place::Place;
@@ -33,7 +33,7 @@ fn committed(
     ts: Timestamp,
     locks: &Keys,
 ) -> Result<Option<Record>, NoMemory>
-    ensures { IfOk result (λ made. becoming made ≡ change (Request.Commit meta.now ts locks.now) place.now) }
+    ensures { IfOk result (λ made. becoming made ≡ place_change (Request.Commit meta.now ts locks.now) place.now) }
 {
     if place.is_decided() || !place.is_reached(meta.epoch, ts) {
         return Ok(None);

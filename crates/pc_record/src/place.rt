@@ -3,7 +3,7 @@ ghost use Rattle.std.specs.Option.{option_copied};
 ghost use Rattle.pc_proto.specs.Place.{Kept, Marked, is_decided, is_final, view_of};
 ghost use Rattle.pc_proto.specs.Table.{record_or_mark};
 ghost use Rattle.pc_proto.specs.RecordRows.Reached.{activity_of, alive_at, epoch_from, is_reached, is_staged_at, is_staging, ts_of};
-ghost use Rattle.pc_proto.specs.RecordRows.Push.{is_staged, is_there};
+ghost use Rattle.pc_proto.specs.RecordRows.Push.{is_staged, reaches_goal};
 ghost use Rattle.pc_record.specs.RecordOf.{record_of};
 
 use pc_base::{Items, NoMemory, Timestamp, TryCopy};
@@ -94,7 +94,7 @@ impl<'a> Place<'a> {
 
     /// Whether a record stands at this timestamp or above it.
     pub(crate) fn is_kept_at(&self, ts: Timestamp) -> bool
-        ensures { result ≡ is_there (Goal.Move ts) self.now }
+        ensures { result ≡ reaches_goal (Goal.Move ts) self.now }
     {
         self.record.is_some_and(|record| ts <= record.status.ts)
     }

@@ -4,7 +4,7 @@
 
 ghost use Rattle.std.specs.Prelude.{◌≡◌, IfOk, OnOk, OnErr};
 ghost use Rattle.pc_proto.specs.RecordRows.{record_reply, table_after};
-ghost use Rattle.pc_proto.specs.RecordRows.Push.{is_there, pushed, rank, wins};
+ghost use Rattle.pc_proto.specs.RecordRows.Push.{level_rank, pushed, reaches_goal, wins};
 ghost use Rattle.pc_record.specs.RecordOf.{becoming};
 
 use crate::place::Place;
@@ -45,7 +45,7 @@ pub(crate) fn push(
 
 /// Whether the record stands at the target or above it.
 fn is_there(place: &Place<'_>, goal: Goal) -> bool
-    ensures { result ≡ is_there goal place.now }
+    ensures { result ≡ reaches_goal goal place.now }
 {
     match goal {
         Goal::Abort => false,
@@ -62,7 +62,7 @@ fn wins(place: &Place<'_>, holder: &TxnMeta, level: Priority, now: u64) -> bool
 }
 
 fn rank(priority: Priority) -> u8
-    ensures { result ≡ rank priority }
+    ensures { result ≡ level_rank priority }
 {
     match priority {
         Priority::Low => 0,

@@ -2,7 +2,7 @@
 
 ghost use Rattle.std.specs.Prelude.{◌≡◌, IfOk, map};
 ghost use Rattle.pc_proto.specs.RecordRows.Reached.{at_epoch};
-ghost use Rattle.pc_proto.specs.RecordRows.Records.{listed};
+ghost use Rattle.pc_proto.specs.RecordRows.Records.{listed_metas};
 
 use pc_base::{Items, NoMemory, TryCopy, TxnId};
 use pc_proto::{Metas, Record, TxnMeta};
@@ -12,7 +12,7 @@ use std::collections::BTreeMap;
 /// The records' metas by transaction, each with its record's epoch.
 #[tactic(auto, using(crate::proofs::InOrder::in_order_more))]
 pub(crate) fn listed(alloc: Global, records: &[(TxnId, Record)]) -> Result<Metas, NoMemory>
-    ensures { IfOk result (λ made. made ≡ listed records.now) }
+    ensures { IfOk result (λ made. made ≡ listed_metas records.now) }
 {
     let mut metas = BTreeMap::new(alloc);
     for entry in records {

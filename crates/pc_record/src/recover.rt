@@ -5,7 +5,7 @@ ghost use Rattle.std.specs.Prelude.{◌≡◌, IfOk, OnOk, OnErr, []};
 ghost use Rattle.pc_proto.specs.Place.{after, view_of};
 ghost use Rattle.pc_proto.specs.RecordRows.{unless_decided};
 ghost use Rattle.pc_proto.specs.RecordRows.Reached.{status_of};
-ghost use Rattle.pc_proto.specs.RecordRows.Recover.{decision, recover};
+ghost use Rattle.pc_proto.specs.RecordRows.Recover.{recover, standing_found};
 ghost use Rattle.pc_proto.specs.Table.{applied_to, place_of};
 ghost use Rattle.pc_record.specs.RecordOf.{becoming};
 
@@ -50,7 +50,7 @@ fn recovered(
 
 /// The record, decided by the finding.
 fn decided(alloc: Global, staged: &Record, finding: &Finding) -> Result<Record, NoMemory>
-    ensures { IfOk result (λ made. made ≡ record staged.now { status = status_of (decision finding.now) staged.now.status.epoch staged.now.status.ts; writes = [] }) }
+    ensures { IfOk result (λ made. made ≡ record staged.now { status = status_of (standing_found finding.now) staged.now.status.epoch staged.now.status.ts; writes = [] }) }
 {
     let status = Status {
         standing: decision(finding)?,
@@ -69,7 +69,7 @@ fn decided(alloc: Global, staged: &Record, finding: &Finding) -> Result<Record, 
 }
 
 fn decision(finding: &Finding) -> Result<Standing, NoMemory>
-    ensures { IfOk result (λ made. made ≡ decision finding.now) }
+    ensures { IfOk result (λ made. made ≡ standing_found finding.now) }
 {
     match finding {
         Finding::All => Ok(Standing::Committed),

@@ -3,7 +3,7 @@
 //! epoch or timestamp, stays as it is.
 
 ghost use Rattle.std.specs.Prelude.{◌≡◌, IfOk, OnOk, OnErr};
-ghost use Rattle.pc_proto.specs.RecordRows.{change, record_reply, table_after};
+ghost use Rattle.pc_proto.specs.RecordRows.{place_change, record_reply, table_after};
 ghost use Rattle.pc_record.specs.RecordOf.{becoming};
 
 use crate::place::Place;
@@ -36,7 +36,7 @@ fn staged(
     writes: &Writes,
     locks: &Keys,
 ) -> Result<Option<Record>, NoMemory>
-    ensures { IfOk result (λ made. becoming made ≡ change (Request.Stage meta.now ts now writes.now locks.now) place.now) }
+    ensures { IfOk result (λ made. becoming made ≡ place_change (Request.Stage meta.now ts now writes.now locks.now) place.now) }
 {
     let is_past = !place.is_reached(meta.epoch, ts);
     if place.is_decided() || is_past || place.is_staged_at(meta.epoch, ts) {

@@ -3,8 +3,8 @@ ghost use Rattle.std.specs.Option.{option_copied};
 ghost use Rattle.pc_base.specs.Keyed.{at};
 ghost use Rattle.pc_base.specs.Transaction.{same_txn};
 ghost use Rattle.pc_proto.specs.Place.{Finish, after, view_of};
-ghost use Rattle.pc_proto.specs.RecordRows.Records.{listed};
-ghost use Rattle.pc_proto.specs.Table.{applied_to, no_table, place_of};
+ghost use Rattle.pc_proto.specs.RecordRows.Records.{listed_metas};
+ghost use Rattle.pc_proto.specs.Table.{applied_to, empty_table, place_of};
 ghost use Rattle.pc_record.specs.RecordOf.{becoming};
 
 use crate::place::{Place, record_view};
@@ -33,7 +33,7 @@ impl Model for RecordTable {
 impl RecordTable {
     /// A range of which no transaction has a record.
     pub fn new(alloc: Global) -> RecordTable
-        ensures { result ≡ no_table }
+        ensures { result ≡ empty_table }
     {
         RecordTable {
             records: Vec::new(alloc),
@@ -101,7 +101,7 @@ impl RecordTable {
 
     /// The metas of the records, by transaction.
     pub(crate) fn list(&self) -> Result<Metas, NoMemory>
-        ensures { IfOk result (λ made. made ≡ listed self.now.records) }
+        ensures { IfOk result (λ made. made ≡ listed_metas self.now.records) }
     {
         listed(self.alloc(), &self.records)
     }

@@ -8,7 +8,7 @@ use Rattle.std.specs.Ordering.{is_eq, nat_cmp, ordering_then}
 use Rattle.std.specs.BTreeMap.{BTreeMap, Updates}
 use Rattle.pc_base.specs.declared.transaction.TxnId.{TxnId}
 use Rattle.pc_base.specs.Transaction.{same_txn, txn_cmp}
-use Rattle.pc_implicit.proofs.Keyed.{same-is}
+use Rattle.pc_lists.proofs.Same.{same_txn-is}
 use Rattle.pc_report.specs.Replaying.{first_of, held, only_for}
 
 then-equal : (one other : Ordering) → is_eq (ordering_then one other) ≡ (is_eq one && is_eq other)
@@ -42,7 +42,7 @@ first_put {V} old new id value none h other = updated old new id (Some value) h 
     empty (Some v) e = absurd cc
 
     by : (b : Bool) → same_txn id other ≡ b → cond b (Some value) (held old other) ≡ first_of (held old other) (cond b (Some value) None)
-    by true e = sym (ap (λ o. first_of o (Some value)) (subst (λ x. held old x ≡ None) (same-is id other e) (empty (held old id) none)))
+    by true e = sym (ap (λ o. first_of o (Some value)) (subst (λ x. held old x ≡ None) (same_txn-is id other e) (empty (held old id) none)))
     by false e = sym (first-none (held old other))
 
 -- it had one already
@@ -54,5 +54,5 @@ first_stays {V} old id value some other = by (same_txn id other) refl
     has (Some v) e late = refl
 
     by : (b : Bool) → same_txn id other ≡ b → held old other ≡ first_of (held old other) (cond b (Some value) None)
-    by true e = has (held old other) (subst (λ x. is_some (held old x) ≡ true) (same-is id other e) some) (Some value)
+    by true e = has (held old other) (subst (λ x. is_some (held old x) ≡ true) (same_txn-is id other e) some) (Some value)
     by false e = sym (first-none (held old other))

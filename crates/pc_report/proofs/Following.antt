@@ -14,11 +14,11 @@ use Rattle.pc_base.specs.declared.transaction.TxnId.{TxnId}
 use Rattle.pc_base.specs.Span.{key_at_most}
 use Rattle.pc_base.specs.Transaction.{same_txn}
 use Rattle.pc_history.specs.Own.{named_in, pair, pairs_after, same_id}
+use Rattle.pc_lists.proofs.Same.{same_txn-is}
 use Rattle.pc_proto.specs.declared.event.Event.{Event}
 use Rattle.pc_proto.specs.declared.request.Request.{Request}
 use Rattle.pc_proto.specs.Place.{Place, Nothing, Kept, Marked}
 use Rattle.pc_proto.specs.Table.{place_of}
-use Rattle.pc_implicit.proofs.Keyed.{same-is}
 use Rattle.pc_report.proofs.Intents.{is_one}
 use Rattle.pc_report.proofs.Naming.{asked_there}
 use Rattle.pc_report.proofs.Points.{point_push, point_stays, point_start}
@@ -27,7 +27,7 @@ use Rattle.pc_report.proofs.Staying.{commit_stays, first_none, first_push}
 use Rattle.pc_report.specs.declared.replay.Replay.{Replay}
 use Rattle.pc_report.specs.ReportOf.{IsRunOver, ending_at, ending_of, rolled_back, rolled_back_in}
 use Rattle.pc_report.specs.ReportOf.{ending_from as ending_in_history}
-use Rattle.pc_report.specs.Replaying.{AreBlank, AreStates, HasRoomFor, Holds, IsPoint, IsReplayOf, Notes, after_eval, asked_in, commit_from, commit_in, commit_of_place, ending_from, ending_in, first_of, held, is_present_in, only_for, committed_one, over, place_in, point_for, PointsFollow, state_in, states_after, touched_in}
+use Rattle.pc_report.specs.Replaying.{AreBlank, AreStates, HasRoomFor, Holds, IsPoint, IsReplayOf, Notes, after_eval, asked_in, commit_from, commit_kept, commit_of_place, ending_in, ending_there, first_of, held, is_present_in, only_for, committed_one, over, place_in, point_for, PointsFollow, state_kept, states_after, touched_in}
 use Rattle.pc_world.proofs.Kept.{run_has_room}
 use Rattle.pc_world.proofs.Knowing.{state_other, state_same}
 use Rattle.pc_world.proofs.Prefixes.{run_front, run_take}
@@ -35,7 +35,7 @@ use Rattle.pc_world.specs.After.{place_at, state_at}
 use Rattle.pc_world.specs.Committed.{anchor_in, commit_at, commit_by, commit_ts, committed_in, is_present, key_sent, told_at}
 use Rattle.pc_world.specs.Committed.{commit_in as commit_in_history}
 use Rattle.pc_world.specs.Evaluation.{state_after}
-use Rattle.pc_world.specs.Evaluation.Query.{stands}
+use Rattle.pc_world.specs.Evaluation.Query.{write_stands}
 use Rattle.pc_world.specs.Local.{Head}
 use Rattle.pc_world.specs.RangeOf.{range_of}
 use Rattle.pc_world.specs.RangeState.{RangeState, no_state}
@@ -81,14 +81,14 @@ module _ (splits : List (List ℕ)) (history : List (Entry Event)) (e : Entry Ev
 
     answered : (range : ℕ) (request : Request) → range ≤ length splits → e.actor ≡ actors.Range range → asked_in history e.event ≡ Some request → slice_get (after_eval states range request) range ≡ Some (state_at (over splits) range (history ++ e ∷ []))
     answered range request le same is =
-        let was : state_in states range ≡ state_at (over splits) range history = ap (λ o. unwrap_or o no_state) (old.each range le) in
+        let was : state_kept states range ≡ state_at (over splits) range history = ap (λ o. unwrap_or o no_state) (old.each range le) in
         let now = next-same range same ∙ ap (λ asked. state_with asked (state_at (over splits) range history)) is in
-        set-same states range (state_after request (state_in states range)) (state_at (over splits) range history) (old.each range le)
+        set-same states range (state_after request (state_kept states range)) (state_at (over splits) range history) (old.each range le)
         ∙ ap Some (ap (state_after request) was ∙ sym now)
 
     elsewhere : (range other : ℕ) (request : Request) → range ≤ length splits → e.actor ≢ actors.Range range → range ≢ other → slice_get (after_eval states other request) range ≡ Some (state_at (over splits) range (history ++ e ∷ []))
     elsewhere range other request le apart differ =
-        set-other states other range (state_after request (state_in states other)) (state_at (over splits) range (history ++ e ∷ [])) differ (kept range le apart)
+        set-other states other range (state_after request (state_kept states other)) (state_at (over splits) range (history ++ e ∷ [])) differ (kept range le apart)
 
     pub states_next : AreStates splits (history ++ e ∷ []) (states_after states e.actor (asked_in history e.event))
     states_next = by e.actor (asked_in history e.event) refl refl
@@ -106,7 +106,7 @@ module _ (splits : List (List ℕ)) (history : List (Entry Event)) (e : Entry Ev
 
         by : (actor : ActorId) (asked : Option Request) → e.actor ≡ actor → asked_in history e.event ≡ asked → AreStates splits (history ++ e ∷ []) (states_after states actor asked)
         by (actors.Range a) (Some request) is q = record {
-          count = length-set states a (state_after request (state_in states a)) ∙ old.count;
+          count = length-set states a (state_after request (state_kept states a)) ∙ old.count;
           each = λ range le. elim (cases_eq range a) [
             | inl same ↦ subst (λ x. slice_get (after_eval states x request) range ≡ Some (state_at (over splits) range (history ++ e ∷ []))) same (answered range request le (is ∙ ap actors.Range (sym same)) q)
             | inr differ ↦ elsewhere range a request le (not-range a range is differ) differ
@@ -141,7 +141,7 @@ module _ (splits : List (List ℕ)) (history : List (Entry Event)) (e : Entry Ev
 
 -- what was kept says when a transaction is committed, and how one ended
 module _ (splits : List (List ℕ)) (history : List (Entry Event)) (r : Replay) (states : AreStates splits history r.states.items) (anchors : Holds r.anchors (λ id. anchor_in id history)) (id : TxnId) where
-  state-means : (key : List ℕ) → state_in r.states.items (range_of splits key) ≡ state_at (over splits) (range_of splits key) history
+  state-means : (key : List ℕ) → state_kept r.states.items (range_of splits key) ≡ state_at (over splits) (range_of splits key) history
   state-means key = ap (λ o. unwrap_or o no_state) (states.each (range_of splits key) (count_by-le-length (λ split. key_at_most split key) splits))
 
   place-means : (anchor : List ℕ) → place_in splits r.states.items anchor id ≡ place_at (over splits) (range_of splits anchor) id history
@@ -151,11 +151,11 @@ module _ (splits : List (List ℕ)) (history : List (Entry Event)) (r : Replay) 
   place-commits Nothing = refl
   place-commits (Kept k) =
       let all : list_all (is_present_in splits r.states.items id k.status.epoch k.status.ts) k.writes ≡ list_all (is_present (over splits) history id k.status.epoch k.status.ts) k.writes =
-      ap (λ test. list_all test k.writes) (λ i write. ap (stands id k.status.epoch write.1 k.status.ts write.0) (state-means write.0) i) in
+      ap (λ test. list_all test k.writes) (λ i write. ap (write_stands id k.status.epoch write.1 k.status.ts write.0) (state-means write.0) i) in
       ap (commit_by k.status.standing k.status.ts) all
   place-commits (Marked s) = refl
 
-  pub commit_means : Holds r.told (λ id. told_at id history) → commit_in splits r id ≡ commit_ts (over splits) history id
+  pub commit_means : Holds r.told (λ id. told_at id history) → commit_kept splits r id ≡ commit_ts (over splits) history id
   commit_means told =
       ap (λ anchor. commit_from splits r.states.items id anchor (held r.told id)) (anchors id)
       ∙ ap (commit_from splits r.states.items id (anchor_in id history)) (told id)
@@ -167,11 +167,11 @@ module _ (splits : List (List ℕ)) (history : List (Entry Event)) (r : Replay) 
 
   pub ending_means : Holds r.rolled_back (λ id. rolled_back id history) → ending_in splits r id ≡ ending_of (over splits) history id
   ending_means told =
-      ap (λ anchor. ending_from splits r.states.items id anchor (held r.rolled_back id)) (anchors id)
-      ∙ ap (ending_from splits r.states.items id (anchor_in id history)) (told id)
+      ap (λ anchor. ending_there splits r.states.items id anchor (held r.rolled_back id)) (anchors id)
+      ∙ ap (ending_there splits r.states.items id (anchor_in id history)) (told id)
       ∙ by (anchor_in id history)
     where
-      by : (anchor : Option (List ℕ)) → ending_from splits r.states.items id anchor (rolled_back id history) ≡ ending_in_history (over splits) history id anchor
+      by : (anchor : Option (List ℕ)) → ending_there splits r.states.items id anchor (rolled_back id history) ≡ ending_in_history (over splits) history id anchor
       by None = refl
       by (Some anchor) = ap (λ p. ending_at p (rolled_back id history)) (place-means anchor)
 
@@ -202,7 +202,7 @@ followed splits history e old new was anchors told rolled states points = record
   anchors = now-anchors;
   told = now-told;
   rolled_back = noted rolled_back_in old.rolled_back new.rolled_back history e was.rolled_back rolled;
-  points = λ id. subst (IsPoint (over splits) (history ++ e ∷ []) id) (sym (points id ∙ ap (first_of (held old.points id)) (point-now (commit_in splits new) (touched_in (asked_in history e.event) e.event) (length history + 1) id))) (by id (touched_in (asked_in history e.event) e.event) refl);
+  points = λ id. subst (IsPoint (over splits) (history ++ e ∷ []) id) (sym (points id ∙ ap (first_of (held old.points id)) (point-now (commit_kept splits new) (touched_in (asked_in history e.event) e.event) (length history + 1) id))) (by id (touched_in (asked_in history e.event) e.event) refl);
 }
   where
     now-states : AreStates splits (history ++ e ∷ []) new.states.items
@@ -220,24 +220,24 @@ followed splits history e old new was anchors told rolled states points = record
         (subst (IsPoint (over splits) (history ++ e ∷ []) id) (sym (first_none (held old.points id)))
         (point_stays (over splits) id history e (held old.points id) (was.points id) (commit_stays id (over splits) history e apart)))
 
-    by : (id : TxnId) (touched : Option TxnId) → touched_in (asked_in history e.event) e.event ≡ touched → IsPoint (over splits) (history ++ e ∷ []) id (first_of (held old.points id) (point_now (commit_in splits new) touched (length history + 1) id))
+    by : (id : TxnId) (touched : Option TxnId) → touched_in (asked_in history e.event) e.event ≡ touched → IsPoint (over splits) (history ++ e ∷ []) id (first_of (held old.points id) (point_now (commit_kept splits new) touched (length history + 1) id))
     by id None is = stays id (ap (is_one id) is) None refl
     by id (Some one) is = by-same (same_txn one id) refl
       where
-        by-same : (b : Bool) → same_txn one id ≡ b → IsPoint (over splits) (history ++ e ∷ []) id (first_of (held old.points id) (cond (is_some (commit_in splits new one)) (cond (same_txn one id) (Some (length history + 1)) None) None))
-        by-same false t = stays id (ap (is_one id) is ∙ t) _ (ap (λ b. cond (is_some (commit_in splits new one)) (cond b (Some (length history + 1)) None) None) t ∙ both-none (is_some (commit_in splits new one)))
+        by-same : (b : Bool) → same_txn one id ≡ b → IsPoint (over splits) (history ++ e ∷ []) id (first_of (held old.points id) (cond (is_some (commit_kept splits new one)) (cond (same_txn one id) (Some (length history + 1)) None) None))
+        by-same false t = stays id (ap (is_one id) is ∙ t) _ (ap (λ b. cond (is_some (commit_kept splits new one)) (cond b (Some (length history + 1)) None) None) t ∙ both-none (is_some (commit_kept splits new one)))
           where
             both-none : (b : Bool) → cond {A = Option ℕ} b None None ≡ None
             both-none true = refl
             both-none false = refl
         by-same true t =
-            let same : one ≡ id = same-is one id t in
-            let committed : commit_in splits new one ≡ commit_ts (over splits) (history ++ e ∷ []) id = ap (commit_in splits new) same ∙ commit_means splits (history ++ e ∷ []) new now-states now-anchors id now-told in
+            let same : one ≡ id = same_txn-is one id t in
+            let committed : commit_kept splits new one ≡ commit_ts (over splits) (history ++ e ∷ []) id = ap (commit_kept splits new) same ∙ commit_means splits (history ++ e ∷ []) new now-states now-anchors id now-told in
             let far : length (history ++ e ∷ []) ≡ length history + 1 = length-append history (e ∷ []) in
-            let now : cond (is_some (commit_ts (over splits) (history ++ e ∷ []) id)) (Some (length (history ++ e ∷ []))) None ≡ cond (is_some (commit_in splits new one)) (cond (same_txn one id) (Some (length history + 1)) None) None =
+            let now : cond (is_some (commit_ts (over splits) (history ++ e ∷ []) id)) (Some (length (history ++ e ∷ []))) None ≡ cond (is_some (commit_kept splits new one)) (cond (same_txn one id) (Some (length history + 1)) None) None =
             ap (λ n. cond (is_some (commit_ts (over splits) (history ++ e ∷ []) id)) (Some n) None) far
             ∙ ap (λ o. cond (is_some o) (Some (length history + 1)) None) (sym committed)
-            ∙ ap (λ b. cond (is_some (commit_in splits new one)) (cond b (Some (length history + 1)) None) None) (sym t) in
+            ∙ ap (λ b. cond (is_some (commit_kept splits new one)) (cond b (Some (length history + 1)) None) None) (sym t) in
             subst (λ o. IsPoint (over splits) (history ++ e ∷ []) id (first_of (held old.points id) o)) now
             (point_push (over splits) id history e (held old.points id) (commit_ts (over splits) (history ++ e ∷ []) id) (was.points id) refl)
 
@@ -253,12 +253,12 @@ begins splits r states anchors told rolled points = record {
 }
 
 -- where nothing was committed now, the points stay
-pub points_stay : (splits : List (List ℕ)) (touched : Option TxnId) (far : ℕ) (old new : Replay) → committed_one (commit_in splits new) touched ≡ None → new.points ≡ old.points → PointsFollow splits touched far old new
+pub points_stay : (splits : List (List ℕ)) (touched : Option TxnId) (far : ℕ) (old new : Replay) → committed_one (commit_kept splits new) touched ≡ None → new.points ≡ old.points → PointsFollow splits touched far old new
 points_stay splits touched far old new none same =
     λ id. ap (λ points. held points id) same ∙ sym (ap (λ o. first_of (held old.points id) (point_for o far id)) none ∙ first_none (held old.points id))
 
 -- where a transaction was, it has its point
-pub points_grow : (splits : List (List ℕ)) (touched : Option TxnId) (far : ℕ) (old new : Replay) (one : TxnId) → committed_one (commit_in splits new) touched ≡ Some one
+pub points_grow : (splits : List (List ℕ)) (touched : Option TxnId) (far : ℕ) (old new : Replay) (one : TxnId) → committed_one (commit_kept splits new) touched ≡ Some one
     → ((id : TxnId) → held new.points id ≡ first_of (held old.points id) (only_for one far id)) → PointsFollow splits touched far old new
 points_grow splits touched far old new one is put = λ id. put id ∙ sym (ap (λ o. first_of (held old.points id) (point_for o far id)) is)
 

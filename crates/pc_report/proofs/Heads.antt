@@ -14,7 +14,7 @@ use Rattle.pc_report.specs.ReportOf.{committed_row, ending_at, ending_from, endi
 use Rattle.pc_world.specs.After.{place_at, state_at}
 use Rattle.pc_world.specs.CommitOrder.{Rank, all_begun, commit_order, rank_cmp, ranked}
 use Rattle.pc_world.specs.Committed.{anchor_in, commit_at, commit_by, commit_in, commit_point, commit_ts, point_after}
-use Rattle.pc_world.specs.Evaluation.Query.{stands}
+use Rattle.pc_world.specs.Evaluation.Query.{write_stands}
 use Rattle.pc_world.specs.Local.{Head}
 use Rattle.pc_world.specs.RangeOf.{range_of}
 use Rattle.pc_world.specs.RangeState.{RangeState}
@@ -28,9 +28,9 @@ module _ (head other : Head) (same : head.splits ≡ other.splits) where
   same-in : (history : List (Entry Event)) (id : TxnId) (p : Place) → commit_in head history id p ≡ commit_in other history id p
   same-in history id Nothing = refl
   same-in history id (Kept r) =
-      ap (λ (states : ℕ → RangeState). commit_by r.status.standing r.status.ts (list_all (λ write. stands id r.status.epoch write.1 r.status.ts write.0 (states (range_of head.splits write.0))) r.writes))
+      ap (λ (states : ℕ → RangeState). commit_by r.status.standing r.status.ts (list_all (λ write. write_stands id r.status.epoch write.1 r.status.ts write.0 (states (range_of head.splits write.0))) r.writes))
       (λ i range. same_states head other range history i)
-      ∙ ap (λ splits. commit_by r.status.standing r.status.ts (list_all (λ write. stands id r.status.epoch write.1 r.status.ts write.0 (state_at other (range_of splits write.0) history)) r.writes)) same
+      ∙ ap (λ splits. commit_by r.status.standing r.status.ts (list_all (λ write. write_stands id r.status.epoch write.1 r.status.ts write.0 (state_at other (range_of splits write.0) history)) r.writes)) same
   same-in history id (Marked s) = refl
 
   same-commit : (history : List (Entry Event)) (id : TxnId) → commit_ts head history id ≡ commit_ts other history id

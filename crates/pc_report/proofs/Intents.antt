@@ -20,8 +20,8 @@ use Rattle.pc_proto.specs.Intents.{kept_if, other_at, own_at}
 use Rattle.pc_report.specs.Replaying.{touched}
 use Rattle.pc_world.specs.Evaluation.{intents_after}
 use Rattle.pc_world.specs.Evaluation.IntentChange.{intents_with}
-use Rattle.pc_world.specs.Evaluation.Put.{Stands, Lands, first_outcome, laid, overtaken, own_outcome, put_change, put_outcome, write_ts}
-use Rattle.pc_world.specs.Evaluation.Resolve.{change_for, intent_change}
+use Rattle.pc_world.specs.Evaluation.Put.{Stands, Lands, first_outcome, laid, outcome_of_put, overtaken, own_outcome, put_change, write_ts}
+use Rattle.pc_world.specs.Evaluation.Resolve.{change_for, resolve_change}
 use Rattle.pc_world.specs.RangeState.{RangeState}
 
 -- The transaction is this one, if there is one.
@@ -87,7 +87,7 @@ module _ (id : TxnId) (k : List ℕ) where
   laid-apart meta seq ts value None apart of = apart
   laid-apart meta seq ts value (Some i) apart of = grind (arith, of i refl)
 
-  put-stays : (meta : TxnMeta) (seq ts : ℕ) (key : List ℕ) (value : Option (List ℕ)) (s : RangeState) → same_txn meta.id id ≡ false → own_at id k (intents_with key (put_change (put_outcome meta seq ts key value s)) s.intents) ≡ own_at id k s.intents
+  put-stays : (meta : TxnMeta) (seq ts : ℕ) (key : List ℕ) (value : Option (List ℕ)) (s : RangeState) → same_txn meta.id id ≡ false → own_at id k (intents_with key (put_change (outcome_of_put meta seq ts key value s)) s.intents) ≡ own_at id k s.intents
   put-stays meta seq ts key value s apart = by-other (other_at meta.id key s.intents) refl
     where
       by-over : (own : Option Intent) → own_at meta.id key s.intents ≡ own → own_at id key s.intents ≡ None → (b : Bool) → own_at id k (intents_with key (put_change (cond b (Stands 0) (Lands (laid meta seq (write_ts meta ts key own s) value own)))) s.intents) ≡ own_at id k s.intents
@@ -107,7 +107,7 @@ module _ (id : TxnId) (k : List ℕ) where
           by-own (own_at meta.id key s.intents) refl (not-own-free meta.id id (at same_key key s.intents) apart e)
           (overtaken meta seq (own_at meta.id key s.intents)) refl
 
-  resolve-stays : (one : TxnId) (key : List ℕ) (fate : Fate) (s : RangeState) → same_txn one id ≡ false → own_at id k (intents_with key (intent_change one key fate s) s.intents) ≡ own_at id k s.intents
+  resolve-stays : (one : TxnId) (key : List ℕ) (fate : Fate) (s : RangeState) → same_txn one id ≡ false → own_at id k (intents_with key (resolve_change one key fate s) s.intents) ≡ own_at id k s.intents
   resolve-stays one key fate s apart = by-own (own_at one key s.intents) refl fate
     where
       by-own : (own : Option Intent) → own_at one key s.intents ≡ own → (fate : Fate) → own_at id k (intents_with key (change_for fate own) s.intents) ≡ own_at id k s.intents

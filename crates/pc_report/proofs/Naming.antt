@@ -5,8 +5,8 @@ use Rattle.std.proofs.lemmas.List.Sorted.{Contains-permutation, IsPermutation-re
 use Rattle.std.specs.List.{find}
 use Rattle.pc_base.specs.declared.actor.ActorId.{ActorId}
 use Rattle.pc_base.specs.declared.entry.Entry.{Entry}
-use Rattle.pc_history.proofs.Lists.{contains_head, contains_tail, find_none, find_some}
 use Rattle.pc_history.specs.Own.{same_id}
+use Rattle.pc_lists.proofs.Lists.{contains_head, contains_tail, find_none, find_some}
 use Rattle.pc_proto.specs.declared.event.Event.{Event}
 use Rattle.pc_proto.specs.declared.event.Event.TheVariants as events
 use Rattle.pc_proto.specs.declared.request.Request.{Request}

@@ -21,9 +21,9 @@ use Rattle.pc_report.specs.declared.replay.Replay.{Replay}
 use Rattle.pc_report.specs.declared.rows.Report.{Report}
 use Rattle.pc_report.specs.declared.writes.Writes.{Writes}
 use Rattle.pc_report.specs.Ordering.{order_in, other_in, others_in, place_cmp, placed, rank_from}
-use Rattle.pc_report.specs.Replaying.{IsPoint, IsReplayOf, commit_in, ending_in, held, over}
+use Rattle.pc_report.specs.Replaying.{IsPoint, IsReplayOf, commit_kept, ending_in, held, over}
 use Rattle.pc_report.specs.ReportOf.{committed_row, last_writes, map_of, map_with, other_of, other_row, other_unless, others_of, report_of}
-use Rattle.pc_report.specs.Rows.{last_puts, map_with_put, map_with_puts, row_of}
+use Rattle.pc_report.specs.Rows.{commit_row, last_puts, map_with_put, map_with_puts}
 use Rattle.pc_report.specs.Writing.{AreWritesOf, puts_held}
 use Rattle.pc_world.specs.CommitOrder.{Rank, all_begun, commit_order, rank_cmp, ranked}
 use Rattle.pc_world.specs.Committed.{commit_point, commit_ts}
@@ -61,11 +61,11 @@ gives f g same (id ∷ ids) = by (f id) (g id) (same id) (gives f g same ids)
     by (Some x) p is rest = ap (λ later. as-rank x ∷ later) rest ∙ ap (λ p. cons_option p (filter_map g ids)) is
 
 module _ (splits : List (List ℕ)) (history : List (Entry Event)) (r : Replay) (is : IsReplayOf splits history r) where
-  committed : (id : TxnId) → commit_in splits r id ≡ commit_ts (over splits) history id
+  committed : (id : TxnId) → commit_kept splits r id ≡ commit_ts (over splits) history id
   committed id = commit_means splits history r is.states is.anchors id is.told
 
   rank-means : (id : TxnId) → option_map as-rank (placed splits r id) ≡ ranked (over splits) history id
-  rank-means id = by (commit_in splits r id) (held r.points id) (committed id) (is.points id)
+  rank-means id = by (commit_kept splits r id) (held r.points id) (committed id) (is.points id)
     where
       by : (ts point : Option ℕ) → ts ≡ commit_ts (over splits) history id → IsPoint (over splits) history id point
           → option_map as-rank (option_map {U = place × TxnId} (λ (rank : place). (rank, id)) (rank_from ts point)) ≡ ranked (over splits) history id
@@ -94,7 +94,7 @@ module _ (splits : List (List ℕ)) (history : List (Entry Event)) (r : Replay) 
         ap last_puts (wrote.puts id)
         ∙ ap (in_order (slice_cmp nat_cmp)) (puts_say (operations_of history id))
 
-    rows-mean : (xs : List (place × TxnId)) → map (row_of w) xs ≡ map (committed_row history) (map as-rank xs)
+    rows-mean : (xs : List (place × TxnId)) → map (commit_row w) xs ≡ map (committed_row history) (map as-rank xs)
     rows-mean [] = refl
     rows-mean (x ∷ xs) = λ i. record { id = x.1; ts = x.0.ts; writes = last-means x.1 i } ∷ rows-mean xs i
 
@@ -105,7 +105,7 @@ module _ (splits : List (List ℕ)) (history : List (Entry Event)) (r : Replay) 
         ∙ map-means (map_with history m (as-rank x)) xs
 
     -- the rows that were kept are those of the report
-    pub report_means : (made : Report) → made.committed ≡ map (row_of w) (order_in splits r history) → made.others ≡ map other_row (others_in splits r history) → made.map ≡ fold (map_with_puts w) [] (order_in splits r history)
+    pub report_means : (made : Report) → made.committed ≡ map (commit_row w) (order_in splits r history) → made.others ≡ map other_row (others_in splits r history) → made.map ≡ fold (map_with_puts w) [] (order_in splits r history)
         → (head : Head) → head.splits ≡ splits → made ≡ report_of head history
     report_means made one two three head same =
         let committed : made.committed ≡ map (committed_row history) (commit_order (over splits) history) = one ∙ rows-mean (order_in splits r history) ∙ ap (map (committed_row history)) order_means in

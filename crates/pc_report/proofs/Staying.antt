@@ -16,7 +16,8 @@ use Rattle.pc_proto.specs.declared.request.Request.{Request}
 use Rattle.pc_proto.specs.declared.request.Request.TheVariants as requests
 use Rattle.pc_proto.specs.Intents.{own_at}
 use Rattle.pc_proto.specs.Place.{Place, Nothing, Kept, Marked}
-use Rattle.pc_proto.specs.RecordRows.{change, subject, table_for}
+use Rattle.pc_proto.specs.RecordRows.{place_change, table_for}
+use Rattle.pc_proto.specs.Requests.{subject}
 use Rattle.pc_proto.specs.Table.{Table, place_of}
 use Rattle.pc_report.proofs.Intents.{is_one, own_stays}
 use Rattle.pc_report.proofs.Naming.{asked_send}
@@ -57,7 +58,7 @@ pub record IsAs (id : TxnId) (s t : RangeState) : Type 0 where
 module _ (id : TxnId) where
   place-for : (one : Option TxnId) (request : Request) (t : Table) → is_one id one ≡ false → place_of id (table_for one request t) ≡ place_of id t
   place-for None request t h = refl
-  place-for (Some one) request t h = place_other one id (change request (place_of one t)) t h
+  place-for (Some one) request t h = place_other one id (place_change request (place_of one t)) t h
 
   subject-apart : (request : Request) → is_one id (touched request) ≡ false → is_one id (subject request) ≡ false
   subject-apart (requests.Put meta seq ts key value) h = refl

@@ -10,7 +10,7 @@ use Rattle.pc_base.specs.declared.entry.Entry.{Entry}
 use Rattle.pc_base.specs.declared.span.Span.{Span}
 use Rattle.pc_base.specs.declared.transaction.TxnId.{TxnId}
 use Rattle.pc_base.specs.Transaction.{same_txn, txn_cmp}
-use Rattle.pc_implicit.proofs.Keyed.{same-is}
+use Rattle.pc_lists.proofs.Same.{same_txn-is}
 use Rattle.pc_proto.specs.declared.answer.Answer.{Answer}
 use Rattle.pc_proto.specs.declared.answer.Answer.TheVariants as answers
 use Rattle.pc_proto.specs.declared.call.Call.{Call}
@@ -25,7 +25,7 @@ use Rattle.pc_report.proofs.ByTxn.{updated}
 use Rattle.pc_report.specs.Replaying.{held}
 use Rattle.pc_report.specs.ReportOf.{written_by}
 use Rattle.pc_report.specs.Rows.{map_with_put, said_by}
-use Rattle.pc_report.specs.Writing.{AreWritesOf, LastFollows, PutsFollow, doing_of, is_last_in, is_last_of, is_own, put_in, puts_after, puts_held, puts_of, puts_sent, puts_told, with_put}
+use Rattle.pc_report.specs.Writing.{AreWritesOf, LastFollows, PutsFollow, doing_of, is_last_in, is_last_of, is_of_session, put_in, puts_after, puts_held, puts_of, puts_sent, puts_told, with_new_put}
 use Rattle.pc_world.specs.MapRun.{Map, map_after}
 use Rattle.pc_world.specs.Operations.{Doing, Operation, Read, ReadAll, Write, doing_after, doing_nothing, done_after, done_sent, done_told, is_last_after, is_write}
 
@@ -45,7 +45,7 @@ sent-puts id (requests.Put meta seq ts key value) done = by (same_txn meta.id id
     put = record { seq = seq; key = key; value = value }
 
     by : (same any : Bool) → list_any (is_write seq) done ≡ any
-        → filter_map put_in (cond (same && not (list_any (is_write seq) done)) (done ++ Write key seq value ∷ []) done) ≡ cond same (with_put put (filter_map put_in done)) (filter_map put_in done)
+        → filter_map put_in (cond (same && not (list_any (is_write seq) done)) (done ++ Write key seq value ∷ []) done) ≡ cond same (with_new_put put (filter_map put_in done)) (filter_map put_in done)
     by true true is =
         let there : list_any (λ (p : Put). p.seq == seq) (filter_map put_in done) ≡ true = any-same seq done ∙ is in
         ap (λ b. filter_map put_in (cond (not b) (done ++ Write key seq value ∷ []) done)) is
@@ -85,13 +85,13 @@ after-puts id (events.Tell answer) d = by d.is_last
     by false = untold-puts answer (filter_map put_in d.done)
 after-puts id event d = refl
 
-doing-push : (history : List (Entry Event)) (e : Entry Event) (id : TxnId) → doing_of (history ++ e ∷ []) id ≡ cond (is_own id e.actor) (doing_after id (doing_of history id) e.event) (doing_of history id)
+doing-push : (history : List (Entry Event)) (e : Entry Event) (id : TxnId) → doing_of (history ++ e ∷ []) id ≡ cond (is_of_session id e.actor) (doing_after id (doing_of history id) e.event) (doing_of history id)
 doing-push history e id =
-    ap (λ es. fold (doing_after id) doing_nothing (map (λ (x : Entry Event). x.event) es)) (filter-append (λ (x : Entry Event). is_own id x.actor) history (e ∷ []))
-    ∙ by (is_own id e.actor)
+    ap (λ es. fold (doing_after id) doing_nothing (map (λ (x : Entry Event). x.event) es)) (filter-append (λ (x : Entry Event). is_of_session id x.actor) history (e ∷ []))
+    ∙ by (is_of_session id e.actor)
   where
     mine : List (Entry Event)
-    mine = filter (λ (x : Entry Event). is_own id x.actor) history
+    mine = filter (λ (x : Entry Event). is_of_session id x.actor) history
 
     by : (b : Bool) → fold (doing_after id) doing_nothing (map (λ (x : Entry Event). x.event) (mine ++ cond b (e ∷ []) [])) ≡ cond b (doing_after id (doing_of history id) e.event) (doing_of history id)
     by true =
@@ -102,8 +102,8 @@ doing-push history e id =
 -- one entry further
 pub written_next : (history : List (Entry Event)) (e : Entry Event) (old new : Writes) → AreWritesOf history old → PutsFollow old e new → LastFollows old e new → AreWritesOf (history ++ e ∷ []) new
 written_next history e old new was puts last = record {
-  puts = λ id. puts id ∙ by-puts id (is_own id e.actor) ∙ sym (ap (λ (d : Doing). filter_map put_in d.done) (doing-push history e id));
-  last = λ id. last id ∙ by-last id (is_own id e.actor) ∙ sym (ap (λ (d : Doing). d.is_last) (doing-push history e id));
+  puts = λ id. puts id ∙ by-puts id (is_of_session id e.actor) ∙ sym (ap (λ (d : Doing). filter_map put_in d.done) (doing-push history e id));
+  last = λ id. last id ∙ by-last id (is_of_session id e.actor) ∙ sym (ap (λ (d : Doing). d.is_last) (doing-push history e id));
 }
   where
     by-puts : (id : TxnId) (b : Bool) → cond b (puts_after id (is_last_in old id) e.event (puts_held old id)) (puts_held old id) ≡ filter_map put_in (cond b (doing_after id (doing_of history id) e.event) (doing_of history id)).done
@@ -151,7 +151,7 @@ restarted old new session one found mine h id = ap puts_of (updated old.puts new
 
     by : (b : Bool) → same_txn one id ≡ b → puts_of (cond b None (held old.puts id)) ≡ cond (id.session == session) (cond (is_last_in old id) [] (puts_held old id)) (puts_held old id)
     by true t =
-        let own : id.session ≡ session = ap (λ (x : TxnId). x.session) (sym (same-is one id t)) ∙ mine in
+        let own : id.session ≡ session = ap (λ (x : TxnId). x.session) (sym (same_txn-is one id t)) ∙ mine in
         sym (ap (λ b. cond b (cond (is_last_in old id) [] (puts_held old id)) (puts_held old id)) (numbers id.session session own)
         ∙ ap (λ b. cond b [] (puts_held old id)) (last own ∙ t))
     by false t = by-own t (id.session == session) refl

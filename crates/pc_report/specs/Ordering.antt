@@ -13,14 +13,14 @@ use Rattle.pc_proto.specs.declared.event.Event.{Event}
 use Rattle.pc_report.specs.declared.replay.Rank.{Rank}
 use Rattle.pc_report.specs.declared.replay.Replay.{Replay}
 use Rattle.pc_report.specs.declared.rows.Ending.{Ending}
-use Rattle.pc_report.specs.Replaying.{commit_in, ending_in, held}
+use Rattle.pc_report.specs.Replaying.{commit_kept, ending_in, held}
 use Rattle.pc_report.specs.ReportOf.{other_unless}
 use Rattle.pc_world.specs.CommitOrder.{all_begun}
 
 -- The list with one more entry in its place, if there is one more.
-abbrev pub with_entry : {K V : Type 0} → (K → K → Ordering) → Option (K × V) → List (K × V) → List (K × V)
-with_entry cmp None sorted = sorted
-with_entry cmp (Some e) sorted = insert_entry cmp sorted e.0 e.1
+abbrev pub with_entry_if : {K V : Type 0} → (K → K → Ordering) → Option (K × V) → List (K × V) → List (K × V)
+with_entry_if cmp None sorted = sorted
+with_entry_if cmp (Some e) sorted = insert_entry cmp sorted e.0 e.1
 
 -- What a begun transaction gives, if one was begun.
 abbrev pub given : {A : Type 0} → (TxnId → Option A) → Option TxnId → Option A
@@ -39,7 +39,7 @@ rank_from (Some ts) (Some point) = Some (record { ts = ts; point = point })
 
 -- The rank of a committed transaction, by what was kept.
 abbrev pub rank_in : List (List ℕ) → Replay → TxnId → Option Rank
-rank_in splits r id = rank_from (commit_in splits r id) (held r.points id)
+rank_in splits r id = rank_from (commit_kept splits r id) (held r.points id)
 
 -- A committed transaction with its rank.
 abbrev pub placed : List (List ℕ) → Replay → TxnId → Option (Rank × TxnId)
@@ -51,7 +51,7 @@ order_in splits r history = in_order place_cmp (filter_map (placed splits r) (al
 
 -- A transaction that is not committed, with its ending, by what was kept.
 abbrev pub other_in : List (List ℕ) → Replay → TxnId → Option (TxnId × Ending)
-other_in splits r id = other_unless (commit_in splits r id) id (ending_in splits r id)
+other_in splits r id = other_unless (commit_kept splits r id) id (ending_in splits r id)
 
 -- The transactions that are not committed, by what was kept.
 abbrev pub others_in : List (List ℕ) → Replay → List (Entry Event) → List (TxnId × Ending)

@@ -15,7 +15,7 @@ use Rattle.pc_proto.specs.declared.request.Request.{Request}
 use Rattle.pc_proto.specs.declared.request.Request.TheVariants as requests
 use Rattle.pc_proto.specs.declared.why.Why.{Why}
 use Rattle.pc_proto.specs.Place.{Place, Nothing, Kept, Marked}
-use Rattle.pc_proto.specs.RecordRows.{subject}
+use Rattle.pc_proto.specs.Requests.{subject}
 use Rattle.pc_proto.specs.Table.{place_of}
 use Rattle.pc_report.specs.declared.replay.Replay.{Replay}
 use Rattle.pc_report.specs.declared.rows.Ending.{Ending}
@@ -24,7 +24,7 @@ use Rattle.pc_report.specs.ReportOf.{ending_at, rolled_back, told_ending}
 use Rattle.pc_world.specs.After.{state_at}
 use Rattle.pc_world.specs.Committed.{anchor_in, commit_by, commit_ts, point_after, told_at}
 use Rattle.pc_world.specs.Evaluation.{state_after}
-use Rattle.pc_world.specs.Evaluation.Query.{stands}
+use Rattle.pc_world.specs.Evaluation.Query.{write_stands}
 use Rattle.pc_world.specs.Local.{Head}
 use Rattle.pc_world.specs.Named.{names, request_named}
 use Rattle.pc_world.specs.RangeOf.{range_of}
@@ -90,12 +90,12 @@ touched_in asked (events.Tell answer) = touched_by_answer answer
 touched_in asked _ = touched_by asked
 
 -- The range's state; a range that is not there has none.
-abbrev pub state_in : List RangeState → ℕ → RangeState
-state_in states range = unwrap_or (slice_get states range) no_state
+abbrev pub state_kept : List RangeState → ℕ → RangeState
+state_kept states range = unwrap_or (slice_get states range) no_state
 
 -- The states after a range has evaluated a request.
 abbrev pub after_eval : List RangeState → ℕ → Request → List RangeState
-after_eval states range request = slice_set states range (state_after request (state_in states range))
+after_eval states range request = slice_set states range (state_after request (state_kept states range))
 
 -- There is room for the request on the range, if it is there.
 abbrev pub HasRoomAt : List RangeState → ℕ → Request → Type 0
@@ -103,7 +103,7 @@ HasRoomAt states range request = (s : RangeState) → slice_get states range ≡
 
 -- A write is present, by these states.
 abbrev pub is_present_in : List (List ℕ) → List RangeState → TxnId → ℕ → ℕ → List ℕ × ℕ → Bool
-is_present_in splits states id epoch ts write = stands id epoch write.1 ts write.0 (state_in states (range_of splits write.0))
+is_present_in splits states id epoch ts write = write_stands id epoch write.1 ts write.0 (state_kept states (range_of splits write.0))
 
 -- The timestamp at which what a range has of a transaction commits it, by these states.
 abbrev pub commit_of_place : List (List ℕ) → List RangeState → TxnId → Place → Option ℕ
@@ -114,7 +114,7 @@ commit_of_place splits states id (Marked s) = commit_by s.standing s.ts false
 
 -- What the range of this key has of a transaction.
 abbrev pub place_in : List (List ℕ) → List RangeState → List ℕ → TxnId → Place
-place_in splits states anchor id = place_of id (state_in states (range_of splits anchor)).table
+place_in splits states anchor id = place_of id (state_kept states (range_of splits anchor)).table
 
 -- The timestamp at which a transaction of this anchor, told committed at this timestamp, is committed.
 abbrev pub commit_from : List (List ℕ) → List RangeState → TxnId → Option (List ℕ) → Option ℕ → Option ℕ
@@ -122,17 +122,17 @@ commit_from splits states id None told = told
 commit_from splits states id (Some anchor) told = commit_of_place splits states id (place_in splits states anchor id)
 
 -- The timestamp at which the transaction is committed, by what was kept.
-abbrev pub commit_in : List (List ℕ) → Replay → TxnId → Option ℕ
-commit_in splits r id = commit_from splits r.states.items id (held r.anchors id) (held r.told id)
+abbrev pub commit_kept : List (List ℕ) → Replay → TxnId → Option ℕ
+commit_kept splits r id = commit_from splits r.states.items id (held r.anchors id) (held r.told id)
 
 -- The ending of a transaction of this anchor.
-abbrev pub ending_from : List (List ℕ) → List RangeState → TxnId → Option (List ℕ) → Option Why → Ending
-ending_from splits states id None told = told_ending told endings.NoRecord
-ending_from splits states id (Some anchor) told = ending_at (place_in splits states anchor id) told
+abbrev pub ending_there : List (List ℕ) → List RangeState → TxnId → Option (List ℕ) → Option Why → Ending
+ending_there splits states id None told = told_ending told endings.NoRecord
+ending_there splits states id (Some anchor) told = ending_at (place_in splits states anchor id) told
 
 -- The ending of a transaction that is not committed, by what was kept.
 abbrev pub ending_in : List (List ℕ) → Replay → TxnId → Ending
-ending_in splits r id = ending_from splits r.states.items id (held r.anchors id) (held r.rolled_back id)
+ending_in splits r id = ending_there splits r.states.items id (held r.anchors id) (held r.rolled_back id)
 
 -- States of ranges on which nothing has happened, one more than there are splits.
 pub record AreBlank (splits : ℕ) (states : List RangeState) : Type 0 where
@@ -187,4 +187,4 @@ point_for (Some one) length id = only_for one length id
 -- The points after an event that may commit this transaction.
 abbrev pub PointsFollow : List (List ℕ) → Option TxnId → ℕ → Replay → Replay → Type 0
 PointsFollow splits touched length old new =
-    (id : TxnId) → held new.points id ≡ first_of (held old.points id) (point_for (committed_one (commit_in splits new) touched) length id)
+    (id : TxnId) → held new.points id ≡ first_of (held old.points id) (point_for (committed_one (commit_kept splits new) touched) length id)

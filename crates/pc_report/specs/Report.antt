@@ -14,12 +14,12 @@ use Rattle.pc_report.specs.declared.rows.OtherRow.{OtherRow}
 use Rattle.pc_report.specs.declared.rows.Report.{Report}
 
 -- A transaction's last write of a key, `a=x`, or its deletion, `a-`.
-abbrev pub write_text : (List ℕ × Option (List ℕ)) → List ℕ
-write_text write = key_text write.0 ++ or_dash value_text write.1
+abbrev pub last_write_text : (List ℕ × Option (List ℕ)) → List ℕ
+last_write_text write = key_text write.0 ++ or_dash value_text write.1
 
 -- A committed transaction, its timestamp and its writes: `committed 1.1 10.0 a=x,b-`.
 abbrev pub committed_text : CommittedRow → List ℕ
-committed_text row = codes "committed" · id_text row.id · ts_text row.ts · listed write_text row.writes
+committed_text row = codes "committed" · id_text row.id · ts_text row.ts · listed last_write_text row.writes
 
 -- A transaction that was aborted, and why, or one that is open, by its record: `aborted 1.1 client`, `open 1.1 none`.
 abbrev pub ending_text : List ℕ → Ending → List ℕ

@@ -20,8 +20,8 @@ abbrev pub last_puts : List Put → List (List ℕ × Option (List ℕ))
 last_puts puts = in_order (slice_cmp nat_cmp) (map said_by puts)
 
 -- A committed transaction's row.
-abbrev pub row_of : Writes → Rank × TxnId → CommittedRow
-row_of writes committed =
+abbrev pub commit_row : Writes → Rank × TxnId → CommittedRow
+commit_row writes committed =
     record { id = committed.1; ts = committed.0.ts; writes = last_puts (puts_held writes committed.1) }
 
 -- The map after a put.

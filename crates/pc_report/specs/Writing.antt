@@ -38,13 +38,13 @@ abbrev pub is_last_in : Writes → TxnId → Bool
 is_last_in w id = is_last_of id (get nat_cmp w.last id.session)
 
 -- The puts with one more, where its sequence is new.
-abbrev pub with_put : Put → List Put → List Put
-with_put put puts = if list_any (λ p. p.seq == put.seq) puts then puts else puts ++ put ∷ []
+abbrev pub with_new_put : Put → List Put → List Put
+with_new_put put puts = if list_any (λ p. p.seq == put.seq) puts then puts else puts ++ put ∷ []
 
 -- The transaction's puts after a request of its session.
 abbrev pub puts_sent : TxnId → Request → List Put → List Put
 puts_sent id (requests.Put meta seq ts key value) puts =
-    if same_txn meta.id id then with_put (record { seq = seq; key = key; value = value }) puts else puts
+    if same_txn meta.id id then with_new_put (record { seq = seq; key = key; value = value }) puts else puts
 puts_sent id _ puts = puts
 
 -- The transaction's puts after an answer to its session: a restart of the last transaction begins anew.
@@ -59,27 +59,27 @@ puts_after id last (events.Tell answer) puts = puts_told last answer puts
 puts_after id last _ puts = puts
 
 -- The event is one of the transaction's session.
-abbrev pub is_own : TxnId → ActorId → Bool
-is_own id actor = same_id (actors.Session id.session) actor
+abbrev pub is_of_session : TxnId → ActorId → Bool
+is_of_session id actor = same_id (actors.Session id.session) actor
 
 -- What was kept of each transaction's puts after an entry.
 abbrev pub PutsFollow : Writes → Entry Event → Writes → Type 0
 PutsFollow old e new =
-    (id : TxnId) → puts_held new id ≡ if is_own id e.actor then puts_after id (is_last_in old id) e.event (puts_held old id) else puts_held old id
+    (id : TxnId) → puts_held new id ≡ if is_of_session id e.actor then puts_after id (is_last_in old id) e.event (puts_held old id) else puts_held old id
 
 -- Which transactions are the last of their sessions after an entry.
 abbrev pub LastFollows : Writes → Entry Event → Writes → Type 0
 LastFollows old e new =
-    (id : TxnId) → is_last_in new id ≡ if is_own id e.actor then is_last_after id e.event (is_last_in old id) else is_last_in old id
+    (id : TxnId) → is_last_in new id ≡ if is_of_session id e.actor then is_last_after id e.event (is_last_in old id) else is_last_in old id
 
 -- What was kept of the puts of a session's transactions changed so, and no others.
-abbrev pub PutsOf : ℕ → (TxnId → List Put → List Put) → Writes → Writes → Type 0
-PutsOf session change old new =
+abbrev pub PutsChange : ℕ → (TxnId → List Put → List Put) → Writes → Writes → Type 0
+PutsChange session change old new =
     (id : TxnId) → puts_held new id ≡ if id.session == session then change id (puts_held old id) else puts_held old id
 
 -- Which transaction is the last of a session after an answer to it.
-abbrev pub LastOf : ℕ → Answer → Writes → Writes → Type 0
-LastOf session answer old new =
+abbrev pub LastChanges : ℕ → Answer → Writes → Writes → Type 0
+LastChanges session answer old new =
     (id : TxnId) → is_last_in new id ≡ if id.session == session then is_last_told id answer (is_last_in old id) else is_last_in old id
 
 -- How far a transaction is after a history.

@@ -4,7 +4,7 @@ ghost use Rattle.std.specs.Ordering.{nat_cmp};
 ghost use Rattle.pc_base.specs.Keyed.{in_order};
 ghost use Rattle.pc_report.specs.Ordering.{given, order_in, other_in, others_in, placed};
 ghost use Rattle.pc_report.specs.ReportOf.{IsRunOver, other_row, report_of};
-ghost use Rattle.pc_report.specs.Rows.{last_puts, map_with_put, map_with_puts, row_of};
+ghost use Rattle.pc_report.specs.Rows.{commit_row, last_puts, map_with_put, map_with_puts};
 ghost use Rattle.pc_world.specs.CommitOrder.{begun_in};
 ghost use Rattle.pc_world.specs.Local.{Head};
 
@@ -80,7 +80,7 @@ fn committed_rows(
     order: &[(Rank, TxnId)],
     writes: &Writes,
 ) -> Result<CommittedRows, NoMemory>
-    ensures { IfOk result (λ rows. rows ≡ map (row_of writes.now) order.now) }
+    ensures { IfOk result (λ rows. rows ≡ map (commit_row writes.now) order.now) }
 {
     let mut rows = Items::new(alloc);
     for (rank, id) in order {

@@ -2,7 +2,7 @@ ghost use Rattle.std.specs.Prelude.{◌≡◌, ℕ, List, [], ◌∷◌, ◌++�
 ghost use Rattle.std.specs.List.{flat_map};
 ghost use Rattle.pc_journal.specs.Lists.{listed};
 ghost use Rattle.pc_journal.specs.Side.{◌·◌, ◌⏎◌};
-ghost use Rattle.pc_report.specs.Report.{committed_text, map_text, other_text, report_text, rows_text, write_text};
+ghost use Rattle.pc_report.specs.Report.{committed_text, last_write_text, map_text, other_text, report_text, rows_text};
 
 use crate::rows::{CommittedRow, Ending, MapRow, OtherRow, Report};
 use pc_base::{Items, Key, NoMemory, Value};
@@ -111,7 +111,7 @@ impl Row for CommittedRow {
 }
 
 fn print_writes(writes: &[(Key, Option<Value>)], out: &mut Vec<u8>) -> Result<(), NoMemory>
-    ensures { OnOk result (out.new.items ≡ out.old.items ++ listed write_text writes.now) }
+    ensures { OnOk result (out.new.items ≡ out.old.items ++ listed last_write_text writes.now) }
 {
     match writes.split_first() {
         None => word(b"-", out),
@@ -123,7 +123,7 @@ fn print_writes(writes: &[(Key, Option<Value>)], out: &mut Vec<u8>) -> Result<()
 }
 
 fn print_more_writes(writes: &[(Key, Option<Value>)], out: &mut Vec<u8>) -> Result<(), NoMemory>
-    ensures { OnOk result (out.new.items ≡ out.old.items ++ flat_map (λ write. 44 ∷ write_text write) writes.now) }
+    ensures { OnOk result (out.new.items ≡ out.old.items ++ flat_map (λ write. 44 ∷ last_write_text write) writes.now) }
 {
     for write in writes {
         out.push(b',')?;
@@ -133,7 +133,7 @@ fn print_more_writes(writes: &[(Key, Option<Value>)], out: &mut Vec<u8>) -> Resu
 }
 
 fn print_write(write: &(Key, Option<Value>), out: &mut Vec<u8>) -> Result<(), NoMemory>
-    ensures { OnOk result (out.new.items ≡ out.old.items ++ write_text write.now) }
+    ensures { OnOk result (out.new.items ≡ out.old.items ++ last_write_text write.now) }
 {
     write.0.print(out)?;
     write.1.print(out)

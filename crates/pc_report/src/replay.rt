@@ -7,7 +7,7 @@ ghost use Rattle.pc_history.specs.Own.{same_id};
 ghost use Rattle.pc_proto.specs.Table.{place_of};
 ghost use Rattle.pc_report.specs.Ordering.{rank_in};
 ghost use Rattle.pc_report.specs.ReportOf.{IsRunOver, ending_at, ending_by, rolled_back_in, told_ending};
-ghost use Rattle.pc_report.specs.Replaying.{AreBlank, HasRoomAt, HasRoomFor, IsReplayOf, IsSomeRun, Notes, after_eval, states_after, asked_in, commit_in, commit_of_place, committed_one, ending_in, is_present_in, touched, touched_by_send, touched_in};
+ghost use Rattle.pc_report.specs.Replaying.{AreBlank, HasRoomAt, HasRoomFor, IsReplayOf, IsSomeRun, Notes, after_eval, commit_kept, states_after, asked_in, commit_of_place, committed_one, ending_in, is_present_in, touched, touched_by_send, touched_in};
 ghost use Rattle.pc_world.specs.Committed.{commit_by, committed_in, key_sent};
 ghost use Rattle.pc_world.specs.Named.{is_send_of, request_in};
 ghost use Rattle.pc_world.specs.RangeOf.{range_of};
@@ -103,7 +103,7 @@ impl Replay {
     /// This transaction, if it is committed.
     fn committed_of(&self, splits: &Keys, touched: Option<TxnId>) -> Option<TxnId>
         requires { length splits.now + 1 < 2 ^ 32 }
-        ensures { result ≡ committed_one (commit_in splits.now self.now) touched }
+        ensures { result ≡ committed_one (commit_kept splits.now self.now) touched }
     {
         let id = touched?;
         self.commit(splits, id).map(|_ts| id)
@@ -112,7 +112,7 @@ impl Replay {
     /// The timestamp at which the transaction is committed, if it is.
     pub fn commit(&self, splits: &Keys, id: TxnId) -> Option<Timestamp>
         requires { length splits.now + 1 < 2 ^ 32 }
-        ensures { result ≡ commit_in splits.now self.now id }
+        ensures { result ≡ commit_kept splits.now self.now id }
     {
         match self.anchors.get(&id) {
             None => self.told.get(&id).copied(),

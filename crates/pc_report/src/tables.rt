@@ -1,5 +1,5 @@
 ghost use Rattle.std.specs.Prelude.{◌≡◌, OnOk};
-ghost use Rattle.pc_report.specs.Ordering.{with_entry};
+ghost use Rattle.pc_report.specs.Ordering.{with_entry_if};
 ghost use Rattle.pc_report.specs.Replaying.{first_of, held, only_for};
 
 use pc_base::{NoMemory, TxnId};
@@ -24,7 +24,7 @@ pub(crate) fn insert<K: Ord + Drop, V: Drop>(
     map: &mut BTreeMap<K, V>,
     entry: Option<(K, V)>,
 ) -> Result<(), NoMemory>
-    ensures { OnOk result (map.new.entries ≡ with_entry K.cmp entry map.old.entries) }
+    ensures { OnOk result (map.new.entries ≡ with_entry_if K.cmp entry map.old.entries) }
 {
     if let Some((key, value)) = entry {
         map.insert(key, value)?;

@@ -4,7 +4,7 @@ ghost use Rattle.std.specs.Prelude.{◌≡◌, ◌==◌, [], IfOk, OnOk, if◌th
 ghost use Rattle.std.specs.List.{list_any};
 ghost use Rattle.pc_base.specs.Transaction.{same_txn};
 ghost use Rattle.pc_report.specs.Replaying.{held};
-ghost use Rattle.pc_report.specs.Writing.{AreWritesOf, LastFollows, LastOf, PutsFollow, PutsOf, is_last_in, puts_held, puts_of, puts_sent, puts_told, with_put};
+ghost use Rattle.pc_report.specs.Writing.{AreWritesOf, LastChanges, LastFollows, PutsChange, PutsFollow, is_last_in, puts_held, puts_of, puts_sent, puts_told, with_new_put};
 
 use pc_base::{ActorId, Entry, Items, Key, NoMemory, TryCopy, TxnId, Value};
 use pc_proto::{Answer, Event, Request};
@@ -70,7 +70,7 @@ impl Writes {
     }
 
     fn sent(&mut self, alloc: Global, session: u32, request: &Request) -> Result<(), NoMemory>
-        ensures puts { OnOk result (PutsOf session (λ id. puts_sent id request.now) self.old self.new) }
+        ensures puts { OnOk result (PutsChange session (λ id. puts_sent id request.now) self.old self.new) }
         ensures last { OnOk result (self.new.last ≡ self.old.last) }
     {
         if let Request::Put {
@@ -93,8 +93,8 @@ impl Writes {
     }
 
     fn told(&mut self, session: u32, answer: &Answer) -> Result<(), NoMemory>
-        ensures puts { OnOk result (PutsOf session (λ id. puts_told (is_last_in self.old id) answer.now) self.old self.new) }
-        ensures last { OnOk result (LastOf session answer.now self.old self.new) }
+        ensures puts { OnOk result (PutsChange session (λ id. puts_told (is_last_in self.old id) answer.now) self.old self.new) }
+        ensures last { OnOk result (LastChanges session answer.now self.old self.new) }
     {
         match answer {
             Answer::Begun { id, .. } => {
@@ -108,7 +108,7 @@ impl Writes {
 
     /// The last transaction of the session begins anew.
     fn restarted(&mut self, session: u32)
-        ensures puts { PutsOf session (λ id puts. if is_last_in self.old id then [] else puts) self.old self.new }
+        ensures puts { PutsChange session (λ id puts. if is_last_in self.old id then [] else puts) self.old self.new }
         ensures last { self.new.last ≡ self.old.last }
     {
         if let Some(id) = self.last.get(&session).copied()
@@ -126,7 +126,7 @@ fn add(
     id: TxnId,
     put: Put,
 ) -> Result<(), NoMemory>
-    ensures { OnOk result ((other : TxnId) → puts_of (held table.new other) ≡ if same_txn id other then with_put put (puts_of (held table.old other)) else puts_of (held table.old other)) }
+    ensures { OnOk result ((other : TxnId) → puts_of (held table.new other) ≡ if same_txn id other then with_new_put put (puts_of (held table.old other)) else puts_of (held table.old other)) }
 {
     let mut puts = match table.remove(&id) {
         Some(puts) => puts,

@@ -4,14 +4,15 @@ use Rattle.std.specs.Option.{option_and_then}
 use Rattle.std.proofs.lemmas.List.Elements.{All-head, All-map, All-tail, All-weaker}
 use Rattle.pc_base.specs.declared.transaction.TxnId.{TxnId}
 use Rattle.pc_base.specs.Transaction.{same_txn}
-use Rattle.pc_history.proofs.Lists.{contains_map}
 use Rattle.pc_history.specs.declared.pair.Pair.{Pair}
+use Rattle.pc_lists.proofs.Lists.{contains_map}
 use Rattle.pc_proto.specs.declared.event.Event.{Event}
 use Rattle.pc_proto.specs.declared.event.Event.TheVariants as events
 use Rattle.pc_proto.specs.declared.request.Request.{Request}
 use Rattle.pc_proto.specs.declared.request.Request.TheVariants as requests
+use Rattle.pc_proto.specs.Requests.{is_put_by, subject_anchor}
 use Rattle.pc_proto.specs.Stamps.{fate_stamps}
-use Rattle.pc_resolve.specs.ResolveKnows.{AreWithoutPuts, IsLaterWithoutPuts, is_put_by, sends_put_by}
+use Rattle.pc_resolve.specs.ResolveKnows.{AreWithoutPuts, IsLaterWithoutPuts, sends_put_by}
 use Rattle.pc_resolve.specs.Resolving.{Resolving}
 use Rattle.pc_world.proofs.Exchange.{ever_later, has_more, top_later}
 use Rattle.pc_world.specs.Exchange.{is_message, known_from}
@@ -20,7 +21,7 @@ use Rattle.pc_world.specs.Known.Clock.{high_after, top_after}
 use Rattle.pc_world.specs.Known.Traffic.{Heard, heard_by}
 use Rattle.pc_world.specs.Known.Transactions.{locks_sent, txn_heard, txn_sent, with_lock}
 use Rattle.pc_world.specs.Send.Settling.{MayFinish, MustSettle, ShowsFate, ShowsFinal}
-use Rattle.pc_world.specs.Views.{anchor_heard, anchor_in, shows_view}
+use Rattle.pc_world.specs.Views.{anchor_heard, shows_view}
 
 locks_same : (id other : TxnId) (request : Request) (locks : List (List ℕ)) → other ≡ id → is_put_by id request ≡ false → locks_sent other request locks ≡ locks
 locks_same id other (requests.Put meta seq ts key value) locks same none =
@@ -53,8 +54,8 @@ module _ (id : TxnId) (shown locks : List (List ℕ)) where
 -- What is found by a search is found in front of more.
 module _ (anchor : List ℕ) where
   anchor_when : (b : Bool) (x : Heard) (one two : Option Heard)
-      → (option_and_then (λ h. anchor_in h.request) one ≡ Some anchor → option_and_then (λ h. anchor_in h.request) two ≡ Some anchor)
-      → option_and_then (λ h. anchor_in h.request) (cond b (Some x) one) ≡ Some anchor → option_and_then (λ h. anchor_in h.request) (cond b (Some x) two) ≡ Some anchor
+      → (option_and_then (λ h. subject_anchor h.request) one ≡ Some anchor → option_and_then (λ h. subject_anchor h.request) two ≡ Some anchor)
+      → option_and_then (λ h. subject_anchor h.request) (cond b (Some x) one) ≡ Some anchor → option_and_then (λ h. subject_anchor h.request) (cond b (Some x) two) ≡ Some anchor
   anchor_when true x one two on h = h
   anchor_when false x one two on h = on h
 

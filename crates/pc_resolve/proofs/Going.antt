@@ -3,7 +3,7 @@ use Rattle.std.proofs.Common.{◌≡◌, ℕ, false, List, take, sym, subst}
 use Rattle.std.proofs.lemmas.List.Elements.{All-append, All-nil, All-weaker}
 use Rattle.pc_proto.specs.declared.reply.Reply.TheVariants as replies
 use Rattle.pc_resolve.specs.ResolveKnows.{AreSettled, IsLaterWithoutPuts, IsRemoved, ResolveKnows, sends_put_by}
-use Rattle.pc_resolve.specs.Resolving.{Resolving, remove_of, resolve_of}
+use Rattle.pc_resolve.specs.Resolving.{Resolving, lock_resolve, remove_of}
 use Rattle.pc_world.proofs.Exchange.{heard_later, later-itself, later-later}
 use Rattle.pc_world.specs.Exchange.{HeardSince, IsLater}
 use Rattle.pc_world.specs.Known.{Known}
@@ -11,8 +11,8 @@ use Rattle.pc_world.specs.Send.Settling.{MayFinish}
 
 pub settled_later : (start k later : Known) (m : Resolving) (locks : List (List ℕ)) → IsLater k later → AreSettled start k m locks → AreSettled start later m locks
 settled_later start k later m locks is settled =
-    All-weaker (λ key. HeardSince start k (resolve_of m key) replies.Resolved) (λ key. HeardSince start later (resolve_of m key) replies.Resolved)
-    (λ key heard. heard_later start k later (resolve_of m key) replies.Resolved heard is) locks settled
+    All-weaker (λ key. HeardSince start k (lock_resolve m key) replies.Resolved) (λ key. HeardSince start later (lock_resolve m key) replies.Resolved)
+    (λ key heard. heard_later start k later (lock_resolve m key) replies.Resolved heard is) locks settled
 
 pub removed_later : (start k later : Known) (m : Resolving) → IsLater k later → IsRemoved start k m → IsRemoved start later m
 removed_later start k later m is removed = record {
@@ -43,6 +43,6 @@ new_knows k m settled removed may = record {
   since = record { later = later-itself k; unwritten = All-nil (λ p. sends_put_by m.id p.entry.event ≡ false) };
   settled =
       subst (λ n. AreSettled k k m (take n m.locks)) (sym settled)
-      (All-nil (λ key. HeardSince k k (resolve_of m key) replies.Resolved));
+      (All-nil (λ key. HeardSince k k (lock_resolve m key) replies.Resolved));
   removed = λ over. absurd cc;
 }

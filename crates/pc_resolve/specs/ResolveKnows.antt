@@ -11,7 +11,7 @@ use Rattle.pc_proto.specs.declared.reply.Reply.{Reply}
 use Rattle.pc_proto.specs.declared.reply.Reply.TheVariants as replies
 use Rattle.pc_proto.specs.declared.request.Request.{Request}
 use Rattle.pc_proto.specs.declared.request.Request.TheVariants as requests
-use Rattle.pc_resolve.specs.Resolving.{Resolving, remove_of, resolve_of}
+use Rattle.pc_resolve.specs.Resolving.{Resolving, lock_resolve, remove_of}
 use Rattle.pc_world.specs.declared.machine.MachineNext.{MachineNext}
 use Rattle.pc_world.specs.declared.machine.MachineNext.TheVariants as nexts
 use Rattle.pc_world.specs.Exchange.{HeardSince, IsAllowed, IsLater, WasAnswered}
@@ -39,7 +39,7 @@ pub record IsLaterWithoutPuts (id : TxnId) (since now : Known) : Type 0 where
 
 -- The locks that were settled: to each of their requests Resolved was heard.
 abbrev pub AreSettled : Known → Known → Resolving → List (List ℕ) → Type 0
-AreSettled start k m locks = All (λ key. HeardSince start k (resolve_of m key) replies.Resolved) locks
+AreSettled start k m locks = All (λ key. HeardSince start k (lock_resolve m key) replies.Resolved) locks
 
 -- Every lock was settled, and a reply to the removal was heard.
 pub record IsRemoved (start k : Known) (m : Resolving) : Type 0 where
@@ -55,12 +55,12 @@ pub record ResolveKnows (start k : Known) (m : Resolving) : Type 0 where
   pub removed : m.removed ≡ true → IsRemoved start k m
 
 -- What comes next is allowed: a request may be sent, and the end comes only after a reply to the removal.
-abbrev pub MayCome : List (List ℕ) → ActorId → Known → Known → Resolving → MachineNext → Type 0
-MayCome splits actor start k m (nexts.Send request) = IsAllowed splits actor k request
-MayCome splits actor start k m nexts.Finished = IsRemoved start k m
-MayCome splits actor start k m (nexts.Settled view) = ⊥
-MayCome splits actor start k m (nexts.Changed view) = ⊥
-MayCome splits actor start k m (nexts.Refused id) = ⊥
+abbrev pub FinishingMayCome : List (List ℕ) → ActorId → Known → Known → Resolving → MachineNext → Type 0
+FinishingMayCome splits actor start k m (nexts.Send request) = IsAllowed splits actor k request
+FinishingMayCome splits actor start k m nexts.Finished = IsRemoved start k m
+FinishingMayCome splits actor start k m (nexts.Settled view) = ⊥
+FinishingMayCome splits actor start k m (nexts.Changed view) = ⊥
+FinishingMayCome splits actor start k m (nexts.Refused id) = ⊥
 
 -- The actor sent this request, and has just heard this reply to it; meanwhile it sent no put of the transaction.
 pub record WasAnsweredToIt (k later : Known) (request : Request) (reply : Reply) (m : Resolving) : Type 0 where

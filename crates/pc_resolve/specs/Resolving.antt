@@ -24,8 +24,8 @@ abbrev pub unsettled : Resolving → Option (List ℕ)
 unsettled m = slice_get m.locks m.settled
 
 -- The request that settles the lock of this key.
-abbrev pub resolve_of : Resolving → List ℕ → Request
-resolve_of m key = requests.Resolve m.id key m.fate
+abbrev pub lock_resolve : Resolving → List ℕ → Request
+lock_resolve m key = requests.Resolve m.id key m.fate
 
 -- The request that removes the record.
 abbrev pub remove_of : Resolving → Request
@@ -36,23 +36,23 @@ abbrev pub at_end : Bool → Resolving → MachineNext
 at_end true m = nexts.Finished
 at_end false m = nexts.Send (remove_of m)
 
-abbrev pub due_at : Option (List ℕ) → Resolving → MachineNext
-due_at (Some key) m = nexts.Send (resolve_of m key)
-due_at None m = at_end m.removed m
+abbrev pub finishing_due : Option (List ℕ) → Resolving → MachineNext
+finishing_due (Some key) m = nexts.Send (lock_resolve m key)
+finishing_due None m = at_end m.removed m
 
 -- What is due: the locks are settled one after another, then the record is removed.
-abbrev pub next_of : Resolving → MachineNext
-next_of m = due_at (unsettled m) m
+abbrev pub finishing_next : Resolving → MachineNext
+finishing_next m = finishing_due (unsettled m) m
 
 -- A lock is settled where the reply says so.
 abbrev pub with_reply : Reply → Resolving → Resolving
 with_reply replies.Resolved m = record m { settled = m.settled + 1 }
 with_reply _ m = m
 
-abbrev pub heard_at : Option (List ℕ) → Reply → Resolving → Resolving
-heard_at (Some key) reply m = with_reply reply m
-heard_at None reply m = record m { removed = true }
+abbrev pub finishing_heard : Option (List ℕ) → Reply → Resolving → Resolving
+finishing_heard (Some key) reply m = with_reply reply m
+finishing_heard None reply m = record m { removed = true }
 
 -- After the reply to the request that was due.
-abbrev pub after_reply : Reply → Resolving → Resolving
-after_reply reply m = heard_at (unsettled m) reply m
+abbrev pub finishing_after : Reply → Resolving → Resolving
+finishing_after reply m = finishing_heard (unsettled m) reply m

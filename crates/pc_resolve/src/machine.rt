@@ -1,8 +1,8 @@
 ghost use Rattle.std.specs.Prelude.{◌≡◌, ℕ, Ok, false, IfOk, List};
 ghost use Rattle.pc_base.specs.declared.actor.ActorId.{ActorId};
 ghost use Rattle.pc_proto.specs.declared.request.Request.{Request};
-ghost use Rattle.pc_resolve.specs.Resolving.{after_reply, next_of};
-ghost use Rattle.pc_resolve.specs.ResolveKnows.{MayCome, ResolveKnows, WasAnsweredToIt};
+ghost use Rattle.pc_resolve.specs.Resolving.{finishing_after, finishing_next};
+ghost use Rattle.pc_resolve.specs.ResolveKnows.{FinishingMayCome, ResolveKnows, WasAnsweredToIt};
 ghost use Rattle.pc_world.specs.declared.machine.MachineNext.TheVariants as nexts;
 ghost use Rattle.pc_world.specs.Known.{Known};
 ghost use Rattle.pc_world.specs.Send.Settling.{MayFinish};
@@ -51,14 +51,14 @@ impl ResolveMachine {
 
     /// What is due.
     pub fn next(&self) -> Result<MachineNext, NoMemory>
-        ensures due { IfOk result (λ next. next ≡ next_of self.now) }
-        ensures may { (splits : List (List ℕ)) (actor : ActorId) (start k : Known) → ResolveKnows start k self.now → IfOk result (MayCome splits actor start k self.now) }
+        ensures due { IfOk result (λ next. next ≡ finishing_next self.now) }
+        ensures may { (splits : List (List ℕ)) (actor : ActorId) (start k : Known) → ResolveKnows start k self.now → IfOk result (FinishingMayCome splits actor start k self.now) }
     {
         self.next_due()
     }
 
     fn next_due(&self) -> Result<MachineNext, NoMemory>
-        ensures { IfOk result (λ next. next ≡ next_of self.now) }
+        ensures { IfOk result (λ next. next ≡ finishing_next self.now) }
     {
         match self.locks.get(self.settled) {
             Some(key) => Ok(MachineNext::Send(Request::Resolve {
@@ -77,15 +77,15 @@ impl ResolveMachine {
     /// This reply to the request that `next` gave was heard.
     pub fn heard(&mut self, reply: &Reply) -> Result<(), NoMemory>
         ensures ok { result ≡ Ok tt }
-        ensures made { self.new ≡ after_reply reply.now self.old }
-        ensures knows { (start k later : Known) (request : Request) → ResolveKnows start k self.old → next_of self.old ≡ nexts.Send request → WasAnsweredToIt k later request reply.now self.old → ResolveKnows start later self.new }
+        ensures made { self.new ≡ finishing_after reply.now self.old }
+        ensures knows { (start k later : Known) (request : Request) → ResolveKnows start k self.old → finishing_next self.old ≡ nexts.Send request → WasAnsweredToIt k later request reply.now self.old → ResolveKnows start later self.new }
     {
         self.hear(reply);
         Ok(())
     }
 
     fn hear(&mut self, reply: &Reply)
-        ensures { self.new ≡ after_reply reply.now self.old }
+        ensures { self.new ≡ finishing_after reply.now self.old }
     {
         if self.settled >= self.locks.len() {
             self.removed = true;

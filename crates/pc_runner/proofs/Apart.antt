@@ -16,7 +16,7 @@ use Rattle.pc_runner.proofs.Keeps.{keeps_same}
 use Rattle.pc_runner.specs.declared.session.SessionRun.{SessionRun}
 use Rattle.pc_runner.specs.Following.{HasJobs, IsFollowing, StandsBy}
 use Rattle.pc_runner.specs.Follows.Script.{Position}
-use Rattle.pc_runner.specs.History.{History, IsSound, known_by, own_by}
+use Rattle.pc_runner.specs.History.{History, IsSoundHistory, known_by, own_by}
 use Rattle.pc_runner.specs.Keeping.{KeepsSoFar}
 use Rattle.pc_runner.specs.Parts.{GoesOnBy}
 use Rattle.pc_runner.specs.Traffic.{HasHeard}
@@ -28,7 +28,7 @@ module _ (number mine : ℕ) (h g : History) (part : List (Entry Event)) (goes :
   known_is : known_by mine g ≡ known_by mine h
   known_is = known_beside number mine h g part goes differ
 
-  stands_apart : (c : Coordination) (sends : ℕ) → IsSound g → StandsBy mine c sends h → StandsBy mine c sends g
+  stands_apart : (c : Coordination) (sends : ℕ) → IsSoundHistory g → StandsBy mine c sends h → StandsBy mine c sends g
   stands_apart c sends sound f = record {
     sound = sound;
     there = actor_there number mine h g part goes (actors.Session mine) f.there;
@@ -44,7 +44,7 @@ module _ (number mine : ℕ) (h g : History) (part : List (Entry Event)) (goes :
       keeps_same work mine session at clock jobs h g own_is (omega arith) f
 
 -- a session follows its work after a part of another session
-pub following_apart : (r : SessionRun) (number : ℕ) (h g : History) (part : List (Entry Event)) → r.number ≢ number → GoesOnBy number h g part → IsSound g → IsFollowing r h → IsFollowing r g
+pub following_apart : (r : SessionRun) (number : ℕ) (h g : History) (part : List (Entry Event)) → r.number ≢ number → GoesOnBy number h g part → IsSoundHistory g → IsFollowing r h → IsFollowing r g
 following_apart r number h g part differ goes sound f =
     let known = known_is number r.number h g part goes differ in
     let evaluated = evaluated_beside number r.number h g part goes differ in

@@ -2,10 +2,11 @@
 use Rattle.std.proofs.Common.{◌≡◌, ℕ, ◌+◌, false, List, [], length, map, Some, None, IsTrue, refl, sym, ap, subst, ◌∙◌, arith}
 use Rattle.std.proofs.Math.Nat.{add-zero}
 use Rattle.std.proofs.lemmas.List.Elements.{All-nil}
+use Rattle.pc_base.specs.Counts.{saturating_next}
 use Rattle.pc_base.specs.declared.actor.ActorId.TheVariants as actors
 use Rattle.pc_coord.proofs.Resting.{rests}
 use Rattle.pc_coord.proofs.Steps.{asked}
-use Rattle.pc_coord.specs.Coordination.{Coordination, waits_for}
+use Rattle.pc_coord.specs.Coordination.{Coordination, awaits_number}
 use Rattle.pc_coord.specs.declared.due.Due.TheVariants as dues
 use Rattle.pc_coord.specs.declared.job.Job.{Job}
 use Rattle.pc_coord.specs.Events.{IsAsked}
@@ -13,7 +14,6 @@ use Rattle.pc_coord.specs.Knows.{Knows, KnowsAt, messages_of_job}
 use Rattle.pc_history.specs.declared.pair.Pair.{Pair}
 use Rattle.pc_proto.specs.declared.call.Call.{Call}
 use Rattle.pc_proto.specs.declared.event.Event.TheVariants as events
-use Rattle.pc_session.specs.Counts.{raised}
 use Rattle.pc_session.specs.Stepped.{SteppedState, stepped_rule}
 use Rattle.pc_work.specs.declared.session.SessionWork.{SessionWork}
 use Rattle.pc_work.specs.declared.workload.Workload.{Workload}
@@ -34,7 +34,7 @@ use Rattle.pc_runner.specs.Follows.Script.{Position, next_call}
 use Rattle.pc_runner.specs.History.{History, known_by}
 use Rattle.pc_runner.specs.Journal.{HasGrown}
 use Rattle.pc_runner.specs.Keeping.{AreDelivered, KeepsSoFar, open_calls}
-use Rattle.pc_runner.specs.Suiting.{Fits}
+use Rattle.pc_runner.specs.Suiting.{FitsCalls}
 use Rattle.pc_runner.specs.Traffic.{HasHeard}
 
 -- Between its calls, the session by the parts of its runner.
@@ -46,7 +46,7 @@ pub record Rests (work : Workload) (number : ℕ) (session : SessionWork) (at : 
   pub delivered : AreDelivered number sends h
   pub idle : c.due ≡ dues.Nothing
   pub handed : c.job ≡ None
-  pub fits : Fits at c.txn
+  pub fits : FitsCalls at c.txn
 
 pub rests_of : (r : SessionRun) (h : History) → IsFollowing r h → Rests r.work.now r.number r.session.now r.script r.clock r.jobs.items r.coordinator r.sends h
 rests_of r h f =
@@ -59,7 +59,7 @@ following_of r h none f =
 pub closed : (c : Coordination) (k : Known) → Knows c k → c.due ≡ dues.Nothing → k.statement ≡ None
 closed c k knows idle = (subst (KnowsAt c k) idle knows.stands).none_open
 
-module _ (number : ℕ) (at : Position) (c : Coordination) (sends : ℕ) (h : History) (call : Call) (stands : StandsBy number c sends h) (idle : c.due ≡ dues.Nothing) (fits : Fits at c.txn) (next : next_call at ≡ Some call) where
+module _ (number : ℕ) (at : Position) (c : Coordination) (sends : ℕ) (h : History) (call : Call) (stands : StandsBy number c sends h) (idle : c.due ≡ dues.Nothing) (fits : FitsCalls at c.txn) (next : next_call at ≡ Some call) where
   abbrev k : Known
   k = known_by number h
 
@@ -87,7 +87,7 @@ module _ (number : ℕ) (at : Position) (c : Coordination) (sends : ℕ) (h : Hi
 -- the clock was read once more
 module _ (work : Workload) (number : ℕ) (session : SessionWork) (at : Position) (clock later : SteppedState) (jobs : List Job) (h g : History) (call : Call) (reading : ℕ) where
   keeps_asked : KeepsSoFar work number session at clock jobs h → HasGrown h g (actors.Session number) (events.Ask call reading) → (known_by number h).statement ≡ None → next_call at ≡ Some call
-      → IsTrue (stepped_rule clock.start clock.step clock.reads reading) → later.reads ≡ raised clock.reads → later.start ≡ clock.start → later.step ≡ clock.step
+      → IsTrue (stepped_rule clock.start clock.step clock.reads reading) → later.reads ≡ saturating_next clock.reads → later.start ≡ clock.start → later.step ≡ clock.step
       → KeepsSoFar work number session at later jobs g
   keeps_asked keeps grown none next given counted start step =
       let event = events.Ask call reading in
@@ -109,8 +109,8 @@ module _ (work : Workload) (number : ℕ) (session : SessionWork) (at : Position
 
   -- a session that asked its next call is in it
   pub calls_asked : (c d : Coordination) (sends : ℕ) → Rests work number session at clock jobs c sends h → HasGrown h g (actors.Session number) (events.Ask call reading) → next_call at ≡ Some call
-      → IsTrue (stepped_rule clock.start clock.step clock.reads reading) → later.reads ≡ raised clock.reads → later.start ≡ clock.start → later.step ≡ clock.step
-      → ((k : Known) (p : Pair _) → Knows c k → IsAsked c call reading k p → Knows d (learn p k)) → ((other : ℕ) → waits_for other d.due ≡ false)
+      → IsTrue (stepped_rule clock.start clock.step clock.reads reading) → later.reads ≡ saturating_next clock.reads → later.start ≡ clock.start → later.step ≡ clock.step
+      → ((k : Known) (p : Pair _) → Knows c k → IsAsked c call reading k p → Knows d (learn p k)) → ((other : ℕ) → awaits_number other d.due ≡ false)
       → d.session ≡ c.session → d.splits ≡ c.splits → Calls work number session at later reading jobs d sends [] [] g
   calls_asked c d sends rest grown next given counted start step learns quiet same_session same_splits =
       let k = known_by number h in

@@ -22,9 +22,9 @@ use Rattle.pc_runner.proofs.Entering.{first_history, sound_begun}
 use Rattle.pc_runner.proofs.Fitting.{opened_fits}
 use Rattle.pc_runner.specs.Following.{HasJobs, IsLeft, StandsBy}
 use Rattle.pc_runner.specs.Follows.Script.{Position, opened}
-use Rattle.pc_runner.specs.History.{History, IsSound}
+use Rattle.pc_runner.specs.History.{History, IsSoundHistory}
 use Rattle.pc_runner.specs.Keeping.{AreDelivered, IsClockOf, IsStatedBy, KeepsSoFar}
-use Rattle.pc_runner.specs.Suiting.{Fits}
+use Rattle.pc_runner.specs.Suiting.{FitsCalls}
 use Rattle.pc_runner.specs.Traffic.{HasHeard}
 
 -- The history before the first entry.
@@ -63,7 +63,7 @@ none_held (Some x) held = let e : false ≡ true = held.1.is_open in absurd cc
 new_closed : (c : Coordination) → Knows c nothing_known → c.txn ≡ None
 new_closed c knows = none_held c.txn (rests c nothing_known knows refl).held
 
-pub fresh_sound : (work : Workload) → IsBuilt work → IsSound (fresh work)
+pub fresh_sound : (work : Workload) → IsBuilt work → IsSoundHistory (fresh work)
 fresh_sound work built = sound_begun work.splits (length work.sessions) (built_rising work built) (built_few work built)
 
 pub begun_stands : (work : Workload) (number : ℕ) (session : SessionWork) (c : Coordination) → IsStatedBy work number session → Knows c nothing_known → c.session ≡ number → c.splits ≡ work.splits
@@ -94,8 +94,8 @@ begun_heard = record { sent = omega arith; numbers = All-nil _; numbers_now = Al
 pub begun_delivered : (work : Workload) (number : ℕ) → AreDelivered number 0 (fresh work)
 begun_delivered work number = record { once = λ sent from to. absurd (omega arith); never = λ sent above. refl }
 
-pub begun_fits : (work : Workload) (number : ℕ) (session : SessionWork) (c : Coordination) (at : Position) → IsStatedBy work number session → Knows c nothing_known → at ≡ opened session.script work.reruns → Fits at c.txn
+pub begun_fits : (work : Workload) (number : ℕ) (session : SessionWork) (c : Coordination) (at : Position) → IsStatedBy work number session → Knows c nothing_known → at ≡ opened session.script work.reruns → FitsCalls at c.txn
 begun_fits work number session c at stated knows start =
-    subst (λ (p : Position). Fits p c.txn) (sym start)
-    (subst (λ (txn : Option Transaction). Fits (opened session.script work.reruns) txn) (sym (new_closed c knows))
+    subst (λ (p : Position). FitsCalls p c.txn) (sym start)
+    (subst (λ (txn : Option Transaction). FitsCalls (opened session.script work.reruns) txn) (sym (new_closed c knows))
     (opened_fits session.script work.reruns (built_items work (number - 1) session stated.built stated.listed)))

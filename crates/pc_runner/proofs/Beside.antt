@@ -6,7 +6,7 @@ use Rattle.std.proofs.lemmas.List.Elements.{All-nil, All-push, All-weaker}
 use Rattle.pc_base.specs.declared.actor.ActorId.{ActorId}
 use Rattle.pc_base.specs.declared.actor.ActorId.TheVariants as actors
 use Rattle.pc_base.specs.declared.transaction.TxnId.{TxnId}
-use Rattle.pc_coord.specs.Beside.{IsBeside, IsLaterBeside, is_beside}
+use Rattle.pc_coord.specs.Beside.{IsBeside, IsLaterBeside, is_of_round_or_job}
 use Rattle.pc_coord.specs.Coordination.{Coordination}
 use Rattle.pc_coord.specs.declared.job.Job.{Job}
 use Rattle.pc_history.specs.declared.pair.Pair.{Pair}
@@ -15,14 +15,14 @@ use Rattle.pc_proto.specs.declared.event.Event.TheVariants as events
 use Rattle.pc_proto.specs.declared.reply.Reply.{Reply}
 use Rattle.pc_proto.specs.declared.request.Request.{Request}
 use Rattle.pc_proto.specs.declared.request.Request.TheVariants as requests
+use Rattle.pc_proto.specs.Requests.{is_put, is_put_by}
 use Rattle.pc_resolve.specs.Resolving.{Resolving}
-use Rattle.pc_resolve.specs.ResolveKnows.{WasAnsweredToIt, is_put_by, sends_put_by}
+use Rattle.pc_resolve.specs.ResolveKnows.{WasAnsweredToIt, sends_put_by}
 use Rattle.pc_session.specs.Stepped.{SteppedState}
 use Rattle.pc_work.specs.declared.session.SessionWork.{SessionWork}
 use Rattle.pc_work.specs.declared.workload.Workload.{Workload}
 use Rattle.pc_world.proofs.Exchange.{later-itself, later-push}
 use Rattle.pc_world.specs.Exchange.{WasAnswered}
-use Rattle.pc_world.specs.Follows.EarlyProof.{is_put}
 use Rattle.pc_world.specs.Follows.FinishingJobs.{jobs_after, without_first}
 use Rattle.pc_world.specs.Follows.PipelinedPuts.{IsPutWaitedFor}
 use Rattle.pc_world.specs.Known.{Known, next_number}
@@ -105,20 +105,20 @@ later_exchanged c start k number range step request reply l is next =
     }
 
 -- a message beside the coordinator puts nothing
-no_put : (request : Request) → is_beside request ≡ true → is_put request ≡ false
+no_put : (request : Request) → is_of_round_or_job request ≡ true → is_put request ≡ false
 no_put (requests.Push holder by level now goal) is = refl
 no_put (requests.Resolve id key fate) is = refl
 no_put (requests.Remove id anchor) is = refl
 no_put request is = absurd cc
 
-no_wait : (k : Known) (call : Call) (request : Request) → is_beside request ≡ true → IsPutWaitedFor k call request
+no_wait : (k : Known) (call : Call) (request : Request) → is_of_round_or_job request ≡ true → IsPutWaitedFor k call request
 no_wait k call (requests.Push holder by level now goal) is = tt
 no_wait k call (requests.Resolve id key fate) is = tt
 no_wait k call (requests.Remove id anchor) is = tt
 no_wait k call request is = absurd cc
 
 -- a message beside the coordinator is no put of any transaction
-pub puts_none : (id : TxnId) (request : Request) → is_beside request ≡ true → is_put_by id request ≡ false
+pub puts_none : (id : TxnId) (request : Request) → is_of_round_or_job request ≡ true → is_put_by id request ≡ false
 puts_none id (requests.Push holder by level now goal) is = refl
 puts_none id (requests.Resolve other key fate) is = refl
 puts_none id (requests.Remove other anchor) is = refl
@@ -136,12 +136,12 @@ left_open k s number range request waiting opened = ap (λ (o : Option Statement
 pub left_closed : (k : Known) (number range : ℕ) (request : Request) (waiting : List (List Request)) → k.statement ≡ None → left_after k number range request waiting ≡ without_first waiting
 left_closed k number range request waiting none = ap (λ (o : Option Statement). if is_some o then waiting else without_first waiting) none
 
-step_heard : (pipelining : Bool) (rule : ℕ → ℕ → Bool) (asks : ℕ) (at : Position) (jobs : List (List Request)) (k : Known) (number step : ℕ) (h : Heard) → is_beside h.request ≡ true
+step_heard : (pipelining : Bool) (rule : ℕ → ℕ → Bool) (asks : ℕ) (at : Position) (jobs : List (List Request)) (k : Known) (number step : ℕ) (h : Heard) → is_of_round_or_job h.request ≡ true
     → KeepsStep pipelining rule asks at jobs k (events.Hear number step) (Some h)
 step_heard pipelining rule asks at jobs k number step h is =
     step_hears pipelining rule asks at jobs k number step h (λ asked none. no_put h.request is) (λ call asked. no_wait k call h.request is)
 
-module _ (session number : ℕ) (request : Request) (reply : Reply) (h g : History) (x : IsExchanged session number request reply h g) (before : AreBefore number (known_by session h).sent) (beside : is_beside request ≡ true) where
+module _ (session number : ℕ) (request : Request) (reply : Reply) (h g : History) (x : IsExchanged session number request reply h g) (before : AreBefore number (known_by session h).sent) (beside : is_of_round_or_job request ≡ true) where
   abbrev k : Known
   k = known_by session h
 

@@ -3,14 +3,13 @@ use Rattle.std.proofs.Common.{◌≡◌, ℕ, ◌+◌, ◌<◌, max, true, List,
 use Rattle.std.proofs.lemmas.List.Elements.{All-weaker}
 use Rattle.pc_base.specs.declared.actor.ActorId.TheVariants as actors
 use Rattle.pc_coord.proofs.Steps.{heard, sent}
-use Rattle.pc_coord.specs.Beside.{IsBeside, IsLaterBeside, is_beside}
+use Rattle.pc_coord.specs.Beside.{IsBeside, IsLaterBeside, is_of_round_or_job}
 use Rattle.pc_coord.specs.Coordination.{Coordination, with_clock}
 use Rattle.pc_proto.specs.declared.reply.Reply.{Reply}
 use Rattle.pc_proto.specs.declared.request.Request.{Request}
-use Rattle.pc_proto.specs.Stamps.{reply_stamps}
+use Rattle.pc_proto.specs.Stamps.{greatest_of, reply_stamps}
 use Rattle.pc_world.specs.Exchange.{IsAllowed, WasAnswered}
 use Rattle.pc_world.specs.Known.{Known, next_number}
-use Rattle.pc_world.specs.Known.Clock.{last_of}
 use Rattle.pc_world.specs.Known.Traffic.{Heard, Sent}
 use Rattle.pc_world.specs.Local.{Head, IsActorOf}
 use Rattle.pc_runner.proofs.Beside.{delivered_exchanged, jobs_exchanged, keeps_exchanged, later_exchanged, left_after, part_exchanged, was_answered}
@@ -60,7 +59,7 @@ module _ (c : Coordination) (start : Known) (waiting : List (List Request)) (bef
           session = b.session;
           splits = b.splits ∙ sym (ap (λ (head : Head). head.splits) head);
           knows = b.knows;
-          clock = ap (λ (d : Coordination). with_clock (max d.clock (last_of (reply_stamps reply))) d) b.clock ∙ ap (λ (k : Known). with_clock k.high c) (sym known_it);
+          clock = ap (λ (d : Coordination). with_clock (max d.clock (greatest_of (reply_stamps reply))) d) b.clock ∙ ap (λ (k : Known). with_clock k.high c) (sym known_it);
           later = subst (IsLaterBeside c start) (sym known_it) (later_exchanged c start k (r.sends + 1) x.sends.range x.step request reply b.later is next);
           counted = counted ∙ sym (ap (λ (k : Known). length k.sent) known_it);
           heard = subst (HasHeard (r.sends + 1)) (sym known_it) (heard_on r.sends (r.sends + 1) x.sends.range x.step request reply k b.counted refl b.heard);
@@ -79,5 +78,5 @@ module _ (c : Coordination) (start : Known) (waiting : List (List Request)) (bef
     heard_now_it = ap (λ (k : Known). k.heard_now) known_it
 
   -- a message that is allowed may be exchanged
-  pub may_exchange : is_beside request ≡ true → IsAllowed h.head.splits (actors.Session r.number) k request → MayExchange r h request
+  pub may_exchange : is_of_round_or_job request ≡ true → IsAllowed h.head.splits (actors.Session r.number) k request → MayExchange r h request
   may_exchange kind allowed = record { there = b.there; counted = b.counted; heard = b.heard; allowed = allowed; beside = kind }

@@ -2,17 +2,17 @@
 use Rattle.std.proofs.Common.{◌≡◌, ℕ, ◌+◌, ◌<◌, ◌^◌, All, IsSome, IsSomeAnd, List, [], ◌∷◌, length, slice_get, Option, Some, None, subst, arith}
 use Rattle.std.proofs.lemmas.List.Elements.{All-get_or}
 use Rattle.std.proofs.lemmas.Option.{get_or_from_slice_get, slice_get_within}
-use Rattle.pc_work.specs.Built.{AreTurnsOf, IsBuilt, IsBuiltItem, IsBuiltSession, IsTurnOf, Rises, RisesBehind}
+use Rattle.pc_base.specs.Rising.{AreRising}
+use Rattle.pc_work.specs.Built.{AreTurnsOf, IsBuilt, IsBuiltItem, IsBuiltSession, IsTurnOf, RisesBehind}
 use Rattle.pc_work.specs.declared.session.SessionWork.{SessionWork}
 use Rattle.pc_work.specs.declared.turn.Turn.{Turn}
 use Rattle.pc_work.specs.declared.workload.Workload.{Workload}
-use Rattle.pc_world.specs.RangeOf.{AreRising}
 
 rising_behind : (key : List ℕ) (keys : List (List ℕ)) → RisesBehind key keys → AreRising (key ∷ keys)
 rising_behind key [] h = tt
 rising_behind key (next ∷ others) h = (h.0, rising_behind next others h.1)
 
-are_rising : (keys : List (List ℕ)) → Rises keys → AreRising keys
+are_rising : (keys : List (List ℕ)) → AreRising keys → AreRising keys
 are_rising [] h = tt
 are_rising (key ∷ keys) h = rising_behind key keys h
 

@@ -21,7 +21,7 @@ use Rattle.pc_runner.specs.declared.outbox.Posted.{Posted}
 use Rattle.pc_runner.specs.declared.session.SessionRun.{SessionRun}
 use Rattle.pc_runner.specs.Following.{AreOnTheirWay, HasJobs, IsCalling, IsOpen, StandsBy}
 use Rattle.pc_runner.specs.Follows.Script.{Position}
-use Rattle.pc_runner.specs.Follows.Wire.{evaluates, evaluations}
+use Rattle.pc_runner.specs.Follows.Wire.{evaluates_message, evaluations}
 use Rattle.pc_runner.specs.History.{History, known_by}
 use Rattle.pc_runner.specs.Journal.{HasGrown}
 use Rattle.pc_runner.specs.Keeping.{AreDelivered, KeepsSoFar}
@@ -85,7 +85,7 @@ open_on at reading k next statement is_open o =
     record { call = o.call; next = o.next; opened = statement ∙ o.opened; outside = λ out. is_open ∙ o.outside out; course = o.course; items = o.items }
 
 -- an entry that evaluates none of the session's messages
-pub delivered_on : (number delivered : ℕ) (h g : History) (actor : ActorId) (event : Event) → AreDelivered number delivered h → HasGrown h g actor event → ((sent : ℕ) → evaluates (actors.Session number) sent event ≡ false)
+pub delivered_on : (number delivered : ℕ) (h g : History) (actor : ActorId) (event : Event) → AreDelivered number delivered h → HasGrown h g actor event → ((sent : ℕ) → evaluates_message (actors.Session number) sent event ≡ false)
     → AreDelivered number delivered g
 delivered_on number delivered h g actor event d grown none = record {
   once = λ sent from to. evaluations_same h g actor event grown (actors.Session number) sent (none sent) ∙ d.once sent from to;

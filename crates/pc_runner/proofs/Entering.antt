@@ -5,6 +5,7 @@ use Rattle.std.proofs.lemmas.List.Elements.{All-push}
 use Rattle.pc_base.specs.declared.actor.ActorId.{ActorId}
 use Rattle.pc_base.specs.declared.actor.ActorId.TheVariants as actors
 use Rattle.pc_base.specs.declared.entry.Entry.{Entry}
+use Rattle.pc_base.specs.Rising.{AreRising}
 use Rattle.pc_history.proofs.Histories.{named-one}
 use Rattle.pc_history.proofs.Ids.{same_id-equal}
 use Rattle.pc_history.specs.History.{MayFollow}
@@ -24,18 +25,18 @@ use Rattle.pc_world.specs.Known.{next_number}
 use Rattle.pc_world.specs.Local.{Head, IsActorOf, IsAnswer, MayAsk, MayHear}
 use Rattle.pc_world.specs.MayTell.{MayTell}
 use Rattle.pc_world.specs.Named.{is_eval, is_send_of, request_in, request_named}
-use Rattle.pc_world.specs.RangeOf.{AreRising, GoesTo}
+use Rattle.pc_world.specs.RangeOf.{GoesTo}
 use Rattle.pc_world.specs.RangeState.{RangeState}
 use Rattle.pc_world.specs.Run.{protocol}
 use Rattle.pc_world.specs.Unstaged.{IsNoStage, OnSent}
-use Rattle.pc_runner.specs.History.{History, IsSound, head_of, known_by, state_in}
+use Rattle.pc_runner.specs.History.{History, IsSoundHistory, head_of, known_by, state_in}
 use Rattle.pc_runner.specs.Journal.{HasOneMore, IsAnswered, WasSentTo, next_entry, with_entry}
 
 both : (a b : Bool) → a ≡ true → b ≡ true → (a && b) ≡ true
 both a b h k = grind arith
 
 -- an evaluation names the send that it answers
-pub eval_names : (h : History) (session number range : ℕ) (told : Reply) (request : Request) (s : WasSentTo h session number range request) → IsSound h
+pub eval_names : (h : History) (session number range : ℕ) (told : Reply) (request : Request) (s : WasSentTo h session number range request) → IsSoundHistory h
     → named_in (protocol h.head) h.entries (events.Eval (actors.Session session) number told) ≡ Some s.send
 eval_names h session number range told request s sound =
     let event = events.Eval (actors.Session session) number told in
@@ -45,7 +46,7 @@ eval_names h session number range told request s sound =
     (names_one h.head h.entries event sound.run) s.stands (both (same_id (actors.Session session) s.send.actor) (is_send_of number s.send.event) one other)
 
 -- a hearing names the evaluation at its step
-pub hear_names : (h : History) (session number step : ℕ) (told : Reply) (a : IsAnswered h session number step told) → IsSound h
+pub hear_names : (h : History) (session number step : ℕ) (told : Reply) (a : IsAnswered h session number step told) → IsSoundHistory h
     → named_in (protocol h.head) h.entries (events.Hear number step) ≡ Some a.evaluation
 hear_names h session number step told a sound =
     let one : (a.evaluation.step == step) ≡ true = eq-eqb a.evaluation.step step a.at in
@@ -78,7 +79,7 @@ pub hear_follows : (h : History) (session number step : ℕ) → IsActorOf h.hea
     → MayFollow (protocol h.head) h.entries (next_entry h (actors.Session session) (events.Hear number step))
 hear_follows h session number step there may answered = record { step = refl; local = record { there = there; next = may }; caused = answered }
 
-pub eval_follows : (h : History) (session number range : ℕ) (request : Request) (s : RangeState) → IsSound h → IsActorOf h.head (actors.Range range) → WasSentTo h session number range request → s ≡ state_in range h
+pub eval_follows : (h : History) (session number range : ℕ) (request : Request) (s : RangeState) → IsSoundHistory h → IsActorOf h.head (actors.Range range) → WasSentTo h session number range request → s ≡ state_in range h
     → MayFollow (protocol h.head) h.entries (next_entry h (actors.Range range) (events.Eval (actors.Session session) number (reply request s)))
 eval_follows h session number range request s sound there sent is =
     let told = reply request s in
@@ -94,12 +95,12 @@ eval_follows h session number range request s sound there sent is =
 abbrev pub first_history : List (List ℕ) → ℕ → History
 first_history splits sessions = record { head = head_of splits sessions; entries = [] }
 
-pub sound_begun : (splits : List (List ℕ)) (sessions : ℕ) → AreRising splits → length splits + 1 < 2 ^ 32 → IsSound (first_history splits sessions)
+pub sound_begun : (splits : List (List ℕ)) (sessions : ℕ) → AreRising splits → length splits + 1 < 2 ^ 32 → IsSoundHistory (first_history splits sessions)
 sound_begun splits sessions rising few = record { run = tt; short = omega arith; unstaged = λ k d there. absurd (omega arith); rising = rising; few = few }
 
 -- a sound history with one more entry, which may follow it, and which stages nothing
-pub still_sound : (h : History) (actor : ActorId) (event : Event) → IsSound h → MayFollow (protocol h.head) h.entries (next_entry h actor event) → OnSent IsNoStage event → length h.entries < 2 ^ 64
-    → IsSound (with_entry h actor event)
+pub still_sound : (h : History) (actor : ActorId) (event : Event) → IsSoundHistory h → MayFollow (protocol h.head) h.entries (next_entry h actor event) → OnSent IsNoStage event → length h.entries < 2 ^ 64
+    → IsSoundHistory (with_entry h actor event)
 still_sound h actor event sound may unstaged small = record {
   run = run_push h.head h.entries (next_entry h actor event) sound.run may;
   short = omega (arith, length-append h.entries (next_entry h actor event ∷ []));
@@ -109,14 +110,14 @@ still_sound h actor event sound may unstaged small = record {
 }
 
 -- the history that the journal has once an entry was put behind the others
-pub entered : (head : Head) (xs ys : List (Entry Event)) (h : History) (step : ℕ) (actor : ActorId) (event : Event) → record { head = head; entries = xs } ≡ h → IsSound h
+pub entered : (head : Head) (xs ys : List (Entry Event)) (h : History) (step : ℕ) (actor : ActorId) (event : Event) → record { head = head; entries = xs } ≡ h → IsSoundHistory h
     → MayFollow (protocol h.head) h.entries (next_entry h actor event) → OnSent IsNoStage event
     → ys ≡ xs ++ record { step = step; actor = actor; event = event } ∷ [] → step ≡ length xs → step < 2 ^ 64
     → HasOneMore step h (record { head = head; entries = ys }) actor event
 entered head xs ys h step actor event is sound may unstaged more at small = subst P is here sound may
   where
     P : History → Type 0
-    P g = IsSound g → MayFollow (protocol g.head) g.entries (next_entry g actor event) → HasOneMore step g (record { head = head; entries = ys }) actor event
+    P g = IsSoundHistory g → MayFollow (protocol g.head) g.entries (next_entry g actor event) → HasOneMore step g (record { head = head; entries = ys }) actor event
 
     here : P (record { head = head; entries = xs })
     here sound may =
@@ -125,5 +126,5 @@ entered head xs ys h step actor event is sound may unstaged more at small = subs
         let behind : record { head = head; entries = ys } ≡ with_entry g actor event = ap (λ (es : List (Entry Event)). record { head = head; entries = es }) long in
         record {
           numbered = at;
-          grown = record { behind = behind; sound = subst IsSound (sym behind) (still_sound g actor event sound may unstaged (omega arith)) };
+          grown = record { behind = behind; sound = subst IsSoundHistory (sym behind) (still_sound g actor event sound may unstaged (omega arith)) };
         }

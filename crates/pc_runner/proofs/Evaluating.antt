@@ -1,9 +1,9 @@
 -- What an evaluation adds to a sound history: a reply that its request may be answered with; and the holder of a conflict was begun.
 use Rattle.std.proofs.Common.{◌≡◌, ℕ, ◌≤◌, [], ◌∷◌, ◌++◌, slice_get, Some, refl, sym, ap, subst, ◌∙◌}
 use Rattle.pc_base.specs.declared.actor.ActorId.TheVariants as actors
-use Rattle.pc_history.proofs.Lists.{get_push}
 use Rattle.pc_implicit.proofs.Answering.{replies_are_of_their_kind, reply_is_one}
 use Rattle.pc_implicit.proofs.Holders.{holders_were_begun}
+use Rattle.pc_lists.proofs.Lists.{get_push}
 use Rattle.pc_proto.specs.declared.event.Event.TheVariants as events
 use Rattle.pc_proto.specs.declared.reply.Reply.{Reply}
 use Rattle.pc_proto.specs.declared.reply.Reply.TheVariants as replies
@@ -13,10 +13,10 @@ use Rattle.pc_world.specs.Known.{Known}
 use Rattle.pc_world.specs.Known.Traffic.{reply_named}
 use Rattle.pc_runner.proofs.Growing.{known_kept_by_range}
 use Rattle.pc_runner.specs.Database.{HasEvaluated, IsOfHolder}
-use Rattle.pc_runner.specs.History.{History, IsSound, state_in}
+use Rattle.pc_runner.specs.History.{History, IsSoundHistory, state_in}
 use Rattle.pc_runner.specs.Journal.{HasOneMore, next_entry}
 
-module _ (h g : History) (session number step range : ℕ) (request : Request) (sound : IsSound h)
+module _ (h g : History) (session number step range : ℕ) (request : Request) (sound : IsSoundHistory h)
     (more : HasOneMore step h g (actors.Range range) (events.Eval (actors.Session session) number (reply request (state_in range h)))) where
   begun : (told : Reply) → reply request (state_in range h) ≡ told → IsOfHolder g told
   begun (replies.Conflict holder ts key) met =

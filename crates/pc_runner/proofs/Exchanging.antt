@@ -5,7 +5,7 @@ use Rattle.pc_base.specs.declared.actor.ActorId.TheVariants as actors
 use Rattle.pc_coord.proofs.Learned.{learn_own}
 use Rattle.pc_coord.proofs.Lists.{any_last_of, find-last}
 use Rattle.pc_coord.proofs.Steps.{heard, sent, sent_is}
-use Rattle.pc_coord.specs.Beside.{is_beside}
+use Rattle.pc_coord.specs.Beside.{is_of_round_or_job}
 use Rattle.pc_history.specs.declared.pair.Pair.{Pair}
 use Rattle.pc_proto.specs.declared.event.Event.{Event}
 use Rattle.pc_proto.specs.declared.event.Event.TheVariants as events
@@ -32,7 +32,7 @@ map_itself f same [] = refl
 map_itself f same (x ∷ xs) = ap (λ y. y ∷ map f xs) (same x) ∙ ap (λ l. x ∷ l) (map_itself f same xs)
 
 -- what a message beside the coordinator changes of a transaction when it is sent, and when a reply to it is heard
-sent-beside : (request : Request) → is_beside request ≡ true → (t : Txn) → txn_sent request t ≡ t
+sent-beside : (request : Request) → is_of_round_or_job request ≡ true → (t : Txn) → txn_sent request t ≡ t
 sent-beside (requests.Push holder by level now goal) is t = refl
 sent-beside (requests.Resolve id key fate) is t = refl
 sent-beside (requests.Remove id anchor) is t = refl
@@ -41,7 +41,7 @@ sent-beside request is t = absurd cc
 max-zero : (n : ℕ) → max n 0 ≡ n
 max-zero n = omega arith
 
-heard-beside : (request : Request) → is_beside request ≡ true → (number step : ℕ) (reply : Reply) (sent : List Sent) (t : Txn)
+heard-beside : (request : Request) → is_of_round_or_job request ≡ true → (number step : ℕ) (reply : Reply) (sent : List Sent) (t : Txn)
     → txn_heard sent (Some (record { number = number; request = request; reply = reply; step = step })) t ≡ t
 heard-beside (requests.Push holder by level now goal) is number step reply sent t = ap (λ n. record t { write_ts = n }) (max-zero t.write_ts)
 heard-beside (requests.Resolve id key fate) is number step reply sent t = ap (λ n. record t { write_ts = n }) (max-zero t.write_ts)
@@ -125,7 +125,7 @@ module _ (session number : ℕ) (request : Request) (reply : Reply) (h g : Histo
     heard_known = learn_hear session x.answered heard_pair with_sent number x.step request reply answered_so refl names_it said
 
     -- what the session knows after it, where the message is one beside its coordinator
-    pub known_exchanged : is_beside request ≡ true → known_by session g ≡ exchanged number x.sends.range x.step request reply (known_by session h)
+    pub known_exchanged : is_of_round_or_job request ≡ true → known_by session g ≡ exchanged number x.sends.range x.step request reply (known_by session h)
     known_exchanged is =
         let k = known_by session h in
         let all : List Sent = k.sent ++ record { number = number; range = x.sends.range; request = request } ∷ [] in

@@ -19,7 +19,7 @@ use Rattle.pc_work.specs.declared.statement.Statement.TheVariants as steps
 use Rattle.pc_world.specs.Known.{Known}
 use Rattle.pc_world.specs.Local.{is_outside, is_round}
 use Rattle.pc_runner.specs.Follows.Script.{Position, calls_of, end_call, opened, rerun, statement_calls}
-use Rattle.pc_runner.specs.Suiting.{AreOfOne, Fits, FitsTxn, IsCallIn, IsCourse}
+use Rattle.pc_runner.specs.Suiting.{AreOfOne, FitsCalls, FitsTxn, IsCallIn, IsCourse}
 
 -- the calls of an item that only reads, or only writes
 end_in : (reads commits : Bool) → IsCallIn reads (end_call commits)
@@ -52,7 +52,7 @@ course_of (Txn priority statements commits) (inr writes) =
     record { reads = false; each = All-push (IsCallIn false) (flat_map statement_calls statements) (end_call commits) (all_calls false IsWriteStatement write_calls statements writes) (end_in false commits) }
 
 -- at the first call of the next item no transaction is open
-pub opened_fits : (items : List Item) (reruns : ℕ) → All IsBuiltItem items → Fits (opened items reruns) None
+pub opened_fits : (items : List Item) (reruns : ℕ) → All IsBuiltItem items → FitsCalls (opened items reruns) None
 opened_fits [] reruns built = record { items = All-nil IsBuiltItem; now = record { reads = true; each = All-nil (IsCallIn true) } }
 opened_fits (item ∷ items) reruns built = record { items = All-tail IsBuiltItem item items built; now = course_of item (All-head IsBuiltItem item items built) }
 
@@ -188,7 +188,7 @@ rollback_fits (Some x) = record {
 }
 
 -- the same calls once more, where a rerun is left
-pub rerun_fits : (left : ℕ) (at : Position) (txn : Option Transaction) → All IsBuiltItem at.items → FitsTxn at.ahead txn → Fits (rerun at.ahead left at) txn
+pub rerun_fits : (left : ℕ) (at : Position) (txn : Option Transaction) → All IsBuiltItem at.items → FitsTxn at.ahead txn → FitsCalls (rerun at.ahead left at) txn
 rerun_fits zero at txn items fits = record { items = items; now = rollback_fits txn }
 rerun_fits (suc left) at txn items fits = record { items = items; now = fits }
 

@@ -12,13 +12,12 @@ use Rattle.pc_proto.specs.declared.event.Event.{Event}
 use Rattle.pc_proto.specs.declared.event.Event.TheVariants as events
 use Rattle.pc_proto.specs.declared.reply.Reply.{Reply}
 use Rattle.pc_proto.specs.declared.request.Request.{Request}
-use Rattle.pc_proto.specs.Stamps.{event_stamps}
+use Rattle.pc_proto.specs.Stamps.{event_stamps, greatest_of}
 use Rattle.pc_world.specs.Known.{Known, known_after, learn}
-use Rattle.pc_world.specs.Known.Clock.{last_of}
 use Rattle.pc_world.specs.Known.Traffic.{Heard, heard_as, reply_in, reply_named, request_sent}
 use Rattle.pc_runner.proofs.Growing.{ask_names_none, hear_names_answer, known_grows, next_pair, send_names_none, tell_names_none}
 use Rattle.pc_runner.proofs.Keeps.{brought}
-use Rattle.pc_runner.specs.History.{History, IsSound, known_by}
+use Rattle.pc_runner.specs.History.{History, IsSoundHistory, known_by}
 use Rattle.pc_runner.specs.Journal.{HasGrown, IsAnswered}
 
 module _ (number : ℕ) (h : History) where
@@ -55,14 +54,14 @@ module _ (number : ℕ) (h : History) where
   learn_hear p k own step request reply a says names said =
       let hear = events.Hear own step in
       let F : Event → Option _ → Known = λ e n. learn (record { entry = record { step = p.entry.step; actor = p.entry.actor; event = e }; named = n }) k in
-      let G : Event → Option Request → Known = λ e r. known_after hear (heard_as own step r (reply_in e)) (max k.top (max 0 (last_of (event_stamps e)))) (max k.high (last_of (event_stamps e))) k in
+      let G : Event → Option Request → Known = λ e r. known_after hear (heard_as own step r (reply_in e)) (max k.top (max 0 (greatest_of (event_stamps e)))) (max k.high (greatest_of (event_stamps e))) k in
       ap (λ e. F e p.named) says
       ∙ (ap (F hear) names
       ∙ (ap (λ e. G e (request_sent own k.sent)) a.says
       ∙ (ap (G (events.Eval (actors.Session number) own reply)) said
       ∙ heard_is (reply_heard own step request reply) k)))
 
-  pub known_heard : (g : History) (own step : ℕ) (request : Request) (reply : Reply) → IsSound h → IsAnswered h number own step reply → HasGrown h g (actors.Session number) (events.Hear own step)
+  pub known_heard : (g : History) (own step : ℕ) (request : Request) (reply : Reply) → IsSoundHistory h → IsAnswered h number own step reply → HasGrown h g (actors.Session number) (events.Hear own step)
       → request_sent own (known_by number h).sent ≡ Some request → known_by number g ≡ heard (reply_heard own step request reply) (known_by number h)
   known_heard g own step request reply sound a more said =
       let event = events.Hear own step in
@@ -70,7 +69,7 @@ module _ (number : ℕ) (h : History) where
       ∙ learn_hear (next_pair number h event) (known_by number h) own step request reply a refl (hear_names_answer number h own step reply a sound) said
 
   -- what the hearing brings
-  pub hear_brings : (own step : ℕ) (request : Request) (reply : Reply) → IsSound h → IsAnswered h number own step reply → request_sent own (known_by number h).sent ≡ Some request
+  pub hear_brings : (own step : ℕ) (request : Request) (reply : Reply) → IsSoundHistory h → IsAnswered h number own step reply → request_sent own (known_by number h).sent ≡ Some request
       → brought number h (events.Hear own step) ≡ Some (reply_heard own step request reply)
   hear_brings own step request reply sound a said =
       let asked = request_sent own (known_by number h).sent in

@@ -8,20 +8,19 @@ use Rattle.std.specs.List.{AllByRecursion as Each}
 use Rattle.pc_base.specs.declared.actor.ActorId.{ActorId}
 use Rattle.pc_base.specs.declared.actor.ActorId.TheVariants as actors
 use Rattle.pc_base.specs.declared.entry.Entry.{Entry}
-use Rattle.pc_coord.proofs.Rounds.{one_if}
 use Rattle.pc_history.proofs.Histories.{own-push_other}
 use Rattle.pc_history.proofs.Ids.{same_id-differ, same_id-refl}
 use Rattle.pc_history.specs.Own.{own, same_id}
+use Rattle.pc_lists.proofs.Counts.{count-push, one_if}
+use Rattle.pc_lists.proofs.Each.{each-weaker}
 use Rattle.pc_proto.specs.declared.event.Event.{Event}
 use Rattle.pc_proto.specs.declared.event.Event.TheVariants as events
 use Rattle.pc_proto.specs.declared.reply.Reply.{Reply}
-use Rattle.pc_world.proofs.Each.{each-weaker}
-use Rattle.pc_world.specs.Known.{known}
+use Rattle.pc_world.specs.Known.{known_of}
 use Rattle.pc_world.specs.Local.{Head, IsActorOf}
 use Rattle.pc_world.specs.Run.{protocol}
-use Rattle.pc_runner.proofs.Growing.{count_push}
 use Rattle.pc_runner.specs.Follows.Turns.{EvaluatesOf, IsItOrRange, IsOwnDeed, deeds}
-use Rattle.pc_runner.specs.Follows.Wire.{evaluates, evaluations}
+use Rattle.pc_runner.specs.Follows.Wire.{evaluates_message, evaluations}
 use Rattle.pc_runner.specs.History.{History, known_by, own_by}
 use Rattle.pc_runner.specs.Journal.{HasGrown, next_entry}
 use Rattle.pc_runner.specs.Parts.{GoesOnBy}
@@ -95,11 +94,11 @@ module _ (head : Head) (id : ActorId) where
       ap (own (protocol head) id) (sym (append_assoc before (e ∷ []) es))
       ∙ (own-beside (before ++ e ∷ []) es none.1 ∙ own-push_other (protocol head) id before e none.0)
 
-evaluations-beside : (id : ActorId) (message : ℕ) (before part : List (Entry Event)) → Each (λ e. evaluates id message e.event ≡ false) part → evaluations id message (before ++ part) ≡ evaluations id message before
+evaluations-beside : (id : ActorId) (message : ℕ) (before part : List (Entry Event)) → Each (λ e. evaluates_message id message e.event ≡ false) part → evaluations id message (before ++ part) ≡ evaluations id message before
 evaluations-beside id message before [] none = ap (evaluations id message) (append-nil before)
 evaluations-beside id message before (e ∷ es) none =
-    let one : evaluations id message (before ++ e ∷ []) ≡ evaluations id message before + one_if (evaluates id message e.event) = count_push (λ (x : Entry Event). evaluates id message x.event) before e in
-    let off : one_if (evaluates id message e.event) ≡ 0 = ap one_if none.0 in
+    let one : evaluations id message (before ++ e ∷ []) ≡ evaluations id message before + one_if (evaluates_message id message e.event) = count-push (λ (x : Entry Event). evaluates_message id message x.event) before e in
+    let off : one_if (evaluates_message id message e.event) ≡ 0 = ap one_if none.0 in
     ap (evaluations id message) (sym (append_assoc before (e ∷ []) es)) ∙ (evaluations-beside id message (before ++ e ∷ []) es none.1 ∙ omega arith)
 
 -- Whoever acts in the part of one session is no other session.
@@ -111,7 +110,7 @@ acts-not number other differ (actors.Session session) whose same = differ (sym (
 acts-not number other differ (actors.Range range) whose same = absurd cc
 acts-not number other differ (actors.Recoverer recoverer) whose same = absurd whose
 
-evaluates-not : (number other message : ℕ) → other ≢ number → (event : Event) → EvaluatesOf number event → evaluates (actors.Session other) message event ≡ false
+evaluates-not : (number other message : ℕ) → other ≢ number → (event : Event) → EvaluatesOf number event → evaluates_message (actors.Session other) message event ≡ false
 evaluates-not number other message differ (events.Eval sender sent reply) of =
     ap (λ id. same_id (actors.Session other) id && sent == message) of ∙ ap (λ b. b && sent == message) (ne_eqb other number differ)
 evaluates-not number other message differ event of = refl
@@ -132,7 +131,7 @@ module _ (number other : ℕ) (h g : History) (part : List (Entry Event)) (goes 
 
     -- so what that knows
     pub known_beside : known_by other g ≡ known_by other h
-    known_beside = ap known own_beside
+    known_beside = ap known_of own_beside
 
     -- and how often its messages were evaluated
     pub evaluated_beside : (message : ℕ) → evaluations (actors.Session other) message g.entries ≡ evaluations (actors.Session other) message h.entries
@@ -140,4 +139,4 @@ module _ (number other : ℕ) (h g : History) (part : List (Entry Event)) (goes 
         let all : Each (IsOwnDeed number) part = recursion_from_All (IsOwnDeed number) part goes.alone in
         ap (evaluations (actors.Session other) message) goes.whole
         ∙ evaluations-beside (actors.Session other) message h.entries part
-        (each-weaker (IsOwnDeed number) (λ e. evaluates (actors.Session other) message e.event ≡ false) (λ e is. evaluates-not number other message differ e.event is.evaluates) part all)
+        (each-weaker (IsOwnDeed number) (λ e. evaluates_message (actors.Session other) message e.event ≡ false) (λ e is. evaluates-not number other message differ e.event is.evaluates) part all)

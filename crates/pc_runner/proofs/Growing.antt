@@ -7,10 +7,10 @@ use Rattle.std.proofs.lemmas.List.Elements.{Contains-append_left, Contains-push}
 use Rattle.pc_base.specs.declared.actor.ActorId.{ActorId}
 use Rattle.pc_base.specs.declared.actor.ActorId.TheVariants as actors
 use Rattle.pc_base.specs.declared.entry.Entry.{Entry}
-use Rattle.pc_coord.proofs.Rounds.{count-append, count-cons, one_if}
 use Rattle.pc_history.proofs.Histories.{named-none, own-push_other, own-push_same}
 use Rattle.pc_history.specs.declared.pair.Pair.{Pair}
 use Rattle.pc_history.specs.Own.{named_in, pair}
+use Rattle.pc_lists.proofs.Counts.{count-append, count-cons, one_if}
 use Rattle.pc_proto.specs.declared.answer.Answer.{Answer}
 use Rattle.pc_proto.specs.declared.call.Call.{Call}
 use Rattle.pc_proto.specs.declared.event.Event.{Event}
@@ -20,16 +20,16 @@ use Rattle.pc_proto.specs.declared.request.Request.{Request}
 use Rattle.pc_work.specs.declared.item.Item.{Item}
 use Rattle.pc_world.proofs.Knowing.{known_push}
 use Rattle.pc_world.specs.Follows.FinishingJobs.{Duty, duty_after, jobs_after, jobs_of}
-use Rattle.pc_world.specs.Known.{known, learn, nothing_known}
+use Rattle.pc_world.specs.Known.{known_of, learn, nothing_known}
 use Rattle.pc_world.specs.Local.{Head, IsActorOf}
 use Rattle.pc_world.specs.Run.{protocol}
 use Rattle.pc_runner.proofs.Entering.{hear_names}
 use Rattle.pc_runner.specs.Database.{HasEvaluated, HasSent}
 use Rattle.pc_runner.specs.Follows.{EachAfter}
 use Rattle.pc_runner.specs.Follows.Clocks.{asks_in, is_ask}
-use Rattle.pc_runner.specs.Follows.Script.{moved, opened, position}
-use Rattle.pc_runner.specs.Follows.Wire.{evaluates, evaluations}
-use Rattle.pc_runner.specs.History.{History, IsSound, known_by, own_by}
+use Rattle.pc_runner.specs.Follows.Script.{moved, opened, script_position}
+use Rattle.pc_runner.specs.Follows.Wire.{evaluates_message, evaluations}
+use Rattle.pc_runner.specs.History.{History, IsSoundHistory, known_by, own_by}
 use Rattle.pc_runner.specs.Journal.{HasGrown, IsAnswered, WasSent, next_entry}
 
 -- ---- one more pair of a session's list
@@ -51,7 +51,7 @@ module _ (own : List (Pair Event)) (p : Pair Event) where
   pub asks_push : asks_in (own ++ p ∷ []) ≡ asks_in own + one_if (is_ask p.entry.event)
   asks_push = count_push (λ (p : Pair Event). is_ask p.entry.event) own p
 
-  pub position_push : (reruns : ℕ) (script : List Item) → position reruns script (own ++ p ∷ []) ≡ moved p.entry.event (position reruns script own)
+  pub position_push : (reruns : ℕ) (script : List Item) → script_position reruns script (own ++ p ∷ []) ≡ moved p.entry.event (script_position reruns script own)
   position_push reruns script = fold-append (λ at (p : Pair Event). moved p.entry.event at) (opened script reruns) own (p ∷ [])
 
   duty-known : (own : List (Pair Event)) (d : Duty) → (fold duty_after d own).known ≡ fold (λ k p. learn p k) d.known own
@@ -59,7 +59,7 @@ module _ (own : List (Pair Event)) (p : Pair Event) where
   duty-known (q ∷ own) d = duty-known own (duty_after d q)
 
   -- the jobs that wait after one more of its entries
-  pub jobs_push : jobs_of (own ++ p ∷ []) ≡ jobs_after p.entry.event (known own) (jobs_of own)
+  pub jobs_push : jobs_of (own ++ p ∷ []) ≡ jobs_after p.entry.event (known_of own) (jobs_of own)
   jobs_push =
       let start : Duty = record { known = nothing_known; jobs = [] } in
       ap (λ (d : Duty). d.jobs) (fold-append duty_after start own (p ∷ []))
@@ -81,7 +81,7 @@ module _ (session : ℕ) (h : History) where
   tell_names_none answer = named-none (protocol h.head) h.entries (events.Tell answer) (λ e. refl)
 
   -- a hearing names the evaluation
-  pub hear_names_answer : (number step : ℕ) (told : Reply) (a : IsAnswered h session number step told) → IsSound h → (next_pair session h (events.Hear number step)).named ≡ Some a.evaluation
+  pub hear_names_answer : (number step : ℕ) (told : Reply) (a : IsAnswered h session number step told) → IsSoundHistory h → (next_pair session h (events.Hear number step)).named ≡ Some a.evaluation
   hear_names_answer number step told a sound = hear_names h session number step told a sound
 
 -- ---- one more entry of the history
@@ -110,13 +110,13 @@ module _ (h g : History) (actor : ActorId) (event : Event) (grown : HasGrown h g
   pub answered_still : (session number step : ℕ) (told : Reply) → IsAnswered h session number step told → IsAnswered g session number step told
   answered_still session number step told a = record { evaluation = a.evaluation; stands = stands_still a.evaluation a.stands; at = a.at; says = a.says }
 
-  pub evaluations_grow : (id : ActorId) (number : ℕ) → evaluations id number g.entries ≡ evaluations id number h.entries + one_if (evaluates id number event)
+  pub evaluations_grow : (id : ActorId) (number : ℕ) → evaluations id number g.entries ≡ evaluations id number h.entries + one_if (evaluates_message id number event)
   evaluations_grow id number =
       ap (λ (x : History). evaluations id number x.entries) grown.behind
-      ∙ count_push (λ (e : Entry Event). evaluates id number e.event) h.entries (next_entry h actor event)
+      ∙ count_push (λ (e : Entry Event). evaluates_message id number e.event) h.entries (next_entry h actor event)
 
   -- what evaluates nothing of the actor leaves its evaluations
-  pub evaluations_same : (id : ActorId) (number : ℕ) → evaluates id number event ≡ false → evaluations id number g.entries ≡ evaluations id number h.entries
+  pub evaluations_same : (id : ActorId) (number : ℕ) → evaluates_message id number event ≡ false → evaluations id number g.entries ≡ evaluations id number h.entries
   evaluations_same id number none = let e = evaluations_grow id number in let f = ap one_if none in omega arith
 
 -- ---- of the session
@@ -126,13 +126,13 @@ module _ (h g : History) (session : ℕ) (event : Event) (grown : HasGrown h g (
   own_grows = ap (own_by session) grown.behind ∙ own-push_same (protocol h.head) (actors.Session session) h.entries (next_entry h (actors.Session session) event) refl
 
   pub known_grows : known_by session g ≡ learn (next_pair session h event) (known_by session h)
-  known_grows = ap known own_grows ∙ known_push (own_by session h) (next_pair session h event)
+  known_grows = ap known_of own_grows ∙ known_push (own_by session h) (next_pair session h event)
 
   pub asks_grow : asks_in (own_by session g) ≡ asks_in (own_by session h) + one_if (is_ask event)
   asks_grow = ap asks_in own_grows ∙ asks_push (own_by session h) (next_pair session h event)
 
-  pub position_grows : (reruns : ℕ) (script : List Item) → position reruns script (own_by session g) ≡ moved event (position reruns script (own_by session h))
-  position_grows reruns script = ap (position reruns script) own_grows ∙ position_push (own_by session h) (next_pair session h event) reruns script
+  pub position_grows : (reruns : ℕ) (script : List Item) → script_position reruns script (own_by session g) ≡ moved event (script_position reruns script (own_by session h))
+  position_grows reruns script = ap (script_position reruns script) own_grows ∙ position_push (own_by session h) (next_pair session h event) reruns script
 
   pub jobs_grow : jobs_of (own_by session g) ≡ jobs_after event (known_by session h) (jobs_of (own_by session h))
   jobs_grow = ap jobs_of own_grows ∙ jobs_push (own_by session h) (next_pair session h event)
@@ -147,7 +147,7 @@ module _ (h g : History) (actor : ActorId) (event : Event) (session : ℕ) (grow
   own_same = ap (own_by session) grown.behind ∙ own-push_other (protocol h.head) (actors.Session session) h.entries (next_entry h actor event) differ
 
   pub known_same_by : known_by session g ≡ known_by session h
-  known_same_by = ap known own_same
+  known_same_by = ap known_of own_same
 
 pub range_no_session : (range session : ℕ) → actors.Range range ≢ actors.Session session
 range_no_session range session same = absurd cc
@@ -189,7 +189,7 @@ module _ (h g : History) (session number : ℕ) (request : Request) (step : ℕ)
       let e = evaluations_grow h g (actors.Range done.range) (events.Eval (actors.Session session) number told) done.more.grown (actors.Session session) number in
       e ∙ ap (λ b. evaluations (actors.Session session) number h.entries + one_if b) both
     where
-      both : evaluates (actors.Session session) number (events.Eval (actors.Session session) number told) ≡ true
+      both : evaluates_message (actors.Session session) number (events.Eval (actors.Session session) number told) ≡ true
       both = let one = eq-eqb session session refl in let two = eq-eqb number number refl in grind arith
 
   -- and no other of the session
@@ -197,5 +197,5 @@ module _ (h g : History) (session number : ℕ) (request : Request) (step : ℕ)
   evaluations_rest other differ =
       evaluations_same h g (actors.Range done.range) (events.Eval (actors.Session session) number told) done.more.grown (actors.Session session) other none
     where
-      none : evaluates (actors.Session session) other (events.Eval (actors.Session session) number told) ≡ false
+      none : evaluates_message (actors.Session session) other (events.Eval (actors.Session session) number told) ≡ false
       none = let two = ne_eqb number other differ in grind arith

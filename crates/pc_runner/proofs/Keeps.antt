@@ -2,18 +2,18 @@
 use Rattle.std.proofs.Common.{◌≡◌, ◌≢◌, ℕ, ◌+◌, ◌*◌, ◌≤◌, Bool, List, [], length, map, Option, sym, ap, subst, ◌∙◌, arith}
 use Rattle.pc_base.specs.declared.actor.ActorId.{ActorId}
 use Rattle.pc_base.specs.declared.actor.ActorId.TheVariants as actors
-use Rattle.pc_coord.proofs.Rounds.{one_if}
 use Rattle.pc_coord.specs.declared.job.Job.{Job}
 use Rattle.pc_coord.specs.Knows.{messages_of_job}
 use Rattle.pc_history.specs.declared.pair.Pair.{Pair}
 use Rattle.pc_history.specs.Own.{named_in}
+use Rattle.pc_lists.proofs.Counts.{one_if}
 use Rattle.pc_proto.specs.declared.event.Event.{Event}
 use Rattle.pc_proto.specs.declared.request.Request.{Request}
 use Rattle.pc_session.specs.Stepped.{SteppedState}
 use Rattle.pc_work.specs.declared.session.SessionWork.{SessionWork}
 use Rattle.pc_work.specs.declared.workload.Workload.{Workload}
 use Rattle.pc_world.specs.Follows.FinishingJobs.{jobs_after, jobs_of}
-use Rattle.pc_world.specs.Known.{Known, known}
+use Rattle.pc_world.specs.Known.{Known, known_of}
 use Rattle.pc_world.specs.Known.Statements.{statement_after}
 use Rattle.pc_world.specs.Known.Traffic.{Heard, heard_by}
 use Rattle.pc_world.specs.Run.{protocol}
@@ -21,7 +21,7 @@ use Rattle.pc_runner.proofs.Growing.{asks_grow, each_after_grows, jobs_grow, kno
 use Rattle.pc_runner.specs.Exchanging.{KeepsBeside}
 use Rattle.pc_runner.specs.Follows.{EachAfter, KeepsStep, KeepsWork}
 use Rattle.pc_runner.specs.Follows.Clocks.{asks_in, clock_rule, is_ask}
-use Rattle.pc_runner.specs.Follows.Script.{Position, moved, position}
+use Rattle.pc_runner.specs.Follows.Script.{Position, moved, script_position}
 use Rattle.pc_runner.specs.History.{History, known_by, own_by}
 use Rattle.pc_runner.specs.Journal.{HasGrown}
 use Rattle.pc_runner.specs.Keeping.{IsClockOf, IsStatedBy, KeepsSoFar, open_calls}
@@ -40,7 +40,7 @@ module _ (work : Workload) (number : ℕ) (session : SessionWork) (at : Position
   step_kept event keeps step rule =
       let own = own_by number h in
       let k = known_by number h in
-      subst (λ n. KeepsStep work.pipelining (clock_rule session.clock rule) n (position work.reruns session.script own) (jobs_of own) k event (brought number h event)) keeps.reads
+      subst (λ n. KeepsStep work.pipelining (clock_rule session.clock rule) n (script_position work.reruns session.script own) (jobs_of own) k event (brought number h event)) keeps.reads
       (subst (λ p. KeepsStep work.pipelining (clock_rule session.clock rule) clock.reads p (jobs_of own) k event (brought number h event)) keeps.place
       (subst (λ j. KeepsStep work.pipelining (clock_rule session.clock rule) clock.reads at j k event (brought number h event)) (sym keeps.waiting_are) (step rule)))
 
@@ -68,10 +68,10 @@ module _ (work : Workload) (number : ℕ) (session : SessionWork) (at : Position
   pub beside_same : own_by number g ≡ own_by number h → length h.entries ≤ length g.entries → KeepsBeside work number session at clock waiting h → KeepsBeside work number session at clock waiting g
   beside_same own longer keeps =
       let asks : asks_in (own_by number g) ≡ asks_in (own_by number h) = ap asks_in own in
-      let opens : open_calls (known_by number g).statement ≡ open_calls (known_by number h).statement = ap (λ (ps : List (Pair Event)). open_calls (known ps).statement) own in
+      let opens : open_calls (known_by number g).statement ≡ open_calls (known_by number h).statement = ap (λ (ps : List (Pair Event)). open_calls (known_of ps).statement) own in
       let paired = keeps.paired in
       record {
-        place = keeps.place ∙ sym (ap (position work.reruns session.script) own);
+        place = keeps.place ∙ sym (ap (script_position work.reruns session.script) own);
         reads = keeps.reads ∙ sym asks;
         paired = omega arith;
         waiting_are = ap jobs_of own ∙ keeps.waiting_are;

@@ -12,9 +12,10 @@ use Rattle.pc_proto.specs.declared.call.Call.{Call}
 use Rattle.pc_proto.specs.declared.event.Event.{Event}
 use Rattle.pc_proto.specs.declared.event.Event.TheVariants as events
 use Rattle.pc_proto.specs.declared.request.Request.{Request}
+use Rattle.pc_proto.specs.Requests.{is_put_by}
 use Rattle.pc_proto.specs.Stamps.{fate_stamps}
 use Rattle.pc_resolve.proofs.Finishing.{finish_later}
-use Rattle.pc_resolve.specs.ResolveKnows.{is_put_by, sends_put_by}
+use Rattle.pc_resolve.specs.ResolveKnows.{sends_put_by}
 use Rattle.pc_resolve.specs.Resolving.{Resolving}
 use Rattle.pc_world.specs.Exchange.{is_message}
 use Rattle.pc_world.specs.Known.{Known, first_if, learn, open_txn}

@@ -8,16 +8,15 @@ use Rattle.pc_base.specs.declared.transaction.TxnId.{TxnId}
 use Rattle.pc_coord.proofs.Steps.{told}
 use Rattle.pc_coord.specs.declared.job.Job.{Job}
 use Rattle.pc_coord.specs.Knows.{MayFinishJob, messages_left, messages_of_job}
-use Rattle.pc_history.proofs.Lists.{contains_cons, contains_head, contains_tail}
+use Rattle.pc_lists.proofs.Lists.{contains_cons, contains_head, contains_tail}
 use Rattle.pc_proto.specs.declared.answer.Answer.{Answer}
 use Rattle.pc_proto.specs.declared.answer.Answer.TheVariants as answers
 use Rattle.pc_proto.specs.declared.fate.Fate.{Fate}
 use Rattle.pc_proto.specs.declared.request.Request.{Request}
 use Rattle.pc_proto.specs.declared.request.Request.TheVariants as requests
-use Rattle.pc_proto.specs.Stamps.{answer_stamps, fate_stamps}
+use Rattle.pc_proto.specs.Stamps.{answer_stamps, fate_stamps, greatest_of}
 use Rattle.pc_world.specs.Follows.FinishingJobs.{left_by, left_if, settling, with_job}
-use Rattle.pc_world.specs.Known.{Known, begun_by, first_if, open_txn, told_first, txns_told}
-use Rattle.pc_world.specs.Known.Clock.{last_of}
+use Rattle.pc_world.specs.Known.{Known, first_if, open_txn, told_first, txn_begun, txns_told}
 use Rattle.pc_world.specs.Known.Statements.{Statement, begun_told, is_open_told}
 use Rattle.pc_world.specs.Known.Traffic.{Heard, replies_to}
 use Rattle.pc_world.specs.Known.Transactions.{Txn, txn_told}
@@ -54,7 +53,7 @@ module _ (answer : Answer) (replied : List Heard) where
     when_must true ts must = first_must ts must
     when_must false ts must = must
 
-begun_id : (s : Option Statement) (id : TxnId) (ts : ℕ) → (begun_by s id ts).id ≡ id
+begun_id : (s : Option Statement) (id : TxnId) (ts : ℕ) → (txn_begun s id ts).id ≡ id
 begun_id None id ts = refl
 begun_id (Some s) id ts = refl
 
@@ -72,7 +71,7 @@ BeginsNext begun _ = Unit {0}
 module _ (k : Known) where
   numbers_told : (answer : Answer) → BeginsNext k.begun answer → AreBegun k.begun k.txns → AreBegun (begun_told answer k.begun) (txns_told answer k)
   numbers_told (answers.Begun id ts) begins a =
-      All-cons (λ t. t.id.number ≤ k.begun + 1) (begun_by k.statement id ts) k.txns
+      All-cons (λ t. t.id.number ≤ k.begun + 1) (txn_begun k.statement id ts) k.txns
       (subst (λ (id : TxnId). id.number ≤ k.begun + 1) (sym (begun_id k.statement id ts)) (omega arith))
       (All-weaker (λ t. t.id.number ≤ k.begun) (λ t. t.id.number ≤ k.begun + 1) (λ t le. omega arith) k.txns a)
   numbers_told answer begins a = same_numbers k.begun (txns_told answer k) k.txns (when_same answer (replies_to k.sent_now k.heard_now) k.is_open k.txns) a
@@ -85,7 +84,7 @@ module _ (k : Known) where
 
   must_told : (answer : Answer) (id : TxnId) (shown locks : List (List ℕ)) → BeginsNext k.begun answer → id.number ≤ k.begun → MustSettle k id shown locks → MustSettle (told answer k) id shown locks
   must_told (answers.Begun other ts) id shown locks begins low must =
-      more_must id shown locks (begun_by k.statement other ts) k.txns (λ e. not_next id other low begins (sym (begun_id k.statement other ts) ∙ e)) must
+      more_must id shown locks (txn_begun k.statement other ts) k.txns (λ e. not_next id other low begins (sym (begun_id k.statement other ts) ∙ e)) must
   must_told answer id shown locks begins low must = when_must answer (replies_to k.sent_now k.heard_now) id shown locks k.is_open k.txns must
 
   none_opened : (id : TxnId) (before after : Bool) (ts us : List Txn) → (after ≡ true → before ≡ true) → AreSameTxns ts us → IsNotOpen id before us → IsNotOpen id after ts
@@ -95,7 +94,7 @@ module _ (k : Known) where
 
   other_told : (answer : Answer) (id : TxnId) → BeginsNext k.begun answer → id.number ≤ k.begun → IsNotOpen id k.is_open k.txns → IsNotOpen id (is_open_told answer k.is_open) (txns_told answer k)
   other_told (answers.Begun new ts) id begins low other = λ t is named.
-      let e : begun_by k.statement new ts ≡ t = cc in
+      let e : txn_begun k.statement new ts ≡ t = cc in
       not_next id new low begins (sym (named ∙ (sym (ap (λ (t : Txn). t.id) e) ∙ begun_id k.statement new ts)))
   other_told (answers.Committed own ts) id begins low other = none_opened id k.is_open false (txns_told (answers.Committed own ts) k) k.txns (λ e. absurd cc) (when_same (answers.Committed own ts) (replies_to k.sent_now k.heard_now) k.is_open k.txns) other
   other_told (answers.RolledBack own why) id begins low other = none_opened id k.is_open false (txns_told (answers.RolledBack own why) k) k.txns (λ e. absurd cc) (when_same (answers.RolledBack own why) (replies_to k.sent_now k.heard_now) k.is_open k.txns) other
@@ -116,7 +115,7 @@ module _ (k : Known) where
       record {
         may = record {
           resolve = may.resolve;
-          stamps = All-weaker (λ ts. ts ≤ k.top + 1) (λ ts. ts ≤ max k.top (max (last_of (answer_stamps answer)) 0) + 1) (λ ts low. omega (arith, low)) (fate_stamps job.fate) may.stamps;
+          stamps = All-weaker (λ ts. ts ≤ k.top + 1) (λ ts. ts ≤ max k.top (max (greatest_of (answer_stamps answer)) 0) + 1) (λ ts low. omega (arith, low)) (fate_stamps job.fate) may.stamps;
           anchored = may.anchored;
           shown = may.shown;
           final = may.final;

@@ -8,7 +8,7 @@ use Rattle.std.specs.List.{list_any}
 use Rattle.std.specs.Option.{option_map, option_or}
 use Rattle.pc_coord.proofs.Lists.{find-last}
 use Rattle.pc_coord.proofs.Steps.{asked, heard, sent, told}
-use Rattle.pc_coord.specs.Coordination.{Coordination, waits_for}
+use Rattle.pc_coord.specs.Coordination.{Coordination, awaits_number}
 use Rattle.pc_coord.specs.declared.due.Due.{Due}
 use Rattle.pc_coord.specs.Knows.Sending.{AwaitsNone}
 use Rattle.pc_proto.specs.declared.answer.Answer.{Answer}
@@ -21,7 +21,7 @@ use Rattle.pc_world.specs.SameRequest.{IsSameRequest}
 use Rattle.pc_world.specs.Tell.Refusal.{is_heard}
 use Rattle.pc_runner.specs.declared.outbox.Answered.{Answered}
 use Rattle.pc_runner.specs.declared.outbox.Posted.{Posted}
-use Rattle.pc_runner.specs.Traffic.{AreAnsweredFrom, ArePostedFrom, HasHeard, IsNumbered, IsSaid, WaitsFor}
+use Rattle.pc_runner.specs.Traffic.{AreAnsweredFrom, ArePostedFrom, AwaitsAllBetween, HasHeard, IsNumbered, IsSaid}
 
 -- a call is asked
 pub heard_asked : (last : ℕ) (k : Known) (call : Call) (reading : ℕ) → HasHeard last k → HasHeard last (asked call reading k)
@@ -140,7 +140,7 @@ is_between : (last n sends : ℕ) → last < n → n ≤ sends → (nat_lt last 
 is_between last n sends above low = grind (arith, nat_tests)
 
 -- where the coordinator waits for no message of a request, each of it in the open call was answered there
-pub answered_now : (last sends : ℕ) (k : Known) (c : Coordination) (request : Request) → HasHeard last k → sends ≡ length k.sent → WaitsFor last sends c.due → AwaitsNone c k request → AreAnsweredNow k request
+pub answered_now : (last sends : ℕ) (k : Known) (c : Coordination) (request : Request) → HasHeard last k → sends ≡ length k.sent → AwaitsAllBetween last sends c.due → AwaitsNone c k request → AreAnsweredNow k request
 answered_now last sends k c request w counted waits none = each k.sent_now w.numbers_now w.all_now w.said_now
   where
     by : (m : Sent) → IsNumbered (length k.sent) m → (m.number ≤ last → IsTrue (is_heard k.heard_now m)) → IsSaid k.sent m → IsSameRequest request m.request → (b : Bool) → nat_le m.number last ≡ b → IsTrue (is_heard k.heard_now m)
@@ -178,38 +178,38 @@ answered-push number (x ∷ answers) a from is = (from.0, answered-push (number 
 
 -- The coordinator waits for none.
 abbrev pub WaitsForNone : Due → Type 0
-WaitsForNone due = (number : ℕ) → waits_for number due ≡ false
+WaitsForNone due = (number : ℕ) → awaits_number number due ≡ false
 
 in_none : (sends number : ℕ) → false ≡ (nat_lt sends number && nat_le number sends)
 in_none sends number = grind (arith, nat_tests)
 
 -- where all was heard
-pub waits_none : (sends : ℕ) (due : Due) → WaitsForNone due → WaitsFor sends sends due
+pub waits_none : (sends : ℕ) (due : Due) → WaitsForNone due → AwaitsAllBetween sends sends due
 waits_none sends due none number = none number ∙ in_none sends number
 
 in_more : (last sends number : ℕ) → last ≤ sends → (sends + 1 == number || (nat_lt last number && nat_le number sends)) ≡ (nat_lt last number && nat_le number (sends + 1))
 in_more last sends number le = grind (arith, nat_tests)
 
 -- one more message was sent
-pub waits_sent : (last sends : ℕ) (due later : Due) → last ≤ sends → WaitsFor last sends due → ((other : ℕ) → waits_for other later ≡ (sends + 1 == other || waits_for other due)) → WaitsFor last (sends + 1) later
+pub waits_sent : (last sends : ℕ) (due later : Due) → last ≤ sends → AwaitsAllBetween last sends due → ((other : ℕ) → awaits_number other later ≡ (sends + 1 == other || awaits_number other due)) → AwaitsAllBetween last (sends + 1) later
 waits_sent last sends due later le waits more number = more number ∙ (ap (λ b. sends + 1 == number || b) (waits number) ∙ in_more last sends number le)
 
 in_less : (last sends number : ℕ) → ((nat_lt last number && nat_le number sends) && not (last + 1 == number)) ≡ (nat_lt (last + 1) number && nat_le number sends)
 in_less last sends number = grind (arith, nat_tests)
 
 -- the first message that waits was heard
-pub waits_heard : (last sends : ℕ) (due later : Due) → WaitsFor last sends due → ((other : ℕ) → waits_for other later ≡ (waits_for other due && not (last + 1 == other))) → WaitsFor (last + 1) sends later
+pub waits_heard : (last sends : ℕ) (due later : Due) → AwaitsAllBetween last sends due → ((other : ℕ) → awaits_number other later ≡ (awaits_number other due && not (last + 1 == other))) → AwaitsAllBetween (last + 1) sends later
 waits_heard last sends due later waits less number = less number ∙ (ap (λ b. b && not (last + 1 == number)) (waits number) ∙ in_less last sends number)
 
 in_first : (last sends : ℕ) → last < sends → (nat_lt last (last + 1) && nat_le (last + 1) sends) ≡ true
 in_first last sends lt = grind (arith, nat_tests)
 
 -- the first message that was not heard is waited for
-pub waits_first : (last sends : ℕ) (due : Due) → WaitsFor last sends due → last < sends → waits_for (last + 1) due ≡ true
+pub waits_first : (last sends : ℕ) (due : Due) → AwaitsAllBetween last sends due → last < sends → awaits_number (last + 1) due ≡ true
 waits_first last sends due waits lt = waits (last + 1) ∙ in_first last sends lt
 
 -- where none is waited for, all were heard
-pub none_waits : (last sends : ℕ) (due : Due) → WaitsFor last sends due → WaitsForNone due → sends ≤ last
+pub none_waits : (last sends : ℕ) (due : Due) → AwaitsAllBetween last sends due → WaitsForNone due → sends ≤ last
 none_waits last sends due waits none = by (nat_le sends last) refl
   where
     by : (b : Bool) → nat_le sends last ≡ b → sends ≤ last

@@ -1,8 +1,7 @@
 -- The puts that a coordinator sends are of the open transaction.
-use Rattle.std.proofs.Common.{◌≡◌, ℕ, ◌<◌, Bool, true, All, List, [], ◌∷◌, map, Option, Some, refl, sym, ap, subst, ◌∙◌}
+use Rattle.std.proofs.Common.{◌≡◌, ℕ, ◌<◌, Bool, true, All, List, [], ◌∷◌, map, Option, Some, refl, sym, ap, subst, ◌∙◌, IsTrue}
 use Rattle.std.specs.Option.{option_map}
 use Rattle.pc_base.specs.declared.transaction.TxnId.{TxnId}
-use Rattle.pc_coord.proofs.Ids.{same-is}
 use Rattle.pc_coord.proofs.Lists.{find-last}
 use Rattle.pc_coord.specs.Coordination.{Coordination, next_of}
 use Rattle.pc_coord.specs.declared.due.Due.{Due}
@@ -15,32 +14,33 @@ use Rattle.pc_coord.specs.Knows.{AwaitsReply, Knows, KnowsAt}
 use Rattle.pc_coord.specs.Knows.Reading.{AreReadsOf}
 use Rattle.pc_coord.specs.Knows.Sending.{learned}
 use Rattle.pc_coord.specs.Transaction.{put_of}
+use Rattle.pc_lists.proofs.Same.{same_txn-is}
 use Rattle.pc_proto.specs.declared.call.Call.{Call}
 use Rattle.pc_proto.specs.declared.call.Call.TheVariants as calls
 use Rattle.pc_proto.specs.declared.event.Event.TheVariants as events
 use Rattle.pc_proto.specs.declared.request.Request.{Request}
 use Rattle.pc_proto.specs.declared.request.Request.TheVariants as requests
-use Rattle.pc_resolve.specs.ResolveKnows.{is_put_by}
-use Rattle.pc_world.specs.Follows.CallMessages.{IsAbort, IsCommit, IsFor, IsForCall, IsGet, IsScan}
+use Rattle.pc_proto.specs.Requests.{is_abort, is_commit, is_get, is_put_by, is_scan}
+use Rattle.pc_world.specs.Follows.CallMessages.{IsFor, IsForCall}
 use Rattle.pc_world.specs.Known.{Known, first_if, next_number}
 use Rattle.pc_world.specs.Known.Statements.{Statement}
 use Rattle.pc_world.specs.Known.Traffic.{Sent, request_sent}
 use Rattle.pc_world.specs.Known.Transactions.{Txn, txn_sent}
 use Rattle.pc_runner.proofs.Left.{PutsNothing, PutsOpen, nothing_put}
 
-gets_nothing : (request : Request) → IsGet request → PutsNothing request
+gets_nothing : (request : Request) → IsTrue (is_get request) → PutsNothing request
 gets_nothing (requests.Get id epoch seq ts key) is other = refl
 gets_nothing request is other = absurd is
 
-scans_nothing : (request : Request) → IsScan request → PutsNothing request
+scans_nothing : (request : Request) → IsTrue (is_scan request) → PutsNothing request
 scans_nothing (requests.Scan id epoch seq ts span) is other = refl
 scans_nothing request is other = absurd is
 
-commits_nothing : (request : Request) → IsCommit request → PutsNothing request
+commits_nothing : (request : Request) → IsTrue (is_commit request) → PutsNothing request
 commits_nothing (requests.Commit meta ts locks) is other = refl
 commits_nothing request is other = absurd is
 
-aborts_nothing : (request : Request) → IsAbort request → PutsNothing request
+aborts_nothing : (request : Request) → IsTrue (is_abort request) → PutsNothing request
 aborts_nothing (requests.Abort meta why locks) is other = refl
 aborts_nothing request is other = absurd is
 
@@ -62,7 +62,7 @@ open_before request b (u ∷ us) t others is same =
     (u, ap (λ b. first_if b (u ∷ us)) is, ap (λ (t : Txn). t.id) e)
 
 put_by : (x : Transaction) (anchor key : List ℕ) (value : Option (List ℕ)) (id : TxnId) → is_put_by id (put_of x anchor key value) ≡ true → x.id ≡ id
-put_by x anchor key value id e = same-is x.id id e
+put_by x anchor key value id e = same_txn-is x.id id e
 
 module _ (c : Coordination) (k : Known) (request : Request) (earlier : All (λ m. m.number < next_number k) k.sent) (kind : IsForCall k request) where
   -- What it will know.

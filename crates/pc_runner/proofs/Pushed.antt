@@ -16,13 +16,13 @@ use Rattle.pc_proto.specs.declared.request.Request.TheVariants as requests
 use Rattle.pc_proto.specs.declared.view.View.{View}
 use Rattle.pc_proto.specs.Place.{Place, Nothing, Kept, Marked, after, is_decided, is_final, status_view, view_of}
 use Rattle.pc_proto.specs.RecordRows.{push_reply}
-use Rattle.pc_proto.specs.RecordRows.Push.{Verdict, There, Refuse, Doubt, Do, is_staged, on_verdict, push, pushed, verdict, wins}
+use Rattle.pc_proto.specs.RecordRows.Push.{Verdict, There, Refuse, Doubt, Do, is_staged, on_verdict, push, push_verdict, pushed, wins}
 use Rattle.pc_proto.specs.Table.{place_of}
-use Rattle.pc_push.proofs.Marks.{IsFinalPlace, place_final}
+use Rattle.pc_proto.specs.Views.{fate_after, final_fate}
 use Rattle.pc_push.specs.Pushing.{Pushing, push_of}
-use Rattle.pc_world.specs.Exchange.{IsReplyTo}
+use Rattle.pc_world.proofs.FinalMarks.{IsFinalPlace, place_final}
+use Rattle.pc_world.specs.Exchange.{IsPossibleReply}
 use Rattle.pc_world.specs.StateOf.{state_of}
-use Rattle.pc_world.specs.Views.{fate_after, final_fate}
 
 final_shows : (s : Standing) (epoch ts : ℕ) (writes : List (List ℕ × ℕ)) (locks : List (List ℕ)) → is_final s ≡ true → final_fate (status_view s epoch ts writes locks) ≡ None → ⊥
 final_shows standings.Pending epoch ts writes locks h none = cc
@@ -55,16 +55,16 @@ decides_when : (b : Bool) (p : Place) (other : Reply) → is_decided p ≡ b →
 decides_when true p other is final h = decided_shows p final is
 decides_when false p other is final h = h
 
-abort_decides : (holder : TxnMeta) (by : Who) (level : Priority) (reading : ℕ) (told : Reply) → IsReplyTo (requests.Push holder by level reading goals.Abort) told → Decides told
+abort_decides : (holder : TxnMeta) (by : Who) (level : Priority) (reading : ℕ) (told : Reply) → IsPossibleReply (requests.Push holder by level reading goals.Abort) told → Decides told
 abort_decides holder by level reading told is =
     let p = place_of holder.id (state_of is.own).table in
-    let v = verdict holder level reading goals.Abort p in
+    let v = push_verdict holder level reading goals.Abort p in
     subst Decides (sym is.is)
     (decides_when (is_decided p) p (push_reply v p (after p (push holder by level reading goals.Abort p))) refl (place_final holder.id is.own)
     (abort_shows holder by p v (no_there (wins holder level reading p) (is_staged p))))
 
 -- a push that is answered by a status leaves its holder's intent to be settled
-pub push_decides : (m : Pushing) (view : View) → IsReplyTo (push_of m) (replies.Status view) → fate_after m.goal view ≡ None → ⊥
+pub push_decides : (m : Pushing) (view : View) → IsPossibleReply (push_of m) (replies.Status view) → fate_after m.goal view ≡ None → ⊥
 push_decides m view is none = by m.goal refl
   where
     moved : (target : ℕ) → fate_after (goals.Move target) view ≡ None → ⊥
@@ -84,5 +84,5 @@ push_decides m view is none = by m.goal refl
     by : (goal : Goal) → m.goal ≡ goal → ⊥
     by (goals.Move target) goal = moved target (sym (ap (λ g. fate_after g view) goal) ∙ none)
     by goals.Abort goal =
-        abort_decides m.holder m.by m.level m.reading (replies.Status view) (subst (λ g. IsReplyTo (requests.Push m.holder m.by m.level m.reading g) (replies.Status view)) goal is)
+        abort_decides m.holder m.by m.level m.reading (replies.Status view) (subst (λ g. IsPossibleReply (requests.Push m.holder m.by m.level m.reading g) (replies.Status view)) goal is)
         (final (sym (ap (λ g. fate_after g view) goal) ∙ none))

@@ -10,9 +10,10 @@ use Rattle.pc_base.specs.declared.entry.Entry.{Entry}
 use Rattle.pc_base.specs.declared.span.Span.{Span}
 use Rattle.pc_base.specs.declared.span.Span.TheVariants.{Between, One}
 use Rattle.pc_base.specs.declared.transaction.TxnId.{TxnId}
+use Rattle.pc_base.specs.Rising.{AreRising}
 use Rattle.pc_base.specs.Span.{key_at_most}
-use Rattle.pc_history.proofs.Lists.{contains_in_map, contains_nil, length_set}
 use Rattle.pc_history.specs.declared.pair.Pair.{Pair}
+use Rattle.pc_lists.proofs.Lists.{contains_in_map, contains_nil, length_set}
 use Rattle.pc_proto.specs.declared.event.Event.{Event}
 use Rattle.pc_proto.specs.declared.event.Event.TheVariants as events
 use Rattle.pc_proto.specs.declared.reply.Reply.{Reply}
@@ -27,7 +28,7 @@ use Rattle.pc_world.specs.Known.{Known}
 use Rattle.pc_world.specs.Local.{Head, MayComeNext}
 use Rattle.pc_world.specs.MaySend.{MaySendRow}
 use Rattle.pc_world.specs.Named.{request_in, request_named}
-use Rattle.pc_world.specs.RangeOf.{AreRising, GoesTo, IsForOne, pieces, range_of, range_of_start}
+use Rattle.pc_world.specs.RangeOf.{GoesTo, IsForOne, pieces, range_of, range_of_start}
 use Rattle.pc_world.specs.RangeState.{RangeState, no_state}
 use Rattle.pc_world.specs.Run.{IsRun}
 use Rattle.pc_world.specs.Send.Reading.{MaySendScan}
@@ -36,7 +37,7 @@ use Rattle.pc_world.specs.StateOf.{state_with}
 use Rattle.pc_runner.proofs.Entering.{eval_names, first_history, sound_begun}
 use Rattle.pc_runner.proofs.Places.{get_set_other, get_set_same}
 use Rattle.pc_runner.specs.Database.{IsForOneOrRefreshes, StandBy}
-use Rattle.pc_runner.specs.History.{History, IsSound, state_in}
+use Rattle.pc_runner.specs.History.{History, IsSoundHistory, state_in}
 use Rattle.pc_runner.specs.Journal.{HasGrown, WasSentTo, next_entry}
 
 -- ---- the range of a request
@@ -153,11 +154,11 @@ module _ (head : Head) where
   placed-there history run = placed history run
 
 -- a message that a session sent went to its range
-pub sent_goes : (h : History) (session number range : ℕ) (request : Request) → IsSound h → WasSentTo h session number range request → GoesTo h.head.splits request range
+pub sent_goes : (h : History) (session number range : ℕ) (request : Request) → IsSoundHistory h → WasSentTo h session number range request → GoesTo h.head.splits request range
 sent_goes h session number range request sound sent = (placed-there h.head h.entries sound.run sent.send session number range request sent.stands sent.whose sent.says).goes
 
 -- and to no other
-pub sent_to : (h : History) (session number range other : ℕ) (request : Request) → IsSound h → WasSentTo h session number range request → GoesTo h.head.splits request other → WasSentTo h session number other request
+pub sent_to : (h : History) (session number range other : ℕ) (request : Request) → IsSoundHistory h → WasSentTo h session number range request → GoesTo h.head.splits request other → WasSentTo h session number other request
 sent_to h session number range other request sound sent goes =
     let is = placed-there h.head h.entries sound.run sent.send session number range request sent.stands sent.whose sent.says in
     subst (λ r. WasSentTo h session number r request) (goes-same h.head.splits request range other is.listed is.goes goes) sent

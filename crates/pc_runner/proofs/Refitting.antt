@@ -20,7 +20,7 @@ use Rattle.pc_world.specs.Tell.Begin.{MayTellBegun}
 use Rattle.pc_world.specs.Tell.Data.{MayTellRows, MayTellValue, MayTellWritten}
 use Rattle.pc_runner.proofs.Fitting.{after_begin, again_fits, behind, first_of, opened_fits, reader_suits, reads_get, reads_scan, rerun_fits, writer_suits, writes_delete, writes_put}
 use Rattle.pc_runner.specs.Follows.Script.{Position, after_told, next_call, opened}
-use Rattle.pc_runner.specs.Suiting.{Fits, FitsTxn, IsCallIn, IsCourse}
+use Rattle.pc_runner.specs.Suiting.{FitsCalls, FitsTxn, IsCallIn, IsCourse}
 
 pub row_by : (needs past : Bool) (none clock row : Type 0) → (none → ⊥) → (clock → ⊥) → MatchBool needs none (MatchBool past clock row) → row
 row_by true past none clock row first second is = absurd (first is)
@@ -76,8 +76,8 @@ pub record IsAnsweredCall (at : Position) (k : Known) (call : Call) (answer : An
 
 module _ (at : Position) (txn : Option Transaction) where
   -- the next item, where no transaction is open
-  next_item : All IsBuiltItem at.items → txn ≡ None → Fits (opened at.items at.reruns) txn
-  next_item items none = subst (Fits (opened at.items at.reruns)) (sym none) (opened_fits at.items at.reruns items)
+  next_item : All IsBuiltItem at.items → txn ≡ None → FitsCalls (opened at.items at.reruns) txn
+  next_item items none = subst (FitsCalls (opened at.items at.reruns)) (sym none) (opened_fits at.items at.reruns items)
 
   -- behind a call that reads
   on_reading : (call : Call) → IsCourse at.ahead → next_call at ≡ Some call → is_outside call ≡ false → ((reads : Bool) → IsCallIn reads call → reads ≡ true) → IfSome txn IsReader → FitsTxn (drop 1 at.ahead) txn
@@ -100,7 +100,7 @@ module _ (at : Position) (txn : Option Transaction) where
 
 -- after each answer the script goes on with what is open
 pub told_fits : (answer : Answer) (at : Position) (txn : Option Transaction) (splits : List (List ℕ)) (actor : ActorId) (k : Known) (s : Statement) → IsAnsweredCall at k s.call answer txn → MayTellIn splits actor k s answer
-    → Fits (after_told answer at) txn
+    → FitsCalls (after_told answer at) txn
 told_fits (answers.Begun id ts) at txn splits actor k s a may =
     let row : MayTellBegun actor k s id ts = row_by _ _ (answers.Begun id ts ≡ answers.NoTxn) (answers.Begun id ts ≡ answers.Clock s.reading) (MayTellBegun actor k s id ts) (λ e. absurd cc) (λ e. absurd cc) may in
     record { items = a.items; now = after_begin at.ahead s.call row.priority txn a.course a.next row.asked a.suits }

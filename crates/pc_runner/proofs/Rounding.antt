@@ -6,9 +6,6 @@ use Rattle.pc_base.specs.declared.actor.ActorId.TheVariants as actors
 use Rattle.pc_base.specs.declared.transaction.TxnId.{TxnId}
 use Rattle.pc_base.specs.declared.transaction.Who.TheVariants as whos
 use Rattle.pc_base.specs.Transaction.{same_txn}
-use Rattle.pc_coord.proofs.Ids.{same-is}
-use Rattle.pc_coord.proofs.Rounds.{count-append, count-cons, one_if}
-use Rattle.pc_coord.proofs.Same.{same_txn-self}
 use Rattle.pc_coord.specs.Beside.{IsBeside, IsLaterBeside}
 use Rattle.pc_coord.specs.Coordination.{Coordination, next_of}
 use Rattle.pc_coord.specs.declared.due.Due.{Due}
@@ -24,7 +21,9 @@ use Rattle.pc_coord.specs.Knows.Sending.{IsConflictNow}
 use Rattle.pc_coord.specs.Knows.Writing.{write_call}
 use Rattle.pc_coord.specs.Messages.{read_at}
 use Rattle.pc_coord.specs.Pusher.{IsPusherOf}
-use Rattle.pc_coord.specs.Rounds.{EndsRound, IsRefusedRound, IsSettledRound, is_resolve_of, was_met, was_pushed, was_settled}
+use Rattle.pc_coord.specs.Rounds.{EndsRound, IsRefusedRound, IsSettledRound, shows_resolve, was_met, was_pushed}
+use Rattle.pc_lists.proofs.Counts.{count-append, count-cons, one_if}
+use Rattle.pc_lists.proofs.Same.{same_txn-is, same_txn-self}
 use Rattle.pc_proto.specs.declared.call.Call.{Call}
 use Rattle.pc_proto.specs.declared.call.Call.TheVariants as calls
 use Rattle.pc_proto.specs.declared.fate.Fate.{Fate}
@@ -34,25 +33,26 @@ use Rattle.pc_proto.specs.declared.reply.Reply.TheVariants as replies
 use Rattle.pc_proto.specs.declared.request.Request.{Request}
 use Rattle.pc_proto.specs.declared.request.Request.TheVariants as requests
 use Rattle.pc_proto.specs.declared.view.View.{View}
+use Rattle.pc_proto.specs.Replies.{ConflictsWith, is_conflict_with, is_refused}
+use Rattle.pc_proto.specs.Requests.{goal_in, is_push_of, is_resolve_of, round_of}
 use Rattle.pc_proto.specs.Stamps.{goal_stamps}
+use Rattle.pc_proto.specs.Views.{fate_after}
 use Rattle.pc_push.specs.declared.progress.Progress.{Progress}
 use Rattle.pc_push.specs.declared.progress.Progress.TheVariants as progresses
 use Rattle.pc_push.specs.PushKnows.{Asks, AsksAt, MayPush}
-use Rattle.pc_push.specs.Pushing.{Pushing, after_reply, due_at, goal_of, heard_at, push_of, resolve_of, resolving}
+use Rattle.pc_push.specs.Pushing.{Pushing, goal_of, holder_resolve, push_of, resolve_or, round_after, round_due, round_heard}
 use Rattle.pc_world.specs.Answering.{MayAnswer}
 use Rattle.pc_world.specs.Counting.{AtLeast}
 use Rattle.pc_world.specs.declared.machine.MachineNext.TheVariants as machine
-use Rattle.pc_world.specs.Exchange.{IsReplyTo}
-use Rattle.pc_world.specs.Follows.EarlyTell.{IsDecided}
-use Rattle.pc_world.specs.Follows.Resends.{HasMoreConflicts, MayGoAgain, goal_in, round_of}
+use Rattle.pc_world.specs.Exchange.{IsPossibleReply}
+use Rattle.pc_world.specs.Follows.EarlyTell.{IsCommitKnown}
+use Rattle.pc_world.specs.Follows.Resends.{HasMoreConflicts, MayGoAgain}
 use Rattle.pc_world.specs.Known.{Known, call_in, call_of, first_if, open_txn, reading_in}
 use Rattle.pc_world.specs.Known.Traffic.{Heard, Sent}
 use Rattle.pc_world.specs.Known.Transactions.{Txn}
 use Rattle.pc_world.specs.SameRequest.{IsSameRequest}
-use Rattle.pc_world.specs.Send.Push.{ConflictsWith, goal_for}
-use Rattle.pc_world.specs.Send.Recovery.{is_conflict_with, is_push_of, is_refused}
+use Rattle.pc_world.specs.Send.Push.{goal_for}
 use Rattle.pc_world.specs.Tell.Refusal.{is_heard}
-use Rattle.pc_world.specs.Views.{fate_after}
 use Rattle.pc_runner.proofs.Pushed.{push_decides}
 use Rattle.pc_runner.specs.Exchanging.{IsTimely}
 use Rattle.pc_runner.specs.Rounding.{HasCome, IsOfConflict, WasPushedOnce}
@@ -87,7 +87,7 @@ same_push : (m : Pushing) (h : Heard) → IsSameRequest (push_of m) h.request �
 same_push m h (inl same) = sym (ap (is_push_of m.holder.id) same) ∙ same_txn-self m.holder.id
 same_push m h (inr put) = absurd put
 
-same_resolve : (m : Pushing) (fate : Fate) (h : Heard) → IsSameRequest (resolve_of m fate) h.request → was_settled m.holder.id h ≡ true
+same_resolve : (m : Pushing) (fate : Fate) (h : Heard) → IsSameRequest (holder_resolve m fate) h.request → shows_resolve m.holder.id h ≡ true
 same_resolve m fate h (inl same) = sym (ap (is_resolve_of m.holder.id) same) ∙ same_txn-self m.holder.id
 same_resolve m fate h (inr put) = absurd put
 
@@ -151,7 +151,7 @@ pub not_same : (one other : TxnId) → (one ≡ other → ⊥) → same_txn one 
 not_same one other differ = by (same_txn one other) refl
   where
     by : (b : Bool) → same_txn one other ≡ b → same_txn one other ≡ false
-    by true is = absurd (differ (same-is one other is))
+    by true is = absurd (differ (same_txn-is one other is))
     by false is = is
 
 -- ---- the messages of the round
@@ -179,11 +179,11 @@ module _ (c : Coordination) (start : Known) (number : ℕ) (conflict : Reply) (r
     other = λ x held. open_other m made x held;
   }
 
-  pub resolve_beside : (m : Pushing) (fate : Fate) → IsBeside c (resolve_of m fate)
+  pub resolve_beside : (m : Pushing) (fate : Fate) → IsBeside c (holder_resolve m fate)
   resolve_beside m fate = record { kind = refl; begun = λ id about whose. absurd cc; other = λ x held. refl }
 
   module _ (k : Known) (later : IsLaterBeside c start k) (answered : All (λ m. IsTrue (is_heard k.heard_now m)) k.sent_now) (waiting : List (List Request)) where
-    not_decided : (t : Txn) (ts : ℕ) → IsDecided k t ts → ⊥
+    not_decided : (t : Txn) (ts : ℕ) → IsCommitKnown k t ts → ⊥
     not_decided t ts d = (met_in c start number conflict reader knows next).undecided (sym (ap call_in later.statement) ∙ d.asked)
 
     in_call : k.statement ≡ Some met.s
@@ -214,21 +214,21 @@ module _ (c : Coordination) (start : Known) (number : ℕ) (conflict : Reply) (r
         count-at_least (λ h. IsTrue (is_conflict_with id h.reply)) (was_met id) (λ h is. is) (n + 1) k.heard_now (omega (arith, a, b, d, low)))
 
     -- and than settlings of its intents
-    pub resolve_timely : (m : Pushing) (fate : Fate) → IsMade m → WasPushedOnce m.holder.id m.goal fate start k → IsTimely k waiting (resolve_of m fate)
+    pub resolve_timely : (m : Pushing) (fate : Fate) → IsMade m → WasPushedOnce m.holder.id m.goal fate start k → IsTimely k waiting (holder_resolve m fate)
     resolve_timely m fate made was =
         let id = m.holder.id in
         let is : id ≡ met.holder.id = ap (λ (h : TxnMeta). h.id) made.holder in
         let low : count_by (was_pushed id) start.heard_now + 1 ≤ count_by (was_met id) start.heard_now =
         subst (λ id. count_by (was_pushed id) start.heard_now + 1 ≤ count_by (was_met id) start.heard_now) (sym is) met.pushes in
-        let few : count_by (was_settled id) start.heard_now ≤ count_by (was_pushed id) start.heard_now =
-        subst (λ id. count_by (was_settled id) start.heard_now ≤ count_by (was_pushed id) start.heard_now) (sym is) met.resolves in
-        timely (resolve_of m fate) id refl (λ n many.
-        let a : n ≤ count_by (was_settled id) k.heard_now = at_least-count (λ h. IsSameRequest (resolve_of m fate) h.request) (was_settled id) (same_resolve m fate) n k.heard_now many in
+        let few : count_by (shows_resolve id) start.heard_now ≤ count_by (was_pushed id) start.heard_now =
+        subst (λ id. count_by (shows_resolve id) start.heard_now ≤ count_by (was_pushed id) start.heard_now) (sym is) met.resolves in
+        timely (holder_resolve m fate) id refl (λ n many.
+        let a : n ≤ count_by (shows_resolve id) k.heard_now = at_least-count (λ h. IsSameRequest (holder_resolve m fate) h.request) (shows_resolve id) (same_resolve m fate) n k.heard_now many in
         let on : (p : Heard → Bool) → count_by p k.heard_now ≡ count_by p start.heard_now + one_if (p was.push) = λ p.
         let e : count_by p k.heard_now ≡ count_by p (start.heard_now ++ was.push ∷ []) = ap (count_by p) was.more in
         omega (arith, e, count-append p start.heard_now (was.push ∷ []), count-cons p was.push []) in
-        let b : one_if (was_settled id was.push) ≡ 0 = ap one_if (push_settles_none id was.push.request was.pushed) in
-        count-at_least (λ h. IsTrue (is_conflict_with id h.reply)) (was_met id) (λ h is. is) (n + 1) k.heard_now (omega (arith, a, b, on (was_settled id), on (was_met id), low, few)))
+        let b : one_if (shows_resolve id was.push) ≡ 0 = ap one_if (push_settles_none id was.push.request was.pushed) in
+        count-at_least (λ h. IsTrue (is_conflict_with id h.reply)) (was_met id) (λ h is. is) (n + 1) k.heard_now (omega (arith, a, b, on (shows_resolve id), on (was_met id), low, few)))
 
 -- ---- the machine's beginning
 
@@ -263,7 +263,7 @@ may_push session k number conflict reader met pusher reading call pushes opened 
 -- ---- its steps
 
 -- what it asks for
-pub sends_asks : (p : Progress) (m : Pushing) (request : Request) → due_at p m ≡ machine.Send request → AsksAt p m request
+pub sends_asks : (p : Progress) (m : Pushing) (request : Request) → round_due p m ≡ machine.Send request → AsksAt p m request
 sends_asks progresses.Push m request is = cc
 sends_asks progresses.Refused m request is = absurd cc
 sends_asks (progresses.Unsure view) m request is = absurd cc
@@ -272,7 +272,7 @@ sends_asks progresses.Over m request is = absurd cc
 
 module _ (m : Pushing) (start k later : Known) (h : Heard) (more : later.heard_now ≡ k.heard_now ++ h ∷ []) where
   status_come : (view : View) (fate : Option Fate) → fate_after m.goal view ≡ fate → (fate_after m.goal view ≡ None → ⊥) → k.heard_now ≡ start.heard_now → h.request ≡ push_of m → h.reply ≡ replies.Status view
-      → HasCome (resolving fate progresses.Push) m start later
+      → HasCome (resolve_or fate progresses.Push) m start later
   status_come view None is not same asked told = absurd (not is)
   status_come view (Some fate) is not same asked told = record {
     push = h;
@@ -284,7 +284,7 @@ module _ (m : Pushing) (start k later : Known) (h : Heard) (more : later.heard_n
     left = is;
   }
 
-  come_push : (reply : Reply) → h.reply ≡ reply → k.heard_now ≡ start.heard_now → h.request ≡ push_of m → MayAnswer (push_of m) reply → IsReplyTo (push_of m) reply → HasCome (heard_at progresses.Push reply m).progress m start later
+  come_push : (reply : Reply) → h.reply ≡ reply → k.heard_now ≡ start.heard_now → h.request ≡ push_of m → MayAnswer (push_of m) reply → IsPossibleReply (push_of m) reply → HasCome (round_heard progresses.Push reply m).progress m start later
   come_push (replies.Status view) told same asked may is = status_come view (fate_after m.goal view) refl (push_decides m view is) same asked told
   come_push (replies.Refused view) told same asked may is =
       let pushed : is_push_of m.holder.id h.request ≡ true = ap (is_push_of m.holder.id) asked ∙ same_txn-self m.holder.id in
@@ -295,7 +295,7 @@ module _ (m : Pushing) (start k later : Known) (h : Heard) (more : later.heard_n
       }
   come_push reply told same asked may is = absurd may
 
-  come_resolve : (reply : Reply) (fate : Fate) → h.reply ≡ reply → WasPushedOnce m.holder.id m.goal fate start k → h.request ≡ resolve_of m fate → MayAnswer (resolve_of m fate) reply → IsSettledRound m.holder.id m.key start later
+  come_resolve : (reply : Reply) (fate : Fate) → h.reply ≡ reply → WasPushedOnce m.holder.id m.goal fate start k → h.request ≡ holder_resolve m fate → MayAnswer (holder_resolve m fate) reply → IsSettledRound m.holder.id m.key start later
   come_resolve replies.Resolved fate told was asked may = record {
     push = was.push;
     view = was.view;
@@ -311,9 +311,9 @@ module _ (m : Pushing) (start k later : Known) (h : Heard) (more : later.heard_n
   }
   come_resolve reply fate told was asked may = absurd may
 
-  come_by : (p : Progress) → HasCome p m start k → AsksAt p m h.request → MayAnswer h.request h.reply → IsReplyTo h.request h.reply → HasCome (heard_at p h.reply m).progress m start later
+  come_by : (p : Progress) → HasCome p m start k → AsksAt p m h.request → MayAnswer h.request h.reply → IsPossibleReply h.request h.reply → HasCome (round_heard p h.reply m).progress m start later
   come_by progresses.Push come asks may is =
-      come_push h.reply refl come asks (subst (λ q. MayAnswer q h.reply) asks may) (subst (λ q. IsReplyTo q h.reply) asks is)
+      come_push h.reply refl come asks (subst (λ q. MayAnswer q h.reply) asks may) (subst (λ q. IsPossibleReply q h.reply) asks is)
   come_by progresses.Refused come asks may is = absurd asks
   come_by (progresses.Unsure view) come asks may is = absurd come
   come_by (progresses.Resolve fate) come asks may is = come_resolve h.reply fate refl come asks (subst (λ q. MayAnswer q h.reply) asks may)
@@ -326,26 +326,26 @@ module _ (m : Pushing) (start k later : Known) (h : Heard) (more : later.heard_n
   restood (progresses.Resolve fate) progress come = come
   restood progresses.Over progress come = come
 
-  on_itself : (p : Progress) (reply : Reply) → HasCome (heard_at p reply m).progress m start later → HasCome (heard_at p reply m).progress (heard_at p reply m) start later
-  on_itself progresses.Push reply come = restood (heard_at progresses.Push reply m).progress (heard_at progresses.Push reply m).progress come
+  on_itself : (p : Progress) (reply : Reply) → HasCome (round_heard p reply m).progress m start later → HasCome (round_heard p reply m).progress (round_heard p reply m) start later
+  on_itself progresses.Push reply come = restood (round_heard progresses.Push reply m).progress (round_heard progresses.Push reply m).progress come
   on_itself progresses.Refused reply come = come
-  on_itself (progresses.Unsure view) reply come = restood (heard_at (progresses.Unsure view) reply m).progress (heard_at (progresses.Unsure view) reply m).progress come
+  on_itself (progresses.Unsure view) reply come = restood (round_heard (progresses.Unsure view) reply m).progress (round_heard (progresses.Unsure view) reply m).progress come
   on_itself (progresses.Resolve fate) reply come = restood progresses.Over progresses.Over come
   on_itself progresses.Over reply come = come
 
   -- after the reply to what it asked for it stands at what was heard
-  pub come_on : HasCome m.progress m start k → Asks m h.request → MayAnswer h.request h.reply → IsReplyTo h.request h.reply → HasCome (after_reply h.reply m).progress (after_reply h.reply m) start later
+  pub come_on : HasCome m.progress m start k → Asks m h.request → MayAnswer h.request h.reply → IsPossibleReply h.request h.reply → HasCome (round_after h.reply m).progress (round_after h.reply m) start later
   come_on come asks may is = on_itself m.progress h.reply (come_by m.progress come asks may is)
 
 -- it stays the round of its conflict
-same_round : (p : Progress) (reply : Reply) (m : Pushing) → ((heard_at p reply m).holder ≡ m.holder) × ((heard_at p reply m).key ≡ m.key)
+same_round : (p : Progress) (reply : Reply) (m : Pushing) → ((round_heard p reply m).holder ≡ m.holder) × ((round_heard p reply m).key ≡ m.key)
 same_round progresses.Push reply m = (refl, refl)
 same_round progresses.Refused reply m = (refl, refl)
 same_round (progresses.Unsure view) reply m = (refl, refl)
 same_round (progresses.Resolve fate) reply m = (refl, refl)
 same_round progresses.Over reply m = (refl, refl)
 
-pub round_same : (reply : Reply) (m : Pushing) → ((after_reply reply m).holder ≡ m.holder) × ((after_reply reply m).key ≡ m.key)
+pub round_same : (reply : Reply) (m : Pushing) → ((round_after reply m).holder ≡ m.holder) × ((round_after reply m).key ≡ m.key)
 round_same reply m = same_round m.progress reply m
 
 -- ---- its end
@@ -364,19 +364,19 @@ ends_settled (replies.Conflict holder ts key) m start k of ended =
     subst (λ key. IsSettledRound holder.id key start k) of.1 (subst (λ (h : TxnMeta). IsSettledRound h.id m.key start k) of.0 ended)
 ends_settled conflict m start k of ended = absurd of
 
-pub at_refused : (p : Progress) (m : Pushing) (id : TxnId) (start k : Known) → due_at p m ≡ machine.Refused id → HasCome p m start k → IsRefusedRound m.holder.id start k
+pub at_refused : (p : Progress) (m : Pushing) (id : TxnId) (start k : Known) → round_due p m ≡ machine.Refused id → HasCome p m start k → IsRefusedRound m.holder.id start k
 at_refused progresses.Refused m id start k is come = come
 at_refused p m id start k is come = absurd cc
 
-pub at_finished : (p : Progress) (m : Pushing) (start k : Known) → due_at p m ≡ machine.Finished → HasCome p m start k → IsSettledRound m.holder.id m.key start k
+pub at_finished : (p : Progress) (m : Pushing) (start k : Known) → round_due p m ≡ machine.Finished → HasCome p m start k → IsSettledRound m.holder.id m.key start k
 at_finished progresses.Over m start k is come = come
 at_finished p m start k is come = absurd cc
 
-pub at_settled : (p : Progress) (m : Pushing) (view : View) (start k : Known) → due_at p m ≡ machine.Settled view → HasCome p m start k → ⊥
+pub at_settled : (p : Progress) (m : Pushing) (view : View) (start k : Known) → round_due p m ≡ machine.Settled view → HasCome p m start k → ⊥
 at_settled (progresses.Unsure met) m view start k is come = come
 at_settled p m view start k is come = cc
 
-pub at_changed : (p : Progress) (m : Pushing) (view : View) → due_at p m ≡ machine.Changed view → ⊥
+pub at_changed : (p : Progress) (m : Pushing) (view : View) → round_due p m ≡ machine.Changed view → ⊥
 at_changed progresses.Push m view is = cc
 at_changed progresses.Refused m view is = cc
 at_changed (progresses.Unsure met) m view is = cc

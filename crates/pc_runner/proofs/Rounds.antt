@@ -8,7 +8,7 @@ use Rattle.pc_base.specs.declared.transaction.Who.TheVariants as whos
 use Rattle.pc_base.specs.Timestamp.{greatest}
 use Rattle.pc_coord.proofs.Waits.{reads_conflict_waits}
 use Rattle.pc_coord.specs.Beside.{IsBeside}
-use Rattle.pc_coord.specs.Coordination.{next_of, waits_for, with_clock}
+use Rattle.pc_coord.specs.Coordination.{awaits_number, next_of, with_clock}
 use Rattle.pc_coord.specs.declared.due.Due.{Due}
 use Rattle.pc_coord.specs.declared.due.Due.TheVariants as dues
 use Rattle.pc_coord.specs.declared.next.Next.TheVariants as nexts
@@ -20,16 +20,16 @@ use Rattle.pc_proto.specs.declared.meta.TxnMeta.{TxnMeta}
 use Rattle.pc_proto.specs.declared.reply.Reply.{Reply}
 use Rattle.pc_proto.specs.declared.reply.Reply.TheVariants as replies
 use Rattle.pc_proto.specs.declared.request.Request.{Request}
+use Rattle.pc_proto.specs.Replies.{is_conflict}
 use Rattle.pc_push.specs.declared.progress.Progress.{Progress}
 use Rattle.pc_push.specs.declared.progress.Progress.TheVariants as progresses
-use Rattle.pc_push.specs.PushKnows.{Asks, AsksAt, MayCome, MayPush, PushKnows}
-use Rattle.pc_push.specs.Pushing.{IsStart, Pushing, goal_of, next_of as next_due}
+use Rattle.pc_push.specs.PushKnows.{Asks, AsksAt, MayPush, PushKnows, RoundMayCome}
+use Rattle.pc_push.specs.Pushing.{IsStart, Pushing, goal_of, round_next as next_due}
 use Rattle.pc_world.specs.declared.machine.MachineNext.{MachineNext}
 use Rattle.pc_world.specs.declared.machine.MachineNext.TheVariants as machine
 use Rattle.pc_world.proofs.Kept.{run_top}
 use Rattle.pc_world.specs.Exchange.{IsAllowed}
 use Rattle.pc_world.specs.Known.{Known}
-use Rattle.pc_world.specs.Send.Recovery.{is_conflict}
 use Rattle.pc_world.specs.Tell.Refusal.{is_heard}
 use Rattle.pc_runner.proofs.Beside.{later_itself}
 use Rattle.pc_runner.proofs.Besides.{may_exchange}
@@ -44,11 +44,11 @@ use Rattle.pc_runner.specs.Exchanging.{IsTimely}
 use Rattle.pc_runner.specs.Following.{IsInCall}
 use Rattle.pc_runner.specs.History.{History, known_by}
 use Rattle.pc_runner.specs.Keeping.{AreDelivered}
-use Rattle.pc_runner.specs.Rounding.{HasCome, IsInRound, IsOfConflict}
-use Rattle.pc_runner.specs.Traffic.{HasHeard, WaitsFor}
+use Rattle.pc_runner.specs.Rounding.{HasCome, IsMakingRound, IsOfConflict}
+use Rattle.pc_runner.specs.Traffic.{AwaitsAllBetween, HasHeard}
 
 -- nothing is awaited where a conflict's round is due
-pub conflict_waits : (n : ℕ) (due : Due) (number : ℕ) (conflict : Reply) (reader : Option ℕ) → next_of due ≡ nexts.Conflict number conflict reader → waits_for n due ≡ false
+pub conflict_waits : (n : ℕ) (due : Due) (number : ℕ) (conflict : Reply) (reader : Option ℕ) → next_of due ≡ nexts.Conflict number conflict reader → awaits_number n due ≡ false
 conflict_waits n (dues.Read messages) number conflict reader next = reads_conflict_waits n messages number conflict reader next
 conflict_waits n (dues.Met met reply conflicts again) number conflict reader next = refl
 conflict_waits n due number conflict reader next = absurd cc
@@ -66,7 +66,7 @@ module _ (r : SessionRun) (h : History) (number : ℕ) (conflict : Reply) (reade
 
   all_heard : r.sends ≤ calls.way.last
   all_heard =
-      let waits : WaitsFor calls.way.last r.sends r.coordinator.due = calls.way.waits in
+      let waits : AwaitsAllBetween calls.way.last r.sends r.coordinator.due = calls.way.waits in
       none_between calls.way.last r.sends (sym (waits r.sends) ∙ conflict_waits r.sends r.coordinator.due number conflict reader next)
 
   pub at_last : calls.way.last ≡ r.sends
@@ -119,7 +119,7 @@ module _ (r : SessionRun) (h : History) (number : ℕ) (conflict : Reply) (reade
 
   -- the machine begins the round
   pub round_start : (pusher : Pusher) (m : Pushing) → IsPusherOf k (Some pusher) → IsStart conflict (whos.Txn pusher.id) pusher.level r.reading reader m → (MayPush (actors.Session r.number) k m → PushKnows (actors.Session r.number) k k m)
-      → IsInRound r h conflict m r h
+      → IsMakingRound r h conflict m r h
   round_start pusher m pushes start knows =
       let made : m ≡ record { holder = met.holder; key = met.key; by = whos.Txn pusher.id; level = pusher.level; reading = r.reading; goal = goal_of reader; progress = progresses.Push } =
       subst (λ reply. IsStart reply (whos.Txn pusher.id) pusher.level r.reading reader m) met.is start in
@@ -137,7 +137,7 @@ module _ (r : SessionRun) (h : History) (number : ℕ) (conflict : Reply) (reade
             subst (λ id. id.number ≤ r.coordinator.begun) (sym id) (holder_low (ap (λ id. id.session) (sym id) ∙ mine));
       }
 
-  module _ (m : Pushing) (new : SessionRun) (g : History) (round : IsInRound r h conflict m new g) where
+  module _ (m : Pushing) (new : SessionRun) (g : History) (round : IsMakingRound r h conflict m new g) where
     -- What the session knows now.
     abbrev l : Known
     l = known_by new.number g
@@ -175,7 +175,7 @@ module _ (r : SessionRun) (h : History) (number : ℕ) (conflict : Reply) (reade
     given_asks given request due is = sends_asks m.progress m request (sym due ∙ is)
 
     pub round_asks : (given : MachineNext) (request : Request) → given ≡ next_due m → given ≡ machine.Send request
-        → ((splits : List (List ℕ)) (actor : ActorId) (start k : Known) → PushKnows actor start k m → MayCome splits actor start k m given) → MayExchange new g request
+        → ((splits : List (List ℕ)) (actor : ActorId) (start k : Known) → PushKnows actor start k m → RoundMayCome splits actor start k m given) → MayExchange new g request
     round_asks given request due is may =
         round_may request (given_asks given request due is)
-        (subst (MayCome g.head.splits (actors.Session new.number) k l m) is (may g.head.splits (actors.Session new.number) k l round.knows))
+        (subst (RoundMayCome g.head.splits (actors.Session new.number) k l m) is (may g.head.splits (actors.Session new.number) k l round.knows))

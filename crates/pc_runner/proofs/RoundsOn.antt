@@ -6,7 +6,7 @@ use Rattle.pc_base.specs.declared.actor.ActorId.{ActorId}
 use Rattle.pc_base.specs.declared.actor.ActorId.TheVariants as actors
 use Rattle.pc_base.specs.declared.memory.NoMemory.{NoMemory}
 use Rattle.pc_coord.specs.Beside.{IsBeside, IsLaterBeside}
-use Rattle.pc_coord.specs.Coordination.{Coordination, next_of, waits_for, with_clock}
+use Rattle.pc_coord.specs.Coordination.{Coordination, awaits_number, next_of, with_clock}
 use Rattle.pc_coord.specs.declared.next.Next.TheVariants as nexts
 use Rattle.pc_coord.specs.declared.round.Round.{Round}
 use Rattle.pc_coord.specs.Knows.{Knows, messages_of_job}
@@ -17,8 +17,8 @@ use Rattle.pc_proto.specs.declared.reply.Reply.{Reply}
 use Rattle.pc_proto.specs.declared.reply.Reply.TheVariants as replies
 use Rattle.pc_proto.specs.declared.request.Request.{Request}
 use Rattle.pc_push.specs.PushKnows.{Asks, PushKnows}
-use Rattle.pc_push.specs.Pushing.{Pushing, after_reply}
-use Rattle.pc_world.specs.Exchange.{IsReplyTo, WasAnswered}
+use Rattle.pc_push.specs.Pushing.{Pushing, round_after}
+use Rattle.pc_world.specs.Exchange.{IsPossibleReply, WasAnswered}
 use Rattle.pc_world.specs.Known.{Known}
 use Rattle.pc_runner.proofs.Beside.{left_open}
 use Rattle.pc_runner.proofs.Besides.{answered_it, besides_on, heard_now_it}
@@ -34,7 +34,7 @@ use Rattle.pc_runner.specs.Following.{AreOnTheirWay, HasSameWork, IsInCall, IsOp
 use Rattle.pc_runner.specs.History.{History, known_by}
 use Rattle.pc_runner.specs.Keeping.{AreDelivered, IsClockOf, IsStatedBy, KeepsSoFar}
 use Rattle.pc_runner.specs.Parts.{IsInside, TakesPart}
-use Rattle.pc_runner.specs.Rounding.{HasCome, HasMadeRound, IsInRound, IsOfConflict}
+use Rattle.pc_runner.specs.Rounding.{HasCome, HasMadeRound, IsMakingRound, IsOfConflict}
 use Rattle.pc_runner.specs.Traffic.{IsPosted, IsReplied}
 
 of_same : (conflict : Reply) (m next : Pushing) → next.holder ≡ m.holder → next.key ≡ m.key → IsOfConflict conflict m → IsOfConflict conflict next
@@ -50,7 +50,7 @@ module _ (r : SessionRun) (h : History) (number : ℕ) (conflict : Reply) (reade
   abbrev waiting : List (List Request)
   waiting = map messages_of_job r.jobs.items
 
-  module _ (m next : Pushing) (new : SessionRun) (g later : History) (request : Request) (reply : Reply) (round : IsInRound r h conflict m new g) (asks : Asks m request) (x : IsExchanged new.number (new.sends + 1) request reply g later) where
+  module _ (m next : Pushing) (new : SessionRun) (g later : History) (request : Request) (reply : Reply) (round : IsMakingRound r h conflict m new g) (asks : Asks m request) (x : IsExchanged new.number (new.sends + 1) request reply g later) where
     abbrev l : Known
     l = known_by new.number g
 
@@ -64,7 +64,7 @@ module _ (r : SessionRun) (h : History) (number : ℕ) (conflict : Reply) (reade
     round_answered = answered_it r.coordinator k waiting h g later new request reply round.beside both.0 x
 
     -- one exchange more
-    pub round_on : next ≡ after_reply reply m → PushKnows (actors.Session new.number) k (known_by new.number later) next → IsInRound r h conflict next (after_exchange reply new) later
+    pub round_on : next ≡ round_after reply m → PushKnows (actors.Session new.number) k (known_by new.number later) next → IsMakingRound r h conflict next (after_exchange reply new) later
     round_on made knows =
         let on = besides_on r.coordinator k waiting h g later new request reply round.beside both.0 x both.1 in
         let opened : l.statement ≡ Some met.s = round.beside.later.statement ∙ met.opened in
@@ -81,26 +81,26 @@ module _ (r : SessionRun) (h : History) (number : ℕ) (conflict : Reply) (reade
           begun = λ mine. subst (λ (m : Pushing). m.holder.id.number ≤ r.coordinator.begun) (sym made) (begun_same same.0 mine holder);
         }
       where
-        begun_same : (after_reply reply m).holder ≡ m.holder → next.holder.id.session ≡ r.coordinator.session → next.holder ≡ m.holder → (after_reply reply m).holder.id.number ≤ r.coordinator.begun
+        begun_same : (round_after reply m).holder ≡ m.holder → next.holder.id.session ≡ r.coordinator.session → next.holder ≡ m.holder → (round_after reply m).holder.id.number ≤ r.coordinator.begun
         begun_same same mine holder =
             let low = round.begun (ap (λ (t : TxnMeta). t.id.session) (sym holder) ∙ mine) in
             subst (λ (t : TxnMeta). t.id.number ≤ r.coordinator.begun) (sym same) low
 
   -- the same, as the exchange and the machine have it
-  pub round_step : (m next : Pushing) (new last : SessionRun) (g later : History) (request : Request) (reply : Reply) → IsInRound r h conflict m new g → Asks m request → HasExchanged new g last later request reply → next ≡ after_reply reply m
-      → ((actor : ActorId) (start k later : Known) (request : Request) → PushKnows actor start k m → Asks m request → WasAnswered k later request reply → IsReplyTo request reply → PushKnows actor start later next)
-      → IsInRound r h conflict next last later
+  pub round_step : (m next : Pushing) (new last : SessionRun) (g later : History) (request : Request) (reply : Reply) → IsMakingRound r h conflict m new g → Asks m request → HasExchanged new g last later request reply → next ≡ round_after reply m
+      → ((actor : ActorId) (start k later : Known) (request : Request) → PushKnows actor start k m → Asks m request → WasAnswered k later request reply → IsPossibleReply request reply → PushKnows actor start later next)
+      → IsMakingRound r h conflict next last later
   round_step m next new last g later request reply round asks e made knows =
       let x = e.exchanged in
-      subst (λ run. IsInRound r h conflict next run later) (sym e.run)
+      subst (λ run. IsMakingRound r h conflict next run later) (sym e.run)
       (round_on m next new g later request reply round asks x made
       (knows (actors.Session new.number) k (known_by new.number g) (known_by new.number later) request round.knows asks (round_answered m next new g later request reply round asks x) x.answers.is))
 
   -- the same where the machine may be out of memory
-  pub round_asked : (m next : Pushing) (new last : SessionRun) (g later : History) (request : Request) (reply : Reply) (result : Result (Unit {0}) NoMemory) → IsInRound r h conflict m new g → Asks m request → HasExchanged new g last later request reply
-      → OnOk result (next ≡ after_reply reply m)
-      → ((actor : ActorId) (start k later : Known) (request : Request) → PushKnows actor start k m → Asks m request → WasAnswered k later request reply → IsReplyTo request reply → OnOk result (PushKnows actor start later next))
-      → OnOk result (IsInRound r h conflict next last later)
+  pub round_asked : (m next : Pushing) (new last : SessionRun) (g later : History) (request : Request) (reply : Reply) (result : Result (Unit {0}) NoMemory) → IsMakingRound r h conflict m new g → Asks m request → HasExchanged new g last later request reply
+      → OnOk result (next ≡ round_after reply m)
+      → ((actor : ActorId) (start k later : Known) (request : Request) → PushKnows actor start k m → Asks m request → WasAnswered k later request reply → IsPossibleReply request reply → OnOk result (PushKnows actor start later next))
+      → OnOk result (IsMakingRound r h conflict next last later)
   round_asked m next new last g later request reply (Ok done) round asks e made knows = round_step m next new last g later request reply round asks e made knows
   round_asked m next new last g later request reply (Err refusal) round asks e made knows = tt
 
@@ -126,7 +126,7 @@ module _ (r : SessionRun) (h : History) (number : ℕ) (conflict : Reply) (reade
     outbox_still : new.outbox.items ≡ []
     outbox_still = ap (λ (s : SessionRun). s.outbox.items) made.rest ∙ no_outbox r h number conflict reader calls due met
 
-    way_still : ((n : ℕ) → waits_for n c.due ≡ false) → AreOnTheirWay new.number c new.sends [] new.outbox.items g
+    way_still : ((n : ℕ) → awaits_number n c.due ≡ false) → AreOnTheirWay new.number c new.sends [] new.outbox.items g
     way_still none =
         subst (λ (outbox : List Posted). AreOnTheirWay new.number c new.sends [] outbox g) (sym outbox_still) (record {
           last = new.sends;
@@ -144,7 +144,7 @@ module _ (r : SessionRun) (h : History) (number : ℕ) (conflict : Reply) (reade
         none-past n sends = grind arith
 
     -- the call goes on once the coordinator was told of the round's end
-    pub goes_on : Knows c (known_by new.number g) → c.session ≡ new.coordinator.session → c.splits ≡ new.coordinator.splits → ((n : ℕ) → waits_for n c.due ≡ false) → IsInCall run g
+    pub goes_on : Knows c (known_by new.number g) → c.session ≡ new.coordinator.session → c.splits ≡ new.coordinator.splits → ((n : ℕ) → awaits_number n c.due ≡ false) → IsInCall run g
     goes_on knows session splits none =
         let clock = made.beside.clock in
         record {
@@ -164,7 +164,7 @@ module _ (r : SessionRun) (h : History) (number : ℕ) (conflict : Reply) (reade
 
     -- the same, as the coordinator has it
     pub settled_goes : ((was : Coordination) (start k : Known) (conflict : Reply) (reader : Option ℕ) → Knows was start → new.coordinator ≡ with_clock k.high was → next_of was.due ≡ nexts.Conflict number conflict reader → IsLaterBeside was start k → EndsRound conflict round start k → Knows c k)
-        → ((conflict : Reply) (reader : Option ℕ) (other : ℕ) → next_of new.coordinator.due ≡ nexts.Conflict number conflict reader → waits_for other c.due ≡ false)
+        → ((conflict : Reply) (reader : Option ℕ) (other : ℕ) → next_of new.coordinator.due ≡ nexts.Conflict number conflict reader → awaits_number other c.due ≡ false)
         → c.session ≡ new.coordinator.session → c.splits ≡ new.coordinator.splits → IsInCall run g
     settled_goes knows waits session splits =
         goes_on (knows r.coordinator k (known_by new.number g) conflict reader made.beside.knows made.beside.clock due made.beside.later made.ends) session splits

@@ -6,10 +6,10 @@ use Rattle.std.specs.Option.{option_map}
 use Rattle.pc_base.specs.declared.actor.ActorId.TheVariants as actors
 use Rattle.pc_coord.proofs.Lists.{find-last}
 use Rattle.pc_coord.proofs.Steps.{sent}
-use Rattle.pc_coord.specs.Coordination.{Coordination, next_of, waits_for}
+use Rattle.pc_coord.specs.Coordination.{Coordination, awaits_number, next_of}
 use Rattle.pc_coord.specs.declared.job.Job.{Job}
 use Rattle.pc_coord.specs.declared.next.Next.TheVariants as nexts
-use Rattle.pc_coord.specs.Events.{IsSent}
+use Rattle.pc_coord.specs.Events.{SendsDue}
 use Rattle.pc_coord.specs.Knows.{Knows, messages_of_job}
 use Rattle.pc_coord.specs.Knows.Sending.{AwaitsNone, IsSendable}
 use Rattle.pc_history.specs.declared.pair.Pair.{Pair}
@@ -109,7 +109,7 @@ module _ (work : Workload) (number : ℕ) (session : SessionWork) (at : Position
   open_sent : IsOpen at reading (known_by number g)
   open_sent = open_on at reading k (known_by number g) (ap (λ (k : Known). k.statement) known_is) (ap (λ (k : Known). k.is_open) known_is) calls.open_now
 
-  way_sent : (d : Coordination) → ((other : ℕ) → waits_for other d.due ≡ (sends + 1 == other || waits_for other c.due)) → AreOnTheirWay number d (sends + 1) [] (outbox ++ post ∷ []) g
+  way_sent : (d : Coordination) → ((other : ℕ) → awaits_number other d.due ≡ (sends + 1 == other || awaits_number other c.due)) → AreOnTheirWay number d (sends + 1) [] (outbox ++ post ∷ []) g
   way_sent d waits =
       let way = calls.way in
       let counts = way.counted in
@@ -128,8 +128,8 @@ module _ (work : Workload) (number : ℕ) (session : SessionWork) (at : Position
 
   -- the session is still in its call
   pub calls_sent : (d : Coordination) → next_of c.due ≡ nexts.Send request
-      → ((k : Known) (p : Pair _) (range : ℕ) (request : Request) → Knows c k → IsSent c (sends + 1) range request k p → Knows d (learn p k))
-      → ((other : ℕ) → waits_for other d.due ≡ (sends + 1 == other || waits_for other c.due)) → d.session ≡ c.session → d.splits ≡ c.splits
+      → ((k : Known) (p : Pair _) (range : ℕ) (request : Request) → Knows c k → SendsDue c (sends + 1) range request k p → Knows d (learn p k))
+      → ((other : ℕ) → awaits_number other d.due ≡ (sends + 1 == other || awaits_number other c.due)) → d.session ≡ c.session → d.splits ≡ c.splits
       → Calls work number session at clock reading jobs d (sends + 1) [] (outbox ++ post ∷ []) g
   calls_sent d due learns waits same_session same_splits =
       let event = events.Send (sends + 1) made.range request in

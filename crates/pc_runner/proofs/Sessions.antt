@@ -3,8 +3,8 @@ use Rattle.std.proofs.Common.{◌≡◌, ◌≢◌, ◌↔◌, ℕ, ◌+◌, ◌
 use Rattle.std.proofs.lemmas.Bool.{cases_eq}
 use Rattle.std.proofs.lemmas.List.{length-set}
 use Rattle.std.proofs.lemmas.Option.{slice_get_within}
-use Rattle.pc_history.proofs.Lists.{get_push_cases}
 use Rattle.pc_coord.specs.Knows.{messages_of_job}
+use Rattle.pc_lists.proofs.Lists.{get_push_cases}
 use Rattle.pc_proto.specs.declared.request.Request.{Request}
 use Rattle.pc_work.specs.Built.{IsBuilt}
 use Rattle.pc_work.specs.declared.session.SessionWork.{SessionWork}

@@ -3,7 +3,7 @@ use Rattle.std.proofs.Common.{◌≡◌, ℕ, zero, suc, ◌+◌, ◌≤◌, Boo
 use Rattle.std.proofs.lemmas.Option.{get_or_from_slice_get, slice_get_within}
 use Rattle.pc_base.specs.declared.transaction.TxnId.{TxnId}
 use Rattle.pc_base.specs.Transaction.{same_txn}
-use Rattle.pc_coord.specs.Beside.{IsBeside, is_beside}
+use Rattle.pc_coord.specs.Beside.{IsBeside, is_of_round_or_job}
 use Rattle.pc_coord.specs.Coordination.{Coordination}
 use Rattle.pc_coord.specs.declared.due.Due.TheVariants as dues
 use Rattle.pc_coord.specs.declared.job.Job.{Job}
@@ -14,7 +14,7 @@ use Rattle.pc_proto.specs.declared.reply.Reply.{Reply}
 use Rattle.pc_proto.specs.declared.reply.Reply.TheVariants as replies
 use Rattle.pc_proto.specs.declared.request.Request.{Request}
 use Rattle.pc_proto.specs.declared.request.Request.TheVariants as requests
-use Rattle.pc_resolve.specs.Resolving.{Resolving, after_reply, at_end, due_at, heard_at, next_of, remove_of, resolve_of, unsettled, with_reply}
+use Rattle.pc_resolve.specs.Resolving.{Resolving, at_end, finishing_after, finishing_due, finishing_heard, finishing_next, lock_resolve, remove_of, unsettled, with_reply}
 use Rattle.pc_world.specs.Answering.{MayAnswer}
 use Rattle.pc_world.specs.declared.machine.MachineNext.TheVariants as machine
 use Rattle.pc_world.specs.Follows.FinishingJobs.{first_message, without_first}
@@ -36,7 +36,7 @@ less_left message (next ∷ tail) jobs = refl
 -- What a message that is due leaves of the job.
 pub record IsFirstMessage (m : Resolving) (request : Request) (next : Resolving) : Type 0 where
   pub first : messages_of m ≡ request ∷ messages_of next
-  pub beside : is_beside request ≡ true
+  pub beside : is_of_round_or_job request ≡ true
 
 drop-at : (xs : List (List ℕ)) (n : ℕ) (x : List ℕ) → slice_get xs n ≡ Some x → drop n xs ≡ x ∷ drop (n + 1) xs
 drop-at xs n x at = drop_item xs n x (slice_get_within xs n x at) (sym (get_or_from_slice_get xs n x x at))
@@ -47,7 +47,7 @@ drop-past [] (suc n) none = refl
 drop-past (y ∷ ys) zero none = absurd cc
 drop-past (y ∷ ys) (suc n) none = drop-past ys n none
 
-resolve_first : (m : Resolving) (key : List ℕ) → unsettled m ≡ Some key → IsFirstMessage m (resolve_of m key) (record m { settled = m.settled + 1 })
+resolve_first : (m : Resolving) (key : List ℕ) → unsettled m ≡ Some key → IsFirstMessage m (lock_resolve m key) (record m { settled = m.settled + 1 })
 resolve_first m key at = record {
   first =
       let f : List ℕ → Request = λ lock. requests.Resolve m.id lock m.fate in
@@ -67,13 +67,13 @@ remove_first m none not = record {
 }
 
 -- the message that the machine has due is the job's next one
-sent_by : (m : Resolving) (request : Request) (reply : Reply) (key : Option (List ℕ)) → unsettled m ≡ key → due_at key m ≡ machine.Send request → MayAnswer request reply → IsFirstMessage m request (heard_at key reply m)
+sent_by : (m : Resolving) (request : Request) (reply : Reply) (key : Option (List ℕ)) → unsettled m ≡ key → finishing_due key m ≡ machine.Send request → MayAnswer request reply → IsFirstMessage m request (finishing_heard key reply m)
 sent_by m request reply (Some key) at due may = by reply (subst (λ q. MayAnswer q reply) (sym same) may)
   where
-    same : resolve_of m key ≡ request
+    same : lock_resolve m key ≡ request
     same = cc
 
-    by : (reply : Reply) → MayAnswer (resolve_of m key) reply → IsFirstMessage m request (with_reply reply m)
+    by : (reply : Reply) → MayAnswer (lock_resolve m key) reply → IsFirstMessage m request (with_reply reply m)
     by replies.Resolved may = subst (λ q. IsFirstMessage m q (record m { settled = m.settled + 1 })) same (resolve_first m key at)
     by reply may = absurd may
 sent_by m request reply None at due may = by m.removed refl due
@@ -82,32 +82,32 @@ sent_by m request reply None at due may = by m.removed refl due
     by true over due = absurd cc
     by false not due = let same : remove_of m ≡ request = cc in subst (λ q. IsFirstMessage m q (record m { removed = true })) same (remove_first m at not)
 
-pub is_first : (m next : Resolving) (request : Request) (reply : Reply) → next_of m ≡ machine.Send request → MayAnswer request reply → next ≡ after_reply reply m → IsFirstMessage m request next
+pub is_first : (m next : Resolving) (request : Request) (reply : Reply) → finishing_next m ≡ machine.Send request → MayAnswer request reply → next ≡ finishing_after reply m → IsFirstMessage m request next
 is_first m next request reply due may made = subst (IsFirstMessage m request) (sym made) (sent_by m request reply (unsettled m) refl due may)
 
 -- what is due to be sent, whatever the reply
-pub due_first : (m : Resolving) (request : Request) → next_of m ≡ machine.Send request → (tail : List Request) × (messages_of m ≡ request ∷ tail) × (is_beside request ≡ true)
+pub due_first : (m : Resolving) (request : Request) → finishing_next m ≡ machine.Send request → (tail : List Request) × (messages_of m ≡ request ∷ tail) × (is_of_round_or_job request ≡ true)
 due_first m request due = by (unsettled m) refl due
   where
-    by : (key : Option (List ℕ)) → unsettled m ≡ key → due_at key m ≡ machine.Send request → (tail : List Request) × (messages_of m ≡ request ∷ tail) × (is_beside request ≡ true)
+    by : (key : Option (List ℕ)) → unsettled m ≡ key → finishing_due key m ≡ machine.Send request → (tail : List Request) × (messages_of m ≡ request ∷ tail) × (is_of_round_or_job request ≡ true)
     by (Some key) at due =
-        let same : resolve_of m key ≡ request = cc in
+        let same : lock_resolve m key ≡ request = cc in
         let is = resolve_first m key at in
-        (messages_of (record m { settled = m.settled + 1 }), is.first ∙ ap (λ q. q ∷ messages_of (record m { settled = m.settled + 1 })) same, ap is_beside (sym same))
+        (messages_of (record m { settled = m.settled + 1 }), is.first ∙ ap (λ q. q ∷ messages_of (record m { settled = m.settled + 1 })) same, ap is_of_round_or_job (sym same))
     by None at due = ending m.removed refl due
       where
-        ending : (b : Bool) → m.removed ≡ b → at_end b m ≡ machine.Send request → (tail : List Request) × (messages_of m ≡ request ∷ tail) × (is_beside request ≡ true)
+        ending : (b : Bool) → m.removed ≡ b → at_end b m ≡ machine.Send request → (tail : List Request) × (messages_of m ≡ request ∷ tail) × (is_of_round_or_job request ≡ true)
         ending true over due = absurd cc
         ending false not due =
             let same : remove_of m ≡ request = cc in
             let is = remove_first m at not in
-            (messages_of (record m { removed = true }), is.first ∙ ap (λ q. q ∷ messages_of (record m { removed = true })) same, ap is_beside (sym same))
+            (messages_of (record m { removed = true }), is.first ∙ ap (λ q. q ∷ messages_of (record m { removed = true })) same, ap is_of_round_or_job (sym same))
 
 -- at the end no message is left
-pub none_left : (m : Resolving) → next_of m ≡ machine.Finished → messages_of m ≡ []
+pub none_left : (m : Resolving) → finishing_next m ≡ machine.Finished → messages_of m ≡ []
 none_left m due = by (unsettled m) refl due
   where
-    by : (key : Option (List ℕ)) → unsettled m ≡ key → due_at key m ≡ machine.Finished → messages_of m ≡ []
+    by : (key : Option (List ℕ)) → unsettled m ≡ key → finishing_due key m ≡ machine.Finished → messages_of m ≡ []
     by (Some key) at due = absurd cc
     by None at due = ending m.removed refl due
       where
@@ -153,12 +153,12 @@ module _ (c : Coordination) (start : Known) (knows : Knows c start) (due : c.due
   }
 
   -- what the machine of the job has due speaks of none
-  pub due_beside : (m : Resolving) (request : Request) → m.id ≡ id → next_of m ≡ machine.Send request → IsBeside c request
+  pub due_beside : (m : Resolving) (request : Request) → m.id ≡ id → finishing_next m ≡ machine.Send request → IsBeside c request
   due_beside m request same due = by (unsettled m) due
     where
-      by : (key : Option (List ℕ)) → due_at key m ≡ machine.Send request → IsBeside c request
+      by : (key : Option (List ℕ)) → finishing_due key m ≡ machine.Send request → IsBeside c request
       by (Some key) due =
-          let is : resolve_of m key ≡ request = cc in
+          let is : lock_resolve m key ≡ request = cc in
           subst (IsBeside c) is (record { kind = refl; begun = λ about is mine. absurd cc; other = λ x held. refl })
       by None due = ending m.removed due
         where

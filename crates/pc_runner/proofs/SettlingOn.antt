@@ -15,13 +15,13 @@ use Rattle.pc_history.specs.Own.{own}
 use Rattle.pc_proto.specs.declared.reply.Reply.{Reply}
 use Rattle.pc_proto.specs.declared.reply.Reply.TheVariants as replies
 use Rattle.pc_proto.specs.declared.request.Request.{Request}
-use Rattle.pc_resolve.specs.Resolving.{Resolving, after_reply, heard_at, next_of, unsettled}
-use Rattle.pc_resolve.specs.ResolveKnows.{MayCome, ResolveKnows, WasAnsweredToIt}
+use Rattle.pc_resolve.specs.Resolving.{Resolving, finishing_after, finishing_heard, finishing_next, unsettled}
+use Rattle.pc_resolve.specs.ResolveKnows.{FinishingMayCome, ResolveKnows, WasAnsweredToIt}
 use Rattle.pc_world.specs.declared.machine.MachineNext.{MachineNext}
 use Rattle.pc_world.specs.declared.machine.MachineNext.TheVariants as machine
 use Rattle.pc_world.specs.Exchange.{IsAllowed}
 use Rattle.pc_world.specs.Follows.FinishingJobs.{jobs_of}
-use Rattle.pc_world.specs.Known.{Known, known, open_txn}
+use Rattle.pc_world.specs.Known.{Known, known_of, open_txn}
 use Rattle.pc_world.specs.Known.Transactions.{Txn}
 use Rattle.pc_world.specs.Local.{Head}
 use Rattle.pc_world.specs.Run.{protocol}
@@ -42,7 +42,7 @@ use Rattle.pc_runner.specs.History.{History, known_by, own_by}
 use Rattle.pc_runner.specs.Keeping.{IsClockOf, IsStatedBy}
 use Rattle.pc_runner.specs.Parts.{IsInside, TakesPart}
 use Rattle.pc_runner.specs.Settling.{IsAtJob, IsSettling, messages_of, with_left}
-use Rattle.pc_runner.specs.Suiting.{Fits}
+use Rattle.pc_runner.specs.Suiting.{FitsCalls}
 
 module _ (r : SessionRun) (h : History) (job : Job) (at : IsAtJob r h job) where
   -- The session before the job was taken.
@@ -103,15 +103,15 @@ module _ (r : SessionRun) (h : History) (job : Job) (at : IsAtJob r h job) where
     other = subst (λ (m : Resolving). (t : Txn) → open_txn k ≡ Some t → m.id ≡ t.id → ⊥) (sym made) left_it.other;
   }
 
-same_id : (m : Resolving) (reply : Reply) → (after_reply reply m).id ≡ m.id
+same_id : (m : Resolving) (reply : Reply) → (finishing_after reply m).id ≡ m.id
 same_id m reply = by (unsettled m) reply
   where
-    by : (key : Option (List ℕ)) (reply : Reply) → (heard_at key reply m).id ≡ m.id
+    by : (key : Option (List ℕ)) (reply : Reply) → (finishing_heard key reply m).id ≡ m.id
     by (Some key) replies.Resolved = refl
     by (Some key) reply = refl
     by None reply = refl
 
-module _ (old : SessionRun) (before : History) (idle : old.coordinator.due ≡ dues.Nothing) (m : Resolving) (new : SessionRun) (g : History) (job : IsSettling old before m new g) (request : Request) (due : next_of m ≡ machine.Send request) where
+module _ (old : SessionRun) (before : History) (idle : old.coordinator.due ≡ dues.Nothing) (m : Resolving) (new : SessionRun) (g : History) (job : IsSettling old before m new g) (request : Request) (due : finishing_next m ≡ machine.Send request) where
   -- What the session knew when the job began, and what it knows now.
   abbrev start : Known
   start = known_by old.number before
@@ -132,7 +132,7 @@ module _ (old : SessionRun) (before : History) (idle : old.coordinator.due ≡ d
   pub job_may : IsAllowed g.head.splits (actors.Session new.number) l request → MayExchange new g request
   job_may allowed = may_exchange old.coordinator start (with_left (messages_of m) jobs_behind) before g g new request (replies.Resolved) job.beside it_beside.kind allowed
 
-  module _ (next : Resolving) (later : History) (reply : Reply) (x : IsExchanged new.number (new.sends + 1) request reply g later) (made : next ≡ after_reply reply m) where
+  module _ (next : Resolving) (later : History) (reply : Reply) (x : IsExchanged new.number (new.sends + 1) request reply g later) (made : next ≡ finishing_after reply m) where
     job_answered : WasAnsweredToIt l (known_by new.number later) request reply m
     job_answered =
         was_answered_to new.number (new.sends + 1) request reply g later x
@@ -158,8 +158,8 @@ module _ (old : SessionRun) (before : History) (idle : old.coordinator.due ≡ d
         }
 
   -- the job after one more exchange
-  pub job_step : (next : Resolving) (last : SessionRun) (later : History) (reply : Reply) → HasExchanged new g last later request reply → next ≡ after_reply reply m
-      → ((start k later : Known) (request : Request) → ResolveKnows start k m → next_of m ≡ machine.Send request → WasAnsweredToIt k later request reply m → ResolveKnows start later next)
+  pub job_step : (next : Resolving) (last : SessionRun) (later : History) (reply : Reply) → HasExchanged new g last later request reply → next ≡ finishing_after reply m
+      → ((start k later : Known) (request : Request) → ResolveKnows start k m → finishing_next m ≡ machine.Send request → WasAnsweredToIt k later request reply m → ResolveKnows start later next)
       → IsSettling old before next last later
   job_step next last later reply e made knows =
       subst (λ run. IsSettling old before next run later) (sym e.run)
@@ -174,18 +174,18 @@ module _ (r : SessionRun) (h : History) (job : Job) (at : IsAtJob r h job) where
   job_begins m made knows = subst (λ s. IsSettling s h m s h) (sym at.run) (job_start r h job at m made (knows (known_by at.old.number h)))
 
   -- what its machine gives to be sent may be exchanged
-  pub job_asks : (m : Resolving) (new : SessionRun) (g : History) (given : MachineNext) (request : Request) → IsSettling r h m new g → given ≡ next_of m → given ≡ machine.Send request
-      → ((splits : List (List ℕ)) (actor : ActorId) (start k : Known) → ResolveKnows start k m → MayCome splits actor start k m given) → MayExchange new g request
+  pub job_asks : (m : Resolving) (new : SessionRun) (g : History) (given : MachineNext) (request : Request) → IsSettling r h m new g → given ≡ finishing_next m → given ≡ machine.Send request
+      → ((splits : List (List ℕ)) (actor : ActorId) (start k : Known) → ResolveKnows start k m → FinishingMayCome splits actor start k m given) → MayExchange new g request
   job_asks m new g given request settling due is may =
       job_may r h idle_at m new g settling request (sym due ∙ is)
-      (subst (MayCome g.head.splits (actors.Session new.number) (known_by r.number h) (known_by new.number g) m) is
+      (subst (FinishingMayCome g.head.splits (actors.Session new.number) (known_by r.number h) (known_by new.number g) m) is
       (may g.head.splits (actors.Session new.number) (known_by r.number h) (known_by new.number g) settling.knows))
 
 pub always : (result : Result (Unit {0}) NoMemory) (P : Type 0) → P → OnOk result P
 always (Ok done) P p = p
 always (Err refusal) P p = tt
 
-module _ (r : SessionRun) (h : History) (job : Job) (at : IsAtJob r h job) (m : Resolving) (new : SessionRun) (g : History) (settling : IsSettling r h m new g) (over : next_of m ≡ machine.Finished) where
+module _ (r : SessionRun) (h : History) (job : Job) (at : IsAtJob r h job) (m : Resolving) (new : SessionRun) (g : History) (settling : IsSettling r h m new g) (over : finishing_next m ≡ machine.Finished) where
   only_jobs : new ≡ record at.old { jobs = r.jobs; coordinator = new.coordinator; sends = new.sends }
   only_jobs = settling.rest ∙ ap (λ (s : SessionRun). record s { coordinator = new.coordinator; sends = new.sends }) at.run
 
@@ -231,8 +231,8 @@ module _ (r : SessionRun) (h : History) (job : Job) (at : IsAtJob r h job) (m : 
         idle = ap (λ (c : Coordination). c.due) clock ∙ idle_r;
         handed = ap (λ (c : Coordination). c.job) clock ∙ handed_r;
         outbox = ap (λ (s : SessionRun). s.outbox.items) only_jobs ∙ at.follows.outbox;
-        fits = subst (λ (c : Coordination). Fits new.script c.txn) (sym clock) (subst (λ (s : SessionRun). Fits s.script r.coordinator.txn) (sym only_jobs)
-            (subst (λ (c : Coordination). Fits at.old.script c.txn) (sym same_coordinator) at.follows.fits));
+        fits = subst (λ (c : Coordination). FitsCalls new.script c.txn) (sym clock) (subst (λ (s : SessionRun). FitsCalls s.script r.coordinator.txn) (sym only_jobs)
+            (subst (λ (c : Coordination). FitsCalls at.old.script c.txn) (sym same_coordinator) at.follows.fits));
       }
 
   -- and the part is its oldest job
@@ -247,7 +247,7 @@ module _ (r : SessionRun) (h : History) (job : Job) (at : IsAtJob r h job) (m : 
       let before : jobs_in h.head r.number h.entries ≡ messages_of_job job ∷ map messages_of_job r.jobs.items =
       ap (λ n. jobs_of (own_by n h)) old_number ∙ (at.follows.keeps.jobs_are ∙ ap (map messages_of_job) at.listed) in
       let known_then : known_in h.head r.number (h.entries ++ p.part) ≡ known_by r.number g =
-      ap (λ es. known_in h.head r.number es) (sym p.goes.whole) ∙ ap (λ (head : Head). known (own (protocol head) (actors.Session r.number) g.entries)) (sym p.goes.head) in
+      ap (λ es. known_in h.head r.number es) (sym p.goes.whole) ∙ ap (λ (head : Head). known_of (own (protocol head) (actors.Session r.number) g.entries)) (sym p.goes.head) in
       let heard_then : HasHeardAll (known_by r.number g) =
       subst (λ n. HasHeardAll (known_by n g)) number (all_heard new.sends (known_by new.number g) settling.beside.heard settling.beside.counted) in
       record {

@@ -10,10 +10,11 @@ use Rattle.pc_proto.specs.declared.call.Call.TheVariants as calls
 use Rattle.pc_proto.specs.declared.event.Event.TheVariants as events
 use Rattle.pc_proto.specs.declared.request.Request.{Request}
 use Rattle.pc_proto.specs.declared.request.Request.TheVariants as requests
-use Rattle.pc_world.specs.Follows.CallMessages.{IsAbort, IsCommit, IsFor, IsForCall, IsGet, IsPutOn, IsScan}
-use Rattle.pc_world.specs.Follows.EarlyProof.{ProvesNothingEarly, is_put}
+use Rattle.pc_proto.specs.Requests.{IsPutOn, is_abort, is_commit, is_get, is_put, is_scan, round_of}
+use Rattle.pc_world.specs.Follows.CallMessages.{IsFor, IsForCall}
+use Rattle.pc_world.specs.Follows.EarlyProof.{ProvesNothingEarly}
 use Rattle.pc_world.specs.Follows.PipelinedPuts.{HearsOnlyItsPuts, IsPutWaitedFor, TellsWritten}
-use Rattle.pc_world.specs.Follows.Resends.{AreAnsweredNow, MayGoAgain, round_of}
+use Rattle.pc_world.specs.Follows.Resends.{AreAnsweredNow, MayGoAgain}
 use Rattle.pc_world.specs.Known.{Known, call_in}
 use Rattle.pc_world.specs.Known.Statements.{Statement}
 use Rattle.pc_world.specs.Known.Traffic.{Heard}
@@ -35,11 +36,11 @@ pub record IsPlainRequest (request : Request) : Type 0 where
   pub no_round : round_of request ≡ None
   pub unstaged : IsNoStage request
 
-plain_get : (request : Request) → IsGet request → IsPlainRequest request
+plain_get : (request : Request) → IsTrue (is_get request) → IsPlainRequest request
 plain_get (requests.Get id epoch seq ts key) is = record { no_round = refl; unstaged = tt }
 plain_get request is = absurd is
 
-plain_scan : (request : Request) → IsScan request → IsPlainRequest request
+plain_scan : (request : Request) → IsTrue (is_scan request) → IsPlainRequest request
 plain_scan (requests.Scan id epoch seq ts span) is = record { no_round = refl; unstaged = tt }
 plain_scan request is = absurd is
 
@@ -47,11 +48,11 @@ plain_put : (key : List ℕ) (request : Request) → IsPutOn key request → IsP
 plain_put key (requests.Put meta seq ts own value) is = record { no_round = refl; unstaged = tt }
 plain_put key request is = absurd is
 
-plain_commit : (request : Request) → IsCommit request → IsPlainRequest request
+plain_commit : (request : Request) → IsTrue (is_commit request) → IsPlainRequest request
 plain_commit (requests.Commit meta ts locks) is = record { no_round = refl; unstaged = tt }
 plain_commit request is = absurd is
 
-plain_abort : (request : Request) → IsAbort request → IsPlainRequest request
+plain_abort : (request : Request) → IsTrue (is_abort request) → IsPlainRequest request
 plain_abort (requests.Abort meta why locks) is = record { no_round = refl; unstaged = tt }
 plain_abort request is = absurd is
 
@@ -93,11 +94,11 @@ step_sent pipelining rule asks at jobs k number range request splits session may
     })
 
 -- a put that is answered is one for which its call waits
-waited_get : (k : Known) (key : List ℕ) (request : Request) → IsGet request → IsPutWaitedFor k (calls.Get key) request
+waited_get : (k : Known) (key : List ℕ) (request : Request) → IsTrue (is_get request) → IsPutWaitedFor k (calls.Get key) request
 waited_get k key (requests.Get id epoch seq ts own) is = tt
 waited_get k key request is = absurd is
 
-waited_scan : (k : Known) (call : Call) (request : Request) → IsScan request → IsPutWaitedFor k call request
+waited_scan : (k : Known) (call : Call) (request : Request) → IsTrue (is_scan request) → IsPutWaitedFor k call request
 waited_scan k call (requests.Scan id epoch seq ts span) is = tt
 waited_scan k call request is = absurd is
 
@@ -109,11 +110,11 @@ waited_delete : (k : Known) (key : List ℕ) (request : Request) → IsPutOn key
 waited_delete k key (requests.Put meta seq ts own written) is = inl (sym is)
 waited_delete k key request is = absurd is
 
-waited_commit : (k : Known) (request : Request) → IsCommit request → IsPutWaitedFor k calls.Commit request
+waited_commit : (k : Known) (request : Request) → IsTrue (is_commit request) → IsPutWaitedFor k calls.Commit request
 waited_commit k (requests.Commit meta ts locks) is = tt
 waited_commit k request is = absurd is
 
-waited_abort : (k : Known) (request : Request) → IsAbort request → IsPutWaitedFor k calls.Rollback request
+waited_abort : (k : Known) (request : Request) → IsTrue (is_abort request) → IsPutWaitedFor k calls.Rollback request
 waited_abort k (requests.Abort meta why locks) is = tt
 waited_abort k request is = absurd is
 
@@ -126,7 +127,7 @@ waited_for k calls.Commit request is = waited_commit k request is
 waited_for k calls.Rollback request is = waited_abort k request is
 waited_for k call request is = absurd is
 
-no_put : (request : Request) → IsCommit request → is_put request ≡ false
+no_put : (request : Request) → IsTrue (is_commit request) → is_put request ≡ false
 no_put (requests.Commit meta ts locks) is = refl
 no_put request is = absurd is
 

@@ -48,7 +48,7 @@ use Rattle.pc_runner.specs.Follows.Script.{Position, after_told}
 use Rattle.pc_runner.specs.History.{History, known_by}
 use Rattle.pc_runner.specs.Journal.{HasGrown}
 use Rattle.pc_runner.specs.Keeping.{AreDelivered, KeepsSoFar, open_calls}
-use Rattle.pc_runner.specs.Suiting.{Fits}
+use Rattle.pc_runner.specs.Suiting.{FitsCalls}
 use Rattle.pc_runner.specs.Traffic.{HasHeard}
 
 -- where an answer is due, no reply is waited for
@@ -130,7 +130,7 @@ module _ (work : Workload) (number : ℕ) (session : SessionWork) (at : Position
   abbrev pub done : Coordination
   done = without_job (with_due dues.Nothing c)
 
-  fits_told : Knows done (told answer k) → Fits (after_told answer at) c.txn
+  fits_told : Knows done (told answer k) → FitsCalls (after_told answer at) c.txn
   fits_told knows =
       let o = calls.open_now in
       let held = (rests done (told answer k) knows refl).held in

@@ -6,9 +6,9 @@ use Rattle.std.specs.List.{list_any}
 use Rattle.std.specs.Option.{option_map}
 use Rattle.pc_base.specs.declared.actor.ActorId.TheVariants as actors
 use Rattle.pc_coord.proofs.Steps.{heard}
-use Rattle.pc_coord.specs.Coordination.{Coordination, waits_for}
+use Rattle.pc_coord.specs.Coordination.{Coordination, awaits_number}
 use Rattle.pc_coord.specs.declared.job.Job.{Job}
-use Rattle.pc_coord.specs.Events.{IsHeard}
+use Rattle.pc_coord.specs.Events.{HearsAwaited}
 use Rattle.pc_coord.specs.Knows.{Knows, messages_of_job}
 use Rattle.pc_history.specs.declared.pair.Pair.{Pair}
 use Rattle.pc_proto.specs.declared.event.Event.{Event}
@@ -143,8 +143,8 @@ module _ (work : Workload) (number : ℕ) (session : SessionWork) (at : Position
     unheard = ap not (unheard_after calls.way.last a.number k calls.way.heard (let next = calls.way.answered.0 in omega arith));
   }
 
-  pub waited_for : waits_for a.number c.due ≡ true
-  waited_for = ap (λ n. waits_for n c.due) calls.way.answered.0 ∙ waits_first calls.way.last sends c.due calls.way.waits below
+  pub waited_for : awaits_number a.number c.due ≡ true
+  waited_for = ap (λ n. awaits_number n c.due) calls.way.answered.0 ∙ waits_first calls.way.last sends c.due calls.way.waits below
 
   -- What is heard.
   abbrev it : Heard
@@ -166,7 +166,7 @@ module _ (work : Workload) (number : ℕ) (session : SessionWork) (at : Position
         let same : is.request ≡ request = cc in
         subst (λ r. MayAnswer r a.reply) same is.may
 
-    is_heard_now : IsHeard c a.number a.step a.reply k p
+    is_heard_now : HearsAwaited c a.number a.step a.reply k p
     is_heard_now = record {
       waited = waited_for;
       event = refl;
@@ -204,7 +204,7 @@ module _ (work : Workload) (number : ℕ) (session : SessionWork) (at : Position
     open_heard : IsOpen at reading (known_by number g)
     open_heard = open_on at reading k (known_by number g) (ap (λ (k : Known). k.statement) known_is) (ap (λ (k : Known). k.is_open) known_is) calls.open_now
 
-    way_heard : (d : Coordination) → ((other : ℕ) → waits_for other d.due ≡ (waits_for other c.due && not (a.number == other))) → AreOnTheirWay number d sends replies [] g
+    way_heard : (d : Coordination) → ((other : ℕ) → awaits_number other d.due ≡ (awaits_number other c.due && not (a.number == other))) → AreOnTheirWay number d sends replies [] g
     way_heard d waits =
         let way = calls.way in
         let counts = way.counted in
@@ -220,12 +220,12 @@ module _ (work : Workload) (number : ℕ) (session : SessionWork) (at : Position
           posted = tt;
           replied = All-weaker (IsReplied number h) (IsReplied number g) replied_still replies (All-tail (IsReplied number h) a replies way.replied);
           waiting = All-nil (IsPosted number g);
-          waits = waits_heard way.last sends c.due d.due way.waits (λ other. waits other ∙ ap (λ n. waits_for other c.due && not (n == other)) next);
+          waits = waits_heard way.last sends c.due d.due way.waits (λ other. waits other ∙ ap (λ n. awaits_number other c.due && not (n == other)) next);
         }
 
     -- the session is still in its call
-    pub calls_heard : (d : Coordination) → ((k : Known) (p : Pair Event) → Knows c k → IsHeard c a.number a.step a.reply k p → Knows d (learn p k))
-        → ((k : Known) (other : ℕ) → Knows c k → waits_for a.number c.due ≡ true → waits_for other d.due ≡ (waits_for other c.due && not (a.number == other)))
+    pub calls_heard : (d : Coordination) → ((k : Known) (p : Pair Event) → Knows c k → HearsAwaited c a.number a.step a.reply k p → Knows d (learn p k))
+        → ((k : Known) (other : ℕ) → Knows c k → awaits_number a.number c.due ≡ true → awaits_number other d.due ≡ (awaits_number other c.due && not (a.number == other)))
         → d.session ≡ c.session → d.splits ≡ c.splits → Calls work number session at clock reading jobs d sends replies [] g
     calls_heard d learns waits same_session same_splits = record {
       stands =

@@ -22,8 +22,8 @@ use Rattle.pc_runner.specs.Follows.Script.{next_call}
 use Rattle.pc_runner.specs.Follows.Wire.{evaluations}
 use Rattle.pc_runner.specs.Traffic.{IsNumbered}
 use Rattle.pc_runner.specs.Follows.Turns.{AreTurns, IsInTurns, Opens, RunOut, stated_turns}
-use Rattle.pc_runner.specs.History.{History, IsSound, known_by, own_by}
-use Rattle.pc_runner.specs.Turns.{AreOver, HasGoneOn, IsRunnerOf, IsRunning, IsWhole}
+use Rattle.pc_runner.specs.History.{History, IsSoundHistory, known_by, own_by}
+use Rattle.pc_runner.specs.Turns.{AreOver, HasGoneOn, IsRunnerOf, IsRunning, IsWholeRun}
 
 pub if_ok : {X F : Type 0} (r : Result X F) (P Q : X → Type 0) → ((x : X) → P x → Q x) → IfOk r P → IfOk r Q
 if_ok (Ok x) P Q on p = on x p
@@ -102,13 +102,13 @@ follows t rules running turns over = record {
 pub whole : (work : Workload) (a b c d : TurnsRun) (entries : Entries) → IsRunning a → a.work.now ≡ work → a.database.entries ≡ []
     → HasGoneOn a b (λ before part. Opens a.database.head a.work.now a.work.now.sessions part)
     → HasGoneOn b c (AreTurns b.database.head b.work.now (stated_turns b.work.now)) → HasGoneOn c d (RunOut c.database.head c.work.now 1 c.work.now.sessions)
-    → AreOver (length c.work.now.sessions) d → IsSound d.database → entries ≡ d.database.entries → IsWhole work entries
+    → AreOver (length c.work.now.sessions) d → IsSoundHistory d.database → entries ≡ d.database.entries → IsWholeRun work entries
 whole work a b c d entries running states fresh opened taken out over sound is =
     let same : d.work.now ≡ work = out.work ∙ (taken.work ∙ (opened.work ∙ states)) in
     let over : AreOver (length d.work.now.sessions) d = subst (λ (w : Workload). AreOver (length w.sessions) d) (sym out.work) over in
     let turns = in_turns a b c d running fresh opened taken out in
-    subst (IsWhole work) (sym is)
-    (subst (λ (w : Workload). IsWhole w d.database.entries) same
+    subst (IsWholeRun work) (sym is)
+    (subst (λ (w : Workload). IsWholeRun w d.database.entries) same
     (record {
       run = subst (λ (x : Head). IsRun x d.database.entries) out.running.head sound.run;
       follows = λ rules. subst (λ (x : Head). Follows d.work.now rules x d.database.entries) out.running.head (follows d rules out.running turns over);

@@ -1,20 +1,19 @@
 -- How a session stands while it sends and hears messages beside its coordinator.
 use Rattle.std.specs.Prelude.{◌≡◌, ◌+◌, max, true, List, length}
 use Rattle.pc_base.specs.declared.actor.ActorId.TheVariants as actors
-use Rattle.pc_coord.specs.Beside.{IsLaterBeside, is_beside}
+use Rattle.pc_coord.specs.Beside.{IsLaterBeside, is_of_round_or_job}
 use Rattle.pc_coord.specs.Coordination.{Coordination, with_clock}
 use Rattle.pc_coord.specs.Knows.{Knows}
 use Rattle.pc_proto.specs.declared.reply.Reply.{Reply}
 use Rattle.pc_proto.specs.declared.request.Request.{Request}
-use Rattle.pc_proto.specs.Stamps.{reply_stamps}
+use Rattle.pc_proto.specs.Stamps.{greatest_of, reply_stamps}
 use Rattle.pc_world.specs.Exchange.{IsAllowed}
 use Rattle.pc_world.specs.Known.{Known}
-use Rattle.pc_world.specs.Known.Clock.{last_of}
 use Rattle.pc_world.specs.Local.{IsActorOf}
 use Rattle.pc_runner.specs.declared.session.SessionRun.{SessionRun}
 use Rattle.pc_runner.specs.Exchanging.{IsExchanged, KeepsBeside}
 use Rattle.pc_runner.specs.Following.{HasJobs}
-use Rattle.pc_runner.specs.History.{History, IsSound, known_by}
+use Rattle.pc_runner.specs.History.{History, IsSoundHistory, known_by}
 use Rattle.pc_runner.specs.Keeping.{AreDelivered}
 use Rattle.pc_runner.specs.Parts.{IsInside, TakesPart}
 use Rattle.pc_runner.specs.Traffic.{HasHeard}
@@ -22,7 +21,7 @@ use Rattle.pc_runner.specs.Traffic.{HasHeard}
 -- Since the coordinator was so and the session knew this, the session has only sent and heard messages beside it. All that it sent was
 -- evaluated once and heard; these messages of its jobs are still to be sent; and the history went on from that one by its part.
 pub record IsBesides (c : Coordination) (start : Known) (waiting : List (List Request)) (before : History) (r : SessionRun) (h : History) : Type 0 where
-  pub sound : IsSound h
+  pub sound : IsSoundHistory h
   pub there : IsActorOf h.head (actors.Session r.number)
   pub session : c.session ≡ r.number
   pub splits : c.splits ≡ h.head.splits
@@ -42,12 +41,12 @@ pub record MayExchange (r : SessionRun) (h : History) (request : Request) : Type
   pub counted : r.sends ≡ length (known_by r.number h).sent
   pub heard : HasHeard r.sends (known_by r.number h)
   pub allowed : IsAllowed h.head.splits (actors.Session r.number) (known_by r.number h) request
-  pub beside : is_beside request ≡ true
+  pub beside : is_of_round_or_job request ≡ true
 
 -- The runner once it sent one more message, and its coordinator's clock heard the reply.
 abbrev pub after_exchange : Reply → SessionRun → SessionRun
 after_exchange reply r = record r {
-  coordinator = with_clock (max r.coordinator.clock (last_of (reply_stamps reply))) r.coordinator;
+  coordinator = with_clock (max r.coordinator.clock (greatest_of (reply_stamps reply))) r.coordinator;
   sends = r.sends + 1;
 }
 

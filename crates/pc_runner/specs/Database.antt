@@ -7,15 +7,15 @@ use Rattle.pc_proto.specs.declared.reply.Reply.TheVariants as replies
 use Rattle.pc_proto.specs.declared.request.Request.{Request}
 use Rattle.pc_proto.specs.declared.request.Request.TheVariants as requests
 use Rattle.pc_world.specs.Answering.{MayAnswer}
-use Rattle.pc_world.specs.Exchange.{IsReplyTo}
+use Rattle.pc_world.specs.Exchange.{IsPossibleReply}
 use Rattle.pc_world.specs.RangeOf.{GoesTo, IsForOne}
 use Rattle.pc_world.specs.RangeState.{RangeState}
-use Rattle.pc_runner.specs.History.{History, IsSound, known_by, state_in}
+use Rattle.pc_runner.specs.History.{History, IsSoundHistory, known_by, state_in}
 use Rattle.pc_runner.specs.Journal.{HasGrown, HasOneMore}
 
 -- The history is sound, and each range, in order, is what its evaluations made of it.
 pub record StandBy (states : List RangeState) (h : History) : Type 0 where
-  pub sound : IsSound h
+  pub sound : IsSoundHistory h
   pub many : length states ≡ length h.head.splits + 1
   pub each : (range : ℕ) → range ≤ length h.head.splits → slice_get states range ≡ Some (state_in range h)
 
@@ -39,6 +39,6 @@ IsOfHolder h _ = ⊤
 pub record HasEvaluated (before now : History) (session number : ℕ) (request : Request) (step : ℕ) (told : Reply) : Type 0 where
   pub range : ℕ
   pub more : HasOneMore step before now (actors.Range range) (events.Eval (actors.Session session) number told)
-  pub is : IsReplyTo request told
+  pub is : IsPossibleReply request told
   pub may : MayAnswer request told
   pub holder : IsOfHolder now told

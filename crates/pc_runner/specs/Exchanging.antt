@@ -4,23 +4,23 @@ use Rattle.pc_base.specs.declared.actor.ActorId.TheVariants as actors
 use Rattle.pc_proto.specs.declared.event.Event.TheVariants as events
 use Rattle.pc_proto.specs.declared.reply.Reply.{Reply}
 use Rattle.pc_proto.specs.declared.request.Request.{Request}
-use Rattle.pc_proto.specs.Stamps.{reply_stamps, request_stamps}
+use Rattle.pc_proto.specs.Requests.{round_of}
+use Rattle.pc_proto.specs.Stamps.{greatest_of, reply_stamps, request_stamps}
 use Rattle.pc_session.specs.Stepped.{SteppedState}
 use Rattle.pc_work.specs.declared.session.SessionWork.{SessionWork}
 use Rattle.pc_work.specs.declared.workload.Workload.{Workload}
 use Rattle.pc_world.specs.Follows.CallMessages.{IsForCall, IsOfRound}
-use Rattle.pc_world.specs.Follows.EarlyTell.{IsDecided}
+use Rattle.pc_world.specs.Follows.EarlyTell.{IsCommitKnown}
 use Rattle.pc_world.specs.Follows.FinishingJobs.{IsDue, jobs_of}
-use Rattle.pc_world.specs.Follows.Resends.{AreAnsweredNow, MayGoAgain, round_of}
+use Rattle.pc_world.specs.Follows.Resends.{AreAnsweredNow, MayGoAgain}
 use Rattle.pc_world.specs.Known.{Known}
-use Rattle.pc_world.specs.Known.Clock.{last_of}
 use Rattle.pc_world.specs.Known.Statements.{Statement}
 use Rattle.pc_world.specs.Known.Transactions.{Txn}
 use Rattle.pc_world.specs.SameRequest.{IsSameRequest}
 use Rattle.pc_runner.specs.Database.{HasEvaluated, HasSent}
 use Rattle.pc_runner.specs.Follows.{EachAfter, KeepsWork}
 use Rattle.pc_runner.specs.Follows.Clocks.{asks_in}
-use Rattle.pc_runner.specs.Follows.Script.{Position, position}
+use Rattle.pc_runner.specs.Follows.Script.{Position, script_position}
 use Rattle.pc_runner.specs.History.{History, known_by, own_by}
 use Rattle.pc_runner.specs.Journal.{HasGrown}
 use Rattle.pc_runner.specs.Keeping.{open_calls}
@@ -41,22 +41,22 @@ exchanged number range step request reply k = record k {
   sent_now = k.sent_now ++ record { number = number; range = range; request = request } ∷ [];
   heard = k.heard ++ record { number = number; request = request; reply = reply; step = step } ∷ [];
   heard_now = k.heard_now ++ record { number = number; request = request; reply = reply; step = step } ∷ [];
-  top = max (max k.top (max (last_of (request_stamps request)) 0)) (max 0 (last_of (reply_stamps reply)));
-  high = max k.high (last_of (reply_stamps reply));
+  top = max (max k.top (max (greatest_of (request_stamps request)) 0)) (max 0 (greatest_of (reply_stamps reply)));
+  high = max k.high (greatest_of (reply_stamps reply));
 }
 
 -- The message goes out when its session's work has it: in no call that is decided; in a call again only once all of the same were
 -- answered and where it may go again; in a call for it, or as one of a conflict's round; and between calls where it is the next one of
 -- the oldest job.
 pub record IsTimely (k : Known) (jobs : List (List Request)) (request : Request) : Type 0 where
-  pub undecided : (t : Txn) (ts : ℕ) → IsDecided k t ts → ⊥
+  pub undecided : (t : Txn) (ts : ℕ) → IsCommitKnown k t ts → ⊥
   pub again : (s : Statement) → k.statement ≡ Some s → Any (λ m. IsSameRequest request m.request) k.sent_now → AreAnsweredNow k request × MayGoAgain k request (round_of request)
   pub kind : (s : Statement) → k.statement ≡ Some s → IsForCall k request ⊎ IsOfRound request
   pub due : k.statement ≡ None → IsDue k jobs request
 
 -- How far the history follows the session's work, where these messages of its jobs are still to be sent.
 pub record KeepsBeside (work : Workload) (number : ℕ) (session : SessionWork) (at : Position) (clock : SteppedState) (waiting : List (List Request)) (h : History) : Type 0 where
-  pub place : at ≡ position work.reruns session.script (own_by number h)
+  pub place : at ≡ script_position work.reruns session.script (own_by number h)
   pub reads : clock.reads ≡ asks_in (own_by number h)
   pub paired : asks_in (own_by number h) * 2 ≤ length h.entries + open_calls (known_by number h).statement
   pub waiting_are : jobs_of (own_by number h) ≡ waiting

@@ -14,14 +14,14 @@ use Rattle.pc_runner.specs.declared.outbox.Answered.{Answered}
 use Rattle.pc_runner.specs.declared.outbox.Posted.{Posted}
 use Rattle.pc_runner.specs.declared.session.SessionRun.{SessionRun}
 use Rattle.pc_runner.specs.Follows.Script.{Position, next_call}
-use Rattle.pc_runner.specs.History.{History, IsSound, known_by}
+use Rattle.pc_runner.specs.History.{History, IsSoundHistory, known_by}
 use Rattle.pc_runner.specs.Keeping.{AreDelivered, KeepsSoFar}
-use Rattle.pc_runner.specs.Suiting.{Fits, IsCourse}
-use Rattle.pc_runner.specs.Traffic.{AreAnsweredFrom, ArePostedFrom, HasHeard, IsPosted, IsReplied, WaitsFor}
+use Rattle.pc_runner.specs.Suiting.{FitsCalls, IsCourse}
+use Rattle.pc_runner.specs.Traffic.{AreAnsweredFrom, ArePostedFrom, AwaitsAllBetween, HasHeard, IsPosted, IsReplied}
 
 -- The history is sound; the session is one of it, its coordinator knows what it knows, and its messages are counted.
 pub record StandsBy (number : ℕ) (c : Coordination) (sends : ℕ) (h : History) : Type 0 where
-  pub sound : IsSound h
+  pub sound : IsSoundHistory h
   pub there : IsActorOf h.head (actors.Session number)
   pub session : c.session ≡ number
   pub splits : c.splits ≡ h.head.splits
@@ -50,7 +50,7 @@ pub record IsFollowing (r : SessionRun) (h : History) : Type 0 where
   pub idle : r.coordinator.due ≡ dues.Nothing
   pub handed : r.coordinator.job ≡ None
   pub outbox : r.outbox.items ≡ []
-  pub fits : Fits r.script r.coordinator.txn
+  pub fits : FitsCalls r.script r.coordinator.txn
 
 -- The call that comes next in the script is open since this reading, a begin or a learn where no transaction is; each later item is of
 -- the form that is built.
@@ -73,7 +73,7 @@ pub record AreOnTheirWay (number : ℕ) (c : Coordination) (sends : ℕ) (replie
   pub posted : ArePostedFrom (last + length replies + 1) outbox
   pub replied : All (IsReplied number h) replies
   pub waiting : All (IsPosted number h) outbox
-  pub waits : WaitsFor last sends c.due
+  pub waits : AwaitsAllBetween last sends c.due
 
 -- In a call, with these replies that were evaluated and not heard, and these messages that were sent and not evaluated.
 pub record IsCalling (r : SessionRun) (replies : List Answered) (outbox : List Posted) (h : History) : Type 0 where

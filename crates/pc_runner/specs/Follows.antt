@@ -17,13 +17,13 @@ use Rattle.pc_world.specs.Follows.EarlyTell.{TellsEarly}
 use Rattle.pc_world.specs.Follows.FinishingJobs.{AbortsFirst, DoesJobs, jobs_of}
 use Rattle.pc_world.specs.Follows.PipelinedPuts.{HearsOnlyItsPuts, TellsWritten}
 use Rattle.pc_world.specs.Follows.Resends.{ResendsOnlyAnswered}
-use Rattle.pc_world.specs.Known.{Known, known}
+use Rattle.pc_world.specs.Known.{Known, known_of}
 use Rattle.pc_world.specs.Known.Traffic.{Heard, heard_by}
 use Rattle.pc_world.specs.Local.{Head}
 use Rattle.pc_world.specs.Run.{protocol}
 use Rattle.pc_runner.specs.Follows.Clocks.{ReadsClock, asks_in, clock_rule}
 use Rattle.pc_runner.specs.Follows.End.{IsScriptEnd}
-use Rattle.pc_runner.specs.Follows.Script.{AsksNext, Position, position}
+use Rattle.pc_runner.specs.Follows.Script.{AsksNext, Position, script_position}
 use Rattle.pc_runner.specs.Follows.Turns.{IsInTurns}
 use Rattle.pc_runner.specs.Follows.Wire.{AreEvaluatedOnce, HearsAll}
 pub mod Clocks
@@ -50,8 +50,8 @@ pub record KeepsStep (pipelining : Bool) (rule : ℕ → ℕ → Bool) (asks : �
 -- The session's next entry, with the one that it names, keeps its workload.
 abbrev pub KeepsWork : Workload → SessionWork → (ℕ → ℕ → Bool) → List (Pair Event) → Pair Event → Type 0
 KeepsWork work session rule before p =
-    KeepsStep work.pipelining (clock_rule session.clock rule) (asks_in before) (position work.reruns session.script before)
-    (jobs_of before) (known before) p.entry.event (heard_by p.entry.event p.named (known before).sent)
+    KeepsStep work.pipelining (clock_rule session.clock rule) (asks_in before) (script_position work.reruns session.script before)
+    (jobs_of before) (known_of before) p.entry.event (heard_by p.entry.event p.named (known_of before).sent)
 
 module _ (P : List (Pair Event) → Pair Event → Type 0) where
   -- Each of the later pairs is so, after all that come before it.
@@ -62,8 +62,8 @@ module _ (P : List (Pair Event) → Pair Event → Type 0) where
 -- A session's own list follows its work: at each step, on the wire, and at its end.
 pub record FollowsAlone (work : Workload) (session : SessionWork) (rule : ℕ → ℕ → Bool) (actor : ActorId) (list : List (Pair Event)) (history : List (Entry Event)) : Type 0 where
   pub steps : EachAfter (KeepsWork work session rule) [] list
-  pub wire : AreEvaluatedOnce actor history (known list)
-  pub end : IsScriptEnd (position work.reruns session.script list) list
+  pub wire : AreEvaluatedOnce actor history (known_of list)
+  pub end : IsScriptEnd (script_position work.reruns session.script list) list
 
 -- The history follows the workload, where these are the rules of the clocks that were handed in.
 pub record Follows (work : Workload) (rules : ActorId → ℕ → ℕ → Bool) (head : Head) (history : List (Entry Event)) : Type 0 where

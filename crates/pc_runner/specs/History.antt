@@ -2,12 +2,12 @@
 use Rattle.std.specs.Prelude.{ℕ, ◌+◌, ◌^◌, ◌<◌, ◌≤◌, List, length}
 use Rattle.pc_base.specs.declared.actor.ActorId.TheVariants as actors
 use Rattle.pc_base.specs.declared.entry.Entry.{Entry}
+use Rattle.pc_base.specs.Rising.{AreRising}
 use Rattle.pc_history.specs.declared.pair.Pair.{Pair}
 use Rattle.pc_history.specs.Own.{own}
 use Rattle.pc_proto.specs.declared.event.Event.{Event}
-use Rattle.pc_world.specs.Known.{Known, known}
+use Rattle.pc_world.specs.Known.{Known, known_of}
 use Rattle.pc_world.specs.Local.{Head}
-use Rattle.pc_world.specs.RangeOf.{AreRising}
 use Rattle.pc_world.specs.RangeState.{RangeState}
 use Rattle.pc_world.specs.Run.{IsRun, protocol}
 use Rattle.pc_world.specs.StateOf.{state_of}
@@ -24,7 +24,7 @@ own_by session h = own (protocol h.head) (actors.Session session) h.entries
 
 -- What a session knows by its entries so far.
 abbrev pub known_by : ℕ → History → Known
-known_by session h = known (own_by session h)
+known_by session h = known_of (own_by session h)
 
 -- What a range is after its entries so far.
 abbrev pub state_in : ℕ → History → RangeState
@@ -36,7 +36,7 @@ head_of splits sessions = record { splits = splits; sessions = sessions; recover
 
 -- The history is a run whose steps are numbers of 64 bits, in which nothing is staged; its ranges are cut at rising keys and
 -- numbered by 32 bits.
-pub record IsSound (h : History) : Type 0 where
+pub record IsSoundHistory (h : History) : Type 0 where
   pub run : IsRun h.head h.entries
   pub short : length h.entries ≤ 2 ^ 64
   pub unstaged : NothingIsStaged h.entries

@@ -7,7 +7,7 @@ use Rattle.pc_proto.specs.declared.event.Event.{Event}
 use Rattle.pc_proto.specs.declared.event.Event.TheVariants as events
 use Rattle.pc_proto.specs.declared.reply.Reply.{Reply}
 use Rattle.pc_proto.specs.declared.request.Request.{Request}
-use Rattle.pc_runner.specs.History.{History, IsSound}
+use Rattle.pc_runner.specs.History.{History, IsSoundHistory}
 
 -- The entry that comes next, where this actor does this.
 abbrev pub next_entry : History → ActorId → Event → Entry Event
@@ -20,7 +20,7 @@ with_entry h actor event = record { head = h.head; entries = h.entries ++ next_e
 -- One more entry stands behind the others: this actor did this. The history is as sound as it was.
 pub record HasGrown (before now : History) (actor : ActorId) (event : Event) : Type 0 where
   pub behind : now ≡ with_entry before actor event
-  pub sound : IsSound now
+  pub sound : IsSoundHistory now
 
 -- One more entry stands behind the others, and this is its step.
 pub record HasOneMore (step : ℕ) (before now : History) (actor : ActorId) (event : Event) : Type 0 where

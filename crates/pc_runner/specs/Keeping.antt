@@ -12,7 +12,7 @@ use Rattle.pc_world.specs.Follows.FinishingJobs.{jobs_of}
 use Rattle.pc_world.specs.Known.Statements.{Statement}
 use Rattle.pc_runner.specs.Follows.{EachAfter, KeepsWork}
 use Rattle.pc_runner.specs.Follows.Clocks.{asks_in}
-use Rattle.pc_runner.specs.Follows.Script.{Position, position}
+use Rattle.pc_runner.specs.Follows.Script.{Position, script_position}
 use Rattle.pc_runner.specs.Follows.Wire.{evaluations}
 use Rattle.pc_runner.specs.History.{History, known_by, own_by}
 
@@ -44,7 +44,7 @@ pub record AreDelivered (number delivered : ℕ) (h : History) : Type 0 where
 pub record KeepsSoFar (work : Workload) (number : ℕ) (session : SessionWork) (at : Position) (clock : SteppedState) (jobs : List Job) (h : History) : Type 0 where
   pub stated : IsStatedBy work number session
   pub clock_of : IsClockOf session clock
-  pub place : at ≡ position work.reruns session.script (own_by number h)
+  pub place : at ≡ script_position work.reruns session.script (own_by number h)
   pub reads : clock.reads ≡ asks_in (own_by number h)
   pub paired : asks_in (own_by number h) * 2 ≤ length h.entries + open_calls (known_by number h).statement
   pub jobs_are : jobs_of (own_by number h) ≡ map messages_of_job jobs

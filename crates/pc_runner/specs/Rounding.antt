@@ -10,15 +10,14 @@ use Rattle.pc_proto.specs.declared.fate.Goal.{Goal}
 use Rattle.pc_proto.specs.declared.reply.Reply.{Reply}
 use Rattle.pc_proto.specs.declared.reply.Reply.TheVariants as replies
 use Rattle.pc_proto.specs.declared.view.View.{View}
+use Rattle.pc_proto.specs.Requests.{goal_in, is_push_of}
+use Rattle.pc_proto.specs.Views.{fate_after}
 use Rattle.pc_push.specs.declared.progress.Progress.{Progress}
 use Rattle.pc_push.specs.declared.progress.Progress.TheVariants as progresses
 use Rattle.pc_push.specs.PushKnows.{PushKnows}
 use Rattle.pc_push.specs.Pushing.{Pushing}
-use Rattle.pc_world.specs.Follows.Resends.{goal_in}
 use Rattle.pc_world.specs.Known.{Known}
 use Rattle.pc_world.specs.Known.Traffic.{Heard}
-use Rattle.pc_world.specs.Send.Recovery.{is_push_of}
-use Rattle.pc_world.specs.Views.{fate_after}
 use Rattle.pc_runner.specs.Beside.{IsBesides, IsOnlySent}
 use Rattle.pc_runner.specs.declared.session.SessionRun.{SessionRun}
 use Rattle.pc_runner.specs.History.{History, known_by}
@@ -47,7 +46,7 @@ IsOfConflict (replies.Conflict holder ts key) m = (m.holder ≡ holder) × (m.ke
 IsOfConflict _ m = ⊥
 
 -- The round of the conflict is being made beside the coordinator, by this machine.
-pub record IsInRound (old : SessionRun) (before : History) (conflict : Reply) (m : Pushing) (new : SessionRun) (after : History) : Type 0 where
+pub record IsMakingRound (old : SessionRun) (before : History) (conflict : Reply) (m : Pushing) (new : SessionRun) (after : History) : Type 0 where
   pub beside : IsBesides old.coordinator (known_by old.number before) (map messages_of_job old.jobs.items) before new after
   pub rest : IsOnlySent old new
   pub knows : PushKnows (actors.Session new.number) (known_by old.number before) (known_by new.number after) m

@@ -37,6 +37,6 @@ FitsTxn ahead None = IsCourse ahead
 FitsTxn ahead (Some x) = GoesOnWith ahead x
 
 -- The calls ahead go on with the open transaction, or begin one where none is open; each later item is of the form that is built.
-pub record Fits (at : Position) (txn : Option Transaction) : Type 0 where
+pub record FitsCalls (at : Position) (txn : Option Transaction) : Type 0 where
   pub items : All IsBuiltItem at.items
   pub now : FitsTxn at.ahead txn

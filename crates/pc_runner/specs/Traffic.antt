@@ -1,6 +1,6 @@
 -- The messages of a session while they are on their way: sent, evaluated, heard.
 use Rattle.std.specs.Prelude.{◌≡◌, ℕ, ◌+◌, ◌≤◌, nat_le, nat_lt, ◌&&◌, Some, List, [], ◌∷◌, length, All, IsTrue, ⊤}
-use Rattle.pc_coord.specs.Coordination.{waits_for}
+use Rattle.pc_coord.specs.Coordination.{awaits_number}
 use Rattle.pc_coord.specs.declared.due.Due.{Due}
 use Rattle.pc_proto.specs.declared.request.Request.{Request}
 use Rattle.pc_world.specs.Answering.{MayAnswer}
@@ -56,5 +56,5 @@ pub record IsReplied (session : ℕ) (h : History) (a : Answered) : Type 0 where
   pub evaluated : IsAnswered h session a.number a.step a.reply
 
 -- The coordinator waits for the messages after this number, up to that one.
-abbrev pub WaitsFor : ℕ → ℕ → Due → Type 0
-WaitsFor heard sends due = (number : ℕ) → waits_for number due ≡ (nat_lt heard number && nat_le number sends)
+abbrev pub AwaitsAllBetween : ℕ → ℕ → Due → Type 0
+AwaitsAllBetween heard sends due = (number : ℕ) → awaits_number number due ≡ (nat_lt heard number && nat_le number sends)

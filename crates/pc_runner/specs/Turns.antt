@@ -74,7 +74,7 @@ abbrev pub AreOver : ℕ → TurnsRun → Type 0
 AreOver index t = (other : ℕ) (r : SessionRun) → other < index → slice_get t.sessions.items other ≡ Some r → next_call r.script ≡ None
 
 -- The history is a run in which nothing is staged, and follows the workload, whatever clocks were handed in.
-pub record IsWhole (work : Workload) (entries : List (Entry Event)) : Type 0 where
+pub record IsWholeRun (work : Workload) (entries : List (Entry Event)) : Type 0 where
   pub run : IsRun (head_of work.splits (length work.sessions)) entries
   pub follows : (rules : ActorId → ℕ → ℕ → Bool) → Follows work rules (head_of work.splits (length work.sessions)) entries
   pub unstaged : NothingIsStaged entries

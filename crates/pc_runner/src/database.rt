@@ -1,15 +1,16 @@
 ghost use Rattle.std.specs.Prelude.{◌≡◌, ◌+◌, ◌^◌, ◌<◌, [], Any, IfOk, OnOk, length};
 ghost use Rattle.pc_base.specs.declared.actor.ActorId.TheVariants as actors;
+ghost use Rattle.pc_base.specs.Rising.{AreRising};
 ghost use Rattle.pc_proto.specs.declared.reply.Reply.{Reply as Answered};
 ghost use Rattle.pc_world.specs.Caused.{IsEvalOf};
 ghost use Rattle.pc_world.specs.Exchange.{IsAllowed};
 ghost use Rattle.pc_world.specs.Known.{next_number};
 ghost use Rattle.pc_world.specs.Local.{IsActorOf, MayAsk, MayHear};
 ghost use Rattle.pc_world.specs.MayTell.{MayTell};
-ghost use Rattle.pc_world.specs.RangeOf.{AreRising, GoesTo};
+ghost use Rattle.pc_world.specs.RangeOf.{GoesTo};
 ghost use Rattle.pc_world.specs.Unstaged.{IsNoStage};
 ghost use Rattle.pc_runner.specs.Database.{HasEvaluated, HasSent, IsForOneOrRefreshes};
-ghost use Rattle.pc_runner.specs.History.{IsSound, head_of, known_by};
+ghost use Rattle.pc_runner.specs.History.{IsSoundHistory, head_of, known_by};
 ghost use Rattle.pc_runner.specs.Journal.{HasGrown, WasSent};
 
 use crate::journal::Journal;
@@ -47,7 +48,7 @@ impl<'a> Database<'a> {
         requires rising { AreRising splits.now }
         requires few { length splits.now + 1 < 2 ^ 32 }
         ensures fresh { IfOk result (λ made. made ≡ record { head = head_of splits.now sessions; entries = [] }) }
-        ensures sound { IfOk result IsSound }
+        ensures sound { IfOk result IsSoundHistory }
     {
         let mut states = Vec::new(alloc);
         for _ in 0..splits.len() + 1 {
@@ -62,7 +63,7 @@ impl<'a> Database<'a> {
     /// The entries of the history, in order.
     pub fn into_entries(self) -> Vec<Entry<Event>>
         ensures entries { result.items ≡ self.entry.entries }
-        ensures sound { IsSound self.entry }
+        ensures sound { IsSoundHistory self.entry }
     {
         self.journal.into_entries()
     }
@@ -144,7 +145,7 @@ impl<'a> Database<'a> {
 
     /// The range that the request is for.
     fn range_of(&self, request: &Request) -> Result<u32, NoMemory>
-        requires sound { IsSound self.now }
+        requires sound { IsSoundHistory self.now }
         requires one { IsForOneOrRefreshes self.now.head.splits request.now }
         ensures { IfOk result (GoesTo self.now.head.splits request.now) }
     {

@@ -1,6 +1,6 @@
 ghost use Rattle.std.specs.Prelude.{◌≡◌, OnOk};
 ghost use Rattle.pc_coord.specs.declared.due.Due.TheVariants as dues;
-ghost use Rattle.pc_resolve.specs.Resolving.{next_of};
+ghost use Rattle.pc_resolve.specs.Resolving.{finishing_next};
 ghost use Rattle.pc_world.specs.declared.machine.MachineNext.TheVariants as machines;
 ghost use Rattle.pc_runner.specs.Beside.{MayExchange};
 ghost use Rattle.pc_runner.specs.declared.session.SessionRun.{SessionRun};
@@ -60,7 +60,7 @@ impl<'a> SessionRun<'a> {
         request: &Request,
     ) -> Result<(), NoMemory>
         requires { MayExchange self.old db.old request.now }
-        ensures { (old : SessionRun) (before : History) → old.coordinator.due ≡ dues.Nothing → IsSettling old before machine.old self.old db.old → next_of machine.old ≡ machines.Send request.now → OnOk result (IsSettling old before machine.new self.new db.new) }
+        ensures { (old : SessionRun) (before : History) → old.coordinator.due ≡ dues.Nothing → IsSettling old before machine.old self.old db.old → finishing_next machine.old ≡ machines.Send request.now → OnOk result (IsSettling old before machine.new self.new db.new) }
     {
         let reply = self.exchange(db, request)?;
         machine.heard(&reply)

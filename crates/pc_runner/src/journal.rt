@@ -6,7 +6,7 @@ ghost use Rattle.pc_world.specs.Known.Traffic.{reply_in, reply_named};
 ghost use Rattle.pc_world.specs.Run.{protocol};
 ghost use Rattle.pc_world.specs.Stamps.{HasRoom};
 ghost use Rattle.pc_world.specs.Unstaged.{IsNoStage, OnSent};
-ghost use Rattle.pc_runner.specs.History.{IsSound, head_of};
+ghost use Rattle.pc_runner.specs.History.{IsSoundHistory, head_of};
 ghost use Rattle.pc_runner.specs.Journal.{HasOneMore, next_entry};
 
 use pc_base::{ActorId, Entry, NoMemory, TryCopy};
@@ -69,7 +69,7 @@ impl<'a> Journal<'a> {
 
     /// The actor does this next. Gives the entry's step.
     pub fn enter(&mut self, actor: ActorId, event: Event) -> Result<u64, NoMemory>
-        requires sound { IsSound self.old }
+        requires sound { IsSoundHistory self.old }
         requires may { MayFollow (protocol self.old.head) self.old.entries (next_entry self.old actor event) }
         requires unstaged { OnSent IsNoStage event }
         ensures ok { IfOk result (λ step. HasOneMore step self.old self.new actor event) }
@@ -90,7 +90,7 @@ impl<'a> Journal<'a> {
         number: u64,
         request: &Request,
     ) -> Result<u64, NoMemory>
-        requires sound { IsSound self.old }
+        requires sound { IsSoundHistory self.old }
         requires room { HasRoom request.now state.old }
         requires may { MayFollow (protocol self.old.head) self.old.entries (next_entry self.old (actors.Range range) (Event.Eval (actors.Session session) number (reply request.now state.old))) }
         ensures ok { IfOk result (λ step. HasOneMore step self.old self.new (actors.Range range) (Event.Eval (actors.Session session) number (reply request.now state.old))) }

@@ -10,7 +10,7 @@ ghost use Rattle.pc_runner.specs.declared.session.SessionRun.{SessionRun};
 ghost use Rattle.pc_runner.specs.Following.{HasSameWork, IsInCall};
 ghost use Rattle.pc_runner.specs.History.{History, known_by};
 ghost use Rattle.pc_runner.specs.Parts.{IsInside, TakesPart};
-ghost use Rattle.pc_runner.specs.Rounding.{HasMadeRound, IsInRound};
+ghost use Rattle.pc_runner.specs.Rounding.{HasMadeRound, IsMakingRound};
 
 use crate::database::Database;
 use crate::session::SessionRun;
@@ -84,7 +84,7 @@ impl<'a> SessionRun<'a> {
         request: &Request,
     ) -> Result<(), NoMemory>
         requires { MayExchange self.old db.old request.now }
-        ensures { (old : SessionRun) (before : History) (number : ℕ) (conflict : Reply) (reader : Option ℕ) → IsInCall old before → next_of old.coordinator.due ≡ nexts.Conflict number conflict reader → IsConflictNow (known_by old.number before) number conflict reader → IsInRound old before conflict machine.old self.old db.old → Asks machine.old request.now → OnOk result (IsInRound old before conflict machine.new self.new db.new) }
+        ensures { (old : SessionRun) (before : History) (number : ℕ) (conflict : Reply) (reader : Option ℕ) → IsInCall old before → next_of old.coordinator.due ≡ nexts.Conflict number conflict reader → IsConflictNow (known_by old.number before) number conflict reader → IsMakingRound old before conflict machine.old self.old db.old → Asks machine.old request.now → OnOk result (IsMakingRound old before conflict machine.new self.new db.new) }
     {
         let reply = self.exchange(db, request)?;
         machine.heard(&reply)

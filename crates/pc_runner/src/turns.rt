@@ -1,8 +1,8 @@
 ghost use Rattle.std.specs.Prelude.{◌≡◌, ◌≢◌, ◌↔◌, ◌+◌, ◌-◌, ◌≤◌, ◌<◌, ◌++◌, [], IfOk, OnOk, IsTrue, Some, None, length, slice_get};
 ghost use Rattle.pc_runner.specs.Follows.{Follows};
 ghost use Rattle.pc_runner.specs.Follows.Turns.{AreTurns, IsTurn, Opens, RunOut, stated_turns};
-ghost use Rattle.pc_runner.specs.History.{IsSound, head_of};
-ghost use Rattle.pc_runner.specs.Turns.{AreOver, GoesOnAlone, HasGoneOn, IsDone, HasOpened, IsRunning, IsWhole, OthersRest, RunsToEnd};
+ghost use Rattle.pc_runner.specs.History.{IsSoundHistory, head_of};
+ghost use Rattle.pc_runner.specs.Turns.{AreOver, GoesOnAlone, HasGoneOn, IsDone, HasOpened, IsRunning, IsWholeRun, OthersRest, RunsToEnd};
 ghost use Rattle.pc_runner.specs.declared.session.SessionRun.{SessionRun};
 ghost use Rattle.pc_work.specs.Built.{IsBuilt, IsTurnOf};
 ghost use Rattle.pc_work.specs.declared.turn.Turn.TheVariants as turns;
@@ -40,7 +40,7 @@ pub fn run_turns<M: Clocks, G: Gate>(
 /// The opening, then the turns that are stated, then each session to its end.
 fn run_whole(alloc: Global, work: &Workload) -> Result<Vec<Entry<Event>>, NoMemory>
     requires { IsBuilt work.now }
-    ensures { IfOk result (λ entries. IsWhole work.now entries.items) }
+    ensures { IfOk result (λ entries. IsWholeRun work.now entries.items) }
 {
     let mut turns = TurnsRun::new(alloc, work)?;
     turns.open()?;

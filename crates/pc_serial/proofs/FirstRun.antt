@@ -9,11 +9,11 @@ use Rattle.pc_proto.specs.declared.event.Event.{Event}
 use Rattle.pc_serial.proofs.Legal.{is-legal}
 use Rattle.pc_serial.specs.FirstRow.{first_head, first_history, first_ts, first_txn}
 use Rattle.pc_serial.specs.FirstRun.{FirstRowIsARun}
-use Rattle.pc_world.specs.Known.{Known, known}
+use Rattle.pc_world.specs.Known.{Known, known_of}
 use Rattle.pc_world.specs.Known.Writes.{IsProvedBy, Write}
 use Rattle.pc_world.specs.Local.{IsActorOf}
 use Rattle.pc_world.specs.Run.{IsRun, protocol}
-use Rattle.pc_world.specs.StageFate.{IsLate, IsRefused, OnCommit, OnStage}
+use Rattle.pc_world.specs.StageFate.{IsLate, OnCommit, OnStage, WasCommitRefused}
 use Rattle.pc_world.specs.Unstaged.{IsNoStage, NothingIsStaged, OnSent}
 
 -- The entry at this place may follow those before it.
@@ -26,7 +26,7 @@ first_write = record { key = codes "a"; seq = 1; value = Some (codes "x"); asked
 
 -- What the session knows when it sends its commit.
 abbrev before_commit : Known
-before_commit = known (own (protocol first_head) (actors.Session 1) (take 8 first_history))
+before_commit = known_of (own (protocol first_head) (actors.Session 1) (take 8 first_history))
 
 session : IsActorOf first_head (actors.Session 1)
 session = (omega arith, omega arith)
@@ -114,7 +114,7 @@ sends_commit = record {
           good = record { begun = omega arith; reads = λ k d lt. absurd (omega arith) };
           proved = All-from_recursion (IsProvedBy first_ts) (first_write ∷ []) ((0, _, omega arith, refl, omega arith), tt);
           stages = All-from_recursion (λ m. OnStage first_txn (λ s. s.ts ≢ first_ts → IsLate before_commit.heard s) m.request) before_commit.sent (tt, tt);
-          commits = All-from_recursion (λ m. OnCommit first_txn (λ c. c.ts ≢ first_ts → IsRefused before_commit.heard c) m.request) before_commit.sent (tt, tt);
+          commits = All-from_recursion (λ m. OnCommit first_txn (λ c. c.ts ≢ first_ts → WasCommitRefused before_commit.heard c) m.request) before_commit.sent (tt, tt);
         });
       };
     };

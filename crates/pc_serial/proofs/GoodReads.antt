@@ -1,6 +1,6 @@
 -- What a transaction read stays as it was up to where the read is good: no other's intent lies there, and no other's version between.
 use Rattle.std.proofs.Common.{◌≡◌, ℕ, ◌<◌, ◌≤◌, max, true, not, inl, inr, List, [], ◌∷◌, ◌++◌, append_assoc, Contains, Option, None, Some, IsTrue, refl, sym, ap, subst, ◌∙◌, arith}
-use Rattle.std.proofs.lemmas.Bool.{and_from, cases_lt}
+use Rattle.std.proofs.lemmas.Bool.{and_from, and_parts, cases_lt, not-true}
 use Rattle.std.proofs.lemmas.List.Elements.{Contains-append_left, recursion_from_All}
 use Rattle.std.specs.List.{AllByRecursion as Each}
 use Rattle.pc_base.specs.declared.actor.ActorId.{ActorId}
@@ -12,23 +12,20 @@ use Rattle.pc_base.specs.declared.version.Version.{Version}
 use Rattle.pc_base.specs.Span.{contains, is_before, is_from, key_below, same_key}
 use Rattle.pc_implicit.proofs.EvaluatedAt.{answered_at, goes_to}
 use Rattle.pc_implicit.proofs.Hearing.{IsSo, heard_is_so}
-use Rattle.pc_implicit.proofs.IntentKeys.{each-both}
 use Rattle.pc_implicit.proofs.Reading.{refreshes_stand}
 use Rattle.pc_implicit.specs.Reads.{HasRead, Refreshes}
+use Rattle.pc_lists.proofs.Each.{each-always, each-both, each-contains, each-weaker}
+use Rattle.pc_lists.proofs.Same.{same_key-is}
 use Rattle.pc_proto.specs.declared.event.Event.{Event}
 use Rattle.pc_proto.specs.declared.event.Event.TheVariants as events
 use Rattle.pc_proto.specs.declared.record.Intent.{Intent}
 use Rattle.pc_proto.specs.declared.reply.Reply.TheVariants as replies
 use Rattle.pc_proto.specs.declared.request.Request.TheVariants as requests
-use Rattle.pc_serial.proofs.InOrder.{each-contains}
-use Rattle.pc_serial.proofs.Maps.{same-keys}
 use Rattle.pc_serial.proofs.SolePieces.{sole-range}
-use Rattle.pc_serial.proofs.SpanPieces.{both-true, not-true}
-use Rattle.pc_world.proofs.Each.{each-always, each-weaker}
 use Rattle.pc_world.proofs.KeyOrder.{at_most-is, at_most-through, below-through}
 use Rattle.pc_world.proofs.Prefixes.{run_front}
 use Rattle.pc_world.specs.After.{known_at, state_at}
-use Rattle.pc_world.specs.Known.Reads.{AtOnce, Further, IsGoodTo, WasRefreshed, ends_after, holds, starts_by}
+use Rattle.pc_world.specs.Known.Reads.{AtOnce, Further, IsGoodTo, WasRefreshed, ends_after, holds_span, starts_by}
 use Rattle.pc_world.specs.Known.Traffic.{reply_in}
 use Rattle.pc_world.specs.Local.{Head}
 use Rattle.pc_world.specs.Named.{request_in, request_named}
@@ -50,13 +47,13 @@ before-held (Some one) None key h k = absurd cc
 before-held (Some one) (Some other) key h k = below-through key other one k (not-true (key_below one other) (sym (at_most-is other one) ∙ h))
 
 -- a span that holds another has its keys
-pub holds-key : (wider span : Span) (key : List ℕ) → holds wider span ≡ true → contains span key ≡ true → contains wider key ≡ true
-holds-key (One one) (One other) key h k = subst (λ x. same_key key x ≡ true) (sym (same-keys one other h)) k
+pub holds-key : (wider span : Span) (key : List ℕ) → holds_span wider span ≡ true → contains span key ≡ true → contains wider key ≡ true
+holds-key (One one) (One other) key h k = subst (λ x. same_key key x ≡ true) (sym (same_key-is one other h)) k
 holds-key (One one) (Between first end) key h k = absurd cc
-holds-key (Between from to) (One other) key h k = subst (λ x. contains (Between from to) x ≡ true) (sym (same-keys key other k)) h
+holds-key (Between from to) (One other) key h k = subst (λ x. contains (Between from to) x ≡ true) (sym (same_key-is key other k)) h
 holds-key (Between from to) (Between first end) key h k =
-    let ends = both-true (starts_by from first) (ends_after to end) h in
-    let inside = both-true (is_from first key) (is_before end key) k in
+    let ends = and_parts (starts_by from first) (ends_after to end) h in
+    let inside = and_parts (is_from first key) (is_before end key) k in
     and_from (is_from from key) (is_before to key) (from-held from first key ends.0 inside.0) (before-held to end key ends.1 inside.1)
 
 -- ---- refreshes that were heard

@@ -7,16 +7,16 @@ use Rattle.std.specs.List.{AllByRecursion as Each}
 use Rattle.std.specs.Prelude.{⊤}
 use Rattle.pc_base.specs.declared.transaction.TxnId.{TxnId}
 use Rattle.pc_base.specs.Span.{same_key}
-use Rattle.pc_history.proofs.Lists.{contains_nil}
 use Rattle.pc_implicit.proofs.SessionCommits.{written as write_of}
 use Rattle.pc_implicit.proofs.SessionReads.{last_seq_done, seq_of}
 use Rattle.pc_implicit.proofs.Writings.{RiseFrom, is_a_write}
-use Rattle.pc_implicit.specs.Writes.{writes_at}
+use Rattle.pc_implicit.specs.Writes.{writes_on}
+use Rattle.pc_lists.proofs.Each.{each-append, each-choose, each-weaker}
+use Rattle.pc_lists.proofs.Lists.{contains_nil}
+use Rattle.pc_lists.proofs.Same.{same_key-is, same_key-self}
 use Rattle.pc_proto.specs.declared.record.Intent.{Intent}
 use Rattle.pc_proto.specs.Intents.{kept_if, last_seq, later_write, own_at, value_by}
-use Rattle.pc_serial.proofs.Maps.{key-itself, same-keys}
 use Rattle.pc_serial.proofs.Written.{LastWrite, LeavesKey, last-write}
-use Rattle.pc_world.proofs.Each.{each-append, each-choose, each-weaker}
 use Rattle.pc_world.specs.Evaluation.Get.{own_value}
 use Rattle.pc_world.specs.Known.Writes.{Write as WriteMade}
 use Rattle.pc_world.specs.Operations.{Operation, Read, ReadAll, Write}
@@ -50,14 +50,14 @@ module _ (key : List ℕ) where
   laid-left (Write own seq value ∷ os) a = by (laid-left os a.1) (same_key own key) refl
     where
       by : laid key os ≡ [] → (b : Bool) → same_key own key ≡ b → (if same_key own key then (seq, value) ∷ laid key os else laid key os) ≡ []
-      by rest true is = absurd (a.0 (same-keys own key is))
+      by rest true is = absurd (a.0 (same_key-is own key is))
       by rest false is = ap (λ b. if b then (seq, value) ∷ laid key os else laid key os) is ∙ rest
   laid-left (Read own value ∷ os) a = laid-left os a.1
   laid-left (ReadAll span rows ∷ os) a = laid-left os a.1
 
   -- a write of the key lays its value
   pub laid-write : (seq : ℕ) (value : Option (List ℕ)) (os : List Operation) → laid key (Write key seq value ∷ os) ≡ (seq, value) ∷ laid key os
-  laid-write seq value os = ap (λ b. if b then (seq, value) ∷ laid key os else laid key os) (key-itself key)
+  laid-write seq value os = ap (λ b. if b then (seq, value) ∷ laid key os else laid key os) (same_key-self key)
 
   -- only writes lay
   pub laid-writes : (os : List Operation) → laid key (filter is_a_write os) ≡ laid key os
@@ -67,11 +67,11 @@ module _ (key : List ℕ) where
   laid-writes (ReadAll span rows ∷ os) = laid-writes os
 
   -- what a session knows that was written lays the same
-  pub laid-known : (ws : List WriteMade) → laid key (map write_of ws) ≡ writes_at key ws
+  pub laid-known : (ws : List WriteMade) → laid key (map write_of ws) ≡ writes_on key ws
   laid-known [] = refl
   laid-known (w ∷ ws) = ap (λ xs. if same_key w.key key then (w.seq, w.value) ∷ xs else xs) (laid-known ws) ∙ by (same_key w.key key)
     where
-      by : (b : Bool) → (if b then (w.seq, w.value) ∷ writes_at key ws else writes_at key ws) ≡ map (λ (v : WriteMade). (v.seq, v.value)) (cond b (w ∷ filter (λ v. same_key v.key key) ws) (filter (λ v. same_key v.key key) ws))
+      by : (b : Bool) → (if b then (w.seq, w.value) ∷ writes_on key ws else writes_on key ws) ≡ map (λ (v : WriteMade). (v.seq, v.value)) (cond b (w ∷ filter (λ v. same_key v.key key) ws) (filter (λ v. same_key v.key key) ws))
       by true = refl
       by false = refl
 

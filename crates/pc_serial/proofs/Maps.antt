@@ -11,8 +11,8 @@ use Rattle.std.specs.List.Sorted.{IsStrictlySortedBy}
 use Rattle.std.specs.Ordering.{is_eq, match_ordering, nat_cmp, ordering_reverse}
 use Rattle.pc_base.specs.Keyed.{at, without}
 use Rattle.pc_base.specs.Span.{same_key}
+use Rattle.pc_lists.proofs.Each.{each-append, each-filter, each-unmap, each-weaker}
 use Rattle.pc_serial.proofs.InOrder.{Rises}
-use Rattle.pc_world.proofs.Each.{each-append, each-filter, each-unmap, each-weaker}
 
 is-equal : (o : Ordering) → is_eq o ≡ true → o ≡ Equal
 is-equal Less h = absurd cc

@@ -12,11 +12,11 @@ use Rattle.std.specs.Ordering.{nat_cmp, ordering_then}
 use Rattle.pc_base.specs.declared.entry.Entry.{Entry}
 use Rattle.pc_base.specs.declared.transaction.TxnId.{TxnId}
 use Rattle.pc_base.specs.Transaction.{same_txn}
-use Rattle.pc_history.proofs.Lists.{contains_cons, contains_head, contains_nil, contains_tail}
-use Rattle.pc_implicit.proofs.Keyed.{same-is}
+use Rattle.pc_lists.proofs.Each.{each-contains, each-filter_map, each-weaker}
+use Rattle.pc_lists.proofs.Lists.{contains_cons, contains_head, contains_nil, contains_tail}
+use Rattle.pc_lists.proofs.Same.{same_txn-is}
 use Rattle.pc_proto.specs.declared.event.Event.{Event}
-use Rattle.pc_serial.proofs.InOrder.{before-in, each-contains, each-in_order, has-in_order, once-in, rises-in_order, rises-sorted}
-use Rattle.pc_world.proofs.Each.{each-filter_map, each-weaker}
+use Rattle.pc_serial.proofs.InOrder.{before-in, each-in_order, has-in_order, once-in, rises-in_order, rises-sorted}
 use Rattle.pc_world.specs.CommitOrder.{Rank, all_begun, commit_order, rank_cmp, ranked}
 use Rattle.pc_world.specs.Committed.{IsCommitted, commit_point, commit_ts}
 use Rattle.pc_world.specs.Legal.{StandsBefore, committed_in_order}
@@ -122,7 +122,7 @@ module _ (head : Head) (history : List (Entry Event)) where
         (rises-in_order rank_cmp rank-total (filter_map (ranked head history) (all_begun history)))
         (order-has id ts begun is) (same-itself id)
         (λ y c t.
-        let who : y.1 ≡ id = same-is y.1 id t in
+        let who : y.1 ≡ id = same_txn-is y.1 id t in
         let its : ranked head history y.1 ≡ Some y = each-contains IsRanked (commit_order head history) y order-ranked c in
         let both : ◌≡◌ {A = Option (Rank × TxnId)} (Some y) (Some (entry_of id ts)) = sym its ∙ (ap (ranked head history) who ∙ committed-ranked id ts is) in
         cc both)

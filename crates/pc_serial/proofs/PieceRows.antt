@@ -7,12 +7,12 @@ use Rattle.std.specs.Ordering.{is_eq, nat_cmp}
 use Rattle.pc_base.specs.declared.span.Span.{Span}
 use Rattle.pc_base.specs.Keyed.{at}
 use Rattle.pc_base.specs.Span.{contains, same_key}
-use Rattle.pc_history.proofs.Lists.{contains_cons, contains_head, contains_nil, contains_tail}
-use Rattle.pc_serial.proofs.InOrder.{each-contains, rises-sorted}
+use Rattle.pc_lists.proofs.Each.{each-append, each-contains, each-weaker}
+use Rattle.pc_lists.proofs.Lists.{contains_cons, contains_head, contains_nil, contains_tail}
+use Rattle.pc_serial.proofs.InOrder.{rises-sorted}
 use Rattle.pc_serial.proofs.Maps.{RisesByKey, at-append, at-append-none, at-below, at-none, rises-append, sorted-rises}
 use Rattle.pc_serial.proofs.SpanPieces.{InTurn, IsBelow, pieces-are-parts, pieces-hold}
 use Rattle.pc_serial.proofs.SpanRows.{LieIn, Show}
-use Rattle.pc_world.proofs.Each.{each-append, each-weaker}
 use Rattle.pc_world.specs.RangeOf.{pieces}
 
 -- The rows are those of the pieces in turn, each piece's as the relation says.

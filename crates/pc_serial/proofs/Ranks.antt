@@ -9,14 +9,14 @@ use Rattle.std.specs.List.{AllByRecursion as Each}
 use Rattle.std.specs.Ordering.{nat_cmp, ordering_then}
 use Rattle.pc_base.specs.declared.entry.Entry.{Entry}
 use Rattle.pc_base.specs.declared.transaction.TxnId.{TxnId}
-use Rattle.pc_history.proofs.Lists.{contains_cons, contains_head, contains_map, contains_nil, contains_tail}
 use Rattle.pc_implicit.proofs.Commits.{stays_committed}
 use Rattle.pc_implicit.proofs.Points.{point_of}
 use Rattle.pc_implicit.proofs.Sent.{unstaged_front}
+use Rattle.pc_lists.proofs.Each.{each-back, each-contains}
+use Rattle.pc_lists.proofs.Lists.{contains_cons, contains_head, contains_map, contains_nil, contains_tail}
 use Rattle.pc_proto.specs.declared.event.Event.{Event}
-use Rattle.pc_serial.proofs.InOrder.{Rises, each-contains, never-below, never-both, rises-in_order}
+use Rattle.pc_serial.proofs.InOrder.{Rises, never-below, never-both, rises-in_order}
 use Rattle.pc_serial.proofs.Order.{IsRanked, PointsDiffer, committed-ranked, entry_of, order-committed, order-has, order-ranked, rank-less, rank-total}
-use Rattle.pc_world.proofs.Each.{each-back}
 use Rattle.pc_world.proofs.Prefixes.{run_front}
 use Rattle.pc_world.specs.CommitOrder.{Rank, all_begun, commit_order, rank_cmp, ranked}
 use Rattle.pc_world.specs.Committed.{IsCommitted, commit_point, commit_ts}

@@ -9,7 +9,6 @@ use Rattle.pc_base.specs.declared.span.Span.{Span}
 use Rattle.pc_base.specs.declared.span.Span.TheVariants.{One}
 use Rattle.pc_base.specs.declared.transaction.TxnId.{TxnId}
 use Rattle.pc_base.specs.Span.{contains}
-use Rattle.pc_history.proofs.Lists.{contains_head}
 use Rattle.pc_implicit.proofs.Agreed.{open_there}
 use Rattle.pc_implicit.proofs.Deciders.{decided_by}
 use Rattle.pc_implicit.proofs.EvaluatedAt.{goes_to}
@@ -17,8 +16,10 @@ use Rattle.pc_implicit.proofs.Fronts.{front_same}
 use Rattle.pc_implicit.proofs.Reading.{reads_stand}
 use Rattle.pc_implicit.proofs.SessionReads.{ComesFrom, IsReadAt, ReadsPieces, plain}
 use Rattle.pc_implicit.proofs.ReadsComeFrom.{comes_from_reads}
-use Rattle.pc_implicit.specs.Reads.{GrowsAbove, HasRead, IsRead, Reads}
+use Rattle.pc_implicit.specs.Reads.{GrowsAbove, HasRead, IsReadOfSpan, Reads}
 use Rattle.pc_implicit.specs.Writes.{txns_of}
+use Rattle.pc_lists.proofs.Lists.{contains_head}
+use Rattle.pc_lists.proofs.Same.{same_key-self}
 use Rattle.pc_proto.specs.declared.event.Event.{Event}
 use Rattle.pc_proto.specs.declared.record.Intent.{Intent}
 use Rattle.pc_proto.specs.declared.reply.Origin.{Origin}
@@ -29,7 +30,6 @@ use Rattle.pc_proto.specs.declared.request.Request.TheVariants as requests
 use Rattle.pc_proto.specs.Intents.{first_other}
 use Rattle.pc_serial.proofs.FoundWritten.{IsReadOf, found-is-written}
 use Rattle.pc_serial.proofs.GoodReads.{good-is-clear}
-use Rattle.pc_serial.proofs.Maps.{key-itself}
 use Rattle.pc_serial.proofs.Order.{PointsDiffer}
 use Rattle.pc_serial.proofs.PieceRows.{AreOfPieces, pieces-show}
 use Rattle.pc_serial.proofs.Ranks.{all-committed}
@@ -105,7 +105,7 @@ module _ (head : Head) (history : List (Entry Event)) (run : IsRun head history)
     abbrev look : List ℕ → Option (List ℕ)
     look key = written key (flat_map (operations_of history) before ++ done)
 
-    module _ (span : Span) (range : ℕ) (asks : ℕ → ℕ → Request) (told : Reply) (r : IsReadAt head g.front id g.t.epoch g.t.reads done span range asks told) (reads : IsRead id span r.ts (asks r.seq r.ts) told) where
+    module _ (span : Span) (range : ℕ) (asks : ℕ → ℕ → Request) (told : Reply) (r : IsReadAt head g.front id g.t.epoch g.t.reads done span range asks told) (reads : IsReadOfSpan id span r.ts (asks r.seq r.ts) told) where
       evaluated : Reads head r.before range id span r.ts r.e
       evaluated = record {
         evaluated = r.evaluates.there;
@@ -197,7 +197,7 @@ module _ (head : Head) (history : List (Entry Event)) (run : IsRun head history)
         let r = c.at in
         let s = state_at head (range_of head.splits key) r.before in
         get-says (get_blocker id r.ts key s) key (found_at id g.t.epoch r.seq r.ts key s) c.origin value r.evaluates.answers
-        ∙ found-before (One key) (range_of head.splits key) (λ seq ts. requests.Get id g.t.epoch seq ts key) (replies.Value c.origin value) r (refl, refl, refl) key (key-itself key) refl
+        ∙ found-before (One key) (range_of head.splits key) (λ seq ts. requests.Get id g.t.epoch seq ts key) (replies.Value c.origin value) r (refl, refl, refl) key (same_key-self key) refl
     agrees-from (ReadAll span rows) c =
         pieces-show head.splits span look rows (sole-in-turn head.splits span (all-sole (pieces head.splits span) rows c)) (all-show (pieces head.splits span) rows c)
     agrees-from (Write key seq value) c = tt

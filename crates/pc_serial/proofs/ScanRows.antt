@@ -14,17 +14,18 @@ use Rattle.pc_base.specs.Keyed.{at, in_order}
 use Rattle.pc_base.specs.Span.{contains, same_key}
 use Rattle.pc_base.specs.Transaction.{same_txn}
 use Rattle.pc_base.specs.Versions.{later, visible}
-use Rattle.pc_history.proofs.Lists.{contains_cons, contains_head, contains_in_filter, contains_map, contains_nil, contains_tail}
 use Rattle.pc_implicit.proofs.SessionReads.{plain}
+use Rattle.pc_lists.proofs.Each.{each-back, each-front, each-map, each-unmap, each-weaker}
+use Rattle.pc_lists.proofs.Lists.{contains_cons, contains_head, contains_in_filter, contains_map, contains_nil, contains_tail}
+use Rattle.pc_lists.proofs.Same.{same_key-is, same_key-self}
 use Rattle.pc_proto.specs.declared.record.Intent.{Intent}
 use Rattle.pc_proto.specs.declared.reply.Origin.{Origin}
 use Rattle.pc_proto.specs.Intents.{kept_if, value_by}
 use Rattle.pc_serial.proofs.InOrder.{each-in_order, has-in_order, rises-in_order, rises-sorted}
-use Rattle.pc_serial.proofs.Maps.{RisesByKey, at-none, key-itself, same-keys}
+use Rattle.pc_serial.proofs.Maps.{RisesByKey, at-none}
 use Rattle.pc_serial.proofs.SpanRows.{Show}
-use Rattle.pc_world.proofs.Each.{each-back, each-front, each-map, each-unmap, each-weaker}
 use Rattle.pc_world.specs.Evaluation.Get.{found_at, found_first, own_value}
-use Rattle.pc_world.specs.Evaluation.Scan.{keys_in, row_of, rows_in}
+use Rattle.pc_world.specs.Evaluation.Scan.{keys_in, row_found, rows_in}
 use Rattle.pc_world.specs.RangeState.{RangeState}
 
 -- ---- the rows of keys, by a look-up at each
@@ -36,10 +37,10 @@ row_at look key = option_map (λ value. (key, value)) (look key)
 abbrev rows_at : (List ℕ → Option (List ℕ)) → List (List ℕ) → List (List ℕ × List ℕ)
 rows_at look keys = filter_map (row_at look) keys
 
-plain-rows : (found : List ℕ → Origin × Option (List ℕ)) (keys : List (List ℕ)) → map plain (filter_map (λ key. row_of key (found key)) keys) ≡ rows_at (λ key. (found key).1) keys
+plain-rows : (found : List ℕ → Origin × Option (List ℕ)) (keys : List (List ℕ)) → map plain (filter_map (λ key. row_found key (found key)) keys) ≡ rows_at (λ key. (found key).1) keys
 plain-rows found [] = refl
 plain-rows found (key ∷ keys) =
-    let rest = filter_map (λ key. row_of key (found key)) keys in
+    let rest = filter_map (λ key. row_found key (found key)) keys in
     let by : (o : Option (List ℕ)) → map plain (cons_option (option_map (λ value. (key, (found key).0, value)) o) rest) ≡ cons_option (option_map (λ value. (key, value)) o) (map plain rest) = elim [
       | None ↦ refl
       | Some value ↦ refl
@@ -76,14 +77,14 @@ module _ (look : List ℕ → Option (List ℕ)) where
       let rest = nothing-at key keys none in
       let by : (b : Bool) → same_key own key ≡ b → at same_key key (cons_option (row_at look own) (rows_at look keys)) ≡ None = elim [
         | true ↦ λ is.
-            let no_row : row_at look own ≡ None = ap (λ k. option_map (λ value. (own, value)) (look k)) (same-keys own key is) ∙ ap (λ o. option_map (λ value. (own, value)) o) none in
+            let no_row : row_at look own ≡ None = ap (λ k. option_map (λ value. (own, value)) (look k)) (same_key-is own key is) ∙ ap (λ o. option_map (λ value. (own, value)) o) none in
             ap (λ o. at same_key key (cons_option o (rows_at look keys))) no_row ∙ rest
         | false ↦ λ is. passed key own (rows_at look keys) (look own) is ∙ rest
       ] in by (same_key own key) refl
 
   found-here : (key : List ℕ) (rows : List (List ℕ × List ℕ)) (o : Option (List ℕ)) → (o ≡ None → at same_key key rows ≡ None) → at same_key key (cons_option (option_map (λ value. (key, value)) o) rows) ≡ o
   found-here key rows None rest = rest refl
-  found-here key rows (Some value) rest = grind (arith, key-itself key)
+  found-here key rows (Some value) rest = grind (arith, same_key-self key)
 
   rows-at : (key : List ℕ) (keys : List (List ℕ)) → Contains keys key → at same_key key (rows_at look keys) ≡ look key
   rows-at key [] c = absurd (contains_nil key c)
@@ -91,12 +92,12 @@ module _ (look : List ℕ → Option (List ℕ)) where
       let rest : Contains keys key → at same_key key (rows_at look keys) ≡ look key = λ d. rows-at key keys d in
       let by : (b : Bool) → same_key own key ≡ b → at same_key key (cons_option (row_at look own) (rows_at look keys)) ≡ look key = elim [
         | true ↦ λ is.
-            let same : own ≡ key = same-keys own key is in
+            let same : own ≡ key = same_key-is own key is in
             ap (λ k. at same_key key (cons_option (row_at look k) (rows_at look keys))) same
             ∙ found-here key (rows_at look keys) (look key) (λ none. nothing-at key keys none)
         | false ↦ λ is.
             let there : Contains keys key = elim (contains_cons own keys key c) [
-              | inl same ↦ absurd (let here : same_key own key ≡ true = ap (λ k. same_key k key) same ∙ key-itself key in cc)
+              | inl same ↦ absurd (let here : same_key own key ≡ true = ap (λ k. same_key k key) same ∙ same_key-self key in cc)
               | inr later ↦ later
             ] in passed key own (rows_at look keys) (look own) is ∙ rest there
       ] in by (same_key own key) refl
@@ -154,7 +155,7 @@ there-or-not key [] = inr tt
 there-or-not key (own ∷ keys) =
     let rest = there-or-not key keys in
     let by : (b : Bool) → same_key own key ≡ b → Contains (own ∷ keys) key ⊎ Each (λ own. same_key own key ≡ false) (own ∷ keys) = elim [
-      | true ↦ λ is. inl (subst (λ k. Contains (own ∷ keys) k) (same-keys own key is) (contains_head own keys))
+      | true ↦ λ is. inl (subst (λ k. Contains (own ∷ keys) k) (same_key-is own key is) (contains_head own keys))
       | false ↦ λ is. elim rest [ inl c ↦ inl (contains_tail own keys key c) | inr a ↦ inr (is, a) ]
     ] in by (same_key own key) refl
 

@@ -5,10 +5,10 @@ use Rattle.std.specs.List.{AllByRecursion as Each, AllPairs}
 use Rattle.pc_base.specs.declared.transaction.TxnId.{TxnId}
 use Rattle.pc_base.specs.declared.version.Version.{Version}
 use Rattle.pc_base.specs.Versions.{visible}
-use Rattle.pc_history.proofs.Lists.{contains_cons, contains_head}
 use Rattle.pc_implicit.proofs.RisingVersions.{Rise}
 use Rattle.pc_implicit.proofs.VisibleVersions.{none-visible, one-version, visible-greatest, visible-last}
-use Rattle.pc_serial.proofs.InOrder.{each-contains}
+use Rattle.pc_lists.proofs.Each.{each-contains}
+use Rattle.pc_lists.proofs.Lists.{contains_cons, contains_head}
 use Rattle.pc_serial.proofs.Written.{LastWrite, LastWriter, LeavesKey, TxnLeavesKey, last-writer, written, written-none}
 use Rattle.pc_world.specs.Evaluation.Get.{version_found}
 use Rattle.pc_world.specs.Operations.{Operation, Write}

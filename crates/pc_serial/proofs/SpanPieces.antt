@@ -11,8 +11,8 @@ use Rattle.std.specs.Ordering.{is_lt, nat_cmp}
 use Rattle.pc_base.specs.declared.span.Span.{Span}
 use Rattle.pc_base.specs.declared.span.Span.TheVariants.{One, Between}
 use Rattle.pc_base.specs.Span.{contains, is_before, is_empty, is_from, key_at_most, key_below}
-use Rattle.pc_history.proofs.Lists.{contains_head}
-use Rattle.pc_world.proofs.Each.{each-append}
+use Rattle.pc_lists.proofs.Each.{each-append}
+use Rattle.pc_lists.proofs.Lists.{contains_head}
 use Rattle.pc_world.proofs.KeyOrder.{at_most-is, at_most-through, below-once, below-through}
 use Rattle.pc_world.specs.RangeOf.{earlier_end, later_start, piece, pieces, pieces_from, range_of}
 

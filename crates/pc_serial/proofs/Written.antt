@@ -9,8 +9,9 @@ use Rattle.std.specs.Ordering.{nat_cmp}
 use Rattle.pc_base.specs.declared.transaction.TxnId.{TxnId}
 use Rattle.pc_base.specs.Keyed.{at}
 use Rattle.pc_base.specs.Span.{same_key}
+use Rattle.pc_lists.proofs.Same.{same_key-is, same_key-self}
 use Rattle.pc_serial.proofs.InOrder.{rises-insert}
-use Rattle.pc_serial.proofs.Maps.{RisesByKey, at-insert, at-without, key-itself, rises-part, same-keys}
+use Rattle.pc_serial.proofs.Maps.{RisesByKey, at-insert, at-without, rises-part}
 use Rattle.pc_world.specs.Legal.{WritesKey}
 use Rattle.pc_world.specs.MapRun.{Map, map_after, with_value}
 use Rattle.pc_world.specs.Operations.{Operation, Read, ReadAll, Write}
@@ -56,7 +57,7 @@ written-append key os more = fold-append (written_after key) None os more
 
 left-one : (key : List ℕ) (was : Option (List ℕ)) (o : Operation) → LeavesKey key o → written_after key was o ≡ was
 left-one key was (Write own seq value) leaves =
-    let by : (b : Bool) → same_key own key ≡ b → (if b then value else was) ≡ was = elim [ true ↦ λ is. absurd (leaves (same-keys own key is)) | false ↦ λ is. refl ]
+    let by : (b : Bool) → same_key own key ≡ b → (if b then value else was) ≡ was = elim [ true ↦ λ is. absurd (leaves (same_key-is own key is)) | false ↦ λ is. refl ]
     in by (same_key own key) refl
 left-one key was (Read own value) leaves = refl
 left-one key was (ReadAll span rows) leaves = refl
@@ -73,7 +74,7 @@ written-left key os more a = written-append key os more ∙ left-from key (writt
 pub written-last : (key : List ℕ) (os : List Operation) (seq : ℕ) (value : Option (List ℕ)) (more : List Operation) → Each (LeavesKey key) more → written key (os ++ Write key seq value ∷ more) ≡ value
 written-last key os seq value more a =
     written-append key os (Write key seq value ∷ more)
-    ∙ ap (λ b. fold (written_after key) (if b then value else written key os) more) (key-itself key)
+    ∙ ap (λ b. fold (written_after key) (if b then value else written key os) more) (same_key-self key)
     ∙ left-from key value more a
 
 -- The last write of a key among operations.
@@ -88,8 +89,8 @@ pub record LastWrite (key : List ℕ) (os : List Operation) : Type 0 where
 writes-or-leaves : (key : List ℕ) (o : Operation) → ((seq : ℕ) × (value : Option (List ℕ)) × (o ≡ Write key seq value)) ⊎ LeavesKey key o
 writes-or-leaves key (Write own seq value) =
     let by : (b : Bool) → same_key own key ≡ b → ((at : ℕ) × (last : Option (List ℕ)) × (Write own seq value ≡ Write key at last)) ⊎ LeavesKey key (Write own seq value) = elim [
-      | true ↦ λ is. inl (seq, value, ap (λ k. Write k seq value) (same-keys own key is))
-      | false ↦ λ is. inr (λ same. let here : same_key own key ≡ true = ap (λ k. same_key own k) (sym same) ∙ key-itself own in cc)
+      | true ↦ λ is. inl (seq, value, ap (λ k. Write k seq value) (same_key-is own key is))
+      | false ↦ λ is. inr (λ same. let here : same_key own key ≡ true = ap (λ k. same_key own k) (sym same) ∙ same_key-self own in cc)
     ] in by (same_key own key) refl
 writes-or-leaves key (Read own value) = inr (λ h. h)
 writes-or-leaves key (ReadAll span rows) = inr (λ h. h)

@@ -1,6 +1,6 @@
 ghost use Rattle.std.specs.Prelude.{◌≡◌, ℕ, Bool, IsTrue};
+ghost use Rattle.pc_base.specs.Counts.{saturating_next};
 ghost use Rattle.pc_base.specs.declared.actor.ActorId.{ActorId as Actor};
-ghost use Rattle.pc_session.specs.Counts.{raised};
 
 use pc_base::ActorId;
 
@@ -17,7 +17,7 @@ pub trait Clock {
 
     fn read(&mut self) -> u64
         ensures given { IsTrue (rule self.old (reads self.old) result) }
-        ensures counted { reads self.new ≡ raised (reads self.old) }
+        ensures counted { reads self.new ≡ saturating_next (reads self.old) }
         ensures kept { rule self.new ≡ rule self.old };
 }
 

@@ -1,6 +1,6 @@
 ghost use Rattle.std.specs.Prelude.{◌≡◌, ◌+◌, ◌*◌, ◌-◌, ◌^◌, min};
 ghost use Rattle.std.specs.Prelude.{IsTrue};
-ghost use Rattle.pc_session.specs.Counts.{raised};
+ghost use Rattle.pc_base.specs.Counts.{saturating_next};
 ghost use Rattle.pc_session.specs.Stepped.{stepped_reading, stepped_rule};
 
 use crate::clock::{Clock, Clocks};
@@ -47,7 +47,7 @@ impl Clock for Stepped {
     fn read(&mut self) -> u64
         ensures reading { result ≡ stepped_reading self.old.start self.old.step self.old.reads }
         ensures given { IsTrue (stepped_rule self.old.start self.old.step self.old.reads result) }
-        ensures counted { self.new.reads ≡ raised self.old.reads }
+        ensures counted { self.new.reads ≡ saturating_next self.old.reads }
         ensures start { self.new.start ≡ self.old.start }
         ensures step { self.new.step ≡ self.old.step }
         ensures kept { stepped_rule self.new.start self.new.step ≡ stepped_rule self.old.start self.old.step }

@@ -6,12 +6,14 @@ use Rattle.std.proofs.lemmas.List.Elements.{All-cons, All-from_recursion, All-ni
 use Rattle.std.proofs.lemmas.Option.{none-some}
 use Rattle.serde_json.specs.Data.{Data, null, boolean, number, string, array, object, Items, no_items, item}
 use Rattle.serde_json.specs.Find.{get, as_bool}
+use Rattle.pc_base.specs.declared.limits.TheConstants.{MOST_RERUNS, MOST_SESSIONS, MOST_SPLITS, MOST_STATEMENTS, MOST_TURNS}
+use Rattle.pc_base.specs.Rising.{AreRising}
 use Rattle.pc_base.specs.Span.{key_below}
 use Rattle.pc_base.specs.declared.transaction.Priority.TheVariants.{Normal}
 use Rattle.pc_work.specs.Reading.{◌>>=◌}
 use Rattle.pc_work.specs.Members.{has_only, member_or, read_or, whole_in, whole_of, whole_up_to}
 use Rattle.pc_work.specs.Lists.{items_by, list_by}
-use Rattle.pc_work.specs.Count.{session_count, statement_limit}
+use Rattle.pc_work.specs.Count.{session_count}
 use Rattle.pc_work.specs.Item.{only_reads, only_writes, are_alike, item_names, item_of}
 use Rattle.pc_work.specs.Clock.{clock_of}
 use Rattle.pc_work.specs.Ending.{commits_of}
@@ -19,10 +21,10 @@ use Rattle.pc_work.specs.Priority.{priority_of}
 use Rattle.pc_work.specs.Statement.{statement_of}
 use Rattle.pc_work.specs.Texts.{key_of}
 use Rattle.pc_work.specs.Session.{session_names, session_of}
-use Rattle.pc_work.specs.Splits.{rises, split_limit, splits_of}
-use Rattle.pc_work.specs.Turn.{turn_of, is_there}
-use Rattle.pc_work.specs.Workload.{rerun_limit, session_limit, turn_limit, first_items, are_sessions, are_turns, is_within, workload_names, workload_of}
-use Rattle.pc_work.specs.Built.{IsReadStatement, IsWriteStatement, IsBuiltItem, IsBuiltSession, IsTurnOf, AreTurnsOf, RisesBehind, Rises, IsBuilt}
+use Rattle.pc_work.specs.Splits.{rises, splits_of}
+use Rattle.pc_work.specs.Turn.{is_turn_there, turn_of}
+use Rattle.pc_work.specs.Workload.{are_stated_turns, first_items, are_sessions, is_within_limits, workload_names, workload_of}
+use Rattle.pc_work.specs.Built.{IsReadStatement, IsWriteStatement, IsBuiltItem, IsBuiltSession, IsTurnOf, AreTurnsOf, RisesBehind, IsBuilt}
 use Rattle.pc_work.specs.declared.item.Item.TheVariants.{Txn}
 use Rattle.pc_work.specs.declared.session.SessionWork.{SessionWork}
 use Rattle.pc_work.specs.declared.statement.Statement.{Statement}
@@ -133,22 +135,22 @@ rises_behind key (next ∷ others) e =
     let both = and_parts (key_below key next) (rises (next ∷ others)) e in
     (both.0, rises_behind next others both.1)
 
-rises_by : (keys : List (List ℕ)) → rises keys ≡ true → Rises keys
+rises_by : (keys : List (List ℕ)) → rises keys ≡ true → AreRising keys
 rises_by [] e = tt
 rises_by (key ∷ keys) e = rises_behind key keys e
 
 -- The splits rise, and are no more than the limit.
 record AreSplits (splits : List (List ℕ)) : Type 0 where
-  rising : Rises splits
-  few : length splits ≤ split_limit
+  rising : AreRising splits
+  few : length splits ≤ MOST_SPLITS
 
 splits_only : (value : Data) → Only AreSplits (splits_of value)
 unfolding splits_of
 splits_only value =
     only_behind AreSplits (list_by key_of value) _ (λ keys.
-    only_when AreSplits (nat_le (length keys) split_limit && rises keys) (Some keys) (λ within.
-    let both = and_parts (nat_le (length keys) split_limit) (rises keys) within in
-    only_some AreSplits keys (record { rising = rises_by keys both.1; few = leb-true (length keys) split_limit both.0 })))
+    only_when AreSplits (nat_le (length keys) MOST_SPLITS && rises keys) (Some keys) (λ within.
+    let both = and_parts (nat_le (length keys) MOST_SPLITS) (rises keys) within in
+    only_some AreSplits keys (record { rising = rises_by keys both.1; few = leb-true (length keys) MOST_SPLITS both.0 })))
 
 whole_only : (most : ℕ) (value : Data) → Only (λ n. n ≤ most) (whole_up_to most value)
 whole_only most value =
@@ -156,7 +158,7 @@ whole_only most value =
     only_when (λ n. n ≤ most) (nat_le n most) (Some n) (λ within.
     only_some (λ n. n ≤ most) n (leb-true n most within)))
 
-turn_is_there : (sessions : ℕ) (turn : Turn) → is_there sessions turn ≡ true → IsTurnOf sessions turn
+turn_is_there : (sessions : ℕ) (turn : Turn) → is_turn_there sessions turn ≡ true → IsTurnOf sessions turn
 turn_is_there sessions (Session n) e =
     let both = and_parts (nat_le 1 n) (nat_le n sessions) e in
     (leb-true 1 n both.0, leb-true n sessions both.1)
@@ -165,25 +167,25 @@ turn_is_there sessions (Job n) e =
     (leb-true 1 n both.0, leb-true n sessions both.1)
 turn_is_there sessions (Recoverer n) e = absurd (false≢true e)
 
-turns_are_there : (sessions : List SessionWork) (turns : List Turn) → are_turns sessions turns ≡ true → AreTurnsOf (length sessions) turns
+turns_are_there : (sessions : List SessionWork) (turns : List Turn) → are_stated_turns sessions turns ≡ true → AreTurnsOf (length sessions) turns
 turns_are_there sessions turns e =
-    let both = and_parts (nat_le (length turns) turn_limit) (list_all (is_there (length sessions)) turns) e in
+    let both = and_parts (nat_le (length turns) MOST_TURNS) (list_all (is_turn_there (length sessions)) turns) e in
     record {
-      few = leb-true (length turns) turn_limit both.0;
-      each = all_by (is_there (length sessions)) (IsTurnOf (length sessions)) (turn_is_there (length sessions)) turns both.1;
+      few = leb-true (length turns) MOST_TURNS both.0;
+      each = all_by (is_turn_there (length sessions)) (IsTurnOf (length sessions)) (turn_is_there (length sessions)) turns both.1;
     }
 
 abbrev made : List (List ℕ) → ℕ → ℕ → List Turn → List SessionWork → Workload
 made splits reruns opening turns sessions = record { version = 1; pipelining = false; splits = splits; limit = 1000000; tries = 4; reruns = reruns; opening = opening; sessions = sessions; turns = Some turns }
 
-made_is_built : (version : ℕ) (pipelining : Bool) (splits : List (List ℕ)) (reruns opening : ℕ) (turns : List Turn) (sessions : List SessionWork) → is_within version pipelining opening sessions turns ≡ true
-    → AreSplits splits → reruns ≤ rerun_limit → All IsBuiltSession sessions → IsBuilt (made splits reruns opening turns sessions)
+made_is_built : (version : ℕ) (pipelining : Bool) (splits : List (List ℕ)) (reruns opening : ℕ) (turns : List Turn) (sessions : List SessionWork) → is_within_limits version pipelining opening sessions turns ≡ true
+    → AreSplits splits → reruns ≤ MOST_RERUNS → All IsBuiltSession sessions → IsBuilt (made splits reruns opening turns sessions)
 made_is_built version pipelining splits reruns opening turns sessions e cut few each =
-    let all_but_opening = and_parts (version == 1 && not pipelining && are_sessions sessions && are_turns sessions turns) (nat_le opening (first_items sessions)) e in
-    let all_but_turns = and_parts (version == 1 && not pipelining && are_sessions sessions) (are_turns sessions turns) all_but_opening.0 in
+    let all_but_opening = and_parts (version == 1 && not pipelining && are_sessions sessions && are_stated_turns sessions turns) (nat_le opening (first_items sessions)) e in
+    let all_but_turns = and_parts (version == 1 && not pipelining && are_sessions sessions) (are_stated_turns sessions turns) all_but_opening.0 in
     let all_but_sessions = and_parts (version == 1 && not pipelining) (are_sessions sessions) all_but_turns.0 in
-    let counted = and_parts (nat_le 1 (length sessions) && nat_le (length sessions) session_limit) (nat_le (sum_by session_count sessions) statement_limit) all_but_sessions.1 in
-    let bounded = and_parts (nat_le 1 (length sessions)) (nat_le (length sessions) session_limit) counted.0 in
+    let counted = and_parts (nat_le 1 (length sessions) && nat_le (length sessions) MOST_SESSIONS) (nat_le (sum_by session_count sessions) MOST_STATEMENTS) all_but_sessions.1 in
+    let bounded = and_parts (nat_le 1 (length sessions)) (nat_le (length sessions) MOST_SESSIONS) counted.0 in
     record {
       version = refl;
       pipelining = refl;
@@ -194,9 +196,9 @@ made_is_built version pipelining splits reruns opening turns sessions e cut few 
       reruns = few;
       opening = leb-true opening (first_items sessions) all_but_opening.1;
       some_session = leb-true 1 (length sessions) bounded.0;
-      few_sessions = leb-true (length sessions) session_limit bounded.1;
+      few_sessions = leb-true (length sessions) MOST_SESSIONS bounded.1;
       sessions = each;
-      few_statements = leb-true (sum_by session_count sessions) statement_limit counted.1;
+      few_statements = leb-true (sum_by session_count sessions) MOST_STATEMENTS counted.1;
       turns = turns_are_there sessions turns all_but_turns.1;
     }
 
@@ -204,19 +206,19 @@ only_built : (value : Data) → Only IsBuilt (workload_of value)
 unfolding workload_of
 only_built value =
     let cut = only_read AreSplits [] splits_of (record { rising = tt; few = omega arith }) splits_only (get (codes "splits") value) in
-    let asked = only_read (λ n. n ≤ rerun_limit) 8 (whole_up_to rerun_limit) (omega arith) (whole_only rerun_limit) (get (codes "reruns") value) in
+    let asked = only_read (λ n. n ≤ MOST_RERUNS) 8 (whole_up_to MOST_RERUNS) (omega arith) (whole_only MOST_RERUNS) (get (codes "reruns") value) in
     only_when IsBuilt (has_only workload_names value) _ (λ named.
     only_behind IsBuilt (whole_in (codes "version") value) _ (λ version.
     only_behind IsBuilt (get (codes "pipelining") value) _ (λ stated.
     only_behind IsBuilt (as_bool stated) _ (λ pipelining.
     only_known AreSplits IsBuilt (member_or [] splits_of (codes "splits") value) _ cut (λ splits rising.
-    only_known (λ n. n ≤ rerun_limit) IsBuilt (member_or 8 (whole_up_to rerun_limit) (codes "reruns") value) _ asked (λ reruns few.
+    only_known (λ n. n ≤ MOST_RERUNS) IsBuilt (member_or 8 (whole_up_to MOST_RERUNS) (codes "reruns") value) _ asked (λ reruns few.
     only_behind IsBuilt (member_or 0 whole_of (codes "opening") value) _ (λ opening.
     only_behind IsBuilt (get (codes "turns") value) _ (λ listed.
     only_behind IsBuilt (list_by turn_of listed) _ (λ turns.
     only_behind IsBuilt (get (codes "sessions") value) _ (λ found.
     only_known (All IsBuiltSession) IsBuilt (list_by session_of found) _ (list_only IsBuiltSession session_of session_is_built found) (λ sessions each.
-    only_when IsBuilt (is_within version pipelining opening sessions turns) _ (λ within.
+    only_when IsBuilt (is_within_limits version pipelining opening sessions turns) _ (λ within.
     only_some IsBuilt (made splits reruns opening turns sessions) (made_is_built version pipelining splits reruns opening turns sessions within rising few each)))))))))))))
 
 -- The workload that a JSON value states is of the form that is built.

@@ -1,9 +1,9 @@
 -- The form of a workload that is read, as a fact about the workload itself: what runs a workload may rest on it.
 use Rattle.std.specs.Prelude.{◌≡◌, ◌≤◌, ℕ, false, List, [], ◌∷◌, length, sum_by, IsSome, IsSomeAnd, IsTrue, All, ◌⊎◌, ⊤}
+use Rattle.pc_base.specs.declared.limits.TheConstants.{MOST_RERUNS, MOST_SESSIONS, MOST_SPLITS, MOST_STATEMENTS, MOST_TURNS}
 use Rattle.pc_base.specs.Span.{key_below}
-use Rattle.pc_work.specs.Count.{session_count, statement_limit}
-use Rattle.pc_work.specs.Splits.{split_limit}
-use Rattle.pc_work.specs.Workload.{rerun_limit, session_limit, turn_limit, first_items}
+use Rattle.pc_work.specs.Count.{session_count}
+use Rattle.pc_work.specs.Workload.{first_items}
 use Rattle.pc_work.specs.declared.statement.Statement.{Statement}
 use Rattle.pc_work.specs.declared.statement.Statement.TheVariants.{Get, Scan, Put, Delete, Add}
 use Rattle.pc_work.specs.declared.item.Item.{Item}
@@ -47,7 +47,7 @@ IsTurnOf sessions (Recoverer number) = ⊥
 
 -- The turns are no more than the limit, and each is that of one of so many sessions, or of its finishing job.
 pub record AreTurnsOf (sessions : ℕ) (listed : List Turn) : Type 0 where
-  pub few : length listed ≤ turn_limit
+  pub few : length listed ≤ MOST_TURNS
   pub each : All (IsTurnOf sessions) listed
 
 -- The first of the keys stands behind this one, and each other behind the one before it.
@@ -69,22 +69,22 @@ pub record IsBuilt (work : Workload) : Type 0 where
   -- The splits rise strictly, in key order.
   pub splits : Rises work.splits
   -- The splits are no more than their limit.
-  pub few_splits : length work.splits ≤ split_limit
+  pub few_splits : length work.splits ≤ MOST_SPLITS
   -- The limit of an actor's entries is the default one.
   pub limit : work.limit ≡ 1000000
   -- The tries of a request are the default ones.
   pub tries : work.tries ≡ 4
   -- The reruns are no more than their limit.
-  pub reruns : work.reruns ≤ rerun_limit
+  pub reruns : work.reruns ≤ MOST_RERUNS
   -- No more items run ahead than the first session has.
   pub opening : work.opening ≤ first_items work.sessions
   -- There is a session.
   pub some_session : 1 ≤ length work.sessions
   -- The sessions are no more than their limit.
-  pub few_sessions : length work.sessions ≤ session_limit
+  pub few_sessions : length work.sessions ≤ MOST_SESSIONS
   -- Each session states its clock, and transactions that only read or only write.
   pub sessions : All IsBuiltSession work.sessions
   -- The statements of all sessions are no more than their limit.
-  pub few_statements : sum_by session_count work.sessions ≤ statement_limit
+  pub few_statements : sum_by session_count work.sessions ≤ MOST_STATEMENTS
   -- Turns are stated, and each is that of a session that is there, or of its finishing job.
   pub turns : IsSomeAnd work.turns (AreTurnsOf (length work.sessions))

@@ -11,30 +11,30 @@ use Rattle.pc_work.specs.declared.statement.Statement.{Statement}
 use Rattle.pc_work.specs.declared.statement.Statement.TheVariants.{Get, Scan, Put, Delete}
 
 -- A get: its key.
-abbrev pub get_of : Data → Option Statement
-get_of value = key_of value >>= λ key. Some (Get key)
+abbrev pub get_statement : Data → Option Statement
+get_statement value = key_of value >>= λ key. Some (Get key)
 
 -- A scan: its span.
-abbrev pub scan_of : Data → Option Statement
-scan_of value = span_of value >>= λ span. Some (Scan span)
+abbrev pub scan_statement : Data → Option Statement
+scan_statement value = span_of value >>= λ span. Some (Scan span)
 
 -- A put: a list of its key and its value.
-unfoldable pub put_of : Data → Option Statement
-put_of value = do
+unfoldable pub put_statement : Data → Option Statement
+put_statement value = do
   both ← pair_of value
   key ← key_of both.0
   written ← value_of both.1
   Some (Put key written)
 
 -- A delete: its key.
-abbrev pub delete_of : Data → Option Statement
-delete_of value = key_of value >>= λ key. Some (Delete key)
+abbrev pub delete_statement : Data → Option Statement
+delete_statement value = key_of value >>= λ key. Some (Delete key)
 
 -- The statement that a value states: an object with exactly one member, which is named by what the statement does.
 unfoldable pub statement_of : Data → Option Statement
 statement_of value =
-    if has_only (codes "get" ∷ []) value then (get (codes "get") value >>= get_of)
-    else (if has_only (codes "scan" ∷ []) value then (get (codes "scan") value >>= scan_of)
-    else (if has_only (codes "put" ∷ []) value then (get (codes "put") value >>= put_of)
-    else (if has_only (codes "delete" ∷ []) value then (get (codes "delete") value >>= delete_of)
+    if has_only (codes "get" ∷ []) value then (get (codes "get") value >>= get_statement)
+    else (if has_only (codes "scan" ∷ []) value then (get (codes "scan") value >>= scan_statement)
+    else (if has_only (codes "put" ∷ []) value then (get (codes "put") value >>= put_statement)
+    else (if has_only (codes "delete" ∷ []) value then (get (codes "delete") value >>= delete_statement)
     else None)))

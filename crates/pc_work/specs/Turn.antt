@@ -24,7 +24,7 @@ unfoldable pub turn_of : Data → Option Turn
 turn_of value = as_str value >>= turn_in
 
 -- Among so many sessions and no recoverer, the turn is that of one that is there.
-abbrev pub is_there : ℕ → Turn → Bool
-is_there sessions (Session number) = nat_le 1 number && nat_le number sessions
-is_there sessions (Job number) = nat_le 1 number && nat_le number sessions
-is_there sessions (Recoverer number) = false
+abbrev pub is_turn_there : ℕ → Turn → Bool
+is_turn_there sessions (Session number) = nat_le 1 number && nat_le number sessions
+is_turn_there sessions (Job number) = nat_le 1 number && nat_le number sessions
+is_turn_there sessions (Recoverer number) = false

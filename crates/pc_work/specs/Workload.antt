@@ -5,13 +5,14 @@ use Rattle.std.specs.List.{list_all}
 use Rattle.serde_json.specs.Data.{Data}
 use Rattle.serde_json.specs.Find.{get, as_bool}
 use Rattle.serde_json.specs.Read.{read}
+use Rattle.pc_base.specs.declared.limits.TheConstants.{MOST_STATEMENTS}
 use Rattle.pc_work.specs.Reading.{◌>>=◌}
 use Rattle.pc_work.specs.Members.{has_only, whole_of, whole_up_to, whole_in, member_or}
 use Rattle.pc_work.specs.Lists.{list_by}
-use Rattle.pc_work.specs.Count.{session_count, statement_limit}
+use Rattle.pc_work.specs.Count.{session_count}
 use Rattle.pc_work.specs.Session.{session_of}
 use Rattle.pc_work.specs.Splits.{splits_of}
-use Rattle.pc_work.specs.Turn.{turn_of, is_there}
+use Rattle.pc_work.specs.Turn.{is_turn_there, turn_of}
 use Rattle.pc_work.specs.declared.fault.WorkFault.{WorkFault}
 use Rattle.pc_work.specs.declared.fault.WorkFault.TheVariants as faults
 use Rattle.pc_work.specs.declared.session.SessionWork.{SessionWork}
@@ -42,16 +43,16 @@ first_items (first ∷ others) = length first.script
 -- From one session to the limit, with no more statements than the limit.
 abbrev pub are_sessions : List SessionWork → Bool
 are_sessions sessions =
-    nat_le 1 (length sessions) && nat_le (length sessions) session_limit && nat_le (sum_by session_count sessions) statement_limit
+    nat_le 1 (length sessions) && nat_le (length sessions) session_limit && nat_le (sum_by session_count sessions) MOST_STATEMENTS
 
 -- No more turns than the limit, and each is that of one that is there.
-abbrev pub are_turns : List SessionWork → List Turn → Bool
-are_turns sessions turns = nat_le (length turns) turn_limit && list_all (is_there (length sessions)) turns
+abbrev pub are_stated_turns : List SessionWork → List Turn → Bool
+are_stated_turns sessions turns = nat_le (length turns) turn_limit && list_all (is_turn_there (length sessions)) turns
 
 -- Version 1 without pipelining, and sessions, turns and an opening within their limits.
-abbrev pub is_within : ℕ → Bool → ℕ → List SessionWork → List Turn → Bool
-is_within version pipelining opening sessions turns =
-    version == 1 && not pipelining && are_sessions sessions && are_turns sessions turns && nat_le opening (first_items sessions)
+abbrev pub is_within_limits : ℕ → Bool → ℕ → List SessionWork → List Turn → Bool
+is_within_limits version pipelining opening sessions turns =
+    version == 1 && not pipelining && are_sessions sessions && are_stated_turns sessions turns && nat_le opening (first_items sessions)
 
 -- The workload that a JSON value states: what is absent is at its default.
 unfoldable pub workload_of : Data → Option Workload
@@ -66,7 +67,7 @@ workload_of value = if has_only workload_names value then (do
   turns ← list_by turn_of listed
   found ← get (codes "sessions") value
   sessions ← list_by session_of found
-  if is_within version pipelining opening sessions turns then Some (record {
+  if is_within_limits version pipelining opening sessions turns then Some (record {
     version = 1;
     pipelining = false;
     splits = splits;

@@ -2,7 +2,7 @@ ghost use Rattle.std.specs.Prelude.{◌≡◌};
 ghost use Rattle.serde_json.specs.View.{view};
 ghost use Rattle.pc_work.specs.Reading.{Gives};
 ghost use Rattle.pc_work.specs.Item.{only_reads, only_writes};
-ghost use Rattle.pc_work.specs.Statement.{get_of, scan_of, put_of, delete_of, statement_of};
+ghost use Rattle.pc_work.specs.Statement.{delete_statement, get_statement, put_statement, scan_statement, statement_of};
 
 use crate::fault::Misfit;
 use crate::json::{FromJson, has_only, member, pair};
@@ -59,20 +59,20 @@ impl FromJson for Statement {
 }
 
 fn get(alloc: Global, json: &Json) -> Result<Statement, Misfit>
-    ensures { Gives result (get_of (view json.now)) }
+    ensures { Gives result (get_statement (view json.now)) }
 {
     Ok(Statement::Get(Key::from_json(alloc, json)?))
 }
 
 fn scan(alloc: Global, json: &Json) -> Result<Statement, Misfit>
-    ensures { Gives result (scan_of (view json.now)) }
+    ensures { Gives result (scan_statement (view json.now)) }
 {
     Ok(Statement::Scan(span_of(alloc, json)?))
 }
 
-#[tactic(auto, unfolding(crate::specs::Statement::put_of))]
+#[tactic(auto, unfolding(crate::specs::Statement::put_statement))]
 fn put(alloc: Global, json: &Json) -> Result<Statement, Misfit>
-    ensures { Gives result (put_of (view json.now)) }
+    ensures { Gives result (put_statement (view json.now)) }
 {
     let (key, value) = pair(json)?;
     let key = Key::from_json(alloc, key)?;
@@ -81,7 +81,7 @@ fn put(alloc: Global, json: &Json) -> Result<Statement, Misfit>
 }
 
 fn delete(alloc: Global, json: &Json) -> Result<Statement, Misfit>
-    ensures { Gives result (delete_of (view json.now)) }
+    ensures { Gives result (delete_statement (view json.now)) }
 {
     Ok(Statement::Delete(Key::from_json(alloc, json)?))
 }

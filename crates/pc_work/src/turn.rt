@@ -2,7 +2,7 @@ ghost use Rattle.std.specs.Prelude.{◌≡◌};
 ghost use Rattle.std.specs.Char.{is_ascii_digit};
 ghost use Rattle.std.specs.List.{list_all};
 ghost use Rattle.pc_work.specs.Number.{is_number, number_in};
-ghost use Rattle.pc_work.specs.Turn.{turn_in, turn_of, is_there};
+ghost use Rattle.pc_work.specs.Turn.{is_turn_there, turn_in, turn_of};
 
 use crate::fault::Misfit;
 use crate::json::FromJson;
@@ -26,7 +26,7 @@ pub type Turns = Items<Turn>;
 impl Turn {
     /// Whether it is the turn of one that is there, among so many sessions and no recoverer.
     pub(crate) fn is_there(self, sessions: usize) -> bool
-        ensures { result ≡ is_there sessions self }
+        ensures { result ≡ is_turn_there sessions self }
     {
         match self {
             Turn::Session(number) | Turn::Job(number) => number >= 1 && number as usize <= sessions,

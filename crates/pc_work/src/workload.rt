@@ -1,11 +1,12 @@
 ghost use Rattle.std.specs.Prelude.{◌≡◌, ◌↔◌, ◌⊎◌, ℕ, IsOk, IsSome, IfOk, IsErrOf, Some};
 ghost use Rattle.std.specs.List.{list_all};
 ghost use Rattle.serde_json.specs.View.{view};
+ghost use Rattle.pc_base.specs.declared.limits.TheConstants.{MOST_RERUNS};
 ghost use Rattle.pc_work.specs.Reading.{Gives};
 ghost use Rattle.pc_work.specs.Built.{IsBuilt};
 ghost use Rattle.pc_work.specs.Members.{has_only, member_or, whole_of, whole_up_to};
-ghost use Rattle.pc_work.specs.Turn.{is_there};
-ghost use Rattle.pc_work.specs.Workload.{workload_names, rerun_limit, first_items, are_sessions, are_turns, is_within, workload_of, IsJson, workload_in, UnlessMemory};
+ghost use Rattle.pc_work.specs.Turn.{is_turn_there};
+ghost use Rattle.pc_work.specs.Workload.{are_stated_turns, is_within_limits, workload_names, first_items, are_sessions, workload_of, IsJson, workload_in, UnlessMemory};
 
 use crate::count::Counted;
 use crate::fault::{Misfit, WorkFault};
@@ -130,7 +131,7 @@ fn has_known_members(json: &Json) -> bool
 
 /// How often a transaction may be asked again, by default 8 times.
 fn reruns_or_default(json: &Json, name: &str) -> Result<u32, Misfit>
-    ensures { Gives result (member_or 8 (whole_up_to rerun_limit) name.now (view json.now)) }
+    ensures { Gives result (member_or 8 (whole_up_to MOST_RERUNS) name.now (view json.now)) }
 {
     match json.get(name) {
         Some(stated) => whole_up_to(stated, RERUNS),
@@ -156,7 +157,7 @@ fn is_within(
     sessions: &Sessions,
     turns: &Turns,
 ) -> bool
-    ensures { result ≡ is_within version pipelining opening sessions.now turns.now }
+    ensures { result ≡ is_within_limits version pipelining opening sessions.now turns.now }
 {
     version == 1
         && !pipelining
@@ -182,13 +183,13 @@ fn are_sessions(sessions: &Sessions) -> bool
 }
 
 fn are_turns(sessions: &Sessions, turns: &Turns) -> bool
-    ensures { result ≡ are_turns sessions.now turns.now }
+    ensures { result ≡ are_stated_turns sessions.now turns.now }
 {
     turns.len() <= TURNS && are_there(turns.as_slice(), sessions.len())
 }
 
 fn are_there(turns: &[Turn], sessions: usize) -> bool
-    ensures { result ≡ list_all (is_there sessions) turns.now }
+    ensures { result ≡ list_all (is_turn_there sessions) turns.now }
 {
     turns.iter().all(|turn| turn.is_there(sessions))
 }

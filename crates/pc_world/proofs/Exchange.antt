@@ -6,15 +6,15 @@ use Rattle.std.specs.List.{AllByRecursion as Each}
 use Rattle.std.specs.Option.{option_to_list}
 use Rattle.pc_base.specs.declared.entry.Entry.{Entry}
 use Rattle.pc_history.specs.declared.pair.Pair.{Pair}
+use Rattle.pc_lists.proofs.Anywhere.{any_behind, any_kept, any_last}
 use Rattle.pc_proto.specs.declared.event.Event.{Event}
 use Rattle.pc_proto.specs.declared.event.Event.TheVariants as events
 use Rattle.pc_proto.specs.declared.reply.Reply.{Reply}
 use Rattle.pc_proto.specs.declared.request.Request.{Request}
-use Rattle.pc_proto.specs.Stamps.{event_stamps, reply_stamps}
-use Rattle.pc_world.proofs.Anywhere.{any_behind, any_kept, any_last}
+use Rattle.pc_proto.specs.Stamps.{event_stamps, greatest_of, reply_stamps}
 use Rattle.pc_world.specs.Exchange.{HeardSince, HearsReply, IsExchange, IsLater, WasAnswered, is_message, known_from}
 use Rattle.pc_world.specs.Known.{Known, known_after, learn}
-use Rattle.pc_world.specs.Known.Clock.{high_after, last_of, top_after}
+use Rattle.pc_world.specs.Known.Clock.{high_after, top_after}
 use Rattle.pc_world.specs.Known.Traffic.{Heard, heard_as, heard_by, reply_in, request_sent}
 
 module _ (P : Known → Type 0) (step : (event : Event) (h : Option Heard) (top high : ℕ) (k : Known) → IsTrue (is_message event) → k.top ≤ top → P k → P (known_after event h top high k)) where
@@ -122,7 +122,7 @@ learn_by k p event named e n =
 -- What an actor knows once it heard this.
 abbrev after_hearing : Heard → Known → Known
 after_hearing h k =
-    known_after (events.Hear h.number h.step) (Some h) (max k.top (max 0 (last_of (reply_stamps h.reply)))) (max k.high (last_of (reply_stamps h.reply))) k
+    known_after (events.Hear h.number h.step) (Some h) (max k.top (max 0 (greatest_of (reply_stamps h.reply)))) (max k.high (greatest_of (reply_stamps h.reply))) k
 
 -- and is heard since an earlier time too
 pub heard_earlier : (since now then : Known) (request : Request) (reply : Reply) → IsLater since now → HeardSince now then request reply → HeardSince since then request reply
@@ -143,8 +143,8 @@ each_at_most : (most : ℕ) (stamps : List ℕ) → Each (λ ts. ts ≤ fold (λ
 each_at_most most [] = tt
 each_at_most most (ts ∷ stamps) = (omega (arith, from_most (max most ts) stamps), each_at_most (max most ts) stamps)
 
-all_at_most_last : (stamps : List ℕ) → All (λ ts. ts ≤ last_of stamps) stamps
-all_at_most_last stamps = All-from_recursion (λ ts. ts ≤ last_of stamps) stamps (each_at_most 0 stamps)
+all_at_most_last : (stamps : List ℕ) → All (λ ts. ts ≤ greatest_of stamps) stamps
+all_at_most_last stamps = All-from_recursion (λ ts. ts ≤ greatest_of stamps) stamps (each_at_most 0 stamps)
 
 module _ (since before : Known) (p : Pair Event) (request : Request) (reply : Reply) (hears : HearsReply since before p request reply) where
   -- What is heard.
@@ -154,7 +154,7 @@ module _ (since before : Known) (p : Pair Event) (request : Request) (reply : Re
   learnt : learn p before ≡ after_hearing hearing before
   learnt =
       let hear = events.Hear hears.number hears.step in
-      let G : Event → Option Request → Known = λ e r. known_after hear (heard_as hears.number hears.step r (reply_in e)) (max before.top (max 0 (last_of (event_stamps e)))) (max before.high (last_of (event_stamps e))) before in
+      let G : Event → Option Request → Known = λ e r. known_after hear (heard_as hears.number hears.step r (reply_in e)) (max before.top (max 0 (greatest_of (event_stamps e)))) (max before.high (greatest_of (event_stamps e))) before in
       learn_by before p hear (Some hears.evaluation) hears.event hears.named
       ∙ ap (λ e. G e (request_sent hears.number before.sent)) hears.told
       ∙ ap (G (events.Eval hears.sender hears.asked reply)) hears.said
@@ -172,8 +172,8 @@ module _ (since before : Known) (p : Pair Event) (request : Request) (reply : Re
 
   hearing_stamps : All (λ ts. ts ≤ (learn p before).top) (reply_stamps reply)
   hearing_stamps =
-      let top : (learn p before).top ≡ max before.top (max 0 (last_of (reply_stamps reply))) = ap (λ k. k.top) learnt in
-      All-weaker (λ ts. ts ≤ last_of (reply_stamps reply)) (λ ts. ts ≤ (learn p before).top)
+      let top : (learn p before).top ≡ max before.top (max 0 (greatest_of (reply_stamps reply))) = ap (λ k. k.top) learnt in
+      All-weaker (λ ts. ts ≤ greatest_of (reply_stamps reply)) (λ ts. ts ≤ (learn p before).top)
       (λ ts low. omega (arith, top, low)) (reply_stamps reply) (all_at_most_last (reply_stamps reply))
 
 -- What comes of a reply to a request that was sent since.

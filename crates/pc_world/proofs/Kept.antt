@@ -9,19 +9,19 @@ use Rattle.pc_base.specs.declared.entry.Entry.{Entry}
 use Rattle.pc_base.specs.Timestamp.{greatest}
 use Rattle.pc_history.specs.History.{AllKept, IsFine, IsFineAfter}
 use Rattle.pc_history.specs.Own.{named_in, own, pair, pairs_after, same_id}
+use Rattle.pc_lists.proofs.Each.{each-append, each-weaker}
 use Rattle.pc_proto.specs.declared.event.Event.{Event}
 use Rattle.pc_proto.specs.declared.event.Event.TheVariants as events
 use Rattle.pc_proto.specs.declared.reply.Reply.{Reply}
 use Rattle.pc_proto.specs.declared.request.Request.{Request}
 use Rattle.pc_proto.specs.Stamps.{event_stamps, request_stamps, reply_stamps}
-use Rattle.pc_world.proofs.Each.{each-append, each-weaker}
 use Rattle.pc_world.proofs.Kept.Entries.{EntryWithin, named-within, own-within, request-within}
 use Rattle.pc_world.proofs.Kept.Knowledge.{KnownWithin, known-within}
 use Rattle.pc_world.proofs.Kept.Told.{told-within}
 use Rattle.pc_world.proofs.Prefixes.{run_induction}
 use Rattle.pc_world.proofs.Stamps.{after-within, has_room, reply-within}
 use Rattle.pc_world.proofs.Stamps.Within.{AtMost, StateWithin, at_most-more, state-more, state-stamps}
-use Rattle.pc_world.specs.Known.{Known, known}
+use Rattle.pc_world.specs.Known.{Known, known_of}
 use Rattle.pc_world.specs.Local.{Head, IsAnswer, IsLocal, MayDo, MayEvaluate}
 use Rattle.pc_world.specs.MaySend.{MaySend}
 use Rattle.pc_world.specs.Named.{request_in, request_named}
@@ -102,7 +102,7 @@ module _ (head : Head) where
       (state-more clock_end (limit []) no_state (omega arith) no-state)
 
   -- what an actor knows in one
-  pub known-within-limit : (id : ActorId) (history : List (Entry Event)) → IsFine (protocol head) history → AllKept (protocol head) history → KnownWithin (limit history) (known (own (protocol head) id history))
+  pub known-within-limit : (id : ActorId) (history : List (Entry Event)) → IsFine (protocol head) history → AllKept (protocol head) history → KnownWithin (limit history) (known_of (own (protocol head) id history))
   known-within-limit id history fine kept =
       known-within (limit history) (own (protocol head) id history) (own-within (protocol head) (limit history) id history (entries-within history fine kept))
 
@@ -134,10 +134,10 @@ module _ (head : Head) where
       let asked = request-within n named (named-within (protocol head) n history event (entries-within history fine kept)) in
       evaluated-within n (state_of (own (protocol head) (actors.Range range) history)) event named asked (state-within-limit (actors.Range range) history fine kept) local.next
   next-within (actors.Session number) history event fine kept local =
-      done-within (limit history) (actors.Session number) (known (own (protocol head) (actors.Session number) history)) event (omega arith)
+      done-within (limit history) (actors.Session number) (known_of (own (protocol head) (actors.Session number) history)) event (omega arith)
       (known-within-limit (actors.Session number) history fine kept) local.next
   next-within (actors.Recoverer number) history event fine kept local =
-      done-within (limit history) (actors.Recoverer number) (known (own (protocol head) (actors.Recoverer number) history)) event (omega arith)
+      done-within (limit history) (actors.Recoverer number) (known_of (own (protocol head) (actors.Recoverer number) history)) event (omega arith)
       (known-within-limit (actors.Recoverer number) history fine kept) local.next
 
   -- what is local after a fine history that is kept is kept
@@ -166,7 +166,7 @@ module _ (head : Head) where
       state-stamps (limit history) s (state-within-limit id history run (run_kept history run))
 
   -- every timestamp that an actor knows of
-  pub run_top : (id : ActorId) (history : List (Entry Event)) → IsRun head history → (known (own (protocol head) id history)).top ≤ clock_end + length history
+  pub run_top : (id : ActorId) (history : List (Entry Event)) → IsRun head history → (known_of (own (protocol head) id history)).top ≤ clock_end + length history
   run_top id history run = (known-within-limit id history run (run_kept history run)).top
 
   below : (history : List (Entry Event)) → length history ≤ 2 ^ 64 → limit history < greatest

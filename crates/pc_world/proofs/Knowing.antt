@@ -8,14 +8,14 @@ use Rattle.pc_history.specs.declared.pair.Pair.{Pair}
 use Rattle.pc_history.specs.History.{MayFollow}
 use Rattle.pc_history.specs.Own.{named_in, own, pair}
 use Rattle.pc_proto.specs.declared.event.Event.{Event}
-use Rattle.pc_world.specs.Known.{known, learn, nothing_known}
+use Rattle.pc_world.specs.Known.{known_of, learn, nothing_known}
 use Rattle.pc_world.specs.Local.{Head}
 use Rattle.pc_world.specs.RangeState.{no_state}
 use Rattle.pc_world.specs.Run.{IsRun, protocol}
 use Rattle.pc_world.specs.StateOf.{evaluated, state_of}
 
 -- an actor that has one more entry knows what it learns from it
-pub known_push : (entries : List (Pair Event)) (p : Pair Event) → known (entries ++ p ∷ []) ≡ learn p (known entries)
+pub known_push : (entries : List (Pair Event)) (p : Pair Event) → known_of (entries ++ p ∷ []) ≡ learn p (known_of entries)
 known_push entries p = fold-append (λ k p. learn p k) nothing_known entries (p ∷ [])
 
 -- a range that has one more entry is as after this evaluation
@@ -25,9 +25,9 @@ state_push entries p = fold-append evaluated no_state entries (p ∷ [])
 module _ (head : Head) where
   -- one more entry of this actor
   pub known_same : (id : ActorId) (history : List (Entry Event)) (e : Entry Event) → e.actor ≡ id
-      → known (own (protocol head) id (history ++ e ∷ [])) ≡ learn (pair e (named_in (protocol head) history e.event)) (known (own (protocol head) id history))
+      → known_of (own (protocol head) id (history ++ e ∷ [])) ≡ learn (pair e (named_in (protocol head) history e.event)) (known_of (own (protocol head) id history))
   known_same id history e same =
-      ap known (own-push_same (protocol head) id history e same)
+      ap known_of (own-push_same (protocol head) id history e same)
       ∙ known_push (own (protocol head) id history) (pair e (named_in (protocol head) history e.event))
 
   pub state_same : (id : ActorId) (history : List (Entry Event)) (e : Entry Event) → e.actor ≡ id
@@ -38,8 +38,8 @@ module _ (head : Head) where
 
   -- one more entry of another actor
   pub known_other : (id : ActorId) (history : List (Entry Event)) (e : Entry Event) → e.actor ≢ id
-      → known (own (protocol head) id (history ++ e ∷ [])) ≡ known (own (protocol head) id history)
-  known_other id history e differ = ap known (own-push_other (protocol head) id history e differ)
+      → known_of (own (protocol head) id (history ++ e ∷ [])) ≡ known_of (own (protocol head) id history)
+  known_other id history e differ = ap known_of (own-push_other (protocol head) id history e differ)
 
   pub state_other : (id : ActorId) (history : List (Entry Event)) (e : Entry Event) → e.actor ≢ id
       → state_of (own (protocol head) id (history ++ e ∷ [])) ≡ state_of (own (protocol head) id history)

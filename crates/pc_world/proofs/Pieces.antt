@@ -6,10 +6,12 @@ use Rattle.std.specs.Bool.{⊤}
 use Rattle.std.specs.List.{AllByRecursion as Each}
 use Rattle.pc_base.specs.declared.span.Span.{Span}
 use Rattle.pc_base.specs.declared.span.Span.TheVariants.{One, Between}
+use Rattle.pc_base.specs.Rising.{AreRising}
 use Rattle.pc_base.specs.Span.{is_empty, key_at_most, key_below}
-use Rattle.pc_world.proofs.Each.{each-append, each-weaker}
-use Rattle.pc_world.proofs.KeyOrder.{at_most-is, at_most-through, below-once, below-through, not-below-itself}
-use Rattle.pc_world.specs.RangeOf.{AreDistinct, AreRising, LiesInOne, earlier_end, later_start, piece, pieces, pieces_from, range_of, range_of_start}
+use Rattle.pc_lists.proofs.Each.{each-append, each-weaker}
+use Rattle.pc_lists.proofs.Same.{key_below-self}
+use Rattle.pc_world.proofs.KeyOrder.{at_most-is, at_most-through, below-once, below-through}
+use Rattle.pc_world.specs.RangeOf.{AreDistinct, LiesInOne, earlier_end, later_start, piece, pieces, pieces_from, range_of, range_of_start}
 
 -- A key that an end of a span is, and that is not below another.
 record IsFrom (low : List ℕ) (end : Option (List ℕ)) : Type 0 where
@@ -25,56 +27,56 @@ record IsUpTo (high : List ℕ) (end : Option (List ℕ)) : Type 0 where
 
 later-again : (one other : Option (List ℕ)) → later_start one (later_start one other) ≡ later_start one other
 later-again None other = refl
-later-again (Some one) None = ap (λ b. if b then Some one else Some one) (not-below-itself one)
+later-again (Some one) None = ap (λ b. if b then Some one else Some one) (key_below-self one)
 later-again (Some one) (Some other) = by (key_below one other) refl
   where
     by : (b : Bool) → key_below one other ≡ b → later_start (Some one) (if b then Some other else Some one) ≡ (if b then Some other else Some one)
     by true is = ap (λ b. if b then Some other else Some one) is
-    by false is = ap (λ b. if b then Some one else Some one) (not-below-itself one)
+    by false is = ap (λ b. if b then Some one else Some one) (key_below-self one)
 
 earlier-again : (one other : Option (List ℕ)) → earlier_end one (earlier_end one other) ≡ earlier_end one other
 earlier-again None other = refl
-earlier-again (Some one) None = ap (λ b. if b then Some one else Some one) (not-below-itself one)
+earlier-again (Some one) None = ap (λ b. if b then Some one else Some one) (key_below-self one)
 earlier-again (Some one) (Some other) = by (key_below other one) refl
   where
     by : (b : Bool) → key_below other one ≡ b → earlier_end (Some one) (if b then Some other else Some one) ≡ (if b then Some other else Some one)
     by true is = ap (λ b. if b then Some other else Some one) is
-    by false is = ap (λ b. if b then Some one else Some one) (not-below-itself one)
+    by false is = ap (λ b. if b then Some one else Some one) (key_below-self one)
 
 -- the later of two starts is not before the one
 later-from : (one : List ℕ) (other : Option (List ℕ)) → IsFrom one (later_start (Some one) other)
-later-from one None = record { key = one; is = refl; from = not-below-itself one }
+later-from one None = record { key = one; is = refl; from = key_below-self one }
 later-from one (Some other) = by (key_below one other) refl
   where
     by : (b : Bool) → key_below one other ≡ b → IsFrom one (if b then Some other else Some one)
     by true is = record { key = other; is = refl; from = below-once one other is }
-    by false is = record { key = one; is = refl; from = not-below-itself one }
+    by false is = record { key = one; is = refl; from = key_below-self one }
 
 -- nor before the other
 later-from-other : (one : Option (List ℕ)) (other : List ℕ) → IsFrom other (later_start one (Some other))
-later-from-other None other = record { key = other; is = refl; from = not-below-itself other }
+later-from-other None other = record { key = other; is = refl; from = key_below-self other }
 later-from-other (Some one) other = by (key_below one other) refl
   where
     by : (b : Bool) → key_below one other ≡ b → IsFrom other (if b then Some other else Some one)
-    by true is = record { key = other; is = refl; from = not-below-itself other }
+    by true is = record { key = other; is = refl; from = key_below-self other }
     by false is = record { key = one; is = refl; from = is }
 
 -- the earlier of two ends is not behind the one
 earlier-up-to : (one : List ℕ) (other : Option (List ℕ)) → IsUpTo one (earlier_end (Some one) other)
-earlier-up-to one None = record { key = one; is = refl; up_to = not-below-itself one }
+earlier-up-to one None = record { key = one; is = refl; up_to = key_below-self one }
 earlier-up-to one (Some other) = by (key_below other one) refl
   where
     by : (b : Bool) → key_below other one ≡ b → IsUpTo one (if b then Some other else Some one)
     by true is = record { key = other; is = refl; up_to = below-once other one is }
-    by false is = record { key = one; is = refl; up_to = not-below-itself one }
+    by false is = record { key = one; is = refl; up_to = key_below-self one }
 
 -- nor behind the other
 earlier-up-to-other : (one : Option (List ℕ)) (other : List ℕ) → IsUpTo other (earlier_end one (Some other))
-earlier-up-to-other None other = record { key = other; is = refl; up_to = not-below-itself other }
+earlier-up-to-other None other = record { key = other; is = refl; up_to = key_below-self other }
 earlier-up-to-other (Some one) other = by (key_below other one) refl
   where
     by : (b : Bool) → key_below other one ≡ b → IsUpTo other (if b then Some other else Some one)
-    by true is = record { key = other; is = refl; up_to = not-below-itself other }
+    by true is = record { key = other; is = refl; up_to = key_below-self other }
     by false is = record { key = one; is = refl; up_to = is }
 
 -- a span whose end is not behind a key, and whose start is not before that, is empty

@@ -3,11 +3,11 @@ use Rattle.std.proofs.Common.{ℕ, ◌+◌, ◌≤◌, ◌<◌, arith}
 use Rattle.std.proofs.lemmas.List.Elements.{All-from_recursion, All-weaker, recursion_from_All}
 use Rattle.std.specs.List.{AllByRecursion as Each}
 use Rattle.pc_base.specs.Timestamp.{greatest}
+use Rattle.pc_lists.proofs.Each.{each-front, each-weaker}
 use Rattle.pc_proto.specs.declared.request.Request.{Request}
 use Rattle.pc_proto.specs.declared.request.Request.TheVariants as requests
 use Rattle.pc_proto.specs.RecordRows.{record_reply}
 use Rattle.pc_proto.specs.Stamps.{reply_stamps, request_stamps}
-use Rattle.pc_world.proofs.Each.{each-front, each-weaker}
 use Rattle.pc_world.proofs.Stamps.Reads.{get-bound, get-within, query-bound, query-within, refresh-bound, refresh-within, scan-bound, scan-within}
 use Rattle.pc_world.proofs.Stamps.Rows.{record-reply, table-within}
 use Rattle.pc_world.proofs.Stamps.Within.{AtMost, StateWithin, at_most-more, state-stamps, state-within, table-more}

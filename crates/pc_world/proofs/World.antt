@@ -16,7 +16,7 @@ use Rattle.pc_world.proofs.Kept.{next_kept}
 use Rattle.pc_world.proofs.Knowing.{known_other, known_same}
 use Rattle.pc_world.proofs.Prefixes.{run_induction}
 use Rattle.pc_world.specs.Caused.{Evaluates, IsCaused, IsCommittedTold, IsEvalOf, IsSendTo, SendsTo, TellsCommitted}
-use Rattle.pc_world.specs.Known.{Known, known}
+use Rattle.pc_world.specs.Known.{Known, known_of}
 use Rattle.pc_world.specs.Known.Traffic.{sent_by}
 use Rattle.pc_world.specs.Local.{Head, MayComeNext}
 use Rattle.pc_world.specs.Named.{is_eval, is_send_of, is_tell}
@@ -117,23 +117,23 @@ module _ (head : Head) where
         ]
       ])
 
-  next-number-is : (actor : ActorId) (entries : List (Pair Event)) (event : Event) (named : Option (Entry Event)) (number : ℕ) → MayComeNext head actor entries event named → is_send_of number event ≡ true → number ≡ length (known entries).sent + 1
+  next-number-is : (actor : ActorId) (entries : List (Pair Event)) (event : Event) (named : Option (Entry Event)) (number : ℕ) → MayComeNext head actor entries event named → is_send_of number event ≡ true → number ≡ length (known_of entries).sent + 1
   next-number-is (actors.Range range) entries (events.Send sent to request) named number may is = absurd may
   next-number-is (actors.Session session) entries (events.Send sent to request) named number may is = sym (equal-number sent number is) ∙ may.next
   next-number-is (actors.Recoverer recoverer) entries (events.Send sent to request) named number may is = sym (equal-number sent number is) ∙ may.next
   next-number-is actor entries event named number may is = absurd cc
 
   -- the next message of an actor has the next number
-  number-of-next : (history : List (Entry Event)) (e : Entry Event) (number : ℕ) → MayFollow (protocol head) history e → is_send_of number e.event ≡ true → number ≡ length (known (own (protocol head) e.actor history)).sent + 1
+  number-of-next : (history : List (Entry Event)) (e : Entry Event) (number : ℕ) → MayFollow (protocol head) history e → is_send_of number e.event ≡ true → number ≡ length (known_of (own (protocol head) e.actor history)).sent + 1
   number-of-next history e number may is = next-number-is e.actor (own (protocol head) e.actor history) e.event (named_in (protocol head) history e.event) number may.local.next is
 
   sent-count : ActorId → List (Entry Event) → ℕ
-  sent-count id history = length (known (own (protocol head) id history)).sent
+  sent-count id history = length (known_of (own (protocol head) id history)).sent
 
   count-same : (id : ActorId) (history : List (Entry Event)) (e : Entry Event) → e.actor ≡ id → sent-count id (history ++ e ∷ []) ≡ sent-count id history + length (sent_by e.event)
   unfolding sent-count
   count-same id history e same =
-      ap (λ (k : Known). length k.sent) (known_same head id history e same) ∙ length-append (known (own (protocol head) id history)).sent (sent_by e.event)
+      ap (λ (k : Known). length k.sent) (known_same head id history e same) ∙ length-append (known_of (own (protocol head) id history)).sent (sent_by e.event)
 
   count-other : (id : ActorId) (history : List (Entry Event)) (e : Entry Event) → e.actor ≢ id → sent-count id (history ++ e ∷ []) ≡ sent-count id history
   unfolding sent-count
@@ -161,15 +161,15 @@ module _ (head : Head) where
             last-counted history e number n (one-sent number e.event is_e))
       ])
     where
-      last-counted : (history : List (Entry Event)) (e : Entry Event) (number : ℕ) → number ≡ length (known (own (protocol head) e.actor history)).sent + 1 → length (sent_by e.event) ≡ 1 → number ≤ sent-count e.actor (history ++ e ∷ [])
-      last-counted history e number n one = let count : sent-count e.actor history ≡ length (known (own (protocol head) e.actor history)).sent = unfold sent-count in refl in omega (arith, count-same e.actor history e refl)
+      last-counted : (history : List (Entry Event)) (e : Entry Event) (number : ℕ) → number ≡ length (known_of (own (protocol head) e.actor history)).sent + 1 → length (sent_by e.event) ≡ 1 → number ≤ sent-count e.actor (history ++ e ∷ [])
+      last-counted history e number n one = let count : sent-count e.actor history ≡ length (known_of (own (protocol head) e.actor history)).sent = unfold sent-count in refl in omega (arith, count-same e.actor history e refl)
 
   -- the message sent next has a number that no earlier one of its actor has
   is-new : (history : List (Entry Event)) (e a : Entry Event) (number : ℕ) → IsRun head history → MayFollow (protocol head) history e → Contains history a → a.actor ≡ e.actor → is_send_of number a.event ≡ true → is_send_of number e.event ≡ true → ⊥
   unfolding AreCounted sent-count
   is-new history e a number run may there same is_a is_e =
-      let all : (x : Entry Event) (number : ℕ) → Contains history x → is_send_of number x.event ≡ true → number ≤ length (known (own (protocol head) x.actor history)).sent = counted history run in
-      let before : number ≤ length (known (own (protocol head) e.actor history)).sent = subst (λ id. number ≤ length (known (own (protocol head) id history)).sent) same (all a number there is_a) in
+      let all : (x : Entry Event) (number : ℕ) → Contains history x → is_send_of number x.event ≡ true → number ≤ length (known_of (own (protocol head) x.actor history)).sent = counted history run in
+      let before : number ≤ length (known_of (own (protocol head) e.actor history)).sent = subst (λ id. number ≤ length (known_of (own (protocol head) id history)).sent) same (all a number there is_a) in
       omega (arith, number-of-next history e number may is_e)
 
   IsOnePerNumber : List (Entry Event) → Type 0

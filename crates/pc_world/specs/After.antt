@@ -8,7 +8,7 @@ use Rattle.pc_history.specs.Own.{own}
 use Rattle.pc_proto.specs.declared.event.Event.{Event}
 use Rattle.pc_proto.specs.Place.{Place}
 use Rattle.pc_proto.specs.Table.{place_of}
-use Rattle.pc_world.specs.Known.{Known, known}
+use Rattle.pc_world.specs.Known.{Known, known_of}
 use Rattle.pc_world.specs.Local.{Head}
 use Rattle.pc_world.specs.RangeState.{RangeState}
 use Rattle.pc_world.specs.Run.{protocol}
@@ -24,4 +24,4 @@ place_at head range id history = place_of id (state_at head range history).table
 
 -- What an actor knows after a history.
 abbrev pub known_at : Head → ActorId → List (Entry Event) → Known
-known_at head id history = known (own (protocol head) id history)
+known_at head id history = known_of (own (protocol head) id history)

@@ -8,7 +8,7 @@ use Rattle.pc_proto.specs.declared.request.Request.{Request}
 use Rattle.pc_proto.specs.declared.request.Request.TheVariants as requests
 use Rattle.pc_proto.specs.declared.view.View.{View}
 use Rattle.pc_proto.specs.declared.view.View.TheVariants as views
-use Rattle.pc_world.specs.Known.Transactions.{is_final_view}
+use Rattle.pc_proto.specs.Views.{is_final_view}
 
 -- A conflict is with another transaction.
 abbrev pub IsWithAnother : TxnId → Reply → Type 0

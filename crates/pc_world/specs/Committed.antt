@@ -16,14 +16,14 @@ use Rattle.pc_proto.specs.declared.request.Request.{Request}
 use Rattle.pc_proto.specs.declared.request.Request.TheVariants as requests
 use Rattle.pc_proto.specs.Place.{Place, Nothing, Kept, Marked}
 use Rattle.pc_world.specs.After.{place_at, state_at}
-use Rattle.pc_world.specs.Evaluation.Query.{stands}
+use Rattle.pc_world.specs.Evaluation.Query.{write_stands}
 use Rattle.pc_world.specs.Local.{Head}
 use Rattle.pc_world.specs.RangeOf.{range_of}
 
 -- A write is present: its key's range has the transaction's intent of this epoch there, with the write's sequence or a later one,
 -- at or below this timestamp.
 abbrev pub is_present : Head → List (Entry Event) → TxnId → ℕ → ℕ → List ℕ × ℕ → Bool
-is_present head history id epoch ts write = stands id epoch write.1 ts write.0 (state_at head (range_of head.splits write.0) history)
+is_present head history id epoch ts write = write_stands id epoch write.1 ts write.0 (state_at head (range_of head.splits write.0) history)
 
 -- The key of a put of the transaction.
 abbrev pub key_put : TxnId → Request → Option (List ℕ)

@@ -11,12 +11,13 @@ use Rattle.pc_proto.specs.declared.event.Event.TheVariants as events
 use Rattle.pc_proto.specs.declared.reply.Reply.{Reply}
 use Rattle.pc_proto.specs.declared.request.Request.{Request}
 use Rattle.pc_proto.specs.declared.request.Request.TheVariants as requests
+use Rattle.pc_proto.specs.Replies.{view_in}
+use Rattle.pc_proto.specs.Views.{is_committed_at}
 use Rattle.pc_world.specs.Committed.{IsCommitted}
 use Rattle.pc_world.specs.Known.Traffic.{reply_in}
 use Rattle.pc_world.specs.Local.{Head}
 use Rattle.pc_world.specs.Named.{request_named}
 use Rattle.pc_world.specs.Run.{protocol}
-use Rattle.pc_world.specs.Views.{is_committed_at, view_in}
 
 -- The event tells that the transaction committed at this timestamp.
 abbrev pub TellsCommit : TxnId → ℕ → Event → Type 0

@@ -11,10 +11,10 @@ use Rattle.pc_proto.specs.RecordRows.{record_reply, table_after}
 use Rattle.pc_world.specs.RangeState.{RangeState}
 use Rattle.pc_world.specs.Evaluation.Get.{get, bound_after_get}
 use Rattle.pc_world.specs.Evaluation.IntentChange.{intents_with}
-use Rattle.pc_world.specs.Evaluation.Put.{put_change, put_outcome, put_reply}
+use Rattle.pc_world.specs.Evaluation.Put.{outcome_of_put, put_change, put_reply}
 use Rattle.pc_world.specs.Evaluation.Query.{query, bound_after_query}
 use Rattle.pc_world.specs.Evaluation.Refresh.{refresh, bound_after_refresh}
-use Rattle.pc_world.specs.Evaluation.Resolve.{intent_change, versions_after_resolve}
+use Rattle.pc_world.specs.Evaluation.Resolve.{resolve_change, versions_after_resolve}
 use Rattle.pc_world.specs.Evaluation.Scan.{scan, bound_after_scan}
 pub mod Get
 pub mod IntentChange
@@ -28,7 +28,7 @@ pub mod Scan
 abbrev pub reply : Request → RangeState → Reply
 reply (requests.Get id epoch seq ts key) s = get id epoch seq ts key s
 reply (requests.Scan id epoch seq ts span) s = scan id epoch seq ts span s
-reply (requests.Put meta seq ts key value) s = put_reply key (put_outcome meta seq ts key value s)
+reply (requests.Put meta seq ts key value) s = put_reply key (outcome_of_put meta seq ts key value s)
 reply (requests.Refresh id from to span) s = refresh id from to span s
 reply (requests.Query id epoch seq ts key by) s = query id epoch seq ts key s
 reply (requests.Resolve id key fate) s = replies.Resolved
@@ -42,8 +42,8 @@ versions_after _ s = s.versions
 -- Put lays intents, Resolve moves or drops them.
 abbrev pub intents_after : Request → RangeState → List (List ℕ × Intent)
 intents_after (requests.Put meta seq ts key value) s =
-    intents_with key (put_change (put_outcome meta seq ts key value s)) s.intents
-intents_after (requests.Resolve id key fate) s = intents_with key (intent_change id key fate s) s.intents
+    intents_with key (put_change (outcome_of_put meta seq ts key value s)) s.intents
+intents_after (requests.Resolve id key fate) s = intents_with key (resolve_change id key fate s) s.intents
 intents_after _ s = s.intents
 
 -- Reads raise the bound, and so does a query that finds nothing.

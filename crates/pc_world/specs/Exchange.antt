@@ -70,6 +70,6 @@ pub record WasAnswered (since now : Known) (request : Request) (reply : Reply) :
   pub knows : now ≡ learn hearing before
 
 -- Evaluations can make a state in which this is the reply to the request.
-pub record IsReplyTo (request : Request) (told : Reply) : Type 0 where
+pub record IsPossibleReply (request : Request) (told : Reply) : Type 0 where
   pub own : List (Pair Event)
   pub is : told ≡ reply request (state_of own)

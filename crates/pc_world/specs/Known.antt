@@ -68,9 +68,9 @@ priority_asked (calls.Begin priority) = priority
 priority_asked _ = Normal
 
 -- The transaction that a begin opens.
-abbrev pub begun_by : Option Statement → TxnId → ℕ → Txn
-begun_by None id ts = begun id Normal 0 ts
-begun_by (Some s) id ts = begun id (priority_asked s.call) s.reading ts
+abbrev pub txn_begun : Option Statement → TxnId → ℕ → Txn
+txn_begun None id ts = begun id Normal 0 ts
+txn_begun (Some s) id ts = begun id (priority_asked s.call) s.reading ts
 
 -- An answer is told to the open transaction, after these replies to what was sent in the open call.
 abbrev pub told_first : Answer → List Heard → List Txn → List Txn
@@ -79,7 +79,7 @@ told_first answer replied (t ∷ ts) = txn_told answer replied t ∷ ts
 
 -- The transactions after an answer was told.
 abbrev pub txns_told : Answer → Known → List Txn
-txns_told (answers.Begun id ts) k = begun_by k.statement id ts ∷ k.txns
+txns_told (answers.Begun id ts) k = txn_begun k.statement id ts ∷ k.txns
 txns_told answer k = cond k.is_open (told_first answer (replies_to k.sent_now k.heard_now) k.txns) k.txns
 
 -- The transactions after an event.
@@ -112,8 +112,8 @@ learn p k =
     (high_after p.entry.event p.named k.high) k
 
 -- What the actor of these entries knows.
-abbrev pub known : List (Pair Event) → Known
-known own = fold (λ k p. learn p k) nothing_known own
+abbrev pub known_of : List (Pair Event) → Known
+known_of own = fold (λ k p. learn p k) nothing_known own
 
 -- The last transaction begun, where it is open.
 abbrev pub first_if : Bool → List Txn → Option Txn

@@ -9,7 +9,7 @@ use Rattle.pc_proto.specs.declared.event.Event.{Event}
 use Rattle.pc_proto.specs.declared.request.Request.{Request}
 use Rattle.pc_proto.specs.Stamps.{event_stamps, reply_stamps, request_stamps}
 use Rattle.pc_world.specs.Evaluation.{reply, state_after}
-use Rattle.pc_world.specs.Known.{known}
+use Rattle.pc_world.specs.Known.{known_of}
 use Rattle.pc_world.specs.Local.{Head}
 use Rattle.pc_world.specs.Named.{request_in}
 use Rattle.pc_world.specs.RangeState.{RangeState}
@@ -46,7 +46,7 @@ RunsAreKept = (head : Head) (history : List (Entry Event)) → IsRun head histor
 -- actor knows of.
 pub record IsBounded (head : Head) (history : List (Entry Event)) (id : ActorId) : Type 0 where
   pub range : AllAtMost (clock_end + length history) (all_stamps (state_of (own (protocol head) id history)))
-  pub known : (known (own (protocol head) id history)).top ≤ clock_end + length history
+  pub known : (known_of (own (protocol head) id history)).top ≤ clock_end + length history
 
 -- Every run leaves ranges and actors so bounded.
 abbrev pub RunsAreBounded : Type 0

@@ -17,7 +17,7 @@ use Rattle.pc_proto.specs.declared.request.Request.{Request}
 use Rattle.pc_proto.specs.declared.request.Request.TheVariants as requests
 use Rattle.pc_world.specs.CommitOrder.{commit_order}
 use Rattle.pc_world.specs.Committed.{IsCommitted}
-use Rattle.pc_world.specs.Known.{known}
+use Rattle.pc_world.specs.Known.{known_of}
 use Rattle.pc_world.specs.Known.Traffic.{Heard, heard_by}
 use Rattle.pc_world.specs.Local.{Head}
 use Rattle.pc_world.specs.MapRun.{IsMapRun}
@@ -52,7 +52,7 @@ abbrev pub Learns : Head → List (Entry Event) → TxnId → List (Pair Event) 
 Learns head history id before (events.Tell (answers.Committed other ts)) named = other ≡ id
 Learns head history id before (events.Meet other step) named = other ≡ id
 Learns head history id before (events.Hear number step) named =
-    ShowsWriteHeard head history id (heard_by (events.Hear number step) named (known before).sent)
+    ShowsWriteHeard head history id (heard_by (events.Hear number step) named (known_of before).sent)
 Learns head history id before _ named = ⊥
 
 -- The event tells that this transaction began.

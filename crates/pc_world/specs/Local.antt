@@ -13,7 +13,7 @@ use Rattle.pc_proto.specs.declared.event.Event.TheVariants as events
 use Rattle.pc_proto.specs.declared.reply.Reply.{Reply}
 use Rattle.pc_proto.specs.declared.request.Request.{Request}
 use Rattle.pc_world.specs.Evaluation.{reply}
-use Rattle.pc_world.specs.Known.{Known, call_of, known}
+use Rattle.pc_world.specs.Known.{Known, call_of, known_of}
 use Rattle.pc_world.specs.MaySend.{MaySend}
 use Rattle.pc_world.specs.MayTell.{MayTell}
 use Rattle.pc_world.specs.Named.{request_named}
@@ -87,8 +87,8 @@ MayEvaluate s _ named = ⊥
 -- What the actor may do next, after its own entries.
 abbrev pub MayComeNext : Head → ActorId → List (Pair Event) → Event → Option (Entry Event) → Type 0
 MayComeNext head (actors.Range range) own event named = MayEvaluate (state_of own) event named
-MayComeNext head (actors.Session number) own event named = MayDo head (actors.Session number) (known own) event
-MayComeNext head (actors.Recoverer number) own event named = MayDo head (actors.Recoverer number) (known own) event
+MayComeNext head (actors.Session number) own event named = MayDo head (actors.Session number) (known_of own) event
+MayComeNext head (actors.Recoverer number) own event named = MayDo head (actors.Recoverer number) (known_of own) event
 
 -- The event may come next in the actor's own list.
 pub record IsLocal (head : Head) (actor : ActorId) (own : List (Pair Event)) (event : Event) (named : Option (Entry Event)) : Type 0 where

@@ -3,7 +3,7 @@ use Rattle.std.specs.Prelude.{ℕ, List, []}
 use Rattle.pc_base.specs.Bound.{ReadBound, no_bound}
 use Rattle.pc_base.specs.declared.version.Version.{Version}
 use Rattle.pc_proto.specs.declared.record.Intent.{Intent}
-use Rattle.pc_proto.specs.Table.{Table, no_table}
+use Rattle.pc_proto.specs.Table.{Table, empty_table}
 
 -- The committed versions of its keys, at most one intent under each key, what has been read, and the records and marks of the
 -- transactions whose anchor it holds.
@@ -15,4 +15,4 @@ pub record RangeState : Type 0 where
 
 -- A range on which nothing has happened.
 abbrev pub no_state : RangeState
-no_state = record { versions = []; intents = []; bound = no_bound; table = no_table }
+no_state = record { versions = []; intents = []; bound = no_bound; table = empty_table }

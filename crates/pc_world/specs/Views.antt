@@ -14,9 +14,9 @@ use Rattle.pc_proto.specs.declared.request.Request.TheVariants as requests
 use Rattle.pc_proto.specs.declared.view.View.{View}
 use Rattle.pc_proto.specs.declared.view.View.TheVariants as views
 use Rattle.pc_proto.specs.declared.why.Why.{Why}
-use Rattle.pc_proto.specs.RecordRows.{subject}
+use Rattle.pc_proto.specs.Requests.{subject}
+use Rattle.pc_proto.specs.Views.{is_final_view}
 use Rattle.pc_world.specs.Known.Traffic.{Heard}
-use Rattle.pc_world.specs.Known.Transactions.{is_final_view}
 
 -- The view in a reply.
 abbrev pub view_in : Reply → Option View
@@ -30,8 +30,8 @@ abbrev pub is_about : TxnId → Request → Bool
 is_about id request = option_map_or (λ other. same_txn other id) (subject request) false
 
 -- A view of the transaction that is not final was heard.
-abbrev pub shows_unsettled : TxnId → Request → Reply → Bool
-shows_unsettled id request reply = is_about id request && option_map_or (λ view. not (is_final_view view)) (view_in reply) false
+abbrev pub shows_undecided : TxnId → Request → Reply → Bool
+shows_undecided id request reply = is_about id request && option_map_or (λ view. not (is_final_view view)) (view_in reply) false
 
 -- The anchor that a request to a record names.
 abbrev pub anchor_in : Request → Option (List ℕ)

@@ -1,5 +1,6 @@
 ghost use Rattle.std.specs.Prelude.{◌≡◌, ◌+◌, ◌^◌, ◌<◌, length};
-ghost use Rattle.pc_world.specs.RangeOf.{AreRising, GoesTo, IsForOne, range_of, range_of_start};
+ghost use Rattle.pc_base.specs.Rising.{AreRising};
+ghost use Rattle.pc_world.specs.RangeOf.{GoesTo, IsForOne, range_of, range_of_start};
 
 use pc_base::{Key, Span};
 use pc_proto::{Keys, Request};

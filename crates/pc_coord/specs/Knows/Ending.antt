@@ -5,12 +5,12 @@ use Rattle.pc_coord.specs.Knows.Held.{IsOpenAs, IsPlain, PutsUpTo}
 use Rattle.pc_proto.specs.declared.call.Call.TheVariants as calls
 use Rattle.pc_proto.specs.declared.request.Request.TheVariants as requests
 use Rattle.pc_proto.specs.declared.why.Why.TheVariants as whys
+use Rattle.pc_proto.specs.Replies.{is_undecided_status}
 use Rattle.pc_world.specs.Counting.{AtLeast}
 use Rattle.pc_world.specs.Known.{Known}
 use Rattle.pc_world.specs.Known.Traffic.{Sent}
 use Rattle.pc_world.specs.Known.Transactions.{Txn, meta_of}
 use Rattle.pc_world.specs.Known.Writes.{IsProvedBy, last_seq_of}
-use Rattle.pc_world.specs.StageFate.{is_unsettled_status}
 use Rattle.pc_world.specs.Tell.Refusal.{WasMoved}
 
 -- The message of this number is the last one sent, and was not heard.
@@ -23,7 +23,7 @@ pub record IsLastSent (k : Known) (number : ℕ) (before : List Sent) (m : Sent)
 
 -- A reply to the message was heard in the open call: that the record is not final.
 pub record IsRefusedNow (k : Known) (m : Sent) : Type 0 where
-  pub heard : Any (λ h. (h.request ≡ m.request) × IsTrue (is_unsettled_status h.reply)) k.heard_now
+  pub heard : Any (λ h. (h.request ≡ m.request) × IsTrue (is_undecided_status h.reply)) k.heard_now
 
 -- The commit of a call was sent and not heard, after so many that met a record above them; all earlier ones were refused.
 pub record AwaitsCommit (k : Known) (txn : Option Transaction) (number ts refusals : ℕ) : Type 0 where

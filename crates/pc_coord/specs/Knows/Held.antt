@@ -9,13 +9,12 @@ use Rattle.pc_proto.specs.declared.reply.Reply.TheVariants as replies
 use Rattle.pc_proto.specs.declared.request.Request.{Request}
 use Rattle.pc_proto.specs.declared.request.Request.TheVariants as requests
 use Rattle.pc_proto.specs.declared.view.View.TheVariants as views
+use Rattle.pc_proto.specs.Requests.{is_about, is_put_of, subject_anchor}
 use Rattle.pc_world.specs.Known.{Known}
 use Rattle.pc_world.specs.Known.Traffic.{Heard, Sent}
 use Rattle.pc_world.specs.Known.Transactions.{Txn, with_lock}
 use Rattle.pc_world.specs.Known.Writes.{IsProvedBy, Write, last_seq_of}
-use Rattle.pc_world.specs.Send.Recovery.{is_put_of}
-use Rattle.pc_world.specs.StageFate.{EachCommit, IsRefused}
-use Rattle.pc_world.specs.Views.{anchor_in, is_about}
+use Rattle.pc_world.specs.StageFate.{EachCommit, WasCommitRefused}
 
 -- No stage, and no put or commit of a transaction that was not begun.
 abbrev pub IsOwnWrite : ℕ → Request → Type 0
@@ -59,7 +58,7 @@ ShowsPending _ = ⊥
 
 -- What was heard of the transaction's record: that it is pending, by a request that named its anchor.
 pub record IsPendingView (t : Txn) (h : Heard) : Type 0 where
-  pub anchored : anchor_in h.request ≡ t.anchor
+  pub anchored : subject_anchor h.request ≡ t.anchor
   pub pending : ShowsPending h.reply
 
 -- If the reply is about the transaction's record, the record was pending.
@@ -76,7 +75,7 @@ pub record IsPlain (k : Known) (t : Txn) (sent : List Sent) : Type 0 where
   pub behind : t.read_ts ≤ t.write_ts
   pub at_begin : t.anchor ≡ None → t.read_ts ≡ t.begin
   pub below : t.write_ts ≤ k.high
-  pub refused : EachCommit t.id sent (IsRefused k.heard)
+  pub refused : EachCommit t.id sent (WasCommitRefused k.heard)
   pub views : All (IsPendingOf t) k.heard
 
 -- The transaction's last write is in flight: it is the only one that is not proved.

@@ -54,7 +54,7 @@ Tells (requests.Scan id epoch seq ts span) (replies.Rows rows) = ⊤
 Tells _ _ = ⊥
 
 -- This was replied to the request, which was sent in the open call.
-pub record WasReplied (k : Known) (request : Request) (reply : Reply) (h : Heard) : Type 0 where
+pub record WasRepliedNow (k : Known) (request : Request) (reply : Reply) (h : Heard) : Type 0 where
   pub sent_now : IsTrue (was_sent_now k h)
   pub asked : h.request ≡ request
   pub told : h.reply ≡ reply
@@ -85,10 +85,10 @@ abbrev pub StandsAs : Known → Txn → Request → Progress → Type 0
 StandsAs k t request progresses.Unsent = IsUnsentNow k request ⊎ MetConflictNow k request
 StandsAs k t request (progresses.Sent number) = IsUnheard k number request
 StandsAs k t request (progresses.Met number conflict) = HasMet k t number request conflict
-StandsAs k t request (progresses.Heard reply) = Any (WasReplied k request reply) k.heard_now
+StandsAs k t request (progresses.Heard reply) = Any (WasRepliedNow k request reply) k.heard_now
 
 -- The message is as far as the coordinator has it, and met at least so many intents.
-pub record Stands (k : Known) (t : Txn) (m : Message) : Type 0 where
+pub record StandsWith (k : Known) (t : Txn) (m : Message) : Type 0 where
   pub as_far : StandsAs k t m.request m.progress
   pub met : AtLeast (IsConflictOf m.request) m.conflicts k.heard_now
 
@@ -123,7 +123,7 @@ pub record AwaitsReads (splits : List (List ℕ)) (k : Known) (txn : Option Tran
   pub opened : k.statement ≡ Some (record { call = call; reading = reading })
   pub asked : AreReadsOf splits x call (map (λ m. m.request) messages)
   pub different : AreDifferent (map (λ m. m.request) messages)
-  pub stand : All (Stands k t) messages
+  pub stand : All (StandsWith k t) messages
   pub apart : AreApart messages
   pub paced : IsPaced (holders_met messages) k
   pub unblocked : option_and_then blocked_by (first_met messages) ≡ None

@@ -1,9 +1,9 @@
 -- What lets a request of the coordinator go out, and what is known of a conflict that asks for a round.
 use Rattle.std.specs.Prelude.{◌≡◌, ℕ, ◌+◌, ◌≤◌, Option, None, Some, IfSome, List, All, Any, Contains, IsTrue, count_by}
 use Rattle.pc_base.specs.declared.actor.ActorId.TheVariants as actors
-use Rattle.pc_coord.specs.Coordination.{Coordination, waits_for}
+use Rattle.pc_coord.specs.Coordination.{Coordination, awaits_number}
 use Rattle.pc_coord.specs.Messages.{read_at}
-use Rattle.pc_coord.specs.Rounds.{was_met, was_pushed, was_settled}
+use Rattle.pc_coord.specs.Rounds.{shows_resolve, was_met, was_pushed}
 use Rattle.pc_proto.specs.declared.event.Event.{Event}
 use Rattle.pc_proto.specs.declared.meta.TxnMeta.{TxnMeta}
 use Rattle.pc_proto.specs.declared.reply.Reply.{Reply}
@@ -11,7 +11,7 @@ use Rattle.pc_proto.specs.declared.reply.Reply.TheVariants as replies
 use Rattle.pc_proto.specs.declared.request.Request.{Request}
 use Rattle.pc_proto.specs.Stamps.{request_stamps}
 use Rattle.pc_world.specs.Follows.CallMessages.{IsForCall}
-use Rattle.pc_world.specs.Follows.EarlyTell.{IsDecided}
+use Rattle.pc_world.specs.Follows.EarlyTell.{IsCommitKnown}
 use Rattle.pc_world.specs.Follows.Resends.{MayGoAgain}
 use Rattle.pc_world.specs.Known.{Known, known_after, open_txn}
 use Rattle.pc_world.specs.Known.Clock.{high_after, top_after}
@@ -31,13 +31,13 @@ pub record IsSendable (splits : List (List ℕ)) (session : ℕ) (k : Known) (re
   pub row : MaySendRow splits (actors.Session session) k request
   pub stamps : All (λ ts. ts ≤ k.top + 1) (request_stamps request)
   pub kind : IsForCall k request
-  pub undecided : (t : Txn) (ts : ℕ) → IsDecided k t ts → ⊥
+  pub undecided : (t : Txn) (ts : ℕ) → IsCommitKnown k t ts → ⊥
   pub again : Any (λ m. IsSameRequest request m.request) k.sent_now → MayGoAgain k request None
 
 -- The coordinator waits for no message of this request.
 abbrev pub AwaitsNone : Coordination → Known → Request → Type 0
 AwaitsNone c k request =
-    (number : ℕ) (other : Request) → IsTrue (waits_for number c.due) → request_sent number k.sent ≡ Some other → IsSameRequest request other → ⊥
+    (number : ℕ) (other : Request) → IsTrue (awaits_number number c.due) → request_sent number k.sent ≡ Some other → IsSameRequest request other → ⊥
 
 -- The message of this number met this conflict in the open call; a reader is at the timestamp at which it reads; and more conflicts with
 -- the holder were heard in the call than pushes of it.
@@ -58,4 +58,4 @@ pub record IsConflictNow (k : Known) (number : ℕ) (conflict : Reply) (reader :
   pub reads : reader ≡ read_at h.request
   pub low : IfSome reader (λ ts. ts ≤ k.top)
   pub pushes : count_by (was_pushed holder.id) k.heard_now + 1 ≤ count_by (was_met holder.id) k.heard_now
-  pub resolves : count_by (was_settled holder.id) k.heard_now ≤ count_by (was_pushed holder.id) k.heard_now
+  pub resolves : count_by (shows_resolve holder.id) k.heard_now ≤ count_by (was_pushed holder.id) k.heard_now

@@ -18,21 +18,21 @@ abbrev pub expiry : ℕ
 expiry = 5000000000
 
 -- Of two levels the higher one has the higher rank.
-abbrev pub rank : Priority → ℕ
-rank Low = 0
-rank Normal = 1
-rank High = 2
+abbrev pub level_rank : Priority → ℕ
+level_rank Low = 0
+level_rank Normal = 1
+level_rank High = 2
 
 -- The level is higher than the holder's, or the holder has expired.
 abbrev pub wins : TxnMeta → Priority → ℕ → Place → Bool
-wins holder level now p = nat_lt (rank holder.priority) (rank level) || nat_lt expiry (now - activity_of p holder.born)
+wins holder level now p = nat_lt (level_rank holder.priority) (level_rank level) || nat_lt expiry (now - activity_of p holder.born)
 
 -- The record stands at the target or above it.
-abbrev pub is_there : Goal → Place → Bool
-is_there (goals.Move target) (Kept r) = nat_le target r.status.ts
-is_there (goals.Move target) Nothing = false
-is_there (goals.Move target) (Marked s) = false
-is_there goals.Abort p = false
+abbrev pub reaches_goal : Goal → Place → Bool
+reaches_goal (goals.Move target) (Kept r) = nat_le target r.status.ts
+reaches_goal (goals.Move target) Nothing = false
+reaches_goal (goals.Move target) (Marked s) = false
+reaches_goal goals.Abort p = false
 
 -- The holder has a staging record.
 abbrev pub is_staged : Place → Bool
@@ -48,9 +48,9 @@ pub data Verdict : Type 0 where
   Do : Verdict
 
 -- What this push comes to.
-abbrev pub verdict : TxnMeta → Priority → ℕ → Goal → Place → Verdict
-verdict holder level now goal p =
-    if is_there goal p then There
+abbrev pub push_verdict : TxnMeta → Priority → ℕ → Goal → Place → Verdict
+push_verdict holder level now goal p =
+    if reaches_goal goal p then There
     else if wins holder level now p then (if is_staged p then Doubt else Do)
     else Refuse
 
@@ -70,4 +70,4 @@ on_verdict Do change = change
 
 -- What a push does to the holder's place.
 abbrev pub push : TxnMeta → Who → Priority → ℕ → Goal → Place → Change
-push holder by level now goal p = on_verdict (verdict holder level now goal p) (pushed holder by goal p)
+push holder by level now goal p = on_verdict (push_verdict holder level now goal p) (pushed holder by goal p)

@@ -8,6 +8,6 @@ use Rattle.pc_proto.specs.declared.record.Record.{Record}
 use Rattle.pc_proto.specs.RecordRows.Reached.{at_epoch}
 
 -- The metas of these records, by transaction, each with its record's epoch.
-abbrev pub listed : List (TxnId × Record) → List TxnMeta
-listed records =
+abbrev pub listed_metas : List (TxnId × Record) → List TxnMeta
+listed_metas records =
     map (λ e. e.1) (in_order txn_cmp (map (λ e. (e.0, at_epoch e.1.status.epoch e.1.meta)) records))

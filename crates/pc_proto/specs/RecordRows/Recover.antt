@@ -10,14 +10,14 @@ use Rattle.pc_proto.specs.Place.{Place, Nothing, Kept, Marked, Change, Stay, Bec
 use Rattle.pc_proto.specs.RecordRows.Reached.{status_of, is_staged_at}
 
 -- What a recovery decides by what it found.
-abbrev pub decision : Finding → Standing
-decision findings.All = Committed
-decision (findings.Missing key by) = Aborted (whys.Missing key by)
+abbrev pub standing_found : Finding → Standing
+standing_found findings.All = Committed
+standing_found (findings.Missing key by) = Aborted (whys.Missing key by)
 
 -- What that decision makes of the transaction's record.
 abbrev pub decided : Finding → Place → Change
 decided finding (Kept r) =
-    Become (record r { status = status_of (decision finding) r.status.epoch r.status.ts; writes = [] })
+    Become (record r { status = status_of (standing_found finding) r.status.epoch r.status.ts; writes = [] })
 decided finding Nothing = Stay
 decided finding (Marked s) = Stay
 

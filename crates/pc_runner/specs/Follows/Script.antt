@@ -82,8 +82,8 @@ moved (events.Tell answer) at = after_told answer at
 moved _ at = at
 
 -- Where a session of this script is, after its own list.
-abbrev pub position : ℕ → List Item → List (Pair Event) → Position
-position reruns script own = fold (λ at p. moved p.entry.event at) (opened script reruns) own
+abbrev pub script_position : ℕ → List Item → List (Pair Event) → Position
+script_position reruns script own = fold (λ at p. moved p.entry.event at) (opened script reruns) own
 
 -- A call that is asked is the next one.
 abbrev pub AsksNext : Position → Event → Type 0

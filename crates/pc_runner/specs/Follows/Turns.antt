@@ -15,15 +15,15 @@ use Rattle.pc_work.specs.declared.turn.Turn.{Turn}
 use Rattle.pc_work.specs.declared.turn.Turn.TheVariants as turns
 use Rattle.pc_work.specs.declared.workload.Workload.{Workload}
 use Rattle.pc_world.specs.Follows.FinishingJobs.{jobs_of}
-use Rattle.pc_world.specs.Known.{Known, known}
+use Rattle.pc_world.specs.Known.{Known, known_of}
 use Rattle.pc_world.specs.Local.{Head}
 use Rattle.pc_world.specs.Run.{protocol}
 use Rattle.pc_world.specs.Tell.Refusal.{is_heard}
-use Rattle.pc_runner.specs.Follows.Script.{Position, next_call, position}
+use Rattle.pc_runner.specs.Follows.Script.{Position, next_call, script_position}
 
 -- Where a session of this work is in its script after a history.
 abbrev pub position_in : Head → Workload → ℕ → SessionWork → List (Entry Event) → Position
-position_in head work number session history = position work.reruns session.script (own (protocol head) (actors.Session number) history)
+position_in head work number session history = script_position work.reruns session.script (own (protocol head) (actors.Session number) history)
 
 -- The jobs that wait at a session after a history.
 abbrev pub jobs_in : Head → ℕ → List (Entry Event) → List (List Request)
@@ -31,7 +31,7 @@ jobs_in head number history = jobs_of (own (protocol head) (actors.Session numbe
 
 -- What a session knows after a history.
 abbrev pub known_in : Head → ℕ → List (Entry Event) → Known
-known_in head number history = known (own (protocol head) (actors.Session number) history)
+known_in head number history = known_of (own (protocol head) (actors.Session number) history)
 
 -- Each message that the session sent was heard.
 abbrev pub HasHeardAll : Known → Type 0

@@ -13,13 +13,13 @@ use Rattle.pc_world.specs.Tell.Data.{IsFirstPut}
 use Rattle.pc_world.specs.Tell.Refusal.{is_heard}
 
 -- The event evaluates the actor's message of this number.
-abbrev pub evaluates : ActorId → ℕ → Event → Bool
-evaluates actor number (events.Eval sender sent reply) = same_id actor sender && sent == number
-evaluates actor number _ = false
+abbrev pub evaluates_message : ActorId → ℕ → Event → Bool
+evaluates_message actor number (events.Eval sender sent reply) = same_id actor sender && sent == number
+evaluates_message actor number _ = false
 
 -- How often a history evaluates the actor's message of this number.
 abbrev pub evaluations : ActorId → ℕ → List (Entry Event) → ℕ
-evaluations actor number history = count_by (λ e. evaluates actor number e.event) history
+evaluations actor number history = count_by (λ e. evaluates_message actor number e.event) history
 
 -- Each message of the actor is evaluated exactly once.
 abbrev pub AreEvaluatedOnce : ActorId → List (Entry Event) → Known → Type 0

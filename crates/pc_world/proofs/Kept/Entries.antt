@@ -6,10 +6,10 @@ use Rattle.pc_base.specs.declared.entry.Entry.{Entry}
 use Rattle.pc_history.specs.declared.pair.Pair.{Pair}
 use Rattle.pc_history.specs.Own.{named_in, own, pairs_after, pairs_of, same_id}
 use Rattle.pc_history.specs.Sense.{Sense}
+use Rattle.pc_lists.proofs.Each.{each-append, each-filter, each-find}
 use Rattle.pc_proto.specs.declared.event.Event.{Event}
 use Rattle.pc_proto.specs.declared.event.Event.TheVariants as events
 use Rattle.pc_proto.specs.Stamps.{event_stamps, request_stamps}
-use Rattle.pc_world.proofs.Each.{each-append, each-filter, each-find}
 use Rattle.pc_world.proofs.Stamps.Within.{AtMost}
 use Rattle.pc_world.specs.Known.Clock.{named_stamps}
 use Rattle.pc_world.specs.Named.{request_in, request_named}

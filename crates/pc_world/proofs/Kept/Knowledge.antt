@@ -5,18 +5,18 @@ use Rattle.std.specs.Option.{option_to_list}
 use Rattle.pc_base.specs.declared.entry.Entry.{Entry}
 use Rattle.pc_base.specs.declared.transaction.TxnId.{TxnId}
 use Rattle.pc_history.specs.declared.pair.Pair.{Pair}
+use Rattle.pc_lists.proofs.Each.{each-append, each-map, each-weaker}
 use Rattle.pc_proto.specs.declared.answer.Answer.{Answer}
 use Rattle.pc_proto.specs.declared.answer.Answer.TheVariants as answers
 use Rattle.pc_proto.specs.declared.event.Event.{Event}
 use Rattle.pc_proto.specs.declared.event.Event.TheVariants as events
 use Rattle.pc_proto.specs.declared.reply.Reply.{Reply}
 use Rattle.pc_proto.specs.declared.request.Request.{Request}
-use Rattle.pc_proto.specs.Stamps.{answer_stamps, event_stamps, reply_stamps}
-use Rattle.pc_world.proofs.Each.{each-append, each-map, each-weaker}
+use Rattle.pc_proto.specs.Stamps.{answer_stamps, event_stamps, greatest_of, reply_stamps}
 use Rattle.pc_world.proofs.Kept.Entries.{PairWithin}
 use Rattle.pc_world.proofs.Stamps.Within.{AtMost}
-use Rattle.pc_world.specs.Known.{Known, begun_by, known, learn, nothing_known, told_first, txns_after, txns_told}
-use Rattle.pc_world.specs.Known.Clock.{high_after, high_told, last_of, named_stamps, top_after}
+use Rattle.pc_world.specs.Known.{Known, known_of, learn, nothing_known, told_first, txn_begun, txns_after, txns_told}
+use Rattle.pc_world.specs.Known.Clock.{high_after, high_told, named_stamps, top_after}
 use Rattle.pc_world.specs.Known.Statements.{Statement}
 use Rattle.pc_world.specs.Known.Traffic.{Heard, Sent, heard_after, heard_as, heard_by, heard_now_after, reply_in, reply_named, replies_to, request_sent}
 use Rattle.pc_world.specs.Known.Transactions.{Txn, restart_told, txn_heard, txn_sent}
@@ -45,7 +45,7 @@ module _ (n : ℕ) where
   last-from most [] h a = h
   last-from most (ts ∷ stamps) h a = last-from (max most ts) stamps (omega (arith, a.0)) a.1
 
-  pub last-within : (stamps : List ℕ) → AtMost n stamps → last_of stamps ≤ n
+  pub last-within : (stamps : List ℕ) → AtMost n stamps → greatest_of stamps ≤ n
   last-within stamps a = last-from 0 stamps (omega arith) a
 
   top-within : (p : Pair Event) (top : ℕ) → PairWithin n p → top ≤ n → top_after p.entry.event p.named top ≤ n
@@ -89,7 +89,7 @@ module _ (n : ℕ) where
   heard-now-after (events.Ask call reading) h heard a b = tt
   heard-now-after event h heard a b = heard-after h heard a b
 
-  begun-by : (s : Option Statement) (id : TxnId) (ts : ℕ) → ts ≤ n → TxnWithin n (begun_by s id ts)
+  begun-by : (s : Option Statement) (id : TxnId) (ts : ℕ) → ts ≤ n → TxnWithin n (txn_begun s id ts)
   begun-by None id ts h = record { begin = h; restart = tt }
   begun-by (Some s) id ts h = record { begin = h; restart = tt }
 
@@ -136,6 +136,6 @@ module _ (n : ℕ) where
   known-from k [] a b = a
   known-from k (p ∷ ps) a b = known-from (learn p k) ps (learn-within p k b.0 a) b.1
 
-  pub known-within : (entries : List (Pair Event)) → Each (PairWithin n) entries → KnownWithin n (known entries)
+  pub known-within : (entries : List (Pair Event)) → Each (PairWithin n) entries → KnownWithin n (known_of entries)
   known-within entries a =
       known-from nothing_known entries (record { top = omega arith; high = omega arith; heard = tt; heard_now = tt; txns = tt }) a

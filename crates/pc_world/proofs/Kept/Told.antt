@@ -8,6 +8,7 @@ use Rattle.pc_base.specs.declared.actor.ActorId.{ActorId}
 use Rattle.pc_base.specs.declared.span.Span.{Span}
 use Rattle.pc_base.specs.declared.transaction.Priority.{Priority}
 use Rattle.pc_base.specs.declared.transaction.TxnId.{TxnId}
+use Rattle.pc_lists.proofs.Each.{each-always, each-append, each-flat_map, each-map}
 use Rattle.pc_proto.specs.declared.answer.Answer.{Answer}
 use Rattle.pc_proto.specs.declared.answer.Answer.TheVariants as answers
 use Rattle.pc_proto.specs.declared.call.Call.{Call}
@@ -18,23 +19,25 @@ use Rattle.pc_proto.specs.declared.reply.Reply.TheVariants as replies
 use Rattle.pc_proto.specs.declared.view.View.{View}
 use Rattle.pc_proto.specs.declared.view.View.TheVariants as views
 use Rattle.pc_proto.specs.declared.why.Why.{Why}
+use Rattle.pc_proto.specs.Replies.{status_ts, view_in}
+use Rattle.pc_proto.specs.Requests.{is_about}
 use Rattle.pc_proto.specs.Stamps.{answer_stamps, origin_stamps, reply_stamps, view_stamps, why_stamps}
-use Rattle.pc_world.proofs.Each.{each-append, each-flat_map, each-map, each-always}
+use Rattle.pc_proto.specs.Views.{AbortsWith, is_committed_at, is_staging_at, undecided_ts}
 use Rattle.pc_world.proofs.Kept.Knowledge.{HeardWithin, KnownWithin, RestartWithin, TxnWithin}
 use Rattle.pc_world.proofs.Stamps.Within.{AtMost, at_most-more}
 use Rattle.pc_world.specs.Counting.{LastIs}
 use Rattle.pc_world.specs.Known.{Known, first_if, open_txn}
 use Rattle.pc_world.specs.Known.Statements.{Statement}
 use Rattle.pc_world.specs.Known.Traffic.{Heard}
-use Rattle.pc_world.specs.Known.Transactions.{Txn, status_ts, unsettled_ts}
+use Rattle.pc_world.specs.Known.Transactions.{Txn}
 use Rattle.pc_world.specs.MayTell.{MayTell, MayTellRow, is_begin, is_past_range, needs_txn}
 use Rattle.pc_world.specs.RangeOf.{pieces}
 use Rattle.pc_world.specs.Run.{clock_end}
 use Rattle.pc_world.specs.Send.Abort.{own_cause}
 use Rattle.pc_world.specs.Tell.Data.{AreRowsOfAll, told_row}
-use Rattle.pc_world.specs.Tell.End.{IsCauseTold, IsUnrefreshed, MayTellCommitted, is_staging_at, shows_staging}
+use Rattle.pc_world.specs.Tell.End.{IsCauseTold, IsUnrefreshed, MayTellCommitted, shows_staging}
 use Rattle.pc_world.specs.Tell.Refusal.{WasMoved}
-use Rattle.pc_world.specs.Views.{AbortsWith, ShowsAborted, WasAborted, WasCommitted, is_about, is_committed_at, shows_committed, view_in}
+use Rattle.pc_world.specs.Views.{ShowsAborted, WasAborted, WasCommitted, shows_committed}
 
 -- an element that is so, among elements each of which is also so
 pub each-any : {X : Type 0} (P Q : X → Type 0) (xs : List X) → Each P xs → Any Q xs → (x : X) × P x × Q x
@@ -109,7 +112,7 @@ module _ (n : ℕ) where
   unrefreshed key ts (replies.Unrefreshed at_key at) a h = omega (arith, a.0, h.1)
   unrefreshed key ts reply a h = absurd h
 
-  unsettled-ts : (view : View) → AtMost n (view_stamps view) → unsettled_ts view ≤ n
+  unsettled-ts : (view : View) → AtMost n (view_stamps view) → undecided_ts view ≤ n
   unsettled-ts (views.Pending epoch ts) a = a.0
   unsettled-ts (views.Staging epoch ts writes) a = a.0
   unsettled-ts view a = omega arith

@@ -8,18 +8,18 @@ use Rattle.pc_base.specs.declared.transaction.TxnId.{TxnId}
 use Rattle.pc_base.specs.declared.version.Version.{Version}
 use Rattle.pc_base.specs.Span.{key_below}
 use Rattle.pc_base.specs.Versions.{first_between, visible}
+use Rattle.pc_lists.proofs.Each.{each-filter_map, each-flat_map}
 use Rattle.pc_proto.specs.declared.record.Intent.{Intent}
 use Rattle.pc_proto.specs.declared.reply.Origin.{Origin}
 use Rattle.pc_proto.specs.declared.reply.Reply.TheVariants as replies
 use Rattle.pc_proto.specs.Intents.{first_other, other_at}
 use Rattle.pc_proto.specs.Stamps.{origin_stamps, reply_stamps, row_stamps}
-use Rattle.pc_world.proofs.Each.{each-filter_map, each-flat_map}
 use Rattle.pc_world.proofs.Stamps.Searches.{first-between-within, first-other-within, other-within, some-kept, visible-within}
 use Rattle.pc_world.proofs.Stamps.Within.{AtMost, StateWithin}
-use Rattle.pc_world.specs.Evaluation.Get.{bound_after_get, found_at, found_first, get, get_blocker, get_reply, own_value, read_bound, version_found}
-use Rattle.pc_world.specs.Evaluation.Query.{bound_after_query, query, stands}
+use Rattle.pc_world.specs.Evaluation.Get.{bound_after_get, bound_after_read, found_at, found_first, get, get_blocker, get_reply, own_value, version_found}
+use Rattle.pc_world.specs.Evaluation.Query.{bound_after_query, query, write_stands}
 use Rattle.pc_world.specs.Evaluation.Refresh.{bound_after_refresh, refresh, refresh_reply, refreshed_bound, refuter, refuter_in}
-use Rattle.pc_world.specs.Evaluation.Scan.{bound_after_scan, keys_in, row_of, rows_in, scan, scan_reply}
+use Rattle.pc_world.specs.Evaluation.Scan.{bound_after_scan, keys_in, row_found, rows_in, scan, scan_reply}
 use Rattle.pc_world.specs.RangeState.{RangeState}
 use Rattle.std.specs.Prelude.{nat_le}
 
@@ -46,7 +46,7 @@ module _ (n : ℕ) where
   get-within id epoch seq ts key s a =
       get-reply (get_blocker id ts key s) key (found_at id epoch seq ts key s) (blocker-within id ts key s a) (found-within id epoch seq ts key s a)
 
-  read-bound : (blocker : Option Intent) (id : TxnId) (ts : ℕ) (bound : ReadBound) → ts ≤ n → bound.ts ≤ n → (read_bound blocker id ts bound).ts ≤ n
+  read-bound : (blocker : Option Intent) (id : TxnId) (ts : ℕ) (bound : ReadBound) → ts ≤ n → bound.ts ≤ n → (bound_after_read blocker id ts bound).ts ≤ n
   read-bound None id ts bound h k = omega arith
   read-bound (Some i) id ts bound h k = k
 
@@ -57,7 +57,7 @@ module _ (n : ℕ) where
   scan-reply None rows h k = k
   scan-reply (Some e) rows h k = (h, tt)
 
-  row-within : (key : List ℕ) (found : Origin × Option (List ℕ)) → AtMost n (origin_stamps found.0) → IfSome (row_of key found) (λ row. AtMost n (origin_stamps row.1))
+  row-within : (key : List ℕ) (found : Origin × Option (List ℕ)) → AtMost n (origin_stamps found.0) → IfSome (row_found key found) (λ row. AtMost n (origin_stamps row.1))
   row-within key found h = by found.1
     where
       by : (value : Option (List ℕ)) → IfSome (option_map (λ (value : List ℕ). let row : List ℕ × Origin × List ℕ = (key, found.0, value) in row) value) (λ row. AtMost n (origin_stamps row.1))
@@ -68,7 +68,7 @@ module _ (n : ℕ) where
   scan-within id epoch seq ts span s a =
       let rows = rows_in id epoch seq ts span s in
       let found : Each (λ row. AtMost n (origin_stamps row.1)) rows =
-      each-filter_map (λ (row : List ℕ × Origin × List ℕ). AtMost n (origin_stamps row.1)) (λ key. row_of key (found_at id epoch seq ts key s)) (keys_in span s)
+      each-filter_map (λ (row : List ℕ × Origin × List ℕ). AtMost n (origin_stamps row.1)) (λ key. row_found key (found_at id epoch seq ts key s)) (keys_in span s)
       (λ key. row-within key (found_at id epoch seq ts key s) (found-within id epoch seq ts key s a)) in
       scan-reply (first_other span ts id s.intents) rows (first-other-within n span ts id s.intents a.intents)
       (each-flat_map (λ ts. ts ≤ n) (λ (row : List ℕ × Origin × List ℕ). origin_stamps row.1) rows found)
@@ -108,11 +108,11 @@ module _ (n : ℕ) where
   either-query false = tt
 
   pub query-within : (id : TxnId) (epoch seq ts : ℕ) (key : List ℕ) (s : RangeState) → AtMost n (reply_stamps (query id epoch seq ts key s))
-  query-within id epoch seq ts key s = either-query (stands id epoch seq ts key s)
+  query-within id epoch seq ts key s = either-query (write_stands id epoch seq ts key s)
 
   either-bound : (b : Bool) (one other : ReadBound) → one.ts ≤ n → other.ts ≤ n → (if b then one else other).ts ≤ n
   either-bound true one other h k = h
   either-bound false one other h k = k
 
   pub query-bound : (id : TxnId) (epoch seq ts : ℕ) (key : List ℕ) (s : RangeState) → ts ≤ n → StateWithin n s → (bound_after_query id epoch seq ts key s).ts ≤ n
-  query-bound id epoch seq ts key s h a = either-bound (stands id epoch seq ts key s) s.bound (raised ts None s.bound) a.bound (omega (arith, a.bound))
+  query-bound id epoch seq ts key s h a = either-bound (write_stands id epoch seq ts key s) s.bound (raised ts None s.bound) a.bound (omega (arith, a.bound))

@@ -6,6 +6,7 @@ use Rattle.pc_base.specs.declared.transaction.TxnId.{TxnId}
 use Rattle.pc_base.specs.declared.transaction.Who.{Who}
 use Rattle.pc_base.specs.Keyed.{at}
 use Rattle.pc_base.specs.Transaction.{same_txn}
+use Rattle.pc_lists.proofs.Each.{each-at, each-set_at, each-without}
 use Rattle.pc_proto.specs.declared.fate.Finding.{Finding}
 use Rattle.pc_proto.specs.declared.fate.Finding.TheVariants as findings
 use Rattle.pc_proto.specs.declared.fate.Goal.{Goal}
@@ -21,18 +22,18 @@ use Rattle.pc_proto.specs.declared.request.Request.{Request}
 use Rattle.pc_proto.specs.declared.request.Request.TheVariants as requests
 use Rattle.pc_proto.specs.declared.why.Why.{Why}
 use Rattle.pc_proto.specs.Place.{Place, Kept, Marked, Nothing, Change, Become, Finish, Stay, after, is_decided, is_final, status_view, view_of}
-use Rattle.pc_proto.specs.RecordRows.{answer, change, push_reply, record_reply, reply_for, subject, table_after, table_for}
+use Rattle.pc_proto.specs.RecordRows.{answer, place_change, push_reply, record_reply, reply_for, table_after, table_for}
 use Rattle.pc_proto.specs.RecordRows.Abort.{abort}
 use Rattle.pc_proto.specs.RecordRows.Beat.{beat}
 use Rattle.pc_proto.specs.RecordRows.Commit.{commit}
-use Rattle.pc_proto.specs.RecordRows.Push.{Verdict, There, Refuse, Doubt, Do, on_verdict, push, pushed, verdict}
+use Rattle.pc_proto.specs.RecordRows.Push.{Verdict, There, Refuse, Doubt, Do, on_verdict, push, push_verdict, pushed}
 use Rattle.pc_proto.specs.RecordRows.Reached.{is_reached, is_staged_at, ts_of}
 use Rattle.pc_proto.specs.RecordRows.Recover.{decided, recover}
 use Rattle.pc_proto.specs.RecordRows.Remove.{remove}
 use Rattle.pc_proto.specs.RecordRows.Stage.{stage}
+use Rattle.pc_proto.specs.Requests.{subject}
 use Rattle.pc_proto.specs.Stamps.{reply_stamps, request_stamps, goal_stamps, view_stamps, why_stamps}
 use Rattle.pc_proto.specs.Table.{Table, applied_to, marks_after, place_of, record_or_mark, records_after}
-use Rattle.pc_world.proofs.Each.{each-at, each-set_at, each-without}
 use Rattle.pc_world.proofs.Stamps.Within.{AtMost, StatusWithin, TableWithin}
 
 abbrev pub PlaceWithin : ℕ → Place → Type 0
@@ -84,7 +85,7 @@ module _ (n : ℕ) where
   on-verdict Do c h = h
 
   push-within : (holder : TxnMeta) (by : Who) (level : Priority) (now : ℕ) (goal : Goal) (p : Place) → AtMost n (goal_stamps goal) → PlaceWithin n p → ChangeWithin n (push holder by level now goal p)
-  push-within holder by level now goal p h a = on-verdict (verdict holder level now goal p) (pushed holder by goal p) (pushed-within holder by goal p h a)
+  push-within holder by level now goal p h a = on-verdict (push_verdict holder level now goal p) (pushed holder by goal p) (pushed-within holder by goal p h a)
 
   decided-within : (finding : Finding) (p : Place) → PlaceWithin n p → ChangeWithin n (decided finding p)
   decided-within finding Nothing a = tt
@@ -100,7 +101,7 @@ module _ (n : ℕ) where
   remove-within (Kept r) a = or-stay (is_final r.status.standing) (Finish r.status) a
   remove-within (Marked s) a = tt
 
-  pub change-within : (request : Request) (p : Place) → AtMost n (request_stamps request) → PlaceWithin n p → ChangeWithin n (change request p)
+  pub change-within : (request : Request) (p : Place) → AtMost n (request_stamps request) → PlaceWithin n p → ChangeWithin n (place_change request p)
   change-within (requests.Get id epoch seq ts key) p h a = tt
   change-within (requests.Scan id epoch seq ts span) p h a = tt
   change-within (requests.Put meta seq ts key value) p h a = tt
@@ -146,14 +147,14 @@ module _ (n : ℕ) where
   or-status true p other a h = h
   or-status false p other a h = view-within p a
 
-  view-after : (request : Request) (p : Place) → AtMost n (request_stamps request) → PlaceWithin n p → AtMost n (view_stamps (view_of (after p (change request p))))
-  view-after request p h a = view-within (after p (change request p)) (after-within p (change request p) a (change-within request p h a))
+  view-after : (request : Request) (p : Place) → AtMost n (request_stamps request) → PlaceWithin n p → AtMost n (view_stamps (view_of (after p (place_change request p))))
+  view-after request p h a = view-within (after p (place_change request p)) (after-within p (place_change request p) a (change-within request p h a))
 
   answer-within : (request : Request) (p : Place) → AtMost n (request_stamps request) → PlaceWithin n p → AtMost n (reply_stamps (answer request p))
   answer-within (requests.Push holder by level now goal) p h a =
       let pushed = push holder by level now goal p in
       let moved = after-within p pushed a (push-within holder by level now goal p h a) in
-      let v = verdict holder level now goal p in
+      let v = push_verdict holder level now goal p in
       status-or (is_decided p) p (push_reply v p (after p pushed)) a (push-reply v p (after p pushed) a moved)
   answer-within (requests.Remove id anchor) p h a = or-status (is_decided p) p replies.Removed a tt
   answer-within request p h a = view-after request p h a
@@ -185,7 +186,7 @@ module _ (n : ℕ) where
   table-for None request table h a = a
   table-for (Some id) request table h a =
       let p = place_of id table in
-      applied-within id (change request p) table (change-within request p h (place-within id table a)) a
+      applied-within id (place_change request p) table (change-within request p h (place-within id table a)) a
 
   pub table-within : (request : Request) (table : Table) → AtMost n (request_stamps request) → TableWithin n table → TableWithin n (table_after request table)
   table-within request table h a = table-for (subject request) request table h a

@@ -7,9 +7,9 @@ use Rattle.pc_base.specs.declared.version.Version.{Version}
 use Rattle.pc_base.specs.Span.{contains, key_below, same_key}
 use Rattle.pc_base.specs.Transaction.{same_txn}
 use Rattle.pc_base.specs.Versions.{above_newest, first_between, later, newest, sooner, visible}
+use Rattle.pc_lists.proofs.Each.{each-at, each-choose, each-filter}
 use Rattle.pc_proto.specs.declared.record.Intent.{Intent}
 use Rattle.pc_proto.specs.Intents.{first_other, intent_at, kept_if, lesser_key, other_at, own_at}
-use Rattle.pc_world.proofs.Each.{each-at, each-choose, each-filter}
 use Rattle.std.specs.Option.{option_map_or}
 use Rattle.std.specs.Prelude.{nat_le, nat_lt}
 

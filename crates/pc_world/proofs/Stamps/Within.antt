@@ -2,9 +2,9 @@
 use Rattle.std.proofs.Common.{ℕ, ◌≤◌, List, [], ◌∷◌, ◌++◌, map, arith}
 use Rattle.std.proofs.lemmas.List.Elements.{All-from_recursion, recursion_from_All}
 use Rattle.std.specs.List.{AllByRecursion as Each, flat_map}
+use Rattle.pc_lists.proofs.Each.{each-append, each-back, each-flat_map, each-front, each-map, each-unmap, each-weaker}
 use Rattle.pc_proto.specs.declared.record.Status.{Status}
 use Rattle.pc_proto.specs.Table.{Table}
-use Rattle.pc_world.proofs.Each.{each-append, each-back, each-flat_map, each-front, each-map, each-unmap, each-weaker}
 use Rattle.pc_world.specs.RangeState.{RangeState}
 use Rattle.pc_world.specs.Stamps.{AllAtMost, all_stamps, cause_stamps, standing_stamps, state_stamps}
 

@@ -6,18 +6,18 @@ use Rattle.pc_base.specs.Bound.{ReadBound, least_write, owns}
 use Rattle.pc_base.specs.declared.transaction.TxnId.{TxnId}
 use Rattle.pc_base.specs.declared.version.Version.{Version}
 use Rattle.pc_base.specs.Span.{same_key}
+use Rattle.pc_lists.proofs.Each.{each-append, each-set_at, each-weaker, each-without}
 use Rattle.pc_proto.specs.declared.fate.Fate.{Fate}
 use Rattle.pc_proto.specs.declared.fate.Fate.TheVariants as fates
 use Rattle.pc_proto.specs.declared.meta.TxnMeta.{TxnMeta}
 use Rattle.pc_proto.specs.declared.record.Intent.{Intent}
 use Rattle.pc_proto.specs.Intents.{fresh, grown, last_value, other_at, own_at}
 use Rattle.pc_proto.specs.Stamps.{fate_stamps, reply_stamps}
-use Rattle.pc_world.proofs.Each.{each-append, each-set_at, each-weaker, each-without}
 use Rattle.pc_world.proofs.Stamps.Searches.{above-newest-within, other-within, own-within}
 use Rattle.pc_world.proofs.Stamps.Within.{AtMost, StateWithin}
 use Rattle.pc_world.specs.Evaluation.IntentChange.{IntentChange, Drop, Lay, Leave, intents_with}
-use Rattle.pc_world.specs.Evaluation.Put.{PutOutcome, Lands, Meets, Stands, first_outcome, laid, overtaken, own_outcome, put_change, put_outcome, put_reply, write_ts}
-use Rattle.pc_world.specs.Evaluation.Resolve.{change_for, intent_change, is_committed_by, new_versions, settled, version_for, versions_after_resolve, versions_of}
+use Rattle.pc_world.specs.Evaluation.Put.{PutOutcome, Lands, Meets, Stands, first_outcome, laid, outcome_of_put, overtaken, own_outcome, put_change, put_reply, write_ts}
+use Rattle.pc_world.specs.Evaluation.Resolve.{change_for, is_committed_by, new_versions, resolve_change, settled, version_for, versions_after_resolve, versions_of}
 use Rattle.pc_world.specs.RangeState.{RangeState}
 
 abbrev pub ChangeAtMost : ℕ → IntentChange → Type 0
@@ -71,7 +71,7 @@ first-outcome : (n : ℕ) (other : Option Intent) (outcome : PutOutcome) → IfS
 first-outcome n None outcome h k = k
 first-outcome n (Some i) outcome h k = omega arith
 
-outcome : (n : ℕ) (meta : TxnMeta) (seq ts : ℕ) (key : List ℕ) (value : Option (List ℕ)) (s : RangeState) → ts ≤ n → StateWithin n s → OutcomeAtMost (n + 1) (put_outcome meta seq ts key value s)
+outcome : (n : ℕ) (meta : TxnMeta) (seq ts : ℕ) (key : List ℕ) (value : Option (List ℕ)) (s : RangeState) → ts ≤ n → StateWithin n s → OutcomeAtMost (n + 1) (outcome_of_put meta seq ts key value s)
 outcome n meta seq ts key value s h a =
     let own = own_at meta.id key s.intents in
     let own_within = own-within n meta.id key s.intents a.intents in
@@ -91,13 +91,13 @@ reply-of n key (Meets i) h = (h, tt)
 reply-of n key (Stands ts) h = (h, tt)
 reply-of n key (Lands i) h = (h, tt)
 
-pub put-intents : (n : ℕ) (meta : TxnMeta) (seq ts : ℕ) (key : List ℕ) (value : Option (List ℕ)) (s : RangeState) → ts ≤ n → StateWithin n s → Each (λ e. e.1.ts ≤ n + 1) (intents_with key (put_change (put_outcome meta seq ts key value s)) s.intents)
+pub put-intents : (n : ℕ) (meta : TxnMeta) (seq ts : ℕ) (key : List ℕ) (value : Option (List ℕ)) (s : RangeState) → ts ≤ n → StateWithin n s → Each (λ e. e.1.ts ≤ n + 1) (intents_with key (put_change (outcome_of_put meta seq ts key value s)) s.intents)
 put-intents n meta seq ts key value s h a =
-    let put = put_outcome meta seq ts key value s in
+    let put = outcome_of_put meta seq ts key value s in
     intents-after n key (put_change put) s.intents (change-of (n + 1) put (outcome n meta seq ts key value s h a)) a.intents
 
-pub put-reply : (n : ℕ) (meta : TxnMeta) (seq ts : ℕ) (key : List ℕ) (value : Option (List ℕ)) (s : RangeState) → ts ≤ n → StateWithin n s → AtMost (n + 1) (reply_stamps (put_reply key (put_outcome meta seq ts key value s)))
-put-reply n meta seq ts key value s h a = reply-of (n + 1) key (put_outcome meta seq ts key value s) (outcome n meta seq ts key value s h a)
+pub put-reply : (n : ℕ) (meta : TxnMeta) (seq ts : ℕ) (key : List ℕ) (value : Option (List ℕ)) (s : RangeState) → ts ≤ n → StateWithin n s → AtMost (n + 1) (reply_stamps (put_reply key (outcome_of_put meta seq ts key value s)))
+put-reply n meta seq ts key value s h a = reply-of (n + 1) key (outcome_of_put meta seq ts key value s) (outcome n meta seq ts key value s h a)
 
 settled-ts : (n : ℕ) (fate : Fate) (i : Intent) → AtMost n (fate_stamps fate) → i.ts ≤ n → ChangeAtMost n (settled fate i)
 settled-ts n (fates.Committed epoch ts) i h k = tt
@@ -113,7 +113,7 @@ change-for : (n : ℕ) (fate : Fate) (own : Option Intent) → AtMost n (fate_st
 change-for n fate None h k = tt
 change-for n fate (Some i) h k = change-more n (settled fate i) (settled-ts n fate i h k)
 
-pub resolve-intents : (n : ℕ) (id : TxnId) (key : List ℕ) (fate : Fate) (s : RangeState) → AtMost n (fate_stamps fate) → StateWithin n s → Each (λ e. e.1.ts ≤ n + 1) (intents_with key (intent_change id key fate s) s.intents)
+pub resolve-intents : (n : ℕ) (id : TxnId) (key : List ℕ) (fate : Fate) (s : RangeState) → AtMost n (fate_stamps fate) → StateWithin n s → Each (λ e. e.1.ts ≤ n + 1) (intents_with key (resolve_change id key fate s) s.intents)
 resolve-intents n id key fate s h a =
     let own = own_at id key s.intents in
     intents-after n key (change_for fate own) s.intents (change-for n fate own h (own-within n id key s.intents a.intents)) a.intents

@@ -47,10 +47,10 @@ abbrev pub get : TxnId → ℕ → ℕ → ℕ → List ℕ → RangeState → R
 get id epoch seq ts key s = get_reply (get_blocker id ts key s) key (found_at id epoch seq ts key s)
 
 -- The read bound, raised unless the read met an intent.
-abbrev pub read_bound : Option Intent → TxnId → ℕ → ReadBound → ReadBound
-read_bound None id ts bound = raised ts (Some id) bound
-read_bound (Some i) id ts bound = bound
+abbrev pub bound_after_read : Option Intent → TxnId → ℕ → ReadBound → ReadBound
+bound_after_read None id ts bound = raised ts (Some id) bound
+bound_after_read (Some i) id ts bound = bound
 
 -- The range has been read at this timestamp, unless the read met an intent.
 abbrev pub bound_after_get : TxnId → ℕ → List ℕ → RangeState → ReadBound
-bound_after_get id ts key s = read_bound (get_blocker id ts key s) id ts s.bound
+bound_after_get id ts key s = bound_after_read (get_blocker id ts key s) id ts s.bound

@@ -51,8 +51,8 @@ first_outcome None outcome = outcome
 first_outcome (Some i) outcome = Meets i
 
 -- What this put comes to in the range.
-abbrev pub put_outcome : TxnMeta → ℕ → ℕ → List ℕ → Option (List ℕ) → RangeState → PutOutcome
-put_outcome meta seq ts key value s =
+abbrev pub outcome_of_put : TxnMeta → ℕ → ℕ → List ℕ → Option (List ℕ) → RangeState → PutOutcome
+outcome_of_put meta seq ts key value s =
     first_outcome (other_at meta.id key s.intents) (own_outcome meta seq ts key value (own_at meta.id key s.intents) s)
 
 -- What a range answers to a put that came to this.

@@ -19,14 +19,14 @@ is_found epoch seq ts None = false
 is_found epoch seq ts (Some i) = is_it epoch seq ts i
 
 -- The listed write stands at its key.
-abbrev pub stands : TxnId → ℕ → ℕ → ℕ → List ℕ → RangeState → Bool
-stands id epoch seq ts key s = is_found epoch seq ts (own_at id key s.intents)
+abbrev pub write_stands : TxnId → ℕ → ℕ → ℕ → List ℕ → RangeState → Bool
+write_stands id epoch seq ts key s = is_found epoch seq ts (own_at id key s.intents)
 
 -- What a range answers to a query.
 abbrev pub query : TxnId → ℕ → ℕ → ℕ → List ℕ → RangeState → Reply
-query id epoch seq ts key s = if stands id epoch seq ts key s then replies.Found else replies.Missing
+query id epoch seq ts key s = if write_stands id epoch seq ts key s then replies.Found else replies.Missing
 
 -- The read bound after a query, raised under no owner where the write is missing.
 abbrev pub bound_after_query : TxnId → ℕ → ℕ → ℕ → List ℕ → RangeState → ReadBound
 bound_after_query id epoch seq ts key s =
-    if stands id epoch seq ts key s then s.bound else raised ts None s.bound
+    if write_stands id epoch seq ts key s then s.bound else raised ts None s.bound

@@ -38,8 +38,8 @@ change_for fate None = Leave
 change_for fate (Some i) = settled fate i
 
 -- What a resolve does to the intent at its key.
-abbrev pub intent_change : TxnId → List ℕ → Fate → RangeState → IntentChange
-intent_change id key fate s = change_for fate (own_at id key s.intents)
+abbrev pub resolve_change : TxnId → List ℕ → Fate → RangeState → IntentChange
+resolve_change id key fate s = change_for fate (own_at id key s.intents)
 
 -- The version that the transaction's intent becomes, where there is one and it becomes one.
 abbrev pub new_versions : TxnId → List ℕ → Fate → Option Intent → List Version

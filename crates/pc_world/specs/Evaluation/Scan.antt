@@ -17,7 +17,7 @@ use Rattle.pc_proto.specs.declared.reply.Reply.{Reply}
 use Rattle.pc_proto.specs.declared.reply.Reply.TheVariants as replies
 use Rattle.pc_proto.specs.Intents.{first_other}
 use Rattle.pc_world.specs.RangeState.{RangeState}
-use Rattle.pc_world.specs.Evaluation.Get.{found_at, read_bound}
+use Rattle.pc_world.specs.Evaluation.Get.{bound_after_read, found_at}
 
 -- The keys of the span at which the range has a version or an intent, in order, each once.
 abbrev pub keys_in : Span → RangeState → List (List ℕ)
@@ -26,12 +26,12 @@ keys_in span s =
     (map (λ key. (key, key)) (filter (contains span) (map (λ v. v.key) s.versions ++ map (λ e. e.0) s.intents))))
 
 -- The row of a key, where a value was found.
-abbrev pub row_of : List ℕ → Origin × Option (List ℕ) → Option (List ℕ × Origin × List ℕ)
-row_of key found = option_map (λ value. (key, found.0, value)) found.1
+abbrev pub row_found : List ℕ → Origin × Option (List ℕ) → Option (List ℕ × Origin × List ℕ)
+row_found key found = option_map (λ value. (key, found.0, value)) found.1
 
 -- The rows that the scan finds.
 abbrev pub rows_in : TxnId → ℕ → ℕ → ℕ → Span → RangeState → List (List ℕ × Origin × List ℕ)
-rows_in id epoch seq ts span s = filter_map (λ key. row_of key (found_at id epoch seq ts key s)) (keys_in span s)
+rows_in id epoch seq ts span s = filter_map (λ key. row_found key (found_at id epoch seq ts key s)) (keys_in span s)
 
 -- A scan that meets an intent is told of it, and any other the rows.
 abbrev pub scan_reply : Option (List ℕ × Intent) → List (List ℕ × Origin × List ℕ) → Reply
@@ -44,4 +44,4 @@ scan id epoch seq ts span s = scan_reply (first_other span ts id s.intents) (row
 
 -- The range has been read at this timestamp, unless the scan met an intent.
 abbrev pub bound_after_scan : TxnId → ℕ → Span → RangeState → ReadBound
-bound_after_scan id ts span s = read_bound (option_map (λ e. e.1) (first_other span ts id s.intents)) id ts s.bound
+bound_after_scan id ts span s = bound_after_read (option_map (λ e. e.1) (first_other span ts id s.intents)) id ts s.bound

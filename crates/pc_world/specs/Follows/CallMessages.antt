@@ -8,7 +8,7 @@ use Rattle.pc_proto.specs.declared.event.Event.{Event}
 use Rattle.pc_proto.specs.declared.event.Event.TheVariants as events
 use Rattle.pc_proto.specs.declared.request.Request.{Request}
 use Rattle.pc_proto.specs.declared.request.Request.TheVariants as requests
-use Rattle.pc_world.specs.Follows.Resends.{round_of}
+use Rattle.pc_proto.specs.Requests.{round_of}
 use Rattle.pc_world.specs.Known.{Known}
 use Rattle.pc_world.specs.Known.Statements.{Statement}
 

@@ -10,12 +10,12 @@ use Rattle.pc_world.specs.Tell.End.{IsImplicit}
 use Rattle.pc_world.specs.Views.{WasCommitted}
 
 -- The open call is a commit, and the session knows that its transaction is committed at this timestamp.
-pub record IsDecided (k : Known) (t : Txn) (ts : ℕ) : Type 0 where
+pub record IsCommitKnown (k : Known) (t : Txn) (ts : ℕ) : Type 0 where
   pub opened : open_txn k ≡ Some t
   pub asked : call_of k ≡ Some calls.Commit
   pub why : WasCommitted k.heard t.id ts ⊎ IsImplicit k t ts
 
 -- Nothing is sent once the open commit is decided.
 abbrev pub TellsEarly : Known → Event → Type 0
-TellsEarly k (events.Send number range request) = (t : Txn) (ts : ℕ) → IsDecided k t ts → ⊥
+TellsEarly k (events.Send number range request) = (t : Txn) (ts : ℕ) → IsCommitKnown k t ts → ⊥
 TellsEarly k _ = ⊤

@@ -14,15 +14,15 @@ use Rattle.pc_proto.specs.declared.reply.Reply.TheVariants as replies
 use Rattle.pc_proto.specs.declared.request.Request.{Request}
 use Rattle.pc_proto.specs.declared.request.Request.TheVariants as requests
 use Rattle.pc_proto.specs.declared.view.View.{View}
+use Rattle.pc_proto.specs.Replies.{is_conflict_with, is_undecided_status}
+use Rattle.pc_proto.specs.Requests.{is_push_of}
+use Rattle.pc_proto.specs.Views.{fate_after, final_fate}
 use Rattle.pc_world.specs.Counting.{AtLeast}
 use Rattle.pc_world.specs.Known.{Known}
 use Rattle.pc_world.specs.Known.Statements.{Statement}
 use Rattle.pc_world.specs.Known.Traffic.{Heard}
 use Rattle.pc_world.specs.SameRequest.{IsSameRequest}
-use Rattle.pc_world.specs.Send.Recovery.{is_conflict_with, is_push_of}
-use Rattle.pc_world.specs.StageFate.{is_unsettled_status}
 use Rattle.pc_world.specs.Tell.Refusal.{is_heard}
-use Rattle.pc_world.specs.Views.{fate_after, final_fate}
 
 -- Each message of the request that was sent since the last call was asked was answered since.
 abbrev pub AreAnsweredNow : Known → Request → Type 0
@@ -100,7 +100,7 @@ is_commit _ = false
 -- The request is a commit that was told since the last call was asked that the record is not final.
 pub record WasRefusedNow (k : Known) (request : Request) : Type 0 where
   pub commits : IsTrue (is_commit request)
-  pub refused : Any (λ h. (h.request ≡ request) × IsTrue (is_unsettled_status h.reply)) k.heard_now
+  pub refused : Any (λ h. (h.request ≡ request) × IsTrue (is_undecided_status h.reply)) k.heard_now
 
 -- The transaction that a message of a conflict's round is about, if the request is one.
 abbrev pub round_of : Request → Option TxnId

@@ -11,10 +11,9 @@ use Rattle.pc_proto.specs.declared.event.Event.{Event}
 use Rattle.pc_proto.specs.declared.event.Event.TheVariants as events
 use Rattle.pc_proto.specs.declared.request.Request.{Request}
 use Rattle.pc_proto.specs.declared.request.Request.TheVariants as requests
+use Rattle.pc_proto.specs.Requests.{is_put, round_of}
 use Rattle.pc_world.specs.Counting.{AtLeast}
-use Rattle.pc_world.specs.Follows.EarlyProof.{is_put}
-use Rattle.pc_world.specs.Follows.Resends.{round_of}
-use Rattle.pc_world.specs.Known.{Known, call_of, known}
+use Rattle.pc_world.specs.Known.{Known, call_of, known_of}
 use Rattle.pc_world.specs.Known.Traffic.{Heard, Sent}
 use Rattle.pc_world.specs.RangeOf.{pieces}
 use Rattle.pc_world.specs.SameRequest.{IsSameRequest}
@@ -55,14 +54,14 @@ pub record IsOfWave (own : List (Pair Event)) (step : ℕ) : Type 0 where
   pub heard : List (Pair Event)
   pub wave : EndsWithWave own sent heard
   pub after_sends : AreSentBefore step own
-  pub in_order : All (λ h. h.step < step) (known own).heard
+  pub in_order : All (λ h. h.step < step) (known_of own).heard
   pub before_hears : All (λ p. step < p.entry.step) heard
 
 -- Whatever was sent before some reply was heard was heard, or is a put in flight, before more is sent.
 abbrev pub EndsWaves : List (Pair Event) → Type 0
 EndsWaves own =
     (front back : List (Pair Event)) (p : Pair Event) → own ≡ front ++ (p ∷ back) → IsHearing p.entry.event
-    → All (IsHeardOrPut (known own).heard) (known front).sent
+    → All (IsHeardOrPut (known_of own).heard) (known_of front).sent
 
 -- The request asks for this piece of a scan.
 abbrev pub IsScanOf : Span → Request → Type 0
@@ -77,20 +76,20 @@ SentAllPieces splits k =
 -- Each request that met intents before the wave was sent again as often.
 abbrev pub SentAllAgain : List (Pair Event) → Known → Type 0
 SentAllAgain sent k =
-    (request : Request) (n : ℕ) → AtLeast (IsConflictOf request) n (known sent).heard_now
+    (request : Request) (n : ℕ) → AtLeast (IsConflictOf request) n (known_of sent).heard_now
     → Any (λ m. IsSameRequest request m.request) k.sent_now
     → AtLeast (λ m. IsSameRequest request m.request) (n + 1) k.sent_now
 
 -- What is asked of a reply that is heard to no message of a conflict's round: the wave is whole.
 abbrev pub IsWholeWave : List (List ℕ) → List (Pair Event) → Request → Type 0
 IsWholeWave splits own request =
-    round_of request ≡ None → SentAllPieces splits (known own)
-    × ((sent heard : List (Pair Event)) → EndsWithWave own sent heard → SentAllAgain sent (known own))
+    round_of request ≡ None → SentAllPieces splits (known_of own)
+    × ((sent heard : List (Pair Event)) → EndsWithWave own sent heard → SentAllAgain sent (known_of own))
 
 -- A reply that is heard is that of the oldest message of a whole wave.
 abbrev pub HearsInWave : List (List ℕ) → List (Pair Event) → Option Heard → Type 0
 HearsInWave splits own None = ⊤
-HearsInWave splits own (Some h) = IsOldestUnheard (known own) h.number × IsOfWave own h.step × IsWholeWave splits own h.request
+HearsInWave splits own (Some h) = IsOldestUnheard (known_of own) h.number × IsOfWave own h.step × IsWholeWave splits own h.request
 
 -- A message is sent only where no wave is half heard.
 abbrev pub SendsInWave : List (Pair Event) → Event → Type 0

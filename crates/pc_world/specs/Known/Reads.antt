@@ -31,11 +31,11 @@ ends_after (Some one) None = false
 ends_after (Some one) (Some other) = key_at_most other one
 
 -- The first span holds the second, by their ends.
-abbrev pub holds : Span → Span → Bool
-holds (One one) (One other) = same_key one other
-holds (One one) (Between from to) = false
-holds (Between from to) (One other) = contains (Between from to) other
-holds (Between from to) (Between first end) = starts_by from first && ends_after to end
+abbrev pub holds_span : Span → Span → Bool
+holds_span (One one) (One other) = same_key one other
+holds_span (One one) (Between from to) = false
+holds_span (Between from to) (One other) = contains (Between from to) other
+holds_span (Between from to) (Between first end) = starts_by from first && ends_after to end
 
 -- A read that was heard to a get or a piece of a scan.
 abbrev pub read_heard : Request → Reply → List Read
@@ -67,7 +67,7 @@ pub record WasRefreshed (id : TxnId) (heard : List Heard) (span : Span) (from to
 pub data IsGoodTo (id : TxnId) (heard : List Heard) (span : Span) (ts : ℕ) : ℕ → Type 0 where
   AtOnce : IsGoodTo id heard span ts ts
   Further : (good : ℕ) (wider : Span) (from to : ℕ) → IsGoodTo id heard span ts good
-      → WasRefreshed id heard wider from to → IsTrue (holds wider span) → from ≤ good
+      → WasRefreshed id heard wider from to → IsTrue (holds_span wider span) → from ≤ good
       → IsGoodTo id heard span ts (max good to)
 
 -- The read is good at this timestamp: it is not below the read's own, nor above one up to which the read is good.

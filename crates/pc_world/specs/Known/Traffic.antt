@@ -71,9 +71,9 @@ heard_now_after (events.Ask call reading) h heard_now = []
 heard_now_after event h heard_now = heard_now ++ option_to_list h
 
 -- The reply is to one of these messages.
-abbrev pub is_reply_to : List Sent → Heard → Bool
-is_reply_to sent h = list_any (λ m. m.number == h.number) sent
+abbrev pub is_reply_to_one : List Sent → Heard → Bool
+is_reply_to_one sent h = list_any (λ m. m.number == h.number) sent
 
 -- Of these replies, those to one of these messages.
 abbrev pub replies_to : List Sent → List Heard → List Heard
-replies_to sent heard = filter (is_reply_to sent) heard
+replies_to sent heard = filter (is_reply_to_one sent) heard

@@ -93,13 +93,13 @@ status_ts (replies.Status view) = unsettled_ts view
 status_ts _ = 0
 
 -- The list has the write of this key and sequence.
-abbrev pub lists : List ℕ → ℕ → List (List ℕ × ℕ) → Bool
-lists key seq writes = list_any (λ w. same_key w.0 key && w.1 == seq) writes
+abbrev pub lists_write : List ℕ → ℕ → List (List ℕ × ℕ) → Bool
+lists_write key seq writes = list_any (λ w. same_key w.0 key && w.1 == seq) writes
 
 -- The message is a stage of the transaction, of this epoch and timestamp, that lists this write.
 abbrev pub is_stage_of : TxnId → ℕ → ℕ → List ℕ → ℕ → Request → Bool
 is_stage_of id epoch ts key seq (requests.Stage meta at now writes locks) =
-    same_txn meta.id id && meta.epoch == epoch && (at == ts && lists key seq writes)
+    same_txn meta.id id && meta.epoch == epoch && (at == ts && lists_write key seq writes)
 is_stage_of id epoch ts key seq _ = false
 
 -- The transaction staged this write at this timestamp.

@@ -5,7 +5,7 @@ use Rattle.pc_proto.specs.declared.call.Call.TheVariants as calls
 use Rattle.pc_world.specs.Known.{Known, call_of, open_txn}
 use Rattle.pc_world.specs.Known.Transactions.{Txn, IsGood, IsMetaOf}
 use Rattle.pc_world.specs.Known.Writes.{IsProvedBy}
-use Rattle.pc_world.specs.StageFate.{Commit, EachCommit, EachStage, IsLate, IsRefused}
+use Rattle.pc_world.specs.StageFate.{EachCommit, EachStage, IsLate, SentCommit, WasCommitRefused}
 use Rattle.pc_world.specs.Views.{WasCommitted}
 
 -- The transaction is in a commit, or was told that it committed at this timestamp.
@@ -19,10 +19,10 @@ pub record MayDecide (k : Known) (t : Txn) (ts : ℕ) : Type 0 where
   pub good : IsGood k.heard t ts
   pub proved : All (IsProvedBy ts) t.writes
   pub stages : EachStage t.id k.sent (λ s. s.ts ≢ ts → IsLate k.heard s)
-  pub commits : EachCommit t.id k.sent (λ c. c.ts ≢ ts → IsRefused k.heard c)
+  pub commits : EachCommit t.id k.sent (λ c. c.ts ≢ ts → WasCommitRefused k.heard c)
 
 -- A transaction of the session may send this commit.
-pub record MaySendCommit (k : Known) (c : Commit) : Type 0 where
+pub record MaySendCommit (k : Known) (c : SentCommit) : Type 0 where
   pub t : Txn
   pub mine : Contains k.txns t
   pub whose : IsMetaOf t c.meta

@@ -45,14 +45,14 @@ pub record SessionPush (k : Known) (holder : TxnMeta) (by : Who) (level : Priori
   pub read_now : reading_of k ≡ Some now
 
 -- The reply lists the holder's record.
-abbrev pub Lists : TxnMeta → Reply → Type 0
-Lists holder (replies.Listed metas) = Contains metas holder
-Lists holder _ = ⊥
+abbrev pub ListsRecord : TxnMeta → Reply → Type 0
+ListsRecord holder (replies.Listed metas) = Contains metas holder
+ListsRecord holder _ = ⊥
 
 -- A recoverer may push the holder in its round.
 pub record RecovererPush (number : ℕ) (k : Known) (holder : TxnMeta) (by : Who) (now : ℕ) (goal : Goal) : Type 0 where
   pub asked : call_of k ≡ Some calls.Round
-  pub was_listed : Any (λ h. Lists holder h.reply) k.heard_now
+  pub was_listed : Any (λ h. ListsRecord holder h.reply) k.heard_now
   pub whose : by ≡ whos.Recoverer number
   pub to_abort : goal ≡ goals.Abort
   pub read_now : reading_of k ≡ Some now

@@ -17,7 +17,7 @@ use Rattle.pc_proto.specs.declared.view.View.TheVariants as views
 use Rattle.pc_world.specs.Known.{Known, open_txn}
 use Rattle.pc_world.specs.Known.Statements.{Statement}
 use Rattle.pc_world.specs.Known.Traffic.{Heard}
-use Rattle.pc_world.specs.Known.Transactions.{Txn, has_staged, lists}
+use Rattle.pc_world.specs.Known.Transactions.{Txn, has_staged, lists_write}
 use Rattle.pc_world.specs.Views.{anchor_heard}
 
 -- The request pushes this transaction.
@@ -44,7 +44,7 @@ IsOwnName (actors.Range number) k by = ⊥
 pub record QueryOfListed (k : Known) (id : TxnId) (epoch seq ts : ℕ) (key : List ℕ) : Type 0 where
   pub writes : List (List ℕ × ℕ)
   pub staging : WasStaging k.heard id epoch ts writes
-  pub listed : IsTrue (lists key seq writes)
+  pub listed : IsTrue (lists_write key seq writes)
 
 -- The request is a put of this write.
 abbrev pub is_put_of : TxnId → ℕ → ℕ → Request → Bool
@@ -113,7 +113,7 @@ pub record WasFound (id : TxnId) (epoch ts : ℕ) (w : List ℕ × ℕ) (h : Hea
 -- A query by this name missed a write of this key that the list has.
 pub record WasMissed (id : TxnId) (epoch ts : ℕ) (writes : List (List ℕ × ℕ)) (key : List ℕ) (by : Who) (h : Heard) : Type 0 where
   pub seq : ℕ
-  pub listed : IsTrue (lists key seq writes)
+  pub listed : IsTrue (lists_write key seq writes)
   pub asked : h.request ≡ requests.Query id epoch seq ts key by
   pub told : h.reply ≡ replies.Missing
 

@@ -8,11 +8,13 @@ use Rattle.pc_proto.specs.declared.request.Request.TheVariants as requests
 use Rattle.pc_proto.specs.declared.reply.Reply.TheVariants as replies
 use Rattle.pc_proto.specs.declared.view.View.{View}
 use Rattle.pc_proto.specs.declared.view.View.TheVariants as views
+use Rattle.pc_proto.specs.Replies.{view_in}
+use Rattle.pc_proto.specs.Requests.{is_about}
 use Rattle.pc_proto.specs.Stamps.{fate_stamps}
 use Rattle.pc_world.specs.Known.{Known}
 use Rattle.pc_world.specs.Known.Traffic.{Heard}
 use Rattle.pc_world.specs.Known.Transactions.{Txn}
-use Rattle.pc_world.specs.Views.{anchor_heard, is_about, view_in}
+use Rattle.pc_world.specs.Views.{anchor_heard}
 
 -- The fate is what the view says: committed with its epoch and timestamp, aborted, or moved to a timestamp that its own reaches.
 abbrev pub IsFateOf : View → Fate → Type 0

@@ -7,14 +7,14 @@ use Rattle.pc_world.specs.Known.{Known, call_of, open_txn, reading_of}
 use Rattle.pc_world.specs.Known.Traffic.{Heard}
 use Rattle.pc_world.specs.Known.Transactions.{Txn, IsGood, IsMetaOf}
 use Rattle.pc_world.specs.Known.Writes.{IsProvedBy, is_proved, listed_as, unproved}
-use Rattle.pc_world.specs.StageFate.{Stage, EachCommit, EachStage, IsLate, IsLateByRecord, IsRefused, stage_request}
+use Rattle.pc_world.specs.StageFate.{EachCommit, EachStage, IsLate, IsLateByRecord, SentStage, WasCommitRefused, stage_request}
 
 -- An earlier stage does not stand in the way of one at this timestamp.
-abbrev pub IsPassed : List Heard → ℕ → Stage → Type 0
+abbrev pub IsPassed : List Heard → ℕ → SentStage → Type 0
 IsPassed heard ts s = (IsLate heard s × (s.ts < ts)) ⊎ IsLateByRecord heard s
 
 -- The open transaction, in a commit, may send this stage for the first time.
-pub record MaySendNewStage (k : Known) (s : Stage) : Type 0 where
+pub record MaySendNewStage (k : Known) (s : SentStage) : Type 0 where
   pub t : Txn
   pub opened : open_txn k ≡ Some t
   pub asked : call_of k ≡ Some calls.Commit
@@ -27,10 +27,10 @@ pub record MaySendNewStage (k : Known) (s : Stage) : Type 0 where
   pub read_now : reading_of k ≡ Some s.now
   pub all_locks : s.locks ≡ t.locks
   pub stages : EachStage t.id k.sent (IsPassed k.heard s.ts)
-  pub commits : EachCommit t.id k.sent (IsRefused k.heard)
+  pub commits : EachCommit t.id k.sent (WasCommitRefused k.heard)
 
 -- An earlier stage of the transaction's epoch, that is not late.
-pub record MaySendStageAgain (k : Known) (s : Stage) : Type 0 where
+pub record MaySendStageAgain (k : Known) (s : SentStage) : Type 0 where
   pub t : Txn
   pub mine : Contains k.txns t
   pub whose : s.meta.id ≡ t.id
@@ -39,5 +39,5 @@ pub record MaySendStageAgain (k : Known) (s : Stage) : Type 0 where
   pub not_late : IsLate k.heard s → ⊥
 
 -- The session may send this stage, for the first time or again.
-abbrev pub MaySendStage : Known → Stage → Type 0
+abbrev pub MaySendStage : Known → SentStage → Type 0
 MaySendStage k s = MaySendNewStage k s ⊎ MaySendStageAgain k s

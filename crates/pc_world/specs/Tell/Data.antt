@@ -10,17 +10,17 @@ use Rattle.pc_proto.specs.declared.reply.Reply.{Reply}
 use Rattle.pc_proto.specs.declared.reply.Reply.TheVariants as replies
 use Rattle.pc_proto.specs.declared.request.Request.{Request}
 use Rattle.pc_proto.specs.declared.request.Request.TheVariants as requests
+use Rattle.pc_proto.specs.Requests.{is_put_of}
 use Rattle.pc_world.specs.Known.{Known, open_txn}
 use Rattle.pc_world.specs.Known.Statements.{Statement}
-use Rattle.pc_world.specs.Known.Traffic.{Heard, Sent, is_reply_to}
+use Rattle.pc_world.specs.Known.Traffic.{Heard, Sent, is_reply_to_one}
 use Rattle.pc_world.specs.Known.Transactions.{Txn}
 use Rattle.pc_world.specs.RangeOf.{pieces}
 use Rattle.pc_world.specs.Send.Put.{AsksFor}
-use Rattle.pc_world.specs.Send.Recovery.{is_put_of}
 
 -- The reply is to a message sent in the open call.
 abbrev pub was_sent_now : Known → Heard → Bool
-was_sent_now k h = is_reply_to k.sent_now h
+was_sent_now k h = is_reply_to_one k.sent_now h
 
 -- The reply to a get has this value.
 abbrev pub IsValueOf : Option (List ℕ) → Request → Reply → Type 0

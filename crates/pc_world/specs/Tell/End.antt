@@ -9,6 +9,8 @@ use Rattle.pc_proto.specs.declared.reply.Reply.TheVariants as replies
 use Rattle.pc_proto.specs.declared.view.View.{View}
 use Rattle.pc_proto.specs.declared.view.View.TheVariants as views
 use Rattle.pc_proto.specs.declared.why.Why.{Why}
+use Rattle.pc_proto.specs.Replies.{view_in}
+use Rattle.pc_proto.specs.Requests.{is_about}
 use Rattle.pc_world.specs.Known.{Known, open_txn}
 use Rattle.pc_world.specs.Known.Statements.{Statement}
 use Rattle.pc_world.specs.Known.Traffic.{Heard}
@@ -16,7 +18,7 @@ use Rattle.pc_world.specs.Known.Transactions.{Txn, IsGood}
 use Rattle.pc_world.specs.Known.Writes.{IsProvedBy}
 use Rattle.pc_world.specs.Send.Abort.{own_cause}
 use Rattle.pc_world.specs.StageFate.{IsUncommitted}
-use Rattle.pc_world.specs.Views.{WasAborted, WasCommitted, is_about, view_in}
+use Rattle.pc_world.specs.Views.{WasAborted, WasCommitted}
 
 -- The view is staging at this epoch and timestamp.
 abbrev pub is_staging_at : ℕ → ℕ → View → Bool

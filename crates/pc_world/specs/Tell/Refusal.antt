@@ -8,15 +8,17 @@ use Rattle.pc_proto.specs.declared.call.Call.TheVariants as calls
 use Rattle.pc_proto.specs.declared.reply.Reply.{Reply}
 use Rattle.pc_proto.specs.declared.request.Request.{Request}
 use Rattle.pc_proto.specs.declared.request.Request.TheVariants as requests
+use Rattle.pc_proto.specs.Replies.{is_conflict, is_conflict_with, is_undecided_status, status_ts}
+use Rattle.pc_proto.specs.Requests.{is_put_of}
 use Rattle.pc_world.specs.Counting.{AtLeast, LastIs}
 use Rattle.pc_world.specs.Known.{Known, open_txn}
 use Rattle.pc_world.specs.Known.Statements.{Statement}
 use Rattle.pc_world.specs.Known.Traffic.{Heard, Sent}
-use Rattle.pc_world.specs.Known.Transactions.{Txn, status_ts}
+use Rattle.pc_world.specs.Known.Transactions.{Txn}
 use Rattle.pc_world.specs.Known.Writes.{Write, is_proved}
 use Rattle.pc_world.specs.SameRequest.{IsSameMessage, IsSameRequest}
-use Rattle.pc_world.specs.Send.Recovery.{is_conflict, is_conflict_with, is_put_of, was_refused}
-use Rattle.pc_world.specs.StageFate.{IsDead, IsRefused, IsUncommitted, SomeCommit, SomeStage, is_unsettled_status}
+use Rattle.pc_world.specs.Send.Recovery.{was_refused}
+use Rattle.pc_world.specs.StageFate.{IsDead, IsUncommitted, SomeCommit, SomeStage, WasCommitRefused}
 use Rattle.pc_world.specs.Tell.Data.{was_sent_now}
 
 -- In a commit, the open transaction's stages are dead and its commits refused.
@@ -92,7 +94,7 @@ pub record MayTellUnavailable (k : Known) (s : Statement) (faults : ℕ) : Type 
 -- The transaction may have committed: a stage was sent that is not dead, or a commit that is not refused.
 abbrev pub MayHaveCommitted : Known → TxnId → Type 0
 MayHaveCommitted k id =
-    SomeStage id k.sent (λ s. IsDead k.heard s → ⊥) ⊎ SomeCommit id k.sent (λ c. IsRefused k.heard c → ⊥)
+    SomeStage id k.sent (λ s. IsDead k.heard s → ⊥) ⊎ SomeCommit id k.sent (λ c. WasCommitRefused k.heard c → ⊥)
 
 -- The call may be told that it is not known whether the transaction committed.
 pub record MayTellUnknown (k : Known) (s : Statement) (id : TxnId) : Type 0 where
@@ -106,8 +108,8 @@ pub record MayTellUnknown (k : Known) (s : Statement) (id : TxnId) : Type 0 wher
 
 -- A stage or commit met a record that is not final and has a greater timestamp.
 abbrev pub is_moved : Request → Reply → Bool
-is_moved (requests.Stage meta ts now writes locks) reply = is_unsettled_status reply && nat_lt ts (status_ts reply)
-is_moved (requests.Commit meta ts locks) reply = is_unsettled_status reply && nat_lt ts (status_ts reply)
+is_moved (requests.Stage meta ts now writes locks) reply = is_undecided_status reply && nat_lt ts (status_ts reply)
+is_moved (requests.Commit meta ts locks) reply = is_undecided_status reply && nat_lt ts (status_ts reply)
 is_moved _ reply = false
 
 -- A stage or commit of the open call was so moved.

@@ -1,7 +1,6 @@
 use Rattle.std.proofs.Common.{◌≡◌, take}
-use Rattle.pc_proto.specs.Stamps.{row_stamps}
-use Rattle.pc_world.specs.Known.Clock.{last_of}
+use Rattle.pc_proto.specs.Stamps.{greatest_of, row_stamps}
 use Rattle.pc_coord.proofs.stamps.last_of_rows.Given as goal
 
 abbrev pub invariant-loop-row : goal.invariant-loop-row
-invariant-loop-row l = l.last ≡ last_of (row_stamps (take l.row-index l.row-items))
+invariant-loop-row l = l.last ≡ greatest_of (row_stamps (take l.row-index l.row-items))

@@ -1,7 +1,7 @@
 use Rattle.std.proofs.Common.{◌≡◌, ◌↔◌, None, IsSome, map, string_bytes, Global, rules, subst, sym}
 use Rattle.pc_io.specs.Reading.{IsAllOf, TakesExactly}
 use Rattle.pc_program.specs.declared.status.Status.TheVariants as statuses
-use Rattle.pc_program.specs.Causes.{AskForRun, IsWriting}
+use Rattle.pc_program.specs.Causes.{AskForRun, HasBegunWriting}
 use Rattle.pc_program.proofs.Ends.{carried, done_carried, not_long, unless}
 use Rattle.pc_work.specs.Workload.{IsJson, workload_in}
 use Rattle.pc_program.proofs.top.pcommit.Goals as goal
@@ -23,7 +23,7 @@ returns-in-Ok-clause-other_form g c =
 
 pub returns-in-Ok-clause-accepted : goal.returns-in-Ok-clause-accepted
 returns-in-Ok-clause-accepted g c =
-    carried c.run.result (g.S.Source.left c.args.source.now) c.deref.result.now (λ bytes. IsWriting c.run.result ↔ (IsJson bytes × IsSome (workload_in bytes)))
+    carried c.run.result (g.S.Source.left c.args.source.now) c.deref.result.now (λ bytes. HasBegunWriting c.run.result ↔ (IsJson bytes × IsSome (workload_in bytes)))
     (subst (IsAllOf (g.S.Source.left c.args.source.now)) (sym c.deref.ensures.value) c.in-Ok.ensures.ok) c.run.ensures.accepted
 
 pub returns-in-Ok-clause-no_json : goal.returns-in-Ok-clause-no_json

@@ -1,8 +1,8 @@
 -- What is printed so far is the first writes, a comma before each.
 use Rattle.std.proofs.Common.{◌≡◌, ◌∷◌, ◌++◌, take}
 use Rattle.std.specs.List.{flat_map}
-use Rattle.pc_report.specs.Report.{write_text}
+use Rattle.pc_report.specs.Report.{last_write_text}
 use Rattle.pc_report.proofs.print.print_more_writes.Given as goal
 
 abbrev pub invariant-loop-write : goal.invariant-loop-write
-invariant-loop-write l = l.out.items ≡ l.initial.out.items ++ flat_map (λ write. 44 ∷ write_text write) (take l.write-index l.writes)
+invariant-loop-write l = l.out.items ≡ l.initial.out.items ++ flat_map (λ write. 44 ∷ last_write_text write) (take l.write-index l.writes)

@@ -1,11 +1,12 @@
 -- A span that lies in one range lies in that of its start.
 use Rattle.std.proofs.Common.{◌≡◌, ℕ, inl, inr, List, [], ◌∷◌, sym, ap, ◌∙◌, subst}
 use Rattle.pc_base.specs.declared.span.Span.{Span}
+use Rattle.pc_base.specs.Rising.{AreRising}
 use Rattle.pc_proto.specs.declared.request.Request.{Request}
 use Rattle.pc_proto.specs.declared.request.Request.TheVariants as requests
 use Rattle.pc_world.proofs.Pieces.{lies-at-start}
 use Rattle.pc_world.proofs.ranges.range_for.Goals as goal
-use Rattle.pc_world.specs.RangeOf.{AreRising, GoesTo, IsForOne, LiesInOne, pieces, range_of_start}
+use Rattle.pc_world.specs.RangeOf.{GoesTo, IsForOne, LiesInOne, pieces, range_of_start}
 
 in-its-range : (splits : List (List ℕ)) (span : Span) (range : ℕ) → AreRising splits → range ≡ range_of_start splits span → LiesInOne splits span → pieces splits span ≡ (range, span) ∷ []
 in-its-range splits span range rising is one = lies-at-start splits span rising one ∙ ap (λ r. (r, span) ∷ []) (sym is)

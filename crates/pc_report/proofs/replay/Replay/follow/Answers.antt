@@ -1,6 +1,6 @@
 use Rattle.std.proofs.Common.{◌≡◌, ◌+◌, [], ◌∷◌, length, None, Some, refl, sym, ap, subst, ◌∙◌, arith}
 use Rattle.pc_report.proofs.Following.{followed, points_grow, points_stay, room}
-use Rattle.pc_report.specs.Replaying.{HasRoomFor, asked_in, committed_one, commit_in, states_after, touched_in}
+use Rattle.pc_report.specs.Replaying.{HasRoomFor, asked_in, commit_kept, committed_one, states_after, touched_in}
 use Rattle.pc_report.specs.declared.replay.Replay.{Replay}
 use Rattle.pc_world.proofs.Prefixes.{run_front}
 use Rattle.pc_report.proofs.replay.Replay.follow.Goals as goal
@@ -21,8 +21,8 @@ returns c =
     let new : Replay = record { states = c.evaluate.new.states; anchors = c.note_anchor.new.table; told = c.note_told.new.table; rolled_back = c.note_rolled_back.new.table; points = c.keep_first.new.table } in
     let event = c.args.entry.now.event in
     let touched = touched_in (asked_in c.args.before.now event) event in
-    let is : committed_one (commit_in c.args.splits.now new) touched ≡ Some c.in-Some.id =
-    ap (committed_one (commit_in c.args.splits.now new)) (sym (c.touched_in.ensures ∙ ap (λ asked. touched_in asked event) c.asked-asked.ensures)) ∙ (sym c.committed_of.ensures ∙ c.in-Some.is) in
+    let is : committed_one (commit_kept c.args.splits.now new) touched ≡ Some c.in-Some.id =
+    ap (committed_one (commit_kept c.args.splits.now new)) (sym (c.touched_in.ensures ∙ ap (λ asked. touched_in asked event) c.asked-asked.ensures)) ∙ (sym c.committed_of.ensures ∙ c.in-Some.is) in
     followed c.args.splits.now c.args.before.now c.args.entry.now c.args.self.now new
     c.requires.so_far c.in_ok-note_anchor.ensures c.in_ok-note_told.ensures c.in_ok-note_rolled_back.ensures
     (c.in_ok-evaluate.ensures ∙ ap (states_after c.args.self.now.states.items c.args.entry.now.actor) c.asked-asked.ensures)
@@ -33,8 +33,8 @@ returns-in_default c =
     let new : Replay = record { states = c.evaluate.new.states; anchors = c.note_anchor.new.table; told = c.note_told.new.table; rolled_back = c.note_rolled_back.new.table; points = c.args.self.now.points } in
     let event = c.args.entry.now.event in
     let touched = touched_in (asked_in c.args.before.now event) event in
-    let is : committed_one (commit_in c.args.splits.now new) touched ≡ None =
-    ap (committed_one (commit_in c.args.splits.now new)) (sym (c.touched_in.ensures ∙ ap (λ asked. touched_in asked event) c.asked-asked.ensures)) ∙ (sym c.committed_of.ensures ∙ c.in_default.is) in
+    let is : committed_one (commit_kept c.args.splits.now new) touched ≡ None =
+    ap (committed_one (commit_kept c.args.splits.now new)) (sym (c.touched_in.ensures ∙ ap (λ asked. touched_in asked event) c.asked-asked.ensures)) ∙ (sym c.committed_of.ensures ∙ c.in_default.is) in
     followed c.args.splits.now c.args.before.now c.args.entry.now c.args.self.now new
     c.requires.so_far c.in_ok-note_anchor.ensures c.in_ok-note_told.ensures c.in_ok-note_rolled_back.ensures
     (c.in_ok-evaluate.ensures ∙ ap (states_after c.args.self.now.states.items c.args.entry.now.actor) c.asked-asked.ensures)

@@ -1,5 +1,5 @@
 use Rattle.std.proofs.Common.{subst}
-use Rattle.pc_world.specs.RangeOf.{AreRising}
+use Rattle.pc_base.specs.Rising.{AreRising}
 use Rattle.pc_runner.proofs.Ranges.{row_for_one, stand_still}
 use Rattle.pc_runner.proofs.database.Database.send.Goals as goal
 use Rattle.pc_runner.specs.History.{History, known_by}
