@@ -1,5 +1,5 @@
--- Lists of entries, each under its key; the first entry of a key is the one that counts.
-use Rattle.std.specs.Prelude.{Bool, not, cond, Option, List, [], ◌∷◌, filter, find, fold}
+-- Lists of entries, each under its key. A list that grows by std's `insert_entry` has each key once, in the order of the keys.
+use Rattle.std.specs.Prelude.{Bool, not, Option, List, [], filter, find, fold}
 use Rattle.std.specs.BTreeMap.{insert_entry}
 use Rattle.std.specs.declared.cmp.Ordering.{Ordering}
 use Rattle.std.specs.Option.{option_map}
@@ -8,11 +8,6 @@ module _ {K V : Type 0} (same : K → K → Bool) where
   -- What stands under the key.
   abbrev pub at : K → List (K × V) → Option V
   at key entries = option_map (λ e. e.1) (find (λ e. same e.0 key) entries)
-
-  -- The value takes the place of the one under the key, or stands at the end where there was none.
-  abbrev pub set_at : K → V → List (K × V) → List (K × V)
-  set_at key value [] = (key, value) ∷ []
-  set_at key value (e ∷ es) = cond (same e.0 key) ((e.0, value) ∷ es) (e ∷ set_at key value es)
 
   -- Nothing stands under the key any more.
   abbrev pub without : K → List (K × V) → List (K × V)

@@ -1,9 +1,21 @@
--- Plain searches of a list of versions.
-use Rattle.std.specs.Prelude.{ℕ, ◌+◌, nat_le, nat_lt, ◌&&◌, if◌then◌else◌, Option, None, Some, List, filter, fold}
+-- A range's versions, by key, then by timestamp; and plain searches of them.
+use Rattle.std.specs.Prelude.{ℕ, ◌+◌, nat_le, nat_lt, ◌&&◌, if◌then◌else◌, Option, None, Some, List, [], ◌∷◌, filter, fold}
+use Rattle.std.specs.Cmp.Lexicographic.{slice_cmp}
+use Rattle.std.specs.declared.cmp.Ordering.{Ordering}
 use Rattle.std.specs.Option.{option_map_or}
+use Rattle.std.specs.Ordering.{is_lt, nat_cmp, ordering_then}
 use Rattle.pc_base.specs.declared.span.Span.{Span}
 use Rattle.pc_base.specs.declared.version.Version.{Version}
 use Rattle.pc_base.specs.Span.{contains, key_below, same_key}
+
+-- By key, then by timestamp.
+abbrev pub version_cmp : Version → Version → Ordering
+version_cmp one other = ordering_then (slice_cmp nat_cmp one.key other.key) (nat_cmp one.ts other.ts)
+
+-- The versions with one more, which stands before the first that is above it.
+abbrev pub with_version : List Version → Version → List Version
+with_version [] v = v ∷ []
+with_version (w ∷ ws) v = if is_lt (version_cmp v w) then v ∷ w ∷ ws else w ∷ with_version ws v
 
 -- The one of the greater timestamp.
 abbrev pub later : Option Version → Version → Option Version

@@ -5,7 +5,7 @@ mod actor;
 mod entry;
 mod items;
 mod key;
-mod limits;
+pub mod limits;
 mod memory;
 mod span;
 mod timestamp;

@@ -31,7 +31,7 @@ use Rattle.pc_world.specs.Known.Statements.{begun_told, is_open_told}
 use Rattle.pc_world.specs.Known.Transactions.{Txn, begun}
 use Rattle.pc_world.specs.Known.Writes.{IsProvedBy}
 use Rattle.pc_world.specs.StageFate.{WasCommitRefused}
-use Rattle.pc_world.specs.Tell.Begin.{clock_now}
+use Rattle.pc_base.specs.Clock.{clock_now}
 
 pub clock-rises : (reading high : ℕ) → high < clock_now reading high
 clock-rises reading high = by (nat_lt (high / 2 ^ 32) reading) refl

@@ -7,19 +7,13 @@ use Rattle.pc_base.specs.declared.transaction.TxnId.{TxnId}
 use Rattle.pc_base.specs.Transaction.{same_txn}
 use Rattle.pc_coord.specs.Knows.Held.{IsOwnHeard, IsOwnSent, IsOwnWrite, IsPendingOf, PutsUpTo}
 use Rattle.pc_lists.proofs.Anywhere.{any_kept}
+use Rattle.pc_lists.proofs.Same.{same_txn-is}
 use Rattle.pc_proto.specs.declared.request.Request.{Request}
 use Rattle.pc_proto.specs.declared.request.Request.TheVariants as requests
 use Rattle.pc_proto.specs.Requests.{is_about, is_put_of, subject}
 use Rattle.pc_world.specs.Known.Traffic.{Heard, Sent}
 use Rattle.pc_world.specs.Known.Transactions.{Txn}
 use Rattle.pc_world.specs.StageFate.{EachCommit, EachStage, OnCommit, OnStage, Refuses, SentCommit, SentStage, WasCommitRefused}
-
--- two names that are the same are equal
-pub same-is : (one other : TxnId) → same_txn one other ≡ true → one ≡ other
-same-is one other h =
-    let session : one.session ≡ other.session = grind arith in
-    let number : one.number ≡ other.number = grind arith in
-    λ i. record { session = session i; number = number i }
 
 same-number : (one other : TxnId) → same_txn one other ≡ true → one.number ≡ other.number
 same-number one other h = eqb-true one.number other.number (and_parts (one.session == other.session) (one.number == other.number) h).1
@@ -52,7 +46,7 @@ new_puts t session last begun count sent new a =
 
 about_same : (id : TxnId) (o : Option TxnId) → option_map_or (λ other. same_txn other id) o false ≡ true → o ≡ Some id
 about_same id None e = absurd cc
-about_same id (Some other) e = ap Some (same-is other id e)
+about_same id (Some other) e = ap Some (same_txn-is other id e)
 
 -- nothing was heard of a new transaction's record
 pub new_views : (t : Txn) (session begun count : ℕ) (heard : List Heard) → t.id.session ≡ session → begun < t.id.number → All (IsOwnHeard session begun count) heard → All (IsPendingOf t) heard

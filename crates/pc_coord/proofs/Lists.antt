@@ -1,26 +1,11 @@
 -- Lists to which one more element came.
-use Rattle.std.proofs.Common.{◌≡◌, ℕ, zero, suc, ◌<◌, Bool, true, false, cond, ◌==◌, ◌||◌, inl, inr, List, [], ◌∷◌, ◌++◌, find, Some, None, refl, sym, ap, ◌∙◌, subst, arith, All}
-use Rattle.std.specs.List.{Any, list_any}
+use Rattle.std.proofs.Common.{◌≡◌, ℕ, zero, suc, ◌<◌, Bool, true, false, cond, ◌==◌, ◌||◌, inl, inr, List, [], ◌∷◌, ◌++◌, find, Some, None, refl, ap, ◌∙◌, arith, All}
+use Rattle.std.specs.List.{list_any}
 use Rattle.std.proofs.lemmas.Bool.{eq-eqb, ne_eqb}
 use Rattle.std.proofs.lemmas.List.Elements.{All-head, All-nil, All-tail}
 use Rattle.pc_world.specs.Counting.{AtLeast, LastIs}
 
 module _ {X : Type 0} (P : X → Type 0) where
-  pub any_head : (x : X) (xs : List X) → P x → Any P (x ∷ xs)
-  any_head x xs h = (0, x, omega (arith), refl, h)
-
-  pub any_later : (x : X) (xs : List X) → Any P xs → Any P (x ∷ xs)
-  any_later x xs (k, y, low, is, h) = (suc k, y, omega arith, is, h)
-
-  pub any_last : (xs : List X) (x : X) → P x → Any P (xs ++ x ∷ [])
-  any_last [] x h = any_head x [] h
-  any_last (y ∷ ys) x h = any_later y (ys ++ x ∷ []) (any_last ys x h)
-
-  pub any_kept : (xs ys : List X) → Any P xs → Any P (xs ++ ys)
-  any_kept [] ys (k, x, there, is, h) = absurd (omega arith)
-  any_kept (y ∷ xs) ys (zero, x, there, is, h) = any_head y (xs ++ ys) (subst P (sym is) h)
-  any_kept (y ∷ xs) ys (suc k, x, there, is, h) = any_later y (xs ++ ys) (any_kept xs ys (k, x, omega arith, is, h))
-
   pub at_least-kept : (n : ℕ) (xs ys : List X) → AtLeast P n xs → AtLeast P n (xs ++ ys)
   at_least-kept zero xs ys h = tt
   at_least-kept (suc n) [] ys h = absurd h
@@ -37,13 +22,6 @@ module _ {X : Type 0} (P : X → Type 0) where
   pub last-push : (Q : X → Type 0) (xs : List X) (x : X) → P x → Q x → LastIs P Q (xs ++ x ∷ [])
   last-push Q [] x p q = inr (p, q, All-nil (λ y. P y → ⊥))
   last-push Q (y ∷ ys) x p q = inl (last-push Q ys x p q)
-
-module _ {X : Type 0} (P Q : X → Type 0) where
-  -- one that is so where all are that
-  pub any_of : (xs : List X) → All P xs → Any Q xs → (x : X) × P x × Q x
-  any_of [] a (k, x, there, is, h) = absurd (omega arith)
-  any_of (y ∷ xs) a (zero, x, there, is, h) = (y, All-head P y xs a, subst Q (sym is) h)
-  any_of (y ∷ xs) a (suc k, x, there, is, h) = any_of xs (All-tail P y xs a) (k, x, omega arith, is, h)
 
 module _ {X : Type 0} (P Q : X → Type 0) (on : (x : X) → P x → Q x) where
   pub at_least-weaker : (n : ℕ) (xs : List X) → AtLeast P n xs → AtLeast Q n xs

@@ -3,14 +3,11 @@ use Rattle.std.proofs.Common.{◌≡◌, ℕ, ◌+◌, ◌≤◌, Bool, true, fa
 use Rattle.pc_base.specs.declared.transaction.TxnId.{TxnId}
 use Rattle.pc_base.specs.Transaction.{same_txn}
 use Rattle.pc_coord.specs.Rounds.{IsPaced, shows_resolve, was_met, was_pushed}
-use Rattle.pc_lists.proofs.Counts.{count-append, count-cons, one_if}
+use Rattle.pc_lists.proofs.Counts.{count-cons, count-push, one_if}
 use Rattle.pc_proto.specs.declared.meta.TxnMeta.{TxnMeta}
 use Rattle.pc_proto.specs.declared.reply.Reply.TheVariants as replies
 use Rattle.pc_world.specs.Known.{Known}
 use Rattle.pc_world.specs.Known.Traffic.{Heard}
-
-count-push : {X : Type 0} (p : X → Bool) (xs : List X) (x : X) → count_by p (xs ++ x ∷ []) ≡ count_by p xs + one_if (p x)
-count-push p xs x = count-append p xs (x ∷ []) ∙ ap (λ n. count_by p xs + n) (count-cons p x [] ∙ omega arith)
 
 kept : (p w q p2 q2 c d : ℕ) → p + w ≤ q → p2 ≡ p + c → q2 ≡ q + d → c ≤ d → p2 + w ≤ q2
 kept p w q p2 q2 c d low e f l = omega arith

@@ -1,13 +1,13 @@
 -- What a conflict's round that was made changes of what its call may do.
-use Rattle.std.proofs.Common.{◌≡◌, ℕ, ◌+◌, ◌≤◌, Bool, true, false, cond, inl, inr, List, [], ◌∷◌, ◌++◌, refl, sym, ap, ◌∙◌, subst, arith, All, Any, IsTrue, count_by}
+use Rattle.std.proofs.Common.{◌≡◌, ℕ, ◌+◌, ◌≤◌, Bool, true, false, inl, inr, List, [], ◌∷◌, ◌++◌, refl, sym, ap, ◌∙◌, subst, arith, All, Any, IsTrue, count_by}
 use Rattle.std.proofs.lemmas.List.{append_assoc}
 use Rattle.std.proofs.lemmas.List.Elements.{All-append, All-cons, All-nil}
-use Rattle.std.proofs.lemmas.List.Sums.{sum_by-append, sum_by-cons}
 use Rattle.pc_base.specs.declared.transaction.TxnId.{TxnId}
 use Rattle.pc_base.specs.Transaction.{same_txn}
 use Rattle.pc_coord.specs.Beside.{is_of_round_or_job}
 use Rattle.pc_coord.specs.Rounds.{IsPaced, IsRefusedRound, IsSettledRound, shows_resolve, was_met, was_pushed}
 use Rattle.pc_lists.proofs.Anywhere.{any_head, any_last}
+use Rattle.pc_lists.proofs.Counts.{count-append, count-cons, one_if}
 use Rattle.pc_lists.proofs.Same.{same_txn-is}
 use Rattle.pc_proto.specs.declared.fate.Fate.{Fate}
 use Rattle.pc_proto.specs.declared.meta.TxnMeta.{TxnMeta}
@@ -21,16 +21,6 @@ use Rattle.pc_world.specs.Known.Traffic.{Heard}
 use Rattle.pc_world.specs.SameRequest.{IsSameRequest}
 use Rattle.pc_world.specs.Send.Recovery.{was_refused}
 use Rattle.pc_world.specs.Send.Settling.{ResolvedTo}
-
--- One where it is so, else none.
-abbrev pub one_if : Bool → ℕ
-one_if b = cond b 1 0
-
-pub count-append : {X : Type 0} (p : X → Bool) (xs ys : List X) → count_by p (xs ++ ys) ≡ count_by p xs + count_by p ys
-count-append {X = X} p xs ys = let f : X → ℕ = λ y. one_if (p y) in sum_by-append f xs ys
-
-pub count-cons : {X : Type 0} (p : X → Bool) (x : X) (xs : List X) → count_by p (x ∷ xs) ≡ one_if (p x) + count_by p xs
-count-cons {X = X} p x xs = let f : X → ℕ = λ y. one_if (p y) in sum_by-cons f x xs
 
 push_as : (id : TxnId) (request : Request) → is_push_of id request ≡ true → (other : TxnId) → is_push_of other request ≡ same_txn id other
 push_as id (requests.Push holder by level now goal) is other = ap (λ id. same_txn id other) (same_txn-is holder.id id is)

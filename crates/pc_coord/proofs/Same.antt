@@ -1,17 +1,9 @@
 -- A transaction and a key are the same as themselves.
-use Rattle.std.proofs.Common.{◌≡◌, ℕ, Bool, true, false, cond, ◌&&◌, ◌==◌, List, refl, ap}
+use Rattle.std.proofs.Common.{◌≡◌, ℕ, Bool, true, false, cond, ◌&&◌, ◌==◌, refl, ap}
 use Rattle.std.proofs.lemmas.Bool.{eq-eqb, and_from}
-use Rattle.std.proofs.lemmas.Cmp.{nat_list_cmp_total, tied_itself}
-use Rattle.std.specs.Ordering.{is_eq}
 use Rattle.pc_base.specs.declared.transaction.TxnId.{TxnId}
-use Rattle.pc_base.specs.Span.{same_key}
 use Rattle.pc_base.specs.Transaction.{same_txn}
-
-pub same_txn-self : (id : TxnId) → same_txn id id ≡ true
-same_txn-self id = and_from (id.session == id.session) (id.number == id.number) (eq-eqb id.session id.session refl) (eq-eqb id.number id.number refl)
-
-pub same_key-self : (key : List ℕ) → same_key key key ≡ true
-same_key-self key = ap is_eq (tied_itself nat_list_cmp_total key)
+use Rattle.pc_lists.proofs.Same.{same_txn-self}
 
 pub same_epoch-self : (id : TxnId) (epoch : ℕ) → (same_txn id id && (epoch == epoch)) ≡ true
 same_epoch-self id epoch = and_from (same_txn id id) (epoch == epoch) (same_txn-self id) (eq-eqb epoch epoch refl)

@@ -6,11 +6,9 @@ use Rattle.std.proofs.lemmas.Grind.{fold-append}
 use Rattle.std.proofs.lemmas.List.Elements.{All-cons, All-head, All-nil, All-tail, All-weaker}
 use Rattle.pc_coord.proofs.Lists.{any_last_of}
 use Rattle.pc_coord.proofs.Same.{if_false, if_true}
-use Rattle.std.proofs.lemmas.Cmp.{nat_list_cmp_total, tied_itself}
-use Rattle.std.specs.Ordering.{is_lt}
 use Rattle.pc_base.specs.Span.{key_below, same_key}
 use Rattle.pc_lists.proofs.Anywhere.{any_kept, any_last}
-use Rattle.pc_lists.proofs.Same.{same_key-self}
+use Rattle.pc_lists.proofs.Same.{key_below-self, same_key-self}
 use Rattle.pc_world.specs.Known.Transactions.{with_lock}
 use Rattle.pc_world.specs.Known.Writes.{IsProvedBy, Write, asked_again, is_proved, last_seq_of, proved_at, with_put}
 
@@ -123,9 +121,6 @@ pub put-again : (seq ts : ℕ) (key : List ℕ) (value : Option (List ℕ)) (wri
     → with_put seq ts key value writes ≡ map (asked_again seq ts) writes
 put-again seq ts key value writes older last is same =
     if_true _ _ _ (ap (list_any (λ w. w.seq == seq)) is ∙ any_last_of (λ w. w.seq) seq older last same)
-
-key_below-self : (key : List ℕ) → key_below key key ≡ false
-key_below-self key = ap is_lt (tied_itself nat_list_cmp_total key)
 
 locked-at : (key lock : List ℕ) (locks : List (List ℕ)) (below same : Bool) → key_below key lock ≡ below → same_key key lock ≡ same → with_lock key (with_lock key locks) ≡ with_lock key locks
     → with_lock key (cond below (key ∷ lock ∷ locks) (cond same (lock ∷ locks) (lock ∷ with_lock key locks))) ≡ cond below (key ∷ lock ∷ locks) (cond same (lock ∷ locks) (lock ∷ with_lock key locks))

@@ -1,6 +1,7 @@
 -- What a coordinator does: how it stands after each call and reply.
 use Rattle.std.specs.Prelude.{ℕ, ◌+◌, ◌^◌, ◌<◌, max, nat_lt, find, Bool, true, false, ◌==◌, if◌then◌else◌, Option, None, Some, List}
 use Rattle.std.specs.Option.{option_and_then, option_map}
+use Rattle.pc_base.specs.declared.limits.TheConstants.{GREATEST_READING}
 use Rattle.pc_base.specs.declared.span.Span.{Span}
 use Rattle.pc_base.specs.declared.transaction.Priority.{Priority}
 use Rattle.pc_coord.specs.Coordination.{Coordination, job_of, with_begun, with_due, with_end}
@@ -28,13 +29,13 @@ use Rattle.pc_proto.specs.declared.view.View.TheVariants as views
 use Rattle.pc_proto.specs.declared.why.Why.{Why}
 use Rattle.pc_proto.specs.Replies.{view_in}
 use Rattle.pc_proto.specs.Stamps.{greatest_of, reply_stamps}
+use Rattle.pc_base.specs.Clock.{clock_now}
 use Rattle.pc_proto.specs.Views.{final_fate}
-use Rattle.pc_world.specs.Tell.Begin.{clock_now}
 
 -- After a begin: past the clock's range it is told so, else a transaction is begun at the clock's time.
 abbrev pub after_begin : Priority → ℕ → Coordination → Coordination
 after_begin priority reading c =
-    if nat_lt (2 ^ 62) reading then with_due (dues.Tell (answers.Clock reading)) c
+    if nat_lt GREATEST_READING reading then with_due (dues.Tell (answers.Clock reading)) c
     else with_begun priority reading (clock_now reading c.clock) c
 
 -- After a put, or a deletion, with this as the open transaction.

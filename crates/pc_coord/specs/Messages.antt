@@ -2,6 +2,7 @@
 use Rattle.std.specs.Prelude.{ℕ, ◌+◌, Bool, true, false, ◌==◌, cond, if◌then◌else◌, nat_le, nat_lt, Option, None, Some, List, [], ◌∷◌, find, map}
 use Rattle.std.specs.List.{flat_map, list_all, list_any}
 use Rattle.std.specs.Option.{option_and_then}
+use Rattle.pc_base.specs.declared.limits.TheConstants.{MOST_CONFLICTS}
 use Rattle.pc_base.specs.declared.transaction.TxnId.{TxnId}
 use Rattle.pc_coord.specs.declared.due.Due.{Due}
 use Rattle.pc_coord.specs.declared.due.Due.TheVariants as dues
@@ -17,7 +18,8 @@ use Rattle.pc_proto.specs.declared.reply.Reply.{Reply}
 use Rattle.pc_proto.specs.declared.reply.Reply.TheVariants as replies
 use Rattle.pc_proto.specs.declared.request.Request.{Request}
 use Rattle.pc_proto.specs.declared.request.Request.TheVariants as requests
-use Rattle.pc_proto.specs.Replies.{is_conflict}
+use Rattle.pc_proto.specs.Replies.{holder_in, is_conflict}
+use Rattle.pc_proto.specs.Requests.{is_scan}
 use Rattle.pc_world.specs.Tell.Data.{told_row}
 
 module _ {X : Type 0} (test : X → Bool) (change : X → X) where
@@ -96,7 +98,7 @@ sent_as number m = record m { progress = progresses.Sent number }
 
 -- One conflict more, counted up to the eighth.
 abbrev pub one_more : ℕ → ℕ
-one_more conflicts = if nat_lt conflicts 8 then conflicts + 1 else 8
+one_more conflicts = if nat_lt conflicts MOST_CONFLICTS then conflicts + 1 else MOST_CONFLICTS
 
 abbrev pub met_or_heard : Bool → ℕ → Reply → Message → Message
 met_or_heard true number reply m = record m { conflicts = one_more m.conflicts; progress = progresses.Met number reply }
@@ -136,11 +138,6 @@ next_by (Some m) unsent = next_of_met m.request m.progress
 abbrev pub next_in : List Message → Next
 next_in messages = next_by (first_met messages) (find is_unsent messages)
 
--- Whose intent stood in the way, where the reply is a conflict.
-abbrev pub holder_in : Reply → Option TxnId
-holder_in (replies.Conflict holder ts key) = Some holder.id
-holder_in _ = None
-
 -- Whose intent the message met, where its round is still to be made.
 abbrev pub holder_met : Progress → Option TxnId
 holder_met (progresses.Met number conflict) = holder_in conflict
@@ -148,7 +145,7 @@ holder_met _ = None
 
 -- The holder that blocks the message: that of the intent which it met, where it has met as many as it may.
 abbrev pub blocked_by : Message → Option TxnId
-blocked_by m = if nat_le 8 m.conflicts then holder_met m.progress else None
+blocked_by m = if nat_le MOST_CONFLICTS m.conflicts then holder_met m.progress else None
 
 abbrev pub rows_heard : Progress → List (List ℕ × Origin × List ℕ)
 rows_heard (progresses.Heard (replies.Rows rows)) = rows
@@ -157,10 +154,6 @@ rows_heard _ = []
 abbrev pub are_rows_heard : Progress → Bool
 are_rows_heard (progresses.Heard (replies.Rows rows)) = true
 are_rows_heard _ = false
-
-abbrev pub is_scan : Request → Bool
-is_scan (requests.Scan id epoch seq ts span) = true
-is_scan _ = false
 
 -- The message is a piece of a scan, and its rows were heard.
 abbrev pub has_rows : Message → Bool

@@ -1,5 +1,5 @@
 -- The rounds of the conflicts of an open call: how many there may be, and how each ends.
-use Rattle.std.specs.Prelude.{◌≡◌, ℕ, ◌+◌, ◌≤◌, Bool, false, Some, List, [], ◌∷◌, ◌++◌, count_by, IsTrue}
+use Rattle.std.specs.Prelude.{◌≡◌, ℕ, ◌+◌, ◌≤◌, Bool, Some, List, [], ◌∷◌, ◌++◌, count_by, IsTrue}
 use Rattle.pc_base.specs.declared.transaction.TxnId.{TxnId}
 use Rattle.pc_base.specs.Transaction.{same_txn}
 use Rattle.pc_coord.specs.declared.round.Round.{Round}
@@ -8,11 +8,9 @@ use Rattle.pc_proto.specs.declared.fate.Fate.{Fate}
 use Rattle.pc_proto.specs.declared.fate.Goal.{Goal}
 use Rattle.pc_proto.specs.declared.reply.Reply.{Reply}
 use Rattle.pc_proto.specs.declared.reply.Reply.TheVariants as replies
-use Rattle.pc_proto.specs.declared.request.Request.{Request}
-use Rattle.pc_proto.specs.declared.request.Request.TheVariants as requests
 use Rattle.pc_proto.specs.declared.view.View.{View}
 use Rattle.pc_proto.specs.Replies.{is_conflict_with}
-use Rattle.pc_proto.specs.Requests.{goal_in, is_push_of}
+use Rattle.pc_proto.specs.Requests.{goal_in, is_push_of, is_resolve_of}
 use Rattle.pc_proto.specs.Views.{fate_after}
 use Rattle.pc_world.specs.Known.{Known}
 use Rattle.pc_world.specs.Known.Traffic.{Heard}
@@ -23,11 +21,6 @@ use Rattle.pc_world.specs.Tell.Refusal.{WasLost}
 -- A push of this transaction was heard.
 abbrev pub was_pushed : TxnId → Heard → Bool
 was_pushed id h = is_push_of id h.request
-
--- The request resolves an intent of this transaction.
-abbrev pub is_resolve_of : TxnId → Request → Bool
-is_resolve_of id (requests.Resolve other key fate) = same_txn other id
-is_resolve_of id _ = false
 
 -- A resolve of an intent of this transaction was heard.
 abbrev pub shows_resolve : TxnId → Heard → Bool

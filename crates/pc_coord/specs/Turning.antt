@@ -1,6 +1,7 @@
 -- What becomes of the open transaction, and what is due, by each call and reply.
 use Rattle.std.specs.Prelude.{ℕ, nat_le, nat_lt, Bool, true, false, Option, None, Some, List, if◌then◌else◌}
 use Rattle.std.specs.Option.{option_map}
+use Rattle.pc_base.specs.declared.limits.TheConstants.{MOST_CONFLICTS, MOST_REFUSALS}
 use Rattle.pc_coord.specs.Coordination.{abort_due, commit_due, put_due}
 use Rattle.pc_coord.specs.declared.due.Due.{Due}
 use Rattle.pc_coord.specs.declared.due.Due.TheVariants as dues
@@ -64,7 +65,7 @@ txn_of_written again ts (Some x) = Some (landed_txn again ts x.in_flight x)
 -- What is due once a put met so many intents, the last one of this holder: the conflict's round, or the call is blocked.
 abbrev pub met_due : ℕ → ℕ → Bool → Reply → TxnId → Due
 met_due number conflicts again reply holder =
-    if nat_le 8 conflicts then dues.Tell (answers.Blocked holder) else dues.Met number reply conflicts again
+    if nat_le MOST_CONFLICTS conflicts then dues.Tell (answers.Blocked holder) else dues.Met number reply conflicts again
 
 abbrev pub due_of_holder : ℕ → ℕ → Bool → Reply → Option TxnId → Due
 due_of_holder number conflicts again reply None = dues.Stuck
@@ -163,8 +164,8 @@ cause_of reply = cause_in (view_in reply)
 
 -- What is due after so many refusals: the commit is tried again, or given up.
 abbrev pub due_of_retry : ℕ → ℕ → Option Transaction → Due
-due_of_retry recorded refusals txn = if nat_lt refusals 8 then due_of_commit refusals txn else dues.Tell (answers.Moved recorded)
+due_of_retry recorded refusals txn = if nat_lt refusals MOST_REFUSALS then due_of_commit refusals txn else dues.Tell (answers.Moved recorded)
 
 -- The transaction after so many refusals.
 abbrev pub txn_of_retry : ℕ → Option Transaction → Option Transaction
-txn_of_retry refusals txn = if nat_lt refusals 8 then option_map refreshed txn else txn
+txn_of_retry refusals txn = if nat_lt refusals MOST_REFUSALS then option_map refreshed txn else txn

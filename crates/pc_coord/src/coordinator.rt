@@ -18,7 +18,7 @@ ghost use Rattle.pc_proto.specs.declared.fate.Fate.TheVariants as fates;
 ghost use Rattle.pc_proto.specs.declared.reply.Reply.{Reply};
 ghost use Rattle.pc_proto.specs.declared.request.Request.{Request};
 ghost use Rattle.pc_world.specs.Known.{Known, learn, nothing_known};
-ghost use Rattle.pc_world.specs.Tell.Begin.{clock_now};
+ghost use Rattle.pc_base.specs.Clock.{clock_now};
 
 use crate::due::{Due, Wait};
 use crate::job::Job;

@@ -1,5 +1,4 @@
 pub mod Ids
-pub mod Lists
 pub mod Histories
 pub mod Counts
 pub mod Uses

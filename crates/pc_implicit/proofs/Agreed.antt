@@ -352,7 +352,7 @@ unended-after k (events.Tell (answers.Unknown id)) h unended = tt
 unended-after k (events.Tell answer) h unended = unended-first answer (replies_to k.sent_now k.heard_now) (λ t. refl) k.is_open k.txns unended
 unended-after k event h unended = unended
 
-begun-grows : (event : Event) (n : ℕ) → n ≤ begun_after event n
+pub begun-grows : (event : Event) (n : ℕ) → n ≤ begun_after event n
 begun-grows (events.Tell (answers.Begun id ts)) n = omega arith
 begun-grows (events.Tell answer) n = omega arith
 begun-grows event n = omega arith

@@ -1,7 +1,6 @@
 -- In a run each put and commit is sent by its transaction's session, with its transaction's anchor.
 use Rattle.std.proofs.Common.{◌≡◌, ℕ, ◌+◌, if◌then◌else◌, List, [], ◌∷◌, ◌++◌, Option, None, Some, unwrap_or, Contains, inl, inr, refl, sym, ap, subst, ◌∙◌}
-use Rattle.std.proofs.lemmas.List.Elements.{All-contains, All-from_recursion, Contains-push_cases}
-use Rattle.std.specs.List.{AllByRecursion as Each}
+use Rattle.std.proofs.lemmas.List.Elements.{Contains-push_cases}
 use Rattle.std.specs.Option.{option_or}
 use Rattle.std.specs.Prelude.{⊤}
 use Rattle.pc_base.specs.declared.actor.ActorId.{ActorId}
@@ -12,6 +11,7 @@ use Rattle.pc_history.specs.Own.{named_in, own}
 use Rattle.pc_implicit.proofs.Agreed.{Agrees, Knows, agreed, open_there, owned, says_own}
 use Rattle.pc_implicit.proofs.Doing.{Does, does}
 use Rattle.pc_implicit.proofs.Firsts.{first_push}
+use Rattle.pc_lists.proofs.Each.{each-contains}
 use Rattle.pc_lists.proofs.Lists.{contains_nil}
 use Rattle.pc_lists.proofs.Same.{same_txn-self}
 use Rattle.pc_proto.specs.declared.event.Event.{Event}
@@ -27,9 +27,6 @@ use Rattle.pc_world.specs.Local.{Head}
 use Rattle.pc_world.specs.RangeOf.{range_of}
 use Rattle.pc_world.specs.Run.{IsRun, protocol}
 use Rattle.pc_world.specs.Send.Put.{MaySendPut}
-
-pub each_contained : {X : Type 0} (P : X → Type 0) (xs : List X) (x : X) → Each P xs → Contains xs x → P x
-each_contained P xs x each there = All-contains P xs x (All-from_recursion P xs each) there
 
 -- an anchor stays
 pub anchor_stays : (id : TxnId) (history : List (Entry Event)) (e : Entry Event) (anchor : List ℕ) → anchor_in id history ≡ Some anchor → anchor_in id (history ++ e ∷ []) ≡ Some anchor
@@ -63,7 +60,7 @@ or-unwrap (Some anchor) key = refl
 module _ (head : Head) (history : List (Entry Event)) (e : Entry Event) (k : Known) (knows : Knows history e.actor k) where
   pub meta-anchored : (t : Txn) (meta : TxnMeta) → Contains k.txns t → IsMetaOf t meta → anchor_in meta.id history ≡ Some meta.anchor
   meta-anchored t meta mine whose =
-      let agrees : Agrees history t = each_contained (Agrees history) k.txns t knows.agrees mine in
+      let agrees : Agrees history t = each-contains (Agrees history) k.txns t knows.agrees mine in
       ap (λ (m : TxnMeta). anchor_in m.id history) whose.same ∙ agrees.anchor ∙ whose.anchored
 
   put-anchored : (number range : ℕ) (meta : TxnMeta) (seq ts : ℕ) (key : List ℕ) (value : Option (List ℕ)) → e.event ≡ events.Send number range (requests.Put meta seq ts key value)
@@ -71,7 +68,7 @@ module _ (head : Head) (history : List (Entry Event)) (e : Entry Event) (k : Kno
   put-anchored number range meta seq ts key value is may =
       elim may [
         | inl f ↦
-            let agrees : Agrees history f.t = each_contained (Agrees history) k.txns f.t knows.agrees (open_there k f.t f.opened) in
+            let agrees : Agrees history f.t = each-contains (Agrees history) k.txns f.t knows.agrees (open_there k f.t f.opened) in
             let before : anchor_in meta.id history ≡ f.t.anchor = ap (λ (m : TxnMeta). anchor_in m.id history) f.whose ∙ agrees.anchor in
             let sends : key_sent meta.id e.event ≡ Some key = ap (key_sent meta.id) is ∙ ap (λ b. if b then Some key else None) (same_txn-self meta.id) in
             first_push (λ x. key_sent meta.id x.event) history e ∙ ap (λ o. option_or o (key_sent meta.id e.event)) before ∙ ap (option_or f.t.anchor) sends ∙ or-unwrap f.t.anchor key

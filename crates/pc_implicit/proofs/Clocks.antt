@@ -54,7 +54,7 @@ use Rattle.pc_world.specs.Local.{Head}
 use Rattle.pc_world.specs.MayTell.{MayTellRow}
 use Rattle.pc_world.specs.Named.{is_tell}
 use Rattle.pc_world.specs.Run.{IsRun, protocol}
-use Rattle.pc_world.specs.Tell.Begin.{clock_now}
+use Rattle.pc_base.specs.Clock.{clock_now}
 use Rattle.pc_world.specs.Tell.End.{shows_staging}
 use Rattle.pc_world.specs.Views.{WasCommitted}
 

@@ -10,7 +10,7 @@ use Rattle.pc_base.specs.declared.transaction.TxnId.{TxnId}
 use Rattle.pc_base.specs.Transaction.{same_txn}
 use Rattle.pc_history.specs.History.{MayFollow}
 use Rattle.pc_history.specs.Own.{named_in}
-use Rattle.pc_implicit.proofs.Agreed.{AreNumbered, IsOwn, SaysOwn, agreed, begun_next, says_own}
+use Rattle.pc_implicit.proofs.Agreed.{AreNumbered, IsOwn, SaysOwn, agreed, begun-grows, begun_next, says_own}
 use Rattle.pc_implicit.proofs.Commits.{act_of}
 use Rattle.pc_implicit.proofs.Doing.{Does, same_or_not}
 use Rattle.pc_implicit.proofs.Doings.{IsCallOf, call-after, doing-other, doing-same, doing_at}
@@ -109,11 +109,6 @@ module _ (actor : ActorId) (id : TxnId) where
       ap (λ b. if b then done_told answer d.call d.done else d.done) (first ∙ not-first (k.begun + 1) k.txns numbered (let low : k.begun < id.number = fresh in omega (arith, low)))
       ∙ none
   fresh-after k event d numbered says first after fresh none = none
-
-pub begun-grows : (event : Event) (n : ℕ) → n ≤ begun_after event n
-begun-grows (events.Tell (answers.Begun id ts)) n = omega arith
-begun-grows (events.Tell answer) n = omega arith
-begun-grows event n = omega arith
 
 begun-writes : (s : Option Statement) (id : TxnId) (ts : ℕ) → IsListed (txn_begun s id ts) []
 begun-writes None id ts = record { same = refl; rise = tt }

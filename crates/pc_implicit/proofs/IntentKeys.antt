@@ -4,34 +4,19 @@ use Rattle.std.proofs.lemmas.Cmp.{nat_list_cmp_total, tied_itself}
 use Rattle.std.proofs.lemmas.List.Elements.{All-from_recursion, recursion_from_All}
 use Rattle.std.proofs.lemmas.List.Kept.{AllPairs-cons}
 use Rattle.std.proofs.lemmas.Map.Lookups.{exact_bytes}
+use Rattle.std.specs.BTreeMap.{insert_entry}
 use Rattle.std.specs.Cmp.Lexicographic.{slice_cmp}
+use Rattle.std.specs.List.Sorted.{IsStrictlySortedBy}
+use Rattle.std.specs.Map.{keys_of}
 use Rattle.std.specs.declared.cmp.Ordering.{Ordering}
 use Rattle.std.specs.declared.cmp.Ordering.TheVariants as orderings
 use Rattle.std.specs.List.{AllByRecursion as Each, AllPairs}
 use Rattle.std.specs.Option.{option_map}
-use Rattle.std.specs.Ordering.{is_eq, nat_cmp}
-use Rattle.pc_base.specs.Keyed.{at, set_at, without}
+use Rattle.std.specs.Ordering.{is_eq, match_ordering, nat_cmp}
+use Rattle.pc_base.specs.Keyed.{at, without}
 use Rattle.pc_base.specs.Span.{same_key}
-
-equal-only : (o : Ordering) → is_eq o ≡ true → o ≡ orderings.Equal
-equal-only orderings.Less h = absurd cc
-equal-only orderings.Equal h = refl
-equal-only orderings.Greater h = absurd cc
-
--- the test of two keys tells whether they are one
-pub same_key-is : (one other : List ℕ) → same_key one other ≡ true → one ≡ other
-same_key-is one other h = exact_bytes one other (equal-only (slice_cmp nat_cmp one other) h)
-
-pub same_key-equal : (one other : List ℕ) → one ≡ other → same_key one other ≡ true
-same_key-equal one other h = subst (λ k. same_key one k ≡ true) h (ap is_eq (tied_itself nat_list_cmp_total one))
-
-pub same_key-differs : (one other : List ℕ) → same_key one other ≡ false → one ≢ other
-same_key-differs one other h same = let is : same_key one other ≡ true = same_key-equal one other same in absurd cc
-
--- What is so of each one for two reasons.
-pub each-both : {X : Type 0} (P Q S : X → Type 0) → ((x : X) → P x → Q x → S x) → (xs : List X) → Each P xs → Each Q xs → Each S xs
-each-both P Q S on [] a b = tt
-each-both P Q S on (x ∷ xs) a b = (on x a.0 b.0, each-both P Q S on xs a.1 b.1)
+use Rattle.pc_lists.proofs.Each.{each-both}
+use Rattle.pc_lists.proofs.Same.{same_key-differs, same_key-equal, same_key-is}
 
 module _ {X : Type 0} (R : X → X → Type 0) where
   pub pairs-none : AllPairs R []
@@ -45,13 +30,15 @@ module _ {X : Type 0} (R : X → X → Type 0) where
 
 module _ {V : Type 0} (P : List ℕ × V → Type 0) (key : List ℕ) where
   -- where the value may stand under the key
-  pub each-laid : (value : V) (es : List (List ℕ × V)) → ((k : List ℕ) → k ≡ key → P (k, value)) → Each P es → Each P (set_at same_key key value es)
+  pub each-laid : (value : V) (es : List (List ℕ × V)) → ((k : List ℕ) → k ≡ key → P (k, value)) → Each P es → Each P (insert_entry (slice_cmp nat_cmp) es key value)
   each-laid value [] h a = (h key refl, tt)
-  each-laid value (e ∷ es) h a = by (same_key e.0 key) refl (each-laid value es h a.1)
+  each-laid value (e ∷ es) h a = by (slice_cmp nat_cmp key e.0) refl (each-laid value es h a.1)
     where
-      by : (b : Bool) → same_key e.0 key ≡ b → Each P (set_at same_key key value es) → Each P (cond b ((e.0, value) ∷ es) (e ∷ set_at same_key key value es))
-      by true is rest = (h e.0 (same_key-is e.0 key is), a.1)
-      by false is rest = (a.0, rest)
+      by : (o : Ordering) → slice_cmp nat_cmp key e.0 ≡ o → Each P (insert_entry (slice_cmp nat_cmp) es key value)
+          → Each P (match_ordering o ((key, value) ∷ e ∷ es) ((e.0, value) ∷ es) (e ∷ insert_entry (slice_cmp nat_cmp) es key value))
+      by orderings.Less is rest = (h key refl, a)
+      by orderings.Equal is rest = (h e.0 (sym (exact_bytes key e.0 is)), a.1)
+      by orderings.Greater is rest = (a.0, rest)
 
   -- what is found under the key
   pub each-found : (value : V) (es : List (List ℕ × V)) → at same_key key es ≡ Some value → Each P es → P (key, value)
@@ -65,15 +52,8 @@ module _ {V : Type 0} (P : List ℕ × V → Type 0) (key : List ℕ) where
       by false is found rest = rest found
 
   -- where the value takes the place of one of which it is so
-  pub each-replaced : (old new : V) (es : List (List ℕ × V)) → at same_key key es ≡ Some old → ((k : List ℕ) → P (k, old) → P (k, new)) → Each P es → Each P (set_at same_key key new es)
-  each-replaced old new [] there on a = absurd cc
-  each-replaced old new (e ∷ es) there on a = by (same_key e.0 key) there (λ later. each-replaced old new es later on a.1)
-    where
-      by : (b : Bool) → option_map (λ e. e.1) (cond b (Some e) (find (λ e. same_key e.0 key) es)) ≡ Some old → (at same_key key es ≡ Some old → Each P (set_at same_key key new es)) → Each P (cond b ((e.0, new) ∷ es) (e ∷ set_at same_key key new es))
-      by true found rest =
-          let same : e.1 ≡ old = cc in
-          (on e.0 (subst (λ v. P (e.0, v)) same a.0), a.1)
-      by false found rest = (a.0, rest found)
+  pub each-replaced : (old new : V) (es : List (List ℕ × V)) → at same_key key es ≡ Some old → ((k : List ℕ) → P (k, old) → P (k, new)) → Each P es → Each P (insert_entry (slice_cmp nat_cmp) es key new)
+  each-replaced old new es there on a = each-laid new es (λ k same. on k (subst (λ k. P (k, old)) (sym same) (each-found old es there a))) a
 
   -- what is left stands under other keys
   pub each-left : (Q : List ℕ × V → Type 0) → ((e : List ℕ × V) → e.0 ≢ key → P e → Q e) → (es : List (List ℕ × V)) → Each P es → Each Q (without same_key key es)
@@ -88,22 +68,18 @@ module _ {V : Type 0} (P : List ℕ × V → Type 0) (key : List ℕ) where
 abbrev pub Differ : {V : Type 0} → List ℕ × V → List ℕ × V → Type 0
 Differ e f = e.0 ≢ f.0
 
+apart-after : {V : Type 0} (k : List ℕ) (es : List (List ℕ × V)) → Each (λ l. slice_cmp nat_cmp k l ≡ orderings.Less) (keys_of es) → Each (λ e. k ≢ e.0) es
+apart-after k [] a = tt
+apart-after k (e ∷ es) a = (λ same. let itself : slice_cmp nat_cmp k e.0 ≡ orderings.Equal = subst (λ l. slice_cmp nat_cmp k l ≡ orderings.Equal) same (tied_itself nat_list_cmp_total k) in let both = sym itself ∙ a.0 in absurd cc, apart-after k es a.1)
+
+-- keys that rise differ
+pub differ-rising : {V : Type 0} (es : List (List ℕ × V)) → IsStrictlySortedBy (slice_cmp nat_cmp) (keys_of es) → AllPairs Differ es
+unfolding IsStrictlySortedBy
+differ-rising [] sorted = pairs-none Differ
+differ-rising (e ∷ es) sorted =
+    AllPairs-cons Differ e es (All-from_recursion (Differ e) es (apart-after e.0 es sorted.0)) (differ-rising es sorted.1)
+
 module _ {V : Type 0} (key : List ℕ) where
-  -- keys still differ
-  pub differ-laid : (value : V) (es : List (List ℕ × V)) → AllPairs Differ es → AllPairs Differ (set_at same_key key value es)
-  differ-laid value [] h = AllPairs-cons Differ (key, value) [] (λ k d inside. absurd (omega arith)) h
-  differ-laid value (e ∷ es) h = by (same_key e.0 key) refl (differ-laid value es (pairs-rest Differ e es h))
-    where
-      first : Each (Differ e) es
-      first = recursion_from_All (Differ e) es (pairs-first Differ e es h)
-
-      by : (b : Bool) → same_key e.0 key ≡ b → AllPairs Differ (set_at same_key key value es) → AllPairs Differ (cond b ((e.0, value) ∷ es) (e ∷ set_at same_key key value es))
-      by true is rest = AllPairs-cons Differ (e.0, value) es (pairs-first Differ e es h) (pairs-rest Differ e es h)
-      by false is rest =
-          AllPairs-cons Differ e (set_at same_key key value es)
-          (All-from_recursion (Differ e) (set_at same_key key value es)
-          (each-laid (Differ e) key value es (λ k same both. same_key-differs e.0 key is (both ∙ same)) first)) rest
-
   -- where keys differ, what stands under the key is found there
   pub differ-found : (es : List (List ℕ × V)) → AllPairs Differ es → Each (λ e. e.0 ≡ key → at same_key key es ≡ Some e.1) es
   differ-found [] h = tt

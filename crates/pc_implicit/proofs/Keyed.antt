@@ -1,26 +1,19 @@
 -- What stands under a key after a value was put under one, or under one nothing stands any more.
-use Rattle.std.proofs.Common.{◌≡◌, true, false, List, [], ◌∷◌, None, Some, refl, arith}
+use Rattle.std.proofs.Common.{◌≡◌, true, false, cond, List, [], ◌∷◌, None, Some, refl, ap, ◌∙◌, arith}
+use Rattle.std.specs.BTreeMap.{insert_entry}
+use Rattle.pc_base.proofs.Entries.{at_inserted}
+use Rattle.pc_base.proofs.TxnOrder.{txn_equal, txn_total}
 use Rattle.pc_base.specs.declared.transaction.TxnId.{TxnId}
-use Rattle.pc_base.specs.Keyed.{at, set_at, without}
-use Rattle.pc_base.specs.Transaction.{same_txn}
-
-pub same-itself : (id : TxnId) → same_txn id id ≡ true
-same-itself id = grind arith
-
-pub same-is : (one other : TxnId) → same_txn one other ≡ true → one ≡ other
-same-is one other h =
-    let session : one.session ≡ other.session = grind arith in
-    let number : one.number ≡ other.number = grind arith in
-    λ i. record { session = session i; number = number i }
+use Rattle.pc_base.specs.Keyed.{at, without}
+use Rattle.pc_base.specs.Transaction.{same_txn, txn_cmp}
+use Rattle.pc_lists.proofs.Same.{same_txn-is, same_txn-self}
 
 module _ {V : Type 0} where
-  pub at_set_at : (id : TxnId) (value : V) (entries : List (TxnId × V)) → at same_txn id (set_at same_txn id value entries) ≡ Some value
-  at_set_at id value [] = grind (arith, same-itself)
-  at_set_at id value (e ∷ es) = grind (arith, at_set_at id value es)
+  pub at_set_at : (id : TxnId) (value : V) (entries : List (TxnId × V)) → at same_txn id (insert_entry txn_cmp entries id value) ≡ Some value
+  at_set_at id value entries = at_inserted txn_total same_txn txn_equal id id value entries ∙ ap (λ b. cond b (Some value) (at same_txn id entries)) (same_txn-self id)
 
-  pub at_set_other : (id other : TxnId) (value : V) (entries : List (TxnId × V)) → same_txn id other ≡ false → at same_txn other (set_at same_txn id value entries) ≡ at same_txn other entries
-  at_set_other id other value [] h = grind arith
-  at_set_other id other value (e ∷ es) h = grind (arith, at_set_other id other value es h, same-is)
+  pub at_set_other : (id other : TxnId) (value : V) (entries : List (TxnId × V)) → same_txn id other ≡ false → at same_txn other (insert_entry txn_cmp entries id value) ≡ at same_txn other entries
+  at_set_other id other value entries h = at_inserted txn_total same_txn txn_equal id other value entries ∙ ap (λ b. cond b (Some value) (at same_txn other entries)) h
 
   pub at_without : (id : TxnId) (entries : List (TxnId × V)) → at same_txn id (without same_txn id entries) ≡ None
   at_without id [] = refl
@@ -28,4 +21,4 @@ module _ {V : Type 0} where
 
   pub at_without_other : (id other : TxnId) (entries : List (TxnId × V)) → same_txn id other ≡ false → at same_txn other (without same_txn id entries) ≡ at same_txn other entries
   at_without_other id other [] h = refl
-  at_without_other id other (e ∷ es) h = grind (arith, at_without_other id other es h, same-is)
+  at_without_other id other (e ∷ es) h = grind (arith, at_without_other id other es h, same_txn-is)

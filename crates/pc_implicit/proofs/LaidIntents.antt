@@ -1,9 +1,12 @@
 -- Where a put lays its intent, and which version a resolve makes of an intent.
 use Rattle.std.proofs.Common.{◌≡◌, ℕ, ◌≤◌, max, Bool, true, false, ◌==◌, if◌then◌else◌, List, [], ◌∷◌, ◌⊎◌, inl, inr, Option, None, Some, refl, ap, subst, ◌∙◌, arith}
+use Rattle.std.specs.BTreeMap.{insert_entry}
+use Rattle.std.specs.Cmp.Lexicographic.{slice_cmp}
 use Rattle.std.specs.Option.{option_map_or}
+use Rattle.std.specs.Ordering.{nat_cmp}
 use Rattle.pc_base.specs.Bound.{free_from}
 use Rattle.pc_base.specs.declared.transaction.TxnId.{TxnId}
-use Rattle.pc_base.specs.Keyed.{set_at, without}
+use Rattle.pc_base.specs.Keyed.{without}
 use Rattle.pc_base.specs.Span.{same_key}
 use Rattle.pc_base.specs.Transaction.{same_txn}
 use Rattle.pc_base.specs.Versions.{above_newest}
@@ -49,7 +52,7 @@ laid-lands meta seq ts key value (Some i) s mine = by (i.meta.epoch == meta.epoc
 
 -- what is so of the intents, and after each that lands there, is so after a put
 pub put-intents : (Q : List (List ℕ × Intent) → Type 0) (meta : TxnMeta) (seq ts : ℕ) (key : List ℕ) (value : Option (List ℕ)) (s : RangeState)
-    → ((i : Intent) → LandsAt meta key s i → Q (set_at same_key key i s.intents)) → Q s.intents → Q (intents_with key (put_change (outcome_of_put meta seq ts key value s)) s.intents)
+    → ((i : Intent) → LandsAt meta key s i → Q (insert_entry (slice_cmp nat_cmp) s.intents key i)) → Q s.intents → Q (intents_with key (put_change (outcome_of_put meta seq ts key value s)) s.intents)
 put-intents Q meta seq ts key value s lays stays = by (other_at meta.id key s.intents) (own_at meta.id key s.intents) (λ i there. (own-there meta.id key s.intents i there).1)
   where
     lands : (b : Bool) (at : ℕ) (i : Intent) → LandsAt meta key s i → Q (intents_with key (put_change (if b then Stands at else Lands i)) s.intents)
@@ -62,7 +65,7 @@ put-intents Q meta seq ts key value s lays stays = by (other_at meta.id key s.in
 
 -- what is so of the intents, without those at the key, and where one there was moved up, is so after a resolve
 pub resolve-intents : (Q : List (List ℕ × Intent) → Type 0) (id : TxnId) (key : List ℕ) (fate : Fate) (es : List (List ℕ × Intent)) → Q es → Q (without same_key key es)
-    → ((i : Intent) (ts : ℕ) → own_at id key es ≡ Some i → Q (set_at same_key key (record i { ts = max i.ts ts }) es)) → Q (intents_with key (change_for fate (own_at id key es)) es)
+    → ((i : Intent) (ts : ℕ) → own_at id key es ≡ Some i → Q (insert_entry (slice_cmp nat_cmp) es key (record i { ts = max i.ts ts }))) → Q (intents_with key (change_for fate (own_at id key es)) es)
 resolve-intents Q id key fate es stays drops moves = by fate (own_at id key es) refl
   where
     by : (fate : Fate) (own : Option Intent) → own_at id key es ≡ own → Q (intents_with key (change_for fate own) es)

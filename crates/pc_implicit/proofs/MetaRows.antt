@@ -2,17 +2,17 @@
 use Rattle.std.proofs.Common.{ℕ, Bool, true, false, ◌&&◌, ◌==◌, not, nat_le, if◌then◌else◌, List, [], ◌∷◌, filter, fold, map, Option, None, Some, IfSome}
 use Rattle.std.specs.BTreeMap.{insert_entry}
 use Rattle.std.specs.declared.cmp.Ordering.{Ordering}
-use Rattle.std.specs.declared.cmp.Ordering.TheVariants.{Less, Equal, Greater}
 use Rattle.std.specs.List.{AllByRecursion as Each}
 use Rattle.std.specs.Option.{option_map_or}
-use Rattle.std.specs.Ordering.{match_ordering}
+use Rattle.std.specs.Cmp.Lexicographic.{slice_cmp}
+use Rattle.std.specs.Ordering.{nat_cmp}
 use Rattle.std.specs.Prelude.{⊤}
 use Rattle.pc_base.specs.declared.transaction.TxnId.{TxnId}
 use Rattle.pc_base.specs.declared.transaction.Who.{Who}
 use Rattle.pc_base.specs.Keyed.{at, in_order}
 use Rattle.pc_base.specs.Span.{contains, key_below, same_key}
 use Rattle.pc_base.specs.Transaction.{same_txn, txn_cmp}
-use Rattle.pc_lists.proofs.Each.{each-at, each-choose, each-filter, each-set_at, each-without}
+use Rattle.pc_lists.proofs.Each.{each-at, each-choose, each-filter, each-insert, each-without}
 use Rattle.pc_proto.specs.declared.fate.Fate.{Fate}
 use Rattle.pc_proto.specs.declared.fate.Fate.TheVariants as fates
 use Rattle.pc_proto.specs.declared.fate.Finding.{Finding}
@@ -92,18 +92,9 @@ some-kept P test (Some x) h = by (test x)
     by false = tt
 
 module _ {K V : Type 0} (P : V → Type 0) (cmp : K → K → Ordering) where
-  each-insert : (key : K) (value : V) (entries : List (K × V)) → P value → Each (λ e. P e.1) entries → Each (λ e. P e.1) (insert_entry cmp entries key value)
-  each-insert key value [] h a = (h, tt)
-  each-insert key value (e ∷ es) h a = by (cmp key e.0) (each-insert key value es h a.1)
-    where
-      by : (o : Ordering) → Each (λ e. P e.1) (insert_entry cmp es key value) → Each (λ e. P e.1) (match_ordering o ((key, value) ∷ e ∷ es) ((e.0, value) ∷ es) (e ∷ insert_entry cmp es key value))
-      by Less rest = (h, a)
-      by Equal rest = (h, a.1)
-      by Greater rest = (a.0, rest)
-
   each-ordered : (sorted entries : List (K × V)) → Each (λ e. P e.1) sorted → Each (λ e. P e.1) entries → Each (λ e. P e.1) (fold (λ (sorted : List (K × V)) (e : K × V). insert_entry cmp sorted e.0 e.1) sorted entries)
   each-ordered sorted [] a b = a
-  each-ordered sorted (e ∷ es) a b = each-ordered (insert_entry cmp sorted e.0 e.1) es (each-insert e.0 e.1 sorted b.0 a) b.1
+  each-ordered sorted (e ∷ es) a b = each-ordered (insert_entry cmp sorted e.0 e.1) es (each-insert P cmp e.0 e.1 sorted b.0 a) b.1
 
 module _ (Has : TxnId → List ℕ → Type 0) where
   Own : Intent → Type 0
@@ -122,7 +113,7 @@ module _ (Has : TxnId → List ℕ → Type 0) where
   with-change : (key : List ℕ) (c : IntentChange) (intents : List (List ℕ × Intent)) → Lays c → Each (λ e. MetaHas Has e.1.meta) intents → Each (λ e. MetaHas Has e.1.meta) (intents_with key c intents)
   unfolding Lays Own
   with-change key Leave intents h a = a
-  with-change key (Lay i) intents h a = each-set_at Own same_key key i intents h a
+  with-change key (Lay i) intents h a = each-insert Own (slice_cmp nat_cmp) key i intents h a
   with-change key Drop intents h a = each-without Own same_key key intents a
 
   laid-has : (meta : TxnMeta) (seq ts : ℕ) (value : Option (List ℕ)) (own : Option Intent) → MetaHas Has meta → IfSome own Own → Own (laid meta seq ts value own)
@@ -237,7 +228,7 @@ module _ (Has : TxnId → List ℕ → Type 0) where
   records-with : (id : TxnId) (c : Change) (records : List (TxnId × Record)) → Makes c → Each (λ e. MetaHas Has e.1.meta) records → Each (λ e. MetaHas Has e.1.meta) (records_after id c records)
   unfolding Makes OwnRecord
   records-with id Stay records h a = a
-  records-with id (Become r) records h a = each-set_at OwnRecord same_txn id r records h a
+  records-with id (Become r) records h a = each-insert OwnRecord txn_cmp id r records h a
   records-with id (Finish s) records h a = each-without OwnRecord same_txn id records a
 
   records-for : (one : Option TxnId) (request : Request) (t : Table) → RequestHas Has request → Each (λ e. MetaHas Has e.1.meta) t.records → Each (λ e. MetaHas Has e.1.meta) (table_for one request t).records

@@ -1,8 +1,13 @@
 -- What a transaction's own intent at a key is after a request: as it was, laid, moved or gone.
-use Rattle.std.proofs.Common.{◌≡◌, ℕ, max, Bool, true, false, cond, not, ◌==◌, List, [], ◌∷◌, Option, None, Some, refl, sym, ap, subst, ◌∙◌, arith}
+use Rattle.std.proofs.Common.{◌≡◌, ℕ, max, Bool, true, false, cond, not, ◌==◌, List, Option, None, Some, refl, sym, ap, subst, ◌∙◌, arith}
+use Rattle.std.proofs.lemmas.Cmp.{nat_list_cmp_total}
+use Rattle.std.specs.BTreeMap.{insert_entry}
+use Rattle.std.specs.Cmp.Lexicographic.{slice_cmp}
 use Rattle.std.specs.Option.{option_map_or}
+use Rattle.std.specs.Ordering.{nat_cmp}
+use Rattle.pc_base.proofs.Entries.{at_inserted, at_left}
 use Rattle.pc_base.specs.declared.transaction.TxnId.{TxnId}
-use Rattle.pc_base.specs.Keyed.{at, set_at, without}
+use Rattle.pc_base.specs.Keyed.{at, without}
 use Rattle.pc_base.specs.Span.{same_key}
 use Rattle.pc_base.specs.Transaction.{same_txn}
 use Rattle.pc_lists.proofs.Same.{same_key-equal, same_key-is, same_txn-is, same_txn-self}
@@ -20,13 +25,11 @@ use Rattle.pc_world.specs.Evaluation.Put.{PutOutcome, Stands, Lands, first_outco
 use Rattle.pc_world.specs.Evaluation.Resolve.{change_for, resolve_change}
 use Rattle.pc_world.specs.RangeState.{RangeState}
 
-at-set : (key k : List ℕ) (i : Intent) (xs : List (List ℕ × Intent)) → at same_key k (set_at same_key key i xs) ≡ cond (same_key key k) (Some i) (at same_key k xs)
-at-set key k i [] = grind arith
-at-set key k i (e ∷ es) = grind (arith, at-set key k i es, same_key-is e.0 key, same_key-is e.0 k, same_key-is key k)
+at-set : (key k : List ℕ) (i : Intent) (xs : List (List ℕ × Intent)) → at same_key k (insert_entry (slice_cmp nat_cmp) xs key i) ≡ cond (same_key key k) (Some i) (at same_key k xs)
+at-set key k i xs = at_inserted nat_list_cmp_total same_key (λ a b. refl) key k i xs
 
 at-without : (key k : List ℕ) (xs : List (List ℕ × Intent)) → at same_key k (without same_key key xs) ≡ cond (same_key key k) None (at same_key k xs)
-at-without key k [] = grind arith
-at-without key k (e ∷ es) = grind (arith, at-without key k es, same_key-is e.0 k, same_key-is e.0 key, same_key-is key k)
+at-without key k xs = at_left nat_list_cmp_total same_key (λ a b. refl) key k xs
 
 differ : (a one id : TxnId) → same_txn a one ≡ true → same_txn one id ≡ false → same_txn a id ≡ false
 differ a one id h k = grind arith
@@ -50,13 +53,13 @@ not-own-free one id None apart h = refl
 not-own-free one id (Some j) apart h = grind (arith, differ j.meta.id one id)
 
 module _ (id : TxnId) (k : List ℕ) (key : List ℕ) (xs : List (List ℕ × Intent)) where
-  lays-other : (i : Intent) → same_key key k ≡ false → own_at id k (set_at same_key key i xs) ≡ own_at id k xs
+  lays-other : (i : Intent) → same_key key k ≡ false → own_at id k (insert_entry (slice_cmp nat_cmp) xs key i) ≡ own_at id k xs
   lays-other i apart = ap (kept_if (λ i. same_txn i.meta.id id)) (at-set key k i xs ∙ ap (λ b. cond b (Some i) (at same_key k xs)) apart)
 
   drops-other : same_key key k ≡ false → own_at id k (without same_key key xs) ≡ own_at id k xs
   drops-other apart = ap (kept_if (λ i. same_txn i.meta.id id)) (at-without key k xs ∙ ap (λ b. cond b None (at same_key k xs)) apart)
 
-  lays : (i : Intent) → same_txn i.meta.id id ≡ false → own_at id key xs ≡ None → own_at id k (set_at same_key key i xs) ≡ own_at id k xs
+  lays : (i : Intent) → same_txn i.meta.id id ≡ false → own_at id key xs ≡ None → own_at id k (insert_entry (slice_cmp nat_cmp) xs key i) ≡ own_at id k xs
   lays i apart none = ap (kept_if (λ i. same_txn i.meta.id id)) (at-set key k i xs) ∙ by (same_key key k) refl
     where
       by : (b : Bool) → same_key key k ≡ b → kept_if (λ i. same_txn i.meta.id id) (cond b (Some i) (at same_key k xs)) ≡ own_at id k xs
@@ -73,7 +76,7 @@ module _ (id : TxnId) (k : List ℕ) (key : List ℕ) (xs : List (List ℕ × In
       by false e = refl
 
 module _ (id : TxnId) (key : List ℕ) (xs : List (List ℕ × Intent)) where
-  lays-own : (i : Intent) → same_txn i.meta.id id ≡ true → own_at id key (set_at same_key key i xs) ≡ Some i
+  lays-own : (i : Intent) → same_txn i.meta.id id ≡ true → own_at id key (insert_entry (slice_cmp nat_cmp) xs key i) ≡ Some i
   lays-own i is =
       ap (kept_if (λ i. same_txn i.meta.id id)) (at-set key key i xs ∙ ap (λ b. cond b (Some i) (at same_key key xs)) (same_key-equal key key refl))
       ∙ ap (λ b. cond b (Some i) None) is

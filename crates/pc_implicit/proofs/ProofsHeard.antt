@@ -1,12 +1,7 @@
 -- Each proof of a write that a session knows is the answer of its key's range: to a put of the write, or to a query of it.
 use Rattle.std.proofs.Common.{◌≡◌, ℕ, Bool, true, false, cond, ◌&&◌, ◌==◌, if◌then◌else◌, inl, inr, List, [], ◌∷◌, ◌++◌, map, Option, None, Some, IfSome, Contains, IsTrue, refl, sym, subst}
 use Rattle.std.proofs.lemmas.Bool.{and_parts, eqb-true}
-use Rattle.std.proofs.lemmas.Map.Lookups.{exact_bytes}
-use Rattle.std.specs.Cmp.Lexicographic.{slice_cmp}
-use Rattle.std.specs.declared.cmp.Ordering.{Ordering}
-use Rattle.std.specs.declared.cmp.Ordering.TheVariants as orderings
 use Rattle.std.specs.List.{AllByRecursion as Each, list_any}
-use Rattle.std.specs.Ordering.{is_eq, nat_cmp}
 use Rattle.pc_base.specs.declared.actor.ActorId.{ActorId}
 use Rattle.pc_base.specs.declared.entry.Entry.{Entry}
 use Rattle.pc_base.specs.declared.transaction.TxnId.{TxnId}
@@ -20,7 +15,7 @@ use Rattle.pc_implicit.proofs.SessionReads.{ByPut, ByQuery, WasEvaluated, WasPro
 use Rattle.pc_implicit.proofs.Shown.{WasAnswered}
 use Rattle.pc_lists.proofs.Each.{each-append, each-contains, each-map, each-weaker}
 use Rattle.pc_lists.proofs.Lists.{contains_head}
-use Rattle.pc_lists.proofs.Same.{same_txn-is}
+use Rattle.pc_lists.proofs.Same.{same_key-is, same_txn-is}
 use Rattle.pc_proto.specs.declared.answer.Answer.{Answer}
 use Rattle.pc_proto.specs.declared.answer.Answer.TheVariants as answers
 use Rattle.pc_proto.specs.declared.event.Event.{Event}
@@ -41,14 +36,6 @@ use Rattle.pc_world.specs.Known.Writes.{Write as WriteMade, asked_again, is_prov
 use Rattle.pc_world.specs.Local.{Head}
 use Rattle.pc_world.specs.RangeOf.{range_of}
 use Rattle.pc_world.specs.Run.{IsRun, protocol}
-
-is-equal : (o : Ordering) → is_eq o ≡ true → o ≡ orderings.Equal
-is-equal orderings.Less h = absurd cc
-is-equal orderings.Equal h = refl
-is-equal orderings.Greater h = absurd cc
-
-pub same-keys : (a b : List ℕ) → same_key a b ≡ true → a ≡ b
-same-keys a b h = exact_bytes a b (is-equal (slice_cmp nat_cmp a b) h)
 
 -- what was proved stays so
 pub proved_more : (head : Head) (history more : List (Entry Event)) (id : TxnId) (epoch seq : ℕ) (key : List ℕ) (at : ℕ) → WasProved head history id epoch seq key at → WasProved head (history ++ more) id epoch seq key at
@@ -90,7 +77,7 @@ module _ (head : Head) (history : List (Entry Event)) (id : TxnId) (epoch : ℕ)
       by true is =
           let parts = and_parts (w.seq == seq) (same_key w.key key) is in
           let own : WasProved head history id epoch w.seq w.key at =
-          subst (λ n. WasProved head history id epoch n w.key at) (sym (eqb-true w.seq seq parts.0)) (subst (λ k. WasProved head history id epoch seq k at) (sym (same-keys w.key key parts.1)) new) in
+          subst (λ n. WasProved head history id epoch n w.key at) (sym (eqb-true w.seq seq parts.0)) (subst (λ k. WasProved head history id epoch seq k at) (sym (same_key-is w.key key parts.1)) new) in
           each-append (WasProved head history id epoch w.seq w.key) w.proofs (at ∷ []) proven (own, tt)
       by false is = proven
 

@@ -1,7 +1,6 @@
 -- What was read stays read over each evaluation, and no version of another is made at or below it.
-use Rattle.std.proofs.Common.{◌≡◌, ℕ, ◌<◌, ◌≤◌, max, Bool, true, false, List, [], ◌++◌, ◌⊎◌, inl, inr, refl, sym, ap, subst, ◌∙◌, All, arith}
-use Rattle.std.proofs.lemmas.List.{append-nil, append_assoc}
-use Rattle.std.proofs.lemmas.List.Elements.{All-append, All-cons, All-from_recursion, All-nil, recursion_from_All}
+use Rattle.std.proofs.Common.{◌≡◌, ℕ, ◌<◌, ◌≤◌, max, Bool, true, false, List, [], ◌⊎◌, inl, inr, refl, sym, subst, ◌∙◌, All, arith}
+use Rattle.std.proofs.lemmas.List.Elements.{All-cons, All-contains, All-from_recursion, All-nil, recursion_from_All}
 use Rattle.std.specs.List.{AllByRecursion as Each}
 use Rattle.std.specs.Prelude.{IsTrue}
 use Rattle.pc_base.specs.Bound.{free_from}
@@ -23,6 +22,7 @@ use Rattle.pc_proto.specs.declared.record.Intent.{Intent}
 use Rattle.pc_proto.specs.declared.request.Request.{Request}
 use Rattle.pc_proto.specs.declared.request.Request.TheVariants as requests
 use Rattle.pc_proto.specs.Intents.{own_at}
+use Rattle.pc_world.proofs.KeptVersions.{keeps_versions, versions_come_from}
 use Rattle.pc_world.specs.Evaluation.{bound_after, intents_after, state_after, versions_after}
 use Rattle.pc_world.specs.Evaluation.Resolve.{new_versions}
 use Rattle.pc_world.specs.RangeState.{RangeState}
@@ -55,13 +55,12 @@ module _ (id : TxnId) (span : Span) (ts : ℕ) where
   clear-row request s read a = a
 
   grows-itself : (vs : List Version) → GrowsAbove id span ts vs vs
-  grows-itself vs = record { more = []; whole = sym (append-nil vs); above = All-nil IsAbove }
+  grows-itself vs = record { kept = λ v there. there; above = λ v there. inl there }
 
   grows-on : (us vs ws : List Version) → GrowsAbove id span ts us vs → GrowsAbove id span ts vs ws → GrowsAbove id span ts us ws
   grows-on us vs ws g h = record {
-    more = g.more ++ h.more;
-    whole = h.whole ∙ ap (λ xs. xs ++ h.more) g.whole ∙ append_assoc us g.more h.more;
-    above = All-append IsAbove g.more h.more g.above h.above;
+    kept = λ v there. h.kept v (g.kept v there);
+    above = λ v there. elim (h.above v there) [ inl old ↦ g.above v old | inr new ↦ inr new ];
   }
 
   turned-above : (other : TxnId) (key : List ℕ) (fate : Fate) (s : RangeState) → Each IsClear s.intents → (new_versions other key fate (own_at other key s.intents) ≡ []) ⊎ Turns other key fate (own_at other key s.intents) → All IsAbove (new_versions other key fate (own_at other key s.intents))
@@ -78,11 +77,15 @@ module _ (id : TxnId) (span : Span) (ts : ℕ) where
       subst (All IsAbove) (sym turns.made) (All-cons IsAbove made [] above (All-nil IsAbove))
 
   grows-row : (request : Request) (s : RangeState) → Each IsClear s.intents → GrowsAbove id span ts s.versions (versions_after request s)
-  grows-row (requests.Resolve other key fate) s a = record {
-    more = new_versions other key fate (own_at other key s.intents);
-    whole = refl;
-    above = turned-above other key fate s a (resolve-turns other key fate (own_at other key s.intents));
-  }
+  grows-row (requests.Resolve other key fate) s a =
+      let more = new_versions other key fate (own_at other key s.intents) in
+      record {
+        kept = λ v there. keeps_versions s.versions more v there;
+        above = λ v there. elim (versions_come_from s.versions more v there) [
+          | inl old ↦ inl old
+          | inr new ↦ inr (All-contains IsAbove more v (turned-above other key fate s a (resolve-turns other key fate (own_at other key s.intents))) new)
+        ];
+      }
   grows-row request s a = grows-itself s.versions
 
   -- What was read of the first state is read of the second, and the versions grew above it.

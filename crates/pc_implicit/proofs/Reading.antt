@@ -1,7 +1,7 @@
 -- A read that found what it asked for, and a refresh that held, at their evaluation and after it.
-use Rattle.std.proofs.Common.{◌≡◌, ℕ, ◌<◌, ◌≤◌, Bool, true, false, not, nat_le, if◌then◌else◌, List, [], ◌∷◌, ◌++◌, Option, None, Some, refl, sym, ap, subst, ◌∙◌, All, arith}
+use Rattle.std.proofs.Common.{◌≡◌, ℕ, ◌<◌, ◌≤◌, Bool, true, false, not, nat_le, if◌then◌else◌, List, [], ◌∷◌, ◌++◌, Option, None, Some, refl, sym, ap, subst, ◌∙◌, inl, inr, All, arith}
 use Rattle.std.proofs.lemmas.List.{append_assoc}
-use Rattle.std.proofs.lemmas.List.Elements.{All-append, All-from_recursion, All-weaker}
+use Rattle.std.proofs.lemmas.List.Elements.{All-contains, All-from_recursion, All-weaker}
 use Rattle.std.specs.Option.{option_map}
 use Rattle.std.specs.Prelude.{IsTrue}
 use Rattle.pc_base.specs.declared.actor.ActorId.TheVariants as actors
@@ -20,13 +20,14 @@ use Rattle.pc_implicit.proofs.ClosedBounds.{raised-closed}
 use Rattle.pc_implicit.proofs.Evals.{of_entry, range_evaluates}
 use Rattle.pc_implicit.proofs.IntentKeys.{differ-found}
 use Rattle.pc_implicit.proofs.Lift.{over}
-use Rattle.pc_implicit.proofs.ReadSteps.{IsAbove, IsClear, StaysRead, read_goes_on}
+use Rattle.pc_implicit.proofs.ReadSteps.{IsClear, StaysRead, read_goes_on}
 use Rattle.pc_implicit.proofs.RisingVersions.{versions_rise}
 use Rattle.pc_implicit.proofs.Runs.{reply_is}
 use Rattle.pc_implicit.proofs.VersionSearches.{none-between, none-other}
 use Rattle.pc_implicit.specs.Versions.{IsRising}
 use Rattle.pc_implicit.specs.Reads.{GrowsAbove, HasRead, IsReadOfSpan, IsRefresh, RangeEvaluated, Reads, Refreshes}
 use Rattle.pc_lists.proofs.Each.{each-weaker}
+use Rattle.pc_lists.proofs.Lists.{all_from_contains}
 use Rattle.pc_lists.proofs.Same.{same_key-is, same_txn-is}
 use Rattle.pc_proto.specs.declared.event.Event.{Event}
 use Rattle.pc_proto.specs.declared.record.Intent.{Intent}
@@ -200,7 +201,9 @@ module _ (head : Head) (range : ℕ) (id : TxnId) (span : Span) where
       let on = reads-on to before e later now.read in
       let grows = on.1 in (
         on.0,
-        subst (All (IsUnwritten id span from to)) (sym grows.whole)
-            (All-append (IsUnwritten id span from to) (state_at head range (before ++ e ∷ [])).versions grows.more now.unwritten
-            (All-weaker (IsAbove id span to) (IsUnwritten id span from to) (λ v above inside other low. above inside other) grows.more grows.above)),
+        all_from_contains (IsUnwritten id span from to) (state_at head range (before ++ e ∷ later)).versions
+            (λ v there. elim (grows.above v there) [
+              | inl old ↦ All-contains (IsUnwritten id span from to) (state_at head range (before ++ e ∷ [])).versions v now.unwritten old
+              | inr new ↦ λ inside other low. new inside other
+            ]),
       )

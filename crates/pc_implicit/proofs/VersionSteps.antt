@@ -1,7 +1,6 @@
 -- A range's versions after a request: those before it, and the one that a resolve made of an intent.
 use Rattle.std.proofs.Common.{◌≡◌, ℕ, ◌≤◌, nat_le, Bool, true, false, cond, ◌==◌, ◌⊎◌, inl, inr, List, [], ◌∷◌, ◌++◌, Option, None, Some, Contains, refl, sym, ap, subst, ◌∙◌}
 use Rattle.std.proofs.lemmas.Bool.{and_from, and_parts, eq-eqb, eqb-true, le-leb, leb-true}
-use Rattle.std.proofs.lemmas.List.Elements.{Contains-append_cases, Contains-append_left, Contains-append_right}
 use Rattle.pc_base.specs.declared.entry.Entry.{Entry}
 use Rattle.pc_base.specs.declared.transaction.TxnId.{TxnId}
 use Rattle.pc_base.specs.declared.version.Version.{Version}
@@ -14,6 +13,7 @@ use Rattle.pc_proto.specs.declared.record.Intent.{Intent}
 use Rattle.pc_proto.specs.declared.request.Request.{Request}
 use Rattle.pc_proto.specs.declared.request.Request.TheVariants as requests
 use Rattle.pc_proto.specs.Intents.{last_value, own_at}
+use Rattle.pc_world.proofs.KeptVersions.{adds_versions, keeps_versions, versions_come_from}
 use Rattle.pc_world.specs.After.{state_at}
 use Rattle.pc_world.specs.Evaluation.{versions_after}
 use Rattle.pc_world.specs.Evaluation.Resolve.{is_committed_by, new_versions, version_for}
@@ -56,7 +56,7 @@ resolve-made id key (fates.Pending ts) s (Some i) e v there = absurd (contains_n
 -- a version after a request stood before it, or the request made it
 pub version_cases : (request : Request) (s : RangeState) (v : Version) → Contains (versions_after request s) v → Contains s.versions v ⊎ IsMade request s v
 version_cases (requests.Resolve id key fate) s v there =
-    elim (Contains-append_cases s.versions (new_versions id key fate (own_at id key s.intents)) v there) [
+    elim (versions_come_from s.versions (new_versions id key fate (own_at id key s.intents)) v there) [
       | inl before ↦ inl before
       | inr new ↦ inr (resolve-made id key fate s (own_at id key s.intents) refl v new)
     ]
@@ -70,10 +70,10 @@ makes_version id key epoch ts value s i own same low last =
     let is : is_committed_by epoch ts i ≡ true = and_from (i.meta.epoch == epoch) (nat_le i.ts ts) (eq-eqb i.meta.epoch epoch same) (le-leb i.ts ts low) in
     let made : new_versions id key (fates.Committed epoch ts) (own_at id key s.intents) ≡ v ∷ [] =
     ap (new_versions id key (fates.Committed epoch ts)) own ∙ ap (λ b. cond b (version_for id key ts (last_value i)) []) is ∙ ap (version_for id key ts) last in
-    Contains-append_right s.versions (new_versions id key (fates.Committed epoch ts) (own_at id key s.intents)) v (subst (λ l. Contains l v) (sym made) (contains_head v []))
+    adds_versions s.versions (new_versions id key (fates.Committed epoch ts) (own_at id key s.intents)) v (subst (λ l. Contains l v) (sym made) (contains_head v []))
 
 keeps-version : (v : Version) (request : Request) (s : RangeState) → Contains s.versions v → Contains (versions_after request s) v
-keeps-version v (requests.Resolve id key fate) s there = Contains-append_left s.versions (new_versions id key fate (own_at id key s.intents)) v there
+keeps-version v (requests.Resolve id key fate) s there = keeps_versions s.versions (new_versions id key fate (own_at id key s.intents)) v there
 keeps-version v request s there = there
 
 versions-go-on : (v : Version) → GoesOn (λ s t. Contains s.versions v → Contains t.versions v)

@@ -1,5 +1,5 @@
 -- What a read, and a refresh that held, leave for good: no write of another transaction comes at or below their timestamp.
-use Rattle.std.specs.Prelude.{◌≡◌, ℕ, ◌<◌, ◌≤◌, ◌++◌, ◌∷◌, Some, List, All, IsTrue}
+use Rattle.std.specs.Prelude.{◌≡◌, ◌⊎◌, ℕ, ◌<◌, ◌≤◌, ◌++◌, ◌∷◌, Some, List, All, Contains, IsTrue}
 use Rattle.pc_base.specs.Bound.{free_from}
 use Rattle.pc_base.specs.declared.actor.ActorId.TheVariants as actors
 use Rattle.pc_base.specs.declared.entry.Entry.{Entry}
@@ -58,11 +58,10 @@ pub record HasRead (id : TxnId) (span : Span) (ts : ℕ) (s : RangeState) : Type
   pub clear : All (λ e. IsTrue (contains span e.0) → e.1.ts ≤ ts → e.1.meta.id ≡ id) s.intents
   pub closed : (other : TxnId) → (other ≡ id → ⊥) → ts < free_from other s.bound
 
--- The later versions are the earlier ones and more, of which none of another transaction lies in the span at or below the timestamp.
+-- The later versions have all the earlier ones, and each that is new is the transaction's own, outside the span, or above the timestamp.
 pub record GrowsAbove (id : TxnId) (span : Span) (ts : ℕ) (old new : List Version) : Type 0 where
-  pub more : List Version
-  pub whole : new ≡ old ++ more
-  pub above : All (λ v. IsTrue (contains span v.key) → (v.id ≡ id → ⊥) → ts < v.ts) more
+  pub kept : (v : Version) → Contains old v → Contains new v
+  pub above : (v : Version) → Contains new v → Contains old v ⊎ (IsTrue (contains span v.key) → (v.id ≡ id → ⊥) → ts < v.ts)
 
 -- Reads stand: after a read, no other transaction's intent or new version comes at or below its timestamp in its span.
 abbrev pub ReadsStand : Type 0

@@ -7,7 +7,7 @@ use Rattle.pc_world.specs.After.{state_at}
 use Rattle.pc_world.specs.Local.{Head}
 use Rattle.pc_world.specs.RangeState.{RangeState}
 
--- No two intents stand at one key, each lies above every version of its key, and of two versions of one key the one that came
+-- No two intents stand at one key, each lies above every version of its key, and of two versions of one key the one that stands
 -- later lies above.
 pub record IsRising (s : RangeState) : Type 0 where
   pub single : AllPairs (λ e f. e.0 ≢ f.0) s.intents

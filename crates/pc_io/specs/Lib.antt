@@ -1,4 +1,3 @@
-pub mod Counts
 pub mod Causes
 pub mod Reading
 pub mod Memory

@@ -4,7 +4,6 @@
 ghost use Rattle.pc_program.specs.Causes.{IsOfRun};
 
 mod clocks;
-mod limits;
 mod output;
 mod status;
 mod top;

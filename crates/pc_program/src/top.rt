@@ -6,10 +6,10 @@ ghost use Rattle.pc_program.specs.Causes.{AskForRun, HasBegunWriting, HasWritten
 ghost use Rattle.pc_work.specs.Built.{IsBuilt};
 ghost use Rattle.pc_work.specs.Workload.{IsJson, workload_in};
 
-use crate::limits::INPUT_BYTES;
 use crate::output::output;
 use crate::status::Status;
 use pc_base::NoMemory;
+use pc_base::limits::INPUT_BYTES;
 use pc_io::{ReadFault, Sink, Source, read_all, write_all};
 use pc_range::Gate;
 use pc_session::Clocks;

@@ -2,5 +2,8 @@
 pub mod Intents
 pub mod Place
 pub mod RecordRows
+pub mod Replies
+pub mod Requests
 pub mod Stamps
 pub mod Table
+pub mod Views

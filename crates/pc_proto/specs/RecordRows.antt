@@ -1,12 +1,12 @@
 -- The rows of the evaluation table for requests to a transaction record: what each changes, and what it answers.
 use Rattle.std.specs.Prelude.{Option, None, Some, if◌then◌else◌}
 use Rattle.pc_base.specs.declared.transaction.TxnId.{TxnId}
-use Rattle.pc_proto.specs.declared.meta.TxnMeta.{TxnMeta}
 use Rattle.pc_proto.specs.declared.reply.Reply.{Reply}
 use Rattle.pc_proto.specs.declared.reply.Reply.TheVariants as replies
 use Rattle.pc_proto.specs.declared.request.Request.{Request}
 use Rattle.pc_proto.specs.declared.request.Request.TheVariants as requests
 use Rattle.pc_proto.specs.Place.{Place, Change, Stay, after, is_decided, view_of}
+use Rattle.pc_proto.specs.Requests.{subject}
 use Rattle.pc_proto.specs.Table.{Table, place_of, applied_to}
 use Rattle.pc_proto.specs.RecordRows.Abort.{abort}
 use Rattle.pc_proto.specs.RecordRows.Beat.{beat}
@@ -40,17 +40,6 @@ place_change (requests.Push holder by level now goal) p = unless_decided p (push
 place_change (requests.Recover id epoch ts anchor finding) p = unless_decided p (recover epoch ts finding p)
 place_change (requests.Remove id anchor) p = remove p
 place_change _ p = Stay
-
--- The transaction whose record a request speaks of.
-abbrev pub subject : Request → Option TxnId
-subject (requests.Beat meta ts now) = Some meta.id
-subject (requests.Stage meta ts now writes locks) = Some meta.id
-subject (requests.Commit meta ts locks) = Some meta.id
-subject (requests.Abort meta why locks) = Some meta.id
-subject (requests.Push holder by level now goal) = Some holder.id
-subject (requests.Recover id epoch ts anchor finding) = Some id
-subject (requests.Remove id anchor) = Some id
-subject _ = None
 
 -- How a push is answered: the place as it is after the push, whether it was refused, or that a recovery must decide.
 abbrev pub push_reply : Verdict → Place → Place → Reply

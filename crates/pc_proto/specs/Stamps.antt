@@ -1,5 +1,5 @@
 -- The timestamps that stand in a message or an event.
-use Rattle.std.specs.Prelude.{ℕ, List, [], ◌∷◌}
+use Rattle.std.specs.Prelude.{ℕ, max, List, [], ◌∷◌, fold}
 use Rattle.std.specs.List.{flat_map}
 use Rattle.pc_proto.specs.declared.answer.Answer.{Answer}
 use Rattle.pc_proto.specs.declared.answer.Answer.TheVariants as answers
@@ -118,3 +118,7 @@ event_stamps (events.Eval actor number reply) = reply_stamps reply
 event_stamps (events.Hear number step) = []
 event_stamps (events.Tell answer) = answer_stamps answer
 event_stamps (events.Meet id step) = []
+
+-- The greatest of these timestamps, 0 where there is none.
+abbrev pub greatest_of : List ℕ → ℕ
+greatest_of stamps = fold (λ most ts. max most ts) 0 stamps

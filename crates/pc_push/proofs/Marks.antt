@@ -3,9 +3,9 @@ use Rattle.std.proofs.Common.{◌≡◌, ℕ, Bool, true, false, if◌then◌els
 use Rattle.std.specs.List.{AllByRecursion as Each}
 use Rattle.pc_base.specs.declared.transaction.TxnId.{TxnId}
 use Rattle.pc_base.specs.Keyed.{at}
-use Rattle.pc_base.specs.Transaction.{same_txn}
+use Rattle.pc_base.specs.Transaction.{same_txn, txn_cmp}
 use Rattle.pc_history.specs.declared.pair.Pair.{Pair}
-use Rattle.pc_lists.proofs.Each.{each-at, each-set_at}
+use Rattle.pc_lists.proofs.Each.{each-at, each-insert}
 use Rattle.pc_proto.specs.declared.event.Event.{Event}
 use Rattle.pc_proto.specs.declared.fate.Finding.{Finding}
 use Rattle.pc_proto.specs.declared.fate.Goal.TheVariants as goals
@@ -84,7 +84,7 @@ AreFinal table = Each (λ e. IsFinalMark e.1) table.marks
 applied_final : (id : TxnId) (c : Change) (table : Table) → leaves_final c ≡ true → AreFinal table → AreFinal (applied_to id c table)
 applied_final id Stay table h marks = marks
 applied_final id (Become r) table h marks = marks
-applied_final id (Finish s) table h marks = each-set_at IsFinalMark same_txn id s table.marks h marks
+applied_final id (Finish s) table h marks = each-insert IsFinalMark txn_cmp id s table.marks h marks
 
 table_final : (subject : Option TxnId) (request : Request) (table : Table) → AreFinal table → AreFinal (table_for subject request table)
 table_final None request table marks = marks

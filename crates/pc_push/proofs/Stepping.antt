@@ -1,13 +1,13 @@
 -- What comes next is allowed, and after a reply the machine stands by what its actor knows.
 use Rattle.std.proofs.Common.{◌≡◌, ℕ, ◌+◌, ◌≤◌, true, false, ◌==◌, List, inl, inr, All, Option, None, Some, Result, Ok, Err, IfOk, OnOk, refl, sym, ap, ◌∙◌, subst, arith}
 use Rattle.std.specs.Option.{option_or}
-use Rattle.std.proofs.lemmas.Bool.{and_from, eq-eqb}
 use Rattle.std.proofs.lemmas.List.Elements.{All-nil, All-weaker}
 use Rattle.pc_base.specs.declared.actor.ActorId.{ActorId}
 use Rattle.pc_base.specs.declared.memory.NoMemory.{NoMemory}
 use Rattle.pc_base.specs.declared.transaction.TxnId.{TxnId}
 use Rattle.pc_base.specs.Transaction.{same_txn}
 use Rattle.pc_lists.proofs.Anywhere.{any_weaker}
+use Rattle.pc_lists.proofs.Same.{same_txn-self}
 use Rattle.pc_proto.specs.declared.fate.Fate.{Fate}
 use Rattle.pc_proto.specs.declared.fate.Fate.TheVariants as fates
 use Rattle.pc_proto.specs.declared.fate.Goal.{Goal}
@@ -48,11 +48,8 @@ next_may m (Ok next) is splits actor start k knows =
     (come_at splits actor start k m m.progress (push_later actor start k m knows.since knows.may) knows.stands)
 next_may m (Err e) is splits actor start k knows = tt
 
-same-itself : (id : TxnId) → same_txn id id ≡ true
-same-itself id = and_from (id.session == id.session) (id.number == id.number) (eq-eqb id.session id.session refl) (eq-eqb id.number id.number refl)
-
 about_recovery : (id : TxnId) (request : Request) → Recovers id request → is_about id request ≡ true
-about_recovery id (requests.Recover other epoch ts anchor finding) is = ap (λ one. same_txn one id) is ∙ same-itself id
+about_recovery id (requests.Recover other epoch ts anchor finding) is = ap (λ one. same_txn one id) is ∙ same_txn-self id
 about_recovery id request is = absurd is
 
 -- a view that was heard lets the intent be settled so
@@ -173,7 +170,7 @@ module _ (actor : ActorId) (start k later : Known) (m : Pushing) (request : Requ
   -- the reply to the push
   after_push_at : (reply : Reply) → request ≡ push_of m → WasAnswered k later request reply → IsGoalReply m.goal reply → StandsAt start later m (progress_after_push m.goal reply)
   after_push_at (replies.Status view) asked was is =
-      pushed_on view was (fate_after m.goal view) refl (ap (is_about m.holder.id) asked ∙ same-itself m.holder.id) is
+      pushed_on view was (fate_after m.goal view) refl (ap (is_about m.holder.id) asked ∙ same_txn-self m.holder.id) is
   after_push_at (replies.Refused view) asked was is = record { view = view; heard = subst (λ q. HeardSince start later q (replies.Refused view)) asked (heard_it (replies.Refused view) was) }
   after_push_at (replies.Unsure view) asked was is = record {
     epoch = is.epoch;

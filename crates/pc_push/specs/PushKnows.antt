@@ -1,13 +1,12 @@
 -- How a conflict round stands beside what its actor knows.
 use Rattle.std.specs.Prelude.{◌≡◌, ℕ, ◌+◌, ◌≤◌, ◌⊎◌, false, List, All, ⊤}
 use Rattle.pc_base.specs.declared.actor.ActorId.{ActorId}
-use Rattle.pc_base.specs.declared.transaction.TxnId.{TxnId}
 use Rattle.pc_proto.specs.declared.fate.Fate.{Fate}
 use Rattle.pc_proto.specs.declared.reply.Reply.TheVariants as replies
 use Rattle.pc_proto.specs.declared.request.Request.{Request}
-use Rattle.pc_proto.specs.declared.request.Request.TheVariants as requests
 use Rattle.pc_proto.specs.declared.view.View.{View}
 use Rattle.pc_proto.specs.declared.view.View.TheVariants as views
+use Rattle.pc_proto.specs.Requests.{Recovers}
 use Rattle.pc_proto.specs.Stamps.{fate_stamps, goal_stamps}
 use Rattle.pc_proto.specs.Views.{is_final_view}
 use Rattle.pc_push.specs.declared.progress.Progress.{Progress}
@@ -47,11 +46,6 @@ pub record HasMetStaging (start k : Known) (m : Pushing) (view : View) : Type 0 
 pub record WasHolderResolved (start k : Known) (m : Pushing) : Type 0 where
   pub fate : Fate
   pub heard : HeardSince start k (holder_resolve m fate) replies.Resolved
-
--- The request recovers this transaction.
-abbrev pub Recovers : TxnId → Request → Type 0
-Recovers id (requests.Recover other epoch ts anchor finding) = other ≡ id
-Recovers id _ = ⊥
 
 -- The push met a staging record, and its recovery left the holder undecided.
 pub record WasLeft (start k : Known) (m : Pushing) : Type 0 where

@@ -3,7 +3,6 @@ ghost use Rattle.pc_base.specs.declared.actor.ActorId.{ActorId};
 ghost use Rattle.pc_base.specs.Timestamp.{greatest};
 ghost use Rattle.pc_proto.specs.declared.request.Request.{Request};
 ghost use Rattle.pc_proto.specs.Replies.{is_conflict};
-ghost use Rattle.pc_proto.specs.Views.{fate_after, final_fate};
 ghost use Rattle.pc_push.specs.Pushing.{IsStart, after_recovery, after_push, goal_of, push_of, resolve_or, round_after, round_next};
 ghost use Rattle.pc_push.specs.PushKnows.{Asks, MayPush, PushKnows, RoundMayCome};
 ghost use Rattle.pc_world.specs.declared.machine.MachineNext.TheVariants as nexts;
@@ -12,7 +11,7 @@ ghost use Rattle.pc_world.specs.Known.{Known};
 
 use crate::progress::Progress;
 use pc_base::{Key, NoMemory, Priority, Timestamp, TryCopy, Who};
-use pc_proto::{Fate, Goal, Reply, Request, TxnMeta, View};
+use pc_proto::{Fate, Goal, Reply, Request, TxnMeta};
 use pc_world::MachineNext;
 use std::marker::Model;
 
@@ -137,7 +136,7 @@ impl PushMachine {
         ensures err { OnErr result (self.new ≡ self.old) }
     {
         self.progress = match reply {
-            Reply::Status(view) => resolving(fate_after(self.goal, view), Progress::Push),
+            Reply::Status(view) => resolve_or(view.fate_after(self.goal), Progress::Push),
             Reply::Refused(_) => Progress::Refused,
             Reply::Unsure(view) => Progress::Unsure(view.copy()?),
             _ => Progress::Push,
@@ -149,7 +148,7 @@ impl PushMachine {
         ensures { self.new ≡ after_recovery reply.now self.old }
     {
         self.progress = match reply {
-            Reply::Status(view) => resolving(final_fate(view), Progress::Over),
+            Reply::Status(view) => resolve_or(view.fate(), Progress::Over),
             _ => Progress::Over,
         };
     }
@@ -167,36 +166,11 @@ fn goal_for(reader: Option<Timestamp>) -> Goal
 }
 
 /// The intent is settled with this fate, if there is one.
-fn resolving(fate: Option<Fate>, otherwise: Progress) -> Progress
+fn resolve_or(fate: Option<Fate>, otherwise: Progress) -> Progress
     ensures { result ≡ resolve_or fate otherwise }
 {
     match fate {
         Some(fate) => Progress::Resolve(fate),
         None => otherwise,
-    }
-}
-
-/// The fate of a final view.
-fn final_fate(view: &View) -> Option<Fate>
-    ensures { result ≡ final_fate view.now }
-{
-    match view {
-        View::Committed { epoch, ts, .. } => Some(Fate::Committed {
-            epoch: *epoch,
-            ts: *ts,
-        }),
-        View::Aborted { .. } => Some(Fate::Aborted),
-        View::Nothing | View::Pending { .. } | View::Staging { .. } => None,
-    }
-}
-
-/// The fate after a push: that of a final view, or the move that the push asked for.
-fn fate_after(goal: Goal, view: &View) -> Option<Fate>
-    ensures { result ≡ fate_after goal view.now }
-{
-    match (final_fate(view), goal) {
-        (Some(fate), _) => Some(fate),
-        (None, Goal::Move(ts)) => Some(Fate::Pending { ts }),
-        (None, Goal::Abort) => None,
     }
 }

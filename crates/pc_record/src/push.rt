@@ -9,12 +9,10 @@ ghost use Rattle.pc_record.specs.RecordOf.{becoming};
 
 use crate::place::Place;
 use crate::table::RecordTable;
+use pc_base::limits::EXPIRY;
 use pc_base::{Items, NoMemory, Priority, TryCopy, Who};
 use pc_proto::{Goal, Record, Reply, Request, Standing, Status, TxnMeta, Why};
 use std::alloc::Global;
-
-/// How long after its last activity a transaction expires, in nanoseconds.
-const EXPIRY: u64 = 5_000_000_000;
 
 pub(crate) fn push(
     table: &mut RecordTable,

@@ -1,15 +1,15 @@
 -- A transaction's own intents are left alone by requests of others.
 use Rattle.std.proofs.Common.{◌≡◌, ℕ, Bool, true, false, cond, not, List, [], ◌∷◌, Option, None, Some, refl, sym, ap, subst, ◌∙◌, arith}
-use Rattle.std.proofs.lemmas.Map.Lookups.{exact_bytes}
+use Rattle.std.proofs.lemmas.Cmp.{nat_list_cmp_total}
+use Rattle.std.specs.BTreeMap.{insert_entry}
 use Rattle.std.specs.Cmp.Lexicographic.{slice_cmp}
-use Rattle.std.specs.declared.cmp.Ordering.{Ordering}
-use Rattle.std.specs.declared.cmp.Ordering.TheVariants.{Less, Equal, Greater}
 use Rattle.std.specs.Option.{option_map_or}
-use Rattle.std.specs.Ordering.{is_eq, nat_cmp}
 use Rattle.pc_base.specs.declared.transaction.TxnId.{TxnId}
-use Rattle.pc_base.specs.Keyed.{at, set_at, without}
+use Rattle.pc_base.proofs.Entries.{at_inserted, at_left}
+use Rattle.pc_base.specs.Keyed.{at, without}
 use Rattle.pc_base.specs.Span.{same_key}
 use Rattle.pc_base.specs.Transaction.{same_txn}
+use Rattle.pc_lists.proofs.Same.{same_key-is}
 use Rattle.pc_proto.specs.declared.fate.Fate.{Fate}
 use Rattle.pc_proto.specs.declared.fate.Fate.TheVariants as fates
 use Rattle.pc_proto.specs.declared.meta.TxnMeta.{TxnMeta}
@@ -29,21 +29,11 @@ abbrev pub is_one : TxnId → Option TxnId → Bool
 is_one id None = false
 is_one id (Some other) = same_txn other id
 
-is-equal : (o : Ordering) → is_eq o ≡ true → o ≡ Equal
-is-equal Less h = absurd cc
-is-equal Equal h = refl
-is-equal Greater h = absurd cc
-
-same-keys : (a b : List ℕ) → same_key a b ≡ true → a ≡ b
-same-keys a b h = exact_bytes a b (is-equal (slice_cmp nat_cmp a b) h)
-
-at-set : (key k : List ℕ) (i : Intent) (xs : List (List ℕ × Intent)) → at same_key k (set_at same_key key i xs) ≡ cond (same_key key k) (Some i) (at same_key k xs)
-at-set key k i [] = grind arith
-at-set key k i (e ∷ es) = grind (arith, at-set key k i es, same-keys e.0 key, same-keys e.0 k, same-keys key k)
+at-set : (key k : List ℕ) (i : Intent) (xs : List (List ℕ × Intent)) → at same_key k (insert_entry (slice_cmp nat_cmp) xs key i) ≡ cond (same_key key k) (Some i) (at same_key k xs)
+at-set key k i xs = at_inserted nat_list_cmp_total same_key (λ a b. refl) key k i xs
 
 at-without : (key k : List ℕ) (xs : List (List ℕ × Intent)) → at same_key k (without same_key key xs) ≡ cond (same_key key k) None (at same_key k xs)
-at-without key k [] = grind arith
-at-without key k (e ∷ es) = grind (arith, at-without key k es, same-keys e.0 k, same-keys e.0 key, same-keys key k)
+at-without key k xs = at_left nat_list_cmp_total same_key (λ a b. refl) key k xs
 
 differ : (a one id : TxnId) → same_txn a one ≡ true → same_txn one id ≡ false → same_txn a id ≡ false
 differ a one id h k = grind arith
@@ -66,20 +56,20 @@ not-own-free one id None apart h = refl
 not-own-free one id (Some j) apart h = grind (arith, differ j.meta.id one id)
 
 module _ (id : TxnId) (k : List ℕ) (key : List ℕ) (xs : List (List ℕ × Intent)) where
-  lays : (i : Intent) → same_txn i.meta.id id ≡ false → own_at id key xs ≡ None → own_at id k (set_at same_key key i xs) ≡ own_at id k xs
+  lays : (i : Intent) → same_txn i.meta.id id ≡ false → own_at id key xs ≡ None → own_at id k (insert_entry (slice_cmp nat_cmp) xs key i) ≡ own_at id k xs
   lays i apart none = ap (kept_if (λ i. same_txn i.meta.id id)) (at-set key k i xs) ∙ by (same_key key k) refl
     where
       by : (b : Bool) → same_key key k ≡ b → kept_if (λ i. same_txn i.meta.id id) (cond b (Some i) (at same_key k xs)) ≡ own_at id k xs
       by true e =
           ap (λ b. cond b (Some i) None) apart
-          ∙ sym (subst (λ x. own_at id x xs ≡ None) (same-keys key k e) none)
+          ∙ sym (subst (λ x. own_at id x xs ≡ None) (same_key-is key k e) none)
       by false e = refl
 
   drops : own_at id key xs ≡ None → own_at id k (without same_key key xs) ≡ own_at id k xs
   drops none = ap (kept_if (λ i. same_txn i.meta.id id)) (at-without key k xs) ∙ by (same_key key k) refl
     where
       by : (b : Bool) → same_key key k ≡ b → kept_if (λ i. same_txn i.meta.id id) (cond b None (at same_key k xs)) ≡ own_at id k xs
-      by true e = sym (subst (λ x. own_at id x xs ≡ None) (same-keys key k e) none)
+      by true e = sym (subst (λ x. own_at id x xs ≡ None) (same_key-is key k e) none)
       by false e = refl
 
 module _ (id : TxnId) (k : List ℕ) where

@@ -3,25 +3,19 @@
 use Rattle.std.specs.Prelude.{◌≡◌, ℕ, Bool, true, false, List, All, take}
 use Rattle.pc_base.specs.declared.actor.ActorId.{ActorId}
 use Rattle.pc_base.specs.declared.transaction.TxnId.{TxnId}
-use Rattle.pc_base.specs.Transaction.{same_txn}
 use Rattle.pc_history.specs.declared.pair.Pair.{Pair}
 use Rattle.pc_proto.specs.declared.event.Event.{Event}
 use Rattle.pc_proto.specs.declared.event.Event.TheVariants as events
 use Rattle.pc_proto.specs.declared.reply.Reply.{Reply}
 use Rattle.pc_proto.specs.declared.reply.Reply.TheVariants as replies
 use Rattle.pc_proto.specs.declared.request.Request.{Request}
-use Rattle.pc_proto.specs.declared.request.Request.TheVariants as requests
+use Rattle.pc_proto.specs.Requests.{is_put_by}
 use Rattle.pc_resolve.specs.Resolving.{Resolving, lock_resolve, remove_of}
 use Rattle.pc_world.specs.declared.machine.MachineNext.{MachineNext}
 use Rattle.pc_world.specs.declared.machine.MachineNext.TheVariants as nexts
 use Rattle.pc_world.specs.Exchange.{HeardSince, IsAllowed, IsLater, WasAnswered}
 use Rattle.pc_world.specs.Known.{Known}
 use Rattle.pc_world.specs.Send.Settling.{MayFinish}
-
--- The request puts a write of this transaction.
-abbrev pub is_put_by : TxnId → Request → Bool
-is_put_by id (requests.Put meta seq ts key value) = same_txn meta.id id
-is_put_by id _ = false
 
 -- The event sends a put of this transaction.
 abbrev pub sends_put_by : TxnId → Event → Bool

@@ -3,22 +3,14 @@ use Rattle.std.proofs.Common.{◌≡◌, ℕ, ◌+◌, ◌<◌, ◌^◌, All, Is
 use Rattle.std.proofs.lemmas.List.Elements.{All-get_or}
 use Rattle.std.proofs.lemmas.Option.{get_or_from_slice_get, slice_get_within}
 use Rattle.pc_base.specs.Rising.{AreRising}
-use Rattle.pc_work.specs.Built.{AreTurnsOf, IsBuilt, IsBuiltItem, IsBuiltSession, IsTurnOf, RisesBehind}
+use Rattle.pc_work.specs.Built.{AreTurnsOf, IsBuilt, IsBuiltItem, IsBuiltSession, IsTurnOf}
 use Rattle.pc_work.specs.declared.session.SessionWork.{SessionWork}
 use Rattle.pc_work.specs.declared.turn.Turn.{Turn}
 use Rattle.pc_work.specs.declared.workload.Workload.{Workload}
 
-rising_behind : (key : List ℕ) (keys : List (List ℕ)) → RisesBehind key keys → AreRising (key ∷ keys)
-rising_behind key [] h = tt
-rising_behind key (next ∷ others) h = (h.0, rising_behind next others h.1)
-
-are_rising : (keys : List (List ℕ)) → AreRising keys → AreRising keys
-are_rising [] h = tt
-are_rising (key ∷ keys) h = rising_behind key keys h
-
 -- the splits rise, as the ranges want it
 pub built_rising : (work : Workload) → IsBuilt work → AreRising work.splits
-built_rising work built = are_rising work.splits built.splits
+built_rising work built = built.splits
 
 -- the ranges are numbered by 32 bits
 pub built_few : (work : Workload) → IsBuilt work → length work.splits + 1 < 2 ^ 32

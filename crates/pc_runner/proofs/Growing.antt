@@ -1,5 +1,5 @@
 -- What one more entry adds: to what a session has and knows, and to what is counted of a history.
-use Rattle.std.proofs.Common.{◌≡◌, ◌≢◌, ℕ, ◌+◌, Bool, true, false, List, [], ◌∷◌, ◌++◌, length, fold, count_by, Contains, Some, None, refl, sym, ap, subst, ◌∙◌, arith, length-append}
+use Rattle.std.proofs.Common.{◌≡◌, ◌≢◌, ℕ, ◌+◌, true, false, List, [], ◌∷◌, ◌++◌, length, fold, Contains, Some, None, refl, sym, ap, subst, ◌∙◌, arith, length-append}
 use Rattle.std.proofs.lemmas.Bool.{eq-eqb, ne_eqb}
 use Rattle.std.proofs.lemmas.Grind.{fold-append}
 use Rattle.std.proofs.lemmas.List.{append-nil, append_assoc}
@@ -10,7 +10,7 @@ use Rattle.pc_base.specs.declared.entry.Entry.{Entry}
 use Rattle.pc_history.proofs.Histories.{named-none, own-push_other, own-push_same}
 use Rattle.pc_history.specs.declared.pair.Pair.{Pair}
 use Rattle.pc_history.specs.Own.{named_in, pair}
-use Rattle.pc_lists.proofs.Counts.{count-append, count-cons, one_if}
+use Rattle.pc_lists.proofs.Counts.{count-push, one_if}
 use Rattle.pc_proto.specs.declared.answer.Answer.{Answer}
 use Rattle.pc_proto.specs.declared.call.Call.{Call}
 use Rattle.pc_proto.specs.declared.event.Event.{Event}
@@ -40,16 +40,9 @@ each_after_push P before [] p h q = (subst (λ l. P l p) (append-nil before) q, 
 each_after_push P before (x ∷ xs) p h q =
     (h.0, each_after_push P (before ++ x ∷ []) xs p h.1 (subst (λ l. P l p) (sym (append_assoc before (x ∷ []) xs)) q))
 
--- one more element of a list that is counted
-pub count_push : {X : Type 0} (p : X → Bool) (xs : List X) (x : X) → count_by p (xs ++ x ∷ []) ≡ count_by p xs + one_if (p x)
-count_push p xs x =
-    let a = count-append p xs (x ∷ []) in
-    let b = count-cons p x [] in
-    omega (arith, a, b)
-
 module _ (own : List (Pair Event)) (p : Pair Event) where
   pub asks_push : asks_in (own ++ p ∷ []) ≡ asks_in own + one_if (is_ask p.entry.event)
-  asks_push = count_push (λ (p : Pair Event). is_ask p.entry.event) own p
+  asks_push = count-push (λ (p : Pair Event). is_ask p.entry.event) own p
 
   pub position_push : (reruns : ℕ) (script : List Item) → script_position reruns script (own ++ p ∷ []) ≡ moved p.entry.event (script_position reruns script own)
   position_push reruns script = fold-append (λ at (p : Pair Event). moved p.entry.event at) (opened script reruns) own (p ∷ [])
@@ -113,7 +106,7 @@ module _ (h g : History) (actor : ActorId) (event : Event) (grown : HasGrown h g
   pub evaluations_grow : (id : ActorId) (number : ℕ) → evaluations id number g.entries ≡ evaluations id number h.entries + one_if (evaluates_message id number event)
   evaluations_grow id number =
       ap (λ (x : History). evaluations id number x.entries) grown.behind
-      ∙ count_push (λ (e : Entry Event). evaluates_message id number e.event) h.entries (next_entry h actor event)
+      ∙ count-push (λ (e : Entry Event). evaluates_message id number e.event) h.entries (next_entry h actor event)
 
   -- what evaluates nothing of the actor leaves its evaluations
   pub evaluations_same : (id : ActorId) (number : ℕ) → evaluates_message id number event ≡ false → evaluations id number g.entries ≡ evaluations id number h.entries

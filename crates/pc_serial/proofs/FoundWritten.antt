@@ -102,7 +102,7 @@ module _ (head : Head) (history : List (Entry Event)) (run : IsRun head history)
         → IsOfBefore (operations_of history) (IsCommitted head history) key ts before (state_at head (range_of head.splits key) front).versions v
     of-before v there of_key seen =
         let still : Contains (state_at head (range_of head.splits key) history).versions v =
-        subst (λ vs. Contains vs v) (sym r.grows.whole) (Contains-append_left (state_at head (range_of head.splits key) front).versions r.grows.more v there) in
+        r.grows.kept v there in
         let early = versions_are_committed head front (range_of head.splits key) v run-front there in
         let now = versions_are_committed head history (range_of head.splits key) v run still in
         let low = r.low in
@@ -130,7 +130,7 @@ module _ (head : Head) (history : List (Entry Event)) (run : IsRun head history)
         let not_above : ts < v.ts → ⊥ = λ above.
         let high : r.good < v.ts = each-contains (λ (v : Version). v.key ≡ key → (v.id ≡ id → ⊥) → ts < v.ts → r.good < v.ts) (state_at head (range_of head.splits key) history).versions v r.clear.versions there of_key differs above in
         omega (arith, high, ts_is, early, reaches) in
-        elim (Contains-append_cases (state_at head (range_of head.splits key) front).versions r.grows.more v (subst (λ vs. Contains vs v) r.grows.whole there)) [
+        elim (r.grows.above v there) [
           | inl old ↦ record {
             v = v;
             there = old;
@@ -139,7 +139,7 @@ module _ (head : Head) (history : List (Entry Event)) (run : IsRun head history)
             at = subst (IsCommitted head history other) (sym ts_is) is;
             value_is = ap (λ (v : Version). v.value) made;
           }
-          | inr new ↦ absurd (not_above (All-contains (λ (v : Version). IsTrue (contains span v.key) → (v.id ≡ id → ⊥) → ts < v.ts) r.grows.more v r.grows.above new (subst (λ k. contains span k ≡ true) (sym of_key) r.inside) differs))
+          | inr new ↦ absurd (not_above (new (subst (λ k. contains span k ≡ true) (sym of_key) r.inside) differs))
         ]
 
     -- no intent of another is left

@@ -10,13 +10,9 @@ use Rattle.std.specs.List.Sorted.{IsStrictlySortedBy}
 use Rattle.std.specs.Ordering.{match_ordering, ordering_reverse}
 use Rattle.pc_base.specs.declared.transaction.TxnId.{TxnId}
 use Rattle.pc_base.specs.Keyed.{in_order}
+use Rattle.pc_lists.proofs.Each.{each-contains}
 use Rattle.pc_lists.proofs.Lists.{contains_cons, contains_head, contains_map, contains_nil, contains_tail}
 use Rattle.pc_world.specs.Legal.{StandsBefore}
-
-pub each-contains : {X : Type 0} (P : X → Type 0) (xs : List X) (x : X) → Each P xs → Contains xs x → P x
-each-contains P [] x a c = absurd (contains_nil x c)
-each-contains P (y ∷ ys) x a c =
-    elim (contains_cons y ys x c) [ inl same ↦ subst P same a.0 | inr later ↦ each-contains P ys x a.1 later ]
 
 flipped : {K : Type 0} (cmp : K → K → Ordering) → IsTotalOrder cmp → (a b : K) → cmp a b ≡ Greater → cmp b a ≡ Less
 flipped cmp total a b h = total.antisymm b a ∙ ap ordering_reverse h

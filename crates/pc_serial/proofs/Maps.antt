@@ -1,6 +1,6 @@
 -- Look-ups in entries that rise by key: where an entry was put in or taken away, in a part of them, and that they tell all.
 use Rattle.std.proofs.Common.{◌≡◌, ℕ, Bool, true, false, cond, List, [], ◌∷◌, ◌++◌, map, filter, Option, None, Some, refl, sym, ap, subst, ◌∙◌, arith}
-use Rattle.std.proofs.lemmas.Cmp.{nat_list_cmp_total, tied_itself}
+use Rattle.std.proofs.lemmas.Cmp.{nat_list_cmp_total}
 use Rattle.std.proofs.lemmas.Map.Lookups.{exact_bytes}
 use Rattle.std.specs.BTreeMap.{insert_entry}
 use Rattle.std.specs.Cmp.Lexicographic.{slice_cmp}
@@ -12,19 +12,8 @@ use Rattle.std.specs.Ordering.{is_eq, match_ordering, nat_cmp, ordering_reverse}
 use Rattle.pc_base.specs.Keyed.{at, without}
 use Rattle.pc_base.specs.Span.{same_key}
 use Rattle.pc_lists.proofs.Each.{each-append, each-filter, each-unmap, each-weaker}
+use Rattle.pc_lists.proofs.Same.{same_key-is, same_key-self}
 use Rattle.pc_serial.proofs.InOrder.{Rises}
-
-is-equal : (o : Ordering) → is_eq o ≡ true → o ≡ Equal
-is-equal Less h = absurd cc
-is-equal Equal h = refl
-is-equal Greater h = absurd cc
-
--- keys that are the same bytes are one
-pub same-keys : (one other : List ℕ) → same_key one other ≡ true → one ≡ other
-same-keys one other h = exact_bytes one other (is-equal (slice_cmp nat_cmp one other) h)
-
-pub key-itself : (key : List ℕ) → same_key key key ≡ true
-key-itself key = ap is_eq (tied_itself nat_list_cmp_total key)
 
 turned : (o : Ordering) → is_eq (ordering_reverse o) ≡ is_eq o
 turned Less = refl
@@ -49,17 +38,17 @@ module _ {V : Type 0} where
       → at same_key key (match_ordering o ((k, v) ∷ e ∷ es) ((e.0, v) ∷ es) (e ∷ insert_entry (slice_cmp nat_cmp) es k v)) ≡ cond (same_key k key) (Some v) (at same_key key (e ∷ es)) = elim [
         | Less ↦ λ is. grind arith
         | Equal ↦ λ is. let same : k ≡ e.0 = exact_bytes k e.0 is in grind (arith, same)
-        | Greater ↦ λ is. let apart : same_key k e.0 ≡ false = ap is_eq is in grind (arith, apart, rest, same-keys e.0 key)
+        | Greater ↦ λ is. let apart : same_key k e.0 ≡ false = ap is_eq is in grind (arith, apart, rest, same_key-is e.0 key)
       ] in by (slice_cmp nat_cmp k e.0) refl
 
   pub at-without : (k key : List ℕ) (es : List (List ℕ × V)) → at same_key key (without same_key k es) ≡ cond (same_key k key) None (at same_key key es)
   at-without k key [] = grind arith
-  at-without k key (e ∷ es) = grind (arith, at-without k key es, same-keys e.0 key, same-keys e.0 k, same-keys k key)
+  at-without k key (e ∷ es) = grind (arith, at-without k key es, same_key-is e.0 key, same_key-is e.0 k, same_key-is k key)
 
   -- a part of the entries, chosen by their keys
   pub at-part : (test : List ℕ → Bool) (key : List ℕ) (es : List (List ℕ × V)) → at same_key key (filter (λ e. test e.0) es) ≡ cond (test key) (at same_key key es) None
   at-part test key [] = grind arith
-  at-part test key (e ∷ es) = grind (arith, at-part test key es, same-keys e.0 key)
+  at-part test key (e ∷ es) = grind (arith, at-part test key es, same_key-is e.0 key)
 
   pub at-append : (key : List ℕ) (es fs : List (List ℕ × V)) → at same_key key es ≡ None → at same_key key (es ++ fs) ≡ at same_key key fs
   at-append key [] fs h = refl
@@ -79,7 +68,7 @@ module _ {V : Type 0} where
       at-none key es (each-weaker (λ (e : List ℕ × V). P e.0) (λ e. same_key e.0 key ≡ false) (λ e h. apart e (same_key e.0 key) refl h) es a)
     where
       apart : (e : List ℕ × V) (b : Bool) → same_key e.0 key ≡ b → P e.0 → same_key e.0 key ≡ false
-      apart e true is h = absurd (out (subst P (same-keys e.0 key is) h))
+      apart e true is h = absurd (out (subst P (same_key-is e.0 key is) h))
       apart e false is h = is
 
   -- ---- order
@@ -105,7 +94,7 @@ module _ {V : Type 0} where
   -- ---- equal look-ups
 
   at-head : (e : List ℕ × V) (es : List (List ℕ × V)) → at same_key e.0 (e ∷ es) ≡ Some e.1
-  at-head e es = grind (arith, key-itself e.0)
+  at-head e es = grind (arith, same_key-self e.0)
 
   at-tail : (key : List ℕ) (e : List ℕ × V) (es : List (List ℕ × V)) → same_key e.0 key ≡ false → at same_key key (e ∷ es) ≡ at same_key key es
   at-tail key e es apart = grind (arith, apart)
@@ -146,7 +135,7 @@ module _ {V : Type 0} where
       let first : e.0 ≡ f.0 = first-keys e f es fs r s h in
       let by : (b : Bool) → same_key e.0 key ≡ b → at same_key key es ≡ at same_key key fs = elim [
         | true ↦ λ is.
-            let here : e.0 ≡ key = same-keys e.0 key is in
+            let here : e.0 ≡ key = same_key-is e.0 key is in
             let there : f.0 ≡ key = sym first ∙ here in
             let one : at same_key key es ≡ None = at-below key es (subst (λ k. Each (λ (x : List ℕ × V). slice_cmp nat_cmp k x.0 ≡ Less) es) here r.0) in
             let other : at same_key key fs ≡ None = at-below key fs (subst (λ k. Each (λ (x : List ℕ × V). slice_cmp nat_cmp k x.0 ≡ Less) fs) there s.0) in

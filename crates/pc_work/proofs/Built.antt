@@ -23,8 +23,8 @@ use Rattle.pc_work.specs.Texts.{key_of}
 use Rattle.pc_work.specs.Session.{session_names, session_of}
 use Rattle.pc_work.specs.Splits.{rises, splits_of}
 use Rattle.pc_work.specs.Turn.{is_turn_there, turn_of}
-use Rattle.pc_work.specs.Workload.{are_stated_turns, first_items, are_sessions, is_within_limits, workload_names, workload_of}
-use Rattle.pc_work.specs.Built.{IsReadStatement, IsWriteStatement, IsBuiltItem, IsBuiltSession, IsTurnOf, AreTurnsOf, RisesBehind, IsBuilt}
+use Rattle.pc_work.specs.Workload.{are_stated_turns, is_within_limits, first_items, are_sessions, workload_names, workload_of}
+use Rattle.pc_work.specs.Built.{IsReadStatement, IsWriteStatement, IsBuiltItem, IsBuiltSession, IsTurnOf, AreTurnsOf, IsBuilt}
 use Rattle.pc_work.specs.declared.item.Item.TheVariants.{Txn}
 use Rattle.pc_work.specs.declared.session.SessionWork.{SessionWork}
 use Rattle.pc_work.specs.declared.statement.Statement.{Statement}
@@ -129,15 +129,12 @@ session_is_built value =
     only_known (All IsBuiltItem) IsBuiltSession (list_by item_of found) _ (list_only IsBuiltItem item_of item_is_built found) (λ script items.
     only_some IsBuiltSession (record { script = script; clock = Some clock }) (record { clock = refl; items = items }))))))
 
-rises_behind : (key : List ℕ) (keys : List (List ℕ)) → rises (key ∷ keys) ≡ true → RisesBehind key keys
-rises_behind key [] e = tt
-rises_behind key (next ∷ others) e =
-    let both = and_parts (key_below key next) (rises (next ∷ others)) e in
-    (both.0, rises_behind next others both.1)
-
 rises_by : (keys : List (List ℕ)) → rises keys ≡ true → AreRising keys
 rises_by [] e = tt
-rises_by (key ∷ keys) e = rises_behind key keys e
+rises_by (key ∷ []) e = tt
+rises_by (key ∷ next ∷ others) e =
+    let both = and_parts (key_below key next) (rises (next ∷ others)) e in
+    (both.0, rises_by (next ∷ others) both.1)
 
 -- The splits rise, and are no more than the limit.
 record AreSplits (splits : List (List ℕ)) : Type 0 where

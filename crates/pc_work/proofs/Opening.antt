@@ -4,7 +4,7 @@ use Rattle.std.proofs.lemmas.Bool.{and_parts, leb-true}
 use Rattle.std.proofs.lemmas.List.Sums.{sum_by-cons}
 use Rattle.pc_base.specs.declared.limits.TheConstants.{MOST_SESSIONS, MOST_STATEMENTS}
 use Rattle.pc_work.specs.Count.{item_count, session_count}
-use Rattle.pc_work.specs.Workload.{are_stated_turns, first_items, are_sessions, is_within_limits}
+use Rattle.pc_work.specs.Workload.{are_stated_turns, first_items, is_within_limits, are_sessions}
 use Rattle.pc_work.specs.declared.item.Item.{Item}
 use Rattle.pc_work.specs.declared.item.Item.TheVariants.{Learn, Txn}
 use Rattle.pc_work.specs.declared.session.SessionWork.{SessionWork}

@@ -1,7 +1,7 @@
 -- The form of a workload that is read, as a fact about the workload itself: what runs a workload may rest on it.
-use Rattle.std.specs.Prelude.{◌≡◌, ◌≤◌, ℕ, false, List, [], ◌∷◌, length, sum_by, IsSome, IsSomeAnd, IsTrue, All, ◌⊎◌, ⊤}
-use Rattle.pc_base.specs.declared.limits.TheConstants.{MOST_RERUNS, MOST_SESSIONS, MOST_SPLITS, MOST_STATEMENTS, MOST_TURNS}
-use Rattle.pc_base.specs.Span.{key_below}
+use Rattle.std.specs.Prelude.{◌≡◌, ◌≤◌, ℕ, false, List, length, sum_by, IsSome, IsSomeAnd, All, ◌⊎◌, ⊤}
+use Rattle.pc_base.specs.declared.limits.TheConstants.{DEFAULT_ENTRIES, DEFAULT_TRIES, MOST_RERUNS, MOST_SESSIONS, MOST_SPLITS, MOST_STATEMENTS, MOST_TURNS}
+use Rattle.pc_base.specs.Rising.{AreRising}
 use Rattle.pc_work.specs.Count.{session_count}
 use Rattle.pc_work.specs.Workload.{first_items}
 use Rattle.pc_work.specs.declared.statement.Statement.{Statement}
@@ -50,16 +50,6 @@ pub record AreTurnsOf (sessions : ℕ) (listed : List Turn) : Type 0 where
   pub few : length listed ≤ MOST_TURNS
   pub each : All (IsTurnOf sessions) listed
 
--- The first of the keys stands behind this one, and each other behind the one before it.
-abbrev pub RisesBehind : List ℕ → List (List ℕ) → Type 0
-RisesBehind key [] = ⊤
-RisesBehind key (next ∷ others) = IsTrue (key_below key next) × RisesBehind next others
-
--- Each key stands before the one behind it.
-abbrev pub Rises : List (List ℕ) → Type 0
-Rises [] = ⊤
-Rises (key ∷ others) = RisesBehind key others
-
 -- The workload runs in stated turns without pipelining, its sessions within their limits, and what it cannot state is at its default.
 pub record IsBuilt (work : Workload) : Type 0 where
   -- The version is the one that is known.
@@ -67,13 +57,13 @@ pub record IsBuilt (work : Workload) : Type 0 where
   -- No put goes on before its range has answered.
   pub pipelining : work.pipelining ≡ false
   -- The splits rise strictly, in key order.
-  pub splits : Rises work.splits
+  pub splits : AreRising work.splits
   -- The splits are no more than their limit.
   pub few_splits : length work.splits ≤ MOST_SPLITS
   -- The limit of an actor's entries is the default one.
-  pub limit : work.limit ≡ 1000000
+  pub limit : work.limit ≡ DEFAULT_ENTRIES
   -- The tries of a request are the default ones.
-  pub tries : work.tries ≡ 4
+  pub tries : work.tries ≡ DEFAULT_TRIES
   -- The reruns are no more than their limit.
   pub reruns : work.reruns ≤ MOST_RERUNS
   -- No more items run ahead than the first session has.

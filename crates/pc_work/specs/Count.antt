@@ -23,7 +23,3 @@ item_count (Txn priority statements commits) = sum_by statement_count statements
 -- What the items of one session count for.
 abbrev pub session_count : SessionWork → ℕ
 session_count session = sum_by item_count session.script
-
--- The most statements that a workload has.
-abbrev pub statement_limit : ℕ
-statement_limit = 100000

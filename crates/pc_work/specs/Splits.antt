@@ -1,14 +1,11 @@
 -- The splits of a workload: the first key of each range but the first one, in key order.
 use Rattle.std.specs.Prelude.{ℕ, Bool, true, ◌&&◌, List, [], ◌∷◌, length, nat_le, Option, Some, None, if◌then◌else◌}
 use Rattle.serde_json.specs.Data.{Data}
+use Rattle.pc_base.specs.declared.limits.TheConstants.{MOST_SPLITS}
 use Rattle.pc_base.specs.Span.{key_below}
 use Rattle.pc_work.specs.Reading.{◌>>=◌}
 use Rattle.pc_work.specs.Lists.{list_by}
 use Rattle.pc_work.specs.Texts.{key_of}
-
--- The most splits that a workload has.
-abbrev pub split_limit : ℕ
-split_limit = 15
 
 -- Each key stands before the one behind it.
 abbrev pub rises : List (List ℕ) → Bool
@@ -20,4 +17,4 @@ rises (key ∷ (next ∷ others)) = key_below key next && rises (next ∷ others
 unfoldable pub splits_of : Data → Option (List (List ℕ))
 splits_of value = do
   keys ← list_by key_of value
-  if nat_le (length keys) split_limit && rises keys then Some keys else None
+  if nat_le (length keys) MOST_SPLITS && rises keys then Some keys else None

@@ -5,7 +5,7 @@ use Rattle.std.specs.List.{list_all}
 use Rattle.serde_json.specs.Data.{Data}
 use Rattle.serde_json.specs.Find.{get, as_bool}
 use Rattle.serde_json.specs.Read.{read}
-use Rattle.pc_base.specs.declared.limits.TheConstants.{MOST_STATEMENTS}
+use Rattle.pc_base.specs.declared.limits.TheConstants.{DEFAULT_ENTRIES, DEFAULT_RERUNS, DEFAULT_TRIES, MOST_RERUNS, MOST_SESSIONS, MOST_STATEMENTS, MOST_TURNS}
 use Rattle.pc_work.specs.Reading.{◌>>=◌}
 use Rattle.pc_work.specs.Members.{has_only, whole_of, whole_up_to, whole_in, member_or}
 use Rattle.pc_work.specs.Lists.{list_by}
@@ -23,18 +23,6 @@ use Rattle.pc_work.specs.declared.workload.Workload.{Workload}
 abbrev pub workload_names : List (List ℕ)
 workload_names = codes "version" ∷ codes "pipelining" ∷ codes "splits" ∷ codes "reruns" ∷ codes "opening" ∷ codes "turns" ∷ codes "sessions" ∷ []
 
--- The most reruns that a workload allows.
-abbrev pub rerun_limit : ℕ
-rerun_limit = 64
-
--- The most sessions that a workload has.
-abbrev pub session_limit : ℕ
-session_limit = 64
-
--- The most turns that a workload has.
-abbrev pub turn_limit : ℕ
-turn_limit = 1000000
-
 -- How many items the first session has.
 abbrev pub first_items : List SessionWork → ℕ
 first_items [] = 0
@@ -43,11 +31,11 @@ first_items (first ∷ others) = length first.script
 -- From one session to the limit, with no more statements than the limit.
 abbrev pub are_sessions : List SessionWork → Bool
 are_sessions sessions =
-    nat_le 1 (length sessions) && nat_le (length sessions) session_limit && nat_le (sum_by session_count sessions) MOST_STATEMENTS
+    nat_le 1 (length sessions) && nat_le (length sessions) MOST_SESSIONS && nat_le (sum_by session_count sessions) MOST_STATEMENTS
 
 -- No more turns than the limit, and each is that of one that is there.
 abbrev pub are_stated_turns : List SessionWork → List Turn → Bool
-are_stated_turns sessions turns = nat_le (length turns) turn_limit && list_all (is_turn_there (length sessions)) turns
+are_stated_turns sessions turns = nat_le (length turns) MOST_TURNS && list_all (is_turn_there (length sessions)) turns
 
 -- Version 1 without pipelining, and sessions, turns and an opening within their limits.
 abbrev pub is_within_limits : ℕ → Bool → ℕ → List SessionWork → List Turn → Bool
@@ -61,7 +49,7 @@ workload_of value = if has_only workload_names value then (do
   asked ← get (codes "pipelining") value
   pipelining ← as_bool asked
   splits ← member_or [] splits_of (codes "splits") value
-  reruns ← member_or 8 (whole_up_to rerun_limit) (codes "reruns") value
+  reruns ← member_or DEFAULT_RERUNS (whole_up_to MOST_RERUNS) (codes "reruns") value
   opening ← member_or 0 whole_of (codes "opening") value
   listed ← get (codes "turns") value
   turns ← list_by turn_of listed
@@ -71,8 +59,8 @@ workload_of value = if has_only workload_names value then (do
     version = 1;
     pipelining = false;
     splits = splits;
-    limit = 1000000;
-    tries = 4;
+    limit = DEFAULT_ENTRIES;
+    tries = DEFAULT_TRIES;
     reruns = reruns;
     opening = opening;
     sessions = sessions;

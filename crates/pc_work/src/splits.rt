@@ -6,13 +6,11 @@ ghost use Rattle.pc_work.specs.Splits.{rises, splits_of};
 
 use crate::fault::Misfit;
 use crate::json::list;
+use pc_base::limits::MOST_SPLITS;
 use pc_base::{Items, Key};
 use pc_proto::Keys;
 use serde_json::Value as Json;
 use std::alloc::Global;
-
-/// The most splits of a workload.
-const SPLITS: usize = 15;
 
 /// The splits that a workload states; none where it states none.
 pub(crate) fn splits_or_none(alloc: Global, json: &Json, name: &str) -> Result<Keys, Misfit>
@@ -29,7 +27,7 @@ pub(crate) fn splits_of(alloc: Global, json: &Json) -> Result<Keys, Misfit>
     ensures { Gives result (splits_of (view json.now)) }
 {
     let keys: Keys = list(alloc, json)?;
-    if keys.len() > SPLITS || !rises(keys.as_slice()) {
+    if keys.len() > MOST_SPLITS || !rises(keys.as_slice()) {
         return Err(Misfit::OtherForm);
     }
     Ok(keys)

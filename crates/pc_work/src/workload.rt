@@ -14,6 +14,10 @@ use crate::json::{flag, has_only, list, member, whole, whole_member, whole_up_to
 use crate::session::Sessions;
 use crate::splits::splits_or_none;
 use crate::turn::{Turn, Turns};
+use pc_base::limits::{
+    DEFAULT_ENTRIES, DEFAULT_RERUNS, DEFAULT_TRIES, MOST_RERUNS, MOST_SESSIONS, MOST_STATEMENTS,
+    MOST_TURNS,
+};
 use pc_proto::Keys;
 use serde_json::Value as Json;
 use std::alloc::Global;
@@ -23,15 +27,6 @@ const NO_JSON: u8 = 1;
 
 /// The number of the refusal of a value of another form than a workload's.
 const OTHER_FORM: u8 = 10;
-
-/// The most statements of a workload, each begin, each end and each learn counted, and an add as two.
-const STATEMENTS: u64 = 100_000;
-
-const RERUNS: u32 = 64;
-
-const SESSIONS: usize = 64;
-
-const TURNS: usize = 1_000_000;
 
 /// What all sessions do, over which ranges, and in which order.
 #[derive(Debug, PartialEq, Eq, Drop)]
@@ -102,8 +97,8 @@ fn workload_of(alloc: Global, json: &Json) -> Result<Workload, Misfit>
         version: 1,
         pipelining: false,
         splits,
-        limit: 1_000_000,
-        tries: 4,
+        limit: DEFAULT_ENTRIES,
+        tries: DEFAULT_TRIES,
         reruns,
         opening: opening as u32,
         sessions,
@@ -129,13 +124,13 @@ fn has_known_members(json: &Json) -> bool
     )
 }
 
-/// How often a transaction may be asked again, by default 8 times.
+/// How often a transaction may be asked again, by default as the limits say.
 fn reruns_or_default(json: &Json, name: &str) -> Result<u32, Misfit>
-    ensures { Gives result (member_or 8 (whole_up_to MOST_RERUNS) name.now (view json.now)) }
+    ensures { Gives result (member_or DEFAULT_RERUNS (whole_up_to MOST_RERUNS) name.now (view json.now)) }
 {
     match json.get(name) {
-        Some(stated) => whole_up_to(stated, RERUNS),
-        None => Ok(8),
+        Some(stated) => whole_up_to(stated, MOST_RERUNS),
+        None => Ok(DEFAULT_RERUNS),
     }
 }
 
@@ -179,13 +174,13 @@ fn first_items(sessions: &Sessions) -> u64
 fn are_sessions(sessions: &Sessions) -> bool
     ensures { result ≡ are_sessions sessions.now }
 {
-    sessions.len() >= 1 && sessions.len() <= SESSIONS && sessions.count() <= STATEMENTS
+    sessions.len() >= 1 && sessions.len() <= MOST_SESSIONS && sessions.count() <= MOST_STATEMENTS
 }
 
 fn are_turns(sessions: &Sessions, turns: &Turns) -> bool
     ensures { result ≡ are_stated_turns sessions.now turns.now }
 {
-    turns.len() <= TURNS && are_there(turns.as_slice(), sessions.len())
+    turns.len() <= MOST_TURNS && are_there(turns.as_slice(), sessions.len())
 }
 
 fn are_there(turns: &[Turn], sessions: usize) -> bool

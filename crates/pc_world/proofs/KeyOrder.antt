@@ -1,6 +1,6 @@
 -- The order of keys is total.
 use Rattle.std.proofs.Common.{◌≡◌, ℕ, Bool, true, false, not, List, refl, sym, ap, ◌∙◌}
-use Rattle.std.proofs.lemmas.Cmp.{nat_list_cmp_total, tied_itself, upto}
+use Rattle.std.proofs.lemmas.Cmp.{nat_list_cmp_total, upto}
 use Rattle.std.specs.Cmp.Lexicographic.{slice_cmp}
 use Rattle.std.specs.declared.cmp.Ordering.{Ordering}
 use Rattle.std.specs.declared.cmp.Ordering.TheVariants as orderings
@@ -24,10 +24,6 @@ not-greater orderings.Greater = refl
 -- a key is at most another just if that is not below it
 pub at_most-is : (one other : List ℕ) → key_at_most one other ≡ not (key_below other one)
 at_most-is one other = not-greater (slice_cmp nat_cmp one other) ∙ ap not (sym (above one other))
-
--- no key is below itself
-pub not-below-itself : (key : List ℕ) → key_below key key ≡ false
-not-below-itself key = ap is_lt (tied_itself nat_list_cmp_total key)
 
 less-only : (o : Ordering) → is_lt o ≡ true → is_gt o ≡ false
 less-only orderings.Less h = refl

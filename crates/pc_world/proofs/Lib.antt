@@ -1,7 +1,6 @@
-pub mod Anywhere
-pub mod Each
 pub mod Exchange
 pub mod Kept
+pub mod KeptVersions
 pub mod KeyOrder
 pub mod Knowing
 pub mod Pieces

@@ -10,8 +10,8 @@ use Rattle.pc_proto.specs.declared.event.Event.{Event}
 use Rattle.pc_proto.specs.declared.event.Event.TheVariants as events
 use Rattle.pc_proto.specs.declared.reply.Reply.{Reply}
 use Rattle.pc_proto.specs.declared.request.Request.{Request}
-use Rattle.pc_proto.specs.declared.request.Request.TheVariants as requests
 use Rattle.pc_proto.specs.Replies.{view_in}
+use Rattle.pc_proto.specs.Requests.{Commits, Recovers}
 use Rattle.pc_proto.specs.Views.{is_committed_at}
 use Rattle.pc_world.specs.Committed.{IsCommitted}
 use Rattle.pc_world.specs.Known.Traffic.{reply_in}
@@ -23,16 +23,6 @@ use Rattle.pc_world.specs.Run.{protocol}
 abbrev pub TellsCommit : TxnId → ℕ → Event → Type 0
 TellsCommit id ts (events.Tell (answers.Committed other at)) = (other ≡ id) × (at ≡ ts)
 TellsCommit id ts _ = ⊥
-
--- The request is a commit of the transaction.
-abbrev pub Commits : TxnId → Request → Type 0
-Commits id (requests.Commit meta ts locks) = meta.id ≡ id
-Commits id _ = ⊥
-
--- The request recovers the transaction.
-abbrev pub Recovers : TxnId → Request → Type 0
-Recovers id (requests.Recover other epoch ts anchor finding) = other ≡ id
-Recovers id _ = ⊥
 
 -- After these entries, the entry evaluates such a request and answers that its transaction is committed at this timestamp.
 pub record AnswersCommitted (head : Head) (before : List (Entry Event)) (ts : ℕ) (Is : Request → Type 0) (e : Entry Event) : Type 0 where

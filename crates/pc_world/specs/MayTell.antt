@@ -1,8 +1,9 @@
 -- What an actor may tell, by what it knows.
-use Rattle.std.specs.Prelude.{◌≡◌, ℕ, ◌^◌, nat_lt, Bool, true, false, ◌&&◌, not, Some, List}
+use Rattle.std.specs.Prelude.{◌≡◌, ℕ, nat_lt, Bool, true, false, ◌&&◌, not, Some, List}
 use Rattle.std.specs.Bool.{MatchBool}
 use Rattle.std.specs.List.{list_any}
 use Rattle.pc_base.specs.declared.actor.ActorId.{ActorId}
+use Rattle.pc_base.specs.declared.limits.TheConstants.{GREATEST_READING}
 use Rattle.pc_base.specs.Transaction.{same_txn}
 use Rattle.pc_proto.specs.declared.answer.Answer.{Answer}
 use Rattle.pc_proto.specs.declared.answer.Answer.TheVariants as answers
@@ -34,7 +35,7 @@ is_begin _ = false
 
 -- A begin at a reading past the clock's range, which is up to 2^62 nanoseconds.
 abbrev pub is_past_range : Statement → Bool
-is_past_range s = is_begin s.call && nat_lt (2 ^ 62) s.reading
+is_past_range s = is_begin s.call && nat_lt GREATEST_READING s.reading
 
 -- A learn is told that it learnt where the commit was met in it.
 abbrev pub IsLearnTold : Bool → Known → Call → Type 0

@@ -1,16 +1,10 @@
 -- Which range holds a key or a span. Own profile: ranges are fixed, and cut at the split keys.
-use Rattle.std.specs.Prelude.{◌≡◌, ℕ, ◌+◌, ◌≤◌, if◌then◌else◌, Option, None, Some, List, [], ◌∷◌, ◌++◌, length, count_by, All, IsTrue, ⊤}
+use Rattle.std.specs.Prelude.{◌≡◌, ℕ, ◌+◌, ◌≤◌, if◌then◌else◌, Option, None, Some, List, [], ◌∷◌, ◌++◌, length, count_by, All, ⊤}
 use Rattle.pc_base.specs.declared.span.Span.{Span}
 use Rattle.pc_base.specs.declared.span.Span.TheVariants.{One, Between}
 use Rattle.pc_base.specs.Span.{is_empty, key_at_most, key_below}
 use Rattle.pc_proto.specs.declared.request.Request.{Request}
 use Rattle.pc_proto.specs.declared.request.Request.TheVariants as requests
-
--- The keys rise, each strictly above the one before.
-abbrev pub AreRising : List (List ℕ) → Type 0
-AreRising [] = ⊤
-AreRising (key ∷ []) = ⊤
-AreRising (key ∷ next ∷ keys) = IsTrue (key_below key next) × AreRising (next ∷ keys)
 
 -- How many split keys are not above the key.
 abbrev pub range_of : List (List ℕ) → List ℕ → ℕ

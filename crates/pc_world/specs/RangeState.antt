@@ -5,8 +5,8 @@ use Rattle.pc_base.specs.declared.version.Version.{Version}
 use Rattle.pc_proto.specs.declared.record.Intent.{Intent}
 use Rattle.pc_proto.specs.Table.{Table, empty_table}
 
--- The committed versions of its keys, at most one intent under each key, what has been read, and the records and marks of the
--- transactions whose anchor it holds.
+-- The committed versions of its keys, by key and timestamp; at most one intent under each key, by key; what has been read; and the
+-- records and marks of the transactions whose anchor it holds.
 pub record RangeState : Type 0 where
   pub versions : List Version
   pub intents : List (List ℕ × Intent)

@@ -11,7 +11,7 @@ use Rattle.pc_proto.specs.declared.request.Request.{Request}
 use Rattle.pc_proto.specs.declared.request.Request.TheVariants as requests
 use Rattle.pc_proto.specs.declared.view.View.{View}
 use Rattle.pc_proto.specs.declared.view.View.TheVariants as views
-use Rattle.pc_proto.specs.Views.{is_final_view}
+use Rattle.pc_proto.specs.Replies.{is_undecided_status}
 use Rattle.pc_world.specs.Known.Traffic.{Heard, Sent}
 use Rattle.pc_world.specs.Known.Transactions.{lists_write}
 use Rattle.pc_world.specs.Views.{shows_undecided}
@@ -90,15 +90,10 @@ pub record IsDeadByWrite (heard : List Heard) (s : SentStage) (h : Heard) : Type
 abbrev pub IsDead : List Heard → SentStage → Type 0
 IsDead heard s = IsLateByRecord heard s ⊎ Any (IsDeadByWrite heard s) heard
 
--- The reply shows a record that is not final.
-abbrev pub is_unsettled_status : Reply → Bool
-is_unsettled_status (replies.Status view) = not (is_final_view view)
-is_unsettled_status _ = false
-
 -- The commit was told, by this reply, that the record is not final.
 pub record Refuses (c : SentCommit) (h : Heard) : Type 0 where
   pub asked : h.request ≡ commit_request c
-  pub unsettled : IsTrue (is_unsettled_status h.reply)
+  pub unsettled : IsTrue (is_undecided_status h.reply)
 
 -- The commit was told that the record is not final.
 abbrev pub WasCommitRefused : List Heard → SentCommit → Type 0

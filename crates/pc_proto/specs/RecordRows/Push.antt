@@ -2,6 +2,7 @@
 -- A push that wins against a STAGING record decides nothing: a recovery must. SIGMOD 2020 paper, section 3.2; that a level
 -- or an expiry decides is this project's own profile.
 use Rattle.std.specs.Prelude.{ℕ, ◌-◌, nat_le, nat_lt, Bool, false, ◌||◌, if◌then◌else◌, []}
+use Rattle.pc_base.specs.declared.limits.TheConstants.{EXPIRY}
 use Rattle.pc_base.specs.declared.transaction.Priority.{Priority}
 use Rattle.pc_base.specs.declared.transaction.Priority.TheVariants.{Low, Normal, High}
 use Rattle.pc_base.specs.declared.transaction.Who.{Who}
@@ -13,10 +14,6 @@ use Rattle.pc_proto.specs.declared.why.Why.TheVariants.{Pushed}
 use Rattle.pc_proto.specs.Place.{Place, Nothing, Kept, Marked, Change, Stay, Become}
 use Rattle.pc_proto.specs.RecordRows.Reached.{status_of, is_staging, epoch_from, ts_of, activity_of, at_epoch}
 
--- A holder expires 5,000,000,000 nanoseconds after its last activity.
-abbrev pub expiry : ℕ
-expiry = 5000000000
-
 -- Of two levels the higher one has the higher rank.
 abbrev pub level_rank : Priority → ℕ
 level_rank Low = 0
@@ -25,7 +22,7 @@ level_rank High = 2
 
 -- The level is higher than the holder's, or the holder has expired.
 abbrev pub wins : TxnMeta → Priority → ℕ → Place → Bool
-wins holder level now p = nat_lt (level_rank holder.priority) (level_rank level) || nat_lt expiry (now - activity_of p holder.born)
+wins holder level now p = nat_lt (level_rank holder.priority) (level_rank level) || nat_lt EXPIRY (now - activity_of p holder.born)
 
 -- The record stands at the target or above it.
 abbrev pub reaches_goal : Goal → Place → Bool

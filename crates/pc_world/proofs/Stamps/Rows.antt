@@ -5,8 +5,8 @@ use Rattle.pc_base.specs.declared.transaction.Priority.{Priority}
 use Rattle.pc_base.specs.declared.transaction.TxnId.{TxnId}
 use Rattle.pc_base.specs.declared.transaction.Who.{Who}
 use Rattle.pc_base.specs.Keyed.{at}
-use Rattle.pc_base.specs.Transaction.{same_txn}
-use Rattle.pc_lists.proofs.Each.{each-at, each-set_at, each-without}
+use Rattle.pc_base.specs.Transaction.{same_txn, txn_cmp}
+use Rattle.pc_lists.proofs.Each.{each-at, each-insert, each-without}
 use Rattle.pc_proto.specs.declared.fate.Finding.{Finding}
 use Rattle.pc_proto.specs.declared.fate.Finding.TheVariants as findings
 use Rattle.pc_proto.specs.declared.fate.Goal.{Goal}
@@ -171,13 +171,13 @@ module _ (n : ℕ) where
 
   records-within : (id : TxnId) (c : Change) (records : List (TxnId × Record)) → ChangeWithin n c → Each (λ e. StatusWithin n e.1.status) records → Each (λ e. StatusWithin n e.1.status) (records_after id c records)
   records-within id Stay records h a = a
-  records-within id (Become r) records h a = each-set_at (λ r. StatusWithin n r.status) same_txn id r records h a
+  records-within id (Become r) records h a = each-insert (λ r. StatusWithin n r.status) txn_cmp id r records h a
   records-within id (Finish s) records h a = each-without (λ r. StatusWithin n r.status) same_txn id records a
 
   marks-within : (id : TxnId) (c : Change) (marks : List (TxnId × Status)) → ChangeWithin n c → Each (λ e. StatusWithin n e.1) marks → Each (λ e. StatusWithin n e.1) (marks_after id c marks)
   marks-within id Stay marks h a = a
   marks-within id (Become r) marks h a = a
-  marks-within id (Finish s) marks h a = each-set_at (λ s. StatusWithin n s) same_txn id s marks h a
+  marks-within id (Finish s) marks h a = each-insert (λ s. StatusWithin n s) txn_cmp id s marks h a
 
   applied-within : (id : TxnId) (c : Change) (table : Table) → ChangeWithin n c → TableWithin n table → TableWithin n (applied_to id c table)
   applied-within id c table h a = record { records = records-within id c table.records h a.records; marks = marks-within id c table.marks h a.marks }

@@ -1,12 +1,16 @@
 -- A put and a resolve raise the timestamps of versions and intents by at most one.
-use Rattle.std.proofs.Common.{ℕ, ◌+◌, ◌≤◌, Bool, true, false, ◌==◌, if◌then◌else◌, List, [], Option, None, Some, IfSome, arith}
+use Rattle.std.proofs.Common.{ℕ, ◌+◌, ◌≤◌, Bool, true, false, ◌==◌, if◌then◌else◌, List, [], ◌∷◌, fold, Option, None, Some, IfSome, arith}
+use Rattle.std.specs.Cmp.Lexicographic.{slice_cmp}
 use Rattle.std.specs.List.{AllByRecursion as Each}
 use Rattle.std.specs.Option.{option_map_or}
+use Rattle.std.specs.Ordering.{nat_cmp}
+use Rattle.pc_base.proofs.VersionOrder.{each_with_version}
 use Rattle.pc_base.specs.Bound.{ReadBound, least_write, owns}
 use Rattle.pc_base.specs.declared.transaction.TxnId.{TxnId}
 use Rattle.pc_base.specs.declared.version.Version.{Version}
 use Rattle.pc_base.specs.Span.{same_key}
-use Rattle.pc_lists.proofs.Each.{each-append, each-set_at, each-weaker, each-without}
+use Rattle.pc_base.specs.Versions.{with_version}
+use Rattle.pc_lists.proofs.Each.{each-insert, each-weaker, each-without}
 use Rattle.pc_proto.specs.declared.fate.Fate.{Fate}
 use Rattle.pc_proto.specs.declared.fate.Fate.TheVariants as fates
 use Rattle.pc_proto.specs.declared.meta.TxnMeta.{TxnMeta}
@@ -32,7 +36,7 @@ intents-after n key change intents h a =
   where
     by : (change : IntentChange) → ChangeAtMost (n + 1) change → Each (λ e. e.1.ts ≤ n + 1) intents → Each (λ e. e.1.ts ≤ n + 1) (intents_with key change intents)
     by Leave h more = more
-    by (Lay i) h more = each-set_at (λ i. i.ts ≤ n + 1) same_key key i intents h more
+    by (Lay i) h more = each-insert (λ i. i.ts ≤ n + 1) (slice_cmp nat_cmp) key i intents h more
     by Drop h more = each-without (λ i. i.ts ≤ n + 1) same_key key intents more
 
 free : (owner : Bool) (n ts : ℕ) → ts ≤ n → (if owner then ts else ts + 1) ≤ n + 1
@@ -135,7 +139,11 @@ versions-new : (n : ℕ) (id : TxnId) (key : List ℕ) (fate : Fate) (own : Opti
 versions-new n id key fate None h = tt
 versions-new n id key fate (Some i) h = versions-of n id key fate i h
 
+all-kept : (n : ℕ) (versions more : List Version) → Each (λ v. v.ts ≤ n) versions → Each (λ v. v.ts ≤ n) more → Each (λ v. v.ts ≤ n) (fold with_version versions more)
+all-kept n versions [] a b = a
+all-kept n versions (v ∷ vs) a b = all-kept n (with_version versions v) vs (each_with_version (λ v. v.ts ≤ n) versions v b.0 a) b.1
+
 pub resolve-versions : (n : ℕ) (id : TxnId) (key : List ℕ) (fate : Fate) (s : RangeState) → AtMost n (fate_stamps fate) → StateWithin n s → Each (λ v. v.ts ≤ n) (versions_after_resolve id key fate s)
 resolve-versions n id key fate s h a =
     let own = own_at id key s.intents in
-    each-append (λ v. v.ts ≤ n) s.versions (new_versions id key fate own) a.versions (versions-new n id key fate own h)
+    all-kept n s.versions (new_versions id key fate own) a.versions (versions-new n id key fate own h)

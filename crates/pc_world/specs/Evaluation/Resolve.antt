@@ -1,8 +1,9 @@
 -- Resolve: settles a transaction's intent at a key. Of a committed transaction only an intent of the committed epoch, at or
 -- below the commit timestamp, becomes a version; any other goes. SIGMOD 2020 paper, section 3.2.
-use Rattle.std.specs.Prelude.{ℕ, max, nat_le, Bool, ◌&&◌, ◌==◌, if◌then◌else◌, Option, None, Some, List, [], ◌∷◌, ◌++◌}
+use Rattle.std.specs.Prelude.{ℕ, max, nat_le, Bool, ◌&&◌, ◌==◌, if◌then◌else◌, Option, None, Some, List, [], ◌∷◌, fold}
 use Rattle.pc_base.specs.declared.transaction.TxnId.{TxnId}
 use Rattle.pc_base.specs.declared.version.Version.{Version}
+use Rattle.pc_base.specs.Versions.{with_version}
 use Rattle.pc_proto.specs.declared.fate.Fate.{Fate}
 use Rattle.pc_proto.specs.declared.fate.Fate.TheVariants as fates
 use Rattle.pc_proto.specs.declared.record.Intent.{Intent}
@@ -46,6 +47,6 @@ abbrev pub new_versions : TxnId → List ℕ → Fate → Option Intent → List
 new_versions id key fate None = []
 new_versions id key fate (Some i) = versions_of id key fate i
 
--- The range's versions after this resolve.
+-- The range's versions after this resolve, still by key and timestamp.
 abbrev pub versions_after_resolve : TxnId → List ℕ → Fate → RangeState → List Version
-versions_after_resolve id key fate s = s.versions ++ new_versions id key fate (own_at id key s.intents)
+versions_after_resolve id key fate s = fold with_version s.versions (new_versions id key fate (own_at id key s.intents))

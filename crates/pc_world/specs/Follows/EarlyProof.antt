@@ -1,23 +1,11 @@
 -- Early proof: a commit hears no reply to a put before it has sent its first stage or commit, so that writes in flight are proved
 -- beside the staging, not before it. RFC 20180324.
-use Rattle.std.specs.Prelude.{◌≡◌, Bool, true, false, Option, None, Some, ⊤}
+use Rattle.std.specs.Prelude.{◌≡◌, Bool, false, Option, None, Some, ⊤}
 use Rattle.std.specs.List.{list_any}
 use Rattle.pc_proto.specs.declared.call.Call.TheVariants as calls
-use Rattle.pc_proto.specs.declared.request.Request.{Request}
-use Rattle.pc_proto.specs.declared.request.Request.TheVariants as requests
+use Rattle.pc_proto.specs.Requests.{is_put, is_stage_or_commit}
 use Rattle.pc_world.specs.Known.{Known, call_of}
 use Rattle.pc_world.specs.Known.Traffic.{Heard}
-
--- The request is a put.
-abbrev pub is_put : Request → Bool
-is_put (requests.Put meta seq ts key value) = true
-is_put _ = false
-
--- The request stages or commits.
-abbrev pub is_stage_or_commit : Request → Bool
-is_stage_or_commit (requests.Stage meta ts now writes locks) = true
-is_stage_or_commit (requests.Commit meta ts locks) = true
-is_stage_or_commit _ = false
 
 -- A stage or a commit was sent since the last call was asked.
 abbrev pub has_staged_now : Known → Bool

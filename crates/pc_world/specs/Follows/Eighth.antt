@@ -1,6 +1,7 @@
 -- After the eighth: a request that met eight intents in its call goes out no more, the eighth of them has no round, and the call is told
 -- that it is blocked; a commit that was moved eight times sends no further stage or commit, and is told so. Own profile.
-use Rattle.std.specs.Prelude.{◌≡◌, ◌≢◌, ℕ, ◌+◌, Some, List, slice_get, take, ⊤}
+use Rattle.std.specs.Prelude.{◌≡◌, ◌≢◌, ℕ, ◌+◌, Some, slice_get, take, ⊤}
+use Rattle.pc_base.specs.declared.limits.TheConstants.{MOST_CONFLICTS, MOST_REFUSALS}
 use Rattle.pc_base.specs.declared.transaction.TxnId.{TxnId}
 use Rattle.pc_proto.specs.declared.answer.Answer.{Answer}
 use Rattle.pc_proto.specs.declared.answer.Answer.TheVariants as answers
@@ -18,17 +19,17 @@ use Rattle.pc_world.specs.Tell.Refusal.{IsConflictOf, WasMoved}
 
 -- The request met eight intents since the last call was asked.
 abbrev pub MetEighth : Known → Request → Type 0
-MetEighth k request = AtLeast (IsConflictOf request) 8 k.heard_now
+MetEighth k request = AtLeast (IsConflictOf request) MOST_CONFLICTS k.heard_now
 
 -- Stages and commits of the open call were moved eight times.
 abbrev pub WasMovedEighth : Known → Type 0
-WasMovedEighth k = AtLeast (WasMoved k) 8 k.heard_now
+WasMovedEighth k = AtLeast (WasMoved k) MOST_REFUSALS k.heard_now
 
 -- The conflict of which the next round would be is not the eighth of its request.
 abbrev pub IsBelowEighth : Known → Type 0
 IsBelowEighth k =
     (conflict : Heard) → slice_get (conflicts_now k) (rounds_begun k) ≡ Some conflict
-    → AtLeast (IsConflictOf conflict.request) 8 (take (rounds_begun k + 1) (conflicts_now k)) → ⊥
+    → AtLeast (IsConflictOf conflict.request) MOST_CONFLICTS (take (rounds_begun k + 1) (conflicts_now k)) → ⊥
 
 -- What the request itself asks for: a push begins no round of an eighth conflict, and a stage or commit follows no eighth move.
 abbrev pub IsBeforeEighth : Known → Request → Type 0

@@ -1,9 +1,7 @@
 -- Finishing jobs: what a transaction leaves behind when it is over is settled by its own session, between calls: each of its locks in
 -- key order, and then its record is removed. SIGMOD 2020 paper, section 3.2, "asynchronous intent resolution"; the order and the
 -- removal are this project's own profile.
-use Rattle.std.specs.Prelude.{◌≡◌, ℕ, Bool, false, Option, None, Some, List, [], ◌∷◌, ◌++◌, All, Any, IsTrue, map, fold, is_some, if◌then◌else◌, slice_get, ⊤}
-use Rattle.pc_base.specs.declared.transaction.TxnId.{TxnId}
-use Rattle.pc_base.specs.Transaction.{same_txn}
+use Rattle.std.specs.Prelude.{◌≡◌, ℕ, Option, None, Some, List, [], ◌∷◌, ◌++◌, All, Any, IsTrue, map, fold, is_some, if◌then◌else◌, slice_get, ⊤}
 use Rattle.pc_history.specs.declared.pair.Pair.{Pair}
 use Rattle.pc_proto.specs.declared.answer.Answer.{Answer}
 use Rattle.pc_proto.specs.declared.answer.Answer.TheVariants as answers
@@ -12,6 +10,7 @@ use Rattle.pc_proto.specs.declared.event.Event.TheVariants as events
 use Rattle.pc_proto.specs.declared.fate.Fate.{Fate}
 use Rattle.pc_proto.specs.declared.request.Request.{Request}
 use Rattle.pc_proto.specs.declared.request.Request.TheVariants as requests
+use Rattle.pc_proto.specs.Requests.{is_abort_of}
 use Rattle.pc_world.specs.Known.{Known, learn, nothing_known, open_txn}
 use Rattle.pc_world.specs.Known.Transactions.{Txn}
 use Rattle.pc_world.specs.Tell.Refusal.{is_heard}
@@ -83,11 +82,6 @@ pub record IsDue (k : Known) (jobs : List (List Request)) (request : Request) : 
 abbrev pub DoesJobs : Known → List (List Request) → Event → Type 0
 DoesJobs k jobs (events.Send number range request) = k.statement ≡ None → IsDue k jobs request
 DoesJobs k jobs _ = ⊤
-
--- The request aborts the transaction.
-abbrev pub is_abort_of : TxnId → Request → Bool
-is_abort_of id (requests.Abort meta why locks) = same_txn meta.id id
-is_abort_of id _ = false
 
 -- A rollback of a transaction that has an anchor is told only once its abort was heard in the call.
 abbrev pub AbortsFirst : Known → Event → Type 0

@@ -1,6 +1,6 @@
 -- One write for one call: a session sends puts of its open transaction alone, and a call that writes sends one new write, however often it
 -- sends that one again; a write that was in flight is sent again under its own sequence. Own profile.
-use Rattle.std.specs.Prelude.{◌≡◌, ◌⊎◌, Some, List, All, Any, IsTrue, ⊤}
+use Rattle.std.specs.Prelude.{◌≡◌, ◌⊎◌, Some, All, Any, ⊤}
 use Rattle.pc_proto.specs.declared.event.Event.{Event}
 use Rattle.pc_proto.specs.declared.event.Event.TheVariants as events
 use Rattle.pc_proto.specs.declared.meta.TxnMeta.{TxnMeta}

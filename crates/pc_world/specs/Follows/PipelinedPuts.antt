@@ -2,16 +2,16 @@
 -- and a call waits for no write but those in its way, unless as many are in flight as there may be. SIGMOD 2020 paper, section 3.1.
 use Rattle.std.specs.Prelude.{◌≡◌, ℕ, ◌-◌, ◌≤◌, Bool, true, false, ◌&&◌, not, ◌⊎◌, Option, None, Some, List, [], ◌∷◌, length, take, count_by, All, Any, Contains, IsTrue, ⊤}
 use Rattle.std.specs.List.{list_any}
+use Rattle.pc_base.specs.declared.limits.TheConstants.{MOST_IN_FLIGHT}
 use Rattle.pc_base.specs.Span.{contains}
 use Rattle.pc_proto.specs.declared.answer.Answer.TheVariants as answers
 use Rattle.pc_proto.specs.declared.call.Call.{Call}
 use Rattle.pc_proto.specs.declared.call.Call.TheVariants as calls
 use Rattle.pc_proto.specs.declared.event.Event.{Event}
 use Rattle.pc_proto.specs.declared.event.Event.TheVariants as events
-use Rattle.pc_proto.specs.declared.reply.Reply.{Reply}
-use Rattle.pc_proto.specs.declared.reply.Reply.TheVariants as replies
 use Rattle.pc_proto.specs.declared.request.Request.{Request}
 use Rattle.pc_proto.specs.declared.request.Request.TheVariants as requests
+use Rattle.pc_proto.specs.Replies.{is_written}
 use Rattle.pc_proto.specs.Requests.{is_put_of}
 use Rattle.pc_world.specs.Known.{Known, call_of, open_txn}
 use Rattle.pc_world.specs.Known.Statements.{Statement}
@@ -19,15 +19,6 @@ use Rattle.pc_world.specs.Known.Traffic.{Heard, Sent}
 use Rattle.pc_world.specs.Known.Transactions.{Txn}
 use Rattle.pc_world.specs.Known.Writes.{Write, is_proved, writes_replied}
 use Rattle.pc_world.specs.Tell.Data.{IsFirstPut, sent_before}
-
--- How many writes may be in flight before a further one waits for them all.
-abbrev pub most_in_flight : ℕ
-most_in_flight = 64
-
--- The reply says that a write was written.
-abbrev pub is_written : Reply → Bool
-is_written (replies.Written ts) = true
-is_written _ = false
 
 -- The reply is to the put that the open call itself asked for.
 pub record IsToOwnPut (k : Known) (s : Statement) (t : Txn) (h : Heard) : Type 0 where
@@ -62,7 +53,7 @@ was_in_flight k t w =
 
 -- As many writes of the open transaction as there may be were in flight when the last call was asked.
 abbrev pub IsFull : Known → Type 0
-IsFull k = (t : Txn) × (open_txn k ≡ Some t) × (most_in_flight ≤ count_by (was_in_flight k t) t.writes)
+IsFull k = (t : Txn) × (open_txn k ≡ Some t) × (MOST_IN_FLIGHT ≤ count_by (was_in_flight k t) t.writes)
 
 -- The call waits for writes of this key: it reads the key, or writes it, or writes while no further write may be in flight; a call that
 -- neither reads nor writes waits for all.

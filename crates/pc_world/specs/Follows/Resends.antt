@@ -2,7 +2,7 @@
 -- loses none; and then only after it met an intent there, whose holder was pushed since, and as the push said; or, of a commit, after it
 -- was told that the record is not final. A message of a conflict's round is sent once for each conflict. Equal requests go to one range,
 -- but for the listings of records, which no session asks for. Own profile.
-use Rattle.std.specs.Prelude.{◌≡◌, ℕ, ◌+◌, Bool, true, false, ◌⊎◌, Option, None, Some, List, ◌∷◌, ◌++◌, All, Any, IsTrue, ⊤}
+use Rattle.std.specs.Prelude.{◌≡◌, ℕ, ◌+◌, ◌⊎◌, Option, None, Some, List, ◌∷◌, ◌++◌, All, Any, IsTrue, ⊤}
 use Rattle.pc_base.specs.declared.transaction.TxnId.{TxnId}
 use Rattle.pc_proto.specs.declared.event.Event.{Event}
 use Rattle.pc_proto.specs.declared.event.Event.TheVariants as events
@@ -15,7 +15,7 @@ use Rattle.pc_proto.specs.declared.request.Request.{Request}
 use Rattle.pc_proto.specs.declared.request.Request.TheVariants as requests
 use Rattle.pc_proto.specs.declared.view.View.{View}
 use Rattle.pc_proto.specs.Replies.{is_conflict_with, is_undecided_status}
-use Rattle.pc_proto.specs.Requests.{is_push_of}
+use Rattle.pc_proto.specs.Requests.{goal_in, is_commit, is_push_of, round_of}
 use Rattle.pc_proto.specs.Views.{fate_after, final_fate}
 use Rattle.pc_world.specs.Counting.{AtLeast}
 use Rattle.pc_world.specs.Known.{Known}
@@ -61,11 +61,6 @@ WasDone id key goal (replies.Status view) later = WasSettled id key goal view la
 WasDone id key goal (replies.Unsure view) later = WasRecovered id key later
 WasDone id key goal _ later = ⊥
 
--- The goal of a push.
-abbrev pub goal_in : Request → Option Goal
-goal_in (requests.Push holder by level now goal) = Some goal
-goal_in _ = None
-
 -- The holder of the intent at the key was pushed, and what the push's reply asks for was done.
 pub record WasFollowed (id : TxnId) (key : List ℕ) (later : List Heard) : Type 0 where
   pub before : List Heard
@@ -92,23 +87,10 @@ pub record MetConflictNow (k : Known) (request : Request) : Type 0 where
   pub met : conflict.reply ≡ replies.Conflict holder ts key
   pub followed : WasFollowed holder.id key later
 
--- The request is a commit.
-abbrev pub is_commit : Request → Bool
-is_commit (requests.Commit meta ts locks) = true
-is_commit _ = false
-
 -- The request is a commit that was told since the last call was asked that the record is not final.
 pub record WasRefusedNow (k : Known) (request : Request) : Type 0 where
   pub commits : IsTrue (is_commit request)
   pub refused : Any (λ h. (h.request ≡ request) × IsTrue (is_undecided_status h.reply)) k.heard_now
-
--- The transaction that a message of a conflict's round is about, if the request is one.
-abbrev pub round_of : Request → Option TxnId
-round_of (requests.Push holder by level now goal) = Some holder.id
-round_of (requests.Query id epoch seq ts key by) = Some id
-round_of (requests.Recover id epoch ts anchor finding) = Some id
-round_of (requests.Resolve id key fate) = Some id
-round_of _ = None
 
 -- However often it was heard since the last call was asked, more conflicts with this transaction were.
 abbrev pub HasMoreConflicts : Known → Request → TxnId → Type 0

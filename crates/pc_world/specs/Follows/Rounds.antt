@@ -1,7 +1,7 @@
 -- Rounds of a call: each conflict that a call meets has one round, the conflicts in the order in which they were heard, one round after
 -- another. A round begins with the push of the conflict's holder, goes on as the reply asks, settles the intent that stood in the way,
 -- and is then over. Only once all are over does the call go on. SIGMOD 2020 paper, section 3.2; the order is this project's own profile.
-use Rattle.std.specs.Prelude.{◌≡◌, ℕ, ◌+◌, ◌<◌, ◌⊎◌, Option, Some, List, ◌∷◌, ◌++◌, length, filter, slice_get, is_some, All, Any, IsTrue, ⊤}
+use Rattle.std.specs.Prelude.{◌≡◌, ℕ, ◌+◌, ◌<◌, ◌⊎◌, Some, List, ◌∷◌, ◌++◌, length, filter, slice_get, is_some, Any, ⊤}
 use Rattle.pc_base.specs.declared.transaction.TxnId.{TxnId}
 use Rattle.pc_proto.specs.declared.event.Event.{Event}
 use Rattle.pc_proto.specs.declared.event.Event.TheVariants as events
@@ -11,7 +11,7 @@ use Rattle.pc_proto.specs.declared.reply.Reply.TheVariants as replies
 use Rattle.pc_proto.specs.declared.request.Request.{Request}
 use Rattle.pc_proto.specs.declared.request.Request.TheVariants as requests
 use Rattle.pc_proto.specs.Replies.{is_conflict}
-use Rattle.pc_proto.specs.Requests.{goal_in, round_of}
+use Rattle.pc_proto.specs.Requests.{goal_in}
 use Rattle.pc_world.specs.Follows.Resends.{WasDone}
 use Rattle.pc_world.specs.Known.{Known, open_txn}
 use Rattle.pc_world.specs.Known.Statements.{Statement}

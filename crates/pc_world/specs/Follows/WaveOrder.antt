@@ -3,7 +3,6 @@
 -- is sent again in one wave. This is so over a quiet wire where actors move in
 -- turns; on threads ranges evaluate a wave side by side. Own profile.
 use Rattle.std.specs.Prelude.{◌≡◌, ℕ, ◌+◌, ◌<◌, ◌⊎◌, Option, None, Some, List, [], ◌∷◌, ◌++◌, All, Any, IsTrue, ⊤}
-use Rattle.pc_base.specs.declared.entry.Entry.{Entry}
 use Rattle.pc_base.specs.declared.span.Span.{Span}
 use Rattle.pc_history.specs.declared.pair.Pair.{Pair}
 use Rattle.pc_proto.specs.declared.call.Call.TheVariants as calls

@@ -1,5 +1,5 @@
 -- What a session knows of one of its transactions.
-use Rattle.std.specs.Prelude.{◌≡◌, ℕ, ◌+◌, ◌≤◌, max, Bool, true, false, ◌&&◌, ◌==◌, if◌then◌else◌, Option, None, Some, List, [], ◌∷◌, All}
+use Rattle.std.specs.Prelude.{◌≡◌, ℕ, ◌+◌, ◌≤◌, max, Bool, false, ◌&&◌, ◌==◌, if◌then◌else◌, Option, None, Some, List, [], ◌∷◌, All}
 use Rattle.std.specs.List.{list_any}
 use Rattle.std.specs.Option.{option_or}
 use Rattle.pc_base.specs.declared.transaction.Priority.{Priority}
@@ -13,8 +13,7 @@ use Rattle.pc_proto.specs.declared.reply.Reply.{Reply}
 use Rattle.pc_proto.specs.declared.reply.Reply.TheVariants as replies
 use Rattle.pc_proto.specs.declared.request.Request.{Request}
 use Rattle.pc_proto.specs.declared.request.Request.TheVariants as requests
-use Rattle.pc_proto.specs.declared.view.View.{View}
-use Rattle.pc_proto.specs.declared.view.View.TheVariants as views
+use Rattle.pc_proto.specs.Replies.{status_ts, written_ts}
 use Rattle.pc_world.specs.Known.Reads.{IsGoodAt, Read, reads_told}
 use Rattle.pc_world.specs.Known.Traffic.{Heard, Sent}
 use Rattle.pc_world.specs.Known.Writes.{Write, writes_heard, writes_sent, writes_told}
@@ -65,32 +64,6 @@ begun id priority born ts = record {
   restart = None;
   committed = None;
 }
-
--- COMMITTED and ABORTED are final.
-abbrev pub is_final_view : View → Bool
-is_final_view (views.Committed epoch ts locks) = true
-is_final_view (views.Aborted epoch why locks) = true
-is_final_view views.Nothing = false
-is_final_view (views.Pending epoch ts) = false
-is_final_view (views.Staging epoch ts writes) = false
-
--- The timestamp of a view that is not final.
-abbrev pub unsettled_ts : View → ℕ
-unsettled_ts (views.Pending epoch ts) = ts
-unsettled_ts (views.Staging epoch ts writes) = ts
-unsettled_ts views.Nothing = 0
-unsettled_ts (views.Committed epoch ts locks) = 0
-unsettled_ts (views.Aborted epoch why locks) = 0
-
--- The timestamp at which a reply says that a put was written, 0 where it says no such thing.
-abbrev pub written_ts : Reply → ℕ
-written_ts (replies.Written ts) = ts
-written_ts _ = 0
-
--- The timestamp of the unsettled record that a reply shows, 0 where it shows none.
-abbrev pub status_ts : Reply → ℕ
-status_ts (replies.Status view) = unsettled_ts view
-status_ts _ = 0
 
 -- The list has the write of this key and sequence.
 abbrev pub lists_write : List ℕ → ℕ → List (List ℕ × ℕ) → Bool

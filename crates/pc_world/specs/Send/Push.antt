@@ -15,6 +15,7 @@ use Rattle.pc_proto.specs.declared.reply.Reply.{Reply}
 use Rattle.pc_proto.specs.declared.reply.Reply.TheVariants as replies
 use Rattle.pc_proto.specs.declared.request.Request.{Request}
 use Rattle.pc_proto.specs.declared.request.Request.TheVariants as requests
+use Rattle.pc_proto.specs.Replies.{ConflictsWith}
 use Rattle.pc_world.specs.Known.{Known, call_of, open_txn, reading_of}
 use Rattle.pc_world.specs.Known.Traffic.{Heard}
 use Rattle.pc_world.specs.Known.Transactions.{Txn}
@@ -24,11 +25,6 @@ abbrev pub goal_for : Request → Goal
 goal_for (requests.Get id epoch seq ts key) = goals.Move (ts + 1)
 goal_for (requests.Scan id epoch seq ts span) = goals.Move (ts + 1)
 goal_for _ = goals.Abort
-
--- The reply is a conflict with this holder.
-abbrev pub ConflictsWith : TxnMeta → Reply → Type 0
-ConflictsWith holder (replies.Conflict other ts key) = other ≡ holder
-ConflictsWith holder _ = ⊥
 
 -- The holder's intent stood in the way of a request, for which the push is.
 pub record StoodInTheWay (holder : TxnMeta) (goal : Goal) (h : Heard) : Type 0 where

@@ -1,29 +1,24 @@
 -- Query and Recover may be sent: after a push met a STAGING record, for the writes that it lists; and a query also for a write of
 -- the transaction's own stage that another stands in the way of. RFC 20180324, "Transaction recovery"; ParallelCommits TLA+.
-use Rattle.std.specs.Prelude.{◌≡◌, ℕ, ◌≤◌, Bool, true, false, ◌&&◌, ◌==◌, ◌⊎◌, Some, List, [], ◌∷◌, All, Any, IsTrue, count_by}
+use Rattle.std.specs.Prelude.{◌≡◌, ℕ, ◌≤◌, Bool, ◌&&◌, ◌⊎◌, Some, List, [], ◌∷◌, All, Any, IsTrue, count_by}
 use Rattle.pc_base.specs.declared.actor.ActorId.{ActorId}
 use Rattle.pc_base.specs.declared.actor.ActorId.TheVariants as actors
+use Rattle.pc_base.specs.declared.limits.TheConstants.{MOST_CONFLICTS}
 use Rattle.pc_base.specs.declared.transaction.TxnId.{TxnId}
 use Rattle.pc_base.specs.declared.transaction.Who.{Who}
 use Rattle.pc_base.specs.declared.transaction.Who.TheVariants as whos
-use Rattle.pc_base.specs.Transaction.{same_txn}
 use Rattle.pc_proto.specs.declared.fate.Finding.{Finding}
 use Rattle.pc_proto.specs.declared.fate.Finding.TheVariants as findings
-use Rattle.pc_proto.specs.declared.reply.Reply.{Reply}
 use Rattle.pc_proto.specs.declared.reply.Reply.TheVariants as replies
-use Rattle.pc_proto.specs.declared.request.Request.{Request}
 use Rattle.pc_proto.specs.declared.request.Request.TheVariants as requests
 use Rattle.pc_proto.specs.declared.view.View.TheVariants as views
+use Rattle.pc_proto.specs.Replies.{is_conflict, is_conflict_with, is_refused}
+use Rattle.pc_proto.specs.Requests.{is_push_of, is_put_of}
 use Rattle.pc_world.specs.Known.{Known, open_txn}
 use Rattle.pc_world.specs.Known.Statements.{Statement}
 use Rattle.pc_world.specs.Known.Traffic.{Heard}
 use Rattle.pc_world.specs.Known.Transactions.{Txn, has_staged, lists_write}
 use Rattle.pc_world.specs.Views.{anchor_heard}
-
--- The request pushes this transaction.
-abbrev pub is_push_of : TxnId → Request → Bool
-is_push_of id (requests.Push holder by level now goal) = same_txn holder.id id
-is_push_of id _ = false
 
 -- A push of the transaction met a record that stages these writes at this epoch and timestamp.
 pub record MetStaging (id : TxnId) (epoch ts : ℕ) (writes : List (List ℕ × ℕ)) (h : Heard) : Type 0 where
@@ -46,30 +41,9 @@ pub record QueryOfListed (k : Known) (id : TxnId) (epoch seq ts : ℕ) (key : Li
   pub staging : WasStaging k.heard id epoch ts writes
   pub listed : IsTrue (lists_write key seq writes)
 
--- The request is a put of this write.
-abbrev pub is_put_of : TxnId → ℕ → ℕ → Request → Bool
-is_put_of id epoch seq (requests.Put meta at_seq ts key value) =
-    same_txn meta.id id && (meta.epoch == epoch && at_seq == seq)
-is_put_of id epoch seq _ = false
-
--- The reply is a conflict.
-abbrev pub is_conflict : Reply → Bool
-is_conflict (replies.Conflict holder ts key) = true
-is_conflict _ = false
-
 -- A put of this write met an intent.
 abbrev pub put_met : TxnId → ℕ → ℕ → Heard → Bool
 put_met id epoch seq h = is_put_of id epoch seq h.request && is_conflict h.reply
-
--- The reply is a conflict with this transaction.
-abbrev pub is_conflict_with : TxnId → Reply → Bool
-is_conflict_with id (replies.Conflict holder ts key) = same_txn holder.id id
-is_conflict_with id _ = false
-
--- The reply refuses a push.
-abbrev pub is_refused : Reply → Bool
-is_refused (replies.Refused view) = true
-is_refused _ = false
 
 -- A push of this transaction was refused.
 abbrev pub was_refused : TxnId → Heard → Bool
@@ -87,7 +61,7 @@ IsRefusedAfter id epoch seq (h ∷ heard) =
 -- times.
 abbrev pub IsBlockedWrite : List Heard → TxnId → ℕ → ℕ → Type 0
 IsBlockedWrite heard_now id epoch seq =
-    IsRefusedAfter id epoch seq heard_now ⊎ (8 ≤ count_by (put_met id epoch seq) heard_now)
+    IsRefusedAfter id epoch seq heard_now ⊎ (MOST_CONFLICTS ≤ count_by (put_met id epoch seq) heard_now)
 
 -- In an open call, the write is one of the open transaction's own stage, and is blocked.
 pub record QueryOfOwn (k : Known) (id : TxnId) (epoch seq ts : ℕ) (key : List ℕ) : Type 0 where

@@ -3,26 +3,17 @@
 use Rattle.std.specs.Prelude.{◌≡◌, ℕ, ◌+◌, ◌≤◌, ◌⊎◌, Some, List, All, Any, Contains, IsTrue}
 use Rattle.pc_base.specs.declared.transaction.TxnId.{TxnId}
 use Rattle.pc_proto.specs.declared.fate.Fate.{Fate}
-use Rattle.pc_proto.specs.declared.fate.Fate.TheVariants as fates
 use Rattle.pc_proto.specs.declared.request.Request.TheVariants as requests
 use Rattle.pc_proto.specs.declared.reply.Reply.TheVariants as replies
 use Rattle.pc_proto.specs.declared.view.View.{View}
-use Rattle.pc_proto.specs.declared.view.View.TheVariants as views
 use Rattle.pc_proto.specs.Replies.{view_in}
 use Rattle.pc_proto.specs.Requests.{is_about}
 use Rattle.pc_proto.specs.Stamps.{fate_stamps}
+use Rattle.pc_proto.specs.Views.{HasLocks, IsFateOf}
 use Rattle.pc_world.specs.Known.{Known}
 use Rattle.pc_world.specs.Known.Traffic.{Heard}
 use Rattle.pc_world.specs.Known.Transactions.{Txn}
 use Rattle.pc_world.specs.Views.{anchor_heard}
-
--- The fate is what the view says: committed with its epoch and timestamp, aborted, or moved to a timestamp that its own reaches.
-abbrev pub IsFateOf : View → Fate → Type 0
-IsFateOf (views.Committed epoch ts locks) (fates.Committed at_epoch at) = (at_epoch ≡ epoch) × (at ≡ ts)
-IsFateOf (views.Aborted epoch why locks) fates.Aborted = Unit {0}
-IsFateOf (views.Pending epoch ts) (fates.Pending at) = at ≤ ts
-IsFateOf (views.Staging epoch ts writes) (fates.Pending at) = at ≤ ts
-IsFateOf _ _ = ⊥
 
 -- A view of the transaction shows this fate.
 pub record ShowsFate (id : TxnId) (fate : Fate) (h : Heard) : Type 0 where
@@ -44,12 +35,6 @@ pub record WasResolved (id : TxnId) (key : List ℕ) (h : Heard) : Type 0 where
 -- The intent at each of these keys was settled for this transaction.
 abbrev pub AllResolved : List Heard → TxnId → List (List ℕ) → Type 0
 AllResolved heard id locks = All (λ key. Any (WasResolved id key) heard) locks
-
--- The view is final and has these locks.
-abbrev pub HasLocks : View → List (List ℕ) → Type 0
-HasLocks (views.Committed epoch ts locks) held = held ≡ locks
-HasLocks (views.Aborted epoch why locks) held = held ≡ locks
-HasLocks _ held = ⊥
 
 -- A final view of the transaction, with these locks.
 pub record ShowsFinal (id : TxnId) (locks : List (List ℕ)) (h : Heard) : Type 0 where

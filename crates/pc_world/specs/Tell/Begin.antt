@@ -1,6 +1,7 @@
 -- Begun: the session's next transaction, at a timestamp above all that the session has heard. Hybrid logical clocks, SIGMOD 2020
 -- paper, section 4.
-use Rattle.std.specs.Prelude.{◌≡◌, ℕ, ◌+◌, ◌*◌, ◌/◌, ◌^◌, nat_lt, if◌then◌else◌}
+use Rattle.std.specs.Prelude.{◌≡◌, ℕ, ◌+◌}
+use Rattle.pc_base.specs.Clock.{clock_now}
 use Rattle.pc_base.specs.declared.actor.ActorId.{ActorId}
 use Rattle.pc_base.specs.declared.actor.ActorId.TheVariants as actors
 use Rattle.pc_base.specs.declared.transaction.Priority.{Priority}
@@ -8,10 +9,6 @@ use Rattle.pc_base.specs.declared.transaction.TxnId.{TxnId}
 use Rattle.pc_proto.specs.declared.call.Call.TheVariants as calls
 use Rattle.pc_world.specs.Known.{Known}
 use Rattle.pc_world.specs.Known.Statements.{Statement}
-
--- What the clock gives at this reading: the reading where it is past all that was heard, else the timestamp after that.
-abbrev pub clock_now : ℕ → ℕ → ℕ
-clock_now reading high = if nat_lt (high / 2 ^ 32) reading then reading * 2 ^ 32 else high + 1
 
 -- The id is that of the session's next transaction.
 abbrev pub IsNextOf : ActorId → ℕ → TxnId → Type 0

@@ -1,16 +1,15 @@
 -- Committed, RolledBack, Aborted and Restart: how a transaction ends, or begins anew. SIGMOD 2020 paper, sections 3.3 and 3.4;
 -- RFC 20180324.
-use Rattle.std.specs.Prelude.{◌≡◌, ℕ, Bool, false, ◌&&◌, ◌==◌, ◌⊎◌, None, Some, List, All, Any, IsTrue}
+use Rattle.std.specs.Prelude.{◌≡◌, ℕ, Bool, false, ◌&&◌, ◌⊎◌, None, Some, List, All, Any, IsTrue}
 use Rattle.std.specs.Option.{option_map_or}
 use Rattle.pc_base.specs.declared.transaction.TxnId.{TxnId}
 use Rattle.pc_proto.specs.declared.call.Call.TheVariants as calls
 use Rattle.pc_proto.specs.declared.reply.Reply.{Reply}
 use Rattle.pc_proto.specs.declared.reply.Reply.TheVariants as replies
-use Rattle.pc_proto.specs.declared.view.View.{View}
-use Rattle.pc_proto.specs.declared.view.View.TheVariants as views
 use Rattle.pc_proto.specs.declared.why.Why.{Why}
 use Rattle.pc_proto.specs.Replies.{view_in}
 use Rattle.pc_proto.specs.Requests.{is_about}
+use Rattle.pc_proto.specs.Views.{is_staging_at}
 use Rattle.pc_world.specs.Known.{Known, open_txn}
 use Rattle.pc_world.specs.Known.Statements.{Statement}
 use Rattle.pc_world.specs.Known.Traffic.{Heard}
@@ -19,11 +18,6 @@ use Rattle.pc_world.specs.Known.Writes.{IsProvedBy}
 use Rattle.pc_world.specs.Send.Abort.{own_cause}
 use Rattle.pc_world.specs.StageFate.{IsUncommitted}
 use Rattle.pc_world.specs.Views.{WasAborted, WasCommitted}
-
--- The view is staging at this epoch and timestamp.
-abbrev pub is_staging_at : ℕ → ℕ → View → Bool
-is_staging_at epoch ts (views.Staging at_epoch at writes) = at_epoch == epoch && at == ts
-is_staging_at epoch ts _ = false
 
 -- A view says that the transaction stages at this epoch and timestamp.
 abbrev pub shows_staging : TxnId → ℕ → ℕ → Heard → Bool

@@ -2,6 +2,7 @@
 -- and commits must be known to have come to nothing. Own profile.
 use Rattle.std.specs.Prelude.{◌≡◌, ◌≢◌, ℕ, zero, suc, ◌≤◌, nat_lt, Bool, false, ◌&&◌, ◌==◌, not, ◌⊎◌, Some, List, [], ◌∷◌, Any, Contains, IsTrue, reverse, ⊤}
 use Rattle.std.specs.List.{list_any}
+use Rattle.pc_base.specs.declared.limits.TheConstants.{MOST_CONFLICTS, MOST_REFUSALS}
 use Rattle.pc_base.specs.declared.transaction.TxnId.{TxnId}
 use Rattle.pc_proto.specs.declared.call.Call.{Call}
 use Rattle.pc_proto.specs.declared.call.Call.TheVariants as calls
@@ -46,7 +47,7 @@ pub record IsConflictOf (request : Request) (h : Heard) : Type 0 where
 -- One request met intents eight times, the last time of this holder.
 pub record MetEight (holder : TxnId) (heard_now : List Heard) : Type 0 where
   pub request : Request
-  pub eight : AtLeast (IsConflictOf request) 8 heard_now
+  pub eight : AtLeast (IsConflictOf request) MOST_CONFLICTS heard_now
   pub last : LastIs (IsConflictOf request) (λ h. IsTrue (is_conflict_with holder h.reply)) heard_now
 
 -- The call may be told that this holder blocks it.
@@ -121,6 +122,6 @@ pub record MayTellMoved (k : Known) (s : Statement) (ts : ℕ) : Type 0 where
   pub t : Txn
   pub opened : open_txn k ≡ Some t
   pub asked : s.call ≡ calls.Commit
-  pub eight : AtLeast (WasMoved k) 8 k.heard_now
+  pub eight : AtLeast (WasMoved k) MOST_REFUSALS k.heard_now
   pub last : LastIs (WasMoved k) (λ h. status_ts h.reply ≡ ts) k.heard_now
   pub uncommitted : IsUncommitted t.id k.sent k.heard

@@ -1,0 +1,2 @@
+-- What a session's clock gives.
+pub mod Giving

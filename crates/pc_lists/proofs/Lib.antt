@@ -1,0 +1,5 @@
+pub mod Anywhere
+pub mod Counts
+pub mod Each
+pub mod Lists
+pub mod Same

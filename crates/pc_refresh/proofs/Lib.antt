@@ -1,0 +1,4 @@
+-- Why a span goes in at its place.
+pub mod Insertion
+pub mod Held
+pub mod SameSpan

@@ -1,0 +1,10 @@
+//! What a transaction has read in its present epoch, as its commit refreshes it.
+#![tactic(auto)]
+
+mod order;
+mod reads;
+
+pub use reads::Reads;
+
+#[cfg(test)]
+mod tests;

@@ -1,6 +1,0 @@
--- Counts of a program that stand still at the greatest `u64`.
-use Rattle.std.specs.Prelude.{ℕ, ◌+◌, ◌-◌, ◌^◌, min}
-
--- One more than a count, which stands still at the greatest `u64`.
-abbrev pub raised : ℕ → ℕ
-raised count = min (count + 1) (2 ^ 64 - 1)
