@@ -32,7 +32,6 @@ pub mod Firsts
 pub mod Forward
 pub mod FoundThere
 pub mod Fronts
-pub mod Given
 pub mod HeardAt
 pub mod HeardViews
 pub mod Hearing
