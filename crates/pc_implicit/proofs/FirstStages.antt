@@ -1,5 +1,5 @@
 -- Where a stage was sent for the first time: by its transaction, open in a commit, with all that a new stage asks.
-use Rattle.std.proofs.Common.{◌≡◌, ℕ, inl, inr, List, [], ◌∷◌, ◌++◌, Contains, refl, sym, ap, subst, ◌∙◌}
+use Rattle.std.proofs.Common.{◌≡◌, ℕ, inl, inr, List, [], ◌∷◌, ◌++◌, refl, sym, ap, subst, ◌∙◌}
 use Rattle.std.proofs.lemmas.List.{append-nil, append_assoc}
 use Rattle.std.proofs.lemmas.List.Elements.{Contains-push, Contains-push_cases}
 use Rattle.pc_base.specs.declared.actor.ActorId.{ActorId}
@@ -76,8 +76,7 @@ module _ (head : Head) where
   heard_along actor front [] = ([], ap (λ h. (known_at head actor h).heard) (append-nil front) ∙ sym (append-nil (known_at head actor front).heard))
   heard_along actor front (e ∷ es) =
       let one = heard_goes_on head front e actor in
-      let rest = heard_along actor (front ++ e ∷ []) es in
-      (
+      let rest = heard_along actor (front ++ e ∷ []) es in (
         one.0 ++ rest.0,
         ap (λ h. (known_at head actor h).heard) (sym (append_assoc front (e ∷ []) es)) ∙ rest.1 ∙ ap (λ l. l ++ rest.0) one.1 ∙ append_assoc (known_at head actor front).heard one.0 rest.0,
       )

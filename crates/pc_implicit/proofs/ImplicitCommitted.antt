@@ -1,6 +1,6 @@
 -- A transaction whose record staged at a timestamp, and each of whose writes is proven at or below it, is committed there: the staging lasts with
 -- all writes present, or is decided so; or else it fails by a write that has no such proof.
-use Rattle.std.proofs.Common.{◌≡◌, ℕ, ◌<◌, ◌≤◌, max, Bool, true, false, ◌==◌, ◌⊎◌, inl, inr, List, [], ◌∷◌, ◌++◌, fold, Option, None, Some, Any, Contains, IsTrue, refl, sym, ap, subst, ◌∙◌, arith}
+use Rattle.std.proofs.Common.{◌≡◌, ℕ, ◌≤◌, max, Bool, true, false, ◌==◌, ◌⊎◌, inl, inr, List, [], ◌∷◌, ◌++◌, Option, None, Some, Contains, refl, sym, ap, subst, ◌∙◌, arith}
 use Rattle.std.proofs.lemmas.Bool.{and_parts, eq-eqb, eqb-true}
 use Rattle.std.proofs.lemmas.List.{append-nil, append_assoc}
 use Rattle.std.proofs.lemmas.List.Elements.{All-contains, Contains-append_left, Contains-push, recursion_from_All}
@@ -12,7 +12,7 @@ use Rattle.pc_base.specs.declared.entry.Entry.{Entry}
 use Rattle.pc_base.specs.declared.transaction.TxnId.{TxnId}
 use Rattle.pc_history.specs.History.{MayFollow}
 use Rattle.pc_implicit.proofs.AbortsSent.{IsGivenUp, given_up}
-use Rattle.pc_implicit.proofs.Agreed.{agreed, open_there}
+use Rattle.pc_implicit.proofs.Agreed.{open_there}
 use Rattle.pc_implicit.proofs.Because.{commits_by_is}
 use Rattle.pc_implicit.proofs.CommittedElsewhere.{at-most}
 use Rattle.pc_implicit.proofs.CommitsStay.{goes_along}
@@ -35,11 +35,11 @@ use Rattle.pc_implicit.proofs.StagedAs.{staged_as, staged_more}
 use Rattle.pc_implicit.proofs.StagesLast.{new_last, stages_last}
 use Rattle.pc_implicit.proofs.StagesRefuted.{dead_refuted}
 use Rattle.pc_implicit.proofs.StagesSent.{has_sent_abort}
-use Rattle.pc_implicit.proofs.StageWords.{CommitsBy, FailsSo, ImplicitIsCommitted, NowCommitted, SomeRefuted, StagesAs, StaysImplicit, StillStaged}
+use Rattle.pc_implicit.proofs.StageWords.{FailsSo, ImplicitIsCommitted, NowCommitted, SomeRefuted, StagesAs, StaysImplicit, StillStaged}
 use Rattle.pc_implicit.proofs.StaysOrRefuted.{staging_open, stays_or_refuted}
 use Rattle.pc_implicit.proofs.Views.{subject-is}
-use Rattle.pc_implicit.proofs.WriteLists.{Laid, last_low, written_at}
-use Rattle.pc_implicit.proofs.Written.{IsFoundNow, IsWrittenNow, proven_cases, proven_more}
+use Rattle.pc_implicit.proofs.WriteLists.{Laid, last_low}
+use Rattle.pc_implicit.proofs.Written.{proven_cases, proven_more}
 use Rattle.pc_implicit.specs.Decided.{decision, time_of}
 use Rattle.pc_implicit.specs.Replied.{WasProven}
 use Rattle.pc_implicit.specs.Stages.{IsOpenTo, IsThere, WasStaged, WasThere}
@@ -51,13 +51,11 @@ use Rattle.pc_proto.specs.declared.call.Call.TheVariants as calls
 use Rattle.pc_proto.specs.declared.event.Event.{Event}
 use Rattle.pc_proto.specs.declared.event.Event.TheVariants as events
 use Rattle.pc_proto.specs.declared.meta.TxnMeta.{TxnMeta}
-use Rattle.pc_proto.specs.declared.record.Intent.{Intent}
 use Rattle.pc_proto.specs.declared.record.Record.{Record}
 use Rattle.pc_proto.specs.declared.record.Standing.{Standing}
 use Rattle.pc_proto.specs.declared.record.Standing.TheVariants as standings
 use Rattle.pc_proto.specs.declared.record.Status.{Status}
 use Rattle.pc_proto.specs.declared.request.Request.TheVariants as requests
-use Rattle.pc_proto.specs.declared.view.View.{View}
 use Rattle.pc_proto.specs.declared.view.View.TheVariants as views
 use Rattle.pc_proto.specs.declared.why.Why.{Why}
 use Rattle.pc_proto.specs.Intents.{last_seq, own_at}
@@ -66,20 +64,18 @@ use Rattle.pc_proto.specs.RecordRows.Reached.{status_of}
 use Rattle.pc_proto.specs.Replies.{view_in}
 use Rattle.pc_proto.specs.Requests.{is_about, subject}
 use Rattle.pc_proto.specs.Views.{is_staging_at}
-use Rattle.pc_world.proofs.Knowing.{run_push, state_other}
+use Rattle.pc_world.proofs.Knowing.{state_other}
 use Rattle.pc_world.proofs.Prefixes.{run_front, run_may}
 use Rattle.pc_world.specs.After.{known_at}
 use Rattle.pc_world.specs.Committed.{IsCommitted}
-use Rattle.pc_world.specs.Known.{Known, call_of, open_txn}
-use Rattle.pc_world.specs.Known.Traffic.{Heard}
+use Rattle.pc_world.specs.Known.{Known, call_of}
 use Rattle.pc_world.specs.Known.Transactions.{Txn}
 use Rattle.pc_world.specs.Known.Writes.{IsProvedBy, Write}
 use Rattle.pc_world.specs.Local.{Head}
 use Rattle.pc_world.specs.RangeOf.{range_of}
 use Rattle.pc_world.specs.RangeState.{RangeState}
 use Rattle.pc_world.specs.Run.{IsRun, protocol}
-use Rattle.pc_world.specs.StageFate.{IsDead, SentStage, stage_request}
-use Rattle.pc_world.specs.Tell.End.{IsImplicit, shows_staging}
+use Rattle.pc_world.specs.StageFate.{SentStage, stage_request}
 
 -- what an entry proves was proven after it
 now-proven : (head : Head) (before : List (Entry Event)) (e : Entry Event) (id : TxnId) (epoch : ℕ) (key : List ℕ) (seq p : ℕ) → ProvesNow head before e id epoch key seq p → WasProven (before ++ e ∷ []) id epoch key seq p
@@ -154,88 +150,88 @@ module _ (head : Head) (s : SentStage) where
         elim (at-most p s.ts) [
           | inr above ↦ above
           | inl below ↦ absurd (
-            let id = s.meta.id in
-            let a = proven_at head history run id s.meta.epoch w.0 seq p proven in
-            let z = a.before ++ a.e ∷ [] in
-            let z_whole : history ≡ z ++ a.later = a.whole ∙ sym (append_assoc a.before (a.e ∷ []) a.later) in
-            let run_z : IsRun head z = run_front head z a.later (subst (IsRun head) z_whole run) in
-            let run_before : IsRun head a.before = run_front head a.before (a.e ∷ []) run_z in
-            let f = first_staged head history run s sent in
-            let first = f.before ++ f.a ∷ [] in
-            let first_whole : history ≡ first ++ f.later = f.whole ∙ sym (append_assoc f.before (f.a ∷ []) f.later) in
-            let run_first : IsRun head first = run_front head first f.later (subst (IsRun head) first_whole run) in
-            let sent_first : WasStaged first s = record { send = f.a; listed = Contains-push f.before f.a; number = f.number; range = f.range; sends = f.sends } in
-            elim (either_front first f.later z a.later (sym first_whole ∙ z_whole)) [
-              | inl longer ↦
-                  let sent_z : WasStaged z s = subst (λ h. WasStaged h s) (sym longer.whole) (staged_along first longer.rest s sent_first) in
-                  let g_z : IsInEpoch head z s = in-epoch-front z a.later (subst (IsRun head) z_whole run) (subst (λ h. IsInEpoch head h s) z_whole g) in
-                  let h = proven_now head a.before run_before a.e a.may id s.meta.epoch w.0 seq p a.gives in
-                  let low = own_low head s z run_z sent_z g_z w.0 h.i h.is in
-                  let p_low = h.low in
-                  elim h.has [
-                    | inl later ↦ omega (arith, later, low)
-                    | inr is ↦
-                        let has : seq ≤ last_seq h.i = is.1 in
-                        never (record {
-                          front = z;
-                          back = a.later;
-                          whole = z_whole;
-                          staged = sent_z;
-                          there = is_there s w head z (h.i, h.is, record { epoch_is = is.0; has = omega (arith, has, reached); low = omega (arith, p_low, below) });
-                        })
-                  ]
-              | inr shorter ↦
-                  let proven_first : WasProven first id s.meta.epoch w.0 seq p =
-                  subst (λ h. WasProven h id s.meta.epoch w.0 seq p) (sym shorter.whole) (proven-along z shorter.rest id s.meta.epoch w.0 seq p (now-proven head a.before a.e id s.meta.epoch w.0 seq p a.gives)) in
-                  let run_f : IsRun head f.before = run_front head f.before (f.a ∷ []) run_first in
-                  let may_f = run_may head f.before f.a [] run_first in
-                  elim (proven_cases head f.before run_f f.a may_f id s.meta.epoch w.0 seq p proven_first) [
-                    | inr now ↦ send-proves-nothing head f.before f.a id s.meta.epoch w.0 seq p f.number f.range s f.sends now
-                    | inl old ↦
-                        let new = f.new in
-                        let t = new.t in
-                        let named : t.id ≡ id = ap (λ (m : TxnMeta). m.id) (sym new.whose.same) in
-                        let epoch : t.epoch ≡ s.meta.epoch = ap (λ (m : TxnMeta). m.epoch) (sym new.whose.same) in
-                        let mine : Contains (txns_of head id f.before) t = open_there (session_at head id f.before) t new.opened in
-                        let known : Contains (txns_of head t.id f.before) t = subst (λ i. Contains (txns_of head i f.before) t) (sym named) mine in
-                        let o = orderly head f.before run_f (actors.Session t.id.session) t known in
-                        let along : home_of head id history ≡ home_of head id (f.before ++ f.a ∷ f.later) = ap (home_of head id) f.whole in
-                        let stands_home = home_along head id f.before (f.a ∷ f.later) in
-                        let none_before : decision (home_of head id f.before) ≡ None = undecided_from (home_of head id f.before) (home_of head id (f.before ++ f.a ∷ f.later)) stands_home (ap decision (sym along) ∙ opened.undecided) in
-                        let hold = own_hold head f.before run_f t known w.0 in
-                        let r2 = hold.written (ap (λ i. decision (home_of head i f.before)) named ∙ none_before) seq p (subst (λ n. WasProven f.before t.id n w.0 seq p) (sym epoch) (subst (λ i. WasProven f.before i s.meta.epoch w.0 seq p) (sym named) old)) in
-                        let i = r2.0 in
-                        let stands = r2.2 in
-                        let has : seq ≤ last_seq i = stands.has in
-                        let all_low : Each (λ (y : Laid). y.0 ≤ w.1) (writes_on w.0 t.writes) =
-                        recursion_from_All (λ (y : Laid). y.0 ≤ w.1) (writes_on w.0 t.writes)
-                        (all_from_contains (λ (y : Laid). y.0 ≤ w.1) (writes_on w.0 t.writes)
-                        (λ y there. let u = unwritten-at w.0 t.writes y there in
-                        let seq_is : u.0.seq ≡ y.0 = u.3 in
-                        let low = new_last head f.before f.a (session_at head id f.before) s t new refl o w listed u.0 u.1 u.2 in
-                        omega (arith, seq_is, low))) in
-                        let greatest : last_seq i ≤ w.1 =
-                        last_low w.1 0 i.history (omega arith)
-                        (each-weaker (λ y. Contains (writes_on w.0 t.writes) y) (λ (y : Laid). y.0 ≤ w.1) (λ y there. each-contains (λ (v : Laid). v.0 ≤ w.1) (writes_on w.0 t.writes) y all_low there)
-                        i.history ((hold.among i r2.1).each stands.epoch_is)) in
-                        let time : i.ts ≤ max p (time_of (home_of head t.id f.before)) = stands.low (omega (arith, greatest, reached)) in
-                        let home_same : time_of (home_of head t.id f.before) ≡ time_of (home_of head id f.before) = ap (λ j. time_of (home_of head j f.before)) named in
-                        let rises : time_of (home_of head id f.before) ≤ time_of (home_of head id (f.before ++ f.a ∷ f.later)) = stands_home.rises.ts in
-                        let last_time : time_of (home_of head id history) ≡ time_of (home_of head id (f.before ++ f.a ∷ f.later)) = ap time_of along in
-                        let ts_low : time_of (home_of head id history) ≤ s.ts = opened.ts_low in
-                        let own_first : own_intent head id w.0 first ≡ own_intent head id w.0 f.before =
-                        ap (λ (x : RangeState). own_at id w.0 x.intents) (state_other head (actors.Range (range_of head.splits w.0)) f.before f.a (λ at. session-no-range (range_of head.splits w.0) id (sym at ∙ f.whose))) in
-                        never (record {
-                          front = first;
-                          back = f.later;
-                          whole = first_whole;
-                          staged = sent_first;
-                          there =
-                              is_there s w head first
-                              (i, own_first ∙ ap (λ j. own_intent head j w.0 f.before) (sym named) ∙ r2.1, record { epoch_is = stands.epoch_is ∙ epoch; has = omega (arith, has, reached); low = omega (arith, time, home_same, rises, last_time, ts_low, below) });
-                        })
-                  ]
-            ])
+              let id = s.meta.id in
+              let a = proven_at head history run id s.meta.epoch w.0 seq p proven in
+              let z = a.before ++ a.e ∷ [] in
+              let z_whole : history ≡ z ++ a.later = a.whole ∙ sym (append_assoc a.before (a.e ∷ []) a.later) in
+              let run_z : IsRun head z = run_front head z a.later (subst (IsRun head) z_whole run) in
+              let run_before : IsRun head a.before = run_front head a.before (a.e ∷ []) run_z in
+              let f = first_staged head history run s sent in
+              let first = f.before ++ f.a ∷ [] in
+              let first_whole : history ≡ first ++ f.later = f.whole ∙ sym (append_assoc f.before (f.a ∷ []) f.later) in
+              let run_first : IsRun head first = run_front head first f.later (subst (IsRun head) first_whole run) in
+              let sent_first : WasStaged first s = record { send = f.a; listed = Contains-push f.before f.a; number = f.number; range = f.range; sends = f.sends } in
+              elim (either_front first f.later z a.later (sym first_whole ∙ z_whole)) [
+                | inl longer ↦
+                    let sent_z : WasStaged z s = subst (λ h. WasStaged h s) (sym longer.whole) (staged_along first longer.rest s sent_first) in
+                    let g_z : IsInEpoch head z s = in-epoch-front z a.later (subst (IsRun head) z_whole run) (subst (λ h. IsInEpoch head h s) z_whole g) in
+                    let h = proven_now head a.before run_before a.e a.may id s.meta.epoch w.0 seq p a.gives in
+                    let low = own_low head s z run_z sent_z g_z w.0 h.i h.is in
+                    let p_low = h.low in
+                    elim h.has [
+                      | inl later ↦ omega (arith, later, low)
+                      | inr is ↦
+                          let has : seq ≤ last_seq h.i = is.1 in
+                          never (record {
+                            front = z;
+                            back = a.later;
+                            whole = z_whole;
+                            staged = sent_z;
+                            there = is_there s w head z (h.i, h.is, record { epoch_is = is.0; has = omega (arith, has, reached); low = omega (arith, p_low, below) });
+                          })
+                    ]
+                | inr shorter ↦
+                    let proven_first : WasProven first id s.meta.epoch w.0 seq p =
+                    subst (λ h. WasProven h id s.meta.epoch w.0 seq p) (sym shorter.whole) (proven-along z shorter.rest id s.meta.epoch w.0 seq p (now-proven head a.before a.e id s.meta.epoch w.0 seq p a.gives)) in
+                    let run_f : IsRun head f.before = run_front head f.before (f.a ∷ []) run_first in
+                    let may_f = run_may head f.before f.a [] run_first in
+                    elim (proven_cases head f.before run_f f.a may_f id s.meta.epoch w.0 seq p proven_first) [
+                      | inr now ↦ send-proves-nothing head f.before f.a id s.meta.epoch w.0 seq p f.number f.range s f.sends now
+                      | inl old ↦
+                          let new = f.new in
+                          let t = new.t in
+                          let named : t.id ≡ id = ap (λ (m : TxnMeta). m.id) (sym new.whose.same) in
+                          let epoch : t.epoch ≡ s.meta.epoch = ap (λ (m : TxnMeta). m.epoch) (sym new.whose.same) in
+                          let mine : Contains (txns_of head id f.before) t = open_there (session_at head id f.before) t new.opened in
+                          let known : Contains (txns_of head t.id f.before) t = subst (λ i. Contains (txns_of head i f.before) t) (sym named) mine in
+                          let o = orderly head f.before run_f (actors.Session t.id.session) t known in
+                          let along : home_of head id history ≡ home_of head id (f.before ++ f.a ∷ f.later) = ap (home_of head id) f.whole in
+                          let stands_home = home_along head id f.before (f.a ∷ f.later) in
+                          let none_before : decision (home_of head id f.before) ≡ None = undecided_from (home_of head id f.before) (home_of head id (f.before ++ f.a ∷ f.later)) stands_home (ap decision (sym along) ∙ opened.undecided) in
+                          let hold = own_hold head f.before run_f t known w.0 in
+                          let r2 = hold.written (ap (λ i. decision (home_of head i f.before)) named ∙ none_before) seq p (subst (λ n. WasProven f.before t.id n w.0 seq p) (sym epoch) (subst (λ i. WasProven f.before i s.meta.epoch w.0 seq p) (sym named) old)) in
+                          let i = r2.0 in
+                          let stands = r2.2 in
+                          let has : seq ≤ last_seq i = stands.has in
+                          let all_low : Each (λ (y : Laid). y.0 ≤ w.1) (writes_on w.0 t.writes) =
+                          recursion_from_All (λ (y : Laid). y.0 ≤ w.1) (writes_on w.0 t.writes)
+                          (all_from_contains (λ (y : Laid). y.0 ≤ w.1) (writes_on w.0 t.writes)
+                          (λ y there. let u = unwritten-at w.0 t.writes y there in
+                          let seq_is : u.0.seq ≡ y.0 = u.3 in
+                          let low = new_last head f.before f.a (session_at head id f.before) s t new refl o w listed u.0 u.1 u.2 in
+                          omega (arith, seq_is, low))) in
+                          let greatest : last_seq i ≤ w.1 =
+                          last_low w.1 0 i.history (omega arith)
+                          (each-weaker (λ y. Contains (writes_on w.0 t.writes) y) (λ (y : Laid). y.0 ≤ w.1) (λ y there. each-contains (λ (v : Laid). v.0 ≤ w.1) (writes_on w.0 t.writes) y all_low there)
+                          i.history ((hold.among i r2.1).each stands.epoch_is)) in
+                          let time : i.ts ≤ max p (time_of (home_of head t.id f.before)) = stands.low (omega (arith, greatest, reached)) in
+                          let home_same : time_of (home_of head t.id f.before) ≡ time_of (home_of head id f.before) = ap (λ j. time_of (home_of head j f.before)) named in
+                          let rises : time_of (home_of head id f.before) ≤ time_of (home_of head id (f.before ++ f.a ∷ f.later)) = stands_home.rises.ts in
+                          let last_time : time_of (home_of head id history) ≡ time_of (home_of head id (f.before ++ f.a ∷ f.later)) = ap time_of along in
+                          let ts_low : time_of (home_of head id history) ≤ s.ts = opened.ts_low in
+                          let own_first : own_intent head id w.0 first ≡ own_intent head id w.0 f.before =
+                          ap (λ (x : RangeState). own_at id w.0 x.intents) (state_other head (actors.Range (range_of head.splits w.0)) f.before f.a (λ at. session-no-range (range_of head.splits w.0) id (sym at ∙ f.whose))) in
+                          never (record {
+                            front = first;
+                            back = f.later;
+                            whole = first_whole;
+                            staged = sent_first;
+                            there =
+                                is_there s w head first
+                                (i, own_first ∙ ap (λ j. own_intent head j w.0 f.before) (sym named) ∙ r2.1, record { epoch_is = stands.epoch_is ∙ epoch; has = omega (arith, has, reached); low = omega (arith, time, home_same, rises, last_time, ts_low, below) });
+                          })
+                    ]
+              ])
         ]
       where
         session-no-range : (range : ℕ) (id : TxnId) → actors.Range range ≡ actors.Session id.session → ⊥

@@ -21,8 +21,8 @@ pub mod Deciders
 pub mod Did
 pub mod Doing
 pub mod Doings
-pub mod Evals
 pub mod Ended
+pub mod Evals
 pub mod EvaluatedAt
 pub mod FailsSteps
 pub mod Fates
@@ -53,7 +53,6 @@ pub mod Metas
 pub mod Missing
 pub mod Moves
 pub mod NeverDead
-pub mod NoProofBeside
 pub mod NotDead
 pub mod OneDecision
 pub mod OpenOver
