@@ -14,7 +14,6 @@ use Rattle.pc_world.specs.Known.Writes.{IsProvedBy, Write}
 use Rattle.pc_world.specs.Local.{IsActorOf}
 use Rattle.pc_world.specs.Run.{IsRun, protocol}
 use Rattle.pc_world.specs.StageFate.{IsLate, OnCommit, OnStage, WasCommitRefused}
-use Rattle.pc_world.specs.Unstaged.{IsNoStage, NothingIsStaged, OnSent}
 
 -- The entry at this place may follow those before it.
 abbrev Follows : ℕ → Type 0
@@ -134,10 +133,5 @@ tells_committed = record { step = refl; local = record { there = session; next =
 run : IsRun first_head first_history
 run = (asks_begin, (tells_begun, (asks_put, (sends_put, (evaluates_put, (hears_put, (tells_written, (asks_commit, (sends_commit, (evaluates_commit, (hears_commit, (tells_committed, tt))))))))))))
 
-unstaged : NothingIsStaged first_history
-unstaged =
-    All-from_recursion (λ (e : Entry Event). OnSent IsNoStage e.event) first_history
-    (tt, (tt, (tt, (tt, (tt, (tt, (tt, (tt, (tt, (tt, (tt, (tt, tt))))))))))))
-
 pub first_row_is_a_run : FirstRowIsARun
-first_row_is_a_run = record { run = run; unstaged = unstaged; legal = is-legal first_head first_history run unstaged }
+first_row_is_a_run = record { run = run; legal = is-legal first_head first_history run }
