@@ -19,7 +19,7 @@ use Rattle.pc_implicit.proofs.Settled.{writes_of_committed}
 use Rattle.pc_implicit.proofs.SettledVersions.{versions_are_committed}
 use Rattle.pc_implicit.specs.Decided.{decision}
 use Rattle.pc_implicit.specs.Reads.{GrowsAbove}
-use Rattle.pc_implicit.specs.Writes.{IsWholeBy, home_of, own_intent, txns_of, writes_at}
+use Rattle.pc_implicit.specs.Writes.{IsWholeBy, home_of, own_intent, txns_of, writes_on}
 use Rattle.pc_lists.proofs.Each.{each-contains}
 use Rattle.pc_lists.proofs.Lists.{contains_head}
 use Rattle.pc_proto.specs.declared.event.Event.{Event}
@@ -102,7 +102,7 @@ module _ (head : Head) (history : List (Entry Event)) (run : IsRun head history)
         let now = versions_are_committed head history (range_of head.splits key) v run still in
         let low = r.low in
         let is_last : laid key (operations_of history v.id) ≡ now.front ++ (now.seq, v.value) ∷ [] =
-        laid-is head history run v.id now.t now.known now.whose key ∙ subst (λ k. writes_at k now.t.writes ≡ now.front ++ (now.seq, v.value) ∷ []) of_key now.last in
+        laid-is head history run v.id now.t now.known now.whose key ∙ subst (λ k. writes_on k now.t.writes ≡ now.front ++ (now.seq, v.value) ∷ []) of_key now.last in
         let last = last-laid key (operations_of history v.id) now.front now.seq v.value is_last in
         let first = point-earlier head history run front r.back v.id v.ts r.whole early.committed now.committed in
         let second = point-later head history run front r.back id r.at r.whole r.uncommitted r.committed in
@@ -154,7 +154,7 @@ module _ (head : Head) (history : List (Entry Event)) (run : IsRun head history)
         let c = all-committed head history differ other (subst (λ xs. Contains xs other) (sym r.stands) (Contains-append_left before (id ∷ later) other there)) in
         let order = before-low head history differ before id later r.stands other r.at c.0 there r.committed c.1 in
         let k = is-known other c.0 c.1 in
-        let ends : writes_at key k.t.writes ≡ laid key last.front ++ (last.seq, last.value) ∷ [] =
+        let ends : writes_on key k.t.writes ≡ laid key last.front ++ (last.seq, last.value) ∷ [] =
         sym (laid-is head history run other k.t k.mine k.named key) ∙ laid-last key (operations_of history other) last in
         let stands = writes_of_committed head history k.t c.0 key (laid key last.front) last.seq last.value run (subst (λ i. Contains (txns_of head i history) k.t) (sym k.named) k.mine)
         (subst (λ i. IsCommitted head history i c.0) (sym k.named) c.1) ends in
