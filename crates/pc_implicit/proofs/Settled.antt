@@ -83,7 +83,7 @@ module _ (head : Head) (history : List (Entry Event)) (run : IsRun head history)
   recovery = requests.Recover id epoch ts now.anchor findings.All
 
   -- it answers that the transaction is committed
-  answers-commit : AnswersCommitted head history ts (Recovers id) e
+  pub answers-commit : AnswersCommitted head history ts (Recovers id) e
   unfolding recovery
   answers-commit =
       let ev = now.ev in

@@ -84,7 +84,7 @@ pub record IsSettled (head : Head) (history : List (Entry Event)) (id : TxnId) (
   pub stand : (t : Txn) → Contains (txns_of head id history) t → t.id ≡ id → AllWritesStand head history t ts
 
 -- what is written at a key is a write of it
-unwritten-at : (key : List ℕ) (ws : List Write) (x : Laid) → Contains (writes_on key ws) x → (w : Write) × Contains ws w × (w.key ≡ key) × (w.seq ≡ x.0) × (w.value ≡ x.1)
+pub unwritten-at : (key : List ℕ) (ws : List Write) (x : Laid) → Contains (writes_on key ws) x → (w : Write) × Contains ws w × (w.key ≡ key) × (w.seq ≡ x.0) × (w.value ≡ x.1)
 unwritten-at key [] x there = absurd (contains_nil x there)
 unwritten-at key (w ∷ ws) x there = by (same_key w.key key) refl (unwritten-at key ws x) there
   where
@@ -150,7 +150,7 @@ module _ (head : Head) (history : List (Entry Event)) (e : Entry Event) (id : Tx
     (actor : ActorId) (number : ℕ) (reply : Reply) (is : e.event ≡ events.Eval actor number reply) (ev : NamedMessage head history e.actor actor number reply)
     (keeps : (s : RangeState) → intents_after ev.request s ≡ s.intents) where
   -- it leaves each intent
-  own-kept : (key : List ℕ) → own_intent head id key (history ++ e ∷ []) ≡ own_intent head id key history
+  pub own-kept : (key : List ℕ) → own_intent head id key (history ++ e ∷ []) ≡ own_intent head id key history
   own-kept key =
       elim (same_or_not e.actor (actors.Range (range_of head.splits key))) [
         | inl at ↦

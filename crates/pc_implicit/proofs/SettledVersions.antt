@@ -63,7 +63,7 @@ pub record IsOf (head : Head) (history : List (Entry Event)) (range : ℕ) (v : 
   pub seq : ℕ
   pub last : writes_on v.key t.writes ≡ front ++ (seq, v.value) ∷ []
 
-last-of : (ws : List Laid) (x : Laid) → Contains ws x → (front : List Laid) × (w : Laid) × (ws ≡ front ++ w ∷ [])
+pub last-of : (ws : List Laid) (x : Laid) → Contains ws x → (front : List Laid) × (w : Laid) × (ws ≡ front ++ w ∷ [])
 last-of [] x there = absurd (contains_nil x there)
 last-of (y ∷ []) x there = ([], y, refl)
 last-of (y ∷ z ∷ ws) x there = let r = last-of (z ∷ ws) z (contains_head z ws) in (y ∷ r.0, r.1, ap (λ l. y ∷ l) r.2)
