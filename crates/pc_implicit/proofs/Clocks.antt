@@ -18,7 +18,7 @@ use Rattle.pc_implicit.proofs.Commits.{act_of, committed-view}
 use Rattle.pc_implicit.proofs.Doing.{Does, told_by_row}
 use Rattle.pc_implicit.proofs.Hearing.{as-heard, to-list}
 use Rattle.pc_implicit.proofs.HeardViews.{staging-view}
-use Rattle.pc_implicit.proofs.GivenDeciders.{told_committed}
+use Rattle.pc_implicit.proofs.OneDecision.{told_committed}
 use Rattle.pc_implicit.proofs.OwnSplit.{own_split}
 use Rattle.pc_lists.proofs.Each.{each-append, each-contains, each-flat_unmap, each-map, each-weaker}
 use Rattle.pc_lists.proofs.Lists.{contains_head}

@@ -59,7 +59,7 @@ use Rattle.pc_implicit.proofs.CommitsSent.{decided_or_not}
 use Rattle.pc_implicit.proofs.FirstStages.{dead_along, first_staged}
 use Rattle.pc_implicit.proofs.CommitsStay.{commits_stay}
 use Rattle.pc_implicit.proofs.Recovered.{recoveries_agree}
-use Rattle.pc_implicit.proofs.GivenDeciders.{told_committed}
+use Rattle.pc_implicit.proofs.OneDecision.{told_committed}
 use Rattle.pc_implicit.proofs.HeardViews.{heard_decides, so_of}
 use Rattle.pc_implicit.proofs.Homes.{home_commits, home_is, home_on}
 use Rattle.pc_implicit.proofs.Metas.{subject_anchored}

@@ -32,8 +32,6 @@ pub mod Firsts
 pub mod Forward
 pub mod FoundThere
 pub mod Fronts
-pub mod Given
-pub mod GivenDeciders
 pub mod HeardAt
 pub mod HeardViews
 pub mod Hearing
@@ -58,7 +56,6 @@ pub mod NeverDead
 pub mod NoProofBeside
 pub mod NotDead
 pub mod OneDecision
-pub mod OneDecisionEver
 pub mod OpenOver
 pub mod OpenReads
 pub mod OwnKeys
