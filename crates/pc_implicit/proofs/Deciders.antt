@@ -88,7 +88,6 @@ told-there id ts (e ∷ es) h = by (committed_in id e.event) refl h (told-there 
     by (Some at) is h rest = let same : at ≡ ts = cc h in (e, contains_head e es, told-what id ts e.event (is ∙ ap Some same))
     by None is h rest = let r = rest h in (r.0, contains_tail e es r.0 r.1, r.2)
 
-
 -- A run, and the entry after which the transaction is committed.
 module _ (head : Head) (front : List (Entry Event)) (e : Entry Event) (back : List (Entry Event)) (run : IsRun head (front ++ e ∷ back))
     (id : TxnId) (ts : ℕ) (none : commit_ts head front id ≡ None) (now : IsCommitted head (front ++ e ∷ []) id ts) where

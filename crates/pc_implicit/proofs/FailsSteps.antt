@@ -82,12 +82,11 @@ stage-makes r s staging epoch ts differ =
     let now : Record = record { meta = s.meta; status = status_of standings.Staging s.meta.epoch s.ts; activity = alive_at (Kept r) s.now; writes = s.writes; locks = s.locks } in
     let undecided : is_final r.status.standing ≡ false = ap is_final staging in
     let reached : (nat_le r.status.epoch s.meta.epoch && nat_le r.status.ts s.ts) ≡ true =
-    and_from (nat_le r.status.epoch s.meta.epoch) (nat_le r.status.ts s.ts) (le-leb r.status.epoch s.meta.epoch epoch) (le-leb r.status.ts s.ts ts) in
-    (
+    and_from (nat_le r.status.epoch s.meta.epoch) (nat_le r.status.ts s.ts) (le-leb r.status.epoch s.meta.epoch epoch) (le-leb r.status.ts s.ts ts) in (
       now,
       ap (λ b. after (Kept r) (if b then Stay else stage s.meta s.ts s.now s.writes s.locks (Kept r))) undecided
-      ∙ ap (λ b. after (Kept r) (if b && not (is_staging r.status.standing && (r.status.epoch == s.meta.epoch && r.status.ts == s.ts)) then Become now else Stay)) reached
-      ∙ by (r.status.epoch == s.meta.epoch && r.status.ts == s.ts) refl (is_staging r.status.standing),
+          ∙ ap (λ b. after (Kept r) (if b && not (is_staging r.status.standing && (r.status.epoch == s.meta.epoch && r.status.ts == s.ts)) then Become now else Stay)) reached
+          ∙ by (r.status.epoch == s.meta.epoch && r.status.ts == s.ts) refl (is_staging r.status.standing),
       refl,
     )
   where

@@ -76,8 +76,7 @@ module _ (head : Head) where
   heard_along actor front [] = ([], ap (λ h. (known_at head actor h).heard) (append-nil front) ∙ sym (append-nil (known_at head actor front).heard))
   heard_along actor front (e ∷ es) =
       let one = heard_goes_on head front e actor in
-      let rest = heard_along actor (front ++ e ∷ []) es in
-      (
+      let rest = heard_along actor (front ++ e ∷ []) es in (
         one.0 ++ rest.0,
         ap (λ h. (known_at head actor h).heard) (sym (append_assoc front (e ∷ []) es)) ∙ rest.1 ∙ ap (λ l. l ++ rest.0) one.1 ∙ append_assoc (known_at head actor front).heard one.0 rest.0,
       )

@@ -154,88 +154,88 @@ module _ (head : Head) (s : SentStage) where
         elim (at-most p s.ts) [
           | inr above ↦ above
           | inl below ↦ absurd (
-            let id = s.meta.id in
-            let a = proven_at head history run id s.meta.epoch w.0 seq p proven in
-            let z = a.before ++ a.e ∷ [] in
-            let z_whole : history ≡ z ++ a.later = a.whole ∙ sym (append_assoc a.before (a.e ∷ []) a.later) in
-            let run_z : IsRun head z = run_front head z a.later (subst (IsRun head) z_whole run) in
-            let run_before : IsRun head a.before = run_front head a.before (a.e ∷ []) run_z in
-            let f = first_staged head history run s sent in
-            let first = f.before ++ f.a ∷ [] in
-            let first_whole : history ≡ first ++ f.later = f.whole ∙ sym (append_assoc f.before (f.a ∷ []) f.later) in
-            let run_first : IsRun head first = run_front head first f.later (subst (IsRun head) first_whole run) in
-            let sent_first : WasStaged first s = record { send = f.a; listed = Contains-push f.before f.a; number = f.number; range = f.range; sends = f.sends } in
-            elim (either_front first f.later z a.later (sym first_whole ∙ z_whole)) [
-              | inl longer ↦
-                  let sent_z : WasStaged z s = subst (λ h. WasStaged h s) (sym longer.whole) (staged_along first longer.rest s sent_first) in
-                  let g_z : IsInEpoch head z s = in-epoch-front z a.later (subst (IsRun head) z_whole run) (subst (λ h. IsInEpoch head h s) z_whole g) in
-                  let h = proven_now head a.before run_before a.e a.may id s.meta.epoch w.0 seq p a.gives in
-                  let low = own_low head s z run_z sent_z g_z w.0 h.i h.is in
-                  let p_low = h.low in
-                  elim h.has [
-                    | inl later ↦ omega (arith, later, low)
-                    | inr is ↦
-                        let has : seq ≤ last_seq h.i = is.1 in
-                        never (record {
-                          front = z;
-                          back = a.later;
-                          whole = z_whole;
-                          staged = sent_z;
-                          there = is_there s w head z (h.i, h.is, record { epoch_is = is.0; has = omega (arith, has, reached); low = omega (arith, p_low, below) });
-                        })
-                  ]
-              | inr shorter ↦
-                  let proven_first : WasProven first id s.meta.epoch w.0 seq p =
-                  subst (λ h. WasProven h id s.meta.epoch w.0 seq p) (sym shorter.whole) (proven-along z shorter.rest id s.meta.epoch w.0 seq p (now-proven head a.before a.e id s.meta.epoch w.0 seq p a.gives)) in
-                  let run_f : IsRun head f.before = run_front head f.before (f.a ∷ []) run_first in
-                  let may_f = run_may head f.before f.a [] run_first in
-                  elim (proven_cases head f.before run_f f.a may_f id s.meta.epoch w.0 seq p proven_first) [
-                    | inr now ↦ send-proves-nothing head f.before f.a id s.meta.epoch w.0 seq p f.number f.range s f.sends now
-                    | inl old ↦
-                        let new = f.new in
-                        let t = new.t in
-                        let named : t.id ≡ id = ap (λ (m : TxnMeta). m.id) (sym new.whose.same) in
-                        let epoch : t.epoch ≡ s.meta.epoch = ap (λ (m : TxnMeta). m.epoch) (sym new.whose.same) in
-                        let mine : Contains (txns_of head id f.before) t = open_there (session_at head id f.before) t new.opened in
-                        let known : Contains (txns_of head t.id f.before) t = subst (λ i. Contains (txns_of head i f.before) t) (sym named) mine in
-                        let o = orderly head f.before run_f (actors.Session t.id.session) t known in
-                        let along : home_of head id history ≡ home_of head id (f.before ++ f.a ∷ f.later) = ap (home_of head id) f.whole in
-                        let stands_home = home_along head id f.before (f.a ∷ f.later) in
-                        let none_before : decision (home_of head id f.before) ≡ None = undecided_from (home_of head id f.before) (home_of head id (f.before ++ f.a ∷ f.later)) stands_home (ap decision (sym along) ∙ opened.undecided) in
-                        let hold = own_hold head f.before run_f t known w.0 in
-                        let r2 = hold.written (ap (λ i. decision (home_of head i f.before)) named ∙ none_before) seq p (subst (λ n. WasProven f.before t.id n w.0 seq p) (sym epoch) (subst (λ i. WasProven f.before i s.meta.epoch w.0 seq p) (sym named) old)) in
-                        let i = r2.0 in
-                        let stands = r2.2 in
-                        let has : seq ≤ last_seq i = stands.has in
-                        let all_low : Each (λ (y : Laid). y.0 ≤ w.1) (writes_on w.0 t.writes) =
-                        recursion_from_All (λ (y : Laid). y.0 ≤ w.1) (writes_on w.0 t.writes)
-                        (all_from_contains (λ (y : Laid). y.0 ≤ w.1) (writes_on w.0 t.writes)
-                        (λ y there. let u = unwritten-at w.0 t.writes y there in
-                        let seq_is : u.0.seq ≡ y.0 = u.3 in
-                        let low = new_last head f.before f.a (session_at head id f.before) s t new refl o w listed u.0 u.1 u.2 in
-                        omega (arith, seq_is, low))) in
-                        let greatest : last_seq i ≤ w.1 =
-                        last_low w.1 0 i.history (omega arith)
-                        (each-weaker (λ y. Contains (writes_on w.0 t.writes) y) (λ (y : Laid). y.0 ≤ w.1) (λ y there. each-contains (λ (v : Laid). v.0 ≤ w.1) (writes_on w.0 t.writes) y all_low there)
-                        i.history ((hold.among i r2.1).each stands.epoch_is)) in
-                        let time : i.ts ≤ max p (time_of (home_of head t.id f.before)) = stands.low (omega (arith, greatest, reached)) in
-                        let home_same : time_of (home_of head t.id f.before) ≡ time_of (home_of head id f.before) = ap (λ j. time_of (home_of head j f.before)) named in
-                        let rises : time_of (home_of head id f.before) ≤ time_of (home_of head id (f.before ++ f.a ∷ f.later)) = stands_home.rises.ts in
-                        let last_time : time_of (home_of head id history) ≡ time_of (home_of head id (f.before ++ f.a ∷ f.later)) = ap time_of along in
-                        let ts_low : time_of (home_of head id history) ≤ s.ts = opened.ts_low in
-                        let own_first : own_intent head id w.0 first ≡ own_intent head id w.0 f.before =
-                        ap (λ (x : RangeState). own_at id w.0 x.intents) (state_other head (actors.Range (range_of head.splits w.0)) f.before f.a (λ at. session-no-range (range_of head.splits w.0) id (sym at ∙ f.whose))) in
-                        never (record {
-                          front = first;
-                          back = f.later;
-                          whole = first_whole;
-                          staged = sent_first;
-                          there =
-                              is_there s w head first
-                              (i, own_first ∙ ap (λ j. own_intent head j w.0 f.before) (sym named) ∙ r2.1, record { epoch_is = stands.epoch_is ∙ epoch; has = omega (arith, has, reached); low = omega (arith, time, home_same, rises, last_time, ts_low, below) });
-                        })
-                  ]
-            ])
+              let id = s.meta.id in
+              let a = proven_at head history run id s.meta.epoch w.0 seq p proven in
+              let z = a.before ++ a.e ∷ [] in
+              let z_whole : history ≡ z ++ a.later = a.whole ∙ sym (append_assoc a.before (a.e ∷ []) a.later) in
+              let run_z : IsRun head z = run_front head z a.later (subst (IsRun head) z_whole run) in
+              let run_before : IsRun head a.before = run_front head a.before (a.e ∷ []) run_z in
+              let f = first_staged head history run s sent in
+              let first = f.before ++ f.a ∷ [] in
+              let first_whole : history ≡ first ++ f.later = f.whole ∙ sym (append_assoc f.before (f.a ∷ []) f.later) in
+              let run_first : IsRun head first = run_front head first f.later (subst (IsRun head) first_whole run) in
+              let sent_first : WasStaged first s = record { send = f.a; listed = Contains-push f.before f.a; number = f.number; range = f.range; sends = f.sends } in
+              elim (either_front first f.later z a.later (sym first_whole ∙ z_whole)) [
+                | inl longer ↦
+                    let sent_z : WasStaged z s = subst (λ h. WasStaged h s) (sym longer.whole) (staged_along first longer.rest s sent_first) in
+                    let g_z : IsInEpoch head z s = in-epoch-front z a.later (subst (IsRun head) z_whole run) (subst (λ h. IsInEpoch head h s) z_whole g) in
+                    let h = proven_now head a.before run_before a.e a.may id s.meta.epoch w.0 seq p a.gives in
+                    let low = own_low head s z run_z sent_z g_z w.0 h.i h.is in
+                    let p_low = h.low in
+                    elim h.has [
+                      | inl later ↦ omega (arith, later, low)
+                      | inr is ↦
+                          let has : seq ≤ last_seq h.i = is.1 in
+                          never (record {
+                            front = z;
+                            back = a.later;
+                            whole = z_whole;
+                            staged = sent_z;
+                            there = is_there s w head z (h.i, h.is, record { epoch_is = is.0; has = omega (arith, has, reached); low = omega (arith, p_low, below) });
+                          })
+                    ]
+                | inr shorter ↦
+                    let proven_first : WasProven first id s.meta.epoch w.0 seq p =
+                    subst (λ h. WasProven h id s.meta.epoch w.0 seq p) (sym shorter.whole) (proven-along z shorter.rest id s.meta.epoch w.0 seq p (now-proven head a.before a.e id s.meta.epoch w.0 seq p a.gives)) in
+                    let run_f : IsRun head f.before = run_front head f.before (f.a ∷ []) run_first in
+                    let may_f = run_may head f.before f.a [] run_first in
+                    elim (proven_cases head f.before run_f f.a may_f id s.meta.epoch w.0 seq p proven_first) [
+                      | inr now ↦ send-proves-nothing head f.before f.a id s.meta.epoch w.0 seq p f.number f.range s f.sends now
+                      | inl old ↦
+                          let new = f.new in
+                          let t = new.t in
+                          let named : t.id ≡ id = ap (λ (m : TxnMeta). m.id) (sym new.whose.same) in
+                          let epoch : t.epoch ≡ s.meta.epoch = ap (λ (m : TxnMeta). m.epoch) (sym new.whose.same) in
+                          let mine : Contains (txns_of head id f.before) t = open_there (session_at head id f.before) t new.opened in
+                          let known : Contains (txns_of head t.id f.before) t = subst (λ i. Contains (txns_of head i f.before) t) (sym named) mine in
+                          let o = orderly head f.before run_f (actors.Session t.id.session) t known in
+                          let along : home_of head id history ≡ home_of head id (f.before ++ f.a ∷ f.later) = ap (home_of head id) f.whole in
+                          let stands_home = home_along head id f.before (f.a ∷ f.later) in
+                          let none_before : decision (home_of head id f.before) ≡ None = undecided_from (home_of head id f.before) (home_of head id (f.before ++ f.a ∷ f.later)) stands_home (ap decision (sym along) ∙ opened.undecided) in
+                          let hold = own_hold head f.before run_f t known w.0 in
+                          let r2 = hold.written (ap (λ i. decision (home_of head i f.before)) named ∙ none_before) seq p (subst (λ n. WasProven f.before t.id n w.0 seq p) (sym epoch) (subst (λ i. WasProven f.before i s.meta.epoch w.0 seq p) (sym named) old)) in
+                          let i = r2.0 in
+                          let stands = r2.2 in
+                          let has : seq ≤ last_seq i = stands.has in
+                          let all_low : Each (λ (y : Laid). y.0 ≤ w.1) (writes_on w.0 t.writes) =
+                          recursion_from_All (λ (y : Laid). y.0 ≤ w.1) (writes_on w.0 t.writes)
+                          (all_from_contains (λ (y : Laid). y.0 ≤ w.1) (writes_on w.0 t.writes)
+                          (λ y there. let u = unwritten-at w.0 t.writes y there in
+                          let seq_is : u.0.seq ≡ y.0 = u.3 in
+                          let low = new_last head f.before f.a (session_at head id f.before) s t new refl o w listed u.0 u.1 u.2 in
+                          omega (arith, seq_is, low))) in
+                          let greatest : last_seq i ≤ w.1 =
+                          last_low w.1 0 i.history (omega arith)
+                          (each-weaker (λ y. Contains (writes_on w.0 t.writes) y) (λ (y : Laid). y.0 ≤ w.1) (λ y there. each-contains (λ (v : Laid). v.0 ≤ w.1) (writes_on w.0 t.writes) y all_low there)
+                          i.history ((hold.among i r2.1).each stands.epoch_is)) in
+                          let time : i.ts ≤ max p (time_of (home_of head t.id f.before)) = stands.low (omega (arith, greatest, reached)) in
+                          let home_same : time_of (home_of head t.id f.before) ≡ time_of (home_of head id f.before) = ap (λ j. time_of (home_of head j f.before)) named in
+                          let rises : time_of (home_of head id f.before) ≤ time_of (home_of head id (f.before ++ f.a ∷ f.later)) = stands_home.rises.ts in
+                          let last_time : time_of (home_of head id history) ≡ time_of (home_of head id (f.before ++ f.a ∷ f.later)) = ap time_of along in
+                          let ts_low : time_of (home_of head id history) ≤ s.ts = opened.ts_low in
+                          let own_first : own_intent head id w.0 first ≡ own_intent head id w.0 f.before =
+                          ap (λ (x : RangeState). own_at id w.0 x.intents) (state_other head (actors.Range (range_of head.splits w.0)) f.before f.a (λ at. session-no-range (range_of head.splits w.0) id (sym at ∙ f.whose))) in
+                          never (record {
+                            front = first;
+                            back = f.later;
+                            whole = first_whole;
+                            staged = sent_first;
+                            there =
+                                is_there s w head first
+                                (i, own_first ∙ ap (λ j. own_intent head j w.0 f.before) (sym named) ∙ r2.1, record { epoch_is = stands.epoch_is ∙ epoch; has = omega (arith, has, reached); low = omega (arith, time, home_same, rises, last_time, ts_low, below) });
+                          })
+                    ]
+              ])
         ]
       where
         session-no-range : (range : ℕ) (id : TxnId) → actors.Range range ≡ actors.Session id.session → ⊥

@@ -2,10 +2,8 @@
 use Rattle.std.proofs.Common.{◌≢◌, ℕ, ◌+◌, ◌≤◌, [], ◌∷◌, Some, IfSome, inl, inr, refl, slice_get, take, codes, arith}
 use Rattle.std.proofs.lemmas.List.Elements.{All-from_recursion}
 use Rattle.pc_base.specs.declared.actor.ActorId.TheVariants as actors
-use Rattle.pc_base.specs.declared.entry.Entry.{Entry}
 use Rattle.pc_history.specs.History.{MayFollow}
 use Rattle.pc_history.specs.Own.{own}
-use Rattle.pc_proto.specs.declared.event.Event.{Event}
 use Rattle.pc_serial.proofs.Legal.{is-legal}
 use Rattle.pc_serial.specs.FirstRow.{first_head, first_history, first_ts, first_txn}
 use Rattle.pc_serial.specs.FirstRun.{FirstRowIsARun}
