@@ -18,11 +18,13 @@ use Rattle.pc_implicit.proofs.HomeOver.{ChangesPlace, home_over}
 use Rattle.pc_implicit.proofs.Homes.{home_is, home_on}
 use Rattle.pc_implicit.proofs.Metas.{subject_anchored}
 use Rattle.pc_implicit.proofs.Presence.{staged_along}
+use Rattle.pc_implicit.proofs.Restarted.{restarted_along, restarted_so}
 use Rattle.pc_implicit.proofs.StagesRefuted.{listed_there}
 use Rattle.pc_implicit.proofs.StaysOrRefuted.{replied_along}
 use Rattle.pc_implicit.specs.Causes.{HasItsCause, IsCauseAt, IsFoundMissing, IsGivenUpBy, IsPushedBy}
 use Rattle.pc_implicit.specs.Decided.{decision}
 use Rattle.pc_implicit.specs.Reads.{RangeEvaluated}
+use Rattle.pc_implicit.specs.Restarts.{WasRestarted}
 use Rattle.pc_implicit.specs.Stages.{WasStaged}
 use Rattle.pc_implicit.specs.Writes.{home_of}
 use Rattle.pc_proto.specs.declared.call.Call.TheVariants as calls
@@ -63,15 +65,28 @@ caused-more head history e id why c = record {
 }
 
 -- a rollback's cause is its own
-given-up : (head : Head) (before : List (Entry Event)) (e : Entry Event) (id : TxnId) (why : Why) → IsGivenUpBy head before e id why → IsCauseAt head before e id why
-given-up head before e id (whys.Refresh key ts) g = g
-given-up head before e id whys.Client g = g
-given-up head before e id (whys.Pushed by) g = absurd (no-push g.t.restart g.cause)
+given-up : (head : Head) (before : List (Entry Event)) → IsRun head before → (e : Entry Event) (id : TxnId) (why : Why) → IsGivenUpBy head before e id why → IsCauseAt head before e id why
+given-up head before run e id (whys.Refresh key ts) g = (
+  g,
+  subst (λ h. WasRestarted h (actors.Session id.session) key ts) (sym g.sent)
+      (restarted_along g.front (g.send ∷ g.back) (actors.Session id.session) key ts
+      (restarted_so head g.front (run_front head g.front (g.send ∷ g.back) (subst (IsRun head) g.sent run)) (actors.Session id.session) g.t
+      (open_there (known_at head (actors.Session id.session) g.front) g.t g.opened) key ts (restart-of g.t.restart g.cause))),
+)
+  where
+    restart-of : (restart : Option (List ℕ × ℕ)) → whys.Refresh key ts ≡ own_cause restart → restart ≡ Some (key, ts)
+    restart-of None same = absurd cc
+    restart-of (Some w) same =
+        let keys : key ≡ w.0 = cc same in
+        let times : ts ≡ w.1 = cc same in
+        sym (ap (λ x. Some (x, ts)) keys ∙ ap (λ x. Some (w.0, x)) times)
+given-up head before run e id whys.Client g = g
+given-up head before run e id (whys.Pushed by) g = absurd (no-push g.t.restart g.cause)
   where
     no-push : (restart : Option (List ℕ × ℕ)) → whys.Pushed by ≡ own_cause restart → ⊥
     no-push None same = absurd cc
     no-push (Some w) same = absurd cc
-given-up head before e id (whys.Missing key by) g = absurd (no-miss g.t.restart g.cause)
+given-up head before run e id (whys.Missing key by) g = absurd (no-miss g.t.restart g.cause)
   where
     no-miss : (restart : Option (List ℕ × ℕ)) → whys.Missing key by ≡ own_cause restart → ⊥
     no-miss None same = absurd cc
@@ -174,7 +189,7 @@ module _ (head : Head) (history : List (Entry Event)) (run : IsRun head history)
 
   -- what the entry aborts has the cause that it names
   aborts-now : (why : Why) → AbortsBy (home_of head id history) c.ev.request why → IsCauseAt head history e id why
-  aborts-now why (ByAbort meta locks asks) = given-up head history e id why (given-up-so meta why locks asks)
+  aborts-now why (ByAbort meta locks asks) = given-up head history run e id why (given-up-so meta why locks asks)
   aborts-now why (ByPush holder by level now asks same won) = subst (IsCauseAt head history e id) (sym same) (pushed-so holder by level now asks won)
   aborts-now why (ByRecover other epoch ts anchor key by asks same staged) = subst (IsCauseAt head history e id) (sym same) (missing-so other epoch ts anchor key by asks staged)
 

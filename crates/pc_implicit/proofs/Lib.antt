@@ -78,6 +78,7 @@ pub mod Reading
 pub mod ReadsComeFrom
 pub mod Recorded
 pub mod Recovered
+pub mod Restarted
 pub mod Refusals
 pub mod RepliedAt
 pub mod RisingVersions

@@ -8,6 +8,7 @@ use Rattle.pc_base.specs.declared.transaction.Who.{Who}
 use Rattle.pc_implicit.specs.Decided.{decision}
 use Rattle.pc_implicit.specs.Reads.{RangeEvaluated}
 use Rattle.pc_implicit.specs.Replied.{WasReplied}
+use Rattle.pc_implicit.specs.Restarts.{WasRestarted}
 use Rattle.pc_implicit.specs.Stages.{WasStaged}
 use Rattle.pc_implicit.specs.Writes.{home_of}
 use Rattle.pc_proto.specs.declared.call.Call.TheVariants as calls
@@ -89,7 +90,8 @@ pub record IsGivenUpBy (head : Head) (before : List (Entry Event)) (e : Entry Ev
 abbrev pub IsCauseAt : Head → List (Entry Event) → Entry Event → TxnId → Why → Type 0
 IsCauseAt head before e id (whys.Pushed by) = IsPushedBy head before e id by
 IsCauseAt head before e id (whys.Missing key by) = IsFoundMissing head before e id key by
-IsCauseAt head before e id (whys.Refresh key ts) = IsGivenUpBy head before e id (whys.Refresh key ts)
+IsCauseAt head before e id (whys.Refresh key ts) =
+    IsGivenUpBy head before e id (whys.Refresh key ts) × WasRestarted before (actors.Session id.session) key ts
 IsCauseAt head before e id whys.Client = IsGivenUpBy head before e id whys.Client
 
 -- The entry of the history with which the transaction became aborted is what the cause says.

@@ -5,6 +5,7 @@ pub mod Ends
 pub mod Laws
 pub mod Reads
 pub mod Replied
+pub mod Restarts
 pub mod Stages
 pub mod Staging
 pub mod Versions
