@@ -13,11 +13,10 @@ use Rattle.pc_implicit.proofs.Commits.{act_of}
 use Rattle.pc_implicit.proofs.Doing.{Does, same_or_not, told_by_row}
 use Rattle.pc_implicit.proofs.Hearing.{IsSo, now_is_so}
 use Rattle.pc_implicit.proofs.HeardViews.{replied_of}
-use Rattle.pc_implicit.proofs.Turns.{unmap}
 use Rattle.pc_implicit.proofs.Written.{replied_more}
 use Rattle.pc_implicit.specs.Restarts.{WasRestarted}
 use Rattle.pc_lists.proofs.Each.{each-contains}
-use Rattle.pc_lists.proofs.Lists.{contains_cons, contains_head, contains_nil, contains_tail}
+use Rattle.pc_lists.proofs.Lists.{contains_cons, contains_head, contains_in_map, contains_nil, contains_tail}
 use Rattle.pc_proto.specs.declared.answer.Answer.{Answer}
 use Rattle.pc_proto.specs.declared.answer.Answer.TheVariants as answers
 use Rattle.pc_proto.specs.declared.event.Event.{Event}
@@ -204,8 +203,8 @@ module _ (head : Head) where
 
     event-later : (event : Event) → e.event ≡ event → Does head e.actor k event → (h : Option Heard) (u : Txn) → Contains (txns_after event h k) u → Later u
     unfolding Later
-    event-later (events.Send number range request) is may h u there = let from = unmap (txn_sent request) k.txns u there in as-before from.0 u from.1 (ap (λ (x : Txn). x.restart) (sym from.2))
-    event-later (events.Hear number step) is may h u there = let from = unmap (txn_heard k.sent h) k.txns u there in as-before from.0 u from.1 (ap (λ (x : Txn). x.restart) (sym from.2))
+    event-later (events.Send number range request) is may h u there = let from = contains_in_map (txn_sent request) k.txns u there in as-before from.0 u from.1 (ap (λ (x : Txn). x.restart) (sym from.2))
+    event-later (events.Hear number step) is may h u there = let from = contains_in_map (txn_heard k.sent h) k.txns u there in as-before from.0 u from.1 (ap (λ (x : Txn). x.restart) (sym from.2))
     event-later (events.Tell answer) is may h u there = tell-later answer is may u there
     event-later event is may h u there = as-before u u there refl
 
