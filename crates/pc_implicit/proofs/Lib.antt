@@ -20,8 +20,8 @@ pub mod Deciders
 pub mod Did
 pub mod Doing
 pub mod Doings
-pub mod Evals
 pub mod Ended
+pub mod Evals
 pub mod EvaluatedAt
 pub mod Fates
 pub mod FinalMarks
@@ -54,6 +54,7 @@ pub mod OneDecision
 pub mod OneDecisionEver
 pub mod OpenOver
 pub mod OpenReads
+pub mod Outcomes
 pub mod OwnKeys
 pub mod OwnLaid
 pub mod OwnOver
@@ -74,9 +75,9 @@ pub mod Reading
 pub mod ReadsComeFrom
 pub mod Recorded
 pub mod Recovered
-pub mod Restarted
 pub mod Refusals
 pub mod RepliedAt
+pub mod Restarted
 pub mod RisingVersions
 pub mod Rows
 pub mod Runs
