@@ -9,7 +9,7 @@ use Rattle.pc_implicit.proofs.StageWords.{CommitsBy, ListsLast, StagesLast}
 use Rattle.pc_implicit.proofs.WriteLists.{Laid}
 use Rattle.pc_implicit.specs.Decided.{decision, time_of}
 use Rattle.pc_implicit.specs.Stages.{IsThere}
-use Rattle.pc_implicit.specs.Writes.{home_of, own_intent, txns_of, writes_at}
+use Rattle.pc_implicit.specs.Writes.{home_of, own_intent, txns_of, writes_on}
 use Rattle.pc_proto.specs.declared.event.Event.{Event}
 use Rattle.pc_proto.specs.declared.record.Intent.{Intent}
 use Rattle.pc_proto.specs.Intents.{last_seq}
@@ -49,7 +49,7 @@ module _ (head : Head) (history : List (Entry Event)) (run : IsRun head history)
     implied_epoch = sym lists-last.0
 
     -- and all that it wrote at a key stands in an intent
-    pub implied_whole : (key : List ℕ) (front : List Laid) (seq : ℕ) (value : Option (List ℕ)) → writes_at key t.writes ≡ front ++ (seq, value) ∷ [] → HasWhole head history t key s.ts
+    pub implied_whole : (key : List ℕ) (front : List Laid) (seq : ℕ) (value : Option (List ℕ)) → writes_on key t.writes ≡ front ++ (seq, value) ∷ [] → HasWhole head history t key s.ts
     implied_whole key front seq value is =
         let own : Contains (txns_of head t.id history) t = subst (λ i. Contains (txns_of head i history) t) (sym same) known in
         let none : decision (home_of head t.id history) ≡ None = subst (λ i. decision (home_of head i history) ≡ None) (sym same) implied_undecided in

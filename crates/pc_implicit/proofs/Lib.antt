@@ -16,6 +16,7 @@ pub mod CommitPoints
 pub mod Commits
 pub mod CommitsSent
 pub mod CommitsStay
+pub mod CommittedElsewhere
 pub mod Deciders
 pub mod Did
 pub mod Doing
@@ -23,8 +24,10 @@ pub mod Doings
 pub mod Ended
 pub mod Evals
 pub mod EvaluatedAt
+pub mod FailsSteps
 pub mod Fates
 pub mod FinalMarks
+pub mod FirstStages
 pub mod Firsts
 pub mod Forward
 pub mod FoundThere
@@ -35,6 +38,8 @@ pub mod Hearing
 pub mod Holders
 pub mod HomeOver
 pub mod Homes
+pub mod ImplicitCommitted
+pub mod ImplicitFails
 pub mod ImplicitStands
 pub mod IntentKeys
 pub mod Keyed
@@ -51,7 +56,6 @@ pub mod NeverDead
 pub mod NoProofBeside
 pub mod NotDead
 pub mod OneDecision
-pub mod OneDecisionEver
 pub mod OpenOver
 pub mod OpenReads
 pub mod Outcomes
@@ -66,6 +70,7 @@ pub mod Places
 pub mod Points
 pub mod Presence
 pub mod ProofsHeard
+pub mod ProofsNow
 pub mod PutsDone
 pub mod PutsSent
 pub mod ReadAt

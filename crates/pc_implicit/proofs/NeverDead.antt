@@ -134,7 +134,7 @@ module _ (head : Head) where
       subst (λ h. Stands (home_of head id front) (home_of head id h)) (append_assoc front (e ∷ []) es)
       (stands-on (home_of head id front) (home_of head id (front ++ e ∷ [])) (home_of head id ((front ++ e ∷ []) ++ es)) (home_on head id front e) (home_along id (front ++ e ∷ []) es))
 
-  marks-at-home : (id : TxnId) (history : List (Entry Event)) (m : Status) → home_of head id history ≡ Marked m → is_final m.standing ≡ true
+  pub marks-at-home : (id : TxnId) (history : List (Entry Event)) (m : Status) → home_of head id history ≡ Marked m → is_final m.standing ≡ true
   marks-at-home id history m is = by (anchor_in id history) is
     where
       by : (o : Option (List ℕ)) → place_under head id history o ≡ Marked m → is_final m.standing ≡ true

@@ -9,7 +9,7 @@ use Rattle.pc_implicit.proofs.WriteLists.{Laid, last_low}
 use Rattle.pc_implicit.specs.Decided.{decision, time_of}
 use Rattle.pc_implicit.specs.Replied.{WasProven}
 use Rattle.pc_implicit.specs.Stages.{IsOpenTo}
-use Rattle.pc_implicit.specs.Writes.{home_of, own_intent, txns_of, writes_at}
+use Rattle.pc_implicit.specs.Writes.{home_of, own_intent, txns_of, writes_on}
 use Rattle.pc_lists.proofs.Each.{each-contains, each-weaker}
 use Rattle.pc_proto.specs.declared.event.Event.{Event}
 use Rattle.pc_proto.specs.Intents.{last_seq}
@@ -22,7 +22,7 @@ use Rattle.pc_world.specs.StageFate.{SentStage}
 module _ (head : Head) (history : List (Entry Event)) (run : IsRun head history) (s : SentStage) (opened : IsOpenTo head history s) (w : List ℕ × ℕ) (refuted : WasRefuted history s w)
     (t : Txn) (known : Contains (txns_of head s.meta.id history) t) (same : t.id ≡ s.meta.id) (epoch : t.epoch ≡ s.meta.epoch) where
   -- the transaction's last write at its key is not proven at or below the staged timestamp
-  pub no_proof_beside : (seq : ℕ) → w.1 ≤ seq → Each (λ (x : Laid). x.0 ≤ seq) (writes_at w.0 t.writes) → (ts : ℕ) → ts ≤ s.ts → WasProven history s.meta.id s.meta.epoch w.0 seq ts → ⊥
+  pub no_proof_beside : (seq : ℕ) → w.1 ≤ seq → Each (λ (x : Laid). x.0 ≤ seq) (writes_on w.0 t.writes) → (ts : ℕ) → ts ≤ s.ts → WasProven history s.meta.id s.meta.epoch w.0 seq ts → ⊥
   no_proof_beside seq reached last ts low proven =
       let own : Contains (txns_of head t.id history) t = subst (λ i. Contains (txns_of head i history) t) (sym same) known in
       let none : decision (home_of head t.id history) ≡ None = subst (λ i. decision (home_of head i history) ≡ None) (sym same) opened.undecided in
@@ -31,9 +31,9 @@ module _ (head : Head) (history : List (Entry Event)) (run : IsRun head history)
       let i = r.0 in
       let stands = r.2 in
       let has = stands.has in
-      let among : Each (λ x. Contains (writes_at w.0 t.writes) x) i.history = (hold.among i r.1).each stands.epoch_is in
+      let among : Each (λ x. Contains (writes_on w.0 t.writes) x) i.history = (hold.among i r.1).each stands.epoch_is in
       let each : Each (λ (x : Laid). x.0 ≤ seq) i.history =
-      each-weaker (λ x. Contains (writes_at w.0 t.writes) x) (λ (x : Laid). x.0 ≤ seq) (λ x there. each-contains (λ (y : Laid). y.0 ≤ seq) (writes_at w.0 t.writes) x last there) i.history among in
+      each-weaker (λ x. Contains (writes_on w.0 t.writes) x) (λ (x : Laid). x.0 ≤ seq) (λ x there. each-contains (λ (y : Laid). y.0 ≤ seq) (writes_on w.0 t.writes) x last there) i.history among in
       let greatest : last_seq i ≤ seq = last_low seq 0 i.history (omega arith) each in
       let time : i.ts ≤ max ts (time_of (home_of head t.id history)) = stands.low greatest in
       let home : time_of (home_of head t.id history) ≤ s.ts = subst (λ j. time_of (home_of head j history) ≤ s.ts) (sym same) opened.ts_low in

@@ -22,7 +22,7 @@ use Rattle.pc_implicit.proofs.ImplicitStands.{implied_epoch, implied_whole}
 use Rattle.pc_implicit.proofs.Turns.{IsAnswered, Restarted, WentOn, Wrote, comes_from, Turn}
 use Rattle.pc_implicit.proofs.WriteLists.{Laid, AreAlike}
 use Rattle.pc_implicit.specs.Decided.{decision}
-use Rattle.pc_implicit.specs.Writes.{LastWriteStands, home_of, place_under, txns_of, writes_at}
+use Rattle.pc_implicit.specs.Writes.{LastWriteStands, home_of, place_under, txns_of, writes_on}
 use Rattle.pc_lists.proofs.Lists.{contains_nil}
 use Rattle.pc_proto.specs.declared.event.Event.{Event}
 use Rattle.pc_proto.specs.declared.record.Standing.TheVariants as standings
@@ -83,7 +83,7 @@ module _ (head : Head) (history : List (Entry Event)) (run : IsRun head history)
   recovery = requests.Recover id epoch ts now.anchor findings.All
 
   -- it answers that the transaction is committed
-  answers-commit : AnswersCommitted head history ts (Recovers id) e
+  pub answers-commit : AnswersCommitted head history ts (Recovers id) e
   unfolding recovery
   answers-commit =
       let ev = now.ev in
@@ -191,7 +191,7 @@ module _ (head : Head) where
 
   -- what a committed transaction wrote stands
   pub writes_of_committed : (history : List (Entry Event)) (t : Txn) (ts : ℕ) (key : List ℕ) (front : List Laid) (seq : ℕ) (value : Option (List ℕ)) → IsRun head history
-      → Contains (txns_of head t.id history) t → IsCommitted head history t.id ts → writes_at key t.writes ≡ front ++ (seq, value) ∷ [] → LastWriteStands head history t key value ts
+      → Contains (txns_of head t.id history) t → IsCommitted head history t.id ts → writes_on key t.writes ≡ front ++ (seq, value) ∷ [] → LastWriteStands head history t key value ts
   writes_of_committed history t ts key front seq value run known committed is =
       elim (because head history run t.id ts committed) [
         | ByDecision epoch decided ↦ (settled head history run t.id epoch ts decided).stand t known refl key front seq value is
@@ -199,7 +199,7 @@ module _ (head : Head) where
             let whole = implied_whole head history run s commits (stages_last head history run) (not_dead head history run s commits) t (subst (λ i. Contains (txns_of head i history) t) (sym whose) known) (sym whose) key front seq value is in
             inr (subst (HasWhole head history t key) ts_is whole)
         | ByTelling none told ↦
-            let both : writes_at key [] ≡ front ++ (seq, value) ∷ [] = ap (writes_at key) (sym (unwritten history run t known none)) ∙ is in
+            let both : writes_on key [] ≡ front ++ (seq, value) ∷ [] = ap (writes_on key) (sym (unwritten history run t known none)) ∙ is in
             absurd (empty front (seq, value) both)
       ]
     where

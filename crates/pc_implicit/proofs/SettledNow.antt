@@ -3,7 +3,6 @@ use Rattle.std.proofs.Common.{◌≡◌, ℕ, ◌<◌, ◌≤◌, max, Bool, tru
 use Rattle.std.proofs.lemmas.List.{append-nil}
 use Rattle.std.proofs.lemmas.List.Elements.{Contains-append_left, Contains-append_right}
 use Rattle.std.specs.List.{AllByRecursion as Each}
-use Rattle.pc_lists.proofs.Each.{each-contains}
 use Rattle.pc_base.specs.declared.actor.ActorId.{ActorId}
 use Rattle.pc_base.specs.declared.actor.ActorId.TheVariants as actors
 use Rattle.pc_base.specs.declared.entry.Entry.{Entry}
@@ -22,7 +21,8 @@ use Rattle.pc_implicit.proofs.Turns.{not_session}
 use Rattle.pc_implicit.proofs.WriteLists.{Laid, RiseAt, left_over, rise_at, rise_last}
 use Rattle.pc_implicit.specs.Decided.{decision, epoch_of, time_of}
 use Rattle.pc_implicit.specs.Replied.{WasProven}
-use Rattle.pc_implicit.specs.Writes.{IsWholeBy, LastWriteStands, home_of, own_intent, txns_of, writes_at}
+use Rattle.pc_implicit.specs.Writes.{IsWholeBy, LastWriteStands, home_of, own_intent, txns_of, writes_on}
+use Rattle.pc_lists.proofs.Each.{each-contains}
 use Rattle.pc_lists.proofs.Lists.{contains_cons, contains_head, contains_nil, contains_tail}
 use Rattle.pc_lists.proofs.Same.{same_key-is}
 use Rattle.pc_proto.specs.declared.event.Event.{Event}
@@ -60,7 +60,7 @@ pub record WasAsked (history : List (Entry Event)) (id : TxnId) (epoch ts : ℕ)
 -- What the transaction wrote at the keys stands at this timestamp.
 abbrev pub AllWritesStand : Head → List (Entry Event) → Txn → ℕ → Type 0
 AllWritesStand head history t ts =
-    (key : List ℕ) (front : List Laid) (seq : ℕ) (value : Option (List ℕ)) → writes_at key t.writes ≡ front ++ (seq, value) ∷ [] → LastWriteStands head history t key value ts
+    (key : List ℕ) (front : List Laid) (seq : ℕ) (value : Option (List ℕ)) → writes_on key t.writes ≡ front ++ (seq, value) ∷ [] → LastWriteStands head history t key value ts
 
 -- The stage by which the transaction is committed, at this epoch and timestamp.
 pub record IsImplied (head : Head) (history : List (Entry Event)) (id : TxnId) (epoch ts : ℕ) : Type 0 where
@@ -84,29 +84,29 @@ pub record IsSettled (head : Head) (history : List (Entry Event)) (id : TxnId) (
   pub stand : (t : Txn) → Contains (txns_of head id history) t → t.id ≡ id → AllWritesStand head history t ts
 
 -- what is written at a key is a write of it
-unwritten-at : (key : List ℕ) (ws : List Write) (x : Laid) → Contains (writes_at key ws) x → (w : Write) × Contains ws w × (w.key ≡ key) × (w.seq ≡ x.0) × (w.value ≡ x.1)
+pub unwritten-at : (key : List ℕ) (ws : List Write) (x : Laid) → Contains (writes_on key ws) x → (w : Write) × Contains ws w × (w.key ≡ key) × (w.seq ≡ x.0) × (w.value ≡ x.1)
 unwritten-at key [] x there = absurd (contains_nil x there)
 unwritten-at key (w ∷ ws) x there = by (same_key w.key key) refl (unwritten-at key ws x) there
   where
-    by : (b : Bool) → same_key w.key key ≡ b → (Contains (writes_at key ws) x → (v : Write) × Contains ws v × (v.key ≡ key) × (v.seq ≡ x.0) × (v.value ≡ x.1))
+    by : (b : Bool) → same_key w.key key ≡ b → (Contains (writes_on key ws) x → (v : Write) × Contains ws v × (v.key ≡ key) × (v.seq ≡ x.0) × (v.value ≡ x.1))
         → Contains (map {B = Laid} (λ (v : Write). (v.seq, v.value)) (cond b (w ∷ filter (λ v. same_key v.key key) ws) (filter (λ v. same_key v.key key) ws))) x
         → (v : Write) × Contains (w ∷ ws) v × (v.key ≡ key) × (v.seq ≡ x.0) × (v.value ≡ x.1)
     by true e rest there =
         let first : Laid = (w.seq, w.value) in
-        elim (contains_cons first (writes_at key ws) x there) [
+        elim (contains_cons first (writes_on key ws) x there) [
           | inl same ↦ (w, contains_head w ws, same_key-is w.key key e, ap (λ (y : Laid). y.0) same, ap (λ (y : Laid). y.1) same)
           | inr later ↦ let r = rest later in (r.0, contains_tail w ws r.0 r.1, r.2, r.3, r.4)
         ]
     by false e rest there = let r = rest there in (r.0, contains_tail w ws r.0 r.1, r.2, r.3, r.4)
 
 -- an intent in which the last write at the key stands has all of them, and lies no higher than that was proved or the record has gone
-is-whole : (t : Txn) (key : List ℕ) (home : Place) (front : List Laid) (seq : ℕ) (value : Option (List ℕ)) → writes_at key t.writes ≡ front ++ (seq, value) ∷ [] → RiseAt 0 (front ++ (seq, value) ∷ [])
-    → (proof ts : ℕ) → proof ≤ ts → time_of home ≤ ts → (i : Intent) → StandsIn t.epoch home seq proof i → HasFront (writes_at key t.writes) i → IsWholeBy t key ts i
+is-whole : (t : Txn) (key : List ℕ) (home : Place) (front : List Laid) (seq : ℕ) (value : Option (List ℕ)) → writes_on key t.writes ≡ front ++ (seq, value) ∷ [] → RiseAt 0 (front ++ (seq, value) ∷ [])
+    → (proof ts : ℕ) → proof ≤ ts → time_of home ≤ ts → (i : Intent) → StandsIn t.epoch home seq proof i → HasFront (writes_on key t.writes) i → IsWholeBy t key ts i
 is-whole t key home front seq value is rise proof ts low ts_low i stands f =
     let has = stands.has in
     let nothing : f.rest ≡ [] =
     elim (left_over (λ x. last_seq i < x.0) i.history f.rest front (seq, value) (f.whole ∙ is) f.above) [ inl empty ↦ empty | inr above ↦ absurd (omega (arith, above, has)) ] in
-    let whole : i.history ≡ writes_at key t.writes = sym (append-nil i.history) ∙ ap (λ l. i.history ++ l) (sym nothing) ∙ f.whole in
+    let whole : i.history ≡ writes_on key t.writes = sym (append-nil i.history) ∙ ap (λ l. i.history ++ l) (sym nothing) ∙ f.whole in
     let greatest : last_seq i ≡ seq = ap (λ l. fold (λ most (x : Laid). max most x.0) 0 l) (whole ∙ is) ∙ rise_last 0 front (seq, value) rise in
     let high : i.ts ≤ max proof (time_of home) = stands.low (omega (arith, greatest)) in
     record { epoch = stands.epoch_is; low = omega (arith, high, low, ts_low); whole = whole }
@@ -116,7 +116,7 @@ abbrev pub HasWhole : Head → List (Entry Event) → Txn → List ℕ → ℕ �
 HasWhole head history t key ts = (i : Intent) × (own_intent head t.id key history ≡ Some i) × IsWholeBy t key ts i
 
 -- the last write at a key
-pub last_at : (key : List ℕ) (ws : List Write) (front : List Laid) (seq : ℕ) (value : Option (List ℕ)) → writes_at key ws ≡ front ++ (seq, value) ∷ [] → (w : Write) × Contains ws w × (w.key ≡ key) × (w.seq ≡ seq)
+pub last_at : (key : List ℕ) (ws : List Write) (front : List Laid) (seq : ℕ) (value : Option (List ℕ)) → writes_on key ws ≡ front ++ (seq, value) ∷ [] → (w : Write) × Contains ws w × (w.key ≡ key) × (w.seq ≡ seq)
 last_at key ws front seq value is =
     let last : Laid = (seq, value) in
     let w = unwritten-at key ws last (subst (λ l. Contains l last) (sym is) (Contains-append_right front (last ∷ []) last (contains_head last []))) in
@@ -126,7 +126,7 @@ last_at key ws front seq value is =
 module _ (head : Head) (history : List (Entry Event)) (run : IsRun head history) (t : Txn) (known : Contains (txns_of head t.id history) t) (none : decision (home_of head t.id history) ≡ None)
     (ts : ℕ) (ts_low : time_of (home_of head t.id history) ≤ ts) where
   -- where its last write at a key stands, all that it wrote there stands
-  pub whole_where : (key : List ℕ) (front : List Laid) (seq : ℕ) (value : Option (List ℕ)) → writes_at key t.writes ≡ front ++ (seq, value) ∷ [] → (at : ℕ) → at ≤ ts
+  pub whole_where : (key : List ℕ) (front : List Laid) (seq : ℕ) (value : Option (List ℕ)) → writes_on key t.writes ≡ front ++ (seq, value) ∷ [] → (at : ℕ) → at ≤ ts
       → (i : Intent) → own_intent head t.id key history ≡ Some i → StandsIn t.epoch (home_of head t.id history) seq at i → HasWhole head history t key ts
   whole_where key front seq value is at low i own stands =
       let rise : RiseAt 0 (front ++ (seq, value) ∷ []) = subst (RiseAt 0) is (rise_at key 0 t.writes (orderly head history run (actors.Session t.id.session) t known).rise) in
@@ -134,7 +134,7 @@ module _ (head : Head) (history : List (Entry Event)) (run : IsRun head history)
       (i, own, is-whole t key (home_of head t.id history) front seq value is rise at ts low ts_low i stands (h.front none i own stands.epoch_is))
 
   -- so where it was proved at or below the timestamp
-  pub whole_if_proved : (key : List ℕ) (front : List Laid) (seq : ℕ) (value : Option (List ℕ)) → writes_at key t.writes ≡ front ++ (seq, value) ∷ []
+  pub whole_if_proved : (key : List ℕ) (front : List Laid) (seq : ℕ) (value : Option (List ℕ)) → writes_on key t.writes ≡ front ++ (seq, value) ∷ []
       → (w : Write) → Contains t.writes w → w.key ≡ key → w.seq ≡ seq → IsProvedBy ts w → HasWhole head history t key ts
   whole_if_proved key front seq value is w inside at_key of_seq by =
       let low : by.1 ≤ ts = by.4 in
@@ -150,7 +150,7 @@ module _ (head : Head) (history : List (Entry Event)) (e : Entry Event) (id : Tx
     (actor : ActorId) (number : ℕ) (reply : Reply) (is : e.event ≡ events.Eval actor number reply) (ev : NamedMessage head history e.actor actor number reply)
     (keeps : (s : RangeState) → intents_after ev.request s ≡ s.intents) where
   -- it leaves each intent
-  own-kept : (key : List ℕ) → own_intent head id key (history ++ e ∷ []) ≡ own_intent head id key history
+  pub own-kept : (key : List ℕ) → own_intent head id key (history ++ e ∷ []) ≡ own_intent head id key history
   own-kept key =
       elim (same_or_not e.actor (actors.Range (range_of head.splits key))) [
         | inl at ↦
@@ -165,7 +165,7 @@ module _ (head : Head) (history : List (Entry Event)) (e : Entry Event) (id : Tx
   -- so the transaction is settled by it
   pub settled_by : WasAsked (history ++ e ∷ []) id epoch ts ⊎ WasImplied head (history ++ e ∷ []) id epoch ts
       → ((t : Txn) → Contains (txns_of head id history) t → t.id ≡ id → t.epoch ≡ epoch)
-      → ((t : Txn) → Contains (txns_of head id history) t → t.id ≡ id → (key : List ℕ) (front : List Laid) (seq : ℕ) (value : Option (List ℕ)) → writes_at key t.writes ≡ front ++ (seq, value) ∷ [] → HasWhole head history t key ts)
+      → ((t : Txn) → Contains (txns_of head id history) t → t.id ≡ id → (key : List ℕ) (front : List Laid) (seq : ℕ) (value : Option (List ℕ)) → writes_on key t.writes ≡ front ++ (seq, value) ∷ [] → HasWhole head history t key ts)
       → IsSettled head (history ++ e ∷ []) id epoch ts
   settled_by asked epochs wholes =
       let before : (t : Txn) → Contains (txns_of head id (history ++ e ∷ [])) t → Contains (txns_of head id history) t =
@@ -205,7 +205,7 @@ module _ (head : Head) (history : List (Entry Event)) (run : IsRun head history)
       not-beyond epochs epoch_low ts_low (inr above) = omega (arith, ts_low, above)
 
   -- so the last one at a key stands in an intent of all that it wrote there
-  whole-intent : (t : Txn) → Contains (txns_of head id history) t → t.id ≡ id → (key : List ℕ) (front : List Laid) (seq : ℕ) (value : Option (List ℕ)) → writes_at key t.writes ≡ front ++ (seq, value) ∷ []
+  whole-intent : (t : Txn) → Contains (txns_of head id history) t → t.id ≡ id → (key : List ℕ) (front : List Laid) (seq : ℕ) (value : Option (List ℕ)) → writes_on key t.writes ≡ front ++ (seq, value) ∷ []
       → HasWhole head history t key ts
   whole-intent t known same key front seq value is =
       let own : Contains (txns_of head t.id history) t = subst (λ i. Contains (txns_of head i history) t) (sym same) known in

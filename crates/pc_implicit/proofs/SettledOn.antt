@@ -26,7 +26,7 @@ use Rattle.pc_implicit.proofs.Turns.{IsAnswered, Restarted, WentOn, Wrote, comes
 use Rattle.pc_implicit.proofs.VersionSteps.{makes_version, version_stays}
 use Rattle.pc_implicit.proofs.WriteLists.{Laid, RiseAt, alike_at, each_low, rise_at, rise_value, written_at}
 use Rattle.pc_implicit.specs.Decided.{decision, epoch_of, time_of}
-use Rattle.pc_implicit.specs.Writes.{IsWholeBy, LastWriteStands, home_of, own_intent, place_under, txns_of, writes_at}
+use Rattle.pc_implicit.specs.Writes.{IsWholeBy, LastWriteStands, home_of, own_intent, place_under, txns_of, writes_on}
 use Rattle.pc_lists.proofs.Each.{each-contains}
 use Rattle.pc_proto.specs.declared.event.Event.{Event}
 use Rattle.pc_proto.specs.declared.event.Event.TheVariants as events
@@ -114,7 +114,7 @@ module _ (head : Head) (history : List (Entry Event)) (run : IsRun head history)
       ap (λ r. state_at head r (history ++ e ∷ [])) (sym there) ∙ evaluated_state head history e actor number ev.range told ev is
       ∙ ap (λ r. state_after ev.request (state_at head r history)) there
 
-  put-past : (meta : TxnMeta) (seq0 ts0 : ℕ) (value0 : Option (List ℕ)) (i : Intent) → ev.request ≡ requests.Put meta seq0 ts0 key value0 → meta.id ≡ t.id → i.meta.epoch ≡ t.epoch → i.history ≡ writes_at key t.writes
+  put-past : (meta : TxnMeta) (seq0 ts0 : ℕ) (value0 : Option (List ℕ)) (i : Intent) → ev.request ≡ requests.Put meta seq0 ts0 key value0 → meta.id ≡ t.id → i.meta.epoch ≡ t.epoch → i.history ≡ writes_on key t.writes
       → own_at t.id key s.intents ≡ Some i → overtaken meta seq0 (own_at t.id key s.intents) ≡ false → ⊥
   unfolding s
   put-past meta seq0 ts0 value0 i asked whose same whole own over =
@@ -135,7 +135,7 @@ module _ (head : Head) (history : List (Entry Event)) (run : IsRun head history)
   fate-so : (fate : Fate) → ev.request ≡ requests.Resolve t.id key fate → FateIsSo fate (home_of head t.id history)
   fate-so fate asked = fates_are_so head history run ev.send ev.listed number ev.range t.id key fate (ev.sends ∙ ap (events.Send number ev.range) asked)
 
-  intent-stands : (front : List Laid) (seq : ℕ) (value : Option (List ℕ)) → writes_at key t.writes ≡ front ++ (seq, value) ∷ [] → (i : Intent) → own_at t.id key s.intents ≡ Some i → IsWholeBy t key ts i
+  intent-stands : (front : List Laid) (seq : ℕ) (value : Option (List ℕ)) → writes_on key t.writes ≡ front ++ (seq, value) ∷ [] → (i : Intent) → own_at t.id key s.intents ≡ Some i → IsWholeBy t key ts i
       → LastWriteStands head (history ++ e ∷ []) t key value ts
   unfolding s
   intent-stands front seq value at_key i own w =
@@ -173,7 +173,7 @@ module _ (head : Head) (history : List (Entry Event)) (run : IsRun head history)
       gone (fates.Pending at) ends asked so = absurd ends
 
   -- what stood at the key stands after it
-  pub eval_stands : (front : List Laid) (seq : ℕ) (value : Option (List ℕ)) → writes_at key t.writes ≡ front ++ (seq, value) ∷ [] → LastWriteStands head history t key value ts → LastWriteStands head (history ++ e ∷ []) t key value ts
+  pub eval_stands : (front : List Laid) (seq : ℕ) (value : Option (List ℕ)) → writes_on key t.writes ≡ front ++ (seq, value) ∷ [] → LastWriteStands head history t key value ts → LastWriteStands head (history ++ e ∷ []) t key value ts
   unfolding s
   eval_stands front seq value at_key stands =
       elim stands [
@@ -225,7 +225,7 @@ module _ (head : Head) (history : List (Entry Event)) (run : IsRun head history)
 
   -- so it goes on as it was
   pub goes_on : (u : Txn) → Contains (txns_of head id (history ++ e ∷ [])) u → u.id ≡ id
-      → (t : Txn) × Contains (txns_of head id history) t × (t.id ≡ id) × (u.epoch ≡ t.epoch) × ((key : List ℕ) → writes_at key u.writes ≡ writes_at key t.writes)
+      → (t : Txn) × Contains (txns_of head id history) t × (t.id ≡ id) × (u.epoch ≡ t.epoch) × ((key : List ℕ) → writes_on key u.writes ≡ writes_on key t.writes)
   goes_on u there same =
       elim (comes_from head history run e may (actors.Session id.session) u there) [
         | inl b ↦ absurd (new-none b.new)
@@ -243,7 +243,7 @@ module _ (head : Head) (history : List (Entry Event)) (run : IsRun head history)
           let none : anchor_in id history ≡ None = ap (λ i. anchor_in i history) (sym same) ∙ new.anchor in
           let both : decision Nothing ≡ Some (status_of standings.Committed epoch ts) = ap (λ o. decision (place_under head id history o)) (sym none) ∙ decided in absurd cc
 
-  stands-as : (t u : Txn) (key : List ℕ) (value : Option (List ℕ)) → u.id ≡ t.id → u.epoch ≡ t.epoch → writes_at key u.writes ≡ writes_at key t.writes
+  stands-as : (t u : Txn) (key : List ℕ) (value : Option (List ℕ)) → u.id ≡ t.id → u.epoch ≡ t.epoch → writes_on key u.writes ≡ writes_on key t.writes
       → LastWriteStands head (history ++ e ∷ []) t key value ts → LastWriteStands head (history ++ e ∷ []) u key value ts
   stands-as t u key value same epochs writes stands =
       elim stands [
@@ -258,7 +258,7 @@ module _ (head : Head) (history : List (Entry Event)) (run : IsRun head history)
             )
       ]
 
-  still-stands : (t : Txn) → Contains (txns_of head id history) t → t.id ≡ id → (key : List ℕ) (front : List Laid) (seq : ℕ) (value : Option (List ℕ)) → writes_at key t.writes ≡ front ++ (seq, value) ∷ []
+  still-stands : (t : Txn) → Contains (txns_of head id history) t → t.id ≡ id → (key : List ℕ) (front : List Laid) (seq : ℕ) (value : Option (List ℕ)) → writes_on key t.writes ≡ front ++ (seq, value) ∷ []
       → LastWriteStands head (history ++ e ∷ []) t key value ts
   still-stands t known same key front seq value is =
       let before = settled.stand t known same key front seq value is in

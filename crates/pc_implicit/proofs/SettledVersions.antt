@@ -25,7 +25,7 @@ use Rattle.pc_implicit.proofs.Settled.{settled}
 use Rattle.pc_implicit.proofs.VersionSteps.{IsMade, version_cases}
 use Rattle.pc_implicit.proofs.WriteLists.{Laid, RiseAt, rise_at, rise_value}
 use Rattle.pc_implicit.specs.Decided.{decision}
-use Rattle.pc_implicit.specs.Writes.{IsOfCommitted, home_of, own_intent, txns_of, writes_at}
+use Rattle.pc_implicit.specs.Writes.{IsOfCommitted, home_of, own_intent, txns_of, writes_on}
 use Rattle.pc_lists.proofs.Each.{each-contains}
 use Rattle.pc_lists.proofs.Lists.{contains_head, contains_nil}
 use Rattle.pc_proto.specs.declared.event.Event.{Event}
@@ -61,9 +61,9 @@ pub record IsOf (head : Head) (history : List (Entry Event)) (range : ℕ) (v : 
   pub whose : t.id ≡ v.id
   pub front : List Laid
   pub seq : ℕ
-  pub last : writes_at v.key t.writes ≡ front ++ (seq, v.value) ∷ []
+  pub last : writes_on v.key t.writes ≡ front ++ (seq, v.value) ∷ []
 
-last-of : (ws : List Laid) (x : Laid) → Contains ws x → (front : List Laid) × (w : Laid) × (ws ≡ front ++ w ∷ [])
+pub last-of : (ws : List Laid) (x : Laid) → Contains ws x → (front : List Laid) × (w : Laid) × (ws ≡ front ++ w ∷ [])
 last-of [] x there = absurd (contains_nil x there)
 last-of (y ∷ []) x there = ([], y, refl)
 last-of (y ∷ z ∷ ws) x there = let r = last-of (z ∷ ws) z (contains_head z ws) in (y ∷ r.0, r.1, ap (λ l. y ∷ l) r.2)
@@ -93,7 +93,7 @@ module _ (head : Head) (history : List (Entry Event)) (run : IsRun head history)
         whose = on.2;
         front = o.front;
         seq = o.seq;
-        last = g.4 v.key ∙ ap (λ (x : Txn). writes_at v.key x.writes) same ∙ o.last;
+        last = g.4 v.key ∙ ap (λ (x : Txn). writes_on v.key x.writes) same ∙ o.last;
       }
 
   -- what a resolve made a version of
@@ -134,8 +134,8 @@ module _ (head : Head) (history : List (Entry Event)) (run : IsRun head history)
           let epoch : m.i.meta.epoch ≡ t.epoch = m.epoch_is ∙ sym (s.epochs t known same) in
           let among = (own_hold head history run t own v.key).among m.i (own-is there t same) in
           let some = among.some epoch in
-          let inside : Contains (writes_at v.key t.writes) some.0 = each-contains (λ x. Contains (writes_at v.key t.writes) x) m.i.history some.0 (among.each epoch) some.1 in
-          let l = last-of (writes_at v.key t.writes) some.0 inside in
+          let inside : Contains (writes_on v.key t.writes) some.0 = each-contains (λ x. Contains (writes_on v.key t.writes) x) m.i.history some.0 (among.each epoch) some.1 in
+          let l = last-of (writes_on v.key t.writes) some.0 inside in
           let w = l.1 in
           let low = m.low in
           elim (s.stand t known same v.key l.0 w.0 w.1 l.2) [
@@ -146,7 +146,7 @@ module _ (head : Head) (history : List (Entry Event)) (run : IsRun head history)
             | inr intent ↦
                 let one : intent.0 ≡ m.i = let both : Some intent.0 ≡ Some m.i = sym intent.1 ∙ own-is there t same in cc both in
                 let whole : m.i.history ≡ l.0 ++ w ∷ [] = ap (λ (i : Intent). i.history) (sym one) ∙ intent.2.whole ∙ l.2 in
-                let rise : RiseAt 0 (writes_at v.key t.writes) = rise_at v.key 0 t.writes (orderly head history run (actors.Session t.id.session) t own).rise in
+                let rise : RiseAt 0 (writes_on v.key t.writes) = rise_at v.key 0 t.writes (orderly head history run (actors.Session t.id.session) t own).rise in
                 record {
                   epoch = m.epoch;
                   decided = decided;
@@ -156,7 +156,7 @@ module _ (head : Head) (history : List (Entry Event)) (run : IsRun head history)
                   whose = same;
                   front = l.0;
                   seq = w.0;
-                  last = is-last v m.i l.0 w (writes_at v.key t.writes) whole l.2 rise m.last;
+                  last = is-last v m.i l.0 w (writes_on v.key t.writes) whole l.2 rise m.last;
                 }
           ]
 

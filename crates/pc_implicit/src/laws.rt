@@ -30,7 +30,7 @@ pub fn final_views_stay()
     ensures { FinalViewsStay }
 {}
 
-/// A law: where nothing is staged, no two decisions differ.
+/// A law: no two decisions differ.
 pub fn decisions_do_not_differ()
     ensures { DecisionsDoNotDiffer }
 {}

@@ -1,6 +1,6 @@
-//! Laws of runs: what was decided stays decided; where nothing is staged, no two decisions differ, and a range answers each
-//! request as it may be answered; and whose intents stand in the way. Each is a function that does nothing, whose contract is
-//! the law.
+//! Laws of runs: what was decided stays decided; no two decisions differ, whatever is staged; what is aborted never commits, and has the
+//! cause that it names; what was written and read stands; and whose intents stand in the way. Each is a function that does nothing,
+//! whose contract is the law.
 #![tactic(auto)]
 
 mod causes;
