@@ -40,7 +40,7 @@ use Rattle.pc_proto.specs.declared.reply.Reply.{Reply}
 use Rattle.pc_proto.specs.declared.request.Request.TheVariants as requests
 use Rattle.pc_proto.specs.declared.why.Why.{Why}
 use Rattle.pc_proto.specs.Intents.{last_seq, last_value, later_write, own_at}
-use Rattle.pc_proto.specs.Place.{Place, Nothing, Kept, Marked, is_final}
+use Rattle.pc_proto.specs.Place.{Nothing}
 use Rattle.pc_proto.specs.RecordRows.Reached.{status_of}
 use Rattle.pc_world.proofs.Knowing.{state_other}
 use Rattle.pc_world.specs.After.{known_at, place_at, state_at}
@@ -147,7 +147,7 @@ module _ (head : Head) (history : List (Entry Event)) (run : IsRun head history)
         | IsMoved at j asked there eq ↦
             let one : j ≡ i = let both : Some j ≡ Some i = sym there ∙ own in cc in
             let reached : at ≤ time_of (home_of head t.id history) = fate-so (fates.Pending at) asked in
-            let time : time_of (home_of head t.id history) ≡ ts = (decided-place (home_of head t.id history) (status_of standings.Committed epoch ts) decided).1 in
+            let time : time_of (home_of head t.id history) ≡ ts = (decided-at (home_of head t.id history) (status_of standings.Committed epoch ts) decided).1 in
             inr (record i { ts = max i.ts at }, later ∙ eq ∙ ap (λ (x : Intent). Some (record x { ts = max x.ts at })) one, record { epoch = w.epoch; low = omega (arith, low, reached, time); whole = w.whole })
         | IsGone fate j asked ends there eq ↦ gone fate ends asked (fate-so fate asked)
       ]
