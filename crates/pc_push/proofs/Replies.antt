@@ -22,8 +22,8 @@ use Rattle.pc_proto.specs.RecordRows.Reached.{is_staging}
 use Rattle.pc_proto.specs.Requests.{Recovers}
 use Rattle.pc_proto.specs.Table.{place_of}
 use Rattle.pc_proto.specs.Views.{IsFateOf, final_fate}
+use Rattle.pc_push.proofs.Marks.{IsFinalPlace, place_final}
 use Rattle.pc_push.specs.Pushing.{Pushing, push_of}
-use Rattle.pc_world.proofs.FinalMarks.{IsFinalPlace, place_final}
 use Rattle.pc_world.specs.Exchange.{IsPossibleReply}
 use Rattle.pc_world.specs.StateOf.{state_of}
 

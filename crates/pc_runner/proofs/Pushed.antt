@@ -19,8 +19,8 @@ use Rattle.pc_proto.specs.RecordRows.{push_reply}
 use Rattle.pc_proto.specs.RecordRows.Push.{Verdict, There, Refuse, Doubt, Do, is_staged, on_verdict, push, push_verdict, pushed, wins}
 use Rattle.pc_proto.specs.Table.{place_of}
 use Rattle.pc_proto.specs.Views.{fate_after, final_fate}
+use Rattle.pc_push.proofs.Marks.{IsFinalPlace, place_final}
 use Rattle.pc_push.specs.Pushing.{Pushing, push_of}
-use Rattle.pc_world.proofs.FinalMarks.{IsFinalPlace, place_final}
 use Rattle.pc_world.specs.Exchange.{IsPossibleReply}
 use Rattle.pc_world.specs.StateOf.{state_of}
 
