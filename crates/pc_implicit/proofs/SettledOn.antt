@@ -21,7 +21,7 @@ use Rattle.pc_implicit.proofs.OwnLaid.{not_overtaken}
 use Rattle.pc_implicit.proofs.PutsSent.{HasPut, orderly, puts_sent}
 use Rattle.pc_implicit.proofs.Recorded.{evaluated_state}
 use Rattle.pc_implicit.proofs.KnownOver.{IsKnownOver, over_of}
-use Rattle.pc_implicit.proofs.Refusals.{not_refused}
+use Rattle.pc_implicit.proofs.Refusals.{decided-at, not_refused}
 use Rattle.pc_implicit.proofs.Turns.{IsAnswered, Restarted, WentOn, Wrote, comes_from}
 use Rattle.pc_implicit.proofs.VersionSteps.{makes_version, version_stays}
 use Rattle.pc_implicit.proofs.WriteLists.{Laid, RiseAt, alike_at, each_low, rise_at, rise_value, written_at}
@@ -89,16 +89,6 @@ staged_along front back history whole s w = record {
   range = w.range;
   sends = w.sends;
 }
-
--- a decided place has the epoch and the timestamp of its decision
-decided-place : (p : Place) (s : Status) → decision p ≡ Some s → (epoch_of p ≡ s.epoch) × (time_of p ≡ s.ts)
-decided-place Nothing s h = absurd cc
-decided-place (Kept r) s h = by (is_final r.status.standing) h
-  where
-    by : (b : Bool) → cond b (Some r.status) None ≡ Some s → (r.status.epoch ≡ s.epoch) × (r.status.ts ≡ s.ts)
-    by true h = let same : r.status ≡ s = cc in (ap (λ (x : Status). x.epoch) same, ap (λ (x : Status). x.ts) same)
-    by false h = absurd cc
-decided-place (Marked m) s h = let same : m ≡ s = cc in (ap (λ (x : Status). x.epoch) same, ap (λ (x : Status). x.ts) same)
 
 -- The range of the key evaluates one more request.
 module _ (head : Head) (history : List (Entry Event)) (run : IsRun head history) (e : Entry Event)
