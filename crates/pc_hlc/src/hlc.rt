@@ -1,5 +1,6 @@
 ghost use Rattle.std.specs.Prelude.{◌≡◌, ◌<◌, ◌↔◌, max, IsErr, IfErr, IfOk, OnErr};
 ghost use Rattle.pc_base.specs.Clock.{clock_now};
+ghost use Rattle.pc_base.specs.declared.limits.TheConstants.{GREATEST_READING};
 ghost use Rattle.pc_base.specs.Timestamp.{greatest};
 ghost use Rattle.pc_hlc.specs.Giving.{IsLeastAbove};
 

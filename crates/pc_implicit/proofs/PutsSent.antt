@@ -197,7 +197,7 @@ module _ (head : Head) (history : List (Entry Event)) (run : IsRun head history)
       subst (λ x. HasPut x meta.epoch seq key value) from.2 (put-now number range meta seq ts key value is act.row from.0 from.1 id)
 
 module _ (head : Head) where
-  has-turn : (history : List (Entry Event)) (e : Entry Event) (k : Known) (t u : Txn) (epoch seq : ℕ) (key : List ℕ) (value : Option (List ℕ)) → HasPut t epoch seq key value → Turn history e k t u → HasPut u epoch seq key value
+  pub has-turn : (history : List (Entry Event)) (e : Entry Event) (k : Known) (t u : Txn) (epoch seq : ℕ) (key : List ℕ) (value : Option (List ℕ)) → HasPut t epoch seq key value → Turn history e k t u → HasPut u epoch seq key value
   has-turn history e k t u epoch seq key value h (WentOn same alike) =
       let low = h.low in
       record {

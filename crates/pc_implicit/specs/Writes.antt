@@ -18,7 +18,6 @@ use Rattle.pc_world.specs.Known.Writes.{Write}
 use Rattle.pc_world.specs.Local.{Head}
 use Rattle.pc_world.specs.RangeOf.{range_of}
 use Rattle.pc_world.specs.Run.{IsRun}
-use Rattle.pc_world.specs.Unstaged.{NothingIsStaged}
 
 -- What these writes lay at the key, each value under its sequence.
 abbrev pub writes_on : List ℕ → List Write → List (ℕ × Option (List ℕ))
@@ -90,12 +89,12 @@ LastWriteStands head history t key value ts =
     Contains (state_at head (range_of head.splits key) history).versions (record { key = key; ts = ts; id = t.id; value = value })
     ⊎ ((i : Intent) × (own_intent head t.id key history ≡ Some i) × IsWholeBy t key ts i)
 
--- Where nothing is staged, what a committed transaction wrote stands.
+-- What a committed transaction wrote stands.
 abbrev pub WritesOfCommitted : Type 0
 WritesOfCommitted =
     (head : Head) (history : List (Entry Event)) (t : Txn) (ts : ℕ) (key : List ℕ)
     (front : List (ℕ × Option (List ℕ))) (seq : ℕ) (value : Option (List ℕ))
-    → IsRun head history → NothingIsStaged history → Contains (txns_of head t.id history) t → IsCommitted head history t.id ts
+    → IsRun head history → Contains (txns_of head t.id history) t → IsCommitted head history t.id ts
     → writes_on key t.writes ≡ front ++ (seq, value) ∷ [] → LastWriteStands head history t key value ts
 
 -- The version is the last write at its key of a transaction that is committed at its timestamp, in the key's range.
@@ -109,9 +108,9 @@ pub record IsOfCommitted (head : Head) (history : List (Entry Event)) (range : �
   pub seq : ℕ
   pub last : writes_on v.key t.writes ≡ front ++ (seq, v.value) ∷ []
 
--- Where nothing is staged, each version is of a committed transaction.
+-- Each version is of a committed transaction.
 abbrev pub VersionsAreCommitted : Type 0
 VersionsAreCommitted =
     (head : Head) (history : List (Entry Event)) (range : ℕ) (v : Version)
-    → IsRun head history → NothingIsStaged history → Contains (state_at head range history).versions v
+    → IsRun head history → Contains (state_at head range history).versions v
     → IsOfCommitted head history range v

@@ -9,9 +9,8 @@ use Rattle.std.specs.List.{AllByRecursion as Each}
 use Rattle.std.specs.Ordering.{nat_cmp, ordering_then}
 use Rattle.pc_base.specs.declared.entry.Entry.{Entry}
 use Rattle.pc_base.specs.declared.transaction.TxnId.{TxnId}
-use Rattle.pc_implicit.proofs.Commits.{stays_committed}
+use Rattle.pc_implicit.proofs.CommitsStay.{commits_stay}
 use Rattle.pc_implicit.proofs.Points.{point_of}
-use Rattle.pc_implicit.proofs.Sent.{unstaged_front}
 use Rattle.pc_lists.proofs.Each.{each-back, each-contains}
 use Rattle.pc_lists.proofs.Lists.{contains_cons, contains_head, contains_in_map, contains_map, contains_nil}
 use Rattle.pc_proto.specs.declared.event.Event.{Event}
@@ -23,7 +22,6 @@ use Rattle.pc_world.specs.Committed.{IsCommitted, commit_point, commit_ts}
 use Rattle.pc_world.specs.Legal.{committed_in_order}
 use Rattle.pc_world.specs.Local.{Head}
 use Rattle.pc_world.specs.Run.{IsRun}
-use Rattle.pc_world.specs.Unstaged.{NothingIsStaged}
 
 -- ---- lists that are mapped
 
@@ -160,12 +158,11 @@ module _ (head : Head) (history : List (Entry Event)) (differ : PointsDiffer hea
 
 -- ---- commit points
 
-module _ (head : Head) (history : List (Entry Event)) (run : IsRun head history) (only : NothingIsStaged history) where
+module _ (head : Head) (history : List (Entry Event)) (run : IsRun head history) where
   stays-there : (front back : List (Entry Event)) (more rest : List (Entry Event)) (id : TxnId) (ts : ℕ) → front ++ back ≡ history → front ≡ more ++ rest → IsCommitted head more id ts → IsCommitted head front id ts
   stays-there front back more rest id ts whole is committed =
       let part : IsRun head front = run_front head front back (subst (IsRun head) (sym whole) run) in
-      let still : NothingIsStaged front = unstaged_front front back (subst NothingIsStaged (sym whole) only) in
-      subst (λ h. IsCommitted head h id ts) (sym is) (stays_committed head more rest (subst (IsRun head) is part) (subst NothingIsStaged is still) id ts committed)
+      subst (λ h. IsCommitted head h id ts) (sym is) (commits_stay head more rest id ts (subst (IsRun head) is part) committed).0
 
   -- a transaction that is not committed yet has its commit point later
   pub point-later : (front back : List (Entry Event)) (id : TxnId) (ts : ℕ) → history ≡ front ++ back → commit_ts head front id ≡ None → IsCommitted head history id ts → length front < commit_point head history id
