@@ -5,10 +5,8 @@ ghost use Rattle.pc_base.specs.Timestamp.{greatest};
 ghost use Rattle.pc_hlc.specs.Giving.{IsLeastAbove};
 
 use pc_base::Timestamp;
+use pc_base::limits::GREATEST_READING;
 use std::marker::Model;
-
-/// The greatest reading, in nanoseconds, at which the clock gives a timestamp.
-const GREATEST_READING: u64 = 1 << 62;
 
 /// The physical clock reads past the range in which timestamps are given.
 #[derive(Clone, Copy, Debug, PartialEq, Eq)]

@@ -42,6 +42,7 @@ use Rattle.pc_proto.specs.RecordRows.Remove.{remove}
 use Rattle.pc_proto.specs.RecordRows.Stage.{stage}
 use Rattle.pc_proto.specs.Requests.{subject}
 use Rattle.pc_proto.specs.Table.{Table, place_of, record_or_mark, records_after}
+use Rattle.pc_world.proofs.Stamps.Searches.{some-kept}
 use Rattle.pc_world.specs.Evaluation.{intents_after, reply, state_after}
 use Rattle.pc_world.specs.Evaluation.Get.{found_at, get_blocker, get_reply}
 use Rattle.pc_world.specs.Evaluation.IntentChange.{IntentChange, Leave, Lay, Drop, intents_with}
@@ -82,14 +83,6 @@ ReplyHas Has reply = ⊤
 pub record StateHas (Has : TxnId → List ℕ → Type 0) (s : RangeState) : Type 0 where
   pub intents : Each (λ e. MetaHas Has e.1.meta) s.intents
   pub records : Each (λ e. MetaHas Has e.1.meta) s.table.records
-
-some-kept : {A : Type 0} (P : A → Type 0) (test : A → Bool) (o : Option A) → IfSome o P → IfSome (kept_if test o) P
-some-kept P test None h = tt
-some-kept P test (Some x) h = by (test x)
-  where
-    by : (b : Bool) → IfSome (if b then Some x else None) P
-    by true = h
-    by false = tt
 
 module _ (Has : TxnId → List ℕ → Type 0) where
   Own : Intent → Type 0

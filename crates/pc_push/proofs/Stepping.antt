@@ -197,7 +197,7 @@ module _ (actor : ActorId) (start k later : Known) (m : Pushing) (request : Requ
   heard_by_progress : (p : Progress) (reply : Reply) → StandsAt start k m p → AsksAt p m request → WasAnswered k later request reply → IsPossibleReply request reply → PushKnows actor start later (round_heard p reply m)
   heard_by_progress progress.Push reply stands asked was is =
       goes_to reply was (progress_after_push m.goal reply)
-      (after_push_at reply asked was (push_answers m reply (subst (λ q. IsPossibleReply q reply) asked is)))
+      (after_push_at reply asked was (push_answers m.holder m.by m.level m.reading m.goal reply (subst (λ q. IsPossibleReply q reply) asked is)))
   heard_by_progress (progress.Unsure view) reply stands asked was is =
       goes_to reply was (progress_after_recovery reply)
       (after_recovery_at reply view asked was (recovery_answers m.holder.id request reply asked is)
