@@ -12,8 +12,8 @@ pub record OutboxMeaning (M : Type 0) : Type 0 where
   pub bag : List (ℕ × Stray M)
 
 -- The stray is due once so many messages were sent.
-abbrev pub is_due : {M : Type 0} → ℕ → ℕ × Stray M → Bool
-is_due sent e = nat_le e.1.due sent
+abbrev pub is_due_by : {M : Type 0} → ℕ → ℕ × Stray M → Bool
+is_due_by sent e = nat_le e.1.due sent
 
 -- The bag once this stray was taken, if one was.
 abbrev pub without_stray : {M : Type 0} → Option (ℕ × Stray M) → List (ℕ × Stray M) → List (ℕ × Stray M)
@@ -22,4 +22,4 @@ without_stray (Some e) bag = remove_entry (is_at (nat_cmp e.0)) bag
 
 -- The bag once the first stray that is due was taken.
 abbrev pub after_due : {M : Type 0} → ℕ → List (ℕ × Stray M) → List (ℕ × Stray M)
-after_due sent bag = without_stray (find (is_due sent) bag) bag
+after_due sent bag = without_stray (find (is_due_by sent) bag) bag

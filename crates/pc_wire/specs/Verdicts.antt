@@ -11,14 +11,6 @@ is_losing (verdicts.Hold later) = true
 is_losing verdicts.Deliver = false
 is_losing (verdicts.Repeat later) = false
 
--- How often such a message is evaluated at most.
-abbrev pub evaluations : Verdict → ℕ
-evaluations verdicts.LoseRequest = 0
-evaluations (verdicts.Repeat later) = 2
-evaluations verdicts.Deliver = 1
-evaluations verdicts.LoseReply = 1
-evaluations (verdicts.Hold later) = 1
-
 -- A count of faults after one more verdict; it stands still at the greatest `u64`.
 abbrev pub faults_after : Verdict → ℕ → ℕ
 faults_after verdict faults = cond (is_losing verdict) (min (faults + 1) (2 ^ 64 - 1)) faults

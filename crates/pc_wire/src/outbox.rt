@@ -4,7 +4,7 @@ ghost use Rattle.std.specs.List.Sorted.{IsStrictlySortedBy};
 ghost use Rattle.std.specs.Map.{keys_of, lookup, remove_entry};
 ghost use Rattle.std.specs.Option.{option_map};
 ghost use Rattle.std.specs.Ordering.{nat_cmp};
-ghost use Rattle.pc_wire.specs.Outbox.{after_due, is_due};
+ghost use Rattle.pc_wire.specs.Outbox.{after_due, is_due_by};
 
 use crate::verdict::Verdict;
 use pc_base::NoMemory;
@@ -89,7 +89,7 @@ impl<M: Drop> Outbox<M> {
 
     /// Takes the stray of the least number among those that are due once so many messages were sent.
     pub fn take_due(&mut self, sent: u64) -> Option<M>
-        ensures taken { result ≡ option_map (λ e. e.1.message) (find (is_due sent) self.old.bag) }
+        ensures taken { result ≡ option_map (λ e. e.1.message) (find (is_due_by sent) self.old.bag) }
         ensures rest { self.new ≡ record self.old { bag = after_due sent self.old.bag } }
         ensures in_order { IsStrictlySortedBy nat_cmp (keys_of self.old.bag) }
     {
@@ -101,7 +101,7 @@ impl<M: Drop> Outbox<M> {
 
 /// The least number of a stray that is due.
 fn first_due<M>(bag: &BTreeMap<u64, Stray<M>>, sent: u64) -> Option<u64>
-    ensures first { result ≡ option_map (λ e. e.0) (find (is_due sent) bag.now.entries) }
+    ensures first { result ≡ option_map (λ e. e.0) (find (is_due_by sent) bag.now.entries) }
     ensures in_order { IsStrictlySortedBy nat_cmp (keys_of bag.now.entries) }
 {
     for (number, stray) in bag {
