@@ -53,7 +53,6 @@ pub mod Metas
 pub mod Missing
 pub mod Moves
 pub mod NeverDead
-pub mod NoProofBeside
 pub mod NotDead
 pub mod OneDecision
 pub mod OpenOver
