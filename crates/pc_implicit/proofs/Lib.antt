@@ -57,6 +57,7 @@ pub mod NotDead
 pub mod OneDecision
 pub mod OpenOver
 pub mod OpenReads
+pub mod Outcomes
 pub mod OwnKeys
 pub mod OwnLaid
 pub mod OwnOver
@@ -78,9 +79,9 @@ pub mod Reading
 pub mod ReadsComeFrom
 pub mod Recorded
 pub mod Recovered
-pub mod Restarted
 pub mod Refusals
 pub mod RepliedAt
+pub mod Restarted
 pub mod RisingVersions
 pub mod Rows
 pub mod Runs

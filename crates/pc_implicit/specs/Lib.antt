@@ -3,6 +3,7 @@ pub mod Causes
 pub mod Decided
 pub mod Ends
 pub mod Laws
+pub mod Outcomes
 pub mod Reads
 pub mod Replied
 pub mod Restarts
