@@ -40,7 +40,7 @@ pub fn commit_points_differ()
     ensures { CommitPointsDiffer }
 {}
 
-/// A law: where nothing is staged, a range answers each request as the request may be answered.
+/// A law: a range answers each request by a reply of its kind.
 pub fn replies_are_of_their_kind()
     ensures { RepliesAreOfTheirKind }
 {}
