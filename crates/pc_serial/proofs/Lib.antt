@@ -3,6 +3,7 @@ pub mod FirstRun
 pub mod FoundWritten
 pub mod GoodReads
 pub mod InOrder
+pub mod InTurn
 pub mod Legal
 pub mod Laid
 pub mod Maps

@@ -1,14 +1,16 @@
 -- Laws of runs: the commit order is that of the committed transactions, and in it they are one legal history.
 use Rattle.std.specs.List.Sorted.{IsStrictlySortedBy}
-use Rattle.std.specs.Prelude.{◌≡◌, ℕ, All, List, [], ◌∷◌, Contains, filter, map}
+use Rattle.std.specs.Prelude.{◌≡◌, ℕ, ◌<◌, All, List, [], ◌∷◌, Contains, filter, map}
 use Rattle.pc_base.specs.declared.entry.Entry.{Entry}
 use Rattle.pc_base.specs.declared.transaction.TxnId.{TxnId}
 use Rattle.pc_base.specs.Transaction.{same_txn}
+use Rattle.pc_proto.specs.declared.answer.Answer.TheVariants as answers
 use Rattle.pc_proto.specs.declared.event.Event.{Event}
+use Rattle.pc_proto.specs.declared.event.Event.TheVariants as events
 use Rattle.pc_world.specs.CommitOrder.{commit_order, rank_cmp}
 use Rattle.pc_world.specs.Committed.{IsCommitted, commit_point}
 use Rattle.pc_world.specs.Decisions.{TellsCommit}
-use Rattle.pc_world.specs.Legal.{IsLegal}
+use Rattle.pc_world.specs.Legal.{IsLegal, StandsBefore, committed_in_order}
 use Rattle.pc_world.specs.Local.{Head}
 use Rattle.pc_world.specs.Run.{IsRun}
 
@@ -38,3 +40,14 @@ CommittedOnce =
     (head : Head) (history : List (Entry Event)) (e : Entry Event) (id : TxnId) (ts : ℕ)
     → IsRun head history → Contains history e → TellsCommit id ts e.event
     → StandsOnce head history id ts
+
+-- In turn: of two committed transactions of one session the one that was begun first stands first, unless the session was told that it is
+-- not known whether that one committed. So where one session is alone, and knows of each commit, its transactions run on the map in the
+-- order of its script.
+abbrev pub SessionsGoInTurn : Type 0
+SessionsGoInTurn =
+    (head : Head) (history : List (Entry Event)) (one other : TxnId) (ts later : ℕ)
+    → IsRun head history → one.session ≡ other.session → one.number < other.number
+    → ((e : Entry Event) → Contains history e → e.event ≡ events.Tell (answers.Unknown one) → ⊥)
+    → IsCommitted head history one ts → IsCommitted head history other later
+    → StandsBefore one other (committed_in_order head history)

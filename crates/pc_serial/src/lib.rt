@@ -5,5 +5,5 @@
 mod laws;
 mod rows;
 
-pub use laws::{commits_are_ordered, committed_once, histories_are_legal};
+pub use laws::{commits_are_ordered, committed_once, histories_are_legal, sessions_go_in_turn};
 pub use rows::{first_row_is_a_run, first_row_is_one_commit};
