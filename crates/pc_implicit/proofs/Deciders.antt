@@ -1,5 +1,5 @@
 -- What decided that a transaction is committed.
-use Rattle.std.proofs.Common.{◌≡◌, ℕ, ◌+◌, Bool, true, false, ◌⊎◌, inl, inr, List, [], ◌∷◌, ◌++◌, filter_map, slice_get, length, map, Option, None, Some, Any, Contains, IsTrue, refl, sym, ap, subst, ◌∙◌, arith, length-append}
+use Rattle.std.proofs.Common.{◌≡◌, ℕ, ◌+◌, true, false, ◌⊎◌, inl, inr, List, [], ◌∷◌, ◌++◌, filter_map, slice_get, length, map, Option, None, Some, Any, Contains, IsTrue, refl, sym, ap, subst, ◌∙◌, arith, length-append}
 use Rattle.std.proofs.lemmas.Bool.{and_parts}
 use Rattle.std.proofs.lemmas.List.{append_assoc}
 use Rattle.std.proofs.lemmas.List.Elements.{Contains-append_left, Contains-append_right}
@@ -15,7 +15,7 @@ use Rattle.pc_implicit.proofs.Agreed.{Agrees, agreed, committed_row, open_there,
 use Rattle.pc_implicit.proofs.Anchored.{commit_anchored}
 use Rattle.pc_implicit.proofs.CommitCalls.{IsSettled, commit-asks, settled_along}
 use Rattle.pc_implicit.proofs.Did.{moved_on, session_at}
-use Rattle.pc_implicit.proofs.Doing.{Does, same_or_not}
+use Rattle.pc_implicit.proofs.Doing.{Does}
 use Rattle.pc_implicit.proofs.EvaluatedAt.{sent_at}
 use Rattle.pc_implicit.proofs.Firsts.{first_push}
 use Rattle.pc_implicit.proofs.Moves.{Moves, Puts, Reads, Restarts, Stays, TellsRead, open_is_first}
@@ -30,23 +30,20 @@ use Rattle.pc_proto.specs.declared.event.Event.{Event}
 use Rattle.pc_proto.specs.declared.event.Event.TheVariants as events
 use Rattle.pc_proto.specs.declared.meta.TxnMeta.{TxnMeta}
 use Rattle.pc_proto.specs.declared.record.Standing.TheVariants as standings
-use Rattle.pc_proto.specs.declared.record.Status.{Status}
-use Rattle.pc_proto.specs.declared.reply.Reply.{Reply}
 use Rattle.pc_proto.specs.declared.request.Request.{Request}
 use Rattle.pc_proto.specs.declared.request.Request.TheVariants as requests
 use Rattle.pc_proto.specs.Replies.{view_in}
 use Rattle.pc_proto.specs.Requests.{is_about, subject}
 use Rattle.pc_proto.specs.Views.{is_staging_at}
-use Rattle.pc_world.proofs.Knowing.{known_same, state_other}
+use Rattle.pc_world.proofs.Knowing.{known_same}
 use Rattle.pc_world.proofs.Prefixes.{run_front, run_may}
-use Rattle.pc_world.specs.After.{known_at, place_at, state_at}
+use Rattle.pc_world.specs.After.{known_at, place_at}
 use Rattle.pc_world.specs.Committed.{IsCommitted, anchor_in, commit_at, commit_point, commit_ts, committed_in, key_sent, told_at}
 use Rattle.pc_world.specs.Known.{Known, call_in, call_of, open_txn}
 use Rattle.pc_world.specs.Known.Statements.{is_open_after, is_open_told}
-use Rattle.pc_world.specs.Known.Transactions.{IsGood, IsMetaOf, Txn}
+use Rattle.pc_world.specs.Known.Transactions.{IsGood, Txn}
 use Rattle.pc_world.specs.Local.{Head}
 use Rattle.pc_world.specs.Operations.{Operation, Read, ReadAll, Write, operations_of}
-use Rattle.pc_world.specs.RangeOf.{range_of}
 use Rattle.pc_world.specs.Run.{IsRun, protocol}
 use Rattle.pc_world.specs.Send.Commit.{MayCommit, MayDecide, MaySendCommit}
 use Rattle.pc_world.specs.StageFate.{IsUncommitted}
@@ -74,7 +71,7 @@ use Rattle.pc_implicit.proofs.Views.{subject-is}
 use Rattle.pc_implicit.specs.Stages.{WasStaged}
 use Rattle.pc_implicit.specs.Writes.{home_of, place_under}
 use Rattle.pc_proto.specs.RecordRows.Reached.{status_of}
-use Rattle.pc_proto.specs.Place.{Place, Nothing}
+use Rattle.pc_proto.specs.Place.{Nothing}
 use Rattle.pc_world.specs.StageFate.{IsDead, SentStage, stage_request}
 use Rattle.pc_world.specs.Tell.End.{shows_staging}
 

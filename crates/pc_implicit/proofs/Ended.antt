@@ -237,8 +237,8 @@ module _ (head : Head) (id : TxnId) where
         }
 
     -- where it is told that it is aborted, its home has aborted it
-    told-aborted : (why : Why) → a.answer ≡ answers.Aborted why → (epoch : ℕ) × (ts : ℕ) × (decision (home_of head id before) ≡ Some (status_of (standings.Aborted why) epoch ts))
-    told-aborted why is =
+    pub told_aborted : (why : Why) → a.answer ≡ answers.Aborted why → (epoch : ℕ) × (ts : ℕ) × (decision (home_of head id before) ≡ Some (status_of (standings.Aborted why) epoch ts))
+    told_aborted why is =
         let actor : ActorId = actors.Session id.session in
         let k = session_at head id before in
         let does : Does head actor k (events.Tell (answers.Aborted why)) = subst (λ x. Does head actor k (events.Tell x)) is tells-on in
@@ -281,7 +281,7 @@ ended_never_commits head before e later id front back at run a whole is = by a.a
         aborted_uncommitted head (before ++ e ∷ later) run id epoch ts why ((home_along head id before (e ∷ later)).decided (status_of (standings.Aborted why) epoch ts) aborted) at at-last
 
     by : (answer : Answer) → a.answer ≡ answer → SaysOver answer → ⊥
-    by (answers.Aborted why) is says = let d = told-aborted head id before e run-before may SaysOver a why is in aborted-last why d.0 d.1 d.2
+    by (answers.Aborted why) is says = let d = told_aborted head id before e run-before may SaysOver a why is in aborted-last why d.0 d.1 d.2
     by (answers.RolledBack other why) is says = over-last (rolled-back-over head id before e run-before may SaysOver a other why is)
     by answer is says = says
 

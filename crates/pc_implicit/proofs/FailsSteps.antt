@@ -1,9 +1,8 @@
 -- A staging that fails goes on to fail, unless its transaction is decided committed at its timestamp.
-use Rattle.std.proofs.Common.{◌≡◌, ℕ, ◌<◌, ◌≤◌, max, nat_le, Bool, true, false, ◌&&◌, if◌then◌else◌, ◌==◌, not, ◌⊎◌, inl, inr, List, [], ◌∷◌, ◌++◌, fold, Option, None, Some, Contains, refl, sym, ap, subst, ◌∙◌, arith}
+use Rattle.std.proofs.Common.{◌≡◌, ℕ, ◌<◌, ◌≤◌, max, nat_le, Bool, true, false, ◌&&◌, if◌then◌else◌, ◌==◌, not, inl, inr, List, [], ◌∷◌, ◌++◌, fold, Option, None, Some, Contains, refl, sym, ap, subst, ◌∙◌, arith}
 use Rattle.std.proofs.lemmas.Bool.{and_from, eqb-true, le-leb}
 use Rattle.std.proofs.lemmas.List.Elements.{Contains-push}
 use Rattle.std.specs.List.{AllByRecursion as Each}
-use Rattle.pc_base.specs.declared.actor.ActorId.{ActorId}
 use Rattle.pc_base.specs.declared.actor.ActorId.TheVariants as actors
 use Rattle.pc_base.specs.declared.entry.Entry.{Entry}
 use Rattle.pc_base.specs.declared.transaction.TxnId.{TxnId}
@@ -13,13 +12,12 @@ use Rattle.pc_implicit.proofs.CommittedElsewhere.{IsOff, at-most, off_more, off_
 use Rattle.pc_implicit.proofs.Did.{one_known}
 use Rattle.pc_implicit.proofs.Doing.{Does}
 use Rattle.pc_implicit.proofs.EvaluatedAt.{sent_at}
-use Rattle.pc_implicit.proofs.FirstStages.{heard_along}
 use Rattle.pc_implicit.proofs.FoundThere.{staging_heard}
 use Rattle.pc_implicit.proofs.HeardViews.{replied_of, so_of}
 use Rattle.pc_implicit.proofs.HomeOver.{ChangesPlace, home_over}
 use Rattle.pc_implicit.proofs.Homes.{home_on}
-use Rattle.pc_implicit.proofs.ImplicitFails.{Fails, IsInEpoch, IsUnproven, SinceMissed, StaysUnproven, WhereCommitted, WhileStaged, in_epoch_before, the_txn, unproven_more, wrote_more}
-use Rattle.pc_implicit.proofs.LeavesBy.{ByAbort, ByCommit, ByFound, ByMissing, ByStage, LeavesBy, Stages, leaves_by}
+use Rattle.pc_implicit.proofs.ImplicitFails.{Fails, IsInEpoch, SinceMissed, StaysUnproven, WhereCommitted, WhileStaged, in_epoch_before, the_txn, unproven_more, wrote_more}
+use Rattle.pc_implicit.proofs.LeavesBy.{ByAbort, ByCommit, ByFound, ByMissing, ByStage, Stages, leaves_by}
 use Rattle.pc_implicit.proofs.Missing.{missed_stays}
 use Rattle.pc_implicit.proofs.OwnStanding.{own_hold}
 use Rattle.pc_implicit.proofs.Presence.{is_there, refuted_absent, refuted_more, staged_along}
@@ -41,17 +39,14 @@ use Rattle.pc_lists.proofs.Each.{each-contains, each-weaker}
 use Rattle.pc_proto.specs.declared.event.Event.{Event}
 use Rattle.pc_proto.specs.declared.event.Event.TheVariants as events
 use Rattle.pc_proto.specs.declared.fate.Finding.TheVariants as findings
-use Rattle.pc_proto.specs.declared.meta.TxnMeta.{TxnMeta}
-use Rattle.pc_proto.specs.declared.record.Intent.{Intent}
 use Rattle.pc_proto.specs.declared.record.Record.{Record}
 use Rattle.pc_proto.specs.declared.record.Standing.TheVariants as standings
 use Rattle.pc_proto.specs.declared.record.Status.{Status}
 use Rattle.pc_proto.specs.declared.reply.Reply.TheVariants as replies
 use Rattle.pc_proto.specs.declared.request.Request.{Request}
 use Rattle.pc_proto.specs.declared.request.Request.TheVariants as requests
-use Rattle.pc_proto.specs.declared.why.Why.{Why}
 use Rattle.pc_proto.specs.Intents.{last_seq}
-use Rattle.pc_proto.specs.Place.{Place, Kept, Become, Stay, after, is_final}
+use Rattle.pc_proto.specs.Place.{Kept, Become, Stay, after, is_final}
 use Rattle.pc_proto.specs.RecordRows.{place_change}
 use Rattle.pc_proto.specs.RecordRows.Reached.{alive_at, is_staging, status_of}
 use Rattle.pc_proto.specs.RecordRows.Stage.{stage}
@@ -60,9 +55,7 @@ use Rattle.pc_world.proofs.Knowing.{run_push}
 use Rattle.pc_world.proofs.Prefixes.{run_front}
 use Rattle.pc_world.specs.After.{known_at}
 use Rattle.pc_world.specs.Evaluation.{intents_after}
-use Rattle.pc_world.specs.Known.Traffic.{Heard}
 use Rattle.pc_world.specs.Known.Transactions.{Txn}
-use Rattle.pc_world.specs.Known.Writes.{Write}
 use Rattle.pc_world.specs.Local.{Head}
 use Rattle.pc_world.specs.RangeState.{RangeState}
 use Rattle.pc_world.specs.Run.{IsRun, protocol}

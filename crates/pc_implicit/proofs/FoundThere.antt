@@ -45,8 +45,7 @@ use Rattle.pc_proto.specs.Requests.{is_push_of, subject}
 use Rattle.pc_proto.specs.Table.{place_of}
 use Rattle.pc_world.proofs.Prefixes.{run_front}
 use Rattle.pc_world.specs.After.{known_at, place_at, state_at}
-use Rattle.pc_world.specs.Evaluation.{state_after}
-use Rattle.pc_world.specs.Evaluation.{reply as reply_of}
+use Rattle.pc_world.specs.Evaluation.{reply as reply_of, state_after}
 use Rattle.pc_world.specs.Evaluation.Query.{write_stands}
 use Rattle.pc_world.specs.Known.Traffic.{Sent}
 use Rattle.pc_world.specs.Known.Transactions.{has_staged, is_stage_of, lists_write}

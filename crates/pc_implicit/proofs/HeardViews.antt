@@ -103,7 +103,7 @@ module _ (head : Head) (history : List (Entry Event)) where
     pub view_is_so : (actor : ActorId) (h : Heard) → IsSo head history actor h → (id : TxnId) (view : View) → IsTrue (is_about id h.request) → view_in h.reply ≡ Some view → StaysTrue view (home_of head id history)
     view_is_so actor h so id view about told =
         let subject_is : subject h.request ≡ Some id = subject-is id (subject h.request) about in
-        subst (StaysTrue view) (there_is_home actor h so id subject_is) (so.shows id view subject_is told).stays
+        subst (StaysTrue view) (there_is_home actor h so id subject_is) (so.shows id view subject_is told)
 
     -- what was heard to be committed is decided so
     pub heard_decides : (actor : ActorId) (id : TxnId) (ts : ℕ) → WasCommitted (known_at head actor history).heard id ts → (epoch : ℕ) × (decision (home_of head id history) ≡ Some (status_of standings.Committed epoch ts))

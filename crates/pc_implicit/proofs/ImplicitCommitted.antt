@@ -1,6 +1,6 @@
 -- A transaction whose record staged at a timestamp, and each of whose writes is proven at or below it, is committed there: the staging lasts with
 -- all writes present, or is decided so; or else it fails by a write that has no such proof.
-use Rattle.std.proofs.Common.{◌≡◌, ℕ, ◌<◌, ◌≤◌, max, Bool, true, false, ◌==◌, ◌⊎◌, inl, inr, List, [], ◌∷◌, ◌++◌, fold, Option, None, Some, Any, Contains, IsTrue, refl, sym, ap, subst, ◌∙◌, arith}
+use Rattle.std.proofs.Common.{◌≡◌, ℕ, ◌≤◌, max, Bool, true, false, ◌==◌, ◌⊎◌, inl, inr, List, [], ◌∷◌, ◌++◌, Option, None, Some, Contains, refl, sym, ap, subst, ◌∙◌, arith}
 use Rattle.std.proofs.lemmas.Bool.{and_parts, eq-eqb, eqb-true}
 use Rattle.std.proofs.lemmas.List.{append-nil, append_assoc}
 use Rattle.std.proofs.lemmas.List.Elements.{All-contains, Contains-append_left, Contains-push, recursion_from_All}
@@ -12,7 +12,7 @@ use Rattle.pc_base.specs.declared.entry.Entry.{Entry}
 use Rattle.pc_base.specs.declared.transaction.TxnId.{TxnId}
 use Rattle.pc_history.specs.History.{MayFollow}
 use Rattle.pc_implicit.proofs.AbortsSent.{IsGivenUp, given_up}
-use Rattle.pc_implicit.proofs.Agreed.{agreed, open_there}
+use Rattle.pc_implicit.proofs.Agreed.{open_there}
 use Rattle.pc_implicit.proofs.Because.{commits_by_is}
 use Rattle.pc_implicit.proofs.CommittedElsewhere.{at-most}
 use Rattle.pc_implicit.proofs.CommitsStay.{goes_along}
@@ -35,11 +35,11 @@ use Rattle.pc_implicit.proofs.StagedAs.{staged_as, staged_more}
 use Rattle.pc_implicit.proofs.StagesLast.{new_last, stages_last}
 use Rattle.pc_implicit.proofs.StagesRefuted.{dead_refuted}
 use Rattle.pc_implicit.proofs.StagesSent.{has_sent_abort}
-use Rattle.pc_implicit.proofs.StageWords.{CommitsBy, FailsSo, ImplicitIsCommitted, NowCommitted, SomeRefuted, StagesAs, StaysImplicit, StillStaged}
+use Rattle.pc_implicit.proofs.StageWords.{FailsSo, ImplicitIsCommitted, NowCommitted, SomeRefuted, StagesAs, StaysImplicit, StillStaged}
 use Rattle.pc_implicit.proofs.StaysOrRefuted.{staging_open, stays_or_refuted}
 use Rattle.pc_implicit.proofs.Views.{subject-is}
-use Rattle.pc_implicit.proofs.WriteLists.{Laid, last_low, written_at}
-use Rattle.pc_implicit.proofs.Written.{IsFoundNow, IsWrittenNow, proven_cases, proven_more}
+use Rattle.pc_implicit.proofs.WriteLists.{Laid, last_low}
+use Rattle.pc_implicit.proofs.Written.{proven_cases, proven_more}
 use Rattle.pc_implicit.specs.Decided.{decision, time_of}
 use Rattle.pc_implicit.specs.Replied.{WasProven}
 use Rattle.pc_implicit.specs.Stages.{IsOpenTo, IsThere, WasStaged, WasThere}
@@ -51,13 +51,11 @@ use Rattle.pc_proto.specs.declared.call.Call.TheVariants as calls
 use Rattle.pc_proto.specs.declared.event.Event.{Event}
 use Rattle.pc_proto.specs.declared.event.Event.TheVariants as events
 use Rattle.pc_proto.specs.declared.meta.TxnMeta.{TxnMeta}
-use Rattle.pc_proto.specs.declared.record.Intent.{Intent}
 use Rattle.pc_proto.specs.declared.record.Record.{Record}
 use Rattle.pc_proto.specs.declared.record.Standing.{Standing}
 use Rattle.pc_proto.specs.declared.record.Standing.TheVariants as standings
 use Rattle.pc_proto.specs.declared.record.Status.{Status}
 use Rattle.pc_proto.specs.declared.request.Request.TheVariants as requests
-use Rattle.pc_proto.specs.declared.view.View.{View}
 use Rattle.pc_proto.specs.declared.view.View.TheVariants as views
 use Rattle.pc_proto.specs.declared.why.Why.{Why}
 use Rattle.pc_proto.specs.Intents.{last_seq, own_at}
@@ -66,20 +64,18 @@ use Rattle.pc_proto.specs.RecordRows.Reached.{status_of}
 use Rattle.pc_proto.specs.Replies.{view_in}
 use Rattle.pc_proto.specs.Requests.{is_about, subject}
 use Rattle.pc_proto.specs.Views.{is_staging_at}
-use Rattle.pc_world.proofs.Knowing.{run_push, state_other}
+use Rattle.pc_world.proofs.Knowing.{state_other}
 use Rattle.pc_world.proofs.Prefixes.{run_front, run_may}
 use Rattle.pc_world.specs.After.{known_at}
 use Rattle.pc_world.specs.Committed.{IsCommitted}
-use Rattle.pc_world.specs.Known.{Known, call_of, open_txn}
-use Rattle.pc_world.specs.Known.Traffic.{Heard}
+use Rattle.pc_world.specs.Known.{Known, call_of}
 use Rattle.pc_world.specs.Known.Transactions.{Txn}
 use Rattle.pc_world.specs.Known.Writes.{IsProvedBy, Write}
 use Rattle.pc_world.specs.Local.{Head}
 use Rattle.pc_world.specs.RangeOf.{range_of}
 use Rattle.pc_world.specs.RangeState.{RangeState}
 use Rattle.pc_world.specs.Run.{IsRun, protocol}
-use Rattle.pc_world.specs.StageFate.{IsDead, SentStage, stage_request}
-use Rattle.pc_world.specs.Tell.End.{IsImplicit, shows_staging}
+use Rattle.pc_world.specs.StageFate.{SentStage, stage_request}
 
 -- what an entry proves was proven after it
 now-proven : (head : Head) (before : List (Entry Event)) (e : Entry Event) (id : TxnId) (epoch : ℕ) (key : List ℕ) (seq p : ℕ) → ProvesNow head before e id epoch key seq p → WasProven (before ++ e ∷ []) id epoch key seq p

@@ -1,54 +1,47 @@
 -- Why a staging at some timestamp does not commit its transaction there: a write of its epoch has no proof at or below that timestamp, and can
 -- get none any more. Either the record stages still, there or later, and a query missed the write or it was written above; or it was decided
 -- committed at a later timestamp, and the write stands above; or a query missed it there or later.
-use Rattle.std.proofs.Common.{◌≡◌, ℕ, ◌<◌, ◌≤◌, max, Bool, true, false, ◌⊎◌, inl, inr, List, [], ◌∷◌, ◌++◌, fold, Option, None, Some, Contains, if◌then◌else◌, refl, sym, ap, subst, ◌∙◌, arith}
+use Rattle.std.proofs.Common.{◌≡◌, ℕ, ◌<◌, ◌≤◌, true, false, inl, inr, List, [], ◌∷◌, ◌++◌, Option, None, Some, Contains, if◌then◌else◌, sym, ap, subst, ◌∙◌, arith}
 use Rattle.std.proofs.lemmas.List.Elements.{Contains-append_left}
-use Rattle.std.specs.List.{AllByRecursion as Each}
 use Rattle.pc_base.specs.declared.actor.ActorId.{ActorId}
 use Rattle.pc_base.specs.declared.actor.ActorId.TheVariants as actors
 use Rattle.pc_base.specs.declared.entry.Entry.{Entry}
-use Rattle.pc_base.specs.declared.transaction.TxnId.{TxnId}
 use Rattle.pc_history.specs.History.{MayFollow}
-use Rattle.pc_implicit.proofs.CommittedElsewhere.{IsOff, at-most, off_more, off_now, version_over}
+use Rattle.pc_implicit.proofs.CommittedElsewhere.{IsOff, at-most}
 use Rattle.pc_implicit.proofs.Did.{moved_on, session_at}
-use Rattle.pc_implicit.proofs.Forward.{Has}
-use Rattle.pc_implicit.proofs.Homes.{home_on}
 use Rattle.pc_implicit.proofs.Moves.{Moves, Puts, Reads, Restarts, Stays}
 use Rattle.pc_implicit.proofs.OwnStanding.{own_hold}
-use Rattle.pc_implicit.proofs.Presence.{is_there, refuted_absent, refuted_more}
+use Rattle.pc_implicit.proofs.Presence.{is_there, refuted_absent}
 use Rattle.pc_implicit.proofs.ProofsNow.{HasProven, proven_now}
 use Rattle.pc_implicit.proofs.PutsSent.{HasPut, has-turn}
 use Rattle.pc_implicit.proofs.StagesLast.{anchored-so, stages_last}
 use Rattle.pc_implicit.proofs.StagesSent.{has_sent_stage, staged_txn}
 use Rattle.pc_implicit.proofs.StageWords.{WasRefuted}
 use Rattle.pc_implicit.proofs.Turns.{comes_from}
-use Rattle.pc_implicit.proofs.WriteLists.{Laid, written_at}
-use Rattle.pc_implicit.proofs.Written.{missed_more, proven_cases}
+use Rattle.pc_implicit.proofs.Written.{proven_cases}
 use Rattle.pc_implicit.proofs.Missing.{missed_stays}
 use Rattle.pc_implicit.specs.Decided.{decision}
 use Rattle.pc_implicit.specs.Replied.{QueryMissed, WasProven}
 use Rattle.pc_implicit.specs.Stages.{IsThere, WasStaged}
-use Rattle.pc_implicit.specs.Writes.{home_of, own_intent, txns_of, writes_on}
+use Rattle.pc_implicit.specs.Writes.{home_of, own_intent, txns_of}
 use Rattle.pc_proto.specs.declared.event.Event.{Event}
 use Rattle.pc_proto.specs.declared.event.Event.TheVariants as events
 use Rattle.pc_proto.specs.declared.meta.TxnMeta.{TxnMeta}
 use Rattle.pc_proto.specs.declared.record.Intent.{Intent}
 use Rattle.pc_proto.specs.declared.record.Record.{Record}
 use Rattle.pc_proto.specs.declared.record.Standing.TheVariants as standings
-use Rattle.pc_proto.specs.declared.record.Status.{Status}
 use Rattle.pc_proto.specs.declared.request.Request.TheVariants as requests
 use Rattle.pc_proto.specs.declared.why.Why.{Why}
 use Rattle.pc_proto.specs.Intents.{last_seq}
-use Rattle.pc_proto.specs.Place.{Place, Kept, is_final}
+use Rattle.pc_proto.specs.Place.{Kept, is_final}
 use Rattle.pc_proto.specs.RecordRows.Reached.{status_of}
 use Rattle.pc_world.specs.After.{known_at}
 use Rattle.pc_world.specs.Committed.{anchor_in}
 use Rattle.pc_world.specs.Known.Transactions.{Txn}
-use Rattle.pc_world.specs.Known.Writes.{Write}
 use Rattle.pc_world.specs.Local.{Head}
 use Rattle.pc_world.specs.Operations.{Operation}
 use Rattle.pc_world.specs.Run.{IsRun, protocol}
-use Rattle.pc_world.specs.StageFate.{SentStage, stage_request}
+use Rattle.pc_world.specs.StageFate.{SentStage}
 
 -- The transaction is in the stage's epoch still, and no abort of it was sent.
 pub record IsInEpoch (head : Head) (history : List (Entry Event)) (s : SentStage) : Type 0 where

@@ -21,8 +21,8 @@ pub mod Deciders
 pub mod Did
 pub mod Doing
 pub mod Doings
-pub mod Evals
 pub mod Ended
+pub mod Evals
 pub mod EvaluatedAt
 pub mod FailsSteps
 pub mod Fates
@@ -53,11 +53,11 @@ pub mod Metas
 pub mod Missing
 pub mod Moves
 pub mod NeverDead
-pub mod NoProofBeside
 pub mod NotDead
 pub mod OneDecision
 pub mod OpenOver
 pub mod OpenReads
+pub mod Outcomes
 pub mod OwnKeys
 pub mod OwnLaid
 pub mod OwnOver
@@ -79,9 +79,10 @@ pub mod Reading
 pub mod ReadsComeFrom
 pub mod Recorded
 pub mod Recovered
-pub mod Restarted
 pub mod Refusals
 pub mod RepliedAt
+pub mod ReplyKinds
+pub mod Restarted
 pub mod RisingVersions
 pub mod Rows
 pub mod Runs

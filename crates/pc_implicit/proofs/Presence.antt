@@ -2,7 +2,6 @@
 -- fails: some listed write of it was refuted and was never present.
 use Rattle.std.proofs.Common.{◌≡◌, ℕ, ◌≤◌, max, nat_le, Bool, true, false, ◌&&◌, ◌==◌, ◌⊎◌, inl, inr, List, [], ◌∷◌, ◌++◌, Option, None, Some, Contains, refl, sym, ap, subst, ◌∙◌, arith}
 use Rattle.std.proofs.lemmas.Bool.{and_from, and_parts, eq-eqb, eqb-true, leb-true, le-leb}
-use Rattle.std.proofs.lemmas.List.{append_assoc}
 use Rattle.std.proofs.lemmas.List.Elements.{Contains-append_left}
 use Rattle.pc_base.specs.declared.entry.Entry.{Entry}
 use Rattle.pc_history.specs.History.{MayFollow}
@@ -114,15 +113,6 @@ module _ (head : Head) where
         | inl now ↦ inl (subst (λ h. IsThere head h s w) (sym now) was.there)
         | inr before ↦ inr (record { front = was.front; back = before.0; whole = before.1; staged = was.staged; there = was.there })
       ]
-
-  pub there_more : (history : List (Entry Event)) (e : Entry Event) (s : SentStage) (w : List ℕ × ℕ) → WasThere head history s w → WasThere head (history ++ e ∷ []) s w
-  there_more history e s w was = record {
-    front = was.front;
-    back = was.back ++ e ∷ [];
-    whole = ap (λ h. h ++ e ∷ []) was.whole ∙ append_assoc was.front was.back (e ∷ []);
-    staged = was.staged;
-    there = was.there;
-  }
 
   -- a stage to which a record is open after an entry was so before it
   pub open_before : (history : List (Entry Event)) (e : Entry Event) (s : SentStage) → IsOpenTo head (history ++ e ∷ []) s → IsOpenTo head history s

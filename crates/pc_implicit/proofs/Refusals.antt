@@ -3,6 +3,8 @@ use Rattle.std.proofs.Common.{◌≡◌, ℕ, ◌≤◌, Bool, true, false, not,
 use Rattle.std.proofs.lemmas.Bool.{and_from, le-leb}
 use Rattle.std.proofs.lemmas.List.{append_assoc}
 use Rattle.std.proofs.lemmas.List.Elements.{All-contains, Contains-append_left, Contains-push, Contains-push_cases}
+use Rattle.pc_lists.proofs.Same.{same_txn-self}
+use Rattle.pc_lists.proofs.Each.{each-contains}
 use Rattle.pc_base.specs.declared.actor.ActorId.{ActorId}
 use Rattle.pc_base.specs.declared.entry.Entry.{Entry}
 use Rattle.pc_implicit.proofs.Doing.{same_or_not}
@@ -12,9 +14,7 @@ use Rattle.pc_implicit.proofs.Lift.{over}
 use Rattle.pc_implicit.proofs.Runs.{kept-status}
 use Rattle.pc_implicit.proofs.Views.{Stands, places_go_on}
 use Rattle.pc_implicit.specs.Decided.{decision, epoch_of, time_of}
-use Rattle.pc_lists.proofs.Each.{each-contains}
 use Rattle.pc_lists.proofs.Lists.{contains_nil}
-use Rattle.pc_lists.proofs.Same.{same_txn-self}
 use Rattle.pc_proto.specs.declared.event.Event.{Event}
 use Rattle.pc_proto.specs.declared.event.Event.TheVariants as events
 use Rattle.pc_proto.specs.declared.meta.TxnMeta.{TxnMeta}

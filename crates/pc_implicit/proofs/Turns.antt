@@ -103,9 +103,6 @@ unmap f (x ∷ xs) y there =
       | inr later ↦ let r = unmap f xs y later in (r.0, contains_tail x xs r.0 r.1, r.2)
     ]
 
-pub id_is : (one other : TxnId) → one.session ≡ other.session → one.number ≡ other.number → one ≡ other
-id_is one other session number = λ i. record { session = session i; number = number i }
-
 -- of an actor's transactions no two have one name
 pub one_txn : (actor : ActorId) (n : ℕ) (txns : List Txn) (t u : Txn) → AreNumbered actor n txns → Contains txns t → Contains txns u → t.id ≡ u.id → t ≡ u
 one_txn actor n [] t u numbered a b same = absurd (contains_nil t a)

@@ -3,8 +3,10 @@ pub mod Causes
 pub mod Decided
 pub mod Ends
 pub mod Laws
+pub mod Outcomes
 pub mod Reads
 pub mod Replied
+pub mod ReplyKinds
 pub mod Restarts
 pub mod Stages
 pub mod Staging

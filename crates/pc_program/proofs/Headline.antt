@@ -3,6 +3,7 @@ use Rattle.std.proofs.Common.{◌≡◌, ℕ, ◌+◌, ◌^◌, ◌<◌, Bool, L
 use Rattle.pc_base.specs.declared.actor.ActorId.{ActorId}
 use Rattle.pc_base.specs.declared.entry.Entry.{Entry}
 use Rattle.pc_implicit.proofs.OneDecision.{decisions_do_not_differ}
+use Rattle.pc_implicit.proofs.Outcomes.{outcomes_are_true}
 use Rattle.pc_proto.specs.declared.event.Event.{Event}
 use Rattle.pc_report.specs.declared.rows.Report.{Report}
 use Rattle.pc_report.specs.ReportOf.{IsRunOver, report_of}
@@ -21,6 +22,7 @@ is_run_of work rules entries run follows = record {
   run = run;
   follows = follows;
   decisions = decisions_do_not_differ (head_in work) entries run;
+  outcomes = outcomes_are_true (head_in work) entries run;
   ordered = is-ordered (head_in work) entries run;
   legal = is-legal (head_in work) entries run;
 }
