@@ -23,7 +23,6 @@ use Rattle.pc_implicit.proofs.Fronts.{split_there}
 use Rattle.pc_implicit.proofs.Moves.{first_after, is_first, open_is_first}
 use Rattle.pc_implicit.proofs.OpenOver.{IsOpenHere}
 use Rattle.pc_implicit.proofs.OpenReads.{IsWithin}
-use Rattle.pc_implicit.proofs.Turns.{id_is}
 use Rattle.pc_implicit.proofs.OwnSplit.{StandsBehind, own_split}
 use Rattle.pc_implicit.specs.Ends.{SaysOver}
 use Rattle.pc_lists.proofs.Lists.{contains_cons, contains_head, contains_nil, contains_tail}
@@ -59,6 +58,9 @@ pub record HasEnded (head : Head) (history : List (Entry Event)) (id : TxnId) : 
   pub tells : end.entry.event ≡ events.Tell answer
   pub here : IsOpenHere (known_of before) id
   pub closes : is_open_told answer true ≡ false
+
+txn-is : (one other : TxnId) → one.session ≡ other.session → one.number ≡ other.number → one ≡ other
+txn-is one other session number = λ i. record { session = session i; number = number i }
 
 first-here : (id : TxnId) (b : Bool) (txns : List Txn) → is_first id txns ≡ true → b ≡ true → (t : Txn) × (first_if b txns ≡ Some t) × (t.id ≡ id)
 first-here id true [] first is = absurd cc
@@ -227,7 +229,7 @@ module _ (head : Head) where
                     let session : id.session ≡ new.0.session = session-is next.0 in
                     let at : new.0.number ≡ k.begun + 1 = next.1 in
                     let number : new.0.number ≡ id.number = omega (arith, above, low, begun, grown, at) in
-                    inl (begun-open new.0 new.1 new.2 (id_is new.0 id (sym session) number))
+                    inl (begun-open new.0 new.1 new.2 (txn-is new.0 id (sym session) number))
               ]
           | inr none ↦
               let kept : begun_after e.event k.begun ≡ k.begun = same-begun e.event k.begun none in
