@@ -43,7 +43,7 @@ use Rattle.pc_world.specs.Known.{Known, call_in, call_of, first_if, known_of, op
 use Rattle.pc_world.specs.Known.Statements.{begun_after, is_open_after, is_open_told, statement_after}
 use Rattle.pc_world.specs.Known.Traffic.{heard_by}
 use Rattle.pc_world.specs.Known.Transactions.{Txn}
-use Rattle.pc_world.specs.Legal.{Learns, StandsBefore, TellsBegun, committed_in_order}
+use Rattle.pc_world.specs.Legal.{BeganAfter, Learns, StandsBefore, TellsBegun, committed_in_order}
 use Rattle.pc_world.specs.Local.{Head, MayComeNext, MayDo}
 use Rattle.pc_world.specs.Operations.{is_last_after}
 use Rattle.pc_world.specs.Run.{IsRun, protocol}
@@ -330,8 +330,8 @@ module _ (head : Head) (history : List (Entry Event)) (run : IsRun head history)
       ]
 
   -- A session's transaction that has ended before another one began.
-  module _ (one other : TxnId) (ts later : ℕ) (session : one.session ≡ other.session) (known : (e : Entry Event) → Contains history e → e.event ≡ events.Tell (answers.Unknown one) → ⊥)
-      (is : IsCommitted head history one ts) (also : IsCommitted head history other later) (second : BeginsAt head history other) (ended : HasEnded head second.front one) where
+  module _ (one other : TxnId) (ts : ℕ) (session : one.session ≡ other.session) (known : (e : Entry Event) → Contains history e → e.event ≡ events.Tell (answers.Unknown one) → ⊥)
+      (is : IsCommitted head history one ts) (second : BeginsAt head history other) (ended : HasEnded head second.front one) where
     -- The session's list, with both.
     record HasBoth : Type 0 where
       more : List (Pair Event)
@@ -386,11 +386,11 @@ module _ (head : Head) (history : List (Entry Event)) (run : IsRun head history)
     the-open t opened = let o = end-open in let same : t ≡ o.t = let both : Some t ≡ Some o.t = sym opened ∙ o.opened in cc both in ap (λ (x : Txn). x.id) same ∙ o.named
 
     -- so it was told committed, and the other began after that
-    end-told : (answer : Answer) → ended.answer ≡ answer → is_open_told answer true ≡ false → StandsBefore one other (committed_in_order head history)
+    end-told : (answer : Answer) → ended.answer ≡ answer → is_open_told answer true ≡ false → BeganAfter head history one other
     end-told (answers.Committed x at) is_answer closes =
         let row = committed_row head ended.end.entry.actor (known_at head ended.end.entry.actor at-end.front) x at (end-does (answers.Committed x at) is_answer) in
         let same : x ≡ one = row.whose ∙ the-open row.t row.opened in
-        (is-legal head history run).in_order one other ts later is also (record {
+        record {
           before = ended.before;
           learning = ended.end;
           between = ended.rest;
@@ -399,7 +399,7 @@ module _ (head : Head) (history : List (Entry Event)) (run : IsRun head history)
           whole = own-list.whole;
           learns = subst (λ event. Learns head history one ended.before event ended.end.named) (sym (ended.tells ∙ ap events.Tell is_answer)) same;
           begins = subst (TellsBegun other) (sym second.tells) refl;
-        })
+        }
     end-told (answers.RolledBack x why) is_answer closes = absurd (not-over (answers.RolledBack x why) is_answer tt)
     end-told (answers.Aborted why) is_answer closes = absurd (not-over (answers.Aborted why) is_answer tt)
     end-told (answers.Unknown x) is_answer closes =
@@ -411,11 +411,18 @@ module _ (head : Head) (history : List (Entry Event)) (run : IsRun head history)
         absurd (known ended.end.entry there (ended.tells ∙ ap events.Tell (is_answer ∙ ap answers.Unknown same)))
     end-told answer is_answer closes = absurd (cc closes)
 
+-- the session's later transaction began after it knew that the earlier one had committed
+pub began_after : (head : Head) (history : List (Entry Event)) (one other : TxnId) (ts later : ℕ) → IsRun head history → one.session ≡ other.session → one.number < other.number
+    → ((e : Entry Event) → Contains history e → e.event ≡ events.Tell (answers.Unknown one) → ⊥)
+    → IsCommitted head history one ts → IsCommitted head history other later → BeganAfter head history one other
+began_after head history one other ts later run session less known is also =
+    let second = begins-at head history run other later also in
+    let ended = ended-before head history run one other ts session less is second in
+    end-told head history run one other ts session known is second ended ended.answer refl ended.closes
+
 -- of two committed transactions of one session the one that was begun first stands first
 pub sessions_go_in_turn : (head : Head) (history : List (Entry Event)) (one other : TxnId) (ts later : ℕ) → IsRun head history → one.session ≡ other.session → one.number < other.number
     → ((e : Entry Event) → Contains history e → e.event ≡ events.Tell (answers.Unknown one) → ⊥)
     → IsCommitted head history one ts → IsCommitted head history other later → StandsBefore one other (committed_in_order head history)
 sessions_go_in_turn head history one other ts later run session less known is also =
-    let second = begins-at head history run other later also in
-    let ended = ended-before head history run one other ts session less is second in
-    end-told head history run one other ts later session known is also second ended ended.answer refl ended.closes
+    (is-legal head history run).in_order one other ts later is also (began_after head history one other ts later run session less known is also)

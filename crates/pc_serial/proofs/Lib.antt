@@ -7,6 +7,7 @@ pub mod InTurn
 pub mod Legal
 pub mod Laid
 pub mod Maps
+pub mod OneSession
 pub mod Order
 pub mod OwnDone
 pub mod PieceRows
