@@ -11,7 +11,7 @@ use Rattle.pc_base.specs.Span.{same_key}
 use Rattle.pc_base.specs.Transaction.{same_txn}
 use Rattle.pc_history.specs.History.{MayFollow}
 use Rattle.pc_history.specs.Own.{named_in}
-use Rattle.pc_implicit.proofs.Agreed.{AreNumbered, IsNew, Knows, agreed, begun_next, open_there, owned}
+use Rattle.pc_implicit.proofs.Agreed.{IsNew, Knows, agreed, begun_next, one_txn, open_there}
 use Rattle.pc_implicit.proofs.Commits.{act_of}
 use Rattle.pc_implicit.proofs.Doing.{Does, same_or_not, told_by_row}
 use Rattle.pc_implicit.proofs.Hearing.{IsSo, heard-event}
@@ -101,27 +101,6 @@ unmap f (x ∷ xs) y there =
     elim (contains_cons (f x) (map f xs) y there) [
       | inl same ↦ (x, contains_head x xs, same)
       | inr later ↦ let r = unmap f xs y later in (r.0, contains_tail x xs r.0 r.1, r.2)
-    ]
-
--- of an actor's transactions no two have one name
-pub one_txn : (actor : ActorId) (n : ℕ) (txns : List Txn) (t u : Txn) → AreNumbered actor n txns → Contains txns t → Contains txns u → t.id ≡ u.id → t ≡ u
-one_txn actor n [] t u numbered a b same = absurd (contains_nil t a)
-one_txn actor n (x ∷ xs) t u numbered a b same =
-    elim (contains_cons x xs t a) [
-      | inl first ↦ elim (contains_cons x xs u b) [
-        | inl also ↦ sym first ∙ also
-        | inr later ↦
-            let below = (owned actor x.id.number xs u numbered.2 later).1 in
-            let number : x.id.number ≡ u.id.number = ap (λ (y : Txn). y.id.number) first ∙ ap (λ (i : TxnId). i.number) same in
-            absurd (omega (arith, below, number))
-      ]
-      | inr rest ↦ elim (contains_cons x xs u b) [
-        | inl also ↦
-            let below = (owned actor x.id.number xs t numbered.2 rest).1 in
-            let number : x.id.number ≡ t.id.number = ap (λ (y : Txn). y.id.number) also ∙ ap (λ (i : TxnId). i.number) (sym same) in
-            absurd (omega (arith, below, number))
-        | inr later ↦ one_txn actor x.id.number xs t u numbered.2 rest later same
-      ]
     ]
 
 pub none-later : (most n : ℕ) (ws : List Write) → fold (λ most w. max most w.seq) most ws < n → (list_any (λ w. w.seq == n) ws ≡ false) × (most ≤ fold (λ most w. max most w.seq) most ws)

@@ -1,4 +1,4 @@
--- The kinds of reply that a range gives to each request, whatever has happened.
+-- The kinds of reply that a range gives to each request, whatever has happened. Own profile.
 use Rattle.std.specs.Prelude.{◌≡◌, ℕ, false, List, ⊤}
 use Rattle.pc_base.specs.declared.entry.Entry.{Entry}
 use Rattle.pc_proto.specs.declared.event.Event.{Event}
