@@ -1,5 +1,5 @@
 -- What a committed transaction wrote stands over each later entry.
-use Rattle.std.proofs.Common.{◌≡◌, ℕ, ◌<◌, ◌≤◌, max, Bool, true, false, cond, inl, inr, List, [], ◌∷◌, ◌++◌, fold, Option, None, Some, Contains, sym, ap, subst, ◌∙◌, arith}
+use Rattle.std.proofs.Common.{◌≡◌, ℕ, ◌<◌, ◌≤◌, max, false, inl, inr, List, [], ◌∷◌, ◌++◌, fold, Option, None, Some, Contains, sym, ap, subst, ◌∙◌, arith}
 use Rattle.std.proofs.lemmas.List.{append-nil, append_assoc}
 use Rattle.std.proofs.lemmas.List.Elements.{Contains-append_left}
 use Rattle.std.specs.Option.{option_map}
@@ -26,7 +26,7 @@ use Rattle.pc_implicit.proofs.Refusals.{decided-at, not_refused}
 use Rattle.pc_implicit.proofs.Turns.{IsAnswered, Restarted, WentOn, Wrote, comes_from}
 use Rattle.pc_implicit.proofs.VersionSteps.{makes_version, version_stays}
 use Rattle.pc_implicit.proofs.WriteLists.{Laid, RiseAt, alike_at, each_low, rise_at, rise_value, written_at}
-use Rattle.pc_implicit.specs.Decided.{decision, epoch_of, time_of}
+use Rattle.pc_implicit.specs.Decided.{decision, time_of}
 use Rattle.pc_implicit.specs.Writes.{IsWholeBy, LastWriteStands, home_of, own_intent, place_under, txns_of, writes_on}
 use Rattle.pc_lists.proofs.Each.{each-contains}
 use Rattle.pc_proto.specs.declared.event.Event.{Event}
@@ -79,7 +79,6 @@ implied-more head history e id epoch ts w = record {
   whole = sym (append_assoc w.front w.back (e ∷ [])) ∙ ap (λ h. h ++ e ∷ []) w.whole;
   implied = w.implied;
 }
-
 
 -- The range of the key evaluates one more request.
 module _ (head : Head) (history : List (Entry Event)) (run : IsRun head history) (e : Entry Event)

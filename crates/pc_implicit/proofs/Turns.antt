@@ -94,7 +94,6 @@ Comes history e k u = IsBegun history e u ⊎ CameFrom history e k u
 pub not_session : (range session : ℕ) → actors.Range range ≡ actors.Session session → ⊥
 not_session range session h = absurd cc
 
-
 pub none-later : (most n : ℕ) (ws : List Write) → fold (λ most w. max most w.seq) most ws < n → (list_any (λ w. w.seq == n) ws ≡ false) × (most ≤ fold (λ most w. max most w.seq) most ws)
 none-later most n [] h = (refl, omega arith)
 none-later most n (w ∷ ws) h =
