@@ -42,7 +42,7 @@ use Rattle.pc_world.specs.Run.{IsRun}
 use Rattle.pc_world.specs.StageFate.{IsUncommitted, OnCommit, WasCommitRefused}
 
 -- the epoch and the timestamp of a decided place
-decided-at : (q : Place) (s : Status) → decision q ≡ Some s → (epoch_of q ≡ s.epoch) × (time_of q ≡ s.ts)
+pub decided-at : (q : Place) (s : Status) → decision q ≡ Some s → (epoch_of q ≡ s.epoch) × (time_of q ≡ s.ts)
 decided-at Nothing s is = absurd cc
 decided-at (Kept r) s is = let same : r.status ≡ s = kept-status (is_final r.status.standing) r.status s is in (ap (λ (x : Status). x.epoch) same, ap (λ (x : Status). x.ts) same)
 decided-at (Marked m) s is = let same : m ≡ s = cc in (ap (λ (x : Status). x.epoch) same, ap (λ (x : Status). x.ts) same)

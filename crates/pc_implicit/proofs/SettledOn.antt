@@ -1,5 +1,5 @@
 -- What a committed transaction wrote stands over each later entry.
-use Rattle.std.proofs.Common.{◌≡◌, ℕ, ◌<◌, ◌≤◌, max, Bool, true, false, cond, inl, inr, List, [], ◌∷◌, ◌++◌, fold, Option, None, Some, Contains, sym, ap, subst, ◌∙◌, arith}
+use Rattle.std.proofs.Common.{◌≡◌, ℕ, ◌<◌, ◌≤◌, max, false, inl, inr, List, [], ◌∷◌, ◌++◌, fold, Option, None, Some, Contains, sym, ap, subst, ◌∙◌, arith}
 use Rattle.std.proofs.lemmas.List.{append-nil, append_assoc}
 use Rattle.std.proofs.lemmas.List.Elements.{Contains-append_left}
 use Rattle.std.specs.Option.{option_map}
@@ -22,11 +22,11 @@ use Rattle.pc_implicit.proofs.OwnLaid.{not_overtaken}
 use Rattle.pc_implicit.proofs.PutsSent.{HasPut, orderly, puts_sent}
 use Rattle.pc_implicit.proofs.Recorded.{evaluated_state}
 use Rattle.pc_implicit.proofs.KnownOver.{IsKnownOver, over_of}
-use Rattle.pc_implicit.proofs.Refusals.{not_refused}
+use Rattle.pc_implicit.proofs.Refusals.{decided-at, not_refused}
 use Rattle.pc_implicit.proofs.Turns.{IsAnswered, Restarted, WentOn, Wrote, comes_from}
 use Rattle.pc_implicit.proofs.VersionSteps.{makes_version, version_stays}
 use Rattle.pc_implicit.proofs.WriteLists.{Laid, RiseAt, alike_at, each_low, rise_at, rise_value, written_at}
-use Rattle.pc_implicit.specs.Decided.{decision, epoch_of, time_of}
+use Rattle.pc_implicit.specs.Decided.{decision, time_of}
 use Rattle.pc_implicit.specs.Writes.{IsWholeBy, LastWriteStands, home_of, own_intent, place_under, txns_of, writes_on}
 use Rattle.pc_lists.proofs.Each.{each-contains}
 use Rattle.pc_proto.specs.declared.event.Event.{Event}
@@ -41,7 +41,7 @@ use Rattle.pc_proto.specs.declared.reply.Reply.{Reply}
 use Rattle.pc_proto.specs.declared.request.Request.TheVariants as requests
 use Rattle.pc_proto.specs.declared.why.Why.{Why}
 use Rattle.pc_proto.specs.Intents.{last_seq, last_value, later_write, own_at}
-use Rattle.pc_proto.specs.Place.{Place, Nothing, Kept, Marked, is_final}
+use Rattle.pc_proto.specs.Place.{Nothing}
 use Rattle.pc_proto.specs.RecordRows.Reached.{status_of}
 use Rattle.pc_world.proofs.Knowing.{state_other}
 use Rattle.pc_world.specs.After.{known_at, place_at, state_at}
@@ -79,16 +79,6 @@ implied-more head history e id epoch ts w = record {
   whole = sym (append_assoc w.front w.back (e ∷ [])) ∙ ap (λ h. h ++ e ∷ []) w.whole;
   implied = w.implied;
 }
-
--- a decided place has the epoch and the timestamp of its decision
-decided-place : (p : Place) (s : Status) → decision p ≡ Some s → (epoch_of p ≡ s.epoch) × (time_of p ≡ s.ts)
-decided-place Nothing s h = absurd cc
-decided-place (Kept r) s h = by (is_final r.status.standing) h
-  where
-    by : (b : Bool) → cond b (Some r.status) None ≡ Some s → (r.status.epoch ≡ s.epoch) × (r.status.ts ≡ s.ts)
-    by true h = let same : r.status ≡ s = cc in (ap (λ (x : Status). x.epoch) same, ap (λ (x : Status). x.ts) same)
-    by false h = absurd cc
-decided-place (Marked m) s h = let same : m ≡ s = cc in (ap (λ (x : Status). x.epoch) same, ap (λ (x : Status). x.ts) same)
 
 -- The range of the key evaluates one more request.
 module _ (head : Head) (history : List (Entry Event)) (run : IsRun head history) (e : Entry Event)
@@ -137,7 +127,7 @@ module _ (head : Head) (history : List (Entry Event)) (run : IsRun head history)
         | IsMoved at j asked there eq ↦
             let one : j ≡ i = let both : Some j ≡ Some i = sym there ∙ own in cc in
             let reached : at ≤ time_of (home_of head t.id history) = fate-so (fates.Pending at) asked in
-            let time : time_of (home_of head t.id history) ≡ ts = (decided-place (home_of head t.id history) (status_of standings.Committed epoch ts) decided).1 in
+            let time : time_of (home_of head t.id history) ≡ ts = (decided-at (home_of head t.id history) (status_of standings.Committed epoch ts) decided).1 in
             inr (record i { ts = max i.ts at }, later ∙ eq ∙ ap (λ (x : Intent). Some (record x { ts = max x.ts at })) one, record { epoch = w.epoch; low = omega (arith, low, reached, time); whole = w.whole })
         | IsGone fate j asked ends there eq ↦ gone fate ends asked (fate-so fate asked)
       ]

@@ -12,7 +12,7 @@ use Rattle.pc_base.specs.declared.transaction.TxnId.{TxnId}
 use Rattle.pc_implicit.proofs.CommitsStay.{commits_stay}
 use Rattle.pc_implicit.proofs.Points.{point_of}
 use Rattle.pc_lists.proofs.Each.{each-back, each-contains}
-use Rattle.pc_lists.proofs.Lists.{contains_cons, contains_head, contains_map, contains_nil, contains_tail}
+use Rattle.pc_lists.proofs.Lists.{contains_cons, contains_head, contains_in_map, contains_map, contains_nil}
 use Rattle.pc_proto.specs.declared.event.Event.{Event}
 use Rattle.pc_serial.proofs.InOrder.{Rises, never-below, never-both, rises-in_order}
 use Rattle.pc_serial.proofs.Order.{IsRanked, PointsDiffer, committed-ranked, entry_of, order-committed, order-has, order-ranked, rank-less, rank-total}
@@ -51,14 +51,6 @@ module _ {X Y : Type 0} (f : X → Y) where
   map-split (x ∷ xs) [] y back h = record { first = []; x = x; rest = xs; whole = refl; front_is = refl; x_is = cc h }
   map-split (x ∷ xs) (z ∷ zs) y back h =
       split-push x xs z zs y back (cc h) (map-split xs zs y back (cc h))
-
-  contains-unmap : (xs : List X) (y : Y) → Contains (map f xs) y → (x : X) × Contains xs x × (f x ≡ y)
-  contains-unmap [] y c = absurd (contains_nil y c)
-  contains-unmap (x ∷ xs) y c =
-      elim (contains_cons (f x) (map f xs) y c) [
-        | inl same ↦ (x, contains_head x xs, same)
-        | inr later ↦ let r = contains-unmap xs y later in (r.0, contains_tail x xs r.0 r.1, r.2)
-      ]
 
 -- of two lists with one whole, the longer one goes on from the shorter
 pub goes-on : {X : Type 0} (xs ys us vs : List X) → xs ++ ys ≡ us ++ vs → length xs ≤ length us → (more : List X) × (us ≡ xs ++ more)
@@ -121,7 +113,7 @@ module _ (head : Head) (history : List (Entry Event)) (differ : PointsDiffer hea
   -- each that stands in the order is committed
   pub all-committed : (id : TxnId) → Contains (committed_in_order head history) id → (ts : ℕ) × IsCommitted head history id ts
   all-committed id c =
-      let e = contains-unmap (λ (x : Rank × TxnId). x.1) (commit_order head history) id c in
+      let e = contains_in_map (λ (x : Rank × TxnId). x.1) (commit_order head history) id c in
       (e.0.0.ts, subst (λ i. IsCommitted head history i e.0.0.ts) e.2 (each-contains (λ (x : Rank × TxnId). IsCommitted head history x.1 x.0.ts) (commit_order head history) e.0 (order-committed head history differ) e.1))
 
   module _ (before : List TxnId) (id : TxnId) (later : List TxnId) (whole : committed_in_order head history ≡ before ++ id ∷ later) where
@@ -129,7 +121,7 @@ module _ (head : Head) (history : List (Entry Event)) (differ : PointsDiffer hea
     pub before-low : (other : TxnId) (ts earlier : ℕ) → Contains before other → IsCommitted head history id ts → IsCommitted head history other earlier → (earlier ≤ ts) × (other ≡ id → ⊥)
     before-low other ts earlier c is also =
         let s = map-split (λ (x : Rank × TxnId). x.1) (commit_order head history) before id later whole in
-        let e = contains-unmap (λ (x : Rank × TxnId). x.1) s.first other (subst (λ xs. Contains xs other) (sym s.front_is) c) in
+        let e = contains_in_map (λ (x : Rank × TxnId). x.1) s.first other (subst (λ xs. Contains xs other) (sym s.front_is) c) in
         let there : Contains (commit_order head history) e.0 = subst (λ xs. Contains xs e.0) (sym s.whole) (Contains-append_left s.first (s.x ∷ s.rest) e.0 e.1) in
         let here : Contains (commit_order head history) s.x = subst (λ xs. Contains xs s.x) (sym s.whole) (Contains-append_right s.first (s.x ∷ s.rest) s.x (contains_head s.x s.rest)) in
         let less : rank_cmp e.0.0 s.x.0 ≡ Less = rises-before s.first s.x s.rest e.0 (subst (Rises rank_cmp) s.whole the-order-rises) e.1 in

@@ -1,5 +1,6 @@
 -- What a range can answer to the requests of a conflict round.
 use Rattle.std.proofs.Common.{◌≡◌, ℕ, ◌≤◌, Bool, true, false, cond, List, None, refl, sym, subst, arith}
+use Rattle.pc_base.specs.declared.transaction.Priority.{Priority}
 use Rattle.pc_base.specs.declared.transaction.TxnId.{TxnId}
 use Rattle.pc_base.specs.declared.transaction.Who.{Who}
 use Rattle.pc_proto.specs.declared.fate.Fate.{Fate}
@@ -22,8 +23,7 @@ use Rattle.pc_proto.specs.RecordRows.Reached.{is_staging}
 use Rattle.pc_proto.specs.Requests.{Recovers}
 use Rattle.pc_proto.specs.Table.{place_of}
 use Rattle.pc_proto.specs.Views.{IsFateOf, final_fate}
-use Rattle.pc_push.proofs.Marks.{IsFinalPlace, place_final}
-use Rattle.pc_push.specs.Pushing.{Pushing, push_of}
+use Rattle.pc_world.proofs.FinalMarks.{IsFinalPlace, place_final}
 use Rattle.pc_world.specs.Exchange.{IsPossibleReply}
 use Rattle.pc_world.specs.StateOf.{state_of}
 
@@ -35,18 +35,18 @@ pub record IsStagingView (view : View) : Type 0 where
   pub is : view ≡ views.Staging epoch ts writes
 
 -- What a push is answered: where the view is not final it stands at the target or above it; and an unsure one is staging.
-abbrev pub IsPushReply : Goal → Reply → Type 0
-IsPushReply goal (replies.Status view) = (target : ℕ) → goal ≡ goals.Move target → final_fate view ≡ None → IsFateOf view (fates.Pending target)
-IsPushReply goal (replies.Unsure view) = IsStagingView view
-IsPushReply goal _ = Unit {0}
+abbrev pub IsGoalReply : Goal → Reply → Type 0
+IsGoalReply goal (replies.Status view) = (target : ℕ) → goal ≡ goals.Move target → final_fate view ≡ None → IsFateOf view (fates.Pending target)
+IsGoalReply goal (replies.Unsure view) = IsStagingView view
+IsGoalReply goal _ = Unit {0}
 
-final_shows : (s : Standing) (epoch ts : ℕ) (writes : List (List ℕ × ℕ)) (locks : List (List ℕ)) → is_final s ≡ true → final_fate (status_view s epoch ts writes locks) ≡ None → ⊥
+pub final_shows : (s : Standing) (epoch ts : ℕ) (writes : List (List ℕ × ℕ)) (locks : List (List ℕ)) → is_final s ≡ true → final_fate (status_view s epoch ts writes locks) ≡ None → ⊥
 final_shows standings.Pending epoch ts writes locks h none = cc
 final_shows standings.Staging epoch ts writes locks h none = cc
 final_shows standings.Committed epoch ts writes locks h none = cc
 final_shows (standings.Aborted why) epoch ts writes locks h none = cc
 
-decided_shows : (p : Place) → IsFinalPlace p → is_decided p ≡ true → final_fate (view_of p) ≡ None → ⊥
+pub decided_shows : (p : Place) → IsFinalPlace p → is_decided p ≡ true → final_fate (view_of p) ≡ None → ⊥
 decided_shows Nothing final h none = absurd cc
 decided_shows (Kept r) final h none = final_shows r.status.standing r.status.epoch r.status.ts r.writes r.locks h none
 decided_shows (Marked s) final h none = final_shows s.standing s.epoch s.ts _ _ final none
@@ -75,11 +75,11 @@ staged_shows (Kept r) h = staging_shows r.status.standing r.status.epoch r.statu
 staged_shows (Marked s) h = absurd cc
 
 module _ (holder : TxnMeta) (by : Who) where
-  done_shows : (goal : Goal) (p : Place) → IsPushReply goal (replies.Status (view_of (after p (pushed holder by goal p))))
+  done_shows : (goal : Goal) (p : Place) → IsGoalReply goal (replies.Status (view_of (after p (pushed holder by goal p))))
   done_shows goals.Abort p target is none = absurd cc
   done_shows (goals.Move ts) p target is none = let low : target ≤ ts = let same : ts ≡ target = cc in omega arith in low
 
-  push_shows : (v : Verdict) (goal : Goal) (p : Place) → (v ≡ There → reaches_goal goal p ≡ true) → (v ≡ Doubt → is_staged p ≡ true) → IsPushReply goal (push_reply v p (after p (on_verdict v (pushed holder by goal p))))
+  push_shows : (v : Verdict) (goal : Goal) (p : Place) → (v ≡ There → reaches_goal goal p ≡ true) → (v ≡ Doubt → is_staged p ≡ true) → IsGoalReply goal (push_reply v p (after p (on_verdict v (pushed holder by goal p))))
   push_shows There goal p there doubt = λ target is none. there_shows p target (subst (λ g. reaches_goal g p ≡ true) is (there refl)) none
   push_shows Refuse goal p there doubt = tt
   push_shows Doubt goal p there doubt = staged_shows p (doubt refl)
@@ -100,19 +100,19 @@ doubt_when true won false h = absurd cc
 doubt_when false true false h = absurd cc
 doubt_when false false false h = absurd cc
 
-answer_when : (b : Bool) (goal : Goal) (p : Place) (other : Reply) → is_decided p ≡ b → IsFinalPlace p → IsPushReply goal other → IsPushReply goal (cond b (replies.Status (view_of p)) other)
+answer_when : (b : Bool) (goal : Goal) (p : Place) (other : Reply) → is_decided p ≡ b → IsFinalPlace p → IsGoalReply goal other → IsGoalReply goal (cond b (replies.Status (view_of p)) other)
 answer_when true goal p other is final h = λ target goal none. absurd (decided_shows p final is none)
 answer_when false goal p other is final h = h
 
-pub push_answers : (m : Pushing) (told : Reply) → IsPossibleReply (push_of m) told → IsPushReply m.goal told
-push_answers m told is =
-    let p = place_of m.holder.id (state_of is.own).table in
-    let v = push_verdict m.holder m.level m.reading m.goal p in
-    let there = reaches_goal m.goal p in
-    let won = wins m.holder m.level m.reading p in
-    subst (IsPushReply m.goal) (sym is.is)
-    (answer_when (is_decided p) m.goal p (push_reply v p (after p (push m.holder m.by m.level m.reading m.goal p))) refl (place_final m.holder.id is.own)
-    (push_shows m.holder m.by v m.goal p (there_when there won (is_staged p)) (doubt_when there won (is_staged p))))
+pub push_answers : (holder : TxnMeta) (by : Who) (level : Priority) (now : ℕ) (goal : Goal) (told : Reply) → IsPossibleReply (requests.Push holder by level now goal) told → IsGoalReply goal told
+push_answers holder by level now goal told is =
+    let p = place_of holder.id (state_of is.own).table in
+    let v = push_verdict holder level now goal p in
+    let there = reaches_goal goal p in
+    let won = wins holder level now p in
+    subst (IsGoalReply goal) (sym is.is)
+    (answer_when (is_decided p) goal p (push_reply v p (after p (push holder by level now goal p))) refl (place_final holder.id is.own)
+    (push_shows holder by v goal p (there_when there won (is_staged p)) (doubt_when there won (is_staged p))))
 
 -- A recovery is answered by a status.
 abbrev pub IsStatus : Reply → Type 0
