@@ -1,5 +1,5 @@
-use crate::{Intents, last_seq, last_value, value_by};
 use pc_base::{Key, Priority, Span, Timestamp, TxnId, Value};
+use pc_intent::{Intents, last_seq, last_value, value_by};
 use pc_proto::TxnMeta;
 use std::alloc::Global;
 use std::collections::BTreeSet;

@@ -1,8 +1,8 @@
 //! What is accepted, and with which number all else is refused.
 
-use super::fixtures::{ONE_PUT, number_of, workload};
-use crate::{ClockWork, Item, Statement, Workload};
+use crate::workloads::{ONE_PUT, number_of, workload};
 use pc_base::{Key, Priority, Value};
+use pc_work::{ClockWork, Item, Statement, Workload};
 use std::test::Fail;
 
 #[test]

@@ -1,7 +1,7 @@
 //! What is absent from a workload, what is stated there, and the limits of both.
 
-use super::fixtures::number_of;
-use crate::{Turn, Workload};
+use crate::workloads::number_of;
+use pc_work::{Turn, Workload};
 use std::alloc::Global;
 use std::test::Fail;
 

@@ -1,9 +1,6 @@
-//! Workloads as text, and parts of them.
+//! Workloads as text.
 
-use crate::fault::Misfit;
-use crate::json::FromJson;
-use crate::{WorkFault, Workload};
-use serde_json::Value as Json;
+use pc_work::{WorkFault, Workload};
 use std::alloc::Global;
 use std::test::Fail;
 
@@ -25,19 +22,4 @@ pub fn workload(alloc: Global, clock: &str, statements: &str) -> Result<String, 
     Ok(format!(in alloc;
         "{{\"version\":1,\"pipelining\":false,\"turns\":[],\"sessions\":[{{\"clock\":{clock},\"script\":[{{\"do\":[{statements}]}}]}}]}}"
     )?)
-}
-
-/// What was read, or nothing where the value is of another form.
-pub fn found<T: Drop>(read: Result<T, Misfit>) -> Result<Option<T>, Fail> {
-    match read {
-        Ok(part) => Ok(Some(part)),
-        Err(Misfit::OtherForm) => Ok(None),
-        Err(Misfit::NoMemory) => Err(Fail::from("out of memory")),
-    }
-}
-
-/// The part that a text states.
-pub fn part<T: FromJson>(alloc: Global, text: &str) -> Result<Option<T>, Fail> {
-    let json = Json::from_str(alloc, text)?;
-    found(T::from_json(alloc, &json))
 }

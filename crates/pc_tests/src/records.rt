@@ -1,6 +1,6 @@
-use crate::RecordTable;
 use pc_base::{Items, Key, Priority, Timestamp, TxnId};
 use pc_proto::{Reply, Request, TxnMeta, View};
+use pc_record::RecordTable;
 use std::alloc::Global;
 use std::test::Fail;
 

@@ -1,5 +1,5 @@
-use crate::RangeState;
 use pc_base::{Key, Priority, Timestamp, TxnId, Value};
+use pc_eval::RangeState;
 use pc_proto::{Fate, Origin, Reply, Request, TxnMeta};
 use std::test::Fail;
 
