@@ -22,6 +22,3 @@ pub use next::Next;
 pub use pusher::Pusher;
 pub use round::Round;
 pub use stamps::last_stamp;
-
-#[cfg(test)]
-mod tests;

@@ -3,6 +3,8 @@ pub mod Answer
 pub mod AppendsPart
 pub mod Call
 pub mod Event
+pub mod Fits
+pub mod FitsJournal
 pub mod Journal
 pub mod Lists
 pub mod Meta
@@ -13,5 +15,6 @@ pub mod Reply
 pub mod Request
 pub mod Side
 pub mod Span
+pub mod ToldRows
 pub mod View
 pub mod Why

@@ -1,5 +1,7 @@
-ghost use Rattle.std.specs.Prelude.{◌≡◌, ◌∷◌, ◌++◌, OnOk, codes};
+ghost use Rattle.std.specs.Prelude.{◌≡◌, ◌∷◌, ◌++◌, All, OnOk, codes};
 ghost use Rattle.std.specs.List.{flat_map};
+ghost use Rattle.pc_journal.specs.Fits.{FitsAnswer, FitsBareRow};
+ghost use Rattle.pc_journal.specs.ToldRows.{AnswersBare};
 ghost use Rattle.pc_journal.specs.Answer.{answer_text, told_row_text};
 ghost use Rattle.pc_journal.specs.Lists.{listed};
 ghost use Rattle.pc_journal.specs.Side.{◌·◌};
@@ -10,6 +12,8 @@ use pc_proto::{Answer, Origin, Rows};
 
 impl Text for Answer {
     ghost text = { answer_text };
+
+    ghost spelled = { λ answer. AnswersBare answer → FitsAnswer answer };
 
     fn print(&self, out: &mut Vec<u8>) -> Result<(), NoMemory> {
         match self {
@@ -35,14 +39,16 @@ impl Text for Answer {
 }
 
 fn print_told_rows(rows: &Rows, out: &mut Vec<u8>) -> Result<(), NoMemory>
-    ensures { OnOk result (out.new.items ≡ out.old.items ++ (codes "rows" · listed told_row_text rows.now)) }
+    ensures text { OnOk result (out.new.items ≡ out.old.items ++ (codes "rows" · listed told_row_text rows.now)) }
+    ensures spelled { OnOk result (All FitsBareRow rows.now) }
 {
     one(b"rows ", out)?;
     print_told_list(rows.as_slice(), out)
 }
 
 fn print_told_list(rows: &[(Key, Origin, Value)], out: &mut Vec<u8>) -> Result<(), NoMemory>
-    ensures { OnOk result (out.new.items ≡ out.old.items ++ listed told_row_text rows.now) }
+    ensures text { OnOk result (out.new.items ≡ out.old.items ++ listed told_row_text rows.now) }
+    ensures spelled { OnOk result (All FitsBareRow rows.now) }
 {
     match rows.split_first() {
         None => one(b"-", out),
@@ -54,7 +60,8 @@ fn print_told_list(rows: &[(Key, Origin, Value)], out: &mut Vec<u8>) -> Result<(
 }
 
 fn print_more_told_rows(rows: &[(Key, Origin, Value)], out: &mut Vec<u8>) -> Result<(), NoMemory>
-    ensures { OnOk result (out.new.items ≡ out.old.items ++ flat_map (λ row. 44 ∷ told_row_text row) rows.now) }
+    ensures text { OnOk result (out.new.items ≡ out.old.items ++ flat_map (λ row. 44 ∷ told_row_text row) rows.now) }
+    ensures spelled { OnOk result (All FitsBareRow rows.now) }
 {
     for row in rows {
         out.push(b',')?;
@@ -65,7 +72,8 @@ fn print_more_told_rows(rows: &[(Key, Origin, Value)], out: &mut Vec<u8>) -> Res
 
 /// A client is told keys and values, and not where they came from.
 fn print_told_row(row: &(Key, Origin, Value), out: &mut Vec<u8>) -> Result<(), NoMemory>
-    ensures { OnOk result (out.new.items ≡ out.old.items ++ told_row_text row.now) }
+    ensures text { OnOk result (out.new.items ≡ out.old.items ++ told_row_text row.now) }
+    ensures spelled { OnOk result (FitsBareRow row.now) }
 {
     row.0.print(out)?;
     row.2.print(out)

@@ -1,4 +1,5 @@
 ghost use Rattle.std.specs.Prelude.{◌≡◌, ◌∷◌, ◌++◌, OnOk};
+ghost use Rattle.pc_journal.specs.Fits.{FitsCall};
 ghost use Rattle.pc_journal.specs.Call.{call_text};
 
 use crate::text::{Text, one, three, two};
@@ -7,6 +8,8 @@ use pc_proto::Call;
 
 impl Text for Call {
     ghost text = { call_text };
+
+    ghost spelled = { FitsCall };
 
     fn print(&self, out: &mut Vec<u8>) -> Result<(), NoMemory> {
         match self {

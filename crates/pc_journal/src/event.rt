@@ -1,4 +1,6 @@
 ghost use Rattle.std.specs.Prelude.{◌≡◌, ◌∷◌, ◌++◌, OnOk};
+ghost use Rattle.pc_journal.specs.Fits.{FitsEntry, FitsEvent};
+ghost use Rattle.pc_journal.specs.ToldRows.{TellsBare};
 ghost use Rattle.pc_journal.specs.Event.{event_text, entry_text};
 
 use crate::number::Reading;
@@ -8,6 +10,8 @@ use pc_proto::Event;
 
 impl Text for Event {
     ghost text = { event_text };
+
+    ghost spelled = { λ event. TellsBare event → FitsEvent event };
 
     fn print(&self, out: &mut Vec<u8>) -> Result<(), NoMemory> {
         match self {
@@ -31,6 +35,8 @@ impl Text for Event {
 
 impl Text for Entry<Event> {
     ghost text = { entry_text };
+
+    ghost spelled = { λ entry. TellsBare entry.event → FitsEntry entry };
 
     fn print(&self, out: &mut Vec<u8>) -> Result<(), NoMemory> {
         self.step.print(out)?;

@@ -1,8 +1,11 @@
-ghost use Rattle.std.specs.Prelude.{◌≡◌, ◌∷◌, ◌++◌, [], OnOk, OnErr};
+ghost use Rattle.std.specs.Prelude.{◌≡◌, ◌∷◌, ◌++◌, [], All, OnOk, OnErr};
 ghost use Rattle.std.specs.List.{flat_map};
 ghost use Rattle.pc_journal.specs.AppendsPart.{AppendsPart};
 ghost use Rattle.pc_journal.specs.Event.{entry_line};
+ghost use Rattle.pc_journal.specs.Fits.{FitsKeys};
+ghost use Rattle.pc_journal.specs.FitsJournal.{FitsEntries};
 ghost use Rattle.pc_journal.specs.Journal.{head_then, journal_text, ranges_text, splits_text};
+ghost use Rattle.pc_journal.specs.ToldRows.{AllTellBare, FitsWhereBare};
 
 use crate::lists::each_behind;
 use crate::text::{Text, one, three};
@@ -12,6 +15,7 @@ use pc_proto::{Event, Keys};
 /// Appends one line of a journal: the entry and a line feed.
 pub fn print_event(entry: &Entry<Event>, out: &mut Vec<u8>) -> Result<(), NoMemory>
     ensures ok { OnOk result (out.new.items ≡ out.old.items ++ entry_line entry.now) }
+    ensures spelled { OnOk result (FitsWhereBare entry.now) }
     ensures err { OnErr result (out.new.items ≡ out.old.items) }
 {
     let mut line = Vec::new(*out.allocator());
@@ -29,6 +33,8 @@ pub fn print_journal(
     out: &mut Vec<u8>,
 ) -> Result<(), NoMemory>
     ensures ok { OnOk result (out.new.items ≡ out.old.items ++ journal_text splits.now sessions recoverers entries.now) }
+    ensures keys { OnOk result (FitsKeys splits.now) }
+    ensures spelled { OnOk result (AllTellBare entries.now → FitsEntries entries.now) }
     ensures err { OnErr result (AppendsPart out.old.items (journal_text splits.now sessions recoverers entries.now) out.new.items) }
 {
     print_head(splits, sessions, recoverers, out)?;
@@ -42,6 +48,7 @@ fn print_head(
     out: &mut Vec<u8>,
 ) -> Result<(), NoMemory>
     ensures ok { OnOk result (out.new.items ≡ out.old.items ++ head_then splits.now sessions recoverers []) }
+    ensures keys { OnOk result (FitsKeys splits.now) }
     ensures err { OnErr result (out.new.items ≡ out.old.items) }
 {
     let mut head = Vec::new(*out.allocator());
@@ -54,14 +61,16 @@ fn print_head(
 }
 
 fn print_ranges(splits: &Keys, out: &mut Vec<u8>) -> Result<(), NoMemory>
-    ensures { OnOk result (out.new.items ≡ out.old.items ++ ranges_text splits.now) }
+    ensures text { OnOk result (out.new.items ≡ out.old.items ++ ranges_text splits.now) }
+    ensures keys { OnOk result (FitsKeys splits.now) }
 {
     one(b"ranges ", out)?;
     print_splits(splits.as_slice(), out)
 }
 
 fn print_splits(splits: &[Key], out: &mut Vec<u8>) -> Result<(), NoMemory>
-    ensures { OnOk result (out.new.items ≡ out.old.items ++ splits_text splits.now) }
+    ensures text { OnOk result (out.new.items ≡ out.old.items ++ splits_text splits.now) }
+    ensures keys { OnOk result (FitsKeys splits.now) }
 {
     let ranges = splits.len() as u64 + 1;
     ranges.print(out)?;
@@ -71,6 +80,7 @@ fn print_splits(splits: &[Key], out: &mut Vec<u8>) -> Result<(), NoMemory>
 #[tactic(auto, using(crate::proofs::Lines::part_from_pieces))]
 fn print_lines(entries: &[Entry<Event>], out: &mut Vec<u8>) -> Result<(), NoMemory>
     ensures ok { OnOk result (out.new.items ≡ out.old.items ++ flat_map entry_line entries.now) }
+    ensures spelled { OnOk result (All FitsWhereBare entries.now) }
     ensures err { OnErr result (AppendsPart out.old.items (flat_map entry_line entries.now) out.new.items) }
 {
     for entry in entries {

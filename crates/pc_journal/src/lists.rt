@@ -1,4 +1,4 @@
-ghost use Rattle.std.specs.Prelude.{◌≡◌, ◌∷◌, ◌++◌, OnOk};
+ghost use Rattle.std.specs.Prelude.{◌≡◌, ◌∷◌, ◌++◌, All, OnOk};
 ghost use Rattle.std.specs.List.{flat_map};
 ghost use Rattle.pc_journal.specs.Lists.{listed};
 
@@ -7,6 +7,8 @@ use pc_base::{Items, NoMemory};
 
 impl<T: Text> Text for Items<T> {
     ghost text = { listed T.text };
+
+    ghost spelled = { All T.spelled };
 
     fn print(&self, out: &mut Vec<u8>) -> Result<(), NoMemory> {
         match self.as_slice().split_first() {
@@ -21,7 +23,8 @@ impl<T: Text> Text for Items<T> {
 
 /// The items, the byte before each.
 pub fn each_behind<T: Text>(byte: u8, items: &[T], out: &mut Vec<u8>) -> Result<(), NoMemory>
-    ensures { OnOk result (out.new.items ≡ out.old.items ++ flat_map (λ item. byte ∷ T.text item) items.now) }
+    ensures text { OnOk result (out.new.items ≡ out.old.items ++ flat_map (λ item. byte ∷ T.text item) items.now) }
+    ensures spelled { OnOk result (All T.spelled items.now) }
 {
     for item in items {
         then(byte, item, out)?;

@@ -1,4 +1,5 @@
 ghost use Rattle.std.specs.Prelude.{◌≡◌, ◌∷◌, ◌++◌, OnOk};
+ghost use Rattle.pc_journal.specs.Fits.{FitsMeta, FitsPoint, FitsWrite};
 ghost use Rattle.pc_journal.specs.Meta.{meta_text, point_text, write_text};
 
 use crate::text::{Text, then};
@@ -7,6 +8,8 @@ use pc_proto::TxnMeta;
 
 impl Text for TxnMeta {
     ghost text = { meta_text };
+
+    ghost spelled = { FitsMeta };
 
     fn print(&self, out: &mut Vec<u8>) -> Result<(), NoMemory> {
         self.id.print(out)?;
@@ -36,6 +39,8 @@ impl Point {
 impl Text for Point {
     ghost text = { λ point. point_text point.id point.epoch point.seq };
 
+    ghost spelled = { λ point. FitsPoint (point.id, (point.epoch, point.seq)) };
+
     fn print(&self, out: &mut Vec<u8>) -> Result<(), NoMemory> {
         self.id.print(out)?;
         then(b':', &self.epoch, out)?;
@@ -45,6 +50,8 @@ impl Text for Point {
 
 impl Text for (Key, u32) {
     ghost text = { write_text };
+
+    ghost spelled = { FitsWrite };
 
     fn print(&self, out: &mut Vec<u8>) -> Result<(), NoMemory> {
         self.0.print(out)?;

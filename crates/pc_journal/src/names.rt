@@ -1,4 +1,5 @@
 ghost use Rattle.std.specs.Prelude.{◌≡◌, ◌∷◌, ◌++◌, OnOk};
+ghost use Rattle.pc_journal.specs.Fits.{FitsActor, FitsId, FitsPriority, FitsWho};
 ghost use Rattle.pc_journal.specs.Names.{id_text, actor_text, who_text, priority_text};
 
 use crate::text::{Text, one, then};
@@ -6,6 +7,8 @@ use pc_base::{ActorId, NoMemory, Priority, TxnId, Who};
 
 impl Text for TxnId {
     ghost text = { id_text };
+
+    ghost spelled = { FitsId };
 
     fn print(&self, out: &mut Vec<u8>) -> Result<(), NoMemory> {
         self.session.print(out)?;
@@ -15,6 +18,8 @@ impl Text for TxnId {
 
 impl Text for ActorId {
     ghost text = { actor_text };
+
+    ghost spelled = { FitsActor };
 
     fn print(&self, out: &mut Vec<u8>) -> Result<(), NoMemory> {
         match self {
@@ -28,6 +33,8 @@ impl Text for ActorId {
 impl Text for Who {
     ghost text = { who_text };
 
+    ghost spelled = { FitsWho };
+
     fn print(&self, out: &mut Vec<u8>) -> Result<(), NoMemory> {
         match self {
             Who::Txn(id) => id.print(out),
@@ -38,6 +45,8 @@ impl Text for Who {
 
 impl Text for Priority {
     ghost text = { priority_text };
+
+    ghost spelled = { FitsPriority };
 
     fn print(&self, out: &mut Vec<u8>) -> Result<(), NoMemory> {
         match self {

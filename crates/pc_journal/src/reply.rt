@@ -1,4 +1,5 @@
 ghost use Rattle.std.specs.Prelude.{◌≡◌, ◌∷◌, ◌++◌, OnOk};
+ghost use Rattle.pc_journal.specs.Fits.{FitsOrigin, FitsReply, FitsRow};
 ghost use Rattle.pc_journal.specs.Reply.{origin_text, row_text, reply_text};
 
 use crate::text::{Text, four, one, then, three, two};
@@ -7,6 +8,8 @@ use pc_proto::{Origin, Reply};
 
 impl Text for Origin {
     ghost text = { origin_text };
+
+    ghost spelled = { FitsOrigin };
 
     fn print(&self, out: &mut Vec<u8>) -> Result<(), NoMemory> {
         match self {
@@ -20,6 +23,8 @@ impl Text for Origin {
 impl Text for (Key, Origin, Value) {
     ghost text = { row_text };
 
+    ghost spelled = { FitsRow };
+
     fn print(&self, out: &mut Vec<u8>) -> Result<(), NoMemory> {
         self.0.print(out)?;
         then(b'@', &self.1, out)?;
@@ -29,6 +34,8 @@ impl Text for (Key, Origin, Value) {
 
 impl Text for Reply {
     ghost text = { reply_text };
+
+    ghost spelled = { FitsReply };
 
     fn print(&self, out: &mut Vec<u8>) -> Result<(), NoMemory> {
         match self {

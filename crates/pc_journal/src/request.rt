@@ -1,4 +1,5 @@
 ghost use Rattle.std.specs.Prelude.{◌≡◌, ◌∷◌, ◌++◌, OnOk};
+ghost use Rattle.pc_journal.specs.Fits.{FitsRequest};
 ghost use Rattle.pc_journal.specs.Request.{request_text};
 
 use crate::meta::Point;
@@ -8,6 +9,8 @@ use pc_proto::Request;
 
 impl Text for Request {
     ghost text = { request_text };
+
+    ghost spelled = { FitsRequest };
 
     fn print(&self, out: &mut Vec<u8>) -> Result<(), NoMemory> {
         match self {

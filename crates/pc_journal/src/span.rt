@@ -1,4 +1,5 @@
 ghost use Rattle.std.specs.Prelude.{◌≡◌, ◌∷◌, ◌++◌, OnOk};
+ghost use Rattle.pc_journal.specs.Fits.{FitsSpan};
 ghost use Rattle.pc_journal.specs.Span.{span_text};
 
 use crate::text::{Text, then};
@@ -6,6 +7,8 @@ use pc_base::{NoMemory, Span};
 
 impl Text for Span {
     ghost text = { span_text };
+
+    ghost spelled = { FitsSpan };
 
     fn print(&self, out: &mut Vec<u8>) -> Result<(), NoMemory> {
         match self {

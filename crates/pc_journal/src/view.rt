@@ -1,4 +1,5 @@
 ghost use Rattle.std.specs.Prelude.{◌≡◌, ◌∷◌, ◌++◌, OnOk};
+ghost use Rattle.pc_journal.specs.Fits.{FitsFate, FitsFinding, FitsGoal, FitsView};
 ghost use Rattle.pc_journal.specs.View.{view_text, goal_text, finding_text, fate_text};
 
 use crate::text::{Text, four, one, three, two};
@@ -7,6 +8,8 @@ use pc_proto::{Fate, Finding, Goal, View};
 
 impl Text for View {
     ghost text = { view_text };
+
+    ghost spelled = { FitsView };
 
     fn print(&self, out: &mut Vec<u8>) -> Result<(), NoMemory> {
         match self {
@@ -22,6 +25,8 @@ impl Text for View {
 impl Text for Goal {
     ghost text = { goal_text };
 
+    ghost spelled = { FitsGoal };
+
     fn print(&self, out: &mut Vec<u8>) -> Result<(), NoMemory> {
         match self {
             Goal::Abort => one(b"abort", out),
@@ -33,6 +38,8 @@ impl Text for Goal {
 impl Text for Finding {
     ghost text = { finding_text };
 
+    ghost spelled = { FitsFinding };
+
     fn print(&self, out: &mut Vec<u8>) -> Result<(), NoMemory> {
         match self {
             Finding::All => one(b"found", out),
@@ -43,6 +50,8 @@ impl Text for Finding {
 
 impl Text for Fate {
     ghost text = { fate_text };
+
+    ghost spelled = { FitsFate };
 
     fn print(&self, out: &mut Vec<u8>) -> Result<(), NoMemory> {
         match self {

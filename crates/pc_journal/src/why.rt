@@ -1,4 +1,5 @@
 ghost use Rattle.std.specs.Prelude.{◌≡◌, ◌∷◌, ◌++◌, OnOk};
+ghost use Rattle.pc_journal.specs.Fits.{FitsWhy};
 ghost use Rattle.pc_journal.specs.Side.{◌⦂◌};
 ghost use Rattle.pc_journal.specs.Why.{why_text};
 
@@ -8,6 +9,8 @@ use pc_proto::Why;
 
 impl Text for Why {
     ghost text = { why_text };
+
+    ghost spelled = { FitsWhy };
 
     fn print(&self, out: &mut Vec<u8>) -> Result<(), NoMemory> {
         match self {
@@ -20,7 +23,8 @@ impl Text for Why {
 }
 
 fn naming<A: Text>(word: &[u8], a: &A, out: &mut Vec<u8>) -> Result<(), NoMemory>
-    ensures { OnOk result (out.new.items ≡ out.old.items ++ (word.now ⦂ A.text a.now)) }
+    ensures text { OnOk result (out.new.items ≡ out.old.items ++ (word.now ⦂ A.text a.now)) }
+    ensures spelled { OnOk result (A.spelled a.now) }
 {
     one(word, out)?;
     then(b':', a, out)
@@ -32,7 +36,8 @@ fn naming_both<A: Text, B: Text>(
     b: &B,
     out: &mut Vec<u8>,
 ) -> Result<(), NoMemory>
-    ensures { OnOk result (out.new.items ≡ out.old.items ++ (word.now ⦂ A.text a.now ⦂ B.text b.now)) }
+    ensures text { OnOk result (out.new.items ≡ out.old.items ++ (word.now ⦂ A.text a.now ⦂ B.text b.now)) }
+    ensures spelled { OnOk result (A.spelled a.now × B.spelled b.now) }
 {
     naming(word, a, out)?;
     then(b':', b, out)

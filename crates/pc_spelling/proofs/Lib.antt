@@ -1,0 +1,15 @@
+pub mod Answers
+pub mod ByteClasses
+pub mod Calls
+pub mod Cuts
+pub mod Events
+pub mod Journal
+pub mod LineParts
+pub mod Names
+pub mod Numbers
+pub mod Parts
+pub mod Readings
+pub mod Replies
+pub mod Requests
+pub mod Views
+pub mod Words
