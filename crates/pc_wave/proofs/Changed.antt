@@ -78,9 +78,10 @@ module _ {X : Type 0} (R : X → X → Type 0) (test : X → Bool) (change : X �
     all_second : (x : X) (xs : List X) → All (R x) xs → All (R x) (first_changed test change xs)
     all_second x [] a = All-nil (R x)
     all_second x (y ∷ xs) a =
-        elim (test y) as (λ b. All (R x) (cond b (change y ∷ xs) (y ∷ first_changed test change xs)))
-        [ true ↦ All-cons (R x) (change y) xs (second x y (All-head (R x) y xs a)) (All-tail (R x) y xs a)
-        | false ↦ All-cons (R x) y (first_changed test change xs) (All-head (R x) y xs a) (all_second x xs (All-tail (R x) y xs a)) ]
+        elim (test y) as (λ b. All (R x) (cond b (change y ∷ xs) (y ∷ first_changed test change xs))) [
+          | true ↦ All-cons (R x) (change y) xs (second x y (All-head (R x) y xs a)) (All-tail (R x) y xs a)
+          | false ↦ All-cons (R x) y (first_changed test change xs) (All-head (R x) y xs a) (all_second x xs (All-tail (R x) y xs a))
+        ]
 
     -- each two are so still, where a change keeps it
     pub pairwise_changed : (xs : List X) → Pairwise R xs → Pairwise R (first_changed test change xs)

@@ -61,9 +61,10 @@ module _ (k now : Known) (ms : List Message) (w : WaveStands k ms) (number : ℕ
       let here : (s : Sent) → h.number ≡ s.number → IsTrue (is_heard now.heard_now s) = λ s e.
       ap (list_any (λ g. g.number == s.number)) more.heard_now ∙ any_last_of (λ g. g.number) s.number k.heard_now h e in
       let by : (s : Sent) (b : Bool) → (s.number == number) ≡ b → P s → Q s = λ s b.
-      elim b as (λ b. (s.number == number) ≡ b → P s → Q s)
-      [ true ↦ λ e p same. here s (is.numbered ∙ sym (eqb-true s.number number e))
-      | false ↦ λ e p same. heard-kept k now [] (h ∷ []) more s (p same (λ q. let t : (s.number == number) ≡ true = eq-eqb s.number number q in absurd cc)) ] in
+      elim b as (λ b. (s.number == number) ≡ b → P s → Q s) [
+        | true ↦ λ e p same. here s (is.numbered ∙ sym (eqb-true s.number number e))
+        | false ↦ λ e p same. heard-kept k now [] (h ∷ []) more s (p same (λ q. let t : (s.number == number) ≡ true = eq-eqb s.number number q in absurd cc))
+      ] in
       subst (λ ms. All Q ms) (sym (more.sent_now ∙ append-nil k.sent_now)) (All-weaker P Q (λ s. by s (s.number == number) refl) k.sent_now far_m.0.rest)
 
   comes_by : (r : Reply) → reply ≡ r → MessageStands now (came_back_by (is_conflict r) number r m)
@@ -96,13 +97,15 @@ module _ (k now : Known) (ms : List Message) (w : WaveStands k ms) (number : ℕ
       let P : Heard → Type 0 = IsConflictOf m.request in
       let none : P h → ⊥ = λ c. let t : is_conflict r ≡ true = sym (ap is_conflict (is.told ∙ e)) ∙ c.conflict in absurd cc in
       record {
-        as_far =
-            (record {
-              out = out-kept k now [] (h ∷ []) more number m.request far_m.0.out;
-              answered = all_answered;
-              heard = subst (λ hs. Any (IsReplyAt number m.request r) hs) (sym more.heard_now) (any_last (IsReplyAt number m.request r) k.heard_now h (record { numbered = is.numbered; asked = same_request; told = is.told ∙ e }));
-              kind = subst (λ r. MayAnswer m.request r) e may;
-            }, far_m.1);
+        as_far = (
+          record {
+            out = out-kept k now [] (h ∷ []) more number m.request far_m.0.out;
+            answered = all_answered;
+            heard = subst (λ hs. Any (IsReplyAt number m.request r) hs) (sym more.heard_now) (any_last (IsReplyAt number m.request r) k.heard_now h (record { numbered = is.numbered; asked = same_request; told = is.told ∙ e }));
+            kind = subst (λ r. MayAnswer m.request r) e may;
+          },
+          far_m.1,
+        );
         counted = record {
           heard = subst (λ hs. AtLeast P m.conflicts hs) (sym more.heard_now) (at_least-kept P m.conflicts k.heard_now (h ∷ []) stands_m.counted.heard);
           no_more = λ a. stands_m.counted.no_more (at_least-before P (m.conflicts + 1) k.heard_now (h ∷ []) (All-cons (λ g. P g → ⊥) h [] none (All-nil (λ g. P g → ⊥))) (subst (λ hs. AtLeast P (m.conflicts + 1) hs) more.heard_now a));

@@ -1,7 +1,10 @@
 -- Why a wave goes on standing.
 pub mod Changed
+pub mod Dues
 pub mod Hearing
+pub mod Joining
 pub mod Lists
 pub mod Places
+pub mod Rounds
 pub mod Sending
 pub mod Standings

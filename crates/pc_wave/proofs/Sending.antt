@@ -84,20 +84,22 @@ module _ (k now : Known) (ms : List Message) (w : WaveStands k ms) (numbered : A
 
     goes_out : MessageStands now (went_out n m)
     goes_out = record {
-      as_far =
-          (record {
-            out = record {
-              said =
-                  ap (request_sent n) more.sent
-                  ∙ ap (option_map (λ s. s.request)) (find-last (λ s. s.number) n k.sent new (All-weaker (λ s. s.number ≤ length k.sent) (λ s. s.number ≢ n) (λ s h. low s.number h) k.sent numbered.sent) refl);
-              numbered = omega (arith, longer);
-              now = ap (list_any (λ s. s.number == n)) more.sent_now ∙ any_last_of (λ s. s.number) n k.sent_now new refl;
-            };
-            rest = rest_answered (stands_m_goes m.progress (found_passes is_to_send ms m found) stands_m.as_far);
-            unheard =
-                subst (λ hs. All (λ h. h.number ≢ n) hs) (sym (more.heard ∙ append-nil k.heard))
-                (All-weaker (λ h. h.number ≤ length k.sent) (λ h. h.number ≢ n) (λ h l. low h.number l) k.heard numbered.heard);
-          }, few m.progress (found_passes is_to_send ms m found) stands_m.as_far);
+      as_far = (
+        record {
+          out = record {
+            said =
+                ap (request_sent n) more.sent
+                ∙ ap (option_map (λ s. s.request)) (find-last (λ s. s.number) n k.sent new (All-weaker (λ s. s.number ≤ length k.sent) (λ s. s.number ≢ n) (λ s h. low s.number h) k.sent numbered.sent) refl);
+            numbered = omega (arith, longer);
+            now = ap (list_any (λ s. s.number == n)) more.sent_now ∙ any_last_of (λ s. s.number) n k.sent_now new refl;
+          };
+          rest = rest_answered (stands_m_goes m.progress (found_passes is_to_send ms m found) stands_m.as_far);
+          unheard =
+              subst (λ hs. All (λ h. h.number ≢ n) hs) (sym (more.heard ∙ append-nil k.heard))
+              (All-weaker (λ h. h.number ≤ length k.sent) (λ h. h.number ≢ n) (λ h l. low h.number l) k.heard numbered.heard);
+        },
+        few m.progress (found_passes is_to_send ms m found) stands_m.as_far,
+      );
       counted =
           let same : now.heard_now ≡ k.heard_now = more.heard_now ∙ append-nil k.heard_now in
           record {

@@ -121,3 +121,12 @@ pub record IsHeardTo (k : Known) (number : ℕ) (reply : Reply) (h : Heard) : Ty
   pub asked : request_sent number k.sent ≡ Some h.request
   pub told : h.reply ≡ reply
   pub kind : MayAnswer h.request reply
+
+-- The request may join the wave: it may go out, met no intent in the call, is none of a conflict's round, and is of none of the messages'
+-- requests.
+pub record MayJoin (k : Known) (messages : List Message) (request : Request) : Type 0 where
+  pub out : MayGoOut k request
+  pub unmet : AtLeast (IsConflictOf request) 1 k.heard_now → ⊥
+  pub no_round : round_of request ≡ None
+  pub differ : All (λ m. IsSameRequest m.request request → ⊥) messages
+  pub back : All (λ m. IsSameRequest request m.request → ⊥) messages

@@ -3,7 +3,9 @@ ghost use Rattle.std.specs.Option.{option_copied};
 ghost use Rattle.std.specs.List.{list_all, list_any};
 ghost use Rattle.pc_wave.specs.Messages.{awaits_at, came_back, conflicts_at, first_changed, first_in_conflict, goes_again, is_answered, is_awaited, is_in_conflict, is_to_send, message_to_send, step_of, step_without, wave_awaits, went_out};
 ghost use Rattle.pc_wave.specs.declared.step.Step.TheVariants as steps;
-ghost use Rattle.pc_wave.specs.Standing.{AreNumbered, HasMore, IsHeardTo, WaveStands};
+ghost use Rattle.pc_wave.specs.Due.{MadeRound, MayBeDue};
+ghost use Rattle.pc_wave.specs.Standing.{AreNumbered, HasMore, IsHeardTo, MayJoin, WaveStands};
+ghost use Rattle.pc_proto.specs.declared.reply.Reply.{Reply};
 ghost use Rattle.pc_proto.specs.declared.request.Request.{Request};
 ghost use Rattle.pc_world.specs.Known.{Known, next_number};
 ghost use Rattle.pc_world.specs.Known.Traffic.{Heard};
@@ -33,7 +35,8 @@ impl Model for Wave {
 impl Wave {
     /// A wave without messages.
     pub fn new(alloc: Global) -> Wave
-        ensures { result ≡ [] }
+        ensures made { result ≡ [] }
+        ensures stands { (k : Known) → WaveStands k result }
     {
         Wave {
             messages: Vec::new(alloc),
@@ -43,6 +46,7 @@ impl Wave {
     /// One more request is to be sent, behind the others.
     pub fn add(&mut self, request: Request) -> Result<(), NoMemory>
         ensures made { OnOk result (self.new ≡ self.old ++ message_to_send request ∷ []) }
+        ensures stands { (k : Known) → WaveStands k self.old → MayJoin k self.old request → OnOk result (WaveStands k self.new) }
     {
         self.messages.push(Message::to_send(request))?;
         Ok(())
@@ -59,6 +63,7 @@ impl Wave {
     /// the messages are delivered, until all were answered. Refused for want of memory alone.
     pub fn step(&self) -> Result<Step, NoMemory>
         ensures due { IfOk result (λ step. step ≡ step_of self.now) }
+        ensures may { (k : Known) → WaveStands k self.now → IfOk result (MayBeDue k self.now) }
     {
         match self.first_in_conflict() {
             Some(message) => message.step(),
@@ -159,6 +164,7 @@ impl Wave {
     /// The round of the conflict that the message of this number met was made: the message is to be sent again.
     pub fn again(&mut self, number: u64)
         ensures made { self.new ≡ first_changed (conflicts_at number) goes_again self.old }
+        ensures stands { (k now : Known) (conflict : Reply) → WaveStands k self.old → step_of self.old ≡ steps.Round number conflict → MadeRound k now conflict → WaveStands now self.new }
     {
         if let Some(place) = self.place_in_conflict(number) {
             self.messages[place].go_again();
