@@ -1,4 +1,5 @@
 -- Why a wave goes on standing.
+pub mod Awaiting
 pub mod Changed
 pub mod Dues
 pub mod Hearing

@@ -1,4 +1,4 @@
-ghost use Rattle.std.specs.Prelude.{◌≡◌, ℕ, true, ◌++◌, [], ◌∷◌, find, IfOk, OnOk, position};
+ghost use Rattle.std.specs.Prelude.{◌≡◌, ℕ, true, false, ◌==◌, ◌||◌, ◌&&◌, not, ◌++◌, [], ◌∷◌, find, IfOk, OnOk, position};
 ghost use Rattle.std.specs.Option.{option_copied};
 ghost use Rattle.std.specs.List.{list_all, list_any};
 ghost use Rattle.pc_wave.specs.Messages.{awaits_at, came_back, conflicts_at, first_changed, first_in_conflict, goes_again, is_answered, is_awaited, is_in_conflict, is_to_send, message_to_send, step_of, step_without, wave_awaits, went_out};
@@ -128,6 +128,7 @@ impl Wave {
     /// The first message that is to be sent went out under this number.
     pub fn sent(&mut self, number: u64)
         ensures made { self.new ≡ first_changed is_to_send (went_out number) self.old }
+        ensures awaited { (request : Request) (other : ℕ) → step_of self.old ≡ steps.Send request → wave_awaits other self.new ≡ (number == other || wave_awaits other self.old) }
         ensures stands { (k now : Known) (range : ℕ) (request : Request) → WaveStands k self.old → AreNumbered k → step_of self.old ≡ steps.Send request → number ≡ next_number k → HasMore k now (record { number = number; range = range; request = request } ∷ []) [] → WaveStands now self.new }
     {
         if let Some(place) = self.place_to_send() {
@@ -146,6 +147,7 @@ impl Wave {
     /// This was replied to the message of this number.
     pub fn heard(&mut self, number: u64, reply: Reply)
         ensures made { self.new ≡ first_changed (awaits_at number) (came_back number reply) self.old }
+        ensures awaited { (k : Known) (other : ℕ) → WaveStands k self.old → wave_awaits number self.old ≡ true → wave_awaits other self.new ≡ (wave_awaits other self.old && not (number == other)) }
         ensures stands { (k now : Known) (h : Heard) → WaveStands k self.old → wave_awaits number self.old ≡ true → IsHeardTo k number reply h → HasMore k now [] (h ∷ []) → WaveStands now self.new }
     {
         if let Some(place) = self.place_awaited(number) {
@@ -164,6 +166,7 @@ impl Wave {
     /// The round of the conflict that the message of this number met was made: the message is to be sent again.
     pub fn again(&mut self, number: u64)
         ensures made { self.new ≡ first_changed (conflicts_at number) goes_again self.old }
+        ensures awaited { (conflict : Reply) (other : ℕ) → step_of self.old ≡ steps.Round number conflict → wave_awaits other self.new ≡ false }
         ensures stands { (k now : Known) (conflict : Reply) → WaveStands k self.old → step_of self.old ≡ steps.Round number conflict → MadeRound k now conflict → WaveStands now self.new }
     {
         if let Some(place) = self.place_in_conflict(number) {

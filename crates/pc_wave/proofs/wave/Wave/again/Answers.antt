@@ -1,7 +1,8 @@
-use Rattle.std.proofs.Common.{sym, subst}
+use Rattle.std.proofs.Common.{sym, subst, ap, ◌∙◌}
+use Rattle.pc_wave.proofs.Awaiting.{again_awaits}
 use Rattle.pc_wave.proofs.Places.{set_found, set_none}
 use Rattle.pc_wave.proofs.Rounds.{wave_again}
-use Rattle.pc_wave.specs.Messages.{conflicts_at, goes_again}
+use Rattle.pc_wave.specs.Messages.{conflicts_at, goes_again, wave_awaits}
 use Rattle.pc_wave.specs.Standing.{WaveStands}
 use Rattle.pc_wave.proofs.wave.Wave.again.Goals as goal
 
@@ -20,3 +21,9 @@ returns-in_default-clause-made c = set_none (conflicts_at c.args.number) goes_ag
 pub returns-in_default-clause-stands : goal.returns-in_default-clause-stands
 returns-in_default-clause-stands c k now conflict w due made =
     subst (λ ms. WaveStands now ms) (sym (returns-in_default-clause-made c)) (wave_again k now c.args.self.now c.args.number conflict w due made)
+
+pub returns-in-Some-clause-awaited : goal.returns-in-Some-clause-awaited
+returns-in-Some-clause-awaited c conflict other due = ap (wave_awaits other) (returns-in-Some-clause-made c) ∙ again_awaits c.args.number other conflict c.args.self.now due
+
+pub returns-in_default-clause-awaited : goal.returns-in_default-clause-awaited
+returns-in_default-clause-awaited c conflict other due = ap (wave_awaits other) (returns-in_default-clause-made c) ∙ again_awaits c.args.number other conflict c.args.self.now due

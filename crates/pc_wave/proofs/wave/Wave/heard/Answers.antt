@@ -1,7 +1,8 @@
-use Rattle.std.proofs.Common.{sym, subst}
+use Rattle.std.proofs.Common.{sym, subst, ap, ◌∙◌}
+use Rattle.pc_wave.proofs.Awaiting.{heard_awaits}
 use Rattle.pc_wave.proofs.Hearing.{wave_heard}
 use Rattle.pc_wave.proofs.Places.{set_found, set_none}
-use Rattle.pc_wave.specs.Messages.{awaits_at, came_back}
+use Rattle.pc_wave.specs.Messages.{awaits_at, came_back, wave_awaits}
 use Rattle.pc_wave.specs.Standing.{WaveStands}
 use Rattle.pc_wave.proofs.wave.Wave.heard.Goals as goal
 
@@ -21,3 +22,9 @@ returns-in_default-clause-made c =
 pub returns-in_default-clause-stands : goal.returns-in_default-clause-stands
 returns-in_default-clause-stands c k now h w waited is more =
     subst (λ ms. WaveStands now ms) (sym (returns-in_default-clause-made c)) (wave_heard k now c.args.self.now c.args.number c.args.reply h w waited is more)
+
+pub returns-in-Some-clause-awaited : goal.returns-in-Some-clause-awaited
+returns-in-Some-clause-awaited c k other w waited = ap (wave_awaits other) (returns-in-Some-clause-made c) ∙ heard_awaits c.args.number other c.args.reply k c.args.self.now w waited
+
+pub returns-in_default-clause-awaited : goal.returns-in_default-clause-awaited
+returns-in_default-clause-awaited c k other w waited = ap (wave_awaits other) (returns-in_default-clause-made c) ∙ heard_awaits c.args.number other c.args.reply k c.args.self.now w waited
