@@ -1,6 +1,6 @@
 -- Where nothing is staged, a range answers each request as the request may be answered.
 use Rattle.std.proofs.Common.{◌≡◌, ℕ, Bool, true, false, ◌&&◌, not, nat_le, if◌then◌else◌, List, [], filter, Option, None, Some, IfSome, refl, ap, ◌∙◌}
-use Rattle.std.proofs.lemmas.Bool.{and_parts}
+use Rattle.std.proofs.lemmas.Bool.{and_parts, not-true}
 use Rattle.std.proofs.lemmas.List.Elements.{filter_passes, recursion_from_All}
 use Rattle.std.specs.Option.{option_map_or}
 use Rattle.std.specs.Prelude.{⊤}
@@ -83,10 +83,6 @@ module _ (id : TxnId) where
       by : (b : Bool) → IfSome (if b then Some e else Some best) IsAnothersThere
       by true = k
       by false = h
-
-  not-true : (b : Bool) → not b ≡ true → b ≡ false
-  not-true true h = absurd cc
-  not-true false h = refl
 
   first-differs : (span : Span) (ts : ℕ) (intents : List (List ℕ × Intent)) → IfSome (first_other span ts id intents) IsAnothersThere
   first-differs span ts intents =

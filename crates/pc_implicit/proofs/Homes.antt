@@ -1,9 +1,9 @@
 -- What the range of a transaction's anchor has of it.
-use Rattle.std.proofs.Common.{◌≡◌, ℕ, ◌≤◌, ◌⊎◌, inl, inr, List, [], ◌∷◌, ◌++◌, Option, None, Some, refl, sym, ap, subst, ◌∙◌, arith}
+use Rattle.std.proofs.Common.{◌≡◌, ℕ, ◌≤◌, List, [], ◌∷◌, ◌++◌, Option, None, Some, refl, sym, ap, subst, ◌∙◌, arith}
 use Rattle.pc_base.specs.declared.entry.Entry.{Entry}
 use Rattle.pc_base.specs.declared.transaction.TxnId.{TxnId}
 use Rattle.pc_implicit.proofs.Anchored.{anchor_stays}
-use Rattle.pc_implicit.proofs.Commits.{ByRecord, ByTell, decided_is_committed, why_committed}
+use Rattle.pc_implicit.proofs.Commits.{decided_is_committed}
 use Rattle.pc_implicit.proofs.Lift.{over}
 use Rattle.pc_implicit.proofs.Views.{Stands, places_go_on}
 use Rattle.pc_implicit.specs.Decided.{decision, time_of}
@@ -16,8 +16,6 @@ use Rattle.pc_world.specs.After.{place_at}
 use Rattle.pc_world.specs.Committed.{IsCommitted, anchor_in}
 use Rattle.pc_world.specs.Local.{Head}
 use Rattle.pc_world.specs.RangeOf.{range_of}
-use Rattle.pc_world.specs.Run.{IsRun}
-use Rattle.pc_world.specs.Unstaged.{NothingIsStaged}
 
 module _ (head : Head) (id : TxnId) where
   -- of a transaction that has this anchor
@@ -54,12 +52,3 @@ module _ (head : Head) (id : TxnId) where
       by : (o : Option (List ℕ)) → anchor_in id history ≡ o → decision (place_under head id history o) ≡ Some (status_of standings.Committed epoch ts) → IsCommitted head history id ts
       by None is decided = absurd cc
       by (Some anchor) is decided = decided_is_committed head history id ts (record { anchor = anchor; anchored = is; epoch = epoch; decided = decided })
-
-  -- what is committed it has decided, or there is no anchor
-  pub committed_home : (history : List (Entry Event)) → IsRun head history → NothingIsStaged history → (ts : ℕ) → IsCommitted head history id ts
-      → ((epoch : ℕ) × (decision (home_of head id history) ≡ Some (status_of standings.Committed epoch ts))) ⊎ (anchor_in id history ≡ None)
-  committed_home history run only ts is =
-      elim (why_committed head history run only id ts is) [
-        | ByRecord d sent ↦ inl (d.epoch, ap decision (home_is history d.anchor d.anchored) ∙ d.decided)
-        | ByTell none told ↦ inr none
-      ]

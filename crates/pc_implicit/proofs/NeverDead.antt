@@ -8,6 +8,7 @@ use Rattle.pc_base.specs.declared.actor.ActorId.{ActorId}
 use Rattle.pc_base.specs.declared.actor.ActorId.TheVariants as actors
 use Rattle.pc_base.specs.declared.entry.Entry.{Entry}
 use Rattle.pc_base.specs.declared.transaction.TxnId.{TxnId}
+use Rattle.pc_implicit.proofs.CommitsStay.{StaysCommitted, commits_on, none_refuted}
 use Rattle.pc_implicit.proofs.Did.{session_at}
 use Rattle.pc_implicit.proofs.EvaluatedAt.{goes_to}
 use Rattle.pc_implicit.proofs.FinalMarks.{marks_final}
@@ -17,7 +18,7 @@ use Rattle.pc_implicit.proofs.HeardViews.{so_of, undecided_from}
 use Rattle.pc_implicit.proofs.Homes.{home_is, home_on}
 use Rattle.pc_implicit.proofs.Lift.{over}
 use Rattle.pc_implicit.proofs.Metas.{subject_anchored}
-use Rattle.pc_implicit.proofs.Presence.{refuted_absent, refuted_more, staged_along}
+use Rattle.pc_implicit.proofs.Presence.{refuted_more, staged_along}
 use Rattle.pc_implicit.proofs.StagesRefuted.{refutes_one, stage_passes}
 use Rattle.pc_implicit.proofs.StageWords.{CommitsBy, SomeRefuted, StagesAs, WasRefuted}
 use Rattle.pc_implicit.proofs.Views.{Stands, places_go_on, stands-itself, stands-on, subject-is}
@@ -125,12 +126,6 @@ unsettled-view id request reply h =
     by None h = absurd cc
     by (Some view) h = (view, refl, un (is_final_view view) h)
 
--- What is committed by a stage is so in every longer run, or it is decided as the stage says.
-abbrev pub CommitsGoOn : Head → Type 0
-CommitsGoOn head =
-    (front back : List (Entry Event)) → IsRun head (front ++ back) → (s : SentStage) → CommitsBy head front s
-    → CommitsBy head (front ++ back) s ⊎ ((epoch : ℕ) × (decision (home_of head s.meta.id (front ++ back)) ≡ Some (status_of standings.Committed epoch s.ts)))
-
 module _ (head : Head) where
   -- a transaction's record over a longer history
   pub home_along : (id : TxnId) (front back : List (Entry Event)) → Stands (home_of head id front) (home_of head id (front ++ back))
@@ -139,7 +134,7 @@ module _ (head : Head) where
       subst (λ h. Stands (home_of head id front) (home_of head id h)) (append_assoc front (e ∷ []) es)
       (stands-on (home_of head id front) (home_of head id (front ++ e ∷ [])) (home_of head id ((front ++ e ∷ []) ++ es)) (home_on head id front e) (home_along id (front ++ e ∷ []) es))
 
-  marks-at-home : (id : TxnId) (history : List (Entry Event)) (m : Status) → home_of head id history ≡ Marked m → is_final m.standing ≡ true
+  pub marks-at-home : (id : TxnId) (history : List (Entry Event)) (m : Status) → home_of head id history ≡ Marked m → is_final m.standing ≡ true
   marks-at-home id history m is = by (anchor_in id history) is
     where
       by : (o : Option (List ℕ)) → place_under head id history o ≡ Marked m → is_final m.standing ≡ true
@@ -158,21 +153,16 @@ module _ (head : Head) where
       let there : sent.range ≡ range_of head.splits s.meta.anchor = goes_to head history run sent.send sent.listed sent.number sent.range (stage_request s) sent.sends in
       home_is head s.meta.id history a.anchor a.anchored ∙ ap (λ r. place_at head r s.meta.id history) (sym a.there ∙ there)
 
-  -- while a transaction is committed by a stage, none of its writes is refuted
-  none-refuted : (history : List (Entry Event)) → IsRun head history → (s : SentStage) → CommitsBy head history s → SomeRefuted history s → ⊥
-  none-refuted history run s c some =
-      refuted_absent head history run s some.write (ap decision c.home ∙ staged-undecided s c.r c.stages) some.refuted (c.present some.write some.listed)
-
-module _ (head : Head) (go_on : CommitsGoOn head) (front back : List (Entry Event)) (run : IsRun head (front ++ back)) (s : SentStage) (c : CommitsBy head front s) where
+module _ (head : Head) (front back : List (Entry Event)) (run : IsRun head (front ++ back)) (s : SentStage) (c : CommitsBy head front s) where
   run-first : IsRun head front
   run-first = run_front head front back run
 
   -- it is so in each beginning that is longer, or decided
-  later-so : (now later rest : List (Entry Event)) → front ++ back ≡ now ++ later → now ≡ front ++ rest → CommitsBy head now s ⊎ ((epoch : ℕ) × (decision (home_of head s.meta.id now) ≡ Some (status_of standings.Committed epoch s.ts)))
+  later-so : (now later rest : List (Entry Event)) → front ++ back ≡ now ++ later → now ≡ front ++ rest → StaysCommitted head now s
   later-so now later rest whole longer =
       let run_now : IsRun head now = run_front head now later (subst (IsRun head) whole run) in
-      subst (λ h. CommitsBy head h s ⊎ ((epoch : ℕ) × (decision (home_of head s.meta.id h) ≡ Some (status_of standings.Committed epoch s.ts)))) (sym longer)
-      (go_on front rest (subst (IsRun head) longer run_now) s c)
+      subst (λ h. StaysCommitted head h s) (sym longer)
+      (commits_on head front rest (subst (IsRun head) longer run_now) s c)
 
   -- its own reply never says that the record went another way
   not-past : (h : Heard) → Contains (session_at head s.meta.id (front ++ back)).heard h → RefutesRecord s h → ⊥
@@ -232,11 +222,11 @@ module _ (head : Head) (go_on : CommitsGoOn head) (front back : List (Entry Even
       let run_then : IsRun head first = run_front head first a.later (subst (IsRun head) first_whole run) in
       elim (either_front front back first a.later first_whole) [
         | inl longer ↦ elim (later-so first a.later longer.rest first_whole longer.whole) [
-          | inl still ↦ none-refuted head first run_then s still some
+          | inl still ↦ none_refuted head first run_then s still some
           | inr decided ↦ let both : None ≡ Some (status_of standings.Committed decided.0 s.ts) = sym open_first ∙ decided.1 in cc both
         ]
         | inr shorter ↦
-            none-refuted head front run-first s c
+            none_refuted head front run-first s c
             (record { write = some.write; listed = some.listed; refuted = subst (λ x. WasRefuted x s some.write) (sym shorter.whole) (refuted-along head first shorter.rest s some.write some.refuted) })
       ]
 

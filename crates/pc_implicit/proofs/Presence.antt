@@ -178,7 +178,7 @@ module _ (head : Head) (history : List (Entry Event)) (run : IsRun head history)
       })
 
   newer : (w : List ℕ × ℕ) → HasListed s w (own_intent head s.meta.id w.0 history)
-      → (l : IsLaidOver history s.meta.id w.0 (own_intent head s.meta.id w.0 history) (own_intent head s.meta.id w.0 (history ++ e ∷ []))) → IsNewerPut s w l.meta l.seq
+      → (l : IsLaidOver history e s.meta.id w.0 (own_intent head s.meta.id w.0 history) (own_intent head s.meta.id w.0 (history ++ e ∷ []))) → IsNewerPut s w l.meta l.seq
   newer w has l =
       let i = has.0 in
       let free = not_overtaken l.meta l.seq i (ap (overtaken l.meta l.seq) (sym has.1) ∙ l.first) in

@@ -1,4 +1,4 @@
--- Laws of runs: what a range decided stays decided; where nothing is staged, no two decisions differ; and what a range can answer.
+-- Laws of runs: what a range decided stays decided; no two decisions differ; and what a range can answer.
 use Rattle.std.specs.Prelude.{◌≡◌, ℕ, ◌≤◌, true, false, Some, List, ◌∷◌, ◌++◌}
 use Rattle.pc_base.specs.declared.actor.ActorId.TheVariants as actors
 use Rattle.pc_base.specs.declared.entry.Entry.{Entry}
@@ -66,16 +66,16 @@ FinalViewsStay =
     → Answers head before range id one e → Answers head (before ++ e ∷ between) range id other f
     → is_final_view one ≡ true → (is_final_view other ≡ true) × Agree one other
 
--- Where nothing is staged, no two decisions differ.
+-- No two decisions differ.
 abbrev pub DecisionsDoNotDiffer : Type 0
 DecisionsDoNotDiffer =
-    (head : Head) (history : List (Entry Event)) → IsRun head history → NothingIsStaged history → HasOneDecision head history
+    (head : Head) (history : List (Entry Event)) → IsRun head history → HasOneDecision head history
 
--- Where nothing is staged, one entry makes at most one transaction committed.
+-- Commit points differ: one entry makes at most one transaction committed.
 abbrev pub CommitPointsDiffer : Type 0
 CommitPointsDiffer =
     (head : Head) (history : List (Entry Event)) (id other : TxnId) (ts later : ℕ)
-    → IsRun head history → NothingIsStaged history → IsCommitted head history id ts → IsCommitted head history other later
+    → IsRun head history → IsCommitted head history id ts → IsCommitted head history other later
     → commit_point head history id ≡ commit_point head history other → id ≡ other
 
 -- Where nothing is staged, a range answers each request as the request may be answered, also one that was never sent.

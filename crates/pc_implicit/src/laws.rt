@@ -30,12 +30,12 @@ pub fn final_views_stay()
     ensures { FinalViewsStay }
 {}
 
-/// A law: where nothing is staged, no two decisions differ.
+/// A law: no two decisions differ.
 pub fn decisions_do_not_differ()
     ensures { DecisionsDoNotDiffer }
 {}
 
-/// A law: where nothing is staged, one entry makes at most one transaction committed.
+/// A law: one entry makes at most one transaction committed.
 pub fn commit_points_differ()
     ensures { CommitPointsDiffer }
 {}

@@ -1,5 +1,4 @@
--- Laws of runs in which nothing is staged: the commit order is that of the committed transactions, and in it they are one legal
--- history.
+-- Laws of runs: the commit order is that of the committed transactions, and in it they are one legal history.
 use Rattle.std.specs.List.Sorted.{IsStrictlySortedBy}
 use Rattle.std.specs.Prelude.{◌≡◌, ℕ, All, List, [], ◌∷◌, Contains, filter, map}
 use Rattle.pc_base.specs.declared.entry.Entry.{Entry}
@@ -12,11 +11,10 @@ use Rattle.pc_world.specs.Decisions.{TellsCommit}
 use Rattle.pc_world.specs.Legal.{IsLegal}
 use Rattle.pc_world.specs.Local.{Head}
 use Rattle.pc_world.specs.Run.{IsRun}
-use Rattle.pc_world.specs.Unstaged.{NothingIsStaged}
 
--- Where nothing is staged, the history of a run is legal.
+-- The history of a run is legal.
 abbrev pub HistoriesAreLegal : Type 0
-HistoriesAreLegal = (head : Head) (history : List (Entry Event)) → IsRun head history → NothingIsStaged history → IsLegal head history
+HistoriesAreLegal = (head : Head) (history : List (Entry Event)) → IsRun head history → IsLegal head history
 
 -- The transaction stands in the commit order just once, with this timestamp and its commit point.
 abbrev pub StandsOnce : Head → List (Entry Event) → TxnId → ℕ → Type 0
@@ -30,13 +28,13 @@ pub record OrdersCommits (head : Head) (history : List (Entry Event)) : Type 0 w
   pub others : All (λ e. IsCommitted head history e.1 e.0.ts) (commit_order head history)
   pub sorted : IsStrictlySortedBy rank_cmp (map (λ e. e.0) (commit_order head history))
 
--- Where nothing is staged, the commit order of a run is that of its committed transactions.
+-- The commit order of a run is that of its committed transactions.
 abbrev pub CommitsAreOrdered : Type 0
-CommitsAreOrdered = (head : Head) (history : List (Entry Event)) → IsRun head history → NothingIsStaged history → OrdersCommits head history
+CommitsAreOrdered = (head : Head) (history : List (Entry Event)) → IsRun head history → OrdersCommits head history
 
--- There a transaction that was told committed stands in the order once, with the timestamp that was told.
+-- A transaction that was told committed stands in it once, with the timestamp that was told.
 abbrev pub CommittedOnce : Type 0
 CommittedOnce =
     (head : Head) (history : List (Entry Event)) (e : Entry Event) (id : TxnId) (ts : ℕ)
-    → IsRun head history → NothingIsStaged history → Contains history e → TellsCommit id ts e.event
+    → IsRun head history → Contains history e → TellsCommit id ts e.event
     → StandsOnce head history id ts

@@ -1,4 +1,4 @@
-//! Laws of runs in which nothing is staged: the order of their committed transactions, and that in it they are one legal history.
+//! Laws of runs: the order of their committed transactions, and that in it they are one legal history.
 //! Each is a function that does nothing, whose contract is the law.
 #![tactic(auto)]
 
