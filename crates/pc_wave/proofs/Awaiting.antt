@@ -1,5 +1,5 @@
 -- Which messages of a wave are waited for.
-use Rattle.std.proofs.Common.{◌≡◌, ℕ, Bool, true, false, cond, not, ◌&&◌, ◌||◌, ◌==◌, inl, List, [], ◌∷◌, find, None, Some, refl, sym, ap, ◌∙◌, subst, All, IsTrue, ◌<◌}
+use Rattle.std.proofs.Common.{◌≡◌, ℕ, Bool, true, false, cond, not, ◌&&◌, ◌||◌, ◌==◌, inl, List, [], ◌∷◌, find, Some, refl, sym, ap, ◌∙◌, subst, All, IsTrue, ◌<◌}
 use Rattle.std.specs.List.{list_all, list_any}
 use Rattle.std.proofs.lemmas.Bool.{eqb-true}
 use Rattle.std.proofs.lemmas.List.Elements.{All-cons, All-head, All-nil, All-tail}

@@ -1,10 +1,9 @@
 -- What is due of a wave that stands may come.
-use Rattle.std.proofs.Common.{◌≡◌, ℕ, ◌+◌, ◌≤◌, ◌<◌, nat_le, Bool, true, false, cond, ◌&&◌, inl, List, [], ◌∷◌, ◌++◌, find, None, Some, Option, refl, sym, ap, ◌∙◌, subst, All, IsTrue, IfOk, Result, Ok, Err, arith}
+use Rattle.std.proofs.Common.{◌≡◌, ℕ, ◌+◌, ◌≤◌, ◌<◌, nat_le, Bool, true, false, cond, ◌&&◌, inl, List, [], ◌∷◌, find, None, Some, Option, refl, sym, ap, ◌∙◌, subst, All, IsTrue, IfOk, Result, Ok, Err, arith}
 use Rattle.std.specs.List.{list_all, list_any}
 use Rattle.std.proofs.lemmas.Bool.{leb-false, leb-true}
 use Rattle.std.proofs.lemmas.List.Elements.{All-cons, All-head, All-nil, All-tail, All-weaker}
 use Rattle.pc_base.specs.declared.limits.TheConstants.{MOST_CONFLICTS}
-use Rattle.pc_base.specs.declared.transaction.TxnId.{TxnId}
 use Rattle.pc_lists.proofs.Same.{same_txn-self}
 use Rattle.pc_proto.specs.declared.meta.TxnMeta.{TxnMeta}
 use Rattle.pc_proto.specs.declared.reply.Reply.{Reply}
@@ -19,10 +18,10 @@ use Rattle.pc_wave.specs.declared.message.Message.{Message}
 use Rattle.pc_wave.specs.declared.message.Progress.{Progress}
 use Rattle.pc_wave.specs.declared.message.Progress.TheVariants as progresses
 use Rattle.pc_wave.specs.declared.step.Step.{Step}
-use Rattle.pc_wave.specs.Due.{IsRoundDue, MayBeDue, WasAnsweredWith}
+use Rattle.pc_wave.specs.Due.{MayBeDue, WasAnsweredWith}
 use Rattle.pc_wave.specs.Messages.{conflict_by, first_in_conflict, is_answered, is_awaited, is_in_conflict, is_to_send, progress_answered, progress_awaited, progress_in_conflict, progress_to_send, step_by, step_in, step_of}
 use Rattle.pc_wave.specs.Standing.{AreCounted, IsAsFar, MayGoOut, MessageStands, MetConflict, WaveStands}
-use Rattle.pc_world.specs.Counting.{AtLeast, LastIs}
+use Rattle.pc_world.specs.Counting.{LastIs}
 use Rattle.pc_world.specs.Follows.Eighth.{MetEighth}
 use Rattle.pc_world.specs.Known.{Known}
 use Rattle.pc_world.specs.Known.Traffic.{Heard}

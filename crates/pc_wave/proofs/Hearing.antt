@@ -1,5 +1,5 @@
 -- A message that was waited for comes back.
-use Rattle.std.proofs.Common.{◌≡◌, ◌≢◌, ℕ, ◌+◌, ◌<◌, Bool, true, false, ◌==◌, inl, inr, List, [], ◌∷◌, ◌++◌, find, None, Some, refl, sym, ap, ◌∙◌, subst, All, Any, IsTrue}
+use Rattle.std.proofs.Common.{◌≡◌, ◌≢◌, ℕ, ◌+◌, ◌<◌, Bool, true, false, ◌==◌, inl, List, [], ◌∷◌, find, Some, refl, sym, ap, ◌∙◌, subst, All, Any, IsTrue}
 use Rattle.std.specs.List.{list_any}
 use Rattle.std.proofs.lemmas.Bool.{eq-eqb, eqb-true}
 use Rattle.std.proofs.lemmas.List.{append-nil}
@@ -9,7 +9,6 @@ use Rattle.pc_base.specs.declared.limits.TheConstants.{MOST_CONFLICTS}
 use Rattle.pc_lists.proofs.Anywhere.{any_last}
 use Rattle.pc_proto.specs.declared.reply.Reply.{Reply}
 use Rattle.pc_proto.specs.declared.reply.Reply.TheVariants as replies
-use Rattle.pc_proto.specs.declared.request.Request.{Request}
 use Rattle.pc_proto.specs.Replies.{is_conflict}
 use Rattle.pc_wave.proofs.Changed.{changed_other, found_all, found_passes, found_some, pairwise_changed}
 use Rattle.pc_wave.proofs.Lists.{any_last_of, at_least-before, at_least-kept, counted_more, counted_no_more}
@@ -18,7 +17,7 @@ use Rattle.pc_wave.specs.declared.message.Message.{Message}
 use Rattle.pc_wave.specs.declared.message.Progress.{Progress}
 use Rattle.pc_wave.specs.declared.message.Progress.TheVariants as progresses
 use Rattle.pc_wave.specs.Messages.{awaits_at, came_back, came_back_by, first_changed, one_conflict_more, progress_awaits, wave_awaits}
-use Rattle.pc_wave.specs.Standing.{AreOfTwo, CameBack, HasMore, IsAsFar, IsAwaited, IsHeardTo, IsReplyAt, MessageStands, WaveStands}
+use Rattle.pc_wave.specs.Standing.{AreOfTwo, HasMore, IsAsFar, IsAwaited, IsHeardTo, IsReplyAt, MessageStands, WaveStands}
 use Rattle.pc_world.specs.Answering.{MayAnswer}
 use Rattle.pc_world.specs.Counting.{AtLeast}
 use Rattle.pc_world.specs.Follows.Resends.{AreAnsweredNow}

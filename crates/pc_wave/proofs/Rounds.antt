@@ -1,5 +1,5 @@
 -- The round of a conflict was made, and its message goes out again.
-use Rattle.std.proofs.Common.{◌≡◌, ◌≢◌, ℕ, ◌+◌, ◌≤◌, ◌<◌, nat_le, Bool, true, false, cond, ◌==◌, inl, inr, List, [], ◌∷◌, ◌++◌, find, None, Some, Option, refl, sym, ap, ◌∙◌, subst, All, Any, IsTrue, arith}
+use Rattle.std.proofs.Common.{◌≡◌, ℕ, ◌<◌, nat_le, Bool, true, false, cond, inl, inr, List, [], ◌∷◌, ◌++◌, find, None, Some, Option, refl, sym, ap, ◌∙◌, subst, All}
 use Rattle.std.specs.List.{list_all, list_any}
 use Rattle.std.proofs.lemmas.Bool.{eq-eqb, leb-false}
 use Rattle.std.proofs.lemmas.List.{append_assoc}
@@ -7,7 +7,6 @@ use Rattle.std.proofs.lemmas.List.Elements.{All-append, All-cons, All-head, All-
 use Rattle.pc_base.specs.declared.limits.TheConstants.{MOST_CONFLICTS}
 use Rattle.pc_base.specs.declared.transaction.TxnId.{TxnId}
 use Rattle.pc_proto.specs.declared.reply.Reply.{Reply}
-use Rattle.pc_proto.specs.declared.reply.Reply.TheVariants as replies
 use Rattle.pc_proto.specs.declared.request.Request.{Request}
 use Rattle.pc_proto.specs.declared.request.Request.TheVariants as requests
 use Rattle.pc_proto.specs.Replies.{holder_in}
@@ -20,12 +19,12 @@ use Rattle.pc_wave.specs.declared.step.Step.{Step}
 use Rattle.pc_wave.specs.declared.step.Step.TheVariants as steps
 use Rattle.pc_wave.specs.Due.{FollowsConflict, MadeRound}
 use Rattle.pc_wave.specs.Messages.{conflict_by, conflicts_at, first_changed, first_in_conflict, goes_again, is_answered, is_awaited, is_in_conflict, is_to_send, progress_awaited, progress_conflicts, progress_in_conflict, step_by, step_in, step_of}
-use Rattle.pc_wave.specs.Standing.{AreOfTwo, HasMore, IsAsFar, MayGoOut, MessageStands, MetConflict, WaveStands}
+use Rattle.pc_wave.specs.Standing.{AreOfTwo, IsAsFar, MessageStands, MetConflict, WaveStands}
 use Rattle.pc_world.specs.Follows.CallMessages.{IsOfRound}
 use Rattle.pc_proto.specs.Requests.{round_of}
 use Rattle.pc_world.specs.Follows.Resends.{MetConflictNow, WasFollowed}
 use Rattle.pc_world.specs.Known.{Known}
-use Rattle.pc_world.specs.Known.Traffic.{Heard, Sent}
+use Rattle.pc_world.specs.Known.Traffic.{Heard}
 use Rattle.pc_world.specs.SameRequest.{IsSameRequest}
 
 abbrev number_in : Step → ℕ

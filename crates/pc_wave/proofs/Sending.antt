@@ -1,5 +1,5 @@
 -- The first message that is to be sent goes out.
-use Rattle.std.proofs.Common.{◌≡◌, ◌≢◌, ℕ, ◌+◌, ◌≤◌, Bool, true, false, inl, inr, List, [], ◌∷◌, ◌++◌, find, length, map, None, Some, Option, refl, sym, ap, ◌∙◌, subst, arith, All, Any, IsTrue, length-append, cond, nat_le, ◌<◌, ◌==◌}
+use Rattle.std.proofs.Common.{◌≡◌, ◌≢◌, ℕ, ◌+◌, ◌≤◌, Bool, true, false, List, [], ◌∷◌, find, length, None, Some, Option, refl, sym, ap, ◌∙◌, subst, arith, All, IsTrue, length-append, cond, nat_le, ◌<◌, ◌==◌}
 use Rattle.std.specs.List.{list_all, list_any}
 use Rattle.std.specs.Option.{option_map}
 use Rattle.std.proofs.lemmas.List.{append-nil}
@@ -17,12 +17,12 @@ use Rattle.pc_wave.specs.declared.message.Progress.{Progress}
 use Rattle.pc_wave.specs.declared.message.Progress.TheVariants as progresses
 use Rattle.pc_wave.specs.declared.step.Step.{Step}
 use Rattle.pc_wave.specs.declared.step.Step.TheVariants as steps
-use Rattle.pc_wave.specs.Messages.{conflict_by, first_changed, first_in_conflict, is_answered, is_to_send, progress_to_send, step_by, step_in, step_of, step_without, went_out}
-use Rattle.pc_wave.specs.Standing.{AreAnsweredBut, AreNumbered, AreOfTwo, HasMore, IsAsFar, MessageStands, Pairwise, WaveStands}
+use Rattle.pc_wave.specs.Messages.{conflict_by, first_changed, first_in_conflict, is_answered, is_to_send, progress_to_send, step_by, step_in, step_of, went_out}
+use Rattle.pc_wave.specs.Standing.{AreAnsweredBut, AreNumbered, AreOfTwo, HasMore, IsAsFar, MessageStands, WaveStands}
 use Rattle.pc_world.specs.Counting.{AtLeast}
 use Rattle.pc_world.specs.Follows.Resends.{AreAnsweredNow}
 use Rattle.pc_world.specs.Known.{Known, next_number}
-use Rattle.pc_world.specs.Known.Traffic.{Heard, Sent, request_sent}
+use Rattle.pc_world.specs.Known.Traffic.{Sent, request_sent}
 use Rattle.pc_world.specs.SameRequest.{IsSameRequest}
 use Rattle.pc_world.specs.Tell.Refusal.{IsConflictOf, is_heard}
 

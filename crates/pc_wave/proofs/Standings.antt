@@ -1,5 +1,5 @@
 -- A message stands on while its session sends and hears what is of other requests.
-use Rattle.std.proofs.Common.{◌≡◌, ◌≢◌, ℕ, ◌+◌, ◌≤◌, Bool, true, false, ◌==◌, inl, inr, List, [], ◌∷◌, ◌++◌, find, length, None, Some, Option, refl, sym, ap, ◌∙◌, subst, arith, All, Any, IsTrue, length-append}
+use Rattle.std.proofs.Common.{◌≡◌, ◌≢◌, ℕ, ◌+◌, ◌==◌, inl, inr, List, ◌∷◌, ◌++◌, find, length, None, Some, Option, refl, sym, ap, ◌∙◌, subst, arith, All, Any, IsTrue, length-append}
 use Rattle.std.specs.List.{list_any}
 use Rattle.std.specs.Option.{option_map, option_or}
 use Rattle.std.proofs.lemmas.List.{append_assoc}
@@ -18,10 +18,11 @@ use Rattle.pc_wave.specs.declared.message.Progress.{Progress}
 use Rattle.pc_wave.specs.declared.message.Progress.TheVariants as progresses
 use Rattle.pc_wave.specs.Standing.{AreAnsweredBut, AreCounted, CameBack, HasMore, IsAsFar, IsAwaited, IsReplyAt, MayGoOut, MessageStands, MetConflict, WentOut}
 use Rattle.pc_world.specs.Counting.{AtLeast}
-use Rattle.pc_world.specs.Follows.Resends.{AreAnsweredNow, MayGoAgain, MetConflictNow, ResolvedTo, WasDone, WasFollowed, WasRefusedNow}
+use Rattle.pc_world.specs.Follows.Resends.{AreAnsweredNow, MayGoAgain, MetConflictNow, WasDone, WasFollowed, WasRefusedNow}
 use Rattle.pc_world.specs.Known.{Known}
 use Rattle.pc_world.specs.Known.Traffic.{Heard, Sent, request_sent}
 use Rattle.pc_world.specs.SameRequest.{IsSameRequest}
+use Rattle.pc_world.specs.Send.Settling.{ResolvedTo}
 use Rattle.pc_world.specs.Tell.Refusal.{IsConflictOf, is_heard}
 
 done-more : (id : TxnId) (key : List ℕ) (goal : Goal) (reply : Reply) (after more : List Heard) → WasDone id key goal reply after → WasDone id key goal reply (after ++ more)
