@@ -8,7 +8,7 @@ use Rattle.std.specs.List.{insert, position_or_len}
 use Rattle.std.specs.Ordering.{is_eq, is_lt, nat_cmp, ordering_then}
 use Rattle.pc_base.specs.declared.version.Version.{Version}
 use Rattle.pc_base.specs.Versions.{version_cmp, with_version}
-use Rattle.pc_eval.specs.Before.{is_before}
+use Rattle.pc_eval.specs.Before.{version_before}
 
 then-less : (one other : Ordering) → is_lt (ordering_then one other) ≡ (is_lt one || is_eq one && is_lt other)
 then-less Less other = refl
@@ -18,24 +18,24 @@ then-less Greater other = refl
 numbers-less : (m n : ℕ) → is_lt (nat_cmp m n) ≡ nat_lt m n
 numbers-less m n = grind (arith, common_steps)
 
-before-is : (v w : Version) → is_lt (version_cmp v w) ≡ is_before v w
+before-is : (v w : Version) → is_lt (version_cmp v w) ≡ version_before v w
 before-is v w =
     then-less (slice_cmp nat_cmp v.key w.key) (nat_cmp v.ts w.ts)
     ∙ ap (λ b. is_lt (slice_cmp nat_cmp v.key w.key) || is_eq (slice_cmp nat_cmp v.key w.key) && b) (numbers-less v.ts w.ts)
 
-placed : (v : Version) (vs : List Version) → insert vs (position_or_len (is_before v) vs) v ≡ with_version vs v
+placed : (v : Version) (vs : List Version) → insert vs (position_or_len (version_before v) vs) v ≡ with_version vs v
 placed v [] = refl
-placed v (w ∷ ws) = by (is_before v w) refl (placed v ws)
+placed v (w ∷ ws) = by (version_before v w) refl (placed v ws)
   where
-    by : (b : Bool) → is_before v w ≡ b → insert ws (position_or_len (is_before v) ws) v ≡ with_version ws v → insert (w ∷ ws) (position_or_len (is_before v) (w ∷ ws)) v ≡ with_version (w ∷ ws) v
+    by : (b : Bool) → version_before v w ≡ b → insert ws (position_or_len (version_before v) ws) v ≡ with_version ws v → insert (w ∷ ws) (position_or_len (version_before v) (w ∷ ws)) v ≡ with_version (w ∷ ws) v
     by b is rest = grind (arith, common_steps, before-is v w, is, rest)
 
-pub placed_before : (v : Version) (vs : List Version) (place : ℕ) → position (is_before v) vs ≡ Some place → insert vs place v ≡ with_version vs v
+pub placed_before : (v : Version) (vs : List Version) (place : ℕ) → position (version_before v) vs ≡ Some place → insert vs place v ≡ with_version vs v
 placed_before v vs place found = grind (arith, common_steps, placed v vs)
 
-at-end : (v : Version) (vs : List Version) → length vs ≤ position_or_len (is_before v) vs → with_version vs v ≡ vs ++ v ∷ []
+at-end : (v : Version) (vs : List Version) → length vs ≤ position_or_len (version_before v) vs → with_version vs v ≡ vs ++ v ∷ []
 at-end v [] h = refl
 at-end v (w ∷ ws) h = grind (arith, common_steps, before-is v w, at-end v ws)
 
-pub placed_last : (v : Version) (vs : List Version) → position (is_before v) vs ≡ None → with_version vs v ≡ vs ++ v ∷ []
+pub placed_last : (v : Version) (vs : List Version) → position (version_before v) vs ≡ None → with_version vs v ≡ vs ++ v ∷ []
 placed_last v vs absent = grind (arith, common_steps, at-end v vs)

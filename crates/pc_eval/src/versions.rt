@@ -2,7 +2,7 @@ ghost use Rattle.std.specs.Prelude.{◌≡◌, ◌&&◌, ◌||◌, OnErr, OnOk, 
 ghost use Rattle.pc_base.specs.Span.{key_below, same_key};
 ghost use Rattle.std.specs.Option.{option_copied};
 ghost use Rattle.pc_base.specs.Versions.{above_newest, first_between, later, newest, sooner, visible, with_version};
-ghost use Rattle.pc_eval.specs.Before.{is_before};
+ghost use Rattle.pc_eval.specs.Before.{version_before};
 ghost use Rattle.pc_world.specs.Stamps.{AllBelowGreatest};
 
 use pc_base::{Key, NoMemory, Span, Timestamp, Version};
@@ -22,7 +22,7 @@ pub(crate) fn add(versions: &mut Vec<Version>, version: Version) -> Result<(), N
 
 /// The place of the first version above this one.
 fn place_of(versions: &[Version], version: &Version) -> Option<usize>
-    ensures { result ≡ position (is_before version.now) versions.now }
+    ensures { result ≡ position (version_before version.now) versions.now }
 {
     versions.iter().position(|kept| is_sooner(version, kept))
 }
@@ -105,7 +105,7 @@ fn sooner<'a>(best: Option<&'a Version>, version: &'a Version) -> Option<&'a Ver
 
 /// Whether the version is of a lesser key than the other, or of a lesser timestamp at the same key.
 fn is_sooner(version: &Version, other: &Version) -> bool
-    ensures { result ≡ is_before version.now other.now }
+    ensures { result ≡ version_before version.now other.now }
 {
     version.key < other.key || version.key == other.key && version.ts < other.ts
 }

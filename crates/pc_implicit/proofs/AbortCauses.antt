@@ -1,6 +1,7 @@
 -- Each abort has the cause that it names.
 use Rattle.std.proofs.Common.{◌≡◌, ℕ, ◌+◌, true, inl, inr, List, [], ◌∷◌, ◌++◌, Option, None, Some, Contains, refl, sym, ap, subst, ◌∙◌}
 use Rattle.std.proofs.lemmas.List.{append_assoc}
+use Rattle.pc_implicit.proofs.StagedAs.{staged_along}
 use Rattle.pc_base.specs.declared.actor.ActorId.TheVariants as actors
 use Rattle.pc_base.specs.declared.entry.Entry.{Entry}
 use Rattle.pc_base.specs.declared.transaction.Priority.{Priority}
@@ -17,7 +18,6 @@ use Rattle.pc_implicit.proofs.HeardViews.{replied_of, so_of}
 use Rattle.pc_implicit.proofs.HomeOver.{ChangesPlace, home_over}
 use Rattle.pc_implicit.proofs.Homes.{home_is, home_on}
 use Rattle.pc_implicit.proofs.Metas.{subject_anchored}
-use Rattle.pc_implicit.proofs.Presence.{staged_along}
 use Rattle.pc_implicit.proofs.Restarted.{restarted_along, restarted_so}
 use Rattle.pc_implicit.proofs.StagesRefuted.{listed_there}
 use Rattle.pc_implicit.proofs.StaysOrRefuted.{replied_along}

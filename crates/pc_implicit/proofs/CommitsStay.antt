@@ -1,6 +1,7 @@
 -- What is committed stays so, at that timestamp and no other.
 use Rattle.std.proofs.Common.{◌≡◌, ℕ, ◌⊎◌, inl, inr, List, [], ◌∷◌, ◌++◌, Some, refl, sym, subst, ◌∙◌}
 use Rattle.std.proofs.lemmas.List.{append-nil, append_assoc}
+use Rattle.pc_implicit.proofs.StagedAs.{staged_along}
 use Rattle.pc_base.specs.declared.entry.Entry.{Entry}
 use Rattle.pc_base.specs.declared.transaction.TxnId.{TxnId}
 use Rattle.pc_history.proofs.Histories.{fine_after-back}
@@ -8,7 +9,7 @@ use Rattle.pc_history.specs.History.{IsFineAfter, MayFollow}
 use Rattle.pc_implicit.proofs.Because.{because, commits_by_is}
 use Rattle.pc_implicit.proofs.Commits.{told_stays}
 use Rattle.pc_implicit.proofs.Homes.{home_commits, home_on}
-use Rattle.pc_implicit.proofs.Presence.{refuted_absent, staged_along, staged_writes_stay}
+use Rattle.pc_implicit.proofs.Presence.{refuted_absent, staged_writes_stay}
 use Rattle.pc_implicit.proofs.StageWords.{ByDecision, ByStaging, ByTelling, CommitsBy, NowCommitted, SomeRefuted, StillStaged}
 use Rattle.pc_implicit.proofs.StaysOrRefuted.{stays_or_refuted, staging_open}
 use Rattle.pc_implicit.specs.Decided.{decision}

@@ -58,9 +58,9 @@ use Rattle.pc_implicit.proofs.CommitsStay.{commits_stay}
 use Rattle.pc_implicit.proofs.Recovered.{recoveries_agree}
 use Rattle.pc_implicit.proofs.OneDecision.{told_committed}
 use Rattle.pc_implicit.proofs.HeardViews.{heard_decides, so_of}
-use Rattle.pc_implicit.proofs.Homes.{home_commits, home_is, home_on}
+use Rattle.pc_implicit.proofs.Homes.{home_along, home_commits, home_is, home_on}
 use Rattle.pc_implicit.proofs.Metas.{subject_anchored}
-use Rattle.pc_implicit.proofs.NeverDead.{home_along, never_dead}
+use Rattle.pc_implicit.proofs.NeverDead.{never_dead}
 use Rattle.pc_implicit.proofs.Points.{or-first, point_of, told-what}
 use Rattle.pc_implicit.proofs.Settled.{answers-commit}
 use Rattle.pc_implicit.proofs.SessionCommits.{BySend, ByStage, ByTell, Decides, IsDecidedBy, IsStill, written}

@@ -17,11 +17,10 @@ use Rattle.pc_implicit.proofs.Doing.{Does, same_or_not, told_by_row}
 use Rattle.pc_implicit.proofs.Firsts.{first_push}
 use Rattle.pc_implicit.proofs.Forward.{Has, has_more}
 use Rattle.pc_implicit.proofs.HeardViews.{so_of, view_is_so}
-use Rattle.pc_implicit.proofs.Homes.{home_is}
+use Rattle.pc_implicit.proofs.Homes.{home_along, home_is}
 use Rattle.pc_implicit.proofs.KnownOver.{IsKnownOver}
 use Rattle.pc_implicit.proofs.Metas.{place_anchored}
 use Rattle.pc_implicit.proofs.Moves.{open_is_first}
-use Rattle.pc_implicit.proofs.NeverDead.{home_along}
 use Rattle.pc_implicit.proofs.NotDead.{not_dead}
 use Rattle.pc_implicit.proofs.OpenOver.{IsOpenHere, is-commit, open_over, open_untold, opens, over-told, over-unsent, over_on}
 use Rattle.pc_implicit.proofs.Settled.{settled}

@@ -20,11 +20,11 @@ use Rattle.pc_implicit.proofs.ImplicitFails.{Fails, IsInEpoch, SinceMissed, Stay
 use Rattle.pc_implicit.proofs.LeavesBy.{ByAbort, ByCommit, ByFound, ByMissing, ByStage, Stages, leaves_by}
 use Rattle.pc_implicit.proofs.Missing.{missed_stays}
 use Rattle.pc_implicit.proofs.OwnStanding.{own_hold}
-use Rattle.pc_implicit.proofs.Presence.{is_there, refuted_absent, refuted_more, staged_along}
+use Rattle.pc_implicit.proofs.Presence.{is_there, refuted_absent, refuted_more}
 use Rattle.pc_implicit.proofs.PutsSent.{HasPut, orderly}
 use Rattle.pc_implicit.proofs.SettledNow.{own-kept, unwritten-at}
 use Rattle.pc_implicit.proofs.SettledVersions.{last-of}
-use Rattle.pc_implicit.proofs.StagedAs.{staged_more}
+use Rattle.pc_implicit.proofs.StagedAs.{staged_along}
 use Rattle.pc_implicit.proofs.StageWords.{WasRefuted}
 use Rattle.pc_implicit.proofs.StagesLast.{stages_last}
 use Rattle.pc_implicit.proofs.StagesRefuted.{listed_there}
@@ -118,7 +118,7 @@ module _ (head : Head) (s : SentStage) (history : List (Entry Event)) (run : IsR
     w = f.w;
     value = f.value;
     wrote = wrote_more head s history run e may sent f.w f.value f.wrote;
-    unproven = unproven_more head s history e run whole may (staged_more history e s sent) g f.w stays f.unproven;
+    unproven = unproven_more head s history e run whole may (staged_along history (e ∷ []) s sent) g f.w stays f.unproven;
     stays = stays;
   }
 
@@ -146,7 +146,7 @@ module _ (head : Head) (s : SentStage) (history : List (Entry Event)) (run : IsR
     unfolding whole undecided
     commits-above c epoch at decided above =
         let now = history ++ e ∷ [] in
-        let sent_now = staged_more history e s sent in
+        let sent_now = staged_along history (e ∷ []) s sent in
         let (t, mine, named, same) = the_txn head s now whole sent_now g in
         let laid_there = put-laid t s.meta.epoch f.w f.value (wrote_more head s history run e may sent f.w f.value f.wrote t mine named) (sym same) in
         fails-as f

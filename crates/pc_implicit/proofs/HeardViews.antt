@@ -1,5 +1,5 @@
 -- What was heard of a transaction is so of its record: a view stays true of it, and a reply was given as it was at some time before.
-use Rattle.std.proofs.Common.{◌≡◌, ℕ, ◌==◌, true, false, List, ◌++◌, Option, None, Some, Contains, IsTrue, refl, sym, ap, subst, ◌∙◌}
+use Rattle.std.proofs.Common.{◌≡◌, ℕ, ◌==◌, true, false, List, ◌++◌, Option, None, Some, Contains, IsTrue, sym, ap, subst, ◌∙◌}
 use Rattle.std.proofs.lemmas.Bool.{and_parts, eqb-true}
 use Rattle.std.specs.Option.{option_map_or}
 use Rattle.pc_base.specs.declared.actor.ActorId.{ActorId}
@@ -18,12 +18,10 @@ use Rattle.pc_lists.proofs.Each.{each-contains}
 use Rattle.pc_proto.specs.declared.event.Event.{Event}
 use Rattle.pc_proto.specs.declared.event.Event.TheVariants as events
 use Rattle.pc_proto.specs.declared.record.Standing.TheVariants as standings
-use Rattle.pc_proto.specs.declared.record.Status.{Status}
 use Rattle.pc_proto.specs.declared.reply.Reply.{Reply}
 use Rattle.pc_proto.specs.declared.request.Request.{Request}
 use Rattle.pc_proto.specs.declared.view.View.{View}
 use Rattle.pc_proto.specs.declared.view.View.TheVariants as views
-use Rattle.pc_proto.specs.Place.{Place}
 use Rattle.pc_proto.specs.RecordRows.Reached.{status_of}
 use Rattle.pc_proto.specs.Replies.{view_in}
 use Rattle.pc_proto.specs.Requests.{is_about, subject}
@@ -34,14 +32,6 @@ use Rattle.pc_world.specs.Known.Traffic.{Heard}
 use Rattle.pc_world.specs.Local.{Head}
 use Rattle.pc_world.specs.Run.{IsRun}
 use Rattle.pc_world.specs.Views.{WasCommitted}
-
--- what is not decided in the end was not decided before
-pub undecided_from : (p q : Place) → Stands p q → decision q ≡ None → decision p ≡ None
-undecided_from p q stands none = by (decision p) refl
-  where
-    by : (o : Option Status) → decision p ≡ o → decision p ≡ None
-    by None is = is
-    by (Some s) is = let both : None ≡ Some s = sym none ∙ stands.decided s is in absurd cc
 
 -- the view that shows a staging
 pub staging-view : (epoch ts : ℕ) (o : Option View) → option_map_or (is_staging_at epoch ts) o false ≡ true → (at : ℕ) × (writes : List (List ℕ × ℕ)) × (o ≡ Some (views.Staging epoch at writes)) × (at ≡ ts)

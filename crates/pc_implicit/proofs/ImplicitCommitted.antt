@@ -6,6 +6,8 @@ use Rattle.std.proofs.lemmas.List.{append-nil, append_assoc}
 use Rattle.std.proofs.lemmas.List.Elements.{All-contains, Contains-append_left, Contains-push, recursion_from_All}
 use Rattle.std.specs.List.{AllByRecursion as Each}
 use Rattle.std.specs.Option.{option_map_or}
+use Rattle.pc_implicit.proofs.FinalMarks.{marks_at_home}
+use Rattle.pc_implicit.proofs.Fronts.{either_front}
 use Rattle.pc_base.specs.declared.actor.ActorId.{ActorId}
 use Rattle.pc_base.specs.declared.actor.ActorId.TheVariants as actors
 use Rattle.pc_base.specs.declared.entry.Entry.{Entry}
@@ -21,23 +23,22 @@ use Rattle.pc_implicit.proofs.FailsSteps.{fails_on}
 use Rattle.pc_implicit.proofs.FirstStages.{first_staged}
 use Rattle.pc_implicit.proofs.FoundThere.{view_stages}
 use Rattle.pc_implicit.proofs.HeardAt.{heard_at, viewed_then}
-use Rattle.pc_implicit.proofs.HeardViews.{staging-view, undecided_from}
-use Rattle.pc_implicit.proofs.Homes.{home_commits, home_on}
+use Rattle.pc_implicit.proofs.HeardViews.{staging-view}
+use Rattle.pc_implicit.proofs.Homes.{home_along, home_commits, home_on}
 use Rattle.pc_implicit.proofs.ImplicitFails.{Fails, IsInEpoch, IsUnproven, WhileStaged, in_epoch_before, own_low, the_txn}
 use Rattle.pc_implicit.proofs.Moves.{is_first, open_is_first}
-use Rattle.pc_implicit.proofs.NeverDead.{either_front, home_along, marks-at-home}
 use Rattle.pc_implicit.proofs.OwnStanding.{own_hold}
-use Rattle.pc_implicit.proofs.Presence.{is_there, present_or_fails, refuted_absent, staged_along}
+use Rattle.pc_implicit.proofs.Presence.{is_there, present_or_fails, refuted_absent}
 use Rattle.pc_implicit.proofs.ProofsNow.{ProvesNow, proven_at, proven_now}
 use Rattle.pc_implicit.proofs.PutsSent.{AreAnswers, HasPut, orderly}
 use Rattle.pc_implicit.proofs.SettledNow.{unwritten-at}
-use Rattle.pc_implicit.proofs.StagedAs.{staged_as, staged_more}
+use Rattle.pc_implicit.proofs.StagedAs.{staged_along, staged_as}
 use Rattle.pc_implicit.proofs.StagesLast.{new_last, stages_last}
 use Rattle.pc_implicit.proofs.StagesRefuted.{dead_refuted}
 use Rattle.pc_implicit.proofs.StagesSent.{has_sent_abort}
 use Rattle.pc_implicit.proofs.StageWords.{FailsSo, ImplicitIsCommitted, NowCommitted, SomeRefuted, StagesAs, StaysImplicit, StillStaged}
 use Rattle.pc_implicit.proofs.StaysOrRefuted.{staging_open, stays_or_refuted}
-use Rattle.pc_implicit.proofs.Views.{subject-is}
+use Rattle.pc_implicit.proofs.Views.{subject-is, undecided_from}
 use Rattle.pc_implicit.proofs.WriteLists.{Laid, last_low}
 use Rattle.pc_implicit.proofs.Written.{proven_cases, proven_more}
 use Rattle.pc_implicit.specs.Decided.{decision, time_of}
@@ -298,7 +299,7 @@ module _ (head : Head) (s : SentStage) where
 
   lasts-push : (history : List (Entry Event)) (e : Entry Event) → IsRun head history → MayFollow (protocol head) history e → LastsOrFails history → LastsOrFails (history ++ e ∷ [])
   lasts-push history e run may l = record {
-    sent = staged_more history e s l.sent;
+    sent = staged_along history (e ∷ []) s l.sent;
     lasts = λ g not_failed. elim (committed-at (home_of head s.meta.id (history ++ e ∷ []))) [
       | inl there ↦ NowCommitted there.0 there.1
       | inr not_there ↦
@@ -401,7 +402,7 @@ implicit_is_committed head history run t ts opened call implicit =
     let run_whole : IsRun head (front ++ a.later) = subst (IsRun head) whole run in
     let run_front_now : IsRun head front = run_front head front a.later run_whole in
     let shown = viewed_then head history run actor h a id (views.Staging t.epoch view.0 view.1) (subject-is id (subject h.request) parts.0) view.2 in
-    let r = view_stages (home_of head id front) t.epoch view.0 view.1 (marks-at-home head id front) (sym shown) in
+    let r = view_stages (home_of head id front) t.epoch view.0 view.1 (marks_at_home head id front) (sym shown) in
     let sent = staged_as head front run_front_now id r.0 r.1 r.2 in
     let s = sent.stage in
     let epoch : t.epoch ≡ s.meta.epoch = sym r.3 ∙ sym sent.epoch_is in

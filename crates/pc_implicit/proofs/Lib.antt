@@ -81,6 +81,7 @@ pub mod Recorded
 pub mod Recovered
 pub mod Refusals
 pub mod RepliedAt
+pub mod ReplyKinds
 pub mod Restarted
 pub mod RisingVersions
 pub mod Rows

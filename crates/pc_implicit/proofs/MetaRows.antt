@@ -1,7 +1,5 @@
 -- What is so of the transaction and anchor of each meta in a range and in a request stays so over evaluation, and is so in the reply.
-use Rattle.std.proofs.Common.{ℕ, Bool, true, false, ◌&&◌, ◌==◌, not, nat_le, if◌then◌else◌, List, [], ◌∷◌, filter, fold, map, Option, None, Some, IfSome}
-use Rattle.std.specs.BTreeMap.{insert_entry}
-use Rattle.std.specs.declared.cmp.Ordering.{Ordering}
+use Rattle.std.proofs.Common.{ℕ, Bool, true, false, ◌&&◌, ◌==◌, not, nat_le, if◌then◌else◌, List, [], ◌∷◌, filter, Option, None, Some, IfSome}
 use Rattle.std.specs.List.{AllByRecursion as Each}
 use Rattle.std.specs.Option.{option_map_or}
 use Rattle.std.specs.Cmp.Lexicographic.{slice_cmp}
@@ -9,7 +7,7 @@ use Rattle.std.specs.Ordering.{nat_cmp}
 use Rattle.std.specs.Prelude.{⊤}
 use Rattle.pc_base.specs.declared.transaction.TxnId.{TxnId}
 use Rattle.pc_base.specs.declared.transaction.Who.{Who}
-use Rattle.pc_base.specs.Keyed.{at, in_order}
+use Rattle.pc_base.specs.Keyed.{at}
 use Rattle.pc_base.specs.Span.{contains, key_below, same_key}
 use Rattle.pc_base.specs.Transaction.{same_txn, txn_cmp}
 use Rattle.pc_lists.proofs.Each.{each-at, each-choose, each-filter, each-insert, each-without}
@@ -35,7 +33,7 @@ use Rattle.pc_proto.specs.RecordRows.Abort.{abort}
 use Rattle.pc_proto.specs.RecordRows.Beat.{beat}
 use Rattle.pc_proto.specs.RecordRows.Commit.{commit}
 use Rattle.pc_proto.specs.RecordRows.Push.{Verdict, There, Refuse, Doubt, Do, on_verdict, push, push_verdict, pushed}
-use Rattle.pc_proto.specs.RecordRows.Reached.{activity_of, alive_at, at_epoch, is_reached, is_staged_at, status_of}
+use Rattle.pc_proto.specs.RecordRows.Reached.{activity_of, alive_at, is_reached, is_staged_at, status_of}
 use Rattle.pc_proto.specs.RecordRows.Records.{listed_metas}
 use Rattle.pc_proto.specs.RecordRows.Recover.{decided, recover}
 use Rattle.pc_proto.specs.RecordRows.Remove.{remove}

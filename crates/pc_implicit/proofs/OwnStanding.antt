@@ -1,5 +1,5 @@
 -- What a transaction wrote in its epoch stands in its intents while it is not decided.
-use Rattle.std.proofs.Common.{◌≡◌, ◌≢◌, ℕ, ◌+◌, ◌<◌, ◌≤◌, max, nat_le, Bool, true, false, cond, ◌==◌, ◌&&◌, if◌then◌else◌, inl, inr, List, [], ◌∷◌, ◌++◌, map, Option, None, Some, Contains, refl, sym, ap, subst, ◌∙◌, arith}
+use Rattle.std.proofs.Common.{◌≡◌, ◌≢◌, ℕ, ◌+◌, ◌<◌, ◌≤◌, max, nat_le, Bool, true, false, cond, ◌==◌, ◌&&◌, inl, inr, List, [], ◌∷◌, ◌++◌, map, Option, None, Some, Contains, refl, sym, ap, subst, ◌∙◌, arith}
 use Rattle.std.proofs.lemmas.Bool.{and_parts, eqb-true, leb-true}
 use Rattle.std.specs.List.{AllByRecursion as Each}
 use Rattle.pc_base.specs.declared.actor.ActorId.{ActorId}
@@ -22,7 +22,7 @@ use Rattle.pc_implicit.proofs.Recorded.{evaluated_state}
 use Rattle.pc_implicit.proofs.Runs.{reply_is}
 use Rattle.pc_implicit.proofs.Turns.{IsAnswered, IsBegun, Restarted, Turn, WentOn, Wrote, comes_from, not_session}
 use Rattle.pc_implicit.proofs.WriteLists.{Laid, alike_at, at_low, at_push, proof_of, rise_at, split_at, written_at}
-use Rattle.pc_implicit.proofs.Written.{IsFoundNow, IsRepliedNow, IsWrittenNow, found_cases, none_found, proven_cases, written_cases}
+use Rattle.pc_implicit.proofs.Written.{IsFoundNow, IsRepliedNow, IsWrittenNow, found_cases, found_is, none_found, proven_cases, written_cases}
 use Rattle.pc_implicit.specs.Decided.{decision, time_of}
 use Rattle.pc_implicit.specs.Replied.{QueryFound, WasProven}
 use Rattle.pc_implicit.specs.Writes.{OwnStand, home_of, own_intent, txns_of, writes_on}
@@ -218,12 +218,8 @@ module _ (head : Head) (history : List (Entry Event)) (run : IsRun head history)
   -- a query finds the own intent
   found-in : (at seq ts : ℕ) (by : Who) → AnswersSo (requests.Query t.id at seq ts key by) replies.Found → (i : Intent) × (own_at t.id key s.intents ≡ Some i) × (is_it at seq ts i ≡ true)
   unfolding s
-  found-in at seq ts by a = elim-found (own_at t.id key s.intents) refl (is-found (write_stands t.id at seq ts key s) a.answer)
+  found-in at seq ts by a = elim-found (own_at t.id key s.intents) refl (found_is (write_stands t.id at seq ts key s) a.answer)
     where
-      is-found : (b : Bool) → (if b then replies.Found else replies.Missing) ≡ replies.Found → b ≡ true
-      is-found true h = refl
-      is-found false h = absurd cc
-
       elim-found : (o : Option Intent) → own_at t.id key s.intents ≡ o → is_found at seq ts o ≡ true → (i : Intent) × (own_at t.id key s.intents ≡ Some i) × (is_it at seq ts i ≡ true)
       elim-found None own h = absurd cc
       elim-found (Some i) own h = (i, own, h)

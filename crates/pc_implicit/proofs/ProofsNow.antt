@@ -1,6 +1,6 @@
 -- Where a proof of a write comes from: the entry that gave it found or left the transaction's own intent with that write, no higher than the
 -- proof says.
-use Rattle.std.proofs.Common.{◌≡◌, ℕ, ◌<◌, ◌≤◌, max, nat_le, Bool, true, false, ◌==◌, ◌&&◌, if◌then◌else◌, ◌⊎◌, inl, inr, List, [], ◌∷◌, ◌++◌, Option, None, Some, refl, sym, ap, ◌∙◌, arith}
+use Rattle.std.proofs.Common.{◌≡◌, ℕ, ◌<◌, ◌≤◌, max, nat_le, true, ◌==◌, ◌&&◌, ◌⊎◌, inl, inr, List, [], ◌∷◌, ◌++◌, Option, None, Some, refl, sym, ap, ◌∙◌, arith}
 use Rattle.std.proofs.lemmas.Bool.{and_parts, eqb-true, leb-true}
 use Rattle.std.proofs.lemmas.List.{append_assoc}
 use Rattle.pc_base.specs.declared.entry.Entry.{Entry}
@@ -11,7 +11,7 @@ use Rattle.pc_implicit.proofs.OwnKeys.{LaidNow, StoodThere, laid_time, put_writt
 use Rattle.pc_implicit.proofs.OwnLaid.{Begins, Grows, grown_last, how_laid, is_overtaken}
 use Rattle.pc_implicit.proofs.Recorded.{evaluated_state}
 use Rattle.pc_implicit.proofs.Runs.{reply_is}
-use Rattle.pc_implicit.proofs.Written.{IsFoundNow, IsRepliedNow, IsWrittenNow, proven_cases}
+use Rattle.pc_implicit.proofs.Written.{IsFoundNow, IsRepliedNow, IsWrittenNow, found_is, proven_cases}
 use Rattle.pc_implicit.specs.Replied.{WasProven}
 use Rattle.pc_implicit.specs.Writes.{own_intent}
 use Rattle.pc_lists.proofs.Lists.{contains_nil}
@@ -125,12 +125,8 @@ module _ (head : Head) (history : List (Entry Event)) (run : IsRun head history)
       let r = w.replied in
       let there : r.ev.range ≡ range_of head.splits key = goes_to head history run r.ev.send r.ev.listed r.number r.ev.range (requests.Query id epoch seq ts key w.by) (r.ev.sends ∙ ap (events.Send r.number r.ev.range) r.asks) in
       let a = answers-here (requests.Query id epoch seq ts key w.by) replies.Found r there in
-      by (own_at id key s.intents) refl (is-found (write_stands id epoch seq ts key s) a.answer) a.left
+      by (own_at id key s.intents) refl (found_is (write_stands id epoch seq ts key s) a.answer) a.left
     where
-      is-found : (b : Bool) → (if b then replies.Found else replies.Missing) ≡ replies.Found → b ≡ true
-      is-found true h = refl
-      is-found false h = absurd cc
-
       by : (o : Option Intent) → own_at id key (state_at head (range_of head.splits key) history).intents ≡ o → is_found epoch seq ts o ≡ true
           → own_intent head id key (history ++ e ∷ []) ≡ own_at id key (state_at head (range_of head.splits key) history).intents → HasProven (own_intent head id key (history ++ e ∷ [])) epoch seq ts
       by None own h left = absurd cc

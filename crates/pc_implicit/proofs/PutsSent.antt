@@ -13,11 +13,10 @@ use Rattle.pc_base.specs.Span.{same_key}
 use Rattle.pc_base.specs.Transaction.{same_txn}
 use Rattle.pc_history.specs.History.{MayFollow}
 use Rattle.pc_history.specs.Own.{named_in}
-use Rattle.pc_implicit.proofs.Agreed.{agreed, open_there}
+use Rattle.pc_implicit.proofs.Agreed.{agreed, one_txn, open_there}
 use Rattle.pc_implicit.proofs.Anchored.{put_anchored}
 use Rattle.pc_implicit.proofs.Commits.{act_of}
 use Rattle.pc_implicit.proofs.Doing.{Does}
-use Rattle.pc_implicit.proofs.Moves.{one_named}
 use Rattle.pc_implicit.proofs.Turns.{IsAnswered, Restarted, Turn, WentOn, Wrote, comes_from, none-later, some-there}
 use Rattle.pc_implicit.proofs.WriteLists.{AreInTurn, Rise, alike_each, alike_on, alike_rise, alike_turn, rise_push, turn_push}
 use Rattle.pc_implicit.proofs.Written.{proven_more}
@@ -137,11 +136,11 @@ module _ (head : Head) (history : List (Entry Event)) (run : IsRun head history)
       let numbered = (agreed head history run e.actor).numbered in
       elim sent [
         | inl f ↦
-            let own : f.t ≡ t = one_named e.actor (k.begun + 1) k.txns f.t t numbered (open_there k f.t f.opened) there (ap (λ (m : TxnMeta). m.id) (sym f.whose) ∙ sym same) in
+            let own : f.t ≡ t = one_txn e.actor (k.begun + 1) k.txns f.t t numbered (open_there k f.t f.opened) there (ap (λ (m : TxnMeta). m.id) (sym f.whose) ∙ sym same) in
             let epoch : meta.epoch ≡ t.epoch = ap (λ (m : TxnMeta). m.epoch) f.whose ∙ ap (λ (x : Txn). x.epoch) own in
             by-first epoch (f.next ∙ ap (λ (x : Txn). last_seq_of x.writes + 1) own)
         | inr a ↦
-            let own : a.t ≡ t = one_named e.actor (k.begun + 1) k.txns a.t t numbered a.mine there (ap (λ (m : TxnMeta). m.id) (sym a.whose.same) ∙ sym same) in
+            let own : a.t ≡ t = one_txn e.actor (k.begun + 1) k.txns a.t t numbered a.mine there (ap (λ (m : TxnMeta). m.id) (sym a.whose.same) ∙ sym same) in
             let epoch : meta.epoch ≡ t.epoch = ap (λ (m : TxnMeta). m.epoch) a.whose.same ∙ ap (λ (x : Txn). x.epoch) own in
             by-again epoch a.w (subst (λ (x : Txn). Contains x.writes a.w) own a.written) a.same_sequence a.same_place a.same_value
       ]

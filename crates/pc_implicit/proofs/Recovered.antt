@@ -17,9 +17,9 @@ use Rattle.pc_implicit.proofs.HeardViews.{replied_of, so_of}
 use Rattle.pc_implicit.proofs.Homes.{home_commits, home_is}
 use Rattle.pc_implicit.proofs.LeavesBy.{ByAbort, ByCommit, ByFound, ByMissing, ByStage, Stages, leaves_by}
 use Rattle.pc_implicit.proofs.Metas.{subject_anchored}
-use Rattle.pc_implicit.proofs.Presence.{staged_along, staged_writes_stay}
+use Rattle.pc_implicit.proofs.Presence.{staged_writes_stay}
 use Rattle.pc_implicit.proofs.Runs.{reply_is}
-use Rattle.pc_implicit.proofs.StagedAs.{staged_as}
+use Rattle.pc_implicit.proofs.StagedAs.{staged_along, staged_as}
 use Rattle.pc_implicit.proofs.StagesRefuted.{one_staged}
 use Rattle.pc_implicit.proofs.StageWords.{CommitsBy, StagesAs}
 use Rattle.pc_implicit.proofs.StaysOrRefuted.{replied_along, staging_open}

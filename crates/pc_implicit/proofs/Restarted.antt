@@ -1,13 +1,11 @@
 -- The write that made a transaction restart was told to its session, and a refresh met it.
-use Rattle.std.proofs.Common.{◌≡◌, ℕ, Bool, true, false, cond, if◌then◌else◌, inl, inr, List, [], ◌∷◌, ◌++◌, map, Option, None, Some, Any, Contains, refl, sym, ap, subst, ◌∙◌}
+use Rattle.std.proofs.Common.{◌≡◌, ℕ, Bool, true, false, cond, if◌then◌else◌, inl, inr, List, [], ◌∷◌, ◌++◌, Option, None, Some, Any, Contains, refl, sym, ap, subst, ◌∙◌}
 use Rattle.std.proofs.lemmas.List.{append-nil, append_assoc}
 use Rattle.std.proofs.lemmas.List.Elements.{Contains-append_left, Contains-push}
 use Rattle.pc_base.specs.declared.actor.ActorId.{ActorId}
-use Rattle.pc_base.specs.declared.actor.ActorId.TheVariants as actors
 use Rattle.pc_base.specs.declared.entry.Entry.{Entry}
 use Rattle.pc_base.specs.declared.span.Span.{Span}
 use Rattle.pc_base.specs.declared.transaction.TxnId.{TxnId}
-use Rattle.pc_history.specs.History.{MayFollow}
 use Rattle.pc_history.specs.Own.{named_in}
 use Rattle.pc_implicit.proofs.Commits.{act_of}
 use Rattle.pc_implicit.proofs.Doing.{Does, same_or_not, told_by_row}
@@ -16,7 +14,7 @@ use Rattle.pc_implicit.proofs.HeardViews.{replied_of}
 use Rattle.pc_implicit.proofs.Written.{replied_more}
 use Rattle.pc_implicit.specs.Restarts.{WasRestarted}
 use Rattle.pc_lists.proofs.Each.{each-contains}
-use Rattle.pc_lists.proofs.Lists.{contains_cons, contains_head, contains_in_map, contains_nil, contains_tail}
+use Rattle.pc_lists.proofs.Lists.{contains_cons, contains_in_map, contains_nil, contains_tail}
 use Rattle.pc_proto.specs.declared.answer.Answer.{Answer}
 use Rattle.pc_proto.specs.declared.answer.Answer.TheVariants as answers
 use Rattle.pc_proto.specs.declared.event.Event.{Event}
@@ -42,7 +40,7 @@ use Rattle.pc_world.specs.Evaluation.Scan.{rows_in, scan_reply}
 use Rattle.pc_world.specs.Known.{Known, told_first, txn_begun, txns_after, txns_told}
 use Rattle.pc_world.specs.Known.Statements.{Statement}
 use Rattle.pc_world.specs.Known.Traffic.{Heard, heard_by, replies_to}
-use Rattle.pc_world.specs.Known.Transactions.{Txn, restart_told, txn_heard, txn_sent, txn_told}
+use Rattle.pc_world.specs.Known.Transactions.{Txn, txn_heard, txn_sent, txn_told}
 use Rattle.pc_world.specs.Local.{Head}
 use Rattle.pc_world.specs.RangeState.{RangeState}
 use Rattle.pc_world.specs.Run.{IsRun, protocol}

@@ -1,8 +1,9 @@
 -- What a committed transaction wrote stands over each later entry.
-use Rattle.std.proofs.Common.{◌≡◌, ℕ, ◌<◌, ◌≤◌, max, Bool, true, false, cond, inl, inr, List, [], ◌∷◌, ◌++◌, fold, Option, None, Some, Contains, sym, ap, subst, ◌∙◌, arith}
+use Rattle.std.proofs.Common.{◌≡◌, ℕ, ◌<◌, ◌≤◌, max, false, inl, inr, List, [], ◌∷◌, ◌++◌, fold, Option, None, Some, Contains, sym, ap, subst, ◌∙◌, arith}
 use Rattle.std.proofs.lemmas.List.{append-nil, append_assoc}
 use Rattle.std.proofs.lemmas.List.Elements.{Contains-append_left}
 use Rattle.std.specs.Option.{option_map}
+use Rattle.pc_implicit.proofs.StagedAs.{staged_in}
 use Rattle.pc_base.specs.declared.actor.ActorId.{ActorId}
 use Rattle.pc_base.specs.declared.actor.ActorId.TheVariants as actors
 use Rattle.pc_base.specs.declared.entry.Entry.{Entry}
@@ -25,7 +26,7 @@ use Rattle.pc_implicit.proofs.Refusals.{decided-at, not_refused}
 use Rattle.pc_implicit.proofs.Turns.{IsAnswered, Restarted, WentOn, Wrote, comes_from}
 use Rattle.pc_implicit.proofs.VersionSteps.{makes_version, version_stays}
 use Rattle.pc_implicit.proofs.WriteLists.{Laid, RiseAt, alike_at, each_low, rise_at, rise_value, written_at}
-use Rattle.pc_implicit.specs.Decided.{decision, epoch_of, time_of}
+use Rattle.pc_implicit.specs.Decided.{decision, time_of}
 use Rattle.pc_implicit.specs.Writes.{IsWholeBy, LastWriteStands, home_of, own_intent, place_under, txns_of, writes_on}
 use Rattle.pc_lists.proofs.Each.{each-contains}
 use Rattle.pc_proto.specs.declared.event.Event.{Event}
@@ -52,12 +53,11 @@ use Rattle.pc_world.specs.Local.{Head}
 use Rattle.pc_world.specs.RangeOf.{range_of}
 use Rattle.pc_world.specs.RangeState.{RangeState}
 use Rattle.pc_world.specs.Run.{IsRun, protocol}
-use Rattle.pc_world.specs.StageFate.{IsDead, IsUncommitted, SentCommit, SentStage, WasCommitRefused, commit_request, stage_request}
+use Rattle.pc_world.specs.StageFate.{IsDead, IsUncommitted, SentCommit, WasCommitRefused, commit_request, stage_request}
 use Rattle.pc_implicit.proofs.SettledNow.{IsSettled, WasAsked, WasImplied}
 use Rattle.pc_implicit.proofs.StagesKnown.{HasSent}
 use Rattle.pc_implicit.proofs.StagesSent.{has_sent_commit, has_sent_stage}
 use Rattle.pc_implicit.proofs.NeverDead.{never_dead}
-use Rattle.pc_implicit.specs.Stages.{WasStaged}
 
 asked-more : (history : List (Entry Event)) (e : Entry Event) (id : TxnId) (epoch ts : ℕ) → WasAsked history id epoch ts → WasAsked (history ++ e ∷ []) id epoch ts
 asked-more history e id epoch ts w = record {
@@ -78,16 +78,6 @@ implied-more head history e id epoch ts w = record {
   back = w.back ++ e ∷ [];
   whole = sym (append_assoc w.front w.back (e ∷ [])) ∙ ap (λ h. h ++ e ∷ []) w.whole;
   implied = w.implied;
-}
-
--- a stage that was sent was sent in every longer history
-pub staged_along : (front back history : List (Entry Event)) → front ++ back ≡ history → (s : SentStage) → WasStaged front s → WasStaged history s
-staged_along front back history whole s w = record {
-  send = w.send;
-  listed = subst (λ h. Contains h w.send) whole (Contains-append_left front back w.send w.listed);
-  number = w.number;
-  range = w.range;
-  sends = w.sends;
 }
 
 -- The range of the key evaluates one more request.
@@ -195,7 +185,7 @@ module _ (head : Head) (history : List (Entry Event)) (run : IsRun head history)
   stage-not-dead over w =
       let n = w.implied in
       let s = n.stage in
-      let sent = has_sent_stage head history run s (staged_along w.front w.back history w.whole s n.commits.sent) in
+      let sent = has_sent_stage head history run s (staged_in w.front w.back history w.whole s n.commits.sent) in
       let known : HasSent (known_at head (actors.Session id.session) history).sent (stage_request s) = subst (λ (i : TxnId). HasSent (known_at head (actors.Session i.session) history).sent (stage_request s)) n.whose sent in
       let dead : IsDead (known_at head (actors.Session s.meta.id.session) history).heard s =
       subst (λ (i : TxnId). IsDead (known_at head (actors.Session i.session) history).heard s) (sym n.whose) (over.dead s known n.whose) in

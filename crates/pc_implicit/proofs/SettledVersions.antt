@@ -2,12 +2,13 @@
 use Rattle.std.proofs.Common.{◌≡◌, ℕ, ◌<◌, ◌⊎◌, inl, inr, List, [], ◌∷◌, ◌++◌, fold, None, Some, Contains, refl, sym, ap, subst, ◌∙◌, arith}
 use Rattle.std.proofs.lemmas.List.Elements.{All-contains, recursion_from_All}
 use Rattle.std.specs.Option.{option_map}
+use Rattle.pc_implicit.proofs.StagedAs.{staged_in}
 use Rattle.pc_base.specs.declared.actor.ActorId.{ActorId}
 use Rattle.pc_base.specs.declared.actor.ActorId.TheVariants as actors
 use Rattle.pc_base.specs.declared.entry.Entry.{Entry}
 use Rattle.pc_base.specs.declared.version.Version.{Version}
 use Rattle.pc_history.specs.History.{MayFollow}
-use Rattle.pc_implicit.proofs.Agreed.{agreed}
+use Rattle.pc_implicit.proofs.Agreed.{agreed, one_txn}
 use Rattle.pc_implicit.proofs.Doing.{same_or_not}
 use Rattle.pc_implicit.proofs.Evals.{NamedMessage, of_entry, range_evaluates}
 use Rattle.pc_implicit.proofs.Fates.{fates_are_so}
@@ -16,7 +17,6 @@ use Rattle.pc_implicit.proofs.Homes.{home_commits, home_on}
 use Rattle.pc_implicit.proofs.IntentKeys.{each-found}
 use Rattle.pc_implicit.proofs.LaidIntents.{own-there}
 use Rattle.pc_implicit.proofs.Metas.{EventHas, metas_agree}
-use Rattle.pc_implicit.proofs.Moves.{one_named}
 use Rattle.pc_implicit.proofs.OwnStanding.{own_hold}
 use Rattle.pc_implicit.proofs.PutsSent.{orderly}
 use Rattle.pc_implicit.proofs.Recorded.{evaluated_state}
@@ -48,7 +48,7 @@ use Rattle.pc_world.specs.Run.{IsRun, protocol}
 use Rattle.pc_implicit.proofs.SettledNow.{IsSettled, WasAsked, WasImplied}
 use Rattle.pc_implicit.proofs.StagesSent.{staged_txn}
 use Rattle.pc_world.proofs.Prefixes.{run_induction}
-use Rattle.pc_implicit.proofs.SettledOn.{goes_on, staged_along}
+use Rattle.pc_implicit.proofs.SettledOn.{goes_on}
 
 -- The version is of a transaction that its anchor's range has decided committed at its timestamp, in the range of its key, and is the
 -- transaction's last write there.
@@ -83,7 +83,7 @@ module _ (head : Head) (history : List (Entry Event)) (run : IsRun head history)
       let on = has_more head history e (actors.Session v.id.session) v.id (o.t, o.known, o.whose) in
       let g = goes_on head history run e may v.id o.epoch v.ts o.decided before on.0 on.1 on.2 in
       let numbered = (agreed head history run (actors.Session v.id.session)).numbered in
-      let same : g.0 ≡ o.t = one_named (actors.Session v.id.session) _ (known_at head (actors.Session v.id.session) history).txns g.0 o.t numbered g.1 o.known (g.2 ∙ sym o.whose) in
+      let same : g.0 ≡ o.t = one_txn (actors.Session v.id.session) _ (known_at head (actors.Session v.id.session) history).txns g.0 o.t numbered g.1 o.known (g.2 ∙ sym o.whose) in
       record {
         epoch = o.epoch;
         decided = (home_on head v.id history e).decided (status_of standings.Committed o.epoch v.ts) o.decided;
@@ -112,7 +112,7 @@ module _ (head : Head) (history : List (Entry Event)) (run : IsRun head history)
       its-txn (inl a) = subst (λ i. Has i (txns_of head i history)) a.whose (commit_known head history run a.send a.listed a.number a.range a.meta v.ts a.locks a.sends)
       its-txn (inr w) =
           let n = w.implied in
-          subst (λ i. Has i (txns_of head i history)) n.whose (staged_txn head history run n.stage (staged_along w.front w.back history w.whole n.stage n.commits.sent))
+          subst (λ i. Has i (txns_of head i history)) n.whose (staged_txn head history run n.stage (staged_in w.front w.back history w.whole n.stage n.commits.sent))
 
       own-is : ev.range ≡ range_of head.splits v.key → (t : Txn) → t.id ≡ v.id → own_intent head t.id v.key history ≡ Some m.i
       own-is there t same =

@@ -132,13 +132,18 @@ staged_from (requests.Recover id epoch ts anchor finding) p = unless p (requests
 staged_from (requests.Remove id anchor) p = from-remove id anchor p
 staged_from request p = stays p request
 
-pub staged_more : (history : List (Entry Event)) (e : Entry Event) (s : SentStage) → WasStaged history s → WasStaged (history ++ e ∷ []) s
-staged_more history e s sent = record { send = sent.send; listed = Contains-append_left history (e ∷ []) sent.send sent.listed; number = sent.number; range = sent.range; sends = sent.sends }
+-- a stage that was sent was sent in every longer history
+pub staged_along : (front back : List (Entry Event)) (s : SentStage) → WasStaged front s → WasStaged (front ++ back) s
+staged_along front back s sent = record { send = sent.send; listed = Contains-append_left front back sent.send sent.listed; number = sent.number; range = sent.range; sends = sent.sends }
+
+-- however the longer one splits
+pub staged_in : (front back history : List (Entry Event)) → front ++ back ≡ history → (s : SentStage) → WasStaged front s → WasStaged history s
+staged_in front back history whole s sent = subst (λ h. WasStaged h s) whole (staged_along front back s sent)
 
 staged-as-more : (history : List (Entry Event)) (e : Entry Event) (id : TxnId) (epoch ts : ℕ) (writes : List (List ℕ × ℕ)) → WasStagedAs history id epoch ts writes → WasStagedAs (history ++ e ∷ []) id epoch ts writes
 staged-as-more history e id epoch ts writes as_sent = record {
   stage = as_sent.stage;
-  sent = staged_more history e as_sent.stage as_sent.sent;
+  sent = staged_along history (e ∷ []) as_sent.stage as_sent.sent;
   whose = as_sent.whose;
   epoch_is = as_sent.epoch_is;
   ts_is = as_sent.ts_is;
@@ -165,6 +170,6 @@ module _ (head : Head) where
               let sent : WasStaged history s = record { send = c.ev.send; listed = c.ev.listed; number = c.number; range = c.ev.range; sends = c.ev.sends ∙ ap (events.Send c.number c.ev.range) asks } in
               let about : subject (stage_request s) ≡ Some id = ap subject (sym asks) ∙ c.about in
               let whose : s.meta.id ≡ id = let both : Some s.meta.id ≡ Some id = about in cc both in
-              record { stage = s; sent = staged_more history e s sent; whose = whose; epoch_is = sym epoch; ts_is = sym ts; writes_are = sym writes }
+              record { stage = s; sent = staged_along history (e ∷ []) s sent; whose = whose; epoch_is = sym epoch; ts_is = sym ts; writes_are = sym writes }
         ]
       ])

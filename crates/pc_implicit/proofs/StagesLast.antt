@@ -5,10 +5,9 @@ use Rattle.std.proofs.lemmas.List.Elements.{All-contains, Contains-append_left}
 use Rattle.pc_base.specs.declared.actor.ActorId.{ActorId}
 use Rattle.pc_base.specs.declared.actor.ActorId.TheVariants as actors
 use Rattle.pc_base.specs.declared.entry.Entry.{Entry}
-use Rattle.pc_implicit.proofs.Agreed.{agreed, open_there}
+use Rattle.pc_implicit.proofs.Agreed.{agreed, one_txn, open_there}
 use Rattle.pc_implicit.proofs.Hearing.{WasSentBy, sent_is_so}
 use Rattle.pc_implicit.proofs.Metas.{subject_anchored}
-use Rattle.pc_implicit.proofs.Moves.{one_named}
 use Rattle.pc_implicit.proofs.PutsSent.{AreOrderly, orderly, puts_sent}
 use Rattle.pc_implicit.proofs.StagesKnown.{HasSent, dead_more, heard_goes_on, none_sent, sent_cases, stage_of, stage_sent}
 use Rattle.pc_implicit.proofs.StagesRefuted.{dead_refuted}
@@ -218,7 +217,7 @@ module _ (head : Head) where
               | inr now ↦ elim (stage_sent head history e may actor s now) [
                 | inl old ↦ before old
                 | inr new ↦
-                    let own : new.t ≡ c.t = one_named actor (k.begun + 1) k.txns new.t c.t (agreed head history run actor).numbered (open_there k new.t new.opened) c.there (ap (λ (m : TxnMeta). m.id) (sym new.whose.same) ∙ named) in
+                    let own : new.t ≡ c.t = one_txn actor (k.begun + 1) k.txns new.t c.t (agreed head history run actor).numbered (open_there k new.t new.opened) c.there (ap (λ (m : TxnMeta). m.id) (sym new.whose.same) ∙ named) in
                     by history e run actor s u c.t now.number now.range now.sends new own (orderly head history run actor c.t c.there) more.0 c.turn
               ]
             ]

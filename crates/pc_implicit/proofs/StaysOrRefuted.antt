@@ -1,6 +1,7 @@
 -- A staging record stays so over one more entry, or is decided committed there, or one of its writes was refuted.
 use Rattle.std.proofs.Common.{◌≡◌, ℕ, ◌<◌, ◌≤◌, ◌⊎◌, if◌then◌else◌, inl, inr, List, [], ◌∷◌, ◌++◌, None, Some, Contains, sym, ap, subst, ◌∙◌, arith}
 use Rattle.std.proofs.lemmas.List.Elements.{Contains-append_left}
+use Rattle.pc_implicit.proofs.StagedAs.{staged_in}
 use Rattle.pc_base.specs.declared.entry.Entry.{Entry}
 use Rattle.pc_base.specs.declared.transaction.TxnId.{TxnId}
 use Rattle.pc_base.specs.declared.transaction.Who.{Who}
@@ -52,15 +53,6 @@ replied_along front back history whole request reply w = record {
   told = w.told;
 }
 
-staged-so-along : (front back history : List (Entry Event)) → front ++ back ≡ history → (s : SentStage) → WasStaged front s → WasStaged history s
-staged-so-along front back history whole s w = record {
-  send = w.send;
-  listed = subst (λ h. Contains h w.send) whole (Contains-append_left front back w.send w.listed);
-  number = w.number;
-  range = w.range;
-  sends = w.sends;
-}
-
 -- A stage as which the record stages is open.
 pub staging_open : (head : Head) (history : List (Entry Event)) (s : SentStage) (r : Record) → home_of head s.meta.id history ≡ Kept r → StagesAs s r → IsOpenTo head history s
 staging_open head history s r home stages =
@@ -95,7 +87,7 @@ module _ (head : Head) (history : List (Entry Event)) (run : IsRun head history)
       (replied_of head at.before a.actor h (so_of head at.before run_before a.actor h (n, inside, here)) (requests.Query id epoch missed.seq ts key by) replies.Missing missed.asked missed.told) in
       let seen : WasStagedAs at.before id epoch ts row.writes = staging_heard head at.before run_before a.actor id epoch ts row.writes row.staging in
       let one : seen.stage ≡ s =
-      one_staged head history run s seen.stage sent (staged-so-along at.before (a ∷ at.later) history joined seen.stage seen.sent) (seen.whose ∙ whose) (seen.epoch_is ∙ epochs) (seen.ts_is ∙ times) opened in
+      one_staged head history run s seen.stage sent (staged_in at.before (a ∷ at.later) history joined seen.stage seen.sent) (seen.whose ∙ whose) (seen.epoch_is ∙ epochs) (seen.ts_is ∙ times) opened in
       let writes : row.writes ≡ s.writes = sym seen.writes_are ∙ ap (λ (x : SentStage). x.writes) one in
       let asks : requests.Query id epoch missed.seq ts key by ≡ requests.Query s.meta.id s.meta.epoch missed.seq s.ts key by = λ i. requests.Query (whose i) (epochs i) missed.seq (times i) key by in
       whole (record {

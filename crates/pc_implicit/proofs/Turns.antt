@@ -11,11 +11,10 @@ use Rattle.pc_base.specs.Span.{same_key}
 use Rattle.pc_base.specs.Transaction.{same_txn}
 use Rattle.pc_history.specs.History.{MayFollow}
 use Rattle.pc_history.specs.Own.{named_in}
-use Rattle.pc_implicit.proofs.Agreed.{IsNew, Knows, agreed, begun_next, open_there}
+use Rattle.pc_implicit.proofs.Agreed.{IsNew, Knows, agreed, begun_next, one_txn, open_there}
 use Rattle.pc_implicit.proofs.Commits.{act_of}
 use Rattle.pc_implicit.proofs.Doing.{Does, same_or_not, told_by_row}
 use Rattle.pc_implicit.proofs.Hearing.{IsSo, heard-event}
-use Rattle.pc_implicit.proofs.Moves.{one_named}
 use Rattle.pc_implicit.proofs.WriteLists.{AreAlike, IsAlike, alike-itself, alike_map, alike_themselves}
 use Rattle.pc_implicit.specs.Replied.{QueryFound, WasProven, WasReplied, WasWritten}
 use Rattle.pc_lists.proofs.Lists.{contains_cons, contains_head, contains_in_map, contains_nil, contains_tail}
@@ -95,9 +94,6 @@ Comes history e k u = IsBegun history e u ⊎ CameFrom history e k u
 pub not_session : (range session : ℕ) → actors.Range range ≡ actors.Session session → ⊥
 not_session range session h = absurd cc
 
-pub id_is : (one other : TxnId) → one.session ≡ other.session → one.number ≡ other.number → one ≡ other
-id_is one other session number = λ i. record { session = session i; number = number i }
-
 pub none-later : (most n : ℕ) (ws : List Write) → fold (λ most w. max most w.seq) most ws < n → (list_any (λ w. w.seq == n) ws ≡ false) × (most ≤ fold (λ most w. max most w.seq) most ws)
 none-later most n [] h = (refl, omega arith)
 none-later most n (w ∷ ws) h =
@@ -152,7 +148,7 @@ module _ (head : Head) (history : List (Entry Event)) (run : IsRun head history)
   first-put : (number range : ℕ) (meta : TxnMeta) (seq ts : ℕ) (key : List ℕ) (value : Option (List ℕ)) → e.event ≡ events.Send number range (requests.Put meta seq ts key value)
       → MaySendFirst k meta seq ts key value → (t u : Txn) → Contains k.txns t → meta.id ≡ t.id → u.id ≡ t.id → u.epoch ≡ t.epoch → u.writes ≡ with_put seq ts key value t.writes → Comes history e k u
   first-put number range meta seq ts key value is f t u there whose same epoch writes =
-      let own : f.t ≡ t = one_named e.actor (k.begun + 1) k.txns f.t t knows.numbered (open_there k f.t f.opened) there (ap (λ (m : TxnMeta). m.id) (sym f.whose) ∙ whose) in
+      let own : f.t ≡ t = one_txn e.actor (k.begun + 1) k.txns f.t t knows.numbered (open_there k f.t f.opened) there (ap (λ (m : TxnMeta). m.id) (sym f.whose) ∙ whose) in
       let next : seq ≡ last_seq_of t.writes + 1 = f.next ∙ ap (λ (x : Txn). last_seq_of x.writes + 1) own in
       let w : Write = record { key = key; seq = seq; value = value; asked = ts ∷ []; proofs = [] } in
       let fresh : with_put seq ts key value t.writes ≡ t.writes ++ w ∷ [] = ap (λ b. cond b (map (asked_again seq ts) t.writes) (t.writes ++ w ∷ [])) (none-later 0 seq t.writes (omega (arith, next))).0 in
@@ -192,7 +188,7 @@ module _ (head : Head) (history : List (Entry Event)) (run : IsRun head history)
       elim may [
         | inl f ↦ first-put number range meta seq ts key value is f t u there whose same epoch writes
         | inr a ↦
-            let own : a.t ≡ t = one_named e.actor (k.begun + 1) k.txns a.t t knows.numbered a.mine there (ap (λ (m : TxnMeta). m.id) (sym a.whose.same) ∙ whose) in
+            let own : a.t ≡ t = one_txn e.actor (k.begun + 1) k.txns a.t t knows.numbered a.mine there (ap (λ (m : TxnMeta). m.id) (sym a.whose.same) ∙ whose) in
             put-again seq ts key value t u there a.w (subst (λ (x : Txn). Contains x.writes a.w) own a.written) a.same_sequence same epoch writes
       ]
 

@@ -84,14 +84,6 @@ module _ (New : Write → ℕ → Type 0) where
       by true later is = (λ i. (is.seq i, is.value i) ∷ later i)
       by false later is = later
 
-  alike-last : (most : ℕ) (ws xs : List Write) → AreAlike New ws xs → fold (λ most w. max most w.seq) most xs ≡ fold (λ most w. max most w.seq) most ws
-  alike-last most [] [] a = refl
-  alike-last most [] (x ∷ xs) a = absurd a
-  alike-last most (w ∷ ws) [] a = absurd a
-  alike-last most (w ∷ ws) (x ∷ xs) a =
-      let is = a.0 in
-      ap (λ n. fold (λ most (v : Write). max most v.seq) (max most n) xs) is.seq ∙ alike-last (max most w.seq) ws xs a.1
-
   -- what is so of each write of the first is so of each of the second
   pub alike_each : (A B : Write → Type 0) → ((w x : Write) → A w → IsAlike New w x → B x) → (ws xs : List Write) → AreAlike New ws xs → Each A ws → Each B xs
   alike_each A B on [] [] a each = tt

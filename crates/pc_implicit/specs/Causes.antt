@@ -1,4 +1,4 @@
--- Why a transaction is aborted: each abort names its cause.
+-- Why a transaction is aborted: each abort names its cause. Own profile.
 use Rattle.std.specs.Prelude.{◌≡◌, ℕ, true, None, Some, List, [], ◌∷◌, ◌++◌, Contains}
 use Rattle.pc_base.specs.declared.actor.ActorId.TheVariants as actors
 use Rattle.pc_base.specs.declared.entry.Entry.{Entry}

@@ -6,6 +6,7 @@ pub mod Laws
 pub mod Outcomes
 pub mod Reads
 pub mod Replied
+pub mod ReplyKinds
 pub mod Restarts
 pub mod Stages
 pub mod Staging

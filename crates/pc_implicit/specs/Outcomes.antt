@@ -1,5 +1,5 @@
 -- The outcomes of the transactions of one history are true: what is aborted, or was told to be over, is committed nowhere in it; a call that
--- gave up left its transaction uncommitted; and each abort has the cause that it names.
+-- gave up left its transaction uncommitted; and each abort has the cause that it names. Own profile.
 use Rattle.std.specs.Prelude.{◌≡◌, ℕ, Some, List, [], ◌∷◌, ◌++◌}
 use Rattle.pc_base.specs.declared.entry.Entry.{Entry}
 use Rattle.pc_base.specs.declared.transaction.TxnId.{TxnId}

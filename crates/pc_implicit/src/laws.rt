@@ -1,4 +1,5 @@
-ghost use Rattle.pc_implicit.specs.Laws.{DecisionsStand, NothingFalls, LeftStagingsStayAway, BoundsStand, ViewsStayTrue, FinalViewsStay, DecisionsDoNotDiffer, CommitPointsDiffer, RepliesAreOfTheirKind, HoldersWereBegun, HeadsHaveHolders};
+ghost use Rattle.pc_implicit.specs.ReplyKinds.{RepliesHaveKinds};
+ghost use Rattle.pc_implicit.specs.Laws.{DecisionsStand, NothingFalls, LeftStagingsStayAway, BoundsStand, ViewsStayTrue, FinalViewsStay, DecisionsDoNotDiffer, CommitPointsDiffer, HoldersWereBegun, HeadsHaveHolders};
 
 /// A law: a final record or mark keeps its status for good.
 pub fn decisions_stand()
@@ -40,9 +41,9 @@ pub fn commit_points_differ()
     ensures { CommitPointsDiffer }
 {}
 
-/// A law: where nothing is staged, a range answers each request as the request may be answered.
-pub fn replies_are_of_their_kind()
-    ensures { RepliesAreOfTheirKind }
+/// A law: after every history a range answers each request by a reply of its kind.
+pub fn replies_have_kinds()
+    ensures { RepliesHaveKinds }
 {}
 
 /// A law: a transaction whose intent stands in a request's way was begun by its session.

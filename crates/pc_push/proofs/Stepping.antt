@@ -79,10 +79,6 @@ module _ (top : ℕ) where
   final_stamps (views.Aborted epoch why locks) fate is low = let same : fates.Aborted ≡ fate = cc in subst (λ f. AreKnown (fate_stamps f)) same (All-nil (λ ts. ts ≤ top + 1))
   final_stamps view fate is low = absurd cc
 
-  moved_stamps : (goal : Goal) (fate : Fate) → moved_fate goal ≡ Some fate → AreKnown (goal_stamps goal) → AreKnown (fate_stamps fate)
-  moved_stamps (goals.Move target) fate is low = let same : fates.Pending target ≡ fate = cc in subst (λ f. AreKnown (fate_stamps f)) same low
-  moved_stamps goals.Abort fate is low = absurd cc
-
   -- What a fate needs that is chosen after a push.
   pub record Suits (view : View) (fate : Fate) : Type 0 where
     pub fits : IsFateOf view fate
