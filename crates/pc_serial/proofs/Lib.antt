@@ -11,6 +11,7 @@ pub mod OneSession
 pub mod Order
 pub mod OwnDone
 pub mod PieceRows
+pub mod Quiet
 pub mod Ranks
 pub mod ReadsAgree
 pub mod RunsOnWritten

@@ -1,12 +1,14 @@
 -- Laws of runs: the commit order is that of the committed transactions, and in it they are one legal history.
 use Rattle.std.specs.List.Sorted.{IsStrictlySortedBy}
-use Rattle.std.specs.Prelude.{◌≡◌, ℕ, ◌<◌, All, List, [], ◌∷◌, Contains, filter, is_some, map}
+use Rattle.std.specs.Prelude.{◌≡◌, ℕ, ◌<◌, All, List, [], ◌∷◌, ◌++◌, Contains, IsTrue, filter, is_some, map, ⊤}
 use Rattle.pc_base.specs.declared.entry.Entry.{Entry}
 use Rattle.pc_base.specs.declared.transaction.TxnId.{TxnId}
 use Rattle.pc_base.specs.Transaction.{same_txn}
+use Rattle.pc_proto.specs.declared.answer.Answer.{Answer}
 use Rattle.pc_proto.specs.declared.answer.Answer.TheVariants as answers
 use Rattle.pc_proto.specs.declared.event.Event.{Event}
 use Rattle.pc_proto.specs.declared.event.Event.TheVariants as events
+use Rattle.pc_world.specs.After.{known_at}
 use Rattle.pc_world.specs.CommitOrder.{all_begun, commit_order, rank_cmp}
 use Rattle.pc_world.specs.Committed.{IsCommitted, commit_point, commit_ts}
 use Rattle.pc_world.specs.Decisions.{TellsCommit}
@@ -15,6 +17,7 @@ use Rattle.pc_world.specs.Local.{Head}
 use Rattle.pc_world.specs.MapRun.{IsMapRun}
 use Rattle.pc_world.specs.Operations.{operations_of}
 use Rattle.pc_world.specs.Run.{IsRun}
+use Rattle.pc_world.specs.Tell.Refusal.{is_heard}
 
 -- The history of a run is legal.
 abbrev pub HistoriesAreLegal : Type 0
@@ -70,3 +73,31 @@ OneSessionRunsInTurn =
     → IsRun head history → head.sessions ≡ 1
     → ((e : Entry Event) (id : TxnId) → Contains history e → e.event ≡ events.Tell (answers.Unknown id) → ⊥)
     → RunsInTurn head history
+
+-- A session asks a call, or is told an answer.
+abbrev pub IsTalk : Event → Type 0
+IsTalk (events.Ask call reading) = ⊤
+IsTalk (events.Tell answer) = ⊤
+IsTalk _ = ⊥
+
+-- Quiet: where a session asks or is told anything, it heard the reply to each message that it sent.
+abbrev pub IsQuiet : Head → List (Entry Event) → Type 0
+IsQuiet head history =
+    (before : List (Entry Event)) (e : Entry Event) (later : List (Entry Event))
+    → history ≡ before ++ e ∷ later → IsTalk e.event
+    → All (λ m. IsTrue (is_heard (known_at head e.actor before).heard m)) (known_at head e.actor before).sent
+
+-- The answer says that messages were lost.
+abbrev pub SaysLost : Answer → Type 0
+SaysLost (answers.Unavailable faults) = ⊤
+SaysLost (answers.Unknown id) = ⊤
+SaysLost _ = ⊥
+
+-- One session alone, quiet: it is never told that messages were lost, so it knows of each commit, and its committed transactions run on the
+-- plain map in the order of their begins.
+abbrev pub OneQuietSession : Type 0
+OneQuietSession =
+    (head : Head) (history : List (Entry Event))
+    → IsRun head history → head.sessions ≡ 1 → IsQuiet head history
+    → RunsInTurn head history
+    × ((e : Entry Event) (answer : Answer) → Contains history e → e.event ≡ events.Tell answer → SaysLost answer → ⊥)

@@ -1,4 +1,4 @@
-ghost use Rattle.pc_serial.specs.Laws.{CommitsAreOrdered, CommittedOnce, HistoriesAreLegal, OneSessionRunsInTurn, SessionsGoInTurn};
+ghost use Rattle.pc_serial.specs.Laws.{CommitsAreOrdered, CommittedOnce, HistoriesAreLegal, OneQuietSession, OneSessionRunsInTurn, SessionsGoInTurn};
 
 /// A law: the committed transactions are one legal history of a map.
 pub fn histories_are_legal()
@@ -23,4 +23,9 @@ pub fn sessions_go_in_turn()
 /// A law: where one session is alone, and knows of each commit, its committed transactions run on the plain map in the order in which they were begun.
 pub fn one_session_runs_in_turn()
     ensures { OneSessionRunsInTurn }
+{}
+
+/// A law: one session alone that hears each reply before it goes on is never told that messages were lost, and so runs on the plain map.
+pub fn one_quiet_session()
+    ensures { OneQuietSession }
 {}
