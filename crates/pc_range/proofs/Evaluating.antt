@@ -22,7 +22,7 @@ use Rattle.pc_proto.specs.declared.request.Request.{Request}
 use Rattle.pc_proto.specs.declared.request.Request.TheVariants as requests
 use Rattle.pc_proto.specs.Stamps.{request_stamps}
 use Rattle.pc_range.proofs.Serving.{cell-kept}
-use Rattle.pc_range.specs.Cell.{CellMeaning, HasEvaluated, IsCell, IsEntered, message_end}
+use Rattle.pc_range.specs.Cell.{CellMeaning, StoresEvaluation, IsCell, IsEntered, message_end}
 use Rattle.pc_range.specs.Message.{IsEvalNote, IsFullNote, evaluation, sending}
 use Rattle.pc_world.proofs.Stamps.{has_room}
 use Rattle.pc_world.specs.Evaluation.{reply, state_after}
@@ -73,9 +73,9 @@ module _ (range : ℕ) (old : CellMeaning) (first room entered last : ActorMeani
   world-after : Parts → last.world ≡ first.world
   world-after p = p.same.0 ∙ (p.stored.same_world ∙ p.roomed.0)
 
-  pub is-evaluated : Parts → HasEvaluated range old (record { world = last.world; part = last.part }) sender number request step answer
+  pub is-evaluated : Parts → StoresEvaluation range old (record { world = last.world; part = last.part }) sender number request step answer
   is-evaluated p =
-      subst (λ (o : CellMeaning). HasEvaluated range o (record { world = last.world; part = last.part }) sender number request step answer) p.view_is
+      subst (λ (o : CellMeaning). StoresEvaluation range o (record { world = last.world; part = last.part }) sender number request step answer) p.view_is
       (record {
         sent = p.stored.sent;
         same_world = world-after p;
@@ -121,10 +121,10 @@ told-as sender number range step again place told copy there note at was is tell
 
 -- the evaluation, by its copied reply
 pub retold : (range : ℕ) (before after : CellMeaning) (sender : ActorId) (number : ℕ) (request : Request) (step again : ℕ) (told copy : Reply) (there : Option Reply) → again ≡ step → there ≡ Some told → there ≡ Some copy
-    → HasEvaluated range before after sender number request step told → HasEvaluated range before after sender number request again copy
+    → StoresEvaluation range before after sender number request step told → StoresEvaluation range before after sender number request again copy
 retold range before after sender number request step again told copy there at was is h =
-    subst (λ n. HasEvaluated range before after sender number request n copy) (sym at)
-    (subst (λ r. HasEvaluated range before after sender number request step r) (some-equal there told copy was is) h)
+    subst (λ n. StoresEvaluation range before after sender number request n copy) (sym at)
+    (subst (λ r. StoresEvaluation range before after sender number request step r) (some-equal there told copy was is) h)
 
 -- a note of no uses leaves the counts of uses as they were
 pub gave-nothing : (part : Part Event) (place : ℕ) → gave place 0 part ≡ part

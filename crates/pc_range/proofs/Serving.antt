@@ -20,7 +20,7 @@ use Rattle.pc_proto.specs.declared.reply.Reply.{Reply}
 use Rattle.pc_proto.specs.declared.request.Request.{Request}
 use Rattle.pc_proto.specs.Stamps.{request_stamps}
 use Rattle.pc_range.specs.Cell.{IsCell, IsEntered, message_end}
-use Rattle.pc_range.specs.Message.{IsBefore, IsSendNote, evaluation, sending}
+use Rattle.pc_range.specs.Message.{IsToldBefore, IsSendNote, evaluation, sending}
 use Rattle.pc_world.proofs.Stamps.{state_at_most}
 use Rattle.pc_world.specs.Caused.{IsSendTo}
 use Rattle.pc_world.specs.Evaluation.{reply, state_after}
@@ -162,11 +162,11 @@ module _ (before : ActorMeaning Head Event) (range number : ℕ) (sender : Actor
       }
 
   pub before-step : IsSendNote sender number range request ks → (mid : ActorMeaning Head Event) (step : ℕ) → mid ≡ record before { part = told ks before.part }
-      → All (λ (e : Entry Event). e.step < step) (knowledge mid.part) → IsBefore step ks
+      → All (λ (e : Entry Event). e.step < step) (knowledge mid.part) → IsToldBefore step ks
   before-step noted mid step took above =
       let o = opened sender number range request ks noted in
       let send = sending o.step sender number range request in
       let note = known_entry send o.place o.uses ∷ [] in
       let took' : mid ≡ record before { part = told note before.part } = subst (λ (l : List (KnownEntry Event)). mid ≡ record before { part = told l before.part }) o.tells took in
       let above' : All (λ (e : Entry Event). e.step < step) (knowledge (told note before.part)) = subst (λ (a : ActorMeaning Head Event). All (λ (e : Entry Event). e.step < step) (knowledge a.part)) took' above in
-      subst (IsBefore step) (sym o.tells) (All-contains (λ (e : Entry Event). e.step < step) (knowledge (told note before.part)) send above' (knows-told before.part send o.place o.uses))
+      subst (IsToldBefore step) (sym o.tells) (All-contains (λ (e : Entry Event). e.step < step) (knowledge (told note before.part)) send above' (knows-told before.part send o.place o.uses))

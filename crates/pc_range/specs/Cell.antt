@@ -39,7 +39,7 @@ pub record IsCell (range : ℕ) (head : Head) (part : Part Event) (state : Range
 
 -- The range evaluated the actor's message of this number, at this step: its own list has this one entry more, which names the sending
 -- of the message, and the reply is that of evaluation on what its entries up to then make of it.
-pub record HasEvaluated (range : ℕ) (before after : CellMeaning) (sender : ActorId) (number : ℕ) (request : Request) (step : ℕ) (told : Reply) : Type 0 where
+pub record StoresEvaluation (range : ℕ) (before after : CellMeaning) (sender : ActorId) (number : ℕ) (request : Request) (step : ℕ) (told : Reply) : Type 0 where
   pub sent : ℕ
   pub same_world : after.world ≡ before.world
   pub same_id : after.part.id ≡ before.part.id
@@ -51,7 +51,7 @@ pub record HasEvaluated (range : ℕ) (before after : CellMeaning) (sender : Act
 pub record HasServed (range : ℕ) (before after : CellMeaning) (sender : ActorId) (number : ℕ) (request : Request) : Type 0 where
   pub step : ℕ
   pub told : Reply
-  pub evaluated : HasEvaluated range before after sender number request step told
+  pub evaluated : StoresEvaluation range before after sender number request step told
 
 -- The fault of a range that is full: its note tells the last of its entries.
 abbrev pub IsFullFault : {N : Type 0} → ℕ → Part Event → ServeFault N → Type 0

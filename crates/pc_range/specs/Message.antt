@@ -33,9 +33,9 @@ pub record IsEvalNote (sender : ActorId) (number range step : ℕ) (reply : Repl
   pub tells : note ≡ known_entry (evaluation step range sender number reply) place 0 ∷ []
 
 -- The entry that a note tells of comes before this step.
-abbrev pub IsBefore : ℕ → List (KnownEntry Event) → Type 0
-IsBefore step [] = ⊥
-IsBefore step (k ∷ ks) = k.entry.step < step
+abbrev pub IsToldBefore : ℕ → List (KnownEntry Event) → Type 0
+IsToldBefore step [] = ⊥
+IsToldBefore step (k ∷ ks) = k.entry.step < step
 
 -- What a note tells is an entry of the range, which has at least so many entries up to it.
 pub record IsFullNote (range limit : ℕ) (note : List (KnownEntry Event)) : Type 0 where

@@ -3,8 +3,8 @@ ghost use Rattle.pc_base.specs.declared.actor.ActorId.TheVariants.{Range};
 ghost use Rattle.pc_history.specs.Own.{entries_of};
 ghost use Rattle.pc_history.specs.Parts.{newcomer, noted, uses_left};
 ghost use Rattle.pc_proto.specs.Stamps.{request_stamps};
-ghost use Rattle.pc_range.specs.Cell.{HasEvaluated, HasServed, IsEntered, IsFullFault, IsRefusal};
-ghost use Rattle.pc_range.specs.Message.{IsBefore, IsEvalNote};
+ghost use Rattle.pc_range.specs.Cell.{StoresEvaluation, HasServed, IsEntered, IsFullFault, IsRefusal};
+ghost use Rattle.pc_range.specs.Message.{IsToldBefore, IsEvalNote};
 ghost use Rattle.pc_world.specs.Evaluation.{reply as reply_to};
 ghost use Rattle.pc_world.specs.Known.Traffic.{reply_named};
 ghost use Rattle.pc_world.specs.Stamps.{AllBelowGreatest};
@@ -68,9 +68,9 @@ impl<N: Named<CommitWorld>, const I: u32> RangeCell<N, I> {
         requires limit { (1 ≤ limit) × (limit < 2 ^ 32) }
         requires use_left { 1 ≤ uses_left msg.note.known }
         requires below { AllBelowGreatest (request_stamps msg.request) }
-        ensures evaluated { IfOk result (λ r. HasEvaluated I self.old self.new msg.sender msg.number msg.request r.step r.reply) }
+        ensures evaluated { IfOk result (λ r. StoresEvaluation I self.old self.new msg.sender msg.number msg.request r.step r.reply) }
         ensures told { IfOk result (λ r. (r.number ≡ msg.number) × IsEvalNote msg.sender msg.number I r.step r.reply r.note.known) }
-        ensures later { IfOk result (λ r. IsBefore r.step msg.note.known) }
+        ensures later { IfOk result (λ r. IsToldBefore r.step msg.note.known) }
         ensures room { OnOk result (length self.old.part.own < limit) }
         ensures refused { IfErr result (λ fault. IsRefusal I limit self.old self.new msg.sender msg.number msg.request fault) }
     {
@@ -102,9 +102,9 @@ impl<N: Named<CommitWorld>, const I: u32> RangeCell<N, I> {
         requires short { length self.old.part.own < 2 ^ 32 }
         requires use_left { 1 ≤ uses_left msg.note.known }
         requires below { AllBelowGreatest (request_stamps msg.request) }
-        ensures evaluated { IfOk result (λ r. HasEvaluated I self.old self.new msg.sender msg.number msg.request r.step r.reply) }
+        ensures evaluated { IfOk result (λ r. StoresEvaluation I self.old self.new msg.sender msg.number msg.request r.step r.reply) }
         ensures told { IfOk result (λ r. (r.number ≡ msg.number) × IsEvalNote msg.sender msg.number I r.step r.reply r.note.known) }
-        ensures later { IfOk result (λ r. IsBefore r.step msg.note.known) }
+        ensures later { IfOk result (λ r. IsToldBefore r.step msg.note.known) }
         ensures refused { OnErr result ((self.new ≡ self.old) ⊎ HasServed I self.old self.new msg.sender msg.number msg.request) }
     {
         self.actor.room()?;
@@ -127,7 +127,7 @@ fn enter<N: Named<CommitWorld>>(
     requires use_left { 1 ≤ uses_left msg.note.known }
     requires answers { reply ≡ reply_to msg.request (state_of actor.old.part.own) }
     ensures stored { IsEntered actor.old actor.new msg.sender msg.number msg.range msg.request result reply }
-    ensures later { IsBefore result msg.note.known }
+    ensures later { IsToldBefore result msg.note.known }
 {
     let Message {
         sender,

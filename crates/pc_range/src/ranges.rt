@@ -3,7 +3,7 @@ ghost use Rattle.pc_base.specs.declared.actor.ActorId.TheVariants.{Range};
 ghost use Rattle.pc_history.specs.Parts.{uses_left};
 ghost use Rattle.pc_proto.specs.Stamps.{request_stamps};
 ghost use Rattle.pc_range.specs.Cell.{IsFullAt};
-ghost use Rattle.pc_range.specs.Message.{IsBefore, IsEvalNote};
+ghost use Rattle.pc_range.specs.Message.{IsToldBefore, IsEvalNote};
 ghost use Rattle.pc_range.specs.Seats.{AreFree, HandsIn, range_ids};
 ghost use Rattle.pc_world.specs.Stamps.{AllBelowGreatest};
 
@@ -93,7 +93,7 @@ impl<'a, N: Named<CommitWorld>, G: Gate> Ranges<'a, N, G> {
         requires use_left { 1 ≤ uses_left msg.note.known }
         requires below { AllBelowGreatest (request_stamps msg.request) }
         ensures told { IfOk result (λ r. (r.number ≡ msg.number) × IsEvalNote msg.sender msg.number msg.range r.step r.reply r.note.known) }
-        ensures later { IfOk result (λ r. IsBefore r.step msg.note.known) }
+        ensures later { IfOk result (λ r. IsToldBefore r.step msg.note.known) }
         ensures full { IfErr result (IsFullAt msg.range self.now.limit) }
     {
         if msg.range < 8 {
