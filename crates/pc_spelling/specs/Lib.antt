@@ -5,3 +5,4 @@ pub mod Reading
 pub mod ReadingLines
 pub mod OneToOne
 pub mod ReadingHead
+pub mod RunsTellBare
