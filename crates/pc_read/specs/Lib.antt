@@ -1,0 +1,4 @@
+-- What a borrowed value of the reader stands for.
+pub mod Given
+pub mod Parts
+pub mod Texts

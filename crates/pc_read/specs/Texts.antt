@@ -1,0 +1,17 @@
+-- What the slices of a borrowed value spell. Own profile.
+use Rattle.std.specs.Prelude.{ℕ, List, Option, None, Some, option_map, option_and_then}
+use Rattle.std.specs.Borrow.{Bor}
+use Rattle.pc_spelling.specs.Reading.{key_at, value_bytes_at}
+
+-- The key that a slice is.
+abbrev pub own_key : Bor (List ℕ) → Option (List ℕ)
+own_key slice = key_at slice.now
+
+-- The value whose bytes a slice is.
+abbrev pub own_value : Bor (List ℕ) → Option (List ℕ)
+own_value slice = value_bytes_at slice.now
+
+-- What may be absent, and is there where it is there.
+abbrev pub own_option : {A B : Type 0} → (A → Option B) → Option A → Option (Option B)
+own_option own None = Some None
+own_option own (Some x) = option_map Some (own x)
