@@ -3,10 +3,10 @@ ghost use Rattle.std.specs.List.{list_all, slice_split};
 ghost use Rattle.pc_read.specs.Given.{Gives};
 ghost use Rattle.pc_read.specs.Lists.{own_keys, own_metas, own_rows, own_told_rows, own_writes};
 ghost use Rattle.pc_spelling.specs.Cutting.{list_at};
-ghost use Rattle.pc_spelling.specs.Reading.{key_at, keys_at, meta_at, origin_at, row_at, told_row_at, write_at, writes_at};
+ghost use Rattle.pc_spelling.specs.Reading.{key_at, keys_at, meta_at, row_at, told_row_at, write_at, writes_at};
 
 use crate::cut::{cut, is};
-use crate::number::{number32, timestamp};
+use crate::number::{self, number32};
 use crate::part::meta;
 use crate::text::{key, value_bytes};
 
@@ -105,13 +105,6 @@ fn is_write(bytes: &[u8]) -> bool
     }
 }
 
-#[tactic(auto, unfolding(pc_spelling::specs::Reading::origin_at))]
-fn is_origin(bytes: &[u8]) -> bool
-    ensures { result ≡ is_some (origin_at bytes.now) }
-{
-    is(bytes, b"-") || is(bytes, b"own") || timestamp(bytes).is_some()
-}
-
 #[tactic(auto, unfolding(pc_spelling::specs::Reading::told_row_at))]
 fn is_told_row(bytes: &[u8]) -> bool
     ensures { result ≡ is_some (told_row_at bytes.now) }
@@ -131,7 +124,7 @@ fn is_row(bytes: &[u8]) -> bool
     };
     match cut(b'=', rest) {
         Some((origin, value)) => {
-            key(name).is_some() && is_origin(origin) && value_bytes(value).is_some()
+            key(name).is_some() && number::origin(origin).is_some() && value_bytes(value).is_some()
         }
         None => false,
     }

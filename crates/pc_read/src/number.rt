@@ -2,10 +2,11 @@ ghost use Rattle.std.specs.Prelude.{◌≡◌, ◌^◌, ◌≤◌, ◌<◌, true
 ghost use Rattle.std.specs.List.{list_all};
 ghost use Rattle.std.specs.Str.Parse.{digits_value};
 ghost use Rattle.pc_spelling.specs.Bytes.{is_digit};
-ghost use Rattle.pc_spelling.specs.Reading.{is_numeral, number_at, number32_at, number64_at, ts_at};
+ghost use Rattle.pc_spelling.specs.Reading.{is_numeral, number_at, number32_at, number64_at, origin_at, ts_at};
 
-use crate::cut::cut;
+use crate::cut::{cut, is};
 use pc_base::Timestamp;
+use pc_proto::Origin;
 
 fn is_digit(byte: u8) -> bool
     ensures { result ≡ is_digit byte }
@@ -88,4 +89,18 @@ pub fn timestamp(bytes: &[u8]) -> Option<Timestamp>
     let wall = number64(wall)?;
     let logical = number32(logical)?;
     Some(Timestamp::new(wall, logical))
+}
+
+/// Where a value comes from.
+#[tactic(auto, unfolding(pc_spelling::specs::Reading::origin_at))]
+pub fn origin(bytes: &[u8]) -> Option<Origin>
+    ensures { result ≡ origin_at bytes.now }
+{
+    if is(bytes, b"-") {
+        Some(Origin::Nothing)
+    } else if is(bytes, b"own") {
+        Some(Origin::Own)
+    } else {
+        Some(Origin::At(timestamp(bytes)?))
+    }
 }

@@ -72,7 +72,9 @@ pub fn view(bytes: &[u8]) -> Option<ViewRef<'_>>
         let locks = keys(last)?;
         Some(ViewRef::Committed { epoch, ts, locks })
     } else if is(word, b"aborted") {
-        let why = why(second)?;
+        let Some(why) = why(second) else {
+            return None;
+        };
         let locks = keys(last)?;
         Some(ViewRef::Aborted { epoch, why, locks })
     } else {
