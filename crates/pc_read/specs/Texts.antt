@@ -1,6 +1,8 @@
 -- What the slices of a borrowed value spell. Own profile.
-use Rattle.std.specs.Prelude.{ℕ, List, Option, None, Some, option_map, option_and_then}
+use Rattle.std.specs.Prelude.{ℕ, ◌==◌, List, Option, None, Some, option_map, option_and_then}
 use Rattle.std.specs.Borrow.{Bor}
+use Rattle.std.specs.List.{slice_split}
+use Rattle.pc_spelling.specs.ReadingHead.{splits_at}
 use Rattle.pc_spelling.specs.Reading.{key_at, value_bytes_at}
 
 -- The key that a slice is.
@@ -15,3 +17,11 @@ own_value slice = value_bytes_at slice.now
 abbrev pub own_option : {A B : Type 0} → (A → Option B) → Option A → Option (Option B)
 own_option own None = Some None
 own_option own (Some x) = option_map Some (own x)
+
+-- The split keys that bytes spell which begin with the number of ranges.
+abbrev pub splits_of : List ℕ → Option (List (List ℕ))
+splits_of bytes = splits_at (slice_split (λ b. b == 32) bytes)
+
+-- The same of a slice.
+abbrev pub own_splits : Bor (List ℕ) → Option (List (List ℕ))
+own_splits slice = splits_of slice.now

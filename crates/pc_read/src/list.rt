@@ -11,7 +11,7 @@ use crate::part::meta;
 use crate::text::{key, value_bytes};
 
 /// A kind of items of a list.
-trait Item {
+pub trait Item {
     ghost readable: { List ℕ → Bool };
 
     /// Whether the bytes spell such an item.
@@ -39,7 +39,7 @@ fn are_items<I: Item>(bytes: &[u8]) -> bool
 }
 
 /// Whether the bytes are a list of such items: a dash for none, or items with a comma between each two.
-fn is_list<I: Item>(bytes: &[u8]) -> bool
+pub fn is_list<I: Item>(bytes: &[u8]) -> bool
     ensures { result ≡ (bytes_eq bytes.now (codes "-") || list_all I.readable (slice_split (λ b. b == 44) bytes.now)) }
 {
     is(bytes, b"-") || are_items::<I>(bytes)
