@@ -1,6 +1,6 @@
 -- A list is readable where each of its parts is.
-use Rattle.std.proofs.Common.{◌≡◌, ℕ, ◌<◌, Bool, true, false, cond, ◌||◌, ◌&&◌, ◌==◌, List, [], ◌∷◌, ◌++◌, length, Option, None, Some, option_map, option_and_then, is_some, IsSome, refl, sym, ap, subst, ◌∙◌, arith, codes, bytes_eq, length-append, inl, inr}
-use Rattle.std.specs.List.{list_all, slice_split, onto_first}
+use Rattle.std.proofs.Common.{◌≡◌, ℕ, ◌<◌, Bool, true, false, cond, ◌||◌, ◌&&◌, ◌==◌, List, [], ◌∷◌, length, Option, None, Some, option_map, option_and_then, is_some, IsSome, refl, sym, ap, ◌∙◌, arith, codes, bytes_eq, length-append, inl, inr}
+use Rattle.std.specs.List.{list_all, slice_split}
 use Rattle.std.proofs.Math.Bool.{and-true}
 use Rattle.std.proofs.lemmas.Option.{some_pair_parts}
 use Rattle.pc_spelling.specs.Cutting.{cut, each_at, list_at}

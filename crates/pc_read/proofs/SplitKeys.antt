@@ -1,5 +1,5 @@
 -- The split keys of a head: what is counted of them, and that they rise.
-use Rattle.std.proofs.Common.{◌≡◌, ℕ, ◌+◌, ◌<◌, Bool, true, false, cond, ◌&&◌, ◌==◌, List, [], ◌∷◌, length, suc, Option, None, Some, option_map, option_and_then, is_some, refl, sym, ap, subst, ◌∙◌, arith}
+use Rattle.std.proofs.Common.{◌≡◌, ℕ, ◌+◌, Bool, true, false, cond, ◌&&◌, ◌==◌, List, [], ◌∷◌, length, suc, Option, None, Some, option_map, option_and_then, is_some, refl, sym, ap, ◌∙◌, arith}
 use Rattle.std.specs.List.{slice_split}
 use Rattle.pc_base.specs.Span.{key_below}
 use Rattle.pc_spelling.specs.Cutting.{cut, each_at}
@@ -73,7 +73,7 @@ pub splits_cut : (bs count keys : List ℕ) → cut 32 bs ≡ Some (count, keys)
 unfolding splits_at
 splits_cut bs count keys e =
     ap (λ (ps : List (List ℕ)). is_some (splits_at ps)) (parts_cut 32 bs count keys e)
-        ∙ sym (ap (fit_count (number32_at count)) (rising_counts (slice_split (λ b. b == 32) keys)) ∙ fits_count (number32_at count) (each_at key_at (slice_split (λ b. b == 32) keys)))
+    ∙ sym (ap (fit_count (number32_at count)) (rising_counts (slice_split (λ b. b == 32) keys)) ∙ fits_count (number32_at count) (each_at key_at (slice_split (λ b. b == 32) keys)))
 
 abbrev no_keys : Option (List (List ℕ))
 no_keys = Some []

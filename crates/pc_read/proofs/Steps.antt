@@ -1,8 +1,7 @@
 -- What is left of a text, line by line: the items of what is cut at the first line feed.
-use Rattle.std.proofs.Common.{◌≡◌, ℕ, ◌+◌, ◌<◌, Bool, true, false, cond, ◌==◌, List, [], ◌∷◌, length, Option, None, Some, refl, sym, ap, subst, ◌∙◌, arith, codes, bytes_eq, option_map, is_some, IfSome}
-use Rattle.std.specs.List.{slice_split, onto_first}
+use Rattle.std.proofs.Common.{◌≡◌, ℕ, ◌+◌, ◌<◌, Bool, true, false, cond, ◌==◌, List, [], ◌∷◌, length, Option, None, Some, refl, sym, ap, ◌∙◌, arith, codes, bytes_eq, option_map, is_some, IfSome}
+use Rattle.std.specs.List.{onto_first}
 use Rattle.std.specs.Option.{option_map_or}
-use Rattle.std.proofs.lemmas.Bool.{cases_Bool}
 use Rattle.pc_base.specs.declared.entry.Entry.{Entry}
 use Rattle.pc_proto.specs.declared.event.Event.{Event}
 use Rattle.pc_spelling.specs.Cutting.{cut}
@@ -126,8 +125,8 @@ given_entry n after before (Some x) some e = ap Some (sym e)
 pub entry_kept : (n at : ℕ) (bs line behind : List ℕ) (read : Option (Entry Event)) → cut 10 bs ≡ Some (line, behind) → bytes_eq line (codes "report") ≡ false → read ≡ entry_at line → is_some (entry_at line) ≡ true → at ≡ n → option_map (λ item. item ∷ entry_items (n + 1) (pieces behind)) (option_map (λ x. Line at x) read) ≡ Some (entry_items n (pieces bs))
 entry_kept n at bs line behind read e miss is some same =
     ap (λ (o : Option (Entry Event)). option_map (λ item. item ∷ entry_items (n + 1) (pieces behind)) (option_map (λ x. Line at x) o)) is
-        ∙ ap (λ (k : ℕ). option_map (λ item. item ∷ entry_items (n + 1) (pieces behind)) (option_map (λ x. Line k x) (entry_at line))) same
-        ∙ given_entry n (entry_items (n + 1) (pieces behind)) (entry_items n (pieces bs)) (entry_at line) some (entry_cut n bs line behind e ∙ cond_false _ _ _ miss)
+    ∙ ap (λ (k : ℕ). option_map (λ item. item ∷ entry_items (n + 1) (pieces behind)) (option_map (λ x. Line k x) (entry_at line))) same
+    ∙ given_entry n (entry_items (n + 1) (pieces behind)) (entry_items n (pieces bs)) (entry_at line) some (entry_cut n bs line behind e ∙ cond_false _ _ _ miss)
 
 pub third_given : (keys : Option (List (List ℕ))) (sessions recoverers : ℕ) (bs line behind : List ℕ) → cut 10 bs ≡ Some (line, behind) → actors_at line ≡ Some (sessions, recoverers) → IfSome keys (λ splits. option_map (λ item. item ∷ entry_items 4 (pieces behind)) (option_map (λ s. Head s sessions recoverers) keys) ≡ Some (third_items splits (pieces bs)))
 third_given None sessions recoverers bs line behind e counts = tt
@@ -146,7 +145,7 @@ pub head_bad : (bs line behind : List ℕ) → cut 10 bs ≡ Some (line, behind)
 head_bad bs line behind e miss = head_cut bs line behind e ∙ cond_false _ _ _ miss
 
 pub second_given : (keys : Option (List (List ℕ))) (given : Option (List Item)) (bs line behind : List ℕ) → cut 10 bs ≡ Some (line, behind) → keys ≡ ranges_at line → is_some (ranges_at line) ≡ true → IfSome keys (λ splits. given ≡ Some (third_items splits (pieces behind))) → given ≡ Some (second_items (pieces bs))
-second_given None given bs line behind e is some h = absurd (cc (is, some, ap is_some is))
+second_given None given bs line behind e is some h = absurd (cc (some, ap is_some is))
 second_given (Some splits) given bs line behind e is some h =
     h ∙ ap Some (sym (second_cut bs line behind e ∙ ap (λ (o : Option (List (List ℕ))). option_map_or (λ s. third_items s (pieces behind)) o (Malformed 2 ∷ [])) (sym is)))
 
@@ -155,6 +154,9 @@ second_bad bs line behind e none =
     second_cut bs line behind e ∙ ap (λ (o : Option (List (List ℕ))). option_map_or (λ s. third_items s (pieces behind)) o (Malformed 2 ∷ [])) none
 
 pub ruleset entry_steps = (entry_cut, entry_end, shorter_cut)
+
 pub ruleset row_steps = (row_cut, row_end, shorter_cut)
+
 pub ruleset head_steps = (head_cut, head_end, second_cut, second_end, third_cut, third_end, shorter_cut)
+
 pub ruleset over_steps = (over_none, over_some)

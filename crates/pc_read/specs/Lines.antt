@@ -1,5 +1,5 @@
 -- What the notions of several words stand for, as they are read over the bytes of a line. Own profile.
-use Rattle.std.specs.Prelude.{ℕ, List, Option, None, Some, option_map, option_and_then}
+use Rattle.std.specs.Prelude.{Option, Some, option_map, option_and_then}
 use Rattle.pc_base.specs.declared.entry.Entry.{Entry}
 use Rattle.pc_proto.specs.declared.answer.Answer.{Answer}
 use Rattle.pc_proto.specs.declared.answer.Answer.TheVariants as answers

@@ -1,5 +1,5 @@
 -- What a borrowed meta, span or cause of an abort stands for. Own profile.
-use Rattle.std.specs.Prelude.{ℕ, List, Option, None, Some, option_map, option_and_then}
+use Rattle.std.specs.Prelude.{Option, Some, option_map, option_and_then}
 use Rattle.pc_base.specs.declared.span.Span.{Span}
 use Rattle.pc_base.specs.declared.span.Span.TheVariants as spans
 use Rattle.pc_proto.specs.declared.meta.TxnMeta.{TxnMeta}

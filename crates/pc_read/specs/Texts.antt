@@ -1,5 +1,5 @@
 -- What the slices of a borrowed value spell. Own profile.
-use Rattle.std.specs.Prelude.{ℕ, ◌==◌, List, Option, None, Some, option_map, option_and_then}
+use Rattle.std.specs.Prelude.{ℕ, ◌==◌, List, Option, None, Some, option_map}
 use Rattle.std.specs.Borrow.{Bor}
 use Rattle.std.specs.List.{slice_split}
 use Rattle.pc_spelling.specs.ReadingHead.{splits_at}

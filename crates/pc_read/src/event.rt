@@ -79,7 +79,11 @@ fn send(bytes: &[u8]) -> Option<EventRef<'_>>
     let Some(request) = request::request(rest) else {
         return None;
     };
-    Some(EventRef::Send { number, range, request })
+    Some(EventRef::Send {
+        number,
+        range,
+        request,
+    })
 }
 
 /// A reply of a range.
@@ -93,7 +97,11 @@ fn eval(bytes: &[u8]) -> Option<EventRef<'_>>
     let Some(reply) = reply::reply(rest) else {
         return None;
     };
-    Some(EventRef::Eval { actor, number, reply })
+    Some(EventRef::Eval {
+        actor,
+        number,
+        reply,
+    })
 }
 
 /// That a reply was heard.

@@ -133,7 +133,13 @@ fn get(bytes: &[u8]) -> Option<RequestRef<'_>>
     let (ts, rest) = cut(b' ', rest)?;
     let ts = number::timestamp(ts)?;
     let key = text::key(rest)?;
-    Some(RequestRef::Get { id, epoch, seq, ts, key })
+    Some(RequestRef::Get {
+        id,
+        epoch,
+        seq,
+        ts,
+        key,
+    })
 }
 
 /// The rows of a span.
@@ -145,7 +151,13 @@ fn scan(bytes: &[u8]) -> Option<RequestRef<'_>>
     let (ts, rest) = cut(b' ', rest)?;
     let ts = number::timestamp(ts)?;
     let span = part::span(rest)?;
-    Some(RequestRef::Scan { id, epoch, seq, ts, span })
+    Some(RequestRef::Scan {
+        id,
+        epoch,
+        seq,
+        ts,
+        span,
+    })
 }
 
 /// A write, or the deletion of a key.
@@ -161,7 +173,13 @@ fn put(bytes: &[u8]) -> Option<RequestRef<'_>>
     let (key, rest) = cut(b' ', rest)?;
     let key = text::key(key)?;
     let value = text::maybe_value(rest)?;
-    Some(RequestRef::Put { meta, seq, ts, key, value })
+    Some(RequestRef::Put {
+        meta,
+        seq,
+        ts,
+        key,
+        value,
+    })
 }
 
 /// Whether what was read is so at a later timestamp.
@@ -203,7 +221,13 @@ fn stage(bytes: &[u8]) -> Option<RequestRef<'_>>
     let (writes, rest) = cut(b' ', rest)?;
     let writes = list::writes(writes)?;
     let locks = list::keys(rest)?;
-    Some(RequestRef::Stage { meta, ts, now, writes, locks })
+    Some(RequestRef::Stage {
+        meta,
+        ts,
+        now,
+        writes,
+        locks,
+    })
 }
 
 /// A commit.
@@ -245,7 +269,13 @@ fn push(bytes: &[u8]) -> Option<RequestRef<'_>>
     let (now, rest) = cut(b' ', rest)?;
     let now = number::number64(now)?;
     let goal = view::goal(rest)?;
-    Some(RequestRef::Push { holder, by, level, now, goal })
+    Some(RequestRef::Push {
+        holder,
+        by,
+        level,
+        now,
+        goal,
+    })
 }
 
 /// Whether a listed write stands.
@@ -259,7 +289,14 @@ fn query(bytes: &[u8]) -> Option<RequestRef<'_>>
     let (key, rest) = cut(b' ', rest)?;
     let key = text::key(key)?;
     let by = name::who(rest)?;
-    Some(RequestRef::Query { id, epoch, seq, ts, key, by })
+    Some(RequestRef::Query {
+        id,
+        epoch,
+        seq,
+        ts,
+        key,
+        by,
+    })
 }
 
 /// What a recovery found.
@@ -275,7 +312,13 @@ fn recover(bytes: &[u8]) -> Option<RequestRef<'_>>
     let (anchor, rest) = cut(b' ', rest)?;
     let anchor = text::key(anchor)?;
     let finding = view::finding(rest)?;
-    Some(RequestRef::Recover { id, epoch, ts, anchor, finding })
+    Some(RequestRef::Recover {
+        id,
+        epoch,
+        ts,
+        anchor,
+        finding,
+    })
 }
 
 /// What becomes of an intent.

@@ -1,5 +1,5 @@
 -- Each item so far is one, so all are where those of the rest are.
-use Rattle.std.proofs.Common.{◌≡◌, ◌==◌, List, ℕ, Bool, length}
+use Rattle.std.proofs.Common.{◌≡◌, ◌==◌, length}
 use Rattle.std.specs.List.{list_all, slice_split}
 use Rattle.pc_read.proofs.list.are_items.Given as goal
 

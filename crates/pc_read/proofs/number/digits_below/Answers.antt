@@ -1,5 +1,4 @@
-use Rattle.std.proofs.Common.{◌≡◌, arith, get_or, ◌+◌, ◌-◌, ◌*◌, take, sym, ◌∙◌, ap}
-use Rattle.std.specs.Str.Parse.{digits_value}
+use Rattle.std.proofs.Common.{arith, ◌+◌}
 use Rattle.std.proofs.lemmas.Grind.{common_steps}
 use Rattle.pc_read.proofs.Digits.{too_great, value_more}
 use Rattle.pc_read.proofs.number.digits_below.Goals as goal

@@ -1,4 +1,4 @@
-use Rattle.std.proofs.Common.{arith, sym, ◌∙◌, option_map}
+use Rattle.std.proofs.Common.{arith, sym, ◌∙◌}
 use Rattle.pc_read.proofs.Items.{shorter_cut}
 use Rattle.pc_read.proofs.SplitKeys.{rising_goes, rising_stops}
 use Rattle.pc_read.proofs.splits.rising.Goals as goal
