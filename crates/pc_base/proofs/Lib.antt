@@ -1,3 +1,4 @@
 pub mod Entries
+pub mod KeyTables
 pub mod VersionOrder
 pub mod TxnOrder

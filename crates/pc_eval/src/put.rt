@@ -2,9 +2,10 @@
 //! newest version and above the range's read bound, unless the writer owns the bound; and another's intent is never touched.
 
 ghost use Rattle.std.specs.Prelude.{◌≡◌, IfOk, None, OnOk, OnErr};
+ghost use Rattle.std.specs.BTreeMap.{insert_entry};
+ghost use Rattle.std.specs.Cmp.Lexicographic.{slice_cmp};
 ghost use Rattle.std.specs.Option.{option_copied};
-ghost use Rattle.pc_base.specs.Keyed.{set_at};
-ghost use Rattle.pc_base.specs.Span.{same_key};
+ghost use Rattle.std.specs.Ordering.{nat_cmp};
 ghost use Rattle.pc_proto.specs.Intents.{other_at, own_at};
 ghost use Rattle.pc_world.specs.Stamps.{AllBelowGreatest, state_stamps};
 ghost use Rattle.pc_world.specs.Evaluation.{reply, state_after};
@@ -54,7 +55,7 @@ impl RangeState {
         value: &Option<Value>,
     ) -> Result<(), NoMemory>
         requires { other_at meta.now.id key.now self.old.intents ≡ None }
-        ensures ok { OnOk result (self.new ≡ record self.old { intents = set_at same_key key.now (laid meta.now seq ts value.now (own_at meta.now.id key.now self.old.intents)) self.old.intents }) }
+        ensures ok { OnOk result (self.new ≡ record self.old { intents = insert_entry (slice_cmp nat_cmp) self.old.intents key.now (laid meta.now seq ts value.now (own_at meta.now.id key.now self.old.intents)) }) }
         ensures err { OnErr result (self.new ≡ self.old) }
     {
         let meta = meta.copy()?;

@@ -1,12 +1,14 @@
 //! Resolve: settles an intent. It closes the race with the transaction's next epoch: only an intent of the committed epoch, at
 //! or below the commit timestamp, becomes a version.
 
-ghost use Rattle.std.specs.Prelude.{◌≡◌, IfOk, OnOk, OnErr, ◌++◌};
+ghost use Rattle.std.specs.Prelude.{◌≡◌, IfOk, OnOk, OnErr, fold};
 ghost use Rattle.std.specs.Option.{option_to_list};
+ghost use Rattle.pc_base.specs.Versions.{with_version};
 ghost use Rattle.pc_world.specs.Evaluation.{reply, state_after};
 ghost use Rattle.pc_world.specs.Evaluation.Resolve.{is_committed_by, versions_of};
 
 use crate::state::RangeState;
+use crate::versions::add;
 use pc_base::{Key, NoMemory, Timestamp, TryCopy, TxnId, Version};
 use pc_intent::{Intent, last_value};
 use pc_proto::{Fate, Reply, Request};
@@ -36,11 +38,11 @@ impl RangeState {
 
     /// Keeps what became of an intent, if it became something.
     fn keep(&mut self, version: Option<Version>) -> Result<(), NoMemory>
-        ensures ok { OnOk result (self.new ≡ record self.old { versions = self.old.versions ++ option_to_list version }) }
+        ensures ok { OnOk result (self.new ≡ record self.old { versions = fold with_version self.old.versions (option_to_list version) }) }
         ensures err { OnErr result (self.new ≡ self.old) }
     {
         if let Some(version) = version {
-            self.versions.push(version)?;
+            add(&mut self.versions, version)?;
         }
         Ok(())
     }

@@ -1,10 +1,31 @@
-ghost use Rattle.std.specs.Prelude.{◌≡◌, ◌&&◌, ◌||◌, map, nat_lt};
+ghost use Rattle.std.specs.Prelude.{◌≡◌, ◌&&◌, ◌||◌, OnErr, OnOk, map, nat_lt, position};
 ghost use Rattle.pc_base.specs.Span.{key_below, same_key};
 ghost use Rattle.std.specs.Option.{option_copied};
-ghost use Rattle.pc_base.specs.Versions.{above_newest, first_between, later, newest, sooner, visible};
+ghost use Rattle.pc_base.specs.Versions.{above_newest, first_between, later, newest, sooner, visible, with_version};
+ghost use Rattle.pc_eval.specs.Before.{version_before};
 ghost use Rattle.pc_world.specs.Stamps.{AllBelowGreatest};
 
-use pc_base::{Key, Span, Timestamp, Version};
+use pc_base::{Key, NoMemory, Span, Timestamp, Version};
+
+/// Puts a version in its place by key and timestamp, before the first that is above it.
+#[tactic(auto, using(crate::proofs::Places::placed_before, crate::proofs::Places::placed_last))]
+pub(crate) fn add(versions: &mut Vec<Version>, version: Version) -> Result<(), NoMemory>
+    ensures ok { OnOk result (versions.new.items ≡ with_version versions.old.items version) }
+    ensures err { OnErr result (versions.new.items ≡ versions.old.items) }
+{
+    match place_of(versions, &version) {
+        Some(place) => versions.insert(place, version)?,
+        None => versions.push(version)?,
+    }
+    Ok(())
+}
+
+/// The place of the first version above this one.
+fn place_of(versions: &[Version], version: &Version) -> Option<usize>
+    ensures { result ≡ position (version_before version.now) versions.now }
+{
+    versions.iter().position(|kept| is_sooner(version, kept))
+}
 
 /// The least timestamp above the key's newest version.
 pub(crate) fn above_newest(versions: &[Version], key: &Key) -> Timestamp
@@ -84,7 +105,7 @@ fn sooner<'a>(best: Option<&'a Version>, version: &'a Version) -> Option<&'a Ver
 
 /// Whether the version is of a lesser key than the other, or of a lesser timestamp at the same key.
 fn is_sooner(version: &Version, other: &Version) -> bool
-    ensures { result ≡ (key_below version.now.key other.now.key || same_key version.now.key other.now.key && nat_lt version.now.ts other.now.ts) }
+    ensures { result ≡ version_before version.now other.now }
 {
     version.key < other.key || version.key == other.key && version.ts < other.ts
 }

@@ -1,31 +1,59 @@
--- The intents after a write was laid, by the place of the key's first intent.
-use Rattle.std.proofs.Common.{◌≡◌, ℕ, List, [], ◌∷◌, ◌++◌, slice_set, slice_index_or, Option, None, Some, position, not, sym, ap, ◌∙◌, arith}
+-- The intents after a write was laid: in the transaction's own intent that stands there, or as the first.
+use Rattle.std.proofs.Common.{◌≡◌, ℕ, true, false, if◌then◌else◌, List, Option, None, Some, not, refl, sym, ap, ◌∙◌, arith}
 use Rattle.std.proofs.lemmas.Grind.{common_steps}
+use Rattle.std.specs.BTreeMap.{insert_entry, is_at}
+use Rattle.std.specs.Cmp.Lexicographic.{slice_cmp}
+use Rattle.std.specs.Prelude.{OnSome}
+use Rattle.std.specs.List.Sorted.{IsStrictlySortedBy}
+use Rattle.std.specs.Map.{keys_of, lookup, set_value}
+use Rattle.std.specs.Ordering.{nat_cmp}
+use Rattle.pc_base.proofs.KeyTables.{key_lookup, key_written}
 use Rattle.pc_base.specs.declared.transaction.TxnId.{TxnId}
-use Rattle.pc_base.specs.Keyed.{at, set_at}
-use Rattle.pc_base.specs.Span.{same_key}
 use Rattle.pc_base.specs.Transaction.{same_txn}
-use Rattle.pc_keyed.proofs.SetAt.{at_first, at_none, set_at_first, set_at_end}
 use Rattle.pc_proto.specs.declared.meta.TxnMeta.{TxnMeta}
 use Rattle.pc_proto.specs.declared.record.Intent.{Intent}
-use Rattle.pc_proto.specs.Intents.{kept_if, other_at, own_at}
+use Rattle.pc_proto.specs.Intents.{intent_at, kept_if, other_at, own_at}
 use Rattle.pc_intent.specs.WithWrite.{with_write}
 
 -- An intent that is no other transaction's is the transaction's own.
 own-there : (id : TxnId) (there : Option Intent) (i : Intent) → there ≡ Some i → kept_if (λ i. not (same_txn i.meta.id id)) there ≡ None → kept_if (λ i. same_txn i.meta.id id) there ≡ Some i
 own-there id there i is h = grind (arith, common_steps)
 
-module _ (meta : TxnMeta) (seq ts : ℕ) (key : List ℕ) (value : Option (List ℕ)) (es : List (List ℕ × Intent)) where
-  pub laid_there : (place : ℕ) (e : List ℕ × Intent) → position (λ e. same_key e.0 key) es ≡ Some place → e ≡ slice_index_or es place e → other_at meta.id key es ≡ None → slice_set es place (e.0, with_write meta seq ts value (Some e.1)) ≡ set_at same_key key (with_write meta seq ts value (own_at meta.id key es)) es
-  laid_there place e found read free =
-      let is : at same_key key es ≡ Some e.1 = at_first same_key key es place e found ∙ ap (λ x. Some x.1) (sym read) in
-      let own : own_at meta.id key es ≡ Some e.1 = own-there meta.id (at same_key key es) e.1 is free in
-      ap (λ x. slice_set es place (x.0, with_write meta seq ts value (Some e.1))) read
-      ∙ set_at_first same_key key (with_write meta seq ts value (Some e.1)) es place e found
-      ∙ ap (λ own. set_at same_key key (with_write meta seq ts value own) es) (sym own)
+module _ (key : List ℕ) (es : List (List ℕ × Intent)) where
+  stands-there : (i : Intent) → lookup (is_at (slice_cmp nat_cmp key)) es ≡ Some i → intent_at key es ≡ Some i
+  stands-there i found = sym (key_lookup key es) ∙ found
 
-  pub laid_first : position (λ e. same_key e.0 key) es ≡ None → es ++ (key, with_write meta seq ts value None) ∷ [] ≡ set_at same_key key (with_write meta seq ts value (own_at meta.id key es)) es
-  laid_first absent =
-      let own : own_at meta.id key es ≡ None = ap (kept_if (λ i. same_txn i.meta.id meta.id)) (at_none same_key key es absent) in
-      sym (set_at_end same_key key (with_write meta seq ts value None) es absent)
-      ∙ ap (λ own. set_at same_key key (with_write meta seq ts value own) es) (sym own)
+  module _ (meta : TxnMeta) (seq ts : ℕ) (value : Option (List ℕ)) where
+    pub laid_there : (i : Intent) → IsStrictlySortedBy (slice_cmp nat_cmp) (keys_of es) → lookup (is_at (slice_cmp nat_cmp key)) es ≡ Some i → other_at meta.id key es ≡ None
+        → set_value (is_at (slice_cmp nat_cmp key)) es (with_write meta seq ts value (Some i)) ≡ insert_entry (slice_cmp nat_cmp) es key (with_write meta seq ts value (own_at meta.id key es))
+    laid_there i sorted found free =
+        let own : own_at meta.id key es ≡ Some i = own-there meta.id (intent_at key es) i (stands-there i found) free in
+        key_written key es i (with_write meta seq ts value (Some i)) sorted found
+        ∙ ap (λ own. insert_entry (slice_cmp nat_cmp) es key (with_write meta seq ts value own)) (sym own)
+
+    pub laid_first : lookup (is_at (slice_cmp nat_cmp key)) es ≡ None
+        → insert_entry (slice_cmp nat_cmp) es key (with_write meta seq ts value None) ≡ insert_entry (slice_cmp nat_cmp) es key (with_write meta seq ts value (own_at meta.id key es))
+    laid_first absent =
+        let own : own_at meta.id key es ≡ None = ap (kept_if (λ i. same_txn i.meta.id meta.id)) (sym (key_lookup key es) ∙ absent) in
+        ap (λ own. insert_entry (slice_cmp nat_cmp) es key (with_write meta seq ts value own)) (sym own)
+
+  pub own_is_there : (id : TxnId) (i : Intent) → lookup (is_at (slice_cmp nat_cmp key)) es ≡ Some i → same_txn i.meta.id id ≡ true → own_at id key es ≡ Some i
+  own_is_there id i found mine = ap (kept_if (λ i. same_txn i.meta.id id)) (stands-there i found) ∙ ap (λ b. if b then Some i else None) mine
+
+  pub own_is_not : (id : TxnId) (i : Intent) → lookup (is_at (slice_cmp nat_cmp key)) es ≡ Some i → same_txn i.meta.id id ≡ false → own_at id key es ≡ None
+  own_is_not id i found other = ap (kept_if (λ i. same_txn i.meta.id id)) (stands-there i found) ∙ ap (λ b. if b then Some i else None) other
+
+  pub own_is_nothing : (id : TxnId) → lookup (is_at (slice_cmp nat_cmp key)) es ≡ None → own_at id key es ≡ None
+  own_is_nothing id absent = ap (kept_if (λ i. same_txn i.meta.id id)) (sym (key_lookup key es) ∙ absent)
+
+  -- the own intent is all that stands at its key
+  pub own_taken : (id : TxnId) (i : Intent) → own_at id key es ≡ Some i → lookup (is_at (slice_cmp nat_cmp key)) es ≡ own_at id key es
+  own_taken id i own = key_lookup key es ∙ by (intent_at key es) own
+    where
+      by : (o : Option Intent) → kept_if (λ i. same_txn i.meta.id id) o ≡ Some i → o ≡ kept_if (λ i. same_txn i.meta.id id) o
+      by None own = refl
+      by (Some j) own = grind (arith, common_steps)
+
+pub where_some : {T : Type 0} (o : Option T) (P : Type 0) → P → OnSome o P
+where_some None P h = tt
+where_some (Some x) P h = h

@@ -1,2 +1,3 @@
 pub mod Folds
-pub mod Laying
+mod FirstOther
+mod Laying

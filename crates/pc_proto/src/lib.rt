@@ -22,6 +22,3 @@ pub use reply::{Origin, Reply, Rows};
 pub use request::{Keys, Request, Writes};
 pub use view::View;
 pub use why::Why;
-
-#[cfg(test)]
-mod tests;

@@ -7,6 +7,3 @@ mod progress;
 
 pub use laws::pushing_goes_on;
 pub use machine::PushMachine;
-
-#[cfg(test)]
-mod tests;

@@ -1,6 +1,6 @@
 //! Records: lists the transactions whose records the range keeps, so that somebody can finish what a gone session left.
 
-ghost use Rattle.std.specs.Prelude.{◌≡◌, IfOk, map};
+ghost use Rattle.std.specs.Prelude.{◌≡◌, IfOk};
 ghost use Rattle.pc_proto.specs.RecordRows.Reached.{at_epoch};
 ghost use Rattle.pc_proto.specs.RecordRows.Records.{listed_metas};
 
@@ -10,16 +10,14 @@ use std::alloc::Global;
 use std::collections::BTreeMap;
 
 /// The records' metas by transaction, each with its record's epoch.
-#[tactic(auto, using(crate::proofs::InOrder::in_order_more))]
-pub(crate) fn listed(alloc: Global, records: &[(TxnId, Record)]) -> Result<Metas, NoMemory>
-    ensures { IfOk result (λ made. made ≡ listed_metas records.now) }
+pub(crate) fn listed(alloc: Global, records: &BTreeMap<TxnId, Record>) -> Result<Metas, NoMemory>
+    ensures { IfOk result (λ made. made ≡ listed_metas records.now.entries) }
 {
-    let mut metas = BTreeMap::new(alloc);
-    for entry in records {
-        metas.insert(entry.0, meta_of(&entry.1)?)?;
+    let mut metas = Items::new(alloc);
+    for (_, record) in records {
+        metas.add(meta_of(record)?)?;
     }
-    let metas = metas.into_values().collect(alloc)?;
-    Ok(Items::from_vec(metas))
+    Ok(metas)
 }
 
 /// The record's meta, in the record's epoch.

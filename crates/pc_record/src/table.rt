@@ -2,7 +2,7 @@ ghost use Rattle.std.specs.Prelude.{◌≡◌, IfOk, OnOk, OnErr};
 ghost use Rattle.std.specs.Option.{option_copied};
 ghost use Rattle.pc_base.specs.Keyed.{at};
 ghost use Rattle.pc_base.specs.Transaction.{same_txn};
-ghost use Rattle.pc_proto.specs.Place.{Finish, after, view_of};
+ghost use Rattle.pc_proto.specs.Place.{Become, Finish, after, view_of};
 ghost use Rattle.pc_proto.specs.RecordRows.Records.{listed_metas};
 ghost use Rattle.pc_proto.specs.Table.{applied_to, empty_table, place_of};
 ghost use Rattle.pc_record.specs.RecordOf.{becoming};
@@ -10,24 +10,30 @@ ghost use Rattle.pc_record.specs.RecordOf.{becoming};
 use crate::place::{Place, record_view};
 use crate::records::listed;
 use pc_base::{NoMemory, TxnId};
-use pc_keyed::{at, drop_at, set_at};
 use pc_proto::{Metas, Record, Reply, Status, View};
 use std::alloc::Global;
+use std::collections::BTreeMap;
 use std::marker::Model;
 
-/// The records and marks of a range.
+/// The records and marks of a range, by transaction.
 #[derive(Debug, Drop)]
 pub struct RecordTable {
-    records: Vec<(TxnId, Record)>,
-    marks: Vec<(TxnId, Status)>,
+    alloc: Global,
+    records: BTreeMap<TxnId, Record>,
+    marks: BTreeMap<TxnId, Status>,
 }
 
 impl Model for RecordTable {
+    ghost use Rattle.std.specs.List.Sorted.{IsStrictlySortedBy};
+    ghost use Rattle.std.specs.Map.{keys_of};
+    ghost use Rattle.pc_base.specs.Transaction.{txn_cmp};
     ghost use Rattle.pc_proto.specs.Table.{Table as table};
 
     ghost Value = { table };
 
-    ghost view = { λ t. record { records = t.records.items; marks = t.marks.items } };
+    ghost view = { λ t. record { records = t.records.entries; marks = t.marks.entries } };
+
+    ghost invariant = { λ t. IsStrictlySortedBy txn_cmp (keys_of t.records.entries) };
 }
 
 impl RecordTable {
@@ -36,8 +42,9 @@ impl RecordTable {
         ensures { result ≡ empty_table }
     {
         RecordTable {
-            records: Vec::new(alloc),
-            marks: Vec::new(alloc),
+            alloc,
+            records: BTreeMap::new(alloc),
+            marks: BTreeMap::new(alloc),
         }
     }
 
@@ -49,21 +56,21 @@ impl RecordTable {
     }
 
     pub(crate) fn alloc(&self) -> Global {
-        *self.records.allocator()
+        self.alloc
     }
 
     /// The transaction's record.
     pub fn record(&self, id: TxnId) -> Option<&Record>
         ensures { option_copied result ≡ at same_txn id self.now.records }
     {
-        at(&self.records, &id)
+        self.records.get(&id)
     }
 
     /// The mark that the transaction's removed record left.
     pub fn mark(&self, id: TxnId) -> Option<&Status>
         ensures { option_copied result ≡ at same_txn id self.now.marks }
     {
-        at(&self.marks, &id)
+        self.marks.get(&id)
     }
 
     /// What the range has of a transaction.
@@ -84,9 +91,18 @@ impl RecordTable {
             None => self.status(id)?,
         };
         if let Some(record) = written {
-            set_at(&mut self.records, &id, record)?;
+            self.put(id, record)?;
         }
         Ok(Reply::Status(view))
+    }
+
+    /// Writes a transaction's record in the place of the one that it has.
+    fn put(&mut self, id: TxnId, kept: Record) -> Result<(), NoMemory>
+        ensures ok { OnOk result (self.new ≡ applied_to id (Become kept) self.old) }
+        ensures err { OnErr result (self.new ≡ self.old) }
+    {
+        self.records.insert(id, kept)?;
+        Ok(())
     }
 
     /// Puts a transaction's mark in the place of its record.
@@ -94,8 +110,8 @@ impl RecordTable {
         ensures ok { OnOk result (self.new ≡ applied_to id (Finish status) self.old) }
         ensures err { OnErr result (self.new ≡ self.old) }
     {
-        set_at(&mut self.marks, &id, status)?;
-        drop_at(&mut self.records, &id);
+        self.marks.insert(id, status)?;
+        self.records.remove(&id);
         Ok(())
     }
 
@@ -103,6 +119,6 @@ impl RecordTable {
     pub(crate) fn list(&self) -> Result<Metas, NoMemory>
         ensures { IfOk result (λ made. made ≡ listed_metas self.now.records) }
     {
-        listed(self.alloc(), &self.records)
+        listed(self.alloc, &self.records)
     }
 }

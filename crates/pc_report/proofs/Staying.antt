@@ -6,7 +6,7 @@ use Rattle.pc_base.specs.declared.actor.ActorId.TheVariants as actors
 use Rattle.pc_base.specs.declared.entry.Entry.{Entry}
 use Rattle.pc_base.specs.declared.transaction.TxnId.{TxnId}
 use Rattle.pc_history.proofs.Ids.{same_id-equal, same_id-true}
-use Rattle.pc_history.specs.Own.{own, same_id}
+use Rattle.pc_history.specs.Own.{same_id}
 use Rattle.pc_implicit.proofs.Places.{place_other}
 use Rattle.pc_proto.specs.declared.answer.Answer.{Answer}
 use Rattle.pc_proto.specs.declared.answer.Answer.TheVariants as answers

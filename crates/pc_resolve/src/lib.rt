@@ -6,6 +6,3 @@ mod machine;
 
 pub use laws::resolving_goes_on;
 pub use machine::ResolveMachine;
-
-#[cfg(test)]
-mod tests;

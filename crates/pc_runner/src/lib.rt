@@ -12,6 +12,3 @@ mod session;
 mod turns;
 
 pub use turns::run_turns;
-
-#[cfg(test)]
-mod tests;

@@ -1,13 +1,10 @@
 -- Records: lists the metas of a range's records by transaction, each with the record's epoch. Own profile.
 use Rattle.std.specs.Prelude.{List, map}
 use Rattle.pc_base.specs.declared.transaction.TxnId.{TxnId}
-use Rattle.pc_base.specs.Keyed.{in_order}
-use Rattle.pc_base.specs.Transaction.{txn_cmp}
 use Rattle.pc_proto.specs.declared.meta.TxnMeta.{TxnMeta}
 use Rattle.pc_proto.specs.declared.record.Record.{Record}
 use Rattle.pc_proto.specs.RecordRows.Reached.{at_epoch}
 
--- The metas of these records, by transaction, each with its record's epoch.
+-- The metas of these records, in their order, each with its record's epoch.
 abbrev pub listed_metas : List (TxnId × Record) → List TxnMeta
-listed_metas records =
-    map (λ e. e.1) (in_order txn_cmp (map (λ e. (e.0, at_epoch e.1.status.epoch e.1.meta)) records))
+listed_metas records = map (λ e. at_epoch e.1.status.epoch e.1.meta) records

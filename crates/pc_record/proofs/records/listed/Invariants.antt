@@ -1,10 +1,8 @@
--- The metas so far are those of the records so far, in order.
-use Rattle.std.proofs.Common.{◌≡◌, map, take}
-use Rattle.pc_base.specs.Keyed.{in_order}
-use Rattle.pc_base.specs.Transaction.{txn_cmp}
-use Rattle.pc_proto.specs.RecordRows.Reached.{at_epoch}
+-- The metas of the records so far.
+use Rattle.std.proofs.Common.{◌≡◌, map}
+use Rattle.std.specs.Map.Iter.{deref_pair}
+use Rattle.pc_proto.specs.RecordRows.Records.{listed_metas}
 use Rattle.pc_record.proofs.records.listed.Given as goal
 
-abbrev pub invariant-loop-entry : goal.invariant-loop-entry
-invariant-loop-entry l =
-    l.metas.entries ≡ in_order txn_cmp (map (λ e. (e.0, at_epoch e.1.status.epoch e.1.meta)) (take l.entry-index l.records))
+abbrev pub invariant-loop-record : goal.invariant-loop-record
+invariant-loop-record l = l.metas ≡ listed_metas (map deref_pair l.yielded)

@@ -1,2 +1,0 @@
-pub mod SetAt
-pub mod Taken

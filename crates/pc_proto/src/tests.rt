@@ -1,4 +1,0 @@
-mod calls;
-mod fixtures;
-mod messages;
-mod records;

@@ -1,0 +1,25 @@
+//! Tests of crates whose check is long, so that their own checks need not be made again for them.
+#![tactic(auto)]
+
+#[cfg(test)]
+mod accepted;
+#[cfg(test)]
+mod coordinator;
+#[cfg(test)]
+mod evaluation;
+#[cfg(test)]
+mod intents;
+#[cfg(test)]
+mod limits;
+#[cfg(test)]
+mod push;
+#[cfg(test)]
+mod records;
+#[cfg(test)]
+mod report;
+#[cfg(test)]
+mod resolve;
+#[cfg(test)]
+mod turns;
+#[cfg(test)]
+mod workloads;

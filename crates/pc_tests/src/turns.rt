@@ -1,0 +1,54 @@
+use pc_base::{ActorId, Entry};
+use pc_proto::Event;
+use pc_range::NoGate;
+use pc_runner::run_turns;
+use pc_session::Stepped;
+use pc_work::Workload;
+use std::alloc::Global;
+use std::test::Fail;
+
+/// Two sessions, each of which puts a key of its own and commits; in the turns that are stated they stop before their ends.
+const TWO: &str =
+    r#"{"version":1,"pipelining":false,"sessions":[{"clock":{"start":10,"step":1},"script":[{"do":[{"put":["a","x"]}]}]},{"clock":{"start":20,"step":1},"script":[{"do":[{"put":["b","y"]}]}]}],"turns":["s1","s2","s2","b1","s1"]}"#;
+
+/// The number of the session that asks in the entry, or sends in it.
+fn acts(entry: &Entry<Event>, asks: bool) -> Option<u32> {
+    match (entry.actor, &entry.event) {
+        (ActorId::Session(number), Event::Ask { .. }) if asks => Some(number),
+        (ActorId::Session(number), Event::Send { .. }) if !asks => Some(number),
+        _ => None,
+    }
+}
+
+/// Whose calls are asked, or whose messages are sent, in order, where these two sessions run.
+fn order(alloc: Global, asks: bool) -> Result<Vec<u32>, Fail> {
+    let work = Workload::read(alloc, TWO.as_bytes())
+        .ok()
+        .ok_or("workload")?;
+    let mut clocks = Stepped::new(0, 0);
+    let entries = run_turns(alloc, &work, &mut clocks, &NoGate)
+        .ok()
+        .ok_or("memory")?;
+    let mut sessions = Vec::new(alloc);
+    for entry in entries.as_slice() {
+        if let Some(number) = acts(entry, asks) {
+            sessions.push(number)?;
+        }
+    }
+    Ok(sessions)
+}
+
+#[test]
+fn calls_come_in_the_turns_and_then_session_by_session(rt: HostRuntime) -> Result<(), Fail> {
+    let asks = order(rt.alloc(), true)?;
+    assert_eq!(rt; asks.as_slice(), [1, 2, 2, 1, 1, 2].as_slice());
+    Ok(())
+}
+
+/// In the stated turns each session begins and puts, and no job waits yet; then each commits, and does its job right behind that.
+#[test]
+fn what_is_over_is_finished_before_the_next_call(rt: HostRuntime) -> Result<(), Fail> {
+    let sends = order(rt.alloc(), false)?;
+    assert_eq!(rt; sends.as_slice(), [2, 1, 1, 1, 1, 2, 2, 2].as_slice());
+    Ok(())
+}
