@@ -18,8 +18,8 @@ pub data Item : Type 0 where
   Malformed : (line : ℕ) → Item
 
 -- A text's lines: what stands before each of its line feeds, and what stands behind the last.
-abbrev pub pieces : List ℕ → List (List ℕ)
-pieces bs = slice_split (λ b. b == 10) bs
+abbrev pub text_lines : List ℕ → List (List ℕ)
+text_lines bs = slice_split (λ b. b == 10) bs
 
 -- Behind the line `end` stands nothing.
 unfoldable pub over_items : ℕ → List (List ℕ) → List Item

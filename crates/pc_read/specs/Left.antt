@@ -6,16 +6,16 @@ use Rattle.pc_read.specs.declared.lines.Malformed.{Malformed}
 use Rattle.pc_read.specs.declared.lines.Stage.{Stage}
 use Rattle.pc_read.specs.declared.lines.Stage.TheVariants as stages
 use Rattle.pc_read.specs.declared.lines.Step.{Step}
-use Rattle.pc_read.specs.Items.{Item, Head, Line, ReportWord, Row, End, Malformed as malformed_line, entry_items, head_items, over_items, pieces, row_items}
+use Rattle.pc_read.specs.Items.{Item, Head, Line, ReportWord, Row, End, Malformed as malformed_line, entry_items, head_items, over_items, text_lines, row_items}
 use Rattle.pc_read.specs.Lines.{own_entry}
 use Rattle.pc_read.specs.Texts.{own_splits}
 
 -- The items that are left, by what was read before.
 abbrev pub items_left : Stage → ℕ → List ℕ → List Item
-items_left stages.Head line rest = head_items (pieces rest)
-items_left stages.Entries line rest = entry_items line (pieces rest)
-items_left stages.Rows line rest = row_items line (pieces rest)
-items_left stages.Over line rest = over_items line (pieces rest)
+items_left stages.Head line rest = head_items (text_lines rest)
+items_left stages.Entries line rest = entry_items line (text_lines rest)
+items_left stages.Rows line rest = row_items line (text_lines rest)
+items_left stages.Over line rest = over_items line (text_lines rest)
 items_left stages.Done line rest = []
 
 -- What a line stands for.

@@ -32,7 +32,7 @@ use Rattle.pc_read.specs.declared.view.ViewRef.{ViewRef}
 use Rattle.pc_read.specs.declared.view.ViewRef.TheVariants as view_refs
 use Rattle.pc_read.specs.Lists.{own_keys, own_metas, own_rows, own_told_rows, own_writes}
 use Rattle.pc_read.specs.Parts.{own_meta, own_span, own_why}
-use Rattle.pc_read.specs.Texts.{own_key, own_option, own_value}
+use Rattle.pc_read.specs.Texts.{own_key, own_option, own_value_bytes}
 
 -- What is made of two values where both are there.
 abbrev pub of_both : {A B C : Type 0} → (A → B → C) → Option A → Option B → Option C
@@ -53,7 +53,7 @@ abbrev pub own_request : RequestRef → Option Request
 own_request (request_refs.Get id epoch seq ts key) = option_map (λ k. requests.Get id epoch seq ts k) (own_key key)
 own_request (request_refs.Scan id epoch seq ts span) = option_map (λ s. requests.Scan id epoch seq ts s) (own_span span)
 own_request (request_refs.Put meta seq ts key value) =
-    option_and_then (λ m. of_both (λ k v. requests.Put m seq ts k v) (own_key key) (own_option own_value value)) (own_meta meta)
+    option_and_then (λ m. of_both (λ k v. requests.Put m seq ts k v) (own_key key) (own_option own_value_bytes value)) (own_meta meta)
 own_request (request_refs.Refresh id from to span) = option_map (λ s. requests.Refresh id from to s) (own_span span)
 own_request (request_refs.Beat meta ts now) = option_map (λ m. requests.Beat m ts now) (own_meta meta)
 own_request (request_refs.Stage meta ts now writes locks) =
@@ -70,7 +70,7 @@ own_request (request_refs.Remove id anchor) = option_map (λ k. requests.Remove 
 own_request request_refs.Records = Some requests.Records
 
 abbrev pub own_reply : ReplyRef → Option Reply
-own_reply (reply_refs.Value origin value) = option_map (λ v. replies.Value origin v) (own_option own_value value)
+own_reply (reply_refs.Value origin value) = option_map (λ v. replies.Value origin v) (own_option own_value_bytes value)
 own_reply (reply_refs.Rows rows) = option_map replies.Rows (own_rows rows)
 own_reply (reply_refs.Conflict holder ts key) = of_both (λ m k. replies.Conflict m ts k) (own_meta holder) (own_key key)
 own_reply (reply_refs.Written ts) = Some (replies.Written ts)
@@ -89,7 +89,7 @@ abbrev pub own_call : CallRef → Option Call
 own_call (call_refs.Begin priority) = Some (calls.Begin priority)
 own_call (call_refs.Get key) = option_map calls.Get (own_key key)
 own_call (call_refs.Scan span) = option_map calls.Scan (own_span span)
-own_call (call_refs.Put key value) = of_both (λ k v. calls.Put k v) (own_key key) (own_value value)
+own_call (call_refs.Put key value) = of_both (λ k v. calls.Put k v) (own_key key) (own_value_bytes value)
 own_call (call_refs.Delete key) = option_map calls.Delete (own_key key)
 own_call call_refs.Commit = Some calls.Commit
 own_call call_refs.Rollback = Some calls.Rollback
@@ -98,7 +98,7 @@ own_call call_refs.Round = Some calls.Round
 
 abbrev pub own_answer : AnswerRef → Option Answer
 own_answer (answer_refs.Begun id ts) = Some (answers.Begun id ts)
-own_answer (answer_refs.Value value) = option_map answers.Value (own_option own_value value)
+own_answer (answer_refs.Value value) = option_map answers.Value (own_option own_value_bytes value)
 own_answer (answer_refs.Rows rows) = option_map answers.Rows (own_told_rows rows)
 own_answer answer_refs.Written = Some answers.Written
 own_answer (answer_refs.Committed id ts) = Some (answers.Committed id ts)

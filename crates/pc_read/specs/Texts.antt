@@ -10,8 +10,8 @@ abbrev pub own_key : Bor (List ℕ) → Option (List ℕ)
 own_key slice = key_at slice.now
 
 -- The value whose bytes a slice is.
-abbrev pub own_value : Bor (List ℕ) → Option (List ℕ)
-own_value slice = value_bytes_at slice.now
+abbrev pub own_value_bytes : Bor (List ℕ) → Option (List ℕ)
+own_value_bytes slice = value_bytes_at slice.now
 
 -- What may be absent, and is there where it is there.
 abbrev pub own_option : {A B : Type 0} → (A → Option B) → Option A → Option (Option B)
@@ -19,9 +19,9 @@ own_option own None = Some None
 own_option own (Some x) = option_map Some (own x)
 
 -- The split keys that bytes spell which begin with the number of ranges.
-abbrev pub splits_of : List ℕ → Option (List (List ℕ))
-splits_of bytes = splits_at (slice_split (λ b. b == 32) bytes)
+abbrev pub splits_in : List ℕ → Option (List (List ℕ))
+splits_in bytes = splits_at (slice_split (λ b. b == 32) bytes)
 
 -- The same of a slice.
 abbrev pub own_splits : Bor (List ℕ) → Option (List (List ℕ))
-own_splits slice = splits_of slice.now
+own_splits slice = splits_in slice.now

@@ -1,5 +1,5 @@
 ghost use Rattle.std.specs.Prelude.{◌≡◌};
-ghost use Rattle.pc_read.specs.Given.{Gives};
+ghost use Rattle.pc_read.specs.Given.{StandsFor};
 ghost use Rattle.pc_read.specs.Lines.{own_answer};
 ghost use Rattle.pc_proto.specs.declared.answer.Answer.TheVariants as answers;
 ghost use Rattle.pc_spelling.specs.Cutting.{◌&◌, list_at, made};
@@ -35,7 +35,7 @@ pub enum AnswerRef<'a> {
 
 #[tactic(auto, unfolding(pc_spelling::specs::ReadingLines::answer_at))]
 pub fn answer(bytes: &[u8]) -> Option<AnswerRef<'_>>
-    ensures { Gives own_answer result (answer_at bytes.now) }
+    ensures { StandsFor own_answer result (answer_at bytes.now) }
 {
     let (word, rest) = word_of(b' ', bytes);
     match rest {
@@ -63,7 +63,7 @@ pub fn answer(bytes: &[u8]) -> Option<AnswerRef<'_>>
 
 /// That a transaction is open.
 fn begun(bytes: &[u8]) -> Option<AnswerRef<'_>>
-    ensures { Gives own_answer result (made (λ p. answers.Begun p.0 p.1) (id_at & ts_at) bytes.now) }
+    ensures { StandsFor own_answer result (made (λ p. answers.Begun p.0 p.1) (id_at & ts_at) bytes.now) }
 {
     let (id, rest) = cut(b' ', bytes)?;
     let id = name::id(id)?;
@@ -73,7 +73,7 @@ fn begun(bytes: &[u8]) -> Option<AnswerRef<'_>>
 
 /// What a get read.
 fn value(bytes: &[u8]) -> Option<AnswerRef<'_>>
-    ensures { Gives own_answer result (made (λ p. answers.Value p) (maybe_value_at) bytes.now) }
+    ensures { StandsFor own_answer result (made (λ p. answers.Value p) (maybe_value_at) bytes.now) }
 {
     let value = text::maybe_value(bytes)?;
     Some(AnswerRef::Value(value))
@@ -81,7 +81,7 @@ fn value(bytes: &[u8]) -> Option<AnswerRef<'_>>
 
 /// The rows of a scan, without their origins.
 fn rows(bytes: &[u8]) -> Option<AnswerRef<'_>>
-    ensures { Gives own_answer result (made (λ p. answers.Rows p) (list_at told_row_at) bytes.now) }
+    ensures { StandsFor own_answer result (made (λ p. answers.Rows p) (list_at told_row_at) bytes.now) }
 {
     let rows = list::told_rows(bytes)?;
     Some(AnswerRef::Rows(rows))
@@ -89,7 +89,7 @@ fn rows(bytes: &[u8]) -> Option<AnswerRef<'_>>
 
 /// That a transaction is committed.
 fn committed(bytes: &[u8]) -> Option<AnswerRef<'_>>
-    ensures { Gives own_answer result (made (λ p. answers.Committed p.0 p.1) (id_at & ts_at) bytes.now) }
+    ensures { StandsFor own_answer result (made (λ p. answers.Committed p.0 p.1) (id_at & ts_at) bytes.now) }
 {
     let (id, rest) = cut(b' ', bytes)?;
     let id = name::id(id)?;
@@ -99,7 +99,7 @@ fn committed(bytes: &[u8]) -> Option<AnswerRef<'_>>
 
 /// That a transaction never commits.
 fn rolled_back(bytes: &[u8]) -> Option<AnswerRef<'_>>
-    ensures { Gives own_answer result (made (λ p. answers.RolledBack p.0 p.1) (id_at & why_at) bytes.now) }
+    ensures { StandsFor own_answer result (made (λ p. answers.RolledBack p.0 p.1) (id_at & why_at) bytes.now) }
 {
     let (id, rest) = cut(b' ', bytes)?;
     let id = name::id(id)?;
@@ -111,7 +111,7 @@ fn rolled_back(bytes: &[u8]) -> Option<AnswerRef<'_>>
 
 /// Which transaction stands in the way.
 fn blocked(bytes: &[u8]) -> Option<AnswerRef<'_>>
-    ensures { Gives own_answer result (made (λ p. answers.Blocked p) (id_at) bytes.now) }
+    ensures { StandsFor own_answer result (made (λ p. answers.Blocked p) (id_at) bytes.now) }
 {
     let holder = name::id(bytes)?;
     Some(AnswerRef::Blocked { holder })
@@ -119,7 +119,7 @@ fn blocked(bytes: &[u8]) -> Option<AnswerRef<'_>>
 
 /// How many sends in a row were lost.
 fn unavailable(bytes: &[u8]) -> Option<AnswerRef<'_>>
-    ensures { Gives own_answer result (made (λ p. answers.Unavailable p) (number32_at) bytes.now) }
+    ensures { StandsFor own_answer result (made (λ p. answers.Unavailable p) (number32_at) bytes.now) }
 {
     let faults = number::number32(bytes)?;
     Some(AnswerRef::Unavailable { faults })
@@ -127,7 +127,7 @@ fn unavailable(bytes: &[u8]) -> Option<AnswerRef<'_>>
 
 /// That another aborted it.
 fn aborted(bytes: &[u8]) -> Option<AnswerRef<'_>>
-    ensures { Gives own_answer result (made (λ p. answers.Aborted p) (why_at) bytes.now) }
+    ensures { StandsFor own_answer result (made (λ p. answers.Aborted p) (why_at) bytes.now) }
 {
     let Some(why) = part::why(bytes) else {
         return None;
@@ -137,7 +137,7 @@ fn aborted(bytes: &[u8]) -> Option<AnswerRef<'_>>
 
 /// Which write is in the way of a refresh.
 fn restart(bytes: &[u8]) -> Option<AnswerRef<'_>>
-    ensures { Gives own_answer result (made (λ p. answers.Restart p.0 p.1) (key_at & ts_at) bytes.now) }
+    ensures { StandsFor own_answer result (made (λ p. answers.Restart p.0 p.1) (key_at & ts_at) bytes.now) }
 {
     let (key, rest) = cut(b' ', bytes)?;
     let key = text::key(key)?;
@@ -147,7 +147,7 @@ fn restart(bytes: &[u8]) -> Option<AnswerRef<'_>>
 
 /// That it is open whether a transaction is committed.
 fn unknown(bytes: &[u8]) -> Option<AnswerRef<'_>>
-    ensures { Gives own_answer result (made (λ p. answers.Unknown p) (id_at) bytes.now) }
+    ensures { StandsFor own_answer result (made (λ p. answers.Unknown p) (id_at) bytes.now) }
 {
     let id = name::id(bytes)?;
     Some(AnswerRef::Unknown { id })
@@ -155,7 +155,7 @@ fn unknown(bytes: &[u8]) -> Option<AnswerRef<'_>>
 
 /// Where the last commit was moved to.
 fn moved(bytes: &[u8]) -> Option<AnswerRef<'_>>
-    ensures { Gives own_answer result (made (λ p. answers.Moved p) (ts_at) bytes.now) }
+    ensures { StandsFor own_answer result (made (λ p. answers.Moved p) (ts_at) bytes.now) }
 {
     let ts = number::timestamp(bytes)?;
     Some(AnswerRef::Moved { ts })
@@ -163,7 +163,7 @@ fn moved(bytes: &[u8]) -> Option<AnswerRef<'_>>
 
 /// A reading past the clock's range.
 fn clock(bytes: &[u8]) -> Option<AnswerRef<'_>>
-    ensures { Gives own_answer result (made (λ p. answers.Clock p) (number64_at) bytes.now) }
+    ensures { StandsFor own_answer result (made (λ p. answers.Clock p) (number64_at) bytes.now) }
 {
     let reading = number::number64(bytes)?;
     Some(AnswerRef::Clock { reading })

@@ -1,5 +1,5 @@
 ghost use Rattle.std.specs.Prelude.{◌≡◌};
-ghost use Rattle.pc_read.specs.Given.{Gives};
+ghost use Rattle.pc_read.specs.Given.{StandsFor};
 ghost use Rattle.pc_read.specs.Lines.{own_call};
 ghost use Rattle.pc_proto.specs.declared.call.Call.TheVariants as calls;
 ghost use Rattle.pc_spelling.specs.Cutting.{◌&◌, made};
@@ -27,7 +27,7 @@ pub enum CallRef<'a> {
 
 #[tactic(auto, unfolding(pc_spelling::specs::ReadingLines::call_at))]
 pub fn call(bytes: &[u8]) -> Option<CallRef<'_>>
-    ensures { Gives own_call result (call_at bytes.now) }
+    ensures { StandsFor own_call result (call_at bytes.now) }
 {
     let (word, rest) = word_of(b' ', bytes);
     match rest {
@@ -47,7 +47,7 @@ pub fn call(bytes: &[u8]) -> Option<CallRef<'_>>
 
 /// A new transaction.
 fn begin(bytes: &[u8]) -> Option<CallRef<'_>>
-    ensures { Gives own_call result (made (λ p. calls.Begin p) (priority_at) bytes.now) }
+    ensures { StandsFor own_call result (made (λ p. calls.Begin p) (priority_at) bytes.now) }
 {
     let priority = name::priority(bytes)?;
     Some(CallRef::Begin(priority))
@@ -55,7 +55,7 @@ fn begin(bytes: &[u8]) -> Option<CallRef<'_>>
 
 /// The value of a key.
 fn get(bytes: &[u8]) -> Option<CallRef<'_>>
-    ensures { Gives own_call result (made (λ p. calls.Get p) (key_at) bytes.now) }
+    ensures { StandsFor own_call result (made (λ p. calls.Get p) (key_at) bytes.now) }
 {
     let key = text::key(bytes)?;
     Some(CallRef::Get(key))
@@ -63,7 +63,7 @@ fn get(bytes: &[u8]) -> Option<CallRef<'_>>
 
 /// The rows of a span.
 fn scan(bytes: &[u8]) -> Option<CallRef<'_>>
-    ensures { Gives own_call result (made (λ p. calls.Scan p) (span_at) bytes.now) }
+    ensures { StandsFor own_call result (made (λ p. calls.Scan p) (span_at) bytes.now) }
 {
     let span = part::span(bytes)?;
     Some(CallRef::Scan(span))
@@ -71,7 +71,7 @@ fn scan(bytes: &[u8]) -> Option<CallRef<'_>>
 
 /// A write.
 fn put(bytes: &[u8]) -> Option<CallRef<'_>>
-    ensures { Gives own_call result (made (λ p. calls.Put p.0 p.1) (key_at & value_at) bytes.now) }
+    ensures { StandsFor own_call result (made (λ p. calls.Put p.0 p.1) (key_at & value_at) bytes.now) }
 {
     let (key, rest) = cut(b' ', bytes)?;
     let key = text::key(key)?;
@@ -81,7 +81,7 @@ fn put(bytes: &[u8]) -> Option<CallRef<'_>>
 
 /// The deletion of a key.
 fn delete(bytes: &[u8]) -> Option<CallRef<'_>>
-    ensures { Gives own_call result (made (λ p. calls.Delete p) (key_at) bytes.now) }
+    ensures { StandsFor own_call result (made (λ p. calls.Delete p) (key_at) bytes.now) }
 {
     let key = text::key(bytes)?;
     Some(CallRef::Delete(key))
@@ -89,7 +89,7 @@ fn delete(bytes: &[u8]) -> Option<CallRef<'_>>
 
 /// Whether a transaction is committed.
 fn learn(bytes: &[u8]) -> Option<CallRef<'_>>
-    ensures { Gives own_call result (made (λ p. calls.Learn p) (id_at) bytes.now) }
+    ensures { StandsFor own_call result (made (λ p. calls.Learn p) (id_at) bytes.now) }
 {
     let id = name::id(bytes)?;
     Some(CallRef::Learn(id))

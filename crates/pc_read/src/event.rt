@@ -1,5 +1,5 @@
 ghost use Rattle.std.specs.Prelude.{◌≡◌, IfSome};
-ghost use Rattle.pc_read.specs.Given.{Gives};
+ghost use Rattle.pc_read.specs.Given.{StandsFor};
 ghost use Rattle.pc_read.specs.Lines.{own_entry, own_event};
 ghost use Rattle.pc_proto.specs.declared.event.Event.TheVariants as events;
 ghost use Rattle.pc_spelling.specs.Cutting.{◌&◌, made};
@@ -53,7 +53,7 @@ pub struct EntryRef<'a> {
 
 #[tactic(auto, unfolding(pc_spelling::specs::ReadingLines::event_at))]
 pub fn event(bytes: &[u8]) -> Option<EventRef<'_>>
-    ensures { Gives own_event result (event_at bytes.now) }
+    ensures { StandsFor own_event result (event_at bytes.now) }
 {
     let (word, rest) = word_of(b' ', bytes);
     match rest {
@@ -70,7 +70,7 @@ pub fn event(bytes: &[u8]) -> Option<EventRef<'_>>
 
 /// A message of an actor.
 fn send(bytes: &[u8]) -> Option<EventRef<'_>>
-    ensures { Gives own_event result (made (λ p. events.Send p.0 p.1.0 p.1.1) (number64_at & range_at & request_at) bytes.now) }
+    ensures { StandsFor own_event result (made (λ p. events.Send p.0 p.1.0 p.1.1) (number64_at & range_at & request_at) bytes.now) }
 {
     let (number, rest) = cut(b' ', bytes)?;
     let number = number::number64(number)?;
@@ -88,7 +88,7 @@ fn send(bytes: &[u8]) -> Option<EventRef<'_>>
 
 /// A reply of a range.
 fn eval(bytes: &[u8]) -> Option<EventRef<'_>>
-    ensures { Gives own_event result (made (λ p. events.Eval p.0 p.1.0 p.1.1) (actor_at & number64_at & reply_at) bytes.now) }
+    ensures { StandsFor own_event result (made (λ p. events.Eval p.0 p.1.0 p.1.1) (actor_at & number64_at & reply_at) bytes.now) }
 {
     let (actor, rest) = cut(b' ', bytes)?;
     let actor = name::actor(actor)?;
@@ -106,7 +106,7 @@ fn eval(bytes: &[u8]) -> Option<EventRef<'_>>
 
 /// That a reply was heard.
 fn hear(bytes: &[u8]) -> Option<EventRef<'_>>
-    ensures { Gives own_event result (made (λ p. events.Hear p.0 p.1) (number64_at & number64_at) bytes.now) }
+    ensures { StandsFor own_event result (made (λ p. events.Hear p.0 p.1) (number64_at & number64_at) bytes.now) }
 {
     let (number, rest) = cut(b' ', bytes)?;
     let number = number::number64(number)?;
@@ -116,7 +116,7 @@ fn hear(bytes: &[u8]) -> Option<EventRef<'_>>
 
 /// What a client is told.
 fn tell(bytes: &[u8]) -> Option<EventRef<'_>>
-    ensures { Gives own_event result (made (λ p. events.Tell p) (answer_at) bytes.now) }
+    ensures { StandsFor own_event result (made (λ p. events.Tell p) (answer_at) bytes.now) }
 {
     let Some(answer) = answer::answer(bytes) else {
         return None;
@@ -126,7 +126,7 @@ fn tell(bytes: &[u8]) -> Option<EventRef<'_>>
 
 /// That a commit was learnt of.
 fn meet(bytes: &[u8]) -> Option<EventRef<'_>>
-    ensures { Gives own_event result (made (λ p. events.Meet p.0 p.1) (id_at & number64_at) bytes.now) }
+    ensures { StandsFor own_event result (made (λ p. events.Meet p.0 p.1) (id_at & number64_at) bytes.now) }
 {
     let (id, rest) = cut(b' ', bytes)?;
     let id = name::id(id)?;
@@ -148,7 +148,7 @@ fn reading(bytes: &[u8]) -> Option<u64>
 /// A call and the reading at which it is asked, which stands behind the last space.
 #[tactic(auto, unfolding(pc_spelling::specs::ReadingLines::asked_at))]
 fn ask(bytes: &[u8]) -> Option<EventRef<'_>>
-    ensures { Gives own_event result (made (λ p. events.Ask p.0 p.1) asked_at bytes.now) }
+    ensures { StandsFor own_event result (made (λ p. events.Ask p.0 p.1) asked_at bytes.now) }
 {
     let (call, reading_text) = cut_last(b' ', bytes)?;
     let call = call::call(call)?;
@@ -159,7 +159,7 @@ fn ask(bytes: &[u8]) -> Option<EventRef<'_>>
 /// An entry at this line: its step, its actor and its event.
 #[tactic(auto, unfolding(pc_spelling::specs::ReadingLines::entry_at))]
 pub fn entry(line: u64, bytes: &[u8]) -> Option<EntryRef<'_>>
-    ensures value { Gives own_entry result (entry_at bytes.now) }
+    ensures value { StandsFor own_entry result (entry_at bytes.now) }
     ensures line { IfSome result (λ entry. entry.line ≡ line) }
 {
     let (step, rest) = cut(b' ', bytes)?;

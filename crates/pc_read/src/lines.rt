@@ -1,7 +1,7 @@
 ghost use Rattle.std.specs.Prelude.{◌≡◌, ◌+◌, ◌^◌, ◌<◌, ◌∷◌, [], IfSome, IsSome, length};
-ghost use Rattle.pc_read.specs.Items.{Malformed as malformed_line, entry_items, head_items, pieces, row_items, second_items, third_items};
+ghost use Rattle.pc_read.specs.Items.{Malformed as malformed_line, entry_items, head_items, text_lines, row_items, second_items, third_items};
 ghost use Rattle.pc_read.specs.Left.{StepTakes, TakesNext};
-ghost use Rattle.pc_read.specs.Texts.{splits_of};
+ghost use Rattle.pc_read.specs.Texts.{splits_in};
 
 use crate::cut::{cut, is};
 use crate::event::{EntryRef, entry};
@@ -75,7 +75,7 @@ impl<'a> Model for Lines<'a> {
 impl<'a> Lines<'a> {
     /// All lines of the bytes.
     pub fn new(bytes: &'a [u8]) -> Lines<'a>
-        ensures { result ≡ head_items (pieces bytes.now) }
+        ensures { result ≡ head_items (text_lines bytes.now) }
     {
         Lines {
             stage: Stage::Head,
@@ -122,7 +122,7 @@ fn refuse(line: u64, rest: &[u8]) -> Step<'_>
 #[tactic(auto, using(crate::proofs::Steps::entry_steps))]
 fn entry_step(line: u64, rest: &[u8]) -> Step<'_>
     requires { line + length rest.now < 2 ^ 64 }
-    ensures takes { StepTakes result (entry_items line (pieces rest.now)) }
+    ensures takes { StepTakes result (entry_items line (text_lines rest.now)) }
     ensures room { result.line + length result.rest.now < 2 ^ 64 }
 {
     let Some((text, behind)) = cut(b'\n', rest) else {
@@ -151,7 +151,7 @@ fn entry_step(line: u64, rest: &[u8]) -> Step<'_>
 #[tactic(auto, using(crate::proofs::Steps::row_steps))]
 fn row_step(line: u64, rest: &[u8]) -> Step<'_>
     requires { line + length rest.now < 2 ^ 64 }
-    ensures takes { StepTakes result (row_items line (pieces rest.now)) }
+    ensures takes { StepTakes result (row_items line (text_lines rest.now)) }
     ensures room { result.line + length result.rest.now < 2 ^ 64 }
 {
     let Some((text, behind)) = cut(b'\n', rest) else {
@@ -180,7 +180,7 @@ fn row_step(line: u64, rest: &[u8]) -> Step<'_>
 #[tactic(auto, using(crate::proofs::Steps::head_steps))]
 fn head_step(rest: &[u8]) -> Step<'_>
     requires { 1 + length rest.now < 2 ^ 64 }
-    ensures takes { StepTakes result (head_items (pieces rest.now)) }
+    ensures takes { StepTakes result (head_items (text_lines rest.now)) }
     ensures room { result.line + length result.rest.now < 2 ^ 64 }
 {
     let Some((text, behind)) = cut(b'\n', rest) else {
@@ -197,7 +197,7 @@ fn head_step(rest: &[u8]) -> Step<'_>
 #[tactic(auto, using(crate::proofs::Steps::head_steps))]
 fn second_step(rest: &[u8]) -> Step<'_>
     requires { 2 + length rest.now < 2 ^ 64 }
-    ensures takes { StepTakes result (second_items (pieces rest.now)) }
+    ensures takes { StepTakes result (second_items (text_lines rest.now)) }
     ensures room { result.line + length result.rest.now < 2 ^ 64 }
 {
     let Some((text, behind)) = cut(b'\n', rest) else {
@@ -213,8 +213,8 @@ fn second_step(rest: &[u8]) -> Step<'_>
 #[tactic(auto, using(crate::proofs::Steps::head_steps))]
 fn third_step<'a>(splits: &'a [u8], rest: &'a [u8]) -> Step<'a>
     requires room { 3 + length rest.now < 2 ^ 64 }
-    requires splits { IsSome (splits_of splits.now) }
-    ensures takes { IfSome (splits_of splits.now) (λ keys. StepTakes result (third_items keys (pieces rest.now))) }
+    requires splits { IsSome (splits_in splits.now) }
+    ensures takes { IfSome (splits_in splits.now) (λ keys. StepTakes result (third_items keys (text_lines rest.now))) }
     ensures room { result.line + length result.rest.now < 2 ^ 64 }
 {
     let Some((text, behind)) = cut(b'\n', rest) else {

@@ -1,6 +1,6 @@
 ghost use Rattle.std.specs.Prelude.{◌≡◌, ◌==◌, ◌||◌, List, ℕ, Bool, bytes_eq, codes, is_some};
 ghost use Rattle.std.specs.List.{list_all, slice_split};
-ghost use Rattle.pc_read.specs.Given.{Gives};
+ghost use Rattle.pc_read.specs.Given.{StandsFor};
 ghost use Rattle.pc_read.specs.Lists.{own_keys, own_metas, own_rows, own_told_rows, own_writes};
 ghost use Rattle.pc_spelling.specs.Cutting.{list_at};
 ghost use Rattle.pc_spelling.specs.Reading.{key_at, keys_at, meta_at, row_at, told_row_at, write_at, writes_at};
@@ -132,7 +132,7 @@ fn is_row(bytes: &[u8]) -> bool
 
 /// Keys, or a dash for none, as they stand.
 pub fn keys(bytes: &[u8]) -> Option<&[u8]>
-    ensures { Gives own_keys result (keys_at bytes.now) }
+    ensures { StandsFor own_keys result (keys_at bytes.now) }
 {
     if is_list::<KeyItem>(bytes) {
         Some(bytes)
@@ -143,7 +143,7 @@ pub fn keys(bytes: &[u8]) -> Option<&[u8]>
 
 /// Writes, or a dash for none, as they stand.
 pub fn writes(bytes: &[u8]) -> Option<&[u8]>
-    ensures { Gives own_writes result (writes_at bytes.now) }
+    ensures { StandsFor own_writes result (writes_at bytes.now) }
 {
     if is_list::<WriteItem>(bytes) {
         Some(bytes)
@@ -154,7 +154,7 @@ pub fn writes(bytes: &[u8]) -> Option<&[u8]>
 
 /// Metas, or a dash for none, as they stand.
 pub fn metas(bytes: &[u8]) -> Option<&[u8]>
-    ensures { Gives own_metas result (list_at meta_at bytes.now) }
+    ensures { StandsFor own_metas result (list_at meta_at bytes.now) }
 {
     if is_list::<MetaItem>(bytes) {
         Some(bytes)
@@ -165,7 +165,7 @@ pub fn metas(bytes: &[u8]) -> Option<&[u8]>
 
 /// Rows of a reply, or a dash for none, as they stand.
 pub fn rows(bytes: &[u8]) -> Option<&[u8]>
-    ensures { Gives own_rows result (list_at row_at bytes.now) }
+    ensures { StandsFor own_rows result (list_at row_at bytes.now) }
 {
     if is_list::<RowItem>(bytes) {
         Some(bytes)
@@ -176,7 +176,7 @@ pub fn rows(bytes: &[u8]) -> Option<&[u8]>
 
 /// Rows that a client is told, or a dash for none, as they stand.
 pub fn told_rows(bytes: &[u8]) -> Option<&[u8]>
-    ensures { Gives own_told_rows result (list_at told_row_at bytes.now) }
+    ensures { StandsFor own_told_rows result (list_at told_row_at bytes.now) }
 {
     if is_list::<ToldRowItem>(bytes) {
         Some(bytes)

@@ -1,5 +1,5 @@
 ghost use Rattle.std.specs.Prelude.{◌≡◌};
-ghost use Rattle.pc_read.specs.Given.{Gives};
+ghost use Rattle.pc_read.specs.Given.{StandsFor};
 ghost use Rattle.pc_read.specs.Parts.{own_meta, own_span, own_why};
 ghost use Rattle.pc_spelling.specs.Reading.{meta_at, point_at, span_at, why_at};
 
@@ -40,7 +40,7 @@ pub enum WhyRef<'a> {
 
 #[tactic(auto, unfolding(pc_spelling::specs::Reading::meta_at))]
 pub fn meta(bytes: &[u8]) -> Option<MetaRef<'_>>
-    ensures { Gives own_meta result (meta_at bytes.now) }
+    ensures { StandsFor own_meta result (meta_at bytes.now) }
 {
     let (name, rest) = cut(b':', bytes)?;
     let name = id(name)?;
@@ -74,7 +74,7 @@ pub fn point(bytes: &[u8]) -> Option<(TxnId, (u32, u32))>
 
 #[tactic(auto, unfolding(pc_spelling::specs::Reading::span_at))]
 pub fn span(bytes: &[u8]) -> Option<SpanRef<'_>>
-    ensures { Gives own_span result (span_at bytes.now) }
+    ensures { StandsFor own_span result (span_at bytes.now) }
 {
     match cut(b',', bytes) {
         None => Some(SpanRef::One(key(bytes)?)),
@@ -88,7 +88,7 @@ pub fn span(bytes: &[u8]) -> Option<SpanRef<'_>>
 
 #[tactic(auto, unfolding(pc_spelling::specs::Reading::why_at))]
 pub fn why(bytes: &[u8]) -> Option<WhyRef<'_>>
-    ensures { Gives own_why result (why_at bytes.now) }
+    ensures { StandsFor own_why result (why_at bytes.now) }
 {
     let (word, rest) = word_of(b':', bytes);
     let Some(rest) = rest else {

@@ -1,5 +1,5 @@
 ghost use Rattle.std.specs.Prelude.{◌≡◌};
-ghost use Rattle.pc_read.specs.Given.{Gives};
+ghost use Rattle.pc_read.specs.Given.{StandsFor};
 ghost use Rattle.pc_read.specs.Lines.{own_reply};
 ghost use Rattle.pc_proto.specs.declared.reply.Reply.TheVariants as replies;
 ghost use Rattle.pc_spelling.specs.Cutting.{◌&◌, list_at, made};
@@ -46,7 +46,7 @@ pub enum ReplyRef<'a> {
 
 #[tactic(auto, unfolding(pc_spelling::specs::ReadingLines::reply_at))]
 pub fn reply(bytes: &[u8]) -> Option<ReplyRef<'_>>
-    ensures { Gives own_reply result (reply_at bytes.now) }
+    ensures { StandsFor own_reply result (reply_at bytes.now) }
 {
     let (word, rest) = word_of(b' ', bytes);
     match rest {
@@ -71,7 +71,7 @@ pub fn reply(bytes: &[u8]) -> Option<ReplyRef<'_>>
 
 /// What a get read.
 fn read(bytes: &[u8]) -> Option<ReplyRef<'_>>
-    ensures { Gives own_reply result (made (λ p. replies.Value p.0 p.1) (origin_at & maybe_value_at) bytes.now) }
+    ensures { StandsFor own_reply result (made (λ p. replies.Value p.0 p.1) (origin_at & maybe_value_at) bytes.now) }
 {
     let (origin, rest) = cut(b' ', bytes)?;
     let origin = number::origin(origin)?;
@@ -81,7 +81,7 @@ fn read(bytes: &[u8]) -> Option<ReplyRef<'_>>
 
 /// Another transaction's intent.
 fn conflict(bytes: &[u8]) -> Option<ReplyRef<'_>>
-    ensures { Gives own_reply result (made (λ p. replies.Conflict p.0 p.1.0 p.1.1) (meta_at & ts_at & key_at) bytes.now) }
+    ensures { StandsFor own_reply result (made (λ p. replies.Conflict p.0 p.1.0 p.1.1) (meta_at & ts_at & key_at) bytes.now) }
 {
     let (holder, rest) = cut(b' ', bytes)?;
     let holder = part::meta(holder)?;
@@ -93,7 +93,7 @@ fn conflict(bytes: &[u8]) -> Option<ReplyRef<'_>>
 
 /// Where a write stands.
 fn written(bytes: &[u8]) -> Option<ReplyRef<'_>>
-    ensures { Gives own_reply result (made (λ p. replies.Written p) (ts_at) bytes.now) }
+    ensures { StandsFor own_reply result (made (λ p. replies.Written p) (ts_at) bytes.now) }
 {
     let ts = number::timestamp(bytes)?;
     Some(ReplyRef::Written { ts })
@@ -101,7 +101,7 @@ fn written(bytes: &[u8]) -> Option<ReplyRef<'_>>
 
 /// What stands in the way of a refresh.
 fn unrefreshed(bytes: &[u8]) -> Option<ReplyRef<'_>>
-    ensures { Gives own_reply result (made (λ p. replies.Unrefreshed p.0 p.1) (key_at & ts_at) bytes.now) }
+    ensures { StandsFor own_reply result (made (λ p. replies.Unrefreshed p.0 p.1) (key_at & ts_at) bytes.now) }
 {
     let (key, rest) = cut(b' ', bytes)?;
     let key = text::key(key)?;
@@ -111,7 +111,7 @@ fn unrefreshed(bytes: &[u8]) -> Option<ReplyRef<'_>>
 
 /// What a record or mark says.
 fn status(bytes: &[u8]) -> Option<ReplyRef<'_>>
-    ensures { Gives own_reply result (made (λ p. replies.Status p) (view_at) bytes.now) }
+    ensures { StandsFor own_reply result (made (λ p. replies.Status p) (view_at) bytes.now) }
 {
     let Some(view) = view::view(bytes) else {
         return None;
@@ -121,7 +121,7 @@ fn status(bytes: &[u8]) -> Option<ReplyRef<'_>>
 
 /// What the record of a push that did not win says.
 fn refused(bytes: &[u8]) -> Option<ReplyRef<'_>>
-    ensures { Gives own_reply result (made (λ p. replies.Refused p) (view_at) bytes.now) }
+    ensures { StandsFor own_reply result (made (λ p. replies.Refused p) (view_at) bytes.now) }
 {
     let Some(view) = view::view(bytes) else {
         return None;
@@ -131,7 +131,7 @@ fn refused(bytes: &[u8]) -> Option<ReplyRef<'_>>
 
 /// What a staging record says.
 fn unsure(bytes: &[u8]) -> Option<ReplyRef<'_>>
-    ensures { Gives own_reply result (made (λ p. replies.Unsure p) (view_at) bytes.now) }
+    ensures { StandsFor own_reply result (made (λ p. replies.Unsure p) (view_at) bytes.now) }
 {
     let Some(view) = view::view(bytes) else {
         return None;
@@ -141,7 +141,7 @@ fn unsure(bytes: &[u8]) -> Option<ReplyRef<'_>>
 
 /// The rows of a scan.
 fn found_rows(bytes: &[u8]) -> Option<ReplyRef<'_>>
-    ensures { Gives own_reply result (made (λ p. replies.Rows p) (list_at row_at) bytes.now) }
+    ensures { StandsFor own_reply result (made (λ p. replies.Rows p) (list_at row_at) bytes.now) }
 {
     let rows = list::rows(bytes)?;
     Some(ReplyRef::Rows(rows))
@@ -149,7 +149,7 @@ fn found_rows(bytes: &[u8]) -> Option<ReplyRef<'_>>
 
 /// The metas of the records.
 fn listed(bytes: &[u8]) -> Option<ReplyRef<'_>>
-    ensures { Gives own_reply result (made (λ p. replies.Listed p) (list_at meta_at) bytes.now) }
+    ensures { StandsFor own_reply result (made (λ p. replies.Listed p) (list_at meta_at) bytes.now) }
 {
     let metas = list::metas(bytes)?;
     Some(ReplyRef::Listed(metas))

@@ -1,5 +1,5 @@
 ghost use Rattle.std.specs.Prelude.{◌≡◌};
-ghost use Rattle.pc_read.specs.Given.{Gives};
+ghost use Rattle.pc_read.specs.Given.{StandsFor};
 ghost use Rattle.pc_read.specs.Lines.{own_request};
 ghost use Rattle.pc_proto.specs.declared.request.Request.TheVariants as requests;
 ghost use Rattle.pc_spelling.specs.Cutting.{◌&◌, made};
@@ -101,7 +101,7 @@ pub enum RequestRef<'a> {
 
 #[tactic(auto, unfolding(pc_spelling::specs::ReadingLines::request_at))]
 pub fn request(bytes: &[u8]) -> Option<RequestRef<'_>>
-    ensures { Gives own_request result (request_at bytes.now) }
+    ensures { StandsFor own_request result (request_at bytes.now) }
 {
     let (word, rest) = word_of(b' ', bytes);
     match rest {
@@ -126,7 +126,7 @@ pub fn request(bytes: &[u8]) -> Option<RequestRef<'_>>
 
 /// The value of a key.
 fn get(bytes: &[u8]) -> Option<RequestRef<'_>>
-    ensures { Gives own_request result (made (λ p. requests.Get p.0.0 p.0.1.0 p.0.1.1 p.1.0 p.1.1) (point_at & ts_at & key_at) bytes.now) }
+    ensures { StandsFor own_request result (made (λ p. requests.Get p.0.0 p.0.1.0 p.0.1.1 p.1.0 p.1.1) (point_at & ts_at & key_at) bytes.now) }
 {
     let (point, rest) = cut(b' ', bytes)?;
     let (id, (epoch, seq)) = part::point(point)?;
@@ -144,7 +144,7 @@ fn get(bytes: &[u8]) -> Option<RequestRef<'_>>
 
 /// The rows of a span.
 fn scan(bytes: &[u8]) -> Option<RequestRef<'_>>
-    ensures { Gives own_request result (made (λ p. requests.Scan p.0.0 p.0.1.0 p.0.1.1 p.1.0 p.1.1) (point_at & ts_at & span_at) bytes.now) }
+    ensures { StandsFor own_request result (made (λ p. requests.Scan p.0.0 p.0.1.0 p.0.1.1 p.1.0 p.1.1) (point_at & ts_at & span_at) bytes.now) }
 {
     let (point, rest) = cut(b' ', bytes)?;
     let (id, (epoch, seq)) = part::point(point)?;
@@ -162,7 +162,7 @@ fn scan(bytes: &[u8]) -> Option<RequestRef<'_>>
 
 /// A write, or the deletion of a key.
 fn put(bytes: &[u8]) -> Option<RequestRef<'_>>
-    ensures { Gives own_request result (made (λ p. requests.Put p.0 p.1.0 p.1.1.0 p.1.1.1.0 p.1.1.1.1) (meta_at & number32_at & ts_at & key_at & maybe_value_at) bytes.now) }
+    ensures { StandsFor own_request result (made (λ p. requests.Put p.0 p.1.0 p.1.1.0 p.1.1.1.0 p.1.1.1.1) (meta_at & number32_at & ts_at & key_at & maybe_value_at) bytes.now) }
 {
     let (meta, rest) = cut(b' ', bytes)?;
     let meta = part::meta(meta)?;
@@ -184,7 +184,7 @@ fn put(bytes: &[u8]) -> Option<RequestRef<'_>>
 
 /// Whether what was read is so at a later timestamp.
 fn refresh(bytes: &[u8]) -> Option<RequestRef<'_>>
-    ensures { Gives own_request result (made (λ p. requests.Refresh p.0 p.1.0 p.1.1.0 p.1.1.1) (id_at & ts_at & ts_at & span_at) bytes.now) }
+    ensures { StandsFor own_request result (made (λ p. requests.Refresh p.0 p.1.0 p.1.1.0 p.1.1.1) (id_at & ts_at & ts_at & span_at) bytes.now) }
 {
     let (id, rest) = cut(b' ', bytes)?;
     let id = name::id(id)?;
@@ -198,7 +198,7 @@ fn refresh(bytes: &[u8]) -> Option<RequestRef<'_>>
 
 /// That a transaction is alive.
 fn beat(bytes: &[u8]) -> Option<RequestRef<'_>>
-    ensures { Gives own_request result (made (λ p. requests.Beat p.0 p.1.0 p.1.1) (meta_at & ts_at & number64_at) bytes.now) }
+    ensures { StandsFor own_request result (made (λ p. requests.Beat p.0 p.1.0 p.1.1) (meta_at & ts_at & number64_at) bytes.now) }
 {
     let (meta, rest) = cut(b' ', bytes)?;
     let meta = part::meta(meta)?;
@@ -210,7 +210,7 @@ fn beat(bytes: &[u8]) -> Option<RequestRef<'_>>
 
 /// A record with the writes in flight.
 fn stage(bytes: &[u8]) -> Option<RequestRef<'_>>
-    ensures { Gives own_request result (made (λ p. requests.Stage p.0 p.1.0 p.1.1.0 p.1.1.1.0 p.1.1.1.1) (meta_at & ts_at & number64_at & writes_at & keys_at) bytes.now) }
+    ensures { StandsFor own_request result (made (λ p. requests.Stage p.0 p.1.0 p.1.1.0 p.1.1.1.0 p.1.1.1.1) (meta_at & ts_at & number64_at & writes_at & keys_at) bytes.now) }
 {
     let (meta, rest) = cut(b' ', bytes)?;
     let meta = part::meta(meta)?;
@@ -232,7 +232,7 @@ fn stage(bytes: &[u8]) -> Option<RequestRef<'_>>
 
 /// A commit.
 fn commit(bytes: &[u8]) -> Option<RequestRef<'_>>
-    ensures { Gives own_request result (made (λ p. requests.Commit p.0 p.1.0 p.1.1) (meta_at & ts_at & keys_at) bytes.now) }
+    ensures { StandsFor own_request result (made (λ p. requests.Commit p.0 p.1.0 p.1.1) (meta_at & ts_at & keys_at) bytes.now) }
 {
     let (meta, rest) = cut(b' ', bytes)?;
     let meta = part::meta(meta)?;
@@ -244,7 +244,7 @@ fn commit(bytes: &[u8]) -> Option<RequestRef<'_>>
 
 /// An abort.
 fn abort(bytes: &[u8]) -> Option<RequestRef<'_>>
-    ensures { Gives own_request result (made (λ p. requests.Abort p.0 p.1.0 p.1.1) (meta_at & why_at & keys_at) bytes.now) }
+    ensures { StandsFor own_request result (made (λ p. requests.Abort p.0 p.1.0 p.1.1) (meta_at & why_at & keys_at) bytes.now) }
 {
     let (meta, rest) = cut(b' ', bytes)?;
     let meta = part::meta(meta)?;
@@ -258,7 +258,7 @@ fn abort(bytes: &[u8]) -> Option<RequestRef<'_>>
 
 /// A push.
 fn push(bytes: &[u8]) -> Option<RequestRef<'_>>
-    ensures { Gives own_request result (made (λ p. requests.Push p.0 p.1.0 p.1.1.0 p.1.1.1.0 p.1.1.1.1) (meta_at & who_at & priority_at & number64_at & goal_at) bytes.now) }
+    ensures { StandsFor own_request result (made (λ p. requests.Push p.0 p.1.0 p.1.1.0 p.1.1.1.0 p.1.1.1.1) (meta_at & who_at & priority_at & number64_at & goal_at) bytes.now) }
 {
     let (holder, rest) = cut(b' ', bytes)?;
     let holder = part::meta(holder)?;
@@ -280,7 +280,7 @@ fn push(bytes: &[u8]) -> Option<RequestRef<'_>>
 
 /// Whether a listed write stands.
 fn query(bytes: &[u8]) -> Option<RequestRef<'_>>
-    ensures { Gives own_request result (made (λ p. requests.Query p.0.0 p.0.1.0 p.0.1.1 p.1.0 p.1.1.0 p.1.1.1) (point_at & ts_at & key_at & who_at) bytes.now) }
+    ensures { StandsFor own_request result (made (λ p. requests.Query p.0.0 p.0.1.0 p.0.1.1 p.1.0 p.1.1.0 p.1.1.1) (point_at & ts_at & key_at & who_at) bytes.now) }
 {
     let (point, rest) = cut(b' ', bytes)?;
     let (id, (epoch, seq)) = part::point(point)?;
@@ -301,7 +301,7 @@ fn query(bytes: &[u8]) -> Option<RequestRef<'_>>
 
 /// What a recovery found.
 fn recover(bytes: &[u8]) -> Option<RequestRef<'_>>
-    ensures { Gives own_request result (made (λ p. requests.Recover p.0 p.1.0 p.1.1.0 p.1.1.1.0 p.1.1.1.1) (id_at & number32_at & ts_at & key_at & finding_at) bytes.now) }
+    ensures { StandsFor own_request result (made (λ p. requests.Recover p.0 p.1.0 p.1.1.0 p.1.1.1.0 p.1.1.1.1) (id_at & number32_at & ts_at & key_at & finding_at) bytes.now) }
 {
     let (id, rest) = cut(b' ', bytes)?;
     let id = name::id(id)?;
@@ -323,7 +323,7 @@ fn recover(bytes: &[u8]) -> Option<RequestRef<'_>>
 
 /// What becomes of an intent.
 fn resolve(bytes: &[u8]) -> Option<RequestRef<'_>>
-    ensures { Gives own_request result (made (λ p. requests.Resolve p.0 p.1.0 p.1.1) (id_at & key_at & fate_at) bytes.now) }
+    ensures { StandsFor own_request result (made (λ p. requests.Resolve p.0 p.1.0 p.1.1) (id_at & key_at & fate_at) bytes.now) }
 {
     let (id, rest) = cut(b' ', bytes)?;
     let id = name::id(id)?;
@@ -335,7 +335,7 @@ fn resolve(bytes: &[u8]) -> Option<RequestRef<'_>>
 
 /// That a record may go.
 fn remove(bytes: &[u8]) -> Option<RequestRef<'_>>
-    ensures { Gives own_request result (made (λ p. requests.Remove p.0 p.1) (id_at & key_at) bytes.now) }
+    ensures { StandsFor own_request result (made (λ p. requests.Remove p.0 p.1) (id_at & key_at) bytes.now) }
 {
     let (id, rest) = cut(b' ', bytes)?;
     let id = name::id(id)?;

@@ -1,6 +1,6 @@
 ghost use Rattle.std.specs.Prelude.{◌≡◌, ◌==◌, ◌+◌, ◌&&◌, None, is_some, option_map};
 ghost use Rattle.std.specs.List.{slice_split};
-ghost use Rattle.pc_read.specs.Given.{Gives};
+ghost use Rattle.pc_read.specs.Given.{StandsFor};
 ghost use Rattle.pc_read.specs.Rising.{is_above, rising};
 ghost use Rattle.pc_read.specs.Texts.{own_splits};
 ghost use Rattle.pc_spelling.specs.Reading.{key_at};
@@ -29,7 +29,7 @@ pub fn actors(line: &[u8]) -> Option<(u32, u32)>
 /// The number of ranges and the split keys of the second line, as they stand.
 #[tactic(auto, unfolding(pc_spelling::specs::ReadingHead::ranges_at))]
 pub fn ranges(line: &[u8]) -> Option<&[u8]>
-    ensures { Gives own_splits result (ranges_at line.now) }
+    ensures { StandsFor own_splits result (ranges_at line.now) }
 {
     match word_of(b' ', line) {
         (word, Some(rest)) if is(word, b"ranges") && are_splits(rest) => Some(rest),

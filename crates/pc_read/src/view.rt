@@ -1,5 +1,5 @@
 ghost use Rattle.std.specs.Prelude.{◌≡◌};
-ghost use Rattle.pc_read.specs.Given.{Gives};
+ghost use Rattle.pc_read.specs.Given.{StandsFor};
 ghost use Rattle.pc_read.specs.Lines.{own_finding, own_view};
 ghost use Rattle.pc_spelling.specs.ReadingLines.{fate_at, finding_at, goal_at, view_at};
 
@@ -46,7 +46,7 @@ pub enum FindingRef<'a> {
 
 #[tactic(auto, unfolding(pc_spelling::specs::ReadingLines::view_at))]
 pub fn view(bytes: &[u8]) -> Option<ViewRef<'_>>
-    ensures { Gives own_view result (view_at bytes.now) }
+    ensures { StandsFor own_view result (view_at bytes.now) }
 {
     let (word, rest) = word_of(b' ', bytes);
     let Some(rest) = rest else {
@@ -95,7 +95,7 @@ pub fn goal(bytes: &[u8]) -> Option<Goal>
 
 #[tactic(auto, unfolding(pc_spelling::specs::ReadingLines::finding_at))]
 pub fn finding(bytes: &[u8]) -> Option<FindingRef<'_>>
-    ensures { Gives own_finding result (finding_at bytes.now) }
+    ensures { StandsFor own_finding result (finding_at bytes.now) }
 {
     match word_of(b' ', bytes) {
         (word, None) if is(word, b"found") => Some(FindingRef::All),
