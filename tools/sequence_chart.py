@@ -7,10 +7,12 @@
 import sys
 from xml.sax.saxutils import escape
 
-COLUMN = 250
+COLUMN = 330
 ROW = 22
 TOP = 60
-LEFT = 130
+LEFT = 220
+# Keeps a text readable where a line crosses it.
+HALO = 'stroke="white" stroke-width="4" paint-order="stroke"'
 
 
 def read(lines):
@@ -29,7 +31,7 @@ def read(lines):
     return actors, entries
 
 
-def cut(text, most=44):
+def cut(text, most=46):
     return escape(text if len(text) <= most else text[: most - 1] + "…")
 
 
@@ -37,14 +39,14 @@ def arrow(x1, y1, x2, y2, text):
     middle = (x1 + x2) / 2
     return (
         f'<line x1="{x1}" y1="{y1}" x2="{x2}" y2="{y2}" stroke="#334e68" marker-end="url(#tip)"/>'
-        f'<text x="{middle}" y="{(y1 + y2) / 2 - 4}" text-anchor="middle">{cut(text)}</text>'
+        f'<text x="{middle}" y="{(y1 + y2) / 2 - 2}" text-anchor="middle" {HALO}>{cut(text)}</text>'
     )
 
 
 def chart(lines):
     actors, entries = read(lines)
     x = {actor: LEFT + i * COLUMN for i, actor in enumerate(actors)}
-    width = LEFT + len(actors) * COLUMN - COLUMN // 2
+    width = LEFT + len(actors) * COLUMN - COLUMN + 60
     height = TOP + ROW * (len(entries) + 1)
     out = [
         f'<svg xmlns="http://www.w3.org/2000/svg" width="{width}" height="{height}" font-family="sans-serif" font-size="11">',

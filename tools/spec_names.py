@@ -21,6 +21,7 @@ ALLOWED = TOP / "tools" / "spec_names.allowed"
 WORD = re.compile(r"[^\s.(){}\[\];,«»\"λ×→@]+")
 HEAD = re.compile(r"(?:(?:pub|abbrev|unfoldable)\s+)*(?:(record|data)\s+(\S+)|([^\s:(){}]+)\s*:(?=\s|$))")
 IMPORT = re.compile(r"^\s*(?:pub\s+)?(?:ghost\s+)?use\s+Rattle\.([^\s{};]+?)(?:\.\{([^}]*)\}|\s+as\s+(\S+?))?\s*;?\s*$")
+PATH = re.compile(r"\b(?:crate|\w+)::(?:proofs|specs)::[^\s,()]+")
 # Heads of a line that define nothing.
 NO_HEAD = {"use", "mod", "ruleset", "axiom", "open", "module", "syntax", "infix", "infixl", "infixr", "unfolding", "--", "{", "}"}
 
@@ -45,6 +46,7 @@ class Text:
         self.imports = defaultdict(list)  # the module: pairs of the name there and here
         self.aliases = {}  # what a whole module is called here: the module
         self.blocks = [(None, set())]  # the definition in which the words stand
+        self.cited = set()  # module and name of what a function's tactics name by a path
         if path.suffix == ".antt":
             self.read_antt()
         else:
@@ -98,6 +100,10 @@ class Text:
             if line.lstrip().startswith("//") or self.read_import(line):
                 continue
             self.blocks[-1][1].update(WORD.findall(line))
+            for path in PATH.findall(line):
+                crate, *rest, name = path.split("::")
+                crate = self.module.split(".")[0] if crate == "crate" else crate
+                self.cited.add((".".join([crate, *rest]), name))
 
     def words_outside(self, definition):
         return (words for inside, words in self.blocks if inside is not definition)
@@ -134,6 +140,9 @@ def mark_used(all_texts):
             for name, here in pairs:
                 if name in by_module[module] and (here in every or text.path.name == "Lib.antt"):
                     by_module[module][name].is_used = True
+        for module, name in text.cited:
+            if name in by_module[module]:
+                by_module[module][name].is_used = True
         for alias, module in text.aliases.items():
             if alias in every:
                 for name, definition in by_module[module].items():

@@ -4,7 +4,3 @@ use Rattle.std.specs.Prelude.{ℕ, ◌+◌, ◌*◌, ◌/◌, ◌^◌, nat_lt, i
 -- What the clock gives at this reading: the reading where it is past all that was heard, else the timestamp after that.
 abbrev pub clock_now : ℕ → ℕ → ℕ
 clock_now reading high = if nat_lt (high / 2 ^ 32) reading then reading * 2 ^ 32 else high + 1
-
--- The greatest reading, in nanoseconds, at which a transaction begins.
-abbrev pub greatest_reading : ℕ
-greatest_reading = 2 ^ 62

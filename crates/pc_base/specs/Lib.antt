@@ -1,7 +1,7 @@
 -- The words that every contract shares: keys, values, timestamps, transactions, spans, versions and read bounds.
 pub mod Bound
-pub mod Clock
 pub mod Counts
+pub mod Clock
 pub mod Faults
 pub mod Key
 pub mod Keyed

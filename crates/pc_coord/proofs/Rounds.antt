@@ -15,11 +15,12 @@ use Rattle.pc_proto.specs.declared.reply.Reply.TheVariants as replies
 use Rattle.pc_proto.specs.declared.request.Request.{Request}
 use Rattle.pc_proto.specs.declared.request.Request.TheVariants as requests
 use Rattle.pc_proto.specs.Requests.{is_push_of, is_resolve_of}
-use Rattle.pc_world.specs.Follows.Resends.{MetConflictNow, ResolvedTo, WasDone, WasSettled}
+use Rattle.pc_world.specs.Follows.Resends.{MetConflictNow, WasDone, WasSettled}
 use Rattle.pc_world.specs.Known.{Known}
 use Rattle.pc_world.specs.Known.Traffic.{Heard}
 use Rattle.pc_world.specs.SameRequest.{IsSameRequest}
 use Rattle.pc_world.specs.Send.Recovery.{was_refused}
+use Rattle.pc_world.specs.Send.Settling.{ResolvedTo}
 
 push_as : (id : TxnId) (request : Request) → is_push_of id request ≡ true → (other : TxnId) → is_push_of other request ≡ same_txn id other
 push_as id (requests.Push holder by level now goal) is other = ap (λ id. same_txn id other) (same_txn-is holder.id id is)

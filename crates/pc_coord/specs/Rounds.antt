@@ -12,10 +12,10 @@ use Rattle.pc_proto.specs.declared.view.View.{View}
 use Rattle.pc_proto.specs.Replies.{is_conflict_with}
 use Rattle.pc_proto.specs.Requests.{goal_in, is_push_of, is_resolve_of}
 use Rattle.pc_proto.specs.Views.{fate_after}
-use Rattle.pc_world.specs.Follows.Resends.{ResolvedTo}
 use Rattle.pc_world.specs.Known.{Known}
 use Rattle.pc_world.specs.Known.Traffic.{Heard}
 use Rattle.pc_world.specs.Send.Recovery.{was_refused}
+use Rattle.pc_world.specs.Send.Settling.{ResolvedTo}
 use Rattle.pc_world.specs.Tell.Refusal.{WasLost}
 
 -- A push of this transaction was heard.

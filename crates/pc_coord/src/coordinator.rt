@@ -25,17 +25,14 @@ use crate::job::Job;
 use crate::next::Next;
 use crate::pusher::Pusher;
 use crate::round::Round;
-use crate::stamps::last_stamp;
 use crate::transaction::{Transaction, following};
 use crate::{reads, turn};
+use pc_base::limits::GREATEST_READING;
 use pc_base::{Key, NoMemory, Priority, Span, Timestamp, TryCopy, TxnId, Value};
 use pc_proto::{Answer, Call, Fate, Keys, Reply, View, Why};
 use std::alloc::Global;
 use std::marker::Model;
 use std::mem;
-
-/// The greatest reading of a clock, in nanoseconds, at which a transaction begins.
-const GREATEST_READING: u64 = 1 << 62;
 
 /// The greatest timestamp: none follows it.
 const GREATEST: Timestamp = Timestamp {
@@ -342,7 +339,7 @@ impl<'a> Coordinator<'a> {
     fn hear(&mut self, reply: &Reply)
         ensures { self.new ≡ with_heard reply.now self.old }
     {
-        self.clock = self.clock.max(last_stamp(reply));
+        self.clock = self.clock.max(reply.last_stamp());
     }
 
     fn reply_heard(&mut self, number: u64, wait: &Wait, reply: &Reply) -> Result<(), NoMemory>
@@ -478,7 +475,7 @@ impl<'a> Coordinator<'a> {
     {
         let why = turn::cause_of(reply)?;
         self.due = turn::rolled_back(&self.txn, why);
-        self.close(turn::fate_of(reply));
+        self.close(reply.fate());
         Ok(())
     }
 

@@ -11,7 +11,6 @@ mod next;
 mod pusher;
 mod reads;
 mod round;
-mod stamps;
 mod transaction;
 mod turn;
 
@@ -21,4 +20,3 @@ pub use laws::coordinating_goes_on;
 pub use next::Next;
 pub use pusher::Pusher;
 pub use round::Round;
-pub use stamps::last_stamp;

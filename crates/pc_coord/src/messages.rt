@@ -2,18 +2,15 @@ ghost use Rattle.std.specs.Prelude.{◌≡◌, ◌++◌, [], ◌∷◌, find, ma
 ghost use Rattle.std.specs.Option.{option_and_then, option_copied};
 ghost use Rattle.std.specs.List.{flat_map, list_all, list_any, position};
 ghost use Rattle.pc_coord.specs.Messages.{again, answer_of, blocked_by, change_first, due_by, due_of_reads, first_met, has_reply, has_rows, holder_met, is_awaited, is_met, is_unsent, met_at, next_in, next_of_met, next_unmet, one_more, read_at, replied_as, rows_told, sent_as, unsent, value_heard, value_in, waits_at};
-ghost use Rattle.pc_proto.specs.Replies.{holder_in};
 ghost use Rattle.pc_world.specs.Tell.Data.{told_row};
 
 use crate::due::Due;
 use crate::next::Next;
+use pc_base::limits::MOST_CONFLICTS;
 use pc_base::{NoMemory, Timestamp, TryCopy, TxnId};
 use pc_proto::{Answer, Origin, Reply, Request, Rows};
 use std::alloc::Global;
 use std::marker::Model;
-
-/// How many intents a request meets in one call until the holder of the last one blocks the call.
-pub const CONFLICTS: u32 = 8;
 
 /// A message of the open statement.
 #[derive(Drop)]
@@ -301,7 +298,7 @@ impl Message {
         ensures { result ≡ holder_met self.now.progress }
     {
         match &self.progress {
-            Progress::Met { conflict, .. } => holder_in(conflict),
+            Progress::Met { conflict, .. } => conflict.holder(),
             _ => None,
         }
     }
@@ -309,7 +306,7 @@ impl Message {
     fn blocked_by(&self) -> Option<TxnId>
         ensures { result ≡ blocked_by self.now }
     {
-        if self.conflicts >= CONFLICTS {
+        if self.conflicts >= MOST_CONFLICTS {
             self.holder()
         } else {
             None
@@ -419,20 +416,10 @@ fn add_told(rows: &mut Rows, found: &Rows) -> Result<(), NoMemory>
 pub fn one_more(conflicts: u32) -> u32
     ensures { result ≡ one_more conflicts }
 {
-    if conflicts < CONFLICTS {
+    if conflicts < MOST_CONFLICTS {
         conflicts + 1
     } else {
-        CONFLICTS
-    }
-}
-
-/// The transaction that holds the intent, where the reply is a conflict.
-pub fn holder_in(reply: &Reply) -> Option<TxnId>
-    ensures { result ≡ holder_in reply.now }
-{
-    match reply {
-        Reply::Conflict { holder, .. } => Some(holder.id),
-        _ => None,
+        MOST_CONFLICTS
     }
 }
 

@@ -1,22 +1,18 @@
 ghost use Rattle.std.specs.Prelude.{◌≡◌, ◌<◌, None, Some, IfOk, OnOk, Option};
-ghost use Rattle.std.specs.Option.{option_and_then, option_map};
+ghost use Rattle.std.specs.Option.{option_map};
 ghost use Rattle.pc_coord.specs.Transaction.{refreshed, risen_to};
 ghost use Rattle.pc_coord.specs.Coordinating.{refusals_with};
 ghost use Rattle.pc_coord.specs.Coordination.{job_of};
 ghost use Rattle.pc_coord.specs.Turning.{blocked_due, cause_in, cause_of, due_of_commit, due_of_committed, due_of_conflict, due_of_end, due_of_put, due_of_resend, due_of_retry, due_of_rollback, due_of_rolled_back, due_of_round, due_of_written, txn_of_end, txn_of_put, txn_of_retry, txn_of_rollback, txn_of_written};
-ghost use Rattle.pc_proto.specs.Replies.{view_in};
-ghost use Rattle.pc_proto.specs.Views.{final_fate};
 
 use crate::due::Due;
 use crate::job::Job;
-use crate::messages::{CONFLICTS, holder_in, one_more};
+use crate::messages::one_more;
 use crate::round::Round;
 use crate::transaction::Transaction;
+use pc_base::limits::{MOST_CONFLICTS, MOST_REFUSALS};
 use pc_base::{Key, NoMemory, Timestamp, TryCopy, TxnId, Value};
 use pc_proto::{Answer, Fate, Reply, View, Why};
-
-/// How many refused commits of one statement make it give up.
-const REFUSALS: u32 = 8;
 
 /// The open transaction puts; no value is a deletion. A write of it that is in flight is sent again first.
 pub fn put(txn: &mut Option<Transaction>, key: &Key, value: Option<Value>) -> Result<Due, NoMemory>
@@ -45,9 +41,9 @@ pub fn met(number: u64, conflicts: u32, again: bool, reply: &Reply) -> Result<Du
     ensures { IfOk result (λ due. due ≡ due_of_conflict number conflicts again reply.now) }
 {
     let conflicts = one_more(conflicts);
-    match holder_in(reply) {
+    match reply.holder() {
         None => Ok(Due::Stuck),
-        Some(holder) if conflicts >= CONFLICTS => Ok(Due::Tell(Answer::Blocked { holder })),
+        Some(holder) if conflicts >= MOST_CONFLICTS => Ok(Due::Tell(Answer::Blocked { holder })),
         Some(_) => Ok(Due::Met {
             number,
             conflict: reply.copy()?,
@@ -69,7 +65,7 @@ pub fn settled(
 {
     match round {
         Round::Again => resend(txn, conflicts, again),
-        Round::Refused => Ok(blocked(holder_in(conflict))),
+        Round::Refused => Ok(blocked(conflict.holder())),
         Round::Lost { faults } => Ok(Due::Tell(Answer::Unavailable { faults })),
     }
 }
@@ -168,29 +164,6 @@ fn cause_in(view: &View) -> Result<Why, NoMemory>
     }
 }
 
-/// The fate that a reply shows, where it shows a final view.
-pub fn fate_of(reply: &Reply) -> Option<Fate>
-    ensures { result ≡ option_and_then final_fate (view_in reply.now) }
-{
-    match reply {
-        Reply::Status(view) | Reply::Refused(view) | Reply::Unsure(view) => final_fate(view),
-        _ => None,
-    }
-}
-
-fn final_fate(view: &View) -> Option<Fate>
-    ensures { result ≡ final_fate view.now }
-{
-    match view {
-        View::Committed { epoch, ts, .. } => Some(Fate::Committed {
-            epoch: *epoch,
-            ts: *ts,
-        }),
-        View::Aborted { .. } => Some(Fate::Aborted),
-        View::Nothing | View::Pending { .. } | View::Staging { .. } => None,
-    }
-}
-
 /// The open transaction commits by a message, after so many refusals.
 pub fn commit(txn: &mut Option<Transaction>, refusals: u32) -> Result<Due, NoMemory>
     ensures due { IfOk result (λ due. due ≡ due_of_commit refusals txn.old) }
@@ -211,7 +184,7 @@ pub fn retry(
     ensures due { IfOk result (λ due. due ≡ due_of_retry recorded refusals txn.old) }
     ensures txn { OnOk result (txn.new ≡ txn_of_retry refusals txn.old) }
 {
-    if refusals < REFUSALS {
+    if refusals < MOST_REFUSALS {
         commit(txn, refusals)
     } else {
         Ok(Due::Tell(Answer::Moved { ts: recorded }))

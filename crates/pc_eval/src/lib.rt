@@ -11,6 +11,3 @@ mod state;
 mod versions;
 
 pub use state::RangeState;
-
-#[cfg(test)]
-mod tests;

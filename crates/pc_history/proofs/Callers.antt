@@ -1,5 +1,6 @@
 -- What the callers of an actor use to show that its next event is local and caused.
 use Rattle.std.proofs.Common.{◌≡◌, ℕ, ◌+◌, ◌≤◌, ◌<◌, true, false, cond, List, [], ◌∷◌, ◌++◌, refl, ap, sym, ◌∙◌, subst, arith, length, slice_get, All, Contains, Some, None, IfSome}
+use Rattle.std.proofs.lemmas.Bool.{eq-eqb}
 use Rattle.std.proofs.lemmas.List.Elements.{Contains-append_left, Contains-append_right, All-contains_itself}
 use Rattle.pc_base.specs.declared.ActorId.{ActorId}
 use Rattle.pc_base.specs.declared.Entry.{Entry}
@@ -11,7 +12,7 @@ use Rattle.pc_history.specs.Own.{entries_of, pair}
 use Rattle.pc_history.specs.Parts.{known_entry, known_entry_at, noted, entry_of, acted, knowledge, told_entries, told, uses_of, uses_at, named_by, CanSpend}
 use Rattle.pc_history.specs.Closed.{IsSound, AllHandedIn, ids_of}
 use Rattle.pc_history.proofs.Histories.{named-one, named-none}
-use Rattle.pc_history.proofs.Uses.{uses_of-append, uses_of-cons, eqb-same}
+use Rattle.pc_history.proofs.Uses.{uses_of-append, uses_of-cons}
 use Rattle.pc_lists.proofs.Lists.{contains_head, contains_map, get_push}
 
 module _ {E : Type 0} where
@@ -34,7 +35,7 @@ module _ {E : Type 0} where
       let k = known_entry e place uses in
       let all : uses_of e.step (part.known ++ k ∷ []) ≡ uses_of e.step part.known + uses_of e.step (k ∷ []) = uses_of-append e.step part.known (k ∷ []) in
       let one : uses_of e.step (k ∷ []) ≡ uses_at e.step k + uses_of {E = E} e.step [] = uses_of-cons e.step k [] in
-      let here : uses_at e.step k ≡ uses = ap (λ b. cond b uses 0) (eqb-same e.step e.step refl) in
+      let here : uses_at e.step k ≡ uses = ap (λ b. cond b uses 0) (eq-eqb e.step e.step refl) in
       omega arith
 
 module _ {E : Type 0} (S : Sense E) where

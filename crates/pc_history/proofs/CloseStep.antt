@@ -1,5 +1,6 @@
 -- The opener closes the history.
 use Rattle.std.proofs.Common.{◌≡◌, ◌≢◌, ℕ, suc, ◌+◌, ◌*◌, ◌≤◌, ◌<◌, inl, inr, cond, eqb, List, [], ◌∷◌, ◌++◌, length, refl, ap, sym, ◌∙◌, subst, arith, length-append, Contains, Some, Option, slice_get, slice_index, slice_index_or, sum_by, IsPermutation}
+use Rattle.std.proofs.lemmas.Bool.{eq-eqb, ne_eqb}
 use Rattle.std.proofs.lemmas.List.Sums.{sum_by-cons, sum_by-append}
 use Rattle.std.proofs.lemmas.List.Elements.{All-contains, Contains-append_cases}
 use Rattle.std.proofs.lemmas.List.Sorted.{sum_by-IsPermutation, IsPermutation-sym, Contains-permutation}
@@ -24,7 +25,6 @@ use Rattle.pc_history.specs.Steps.{TellsClose, Closes}
 use Rattle.pc_history.specs.Ties.{entries_in}
 use Rattle.pc_history.proofs.Histories.{own-contains, fine-kept, pairs_of-entries}
 use Rattle.pc_history.proofs.Counts.{count-some, sum_same, sum-own}
-use Rattle.pc_history.proofs.Uses.{eqb-same, eqb-differ}
 use Rattle.pc_history.proofs.NoteStep.{get-map}
 use Rattle.pc_history.proofs.LookStep.{loaded}
 use Rattle.pc_history.proofs.Fitting.{fits-opener, word-is}
@@ -102,7 +102,7 @@ module _ {E : Type 0} where
   none-at m [] h = refl
   none-at m (e ∷ es) h =
       let rest : sum_by (at_step m) es ≡ 0 = none-at m es (λ a c. h a (contains_tail e es a c)) in
-      let here : at_step m e ≡ 0 = ap (λ b. cond b 1 0) (eqb-differ e.step m (h e (contains_head e es))) in
+      let here : at_step m e ≡ 0 = ap (λ b. cond b 1 0) (ne_eqb e.step m (h e (contains_head e es))) in
       let all : sum_by (at_step m) (e ∷ es) ≡ at_step m e + sum_by (at_step m) es = sum_by-cons (at_step m) e es in
       omega arith
 
@@ -113,7 +113,7 @@ module _ {E : Type 0} where
       elim (contains_cons e es a c) [
         | inl same ↦
             let s : e.step ≡ m = ap (λ (z : Entry E). z.step) same ∙ is in
-            let here : at_step m e ≡ 1 = ap (λ b. cond b 1 0) (eqb-same e.step m s) in
+            let here : at_step m e ≡ 1 = ap (λ b. cond b 1 0) (eq-eqb e.step m s) in
             omega arith
         | inr later ↦ let r : 1 ≤ sum_by (at_step m) es = some-at m es a later is in omega arith
       ]

@@ -16,7 +16,7 @@ use Rattle.pc_history.specs.History.{IsFine}
 use Rattle.pc_history.specs.World.{IsWorld, HasAll}
 use Rattle.pc_history.specs.Parts.{knowledge, told_entries}
 use Rattle.pc_history.specs.Closed.{IsSound}
-use Rattle.pc_history.specs.Table.{Books, IsPart, FitsOpener, FitsActor, FitsNote, FitsAs, Fits, IsStepTable}
+use Rattle.pc_history.specs.Table.{Books, FitsActing, IsPart, FitsOpener, FitsNote, FitsAs, Fits, IsStepTable}
 use Rattle.pc_history.specs.Steps.{TellsLook}
 use Rattle.pc_history.proofs.Histories.{own-contains, fine-below, fine-one, fine-kept, stands-contains}
 use Rattle.pc_history.proofs.Counts.{history-bound}
@@ -26,7 +26,7 @@ module _ {W E : Type 0} (S : Sense E) (world : Option W) (history : List (Entry 
   pub fits-opener : (seat : ℕ) (v : View W E) → v.role ≡ Opening → Fits S world history books seat v → FitsOpener S world history books seat v
   fits-opener seat v role fits = subst (λ r. FitsAs S world history books r seat v) role fits
 
-  pub fits-actor : (seat : ℕ) (v : View W E) → v.role ≡ Acting → Fits S world history books seat v → FitsActor S world history books seat v
+  pub fits-actor : (seat : ℕ) (v : View W E) → v.role ≡ Acting → Fits S world history books seat v → FitsActing S world history books seat v
   fits-actor seat v role fits = subst (λ r. FitsAs S world history books r seat v) role fits
 
   pub fits-note : (seat : ℕ) (v : View W E) → v.role ≡ Noting → Fits S world history books seat v → FitsNote S world history v
@@ -35,7 +35,7 @@ module _ {W E : Type 0} (S : Sense E) (world : Option W) (history : List (Entry 
   pub opener-fits : (seat : ℕ) (v : View W E) → v.role ≡ Opening → FitsOpener S world history books seat v → Fits S world history books seat v
   opener-fits seat v role fits = subst (λ r. FitsAs S world history books r seat v) (sym role) fits
 
-  pub actor-fits : (seat : ℕ) (v : View W E) → v.role ≡ Acting → FitsActor S world history books seat v → Fits S world history books seat v
+  pub actor-fits : (seat : ℕ) (v : View W E) → v.role ≡ Acting → FitsActing S world history books seat v → Fits S world history books seat v
   actor-fits seat v role fits = subst (λ r. FitsAs S world history books r seat v) (sym role) fits
 
   pub note-fits : (seat : ℕ) (v : View W E) → v.role ≡ Noting → FitsNote S world history v → Fits S world history books seat v
@@ -44,7 +44,7 @@ module _ {W E : Type 0} (S : Sense E) (world : Option W) (history : List (Entry 
 module _ {W E : Type 0} (S : Sense E) (world : Option W) (history history' : List (Entry E)) (books books' : Books) (seat : ℕ) (v : View W E) where
   fits-as_by : (r : Role)
       → (FitsOpener S world history books seat v → FitsOpener S world history' books' seat v)
-      → (FitsActor S world history books seat v → FitsActor S world history' books' seat v)
+      → (FitsActing S world history books seat v → FitsActing S world history' books' seat v)
       → (FitsNote S world history v → FitsNote S world history' v)
       → FitsAs S world history books r seat v → FitsAs S world history' books' r seat v
   fits-as_by Opening o a n f = o f
@@ -54,7 +54,7 @@ module _ {W E : Type 0} (S : Sense E) (world : Option W) (history history' : Lis
 
   -- a view that fits goes on to fit if it does in each role
   pub fits-by : (FitsOpener S world history books seat v → FitsOpener S world history' books' seat v)
-      → (FitsActor S world history books seat v → FitsActor S world history' books' seat v)
+      → (FitsActing S world history books seat v → FitsActing S world history' books' seat v)
       → (FitsNote S world history v → FitsNote S world history' v)
       → Fits S world history books seat v → Fits S world history' books' seat v
   fits-by o a n f = fits-as_by v.role o a n f

@@ -1,5 +1,6 @@
 -- Whether two ids are one.
-use Rattle.std.proofs.Common.{◌≡◌, ◌≢◌, ℕ, Bool, true, false, eqb, refl, ap, sym, ◌∙◌, arith}
+use Rattle.std.proofs.Common.{◌≡◌, ◌≢◌, Bool, true, false, refl, ap, sym, ◌∙◌, arith}
+use Rattle.std.proofs.lemmas.Bool.{eqb-true}
 use Rattle.pc_base.specs.declared.ActorId.{ActorId}
 use Rattle.pc_base.specs.declared.ActorId.TheVariants.{Range, Session, Recoverer}
 use Rattle.pc_history.specs.Own.{same_id}
@@ -9,20 +10,17 @@ same_id-refl (Range n) = grind arith
 same_id-refl (Session n) = grind arith
 same_id-refl (Recoverer n) = grind arith
 
-eqb_same : (m n : ℕ) → eqb m n ≡ true → m ≡ n
-eqb_same m n h = grind arith
-
 -- ids that pass the test are one
 pub same_id-true : (a b : ActorId) → same_id a b ≡ true → a ≡ b
-same_id-true (Range m) (Range n) h = ap Range (eqb_same m n h)
+same_id-true (Range m) (Range n) h = ap Range (eqb-true m n h)
 same_id-true (Range m) (Session n) h = absurd cc
 same_id-true (Range m) (Recoverer n) h = absurd cc
 same_id-true (Session m) (Range n) h = absurd cc
-same_id-true (Session m) (Session n) h = ap Session (eqb_same m n h)
+same_id-true (Session m) (Session n) h = ap Session (eqb-true m n h)
 same_id-true (Session m) (Recoverer n) h = absurd cc
 same_id-true (Recoverer m) (Range n) h = absurd cc
 same_id-true (Recoverer m) (Session n) h = absurd cc
-same_id-true (Recoverer m) (Recoverer n) h = ap Recoverer (eqb_same m n h)
+same_id-true (Recoverer m) (Recoverer n) h = ap Recoverer (eqb-true m n h)
 
 -- the test is true of equal ids
 pub same_id-equal : (a b : ActorId) → a ≡ b → same_id a b ≡ true

@@ -1,5 +1,6 @@
 -- An actor makes a note.
 use Rattle.std.proofs.Common.{◌≡◌, ◌≢◌, ℕ, ◌+◌, ◌<◌, inl, inr, false, cond, eqb, List, [], ◌∷◌, length, map, refl, ap, sym, ◌∙◌, subst, arith, Contains, Some, slice_set, slice_get, slice_index, option_map}
+use Rattle.std.proofs.lemmas.Bool.{ne_eqb}
 use Rattle.std.proofs.lemmas.Option.{slice_get-map, slice_get-get_or}
 use Rattle.atomic_table.specs.Table.{Splits}
 use Rattle.pc_base.specs.declared.Entry.{Entry}
@@ -15,7 +16,7 @@ use Rattle.pc_history.specs.Table.{Books, IsPart, Rules, view_uses, Fits}
 use Rattle.pc_history.specs.Steps.{after_noting, noted_view}
 use Rattle.pc_history.specs.History.{IsFine}
 use Rattle.pc_history.proofs.Histories.{Rises, own-contains, own-rises, fine-one, fine-below}
-use Rattle.pc_history.proofs.Uses.{more_given, given-here, given-elsewhere, eqb-differ, uses_of-cons}
+use Rattle.pc_history.proofs.Uses.{more_given, given-here, given-elsewhere, uses_of-cons}
 use Rattle.pc_history.proofs.SeatStep.{at_split, uses-split}
 use Rattle.pc_history.proofs.Fitting.{fits-actor, actor-fits, fits-by}
 use Rattle.pc_lists.proofs.Lists.{contains_cons, contains_nil, get_contains}
@@ -90,7 +91,7 @@ module _ {X W E : Type 0} (sense : W → Sense E) (w : W) where
         seats = table.seats;
         fresh = (λ n past.
             let below = fine-below S table.history p.entry table.fine stands.0 in
-            let no' : eqb p.entry.step n ≡ false = eqb-differ p.entry.step n (λ e. omega arith) in
+            let no' : eqb p.entry.step n ≡ false = ne_eqb p.entry.step n (λ e. omega arith) in
             ap (λ b. books.given_of n + cond b uses 0) no' ∙ (let z = table.fresh n past in omega arith));
         uses = (λ n.
             let total = uses-split n s.views seat v left right at in

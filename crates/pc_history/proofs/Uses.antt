@@ -1,5 +1,6 @@
 -- How the totals of uses change with each step.
 use Rattle.std.proofs.Common.{◌≡◌, ◌≢◌, ℕ, zero, suc, ◌+◌, ◌-◌, ◌<◌, ◌≤◌, Bool, true, false, cond, eqb, nat_lt, ◌&&◌, List, [], ◌∷◌, ◌++◌, map, refl, ap, sym, ◌∙◌, arith, Some, Contains, sum_by, slice_get, slice_set, slice_index}
+use Rattle.std.proofs.lemmas.Bool.{eq-eqb, eqb-true, ne_eqb}
 use Rattle.std.proofs.lemmas.List.Sums.{sum_by-cons, sum_by-append, sum_by_push}
 use Rattle.std.proofs.lemmas.Bool.Decides.{nat_tests}
 use Rattle.pc_base.specs.declared.Entry.{Entry}
@@ -11,15 +12,6 @@ use Rattle.pc_history.specs.Parts.{uses_at, uses_of, use_one, uses_left, without
 use Rattle.pc_history.specs.Closed.{spenders, names_step}
 use Rattle.pc_history.proofs.Histories.{pairs_of-push, Rises, rises-least}
 use Rattle.pc_lists.proofs.Lists.{get_contains, map_same}
-
-pub eqb-true : (m n : ℕ) → eqb m n ≡ true → m ≡ n
-eqb-true m n h = grind arith
-
-pub eqb-same : (m n : ℕ) → m ≡ n → eqb m n ≡ true
-eqb-same m n h = grind arith
-
-pub eqb-differ : (m n : ℕ) → m ≢ n → eqb m n ≡ false
-eqb-differ m n h = grind arith
 
 module _ {E : Type 0} where
   pub uses_of-cons : (n : ℕ) (k : Known E) (ks : List (Known E)) → uses_of n (k ∷ ks) ≡ uses_at n k + uses_of n ks
@@ -92,7 +84,7 @@ module _ {E : Type 0} where
   pub given-elsewhere : (given : ℕ → ℕ) (step uses : ℕ) (ps : List (Pair E)) → ((p : Pair E) → Contains ps p → p.entry.step ≢ step) → given_to (more_given given step uses) ps ≡ given_to given ps
   given-elsewhere given step uses ps away =
       map_same (λ p. more_given given step uses p.entry.step) (λ p. given p.entry.step) ps
-      (λ p c. let no' : eqb step p.entry.step ≡ false = eqb-differ step p.entry.step (λ e. away p c (sym e)) in
+      (λ p c. let no' : eqb step p.entry.step ≡ false = ne_eqb step p.entry.step (λ e. away p c (sym e)) in
       ap (λ b. given p.entry.step + cond b uses 0) no' ∙ omega arith)
 
   -- giving uses for the entry at a place adds them at that place
@@ -102,13 +94,13 @@ module _ {E : Type 0} where
   given-here given uses n (q ∷ ps) zero p rises at =
       let same : q ≡ p = cc at in
       let same_step : p.entry.step ≡ q.entry.step = ap (λ (z : Pair E). z.entry.step) (sym same) in
-      let yes' : eqb p.entry.step q.entry.step ≡ true = eqb-same p.entry.step q.entry.step same_step in
+      let yes' : eqb p.entry.step q.entry.step ≡ true = eq-eqb p.entry.step q.entry.step same_step in
       let rest = given-elsewhere given p.entry.step uses ps (λ r c e. let least : q.entry.step + 1 ≤ r.entry.step = rises-least (q.entry.step + 1) ps r rises.1 c in omega arith) in
       ap (λ b. (given q.entry.step + cond b uses 0) ∷ given_to (more_given given p.entry.step uses) ps) yes'
       ∙ ap (λ xs. (given q.entry.step + uses) ∷ xs) rest
   given-here given uses n (q ∷ ps) (suc place) p rises at =
       let least : q.entry.step + 1 ≤ p.entry.step = rises-least (q.entry.step + 1) ps p rises.1 (get_contains ps place p at) in
-      let no' : eqb p.entry.step q.entry.step ≡ false = eqb-differ p.entry.step q.entry.step (λ e. omega arith) in
+      let no' : eqb p.entry.step q.entry.step ≡ false = ne_eqb p.entry.step q.entry.step (λ e. omega arith) in
       let rest = given-here given uses (q.entry.step + 1) ps place p rises.1 at in
       let first : given q.entry.step + cond (eqb p.entry.step q.entry.step) uses 0 ≡ given q.entry.step = ap (λ b. given q.entry.step + cond b uses 0) no' ∙ omega arith in
       ap (λ x. x ∷ given_to (more_given given p.entry.step uses) ps) first ∙ ap (λ xs. given q.entry.step ∷ xs) rest

@@ -76,7 +76,7 @@ module _ {W E : Type 0} (S : Sense E) (world : Option W) (history : List (Entry 
     pub distinct : (id : ActorId) → count_of id (ids_of v.parts) ≤ 1
 
   -- The actor sits on its id's one seat.
-  pub record FitsActor (seat : ℕ) (v : View W E) : Type 0 where
+  pub record FitsActing (seat : ℕ) (v : View W E) : Type 0 where
     pub world_is : v.world ≡ world
     pub sits : books.seat_of v.part.id ≡ seat + 1
     pub part_is : IsPart S history books.given_of v.part
@@ -84,7 +84,7 @@ module _ {W E : Type 0} (S : Sense E) (world : Option W) (history : List (Entry 
   -- A view fits the history and the books as one of its role does.
   abbrev pub FitsAs : Role → ℕ → View W E → Type 0
   FitsAs Opening seat v = FitsOpener seat v
-  FitsAs Acting seat v = FitsActor seat v
+  FitsAs Acting seat v = FitsActing seat v
   FitsAs Noting seat v = FitsNote S world history v
   FitsAs Spent seat v = Unit {0}
 

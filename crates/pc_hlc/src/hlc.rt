@@ -1,13 +1,12 @@
 ghost use Rattle.std.specs.Prelude.{◌≡◌, ◌<◌, ◌↔◌, max, IsErr, IfErr, IfOk, OnErr};
-ghost use Rattle.pc_base.specs.Clock.{clock_now, greatest_reading};
+ghost use Rattle.pc_base.specs.Clock.{clock_now};
+ghost use Rattle.pc_base.specs.declared.limits.TheConstants.{GREATEST_READING};
 ghost use Rattle.pc_base.specs.Timestamp.{greatest};
 ghost use Rattle.pc_hlc.specs.Giving.{IsLeastAbove};
 
 use pc_base::Timestamp;
+use pc_base::limits::GREATEST_READING;
 use std::marker::Model;
-
-/// The greatest reading, in nanoseconds, at which the clock gives a timestamp.
-const GREATEST_READING: u64 = 1 << 62;
 
 /// The physical clock reads past the range in which timestamps are given.
 #[derive(Clone, Copy, Debug, PartialEq, Eq)]
@@ -43,7 +42,7 @@ impl Hlc {
     /// timestamp after the last one. Refused past the clock's range, and then the clock is as it was.
     pub fn now(&mut self, reading: u64) -> Result<Timestamp, ClockRange>
         requires { self.old < greatest }
-        ensures refused { IsErr result ↔ greatest_reading < reading }
+        ensures refused { IsErr result ↔ GREATEST_READING < reading }
         ensures fault { IfErr result (λ fault. fault ≡ record { reading = reading }) }
         ensures kept { OnErr result (self.new ≡ self.old) }
         ensures value { IfOk result (λ ts. ts ≡ clock_now reading self.old) }

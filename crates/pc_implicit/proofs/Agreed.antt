@@ -88,6 +88,27 @@ owned actor n (x ∷ xs) t numbered there =
       | inr later ↦ let is = owned actor x.id.number xs t numbered.2 later in (is.0, omega (arith, is.1, numbered.1))
     ]
 
+-- of an actor's transactions no two have one name
+pub one_txn : (actor : ActorId) (n : ℕ) (txns : List Txn) (t u : Txn) → AreNumbered actor n txns → Contains txns t → Contains txns u → t.id ≡ u.id → t ≡ u
+one_txn actor n [] t u numbered a b same = absurd (contains_nil t a)
+one_txn actor n (x ∷ xs) t u numbered a b same =
+    elim (contains_cons x xs t a) [
+      | inl first ↦ elim (contains_cons x xs u b) [
+        | inl also ↦ sym first ∙ also
+        | inr later ↦
+            let below = (owned actor x.id.number xs u numbered.2 later).1 in
+            let number : x.id.number ≡ u.id.number = ap (λ (y : Txn). y.id.number) first ∙ ap (λ (i : TxnId). i.number) same in
+            absurd (omega (arith, below, number))
+      ]
+      | inr rest ↦ elim (contains_cons x xs u b) [
+        | inl also ↦
+            let below = (owned actor x.id.number xs t numbered.2 rest).1 in
+            let number : x.id.number ≡ t.id.number = ap (λ (y : Txn). y.id.number) also ∙ ap (λ (i : TxnId). i.number) (sym same) in
+            absurd (omega (arith, below, number))
+        | inr later ↦ one_txn actor x.id.number xs t u numbered.2 rest later same
+      ]
+    ]
+
 pub open_is : (is_open : Bool) (txns : List Txn) (t : Txn) → first_if is_open txns ≡ Some t → (is_open ≡ true) × (others : List Txn) × (txns ≡ t ∷ others)
 open_is true [] t h = absurd cc
 open_is true (x ∷ xs) t h = let same : x ≡ t = cc in (refl, xs, ap (λ y. y ∷ xs) same)

@@ -1,6 +1,6 @@
 -- Where nothing is staged, a range answers each request as the request may be answered.
 use Rattle.std.proofs.Common.{◌≡◌, ℕ, Bool, true, false, ◌&&◌, not, nat_le, if◌then◌else◌, List, [], filter, Option, None, Some, IfSome, refl, ap, ◌∙◌}
-use Rattle.std.proofs.lemmas.Bool.{and_parts}
+use Rattle.std.proofs.lemmas.Bool.{and_parts, not-true}
 use Rattle.std.proofs.lemmas.List.Elements.{filter_passes, recursion_from_All}
 use Rattle.std.specs.Option.{option_map_or}
 use Rattle.std.specs.Prelude.{⊤}
@@ -54,17 +54,17 @@ use Rattle.pc_world.specs.Unstaged.{NothingIsStaged}
 
 module _ (id : TxnId) where
   -- The intent is of another transaction.
-  abbrev IsAnothers : Intent → Type 0
+  abbrev pub IsAnothers : Intent → Type 0
   IsAnothers i = i.meta.id ≡ id → ⊥
 
   -- So is the one at a key.
-  abbrev IsAnothersThere : List ℕ × Intent → Type 0
+  abbrev pub IsAnothersThere : List ℕ × Intent → Type 0
   IsAnothersThere e = e.1.meta.id ≡ id → ⊥
 
   differs : (other : TxnId) → same_txn other id ≡ false → other ≡ id → ⊥
   differs other differ is = let same : same_txn other id ≡ true = ap (λ one. same_txn one id) is ∙ same_txn-self id in cc
 
-  other-differs : (o : Option Intent) → IfSome (kept_if (λ i. not (same_txn i.meta.id id)) o) IsAnothers
+  pub other-differs : (o : Option Intent) → IfSome (kept_if (λ i. not (same_txn i.meta.id id)) o) IsAnothers
   other-differs None = tt
   other-differs (Some i) = by (same_txn i.meta.id id) refl
     where
@@ -72,7 +72,7 @@ module _ (id : TxnId) where
       by true same = tt
       by false differ = differs i.meta.id differ
 
-  get-kind : (blocker : Option Intent) (key : List ℕ) (found : Origin × Option (List ℕ)) → IfSome blocker IsAnothers → IsGetReply id (get_reply blocker key found)
+  pub get-kind : (blocker : Option Intent) (key : List ℕ) (found : Origin × Option (List ℕ)) → IfSome blocker IsAnothers → IsGetReply id (get_reply blocker key found)
   get-kind None key found other = tt
   get-kind (Some i) key found other = other
 
@@ -84,11 +84,7 @@ module _ (id : TxnId) where
       by true = k
       by false = h
 
-  not-true : (b : Bool) → not b ≡ true → b ≡ false
-  not-true true h = absurd cc
-  not-true false h = refl
-
-  first-differs : (span : Span) (ts : ℕ) (intents : List (List ℕ × Intent)) → IfSome (first_other span ts id intents) IsAnothersThere
+  pub first-differs : (span : Span) (ts : ℕ) (intents : List (List ℕ × Intent)) → IfSome (first_other span ts id intents) IsAnothersThere
   first-differs span ts intents =
       let test : List ℕ × Intent → Bool = λ e. contains span e.0 && (nat_le e.1.ts ts && not (same_txn e.1.meta.id id)) in
       let met = filter test intents in
@@ -100,38 +96,38 @@ module _ (id : TxnId) where
           let later = (and_parts (contains span e.0) (nat_le e.1.ts ts && not (same_txn e.1.meta.id id)) h).1 in
           differs e.1.meta.id (not-true (same_txn e.1.meta.id id) (and_parts (nat_le e.1.ts ts) (not (same_txn e.1.meta.id id)) later).1)
 
-  scan-kind : (blocker : Option (List ℕ × Intent)) (rows : List (List ℕ × Origin × List ℕ)) → IfSome blocker IsAnothersThere → IsScanReply id (scan_reply blocker rows)
+  pub scan-kind : (blocker : Option (List ℕ × Intent)) (rows : List (List ℕ × Origin × List ℕ)) → IfSome blocker IsAnothersThere → IsScanReply id (scan_reply blocker rows)
   scan-kind None rows other = tt
   scan-kind (Some e) rows other = other
 
-  written-kind : (key : List ℕ) (overtaken : Bool) (ts : ℕ) (i : Intent) → IsPutReply id (put_reply key (if overtaken then Stands ts else Lands i))
+  pub written-kind : (key : List ℕ) (overtaken : Bool) (ts : ℕ) (i : Intent) → IsPutReply id (put_reply key (if overtaken then Stands ts else Lands i))
   written-kind key true ts i = tt
   written-kind key false ts i = tt
 
-  put-kind : (key : List ℕ) (other : Option Intent) (outcome : PutOutcome) → IfSome other IsAnothers → IsPutReply id (put_reply key outcome) → IsPutReply id (put_reply key (first_outcome other outcome))
+  pub put-kind : (key : List ℕ) (other : Option Intent) (outcome : PutOutcome) → IfSome other IsAnothers → IsPutReply id (put_reply key outcome) → IsPutReply id (put_reply key (first_outcome other outcome))
   put-kind key None outcome another written = written
   put-kind key (Some i) outcome another written = another
 
 -- ---- records
 
-final-status : (standing : Standing) (epoch ts : ℕ) (writes : List (List ℕ × ℕ)) (locks : List (List ℕ)) → is_final standing ≡ true → is_final_view (status_view standing epoch ts writes locks) ≡ true
+pub final-status : (standing : Standing) (epoch ts : ℕ) (writes : List (List ℕ × ℕ)) (locks : List (List ℕ)) → is_final standing ≡ true → is_final_view (status_view standing epoch ts writes locks) ≡ true
 final-status standings.Pending epoch ts writes locks h = absurd cc
 final-status standings.Staging epoch ts writes locks h = absurd cc
 final-status standings.Committed epoch ts writes locks h = refl
 final-status (standings.Aborted why) epoch ts writes locks h = refl
 
 -- The range has something of the transaction.
-abbrev IsThere : Place → Type 0
+abbrev pub IsThere : Place → Type 0
 IsThere Nothing = ⊥
 IsThere (Kept r) = ⊤
 IsThere (Marked s) = ⊤
 
-decided-there : (p : Place) → is_decided p ≡ true → IsThere p
+pub decided-there : (p : Place) → is_decided p ≡ true → IsThere p
 decided-there Nothing h = absurd cc
 decided-there (Kept r) h = tt
 decided-there (Marked s) h = tt
 
-moved-there : (goal : Goal) (p : Place) → reaches_goal goal p ≡ true → IsThere p
+pub moved-there : (goal : Goal) (p : Place) → reaches_goal goal p ≡ true → IsThere p
 moved-there goals.Abort Nothing h = absurd cc
 moved-there (goals.Move target) Nothing h = absurd cc
 moved-there goal (Kept r) h = tt

@@ -1,5 +1,5 @@
 -- Why a transaction is committed: its record or mark says so, its record stages and every listed write is present, or it was told so.
-use Rattle.std.proofs.Common.{◌≡◌, ℕ, Bool, true, false, if◌then◌else◌, List, [], ◌∷◌, ◌++◌, Option, None, Some, Contains, refl, sym, ap, subst, ◌∙◌}
+use Rattle.std.proofs.Common.{◌≡◌, ℕ, Bool, true, false, if◌then◌else◌, List, Option, None, Some, Contains, refl, sym, ap, subst, ◌∙◌}
 use Rattle.std.proofs.lemmas.List.Elements.{All-contains}
 use Rattle.std.proofs.lemmas.List.Sums.{AllPass-from_list_all, list_all-from_AllPass}
 use Rattle.std.specs.List.{list_all}
@@ -96,16 +96,22 @@ module _ (head : Head) (history : List (Entry Event)) where
       by (Some anchor) some =
           by-place (place_at head (range_of head.splits anchor) id history) (home_is head id history anchor some) (sym (ap (commit_at head history id) some) ∙ is)
 
+  -- a staging record all of whose writes are present commits its transaction
+  pub kept_commits : (id : TxnId) (r : Record) → home_of head id history ≡ Kept r → r.status.standing ≡ standings.Staging
+      → list_all (is_present head history id r.status.epoch r.status.ts) r.writes ≡ true → IsCommitted head history id r.status.ts
+  kept_commits id r home staging all =
+      let at = home_anchored head id history r home in
+      let place : place_at head (range_of head.splits at.0) id history ≡ Kept r = sym (home_is head id history at.0 at.1) ∙ home in
+      ap (commit_at head history id) at.1 ∙ ap (commit_in head history id) place
+      ∙ ap (commit_by r.status.standing r.status.ts) all ∙ ap (λ standing. commit_by standing r.status.ts true) staging
+
   -- a stage by which its transaction is committed commits it
   pub commits_by_is : (s : SentStage) → CommitsBy head history s → IsCommitted head history s.meta.id s.ts
   commits_by_is s by =
       let r = by.r in
       let id = s.meta.id in
-      let at = home_anchored head id history r by.home in
-      let place : place_at head (range_of head.splits at.0) id history ≡ Kept r = sym (home_is head id history at.0 at.1) ∙ by.home in
       let all : list_all (is_present head history id r.status.epoch r.status.ts) r.writes ≡ true =
       list_all-from_AllPass (is_present head history id r.status.epoch r.status.ts) r.writes
       (all_from_contains (λ x. is_present head history id r.status.epoch r.status.ts x ≡ true) r.writes
       (λ w listed. present-as s r id refl by.stages w ∙ by.present w (subst (λ ws. Contains ws w) by.stages.writes_are listed))) in
-      ap (commit_at head history id) at.1 ∙ ap (commit_in head history id) place
-      ∙ ap (commit_by r.status.standing r.status.ts) all ∙ ap (λ standing. commit_by standing r.status.ts true) by.stages.staging ∙ ap Some by.stages.ts_is
+      subst (IsCommitted head history id) by.stages.ts_is (kept_commits id r by.home by.stages.staging all)

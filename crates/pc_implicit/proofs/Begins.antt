@@ -1,42 +1,36 @@
--- Where nothing is staged, a transaction is committed at or above its begin timestamp.
+-- A transaction is committed at or above its begin timestamp.
 use Rattle.std.proofs.Common.{◌≡◌, ℕ, ◌<◌, ◌≤◌, inl, inr, List, [], ◌∷◌, ◌++◌, filter_map, slice_get, Bool, true, false, if◌then◌else◌, Option, None, Some, Contains, refl, sym, ap, subst, ◌∙◌, arith}
-use Rattle.std.proofs.lemmas.List.{append_assoc}
+use Rattle.std.proofs.lemmas.List.{append-nil, append_assoc}
 use Rattle.std.proofs.lemmas.List.Elements.{Contains-append_right, Contains-push_cases}
 use Rattle.std.specs.List.{cons_option}
 use Rattle.std.specs.Option.{option_or}
-use Rattle.std.specs.Prelude.{⊤}
 use Rattle.pc_base.specs.declared.actor.ActorId.{ActorId}
 use Rattle.pc_base.specs.declared.actor.ActorId.TheVariants as actors
 use Rattle.pc_base.specs.declared.entry.Entry.{Entry}
 use Rattle.pc_base.specs.declared.transaction.TxnId.{TxnId}
 use Rattle.pc_base.specs.Transaction.{same_txn}
 use Rattle.pc_history.specs.History.{MayFollow}
-use Rattle.pc_implicit.proofs.Agreed.{Agrees, agreed, begun_at, begun_next, begun_told_in}
+use Rattle.pc_implicit.proofs.Agreed.{Agrees, agreed, begun_at, begun_next, begun_told_in, open_there}
 use Rattle.pc_implicit.proofs.Clocks.{begun_above, high_grows, learnt_below}
-use Rattle.pc_implicit.proofs.Commits.{ByRecord, ByTell, act_of, decided_is_committed, heard_decided, tell_means, why_committed}
+use Rattle.pc_implicit.proofs.Commits.{act_of}
+use Rattle.pc_implicit.proofs.Deciders.{decided_by}
 use Rattle.pc_implicit.proofs.Doing.{Does}
 use Rattle.pc_implicit.proofs.Firsts.{first_push}
 use Rattle.pc_implicit.proofs.OwnSplit.{own_split}
-use Rattle.pc_implicit.proofs.Points.{or-first, told-what}
-use Rattle.pc_implicit.proofs.Recorded.{WasSent}
-use Rattle.pc_implicit.proofs.Sent.{unstaged_front, unstaged_induction}
 use Rattle.pc_lists.proofs.Each.{each-contains}
 use Rattle.pc_lists.proofs.Lists.{contains_head, contains_nil, contains_tail}
 use Rattle.pc_lists.proofs.Same.{same_txn-is, same_txn-self}
 use Rattle.pc_proto.specs.declared.answer.Answer.TheVariants as answers
 use Rattle.pc_proto.specs.declared.event.Event.{Event}
 use Rattle.pc_proto.specs.declared.event.Event.TheVariants as events
-use Rattle.pc_proto.specs.declared.meta.TxnMeta.{TxnMeta}
-use Rattle.pc_proto.specs.declared.request.Request.TheVariants as requests
-use Rattle.pc_world.proofs.Prefixes.{run_induction}
+use Rattle.pc_world.proofs.Prefixes.{run_front, run_induction}
 use Rattle.pc_world.specs.After.{known_at}
 use Rattle.pc_world.specs.CommitOrder.{all_begun, begun_in}
-use Rattle.pc_world.specs.Committed.{IsCommitted, anchor_in, committed_in, key_sent, told_at}
+use Rattle.pc_world.specs.Committed.{IsCommitted}
 use Rattle.pc_world.specs.Known.{known_of}
 use Rattle.pc_world.specs.Legal.{BeganAfter, TellsBegun}
 use Rattle.pc_world.specs.Local.{Head}
 use Rattle.pc_world.specs.Run.{IsRun, protocol}
-use Rattle.pc_world.specs.Unstaged.{NothingIsStaged}
 
 -- The transaction was told begun, at or below this timestamp.
 pub record IsAbove (history : List (Entry Event)) (id : TxnId) (ts : ℕ) : Type 0 where
@@ -51,14 +45,9 @@ above-more history e id ts a = record {
   low = a.low;
 }
 
--- An event that sends a commit sends it above the begin of its transaction.
-abbrev pub SaysAbove : List (Entry Event) → Event → Type 0
-SaysAbove history (events.Send number range (requests.Commit meta ts locks)) = IsAbove history meta.id ts
-SaysAbove history event = ⊤
-
-says-more : (history : List (Entry Event)) (e : Entry Event) (event : Event) → SaysAbove history event → SaysAbove (history ++ e ∷ []) event
-says-more history e (events.Send number range (requests.Commit meta ts locks)) a = above-more history e meta.id ts a
-says-more history e event a = tt
+above-along : (front back : List (Entry Event)) (id : TxnId) (ts : ℕ) → IsAbove front id ts → IsAbove (front ++ back) id ts
+above-along front [] id ts a = subst (λ h. IsAbove h id ts) (sym (append-nil front)) a
+above-along front (e ∷ es) id ts a = subst (λ h. IsAbove h id ts) (append_assoc front (e ∷ []) es) (above-along (front ++ e ∷ []) es id ts (above-more front e id ts a))
 
 module _ (head : Head) where
   begun-new : (history : List (Entry Event)) (e : Entry Event) (id : TxnId) (ts : ℕ) → IsRun head history → MayFollow (protocol head) history e → e.event ≡ events.Tell (answers.Begun id ts) → begun_at id (history ++ e ∷ []) ≡ Some ts
@@ -79,75 +68,22 @@ module _ (head : Head) where
         | inr now ↦ begun-new history e id ts run may (ap (λ (y : Entry Event). y.event) now ∙ is)
       ])
 
-  TellsAbove : List (Entry Event) → Type 0
-  TellsAbove history = (id : TxnId) (ts : ℕ) → anchor_in id history ≡ None → told_at id history ≡ Some ts → IsAbove history id ts
-
-  tells-above : (history : List (Entry Event)) → IsRun head history → NothingIsStaged history → TellsAbove history
-  unfolding TellsAbove
-  tells-above = unstaged_induction head TellsAbove (λ id ts none told. absurd cc) (λ history e run only may all id ts none told.
-      let before : anchor_in id history ≡ None = or-first (anchor_in id history) (key_sent id e.event) (sym (first_push (λ x. key_sent id x.event) history e) ∙ none) in
-      by history e run (unstaged_front history (e ∷ []) only) may all id ts before (told_at id history) refl (sym (first_push (λ x. committed_in id x.event) history e) ∙ told))
-    where
-      by : (history : List (Entry Event)) (e : Entry Event) → IsRun head history → NothingIsStaged history → MayFollow (protocol head) history e
-          → ((id : TxnId) (ts : ℕ) → anchor_in id history ≡ None → told_at id history ≡ Some ts → IsAbove history id ts)
-          → (id : TxnId) (ts : ℕ) → anchor_in id history ≡ None → (o : Option ℕ) → told_at id history ≡ o → option_or (told_at id history) (committed_in id e.event) ≡ Some ts → IsAbove (history ++ e ∷ []) id ts
-      by history e run only may all id ts none (Some at) before told =
-          let both : Some at ≡ Some ts = sym (ap (λ o. option_or o (committed_in id e.event)) before) ∙ told in
-          above-more history e id ts (all id ts none (before ∙ both))
-      by history e run only may all id ts none None before told =
-          let is = told-what id ts e.event (sym (ap (λ o. option_or o (committed_in id e.event)) before) ∙ told) in
-          elim (tell_means head history run only e.actor id ts (subst (Does head e.actor (known_at head e.actor history)) is (act_of head history e may))) [
-            | inl decided ↦ absurd (let both : None ≡ Some decided.anchor = sym none ∙ decided.anchored in cc)
-            | inr begun ↦ above-more history e id ts (record { begin = ts; begun = begun.2; low = omega arith })
-          ]
-
-  SendsAbove : List (Entry Event) → Type 0
-  SendsAbove history = (a : Entry Event) → Contains history a → SaysAbove history a.event
-
-  above-sent : (history : List (Entry Event)) (range : ℕ) (id : TxnId) (ts : ℕ) → SendsAbove history → WasSent history range id ts → IsAbove history id ts
-  unfolding SendsAbove
-  above-sent history range id ts all w = subst (λ i. IsAbove history i ts) w.whose (subst (SaysAbove history) w.sends (all w.send w.listed))
-
-  says-above : (history : List (Entry Event)) → IsRun head history → NothingIsStaged history → SendsAbove history → (actor : ActorId) (event : Event) → Does head actor (known_at head actor history) event → SaysAbove history event
-  says-above history run only all actor (events.Send number range (requests.Commit meta ts locks)) may =
-      let k = known_at head actor history in
-      let row = may.row in
-      let agrees : Agrees history row.t = each-contains (Agrees history) k.txns row.t (agreed head history run actor).agrees row.mine in
-      let same : row.t.id ≡ meta.id = ap (λ (m : TxnMeta). m.id) (sym row.whose.same) in
-      let own : IsAbove history row.t.id ts = elim row.decided [
-        | inl decides ↦ record { begin = row.t.begin; begun = agrees.begin; low = decides.good.begun }
-        | inr heard ↦
-            let d = heard_decided head history run actor row.t.id ts heard in
-            elim (why_committed head history run only row.t.id ts (decided_is_committed head history row.t.id ts d)) [
-              | ByRecord other sent ↦ above-sent history _ row.t.id ts all sent
-              | ByTell none told ↦ absurd (let both : None ≡ Some d.anchor = sym none ∙ d.anchored in cc)
-            ]
-      ] in
-      subst (λ i. IsAbove history i ts) same own
-  says-above history run only all actor event may = tt
-
-  sends-above : (history : List (Entry Event)) → IsRun head history → NothingIsStaged history → SendsAbove history
-  unfolding SendsAbove
-  sends-above = unstaged_induction head SendsAbove (λ a there. absurd (contains_nil a there)) (λ history e run only may all a there.
-      elim (Contains-push_cases history e a there) [
-        | inl before ↦ says-more history e a.event (all a before)
-        | inr now ↦
-            subst (λ (x : Entry Event). SaysAbove (history ++ e ∷ []) x.event) now
-            (says-more history e e.event (says-above history run (unstaged_front history (e ∷ []) only) all e.actor e.event (act_of head history e may)))
-      ])
-
 tells-what : (id : TxnId) (event : Event) → TellsBegun id event → (ts : ℕ) × (event ≡ events.Tell (answers.Begun id ts))
 tells-what id (events.Tell (answers.Begun other ts)) h = (ts, ap (λ i. events.Tell (answers.Begun i ts)) h)
 tells-what id event h = absurd h
 
-module _ (head : Head) (history : List (Entry Event)) (run : IsRun head history) (only : NothingIsStaged history) where
+module _ (head : Head) (history : List (Entry Event)) (run : IsRun head history) where
   -- a committed transaction was told begun, at or below its commit timestamp
   pub committed_above_begin : (id : TxnId) (ts : ℕ) → IsCommitted head history id ts → IsAbove history id ts
   committed_above_begin id ts is =
-      elim (why_committed head history run only id ts is) [
-        | ByRecord d sent ↦ above-sent head history _ id ts (sends-above head history run only) sent
-        | ByTell none told ↦ unfold TellsAbove in tells-above head history run only id ts none told
-      ]
+      let d = decided_by head history run id ts is in
+      let actor : ActorId = actors.Session id.session in
+      let split : IsRun head (d.before ++ d.e ∷ d.later) = subst (IsRun head) d.whole run in
+      let run_before : IsRun head d.before = run_front head d.before (d.e ∷ d.later) split in
+      let k = known_at head actor d.before in
+      let agrees : Agrees d.before d.t = each-contains (Agrees d.before) k.txns d.t (agreed head d.before run_before actor).agrees (open_there k d.t d.opened) in
+      let above : IsAbove d.before id ts = record { begin = d.t.begin; begun = ap (λ i. begun_at i d.before) (sym d.named) ∙ agrees.begin; low = d.good.begun } in
+      subst (λ h. IsAbove h id ts) (sym d.whole) (above-along d.before (d.e ∷ d.later) id ts above)
 
   -- a transaction is committed at or above the timestamp at which its begin was told
   pub committed_from_begin : (id : TxnId) (ts begin : ℕ) (e : Entry Event) → Contains history e → e.event ≡ events.Tell (answers.Begun id begin) → IsCommitted head history id ts → begin ≤ ts
@@ -162,7 +98,7 @@ module _ (head : Head) (history : List (Entry Event)) (run : IsRun head history)
   committed_above id other ts later b is also =
       let learnt : ts ≤ (known_of (b.before ++ b.learning ∷ [])).high =
       learnt_below head history run other.session b.before b.learning (b.between ++ b.begin ∷ b.later)
-      (b.whole ∙ append_assoc b.before (b.learning ∷ b.between) (b.begin ∷ b.later)) only id ts b.learns is in
+      (b.whole ∙ append_assoc b.before (b.learning ∷ b.between) (b.begin ∷ b.later)) id ts b.learns is in
       let upto = b.before ++ b.learning ∷ b.between in
       let grown : (known_of (b.before ++ b.learning ∷ [])).high ≤ (known_of upto).high =
       subst (λ es. (known_of (b.before ++ b.learning ∷ [])).high ≤ (known_of es).high) (append_assoc b.before (b.learning ∷ []) b.between) (high_grows (b.before ++ b.learning ∷ []) b.between) in
@@ -197,7 +133,7 @@ begun-there id ts (e ∷ es) h = by (begun_told_in id e.event) refl h (begun-the
         kept None ids there = there
         kept (Some x) ids there = contains_tail x ids id there
 
--- where nothing is staged, a committed transaction is one of those that were begun
-pub committed_was_begun : (head : Head) (history : List (Entry Event)) → IsRun head history → NothingIsStaged history → (id : TxnId) (ts : ℕ) → IsCommitted head history id ts → Contains (all_begun history) id
-committed_was_begun head history run only id ts is =
-    let above = committed_above_begin head history run only id ts is in begun-there id above.begin history above.begun
+-- a committed transaction is one of those that were begun
+pub committed_was_begun : (head : Head) (history : List (Entry Event)) → IsRun head history → (id : TxnId) (ts : ℕ) → IsCommitted head history id ts → Contains (all_begun history) id
+committed_was_begun head history run id ts is =
+    let above = committed_above_begin head history run id ts is in begun-there id above.begin history above.begun

@@ -1,5 +1,5 @@
 -- Where nothing is staged, a session that knows of a commit knows a timestamp at or above it, and begins above that.
-use Rattle.std.proofs.Common.{◌≡◌, ℕ, ◌+◌, ◌*◌, ◌/◌, ◌^◌, ◌<◌, ◌≤◌, max, nat_lt, Bool, true, false, cond, ◌==◌, inl, inr, List, [], ◌∷◌, ◌++◌, fold, map, Option, None, Some, IfSome, Contains, refl, sym, ap, subst, ◌∙◌, arith}
+use Rattle.std.proofs.Common.{◌≡◌, ℕ, ◌+◌, ◌*◌, ◌/◌, ◌^◌, ◌<◌, ◌≤◌, max, nat_lt, Bool, true, false, cond, ◌==◌, inl, inr, List, [], ◌∷◌, ◌++◌, fold, map, Option, None, Some, IfSome, Any, Contains, IsTrue, refl, sym, ap, subst, ◌∙◌, arith}
 use Rattle.std.proofs.lemmas.Bool.{and_from, and_parts, eq-eqb, ltb-true}
 use Rattle.std.proofs.lemmas.Grind.{fold-append}
 use Rattle.std.proofs.lemmas.List.Elements.{Contains-append_left, Contains-append_right}
@@ -14,12 +14,12 @@ use Rattle.pc_history.specs.declared.pair.Pair.{Pair}
 use Rattle.pc_history.specs.History.{MayFollow}
 use Rattle.pc_history.specs.Own.{named_in, own}
 use Rattle.pc_implicit.proofs.Agreed.{committed_row, open_there}
-use Rattle.pc_implicit.proofs.Commits.{act_of, committed-view, none_staging}
+use Rattle.pc_implicit.proofs.Commits.{act_of, committed-view}
 use Rattle.pc_implicit.proofs.Doing.{Does, told_by_row}
 use Rattle.pc_implicit.proofs.Hearing.{as-heard, to-list}
+use Rattle.pc_implicit.proofs.HeardViews.{staging-view}
 use Rattle.pc_implicit.proofs.OneDecision.{told_committed}
 use Rattle.pc_implicit.proofs.OwnSplit.{own_split}
-use Rattle.pc_implicit.proofs.Sent.{unstaged_front}
 use Rattle.pc_lists.proofs.Each.{each-append, each-contains, each-flat_unmap, each-map, each-weaker}
 use Rattle.pc_lists.proofs.Lists.{contains_head}
 use Rattle.pc_proto.specs.declared.answer.Answer.{Answer}
@@ -32,11 +32,12 @@ use Rattle.pc_proto.specs.declared.reply.Reply.{Reply}
 use Rattle.pc_proto.specs.declared.reply.Reply.TheVariants as replies
 use Rattle.pc_proto.specs.declared.request.Request.{Request}
 use Rattle.pc_proto.specs.declared.request.Request.TheVariants as requests
+use Rattle.pc_proto.specs.declared.view.View.{View}
 use Rattle.pc_proto.specs.declared.view.View.TheVariants as views
 use Rattle.pc_proto.specs.Replies.{view_in}
 use Rattle.pc_proto.specs.Requests.{is_about}
 use Rattle.pc_proto.specs.Stamps.{event_stamps, greatest_of, origin_stamps, reply_stamps, view_stamps}
-use Rattle.pc_proto.specs.Views.{is_committed_at}
+use Rattle.pc_proto.specs.Views.{is_committed_at, is_staging_at}
 use Rattle.pc_world.proofs.Knowing.{known_push}
 use Rattle.pc_world.proofs.Prefixes.{run_front, run_may}
 use Rattle.pc_world.proofs.World.{names_one}
@@ -54,7 +55,7 @@ use Rattle.pc_world.specs.MayTell.{MayTellRow}
 use Rattle.pc_world.specs.Named.{is_tell}
 use Rattle.pc_world.specs.Run.{IsRun, protocol}
 use Rattle.pc_base.specs.Clock.{clock_now}
-use Rattle.pc_world.specs.Unstaged.{NothingIsStaged}
+use Rattle.pc_world.specs.Tell.End.{shows_staging}
 use Rattle.pc_world.specs.Views.{WasCommitted}
 
 high-rises : (event : Event) (named : Option (Entry Event)) (high : ℕ) → high ≤ high_after event named high
@@ -137,17 +138,11 @@ low-along k (p ∷ ps) low = low-along (learn p k) ps (learn-low p k low)
 pub known_low : (entries : List (Pair Event)) → IsLow (known_of entries).high (known_of entries).heard (known_of entries).txns
 known_low entries = low-along nothing_known entries (record { heard_low = tt; begins_low = tt })
 
-committed-low : (reply : Reply) (epoch ts high : ℕ) (locks : List (List ℕ)) → view_in reply ≡ Some (views.Committed epoch ts locks) → greatest_of (reply_stamps reply) ≤ high → ts ≤ high
-committed-low (replies.Status view) epoch ts high locks told low =
-    let same : view ≡ views.Committed epoch ts locks = cc in
-    let is : greatest_of (view_stamps (views.Committed epoch ts locks)) ≤ high = subst (λ w. greatest_of (view_stamps w) ≤ high) same low in omega (arith, is)
-committed-low (replies.Refused view) epoch ts high locks told low =
-    let same : view ≡ views.Committed epoch ts locks = cc in
-    let is : greatest_of (view_stamps (views.Committed epoch ts locks)) ≤ high = subst (λ w. greatest_of (view_stamps w) ≤ high) same low in omega (arith, is)
-committed-low (replies.Unsure view) epoch ts high locks told low =
-    let same : view ≡ views.Committed epoch ts locks = cc in
-    let is : greatest_of (view_stamps (views.Committed epoch ts locks)) ≤ high = subst (λ w. greatest_of (view_stamps w) ≤ high) same low in omega (arith, is)
-committed-low reply epoch ts high locks told low = absurd cc
+viewed-low : (reply : Reply) (view : View) (high : ℕ) → view_in reply ≡ Some view → greatest_of (reply_stamps reply) ≤ high → greatest_of (view_stamps view) ≤ high
+viewed-low (replies.Status own) view high told low = let same : own ≡ view = cc in subst (λ w. greatest_of (view_stamps w) ≤ high) same low
+viewed-low (replies.Refused own) view high told low = let same : own ≡ view = cc in subst (λ w. greatest_of (view_stamps w) ≤ high) same low
+viewed-low (replies.Unsure own) view high told low = let same : own ≡ view = cc in subst (λ w. greatest_of (view_stamps w) ≤ high) same low
+viewed-low reply view high told low = absurd cc
 
 clock-rises : (reading high : ℕ) → high < clock_now reading high
 clock-rises reading high = by (nat_lt (high / 2 ^ 32) reading) refl
@@ -156,7 +151,7 @@ clock-rises reading high = by (nat_lt (high / 2 ^ 32) reading) refl
     by true e = let low : high / 2 ^ 32 < reading = ltb-true (high / 2 ^ 32) reading e in omega arith
     by false e = omega arith
 
-module _ (head : Head) (history : List (Entry Event)) (run : IsRun head history) (only : NothingIsStaged history) where
+module _ (head : Head) (history : List (Entry Event)) (run : IsRun head history) where
   -- a commit that is told is at or below the session's clock
   pub told_below : (actor : ActorId) (id : TxnId) (ts : ℕ) → Does head actor (known_at head actor history) (events.Tell (answers.Committed id ts)) → ts ≤ (known_at head actor history).high
   told_below actor id ts may =
@@ -169,17 +164,30 @@ module _ (head : Head) (history : List (Entry Event)) (run : IsRun head history)
             omega (arith, unwritten.at_begin)
         | inr other ↦ elim other [
           | inl heard ↦ heard-below actor row.t.id ts heard
-          | inr implicit ↦ absurd (none_staging head history run only actor row.t.id row.t.epoch ts implicit.staging)
+          | inr implicit ↦ staged-below actor row.t.id row.t.epoch ts implicit.staging
         ]
       ]
     where
+      reply-low : (actor : ActorId) (h : Heard) → Contains (known_at head actor history).heard h → greatest_of (reply_stamps h.reply) ≤ (known_at head actor history).high
+      reply-low actor h there =
+          each-contains (λ g. greatest_of (reply_stamps g.reply) ≤ (known_at head actor history).high) (known_at head actor history).heard h (known_low (own (protocol head) actor history)).heard_low there
+
+      staged-below : (actor : ActorId) (id : TxnId) (epoch ts : ℕ) → Any (λ h. IsTrue (shows_staging id epoch ts h)) (known_at head actor history).heard → ts ≤ (known_at head actor history).high
+      staged-below actor id epoch ts (n, h, inside, at, shows) =
+          let k = known_at head actor history in
+          let parts = and_parts (is_about id h.request) (option_map_or (is_staging_at epoch ts) (view_in h.reply) false) shows in
+          let view = staging-view epoch ts (view_in h.reply) parts.1 in
+          let low : greatest_of (view_stamps (views.Staging epoch view.0 view.1)) ≤ k.high = viewed-low h.reply (views.Staging epoch view.0 view.1) k.high view.2 (reply-low actor h (n, inside, at)) in
+          let same : view.0 ≡ ts = view.3 in
+          omega (arith, low, same)
+
       heard-below : (actor : ActorId) (id : TxnId) (ts : ℕ) → WasCommitted (known_at head actor history).heard id ts → ts ≤ (known_at head actor history).high
       heard-below actor id ts (n, h, inside, at, shows) =
           let k = known_at head actor history in
           let parts = and_parts (is_about id h.request) (option_map_or (is_committed_at ts) (view_in h.reply) false) shows in
           let view = committed-view ts (view_in h.reply) parts.1 in
-          committed-low h.reply view.0 ts k.high view.1 view.2
-          (each-contains (λ g. greatest_of (reply_stamps g.reply) ≤ k.high) k.heard h (known_low (own (protocol head) actor history)).heard_low (n, inside, at))
+          let low : greatest_of (view_stamps (views.Committed view.0 ts view.1)) ≤ k.high = viewed-low h.reply (views.Committed view.0 ts view.1) k.high view.2 (reply-low actor h (n, inside, at)) in
+          omega (arith, low)
 
 begun-at : (head : Head) (session : ℕ) (k : Known) (s : Statement) (id : TxnId) (ts : ℕ) → MayTellRow head.splits (actors.Session session) k s (answers.Begun id ts) → ts ≡ clock_now s.reading k.high
 begun-at head session k s id ts row = row.at
@@ -219,12 +227,9 @@ module _ (head : Head) (history : List (Entry Event)) (id : TxnId) (ts high : �
   heard-value-low (Some h) low shows = shown-low h.request h.reply shows (low-each 0 high (reply_stamps h.reply) low).1
 
 -- What a session learns by its next entry.
-module _ (head : Head) (history : List (Entry Event)) (run : IsRun head history) (only : NothingIsStaged history) (front back : List (Entry Event)) (e : Entry Event) (whole : history ≡ front ++ e ∷ back) where
+module _ (head : Head) (history : List (Entry Event)) (run : IsRun head history) (front back : List (Entry Event)) (e : Entry Event) (whole : history ≡ front ++ e ∷ back) where
   early : IsRun head front
   early = run_front head front (e ∷ back) (subst (IsRun head) whole run)
-
-  early-only : NothingIsStaged front
-  early-only = unstaged_front front (e ∷ back) (subst NothingIsStaged whole only)
 
   may-now : MayFollow (protocol head) front e
   may-now = run_may head front e back (subst (IsRun head) whole run)
@@ -236,7 +241,7 @@ module _ (head : Head) (history : List (Entry Event)) (run : IsRun head history)
   before-there x inside = subst (λ h. Contains h x) (sym whole) (Contains-append_left front (e ∷ back) x inside)
 
   one-ts : (x : Entry Event) (id : TxnId) (ts at : ℕ) → Contains history x → x.event ≡ events.Tell (answers.Committed id at) → IsCommitted head history id ts → at ≡ ts
-  one-ts x id ts at inside told is = let both : Some at ≡ Some ts = sym (told_committed head history run only x inside id at told) ∙ is in cc both
+  one-ts x id ts at inside told is = let both : Some at ≡ Some ts = sym (told_committed head history run x inside id at told) ∙ is in cc both
 
   -- the telling that a meeting names
   meeting-names : (actor : ActorId) (id : TxnId) (step : ℕ) → IsCaused front (events.Meet id step) actor
@@ -256,7 +261,7 @@ module _ (head : Head) (history : List (Entry Event)) (run : IsRun head history)
   learnt-now (events.Tell (answers.Committed other at)) same id ts learns is =
       let told : e.event ≡ events.Tell (answers.Committed id at) = same ∙ ap (λ i. events.Tell (answers.Committed i at)) learns in
       let below : at ≤ (known_at head e.actor front).high =
-      told_below head front early early-only e.actor id at (subst (Does head e.actor (known_at head e.actor front)) told (act_of head front e may-now)) in
+      told_below head front early e.actor id at (subst (Does head e.actor (known_at head e.actor front)) told (act_of head front e may-now)) in
       omega (arith, one-ts e id ts at there told is)
   learnt-now (events.Meet other step) same id ts learns is =
       let names = meeting-names e.actor other step (subst (λ event. IsCaused front event e.actor) same may-now.caused) in
@@ -287,15 +292,15 @@ module _ (head : Head) (history : List (Entry Event)) (run : IsRun head history)
       omega (arith, clock-rises act.s.reading (known_of before).high)
 
   -- a session that learns of a commit knows a timestamp at or above it
-  pub learnt_below : NothingIsStaged history → (id : TxnId) (ts : ℕ) → Learns head history id before p.entry.event p.named → IsCommitted head history id ts → ts ≤ (known_of (before ++ p ∷ [])).high
-  learnt_below only id ts learns is =
+  pub learnt_below : (id : TxnId) (ts : ℕ) → Learns head history id before p.entry.event p.named → IsCommitted head history id ts → ts ≤ (known_of (before ++ p ∷ [])).high
+  learnt_below id ts learns is =
       let s = own_split (protocol head) (actors.Session session) history before p later whole in
       let mine : own (protocol head) p.entry.actor s.front ≡ before = ap (λ a. own (protocol head) a s.front) s.actor ∙ s.mine in
       let learnt : Learns head history id (own (protocol head) p.entry.actor s.front) p.entry.event (named_in (protocol head) s.front p.entry.event) =
       subst (Learns head history id (own (protocol head) p.entry.actor s.front) p.entry.event) s.named
       (subst (λ own. Learns head history id own p.entry.event p.named) (sym mine) learns) in
       let now : ts ≤ high_after p.entry.event (named_in (protocol head) s.front p.entry.event) (known_at head p.entry.actor s.front).high =
-      learnt-now head history run only s.front s.back p.entry s.whole p.entry.event refl id ts learnt is in
+      learnt-now head history run s.front s.back p.entry s.whole p.entry.event refl id ts learnt is in
       let same : high_after p.entry.event (named_in (protocol head) s.front p.entry.event) (known_at head p.entry.actor s.front).high ≡ (known_of (before ++ p ∷ [])).high =
       ap (λ o. high_after p.entry.event o (known_at head p.entry.actor s.front).high) (sym s.named)
       ∙ ap (λ own. high_after p.entry.event p.named (known_of own).high) mine

@@ -42,19 +42,19 @@ pub commit-asks : (call : Option Call) → call ≡ Some calls.Commit → AsksFo
 commit-asks call is own None asks = let both : ◌≡◌ {A = Option Call} (Some calls.Commit) (Some (calls.Delete own)) = sym is ∙ asks in cc both
 commit-asks call is own (Some value) asks = let both : ◌≡◌ {A = Option Call} (Some calls.Commit) (Some (calls.Put own value)) = sym is ∙ asks in cc both
 
--- An open transaction in a commit, which may have committed.
-module _ (head : Head) (actor : ActorId) (k : Known) (t : Txn) (opened : open_txn k ≡ Some t) (is_open : k.is_open ≡ true) (call : call_of k ≡ Some calls.Commit) (never : IsUncommitted t.id k.sent k.heard → ⊥) where
+-- An open transaction in a commit, and what follows where it is known not to have committed.
+module _ (head : Head) (actor : ActorId) (k : Known) (t : Txn) (opened : open_txn k ≡ Some t) (is_open : k.is_open ≡ true) (call : call_of k ≡ Some calls.Commit) (X : Type 0) (gives : IsUncommitted t.id k.sent k.heard → X) where
   call-is : (s : Statement) → k.statement ≡ Some s → s.call ≡ calls.Commit
   call-is s at = let both : ◌≡◌ {A = Option Call} (Some s.call) (Some calls.Commit) = sym (ap call_in at) ∙ call in cc both
 
-  never-of : (u : Txn) → open_txn k ≡ Some u → IsUncommitted u.id k.sent k.heard → ⊥
-  never-of u also uncommitted =
+  gives-of : (u : Txn) → open_txn k ≡ Some u → IsUncommitted u.id k.sent k.heard → X
+  gives-of u also uncommitted =
       let both : Some u ≡ Some t = sym also ∙ opened in
       let same : u ≡ t = cc both in
-      never (subst (λ (x : Txn). IsUncommitted x.id k.sent k.heard) same uncommitted)
+      gives (subst (λ (x : Txn). IsUncommitted x.id k.sent k.heard) same uncommitted)
 
-  never-in : (c : Call) → c ≡ calls.Commit → IsUncommittedIn k c → ⊥
-  never-in c is uncommitted = let (u, at, none) = subst (IsUncommittedIn k) is uncommitted in never-of u at none
+  gives-in : (c : Call) → c ≡ calls.Commit → IsUncommittedIn k c → X
+  gives-in c is uncommitted = let (u, at, none) = subst (IsUncommittedIn k) is uncommitted in gives-of u at none
 
   no-row : (s : Statement) (answer : Answer) → s.call ≡ calls.Commit → MatchBool (needs_txn s.call && not k.is_open) (answer ≡ answers.NoTxn) (MatchBool (is_past_range s) (answer ≡ answers.Clock s.reading) (MayTellRow head.splits actor k s answer)) → MayTellRow head.splits actor k s answer
   no-row s answer is told =
@@ -63,28 +63,28 @@ module _ (head : Head) (actor : ActorId) (k : Known) (t : Txn) (opened : open_tx
       subst (λ b. MatchBool b (answer ≡ answers.Clock s.reading) (MayTellRow head.splits actor k s answer)) second
       (subst (λ b. MatchBool b (answer ≡ answers.NoTxn) (MatchBool (is_past_range s) (answer ≡ answers.Clock s.reading) (MayTellRow head.splits actor k s answer))) first told)
 
-  -- it is told nothing that leaves it open
-  pub nothing-told : (answer : Answer) → MayTell head.splits actor k answer → is_open_told answer true ≡ true → ⊥
-  nothing-told answer may stays = by answer (no-row may.s answer (call-is may.s may.opened) may.told) (call-is may.s may.opened) stays
+  -- an answer that leaves it open is told only then
+  pub told_open : (answer : Answer) → MayTell head.splits actor k answer → is_open_told answer true ≡ true → X
+  told_open answer may stays = by answer (no-row may.s answer (call-is may.s may.opened) may.told) (call-is may.s may.opened) stays
     where
-      by : (answer : Answer) → MayTellRow head.splits actor k may.s answer → may.s.call ≡ calls.Commit → is_open_told answer true ≡ true → ⊥
-      by (answers.Begun id ts) row is stays = let both : calls.Begin row.priority ≡ calls.Commit = sym row.asked ∙ is in cc both
-      by (answers.Value value) row is stays = let both : calls.Get row.key ≡ calls.Commit = sym row.asked ∙ is in cc both
-      by (answers.Rows rows) row is stays = let both : calls.Scan row.span ≡ calls.Commit = sym row.asked ∙ is in cc both
-      by answers.Written row is stays = let (n, m, inside, at, f) = row.sent in commit-asks (Some may.s.call) (ap Some is) f.key f.value f.asked
-      by (answers.Committed id ts) row is stays = cc stays
-      by (answers.RolledBack id why) row is stays = cc stays
-      by answers.Learnt row is stays = subst (IsLearnTold true k) is row
-      by answers.NotYet row is stays = subst (IsLearnTold false k) is row
-      by answers.Done row is stays = let both : calls.Round ≡ calls.Commit = sym row ∙ is in cc both
-      by (answers.Blocked holder) row is stays = never-in may.s.call is row.uncommitted
-      by (answers.Unavailable faults) row is stays = never-in may.s.call is row.uncommitted
-      by (answers.Aborted why) row is stays = cc stays
-      by (answers.Restart key ts) row is stays = never-of row.t row.opened row.uncommitted
-      by (answers.Unknown id) row is stays = cc stays
-      by (answers.Moved ts) row is stays = never-of row.t row.opened row.uncommitted
-      by (answers.Clock reading) row is stays = row
-      by answers.NoTxn row is stays = row
+      by : (answer : Answer) → MayTellRow head.splits actor k may.s answer → may.s.call ≡ calls.Commit → is_open_told answer true ≡ true → X
+      by (answers.Begun id ts) row is stays = let both : calls.Begin row.priority ≡ calls.Commit = sym row.asked ∙ is in absurd (cc both)
+      by (answers.Value value) row is stays = let both : calls.Get row.key ≡ calls.Commit = sym row.asked ∙ is in absurd (cc both)
+      by (answers.Rows rows) row is stays = let both : calls.Scan row.span ≡ calls.Commit = sym row.asked ∙ is in absurd (cc both)
+      by answers.Written row is stays = let (n, m, inside, at, f) = row.sent in absurd (commit-asks (Some may.s.call) (ap Some is) f.key f.value f.asked)
+      by (answers.Committed id ts) row is stays = absurd (cc stays)
+      by (answers.RolledBack id why) row is stays = absurd (cc stays)
+      by answers.Learnt row is stays = absurd (subst (IsLearnTold true k) is row)
+      by answers.NotYet row is stays = absurd (subst (IsLearnTold false k) is row)
+      by answers.Done row is stays = let both : calls.Round ≡ calls.Commit = sym row ∙ is in absurd (cc both)
+      by (answers.Blocked holder) row is stays = gives-in may.s.call is row.uncommitted
+      by (answers.Unavailable faults) row is stays = gives-in may.s.call is row.uncommitted
+      by (answers.Aborted why) row is stays = absurd (cc stays)
+      by (answers.Restart key ts) row is stays = gives-of row.t row.opened row.uncommitted
+      by (answers.Unknown id) row is stays = absurd (cc stays)
+      by (answers.Moved ts) row is stays = gives-of row.t row.opened row.uncommitted
+      by (answers.Clock reading) row is stays = absurd row
+      by answers.NoTxn row is stays = absurd row
 
 -- ---- along a run
 
@@ -165,7 +165,7 @@ module _ (head : Head) (id : TxnId) where
 
       not-told : (answer : Answer) → e.event ≡ events.Tell answer → is_open_told answer true ≡ true → ⊥
       not-told answer is stays =
-          nothing-told head (actors.Session id.session) (session_at head id history) t open-now c.is_open c.call (never answer is stays) answer
+          told_open head (actors.Session id.session) (session_at head id history) t open-now c.is_open c.call ⊥ (never answer is stays) answer
           (subst (Does head (actors.Session id.session) (session_at head id history)) is own-does) stays
 
       not-asked : (call : Call) (reading : ℕ) → e.event ≡ events.Ask call reading → ⊥

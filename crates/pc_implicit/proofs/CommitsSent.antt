@@ -9,7 +9,7 @@ use Rattle.pc_base.specs.declared.entry.Entry.{Entry}
 use Rattle.pc_base.specs.declared.transaction.TxnId.{TxnId}
 use Rattle.pc_base.specs.Transaction.{same_txn}
 use Rattle.pc_history.specs.History.{MayFollow}
-use Rattle.pc_implicit.proofs.Agreed.{agreed}
+use Rattle.pc_implicit.proofs.Agreed.{agreed, one_txn}
 use Rattle.pc_implicit.proofs.Anchored.{commit_anchored}
 use Rattle.pc_implicit.proofs.Commits.{act_of, heard_decided}
 use Rattle.pc_implicit.proofs.Doing.{Does}
@@ -17,11 +17,10 @@ use Rattle.pc_implicit.proofs.Hearing.{IsSo, heard_is_so}
 use Rattle.pc_implicit.proofs.Homes.{home_is, home_on}
 use Rattle.pc_implicit.proofs.Lift.{over}
 use Rattle.pc_implicit.proofs.Metas.{subject_anchored}
-use Rattle.pc_implicit.proofs.Moves.{one_named}
 use Rattle.pc_implicit.proofs.PutsSent.{all-each}
 use Rattle.pc_implicit.proofs.Refusals.{sent_known}
 use Rattle.pc_implicit.proofs.Turns.{IsAnswered, Restarted, Turn, WentOn, Wrote, comes_from}
-use Rattle.pc_implicit.proofs.Views.{Stands, places_go_on}
+use Rattle.pc_implicit.proofs.Views.{Stands, places_go_on, undecided_from}
 use Rattle.pc_implicit.proofs.WriteLists.{IsAlike, alike_each}
 use Rattle.pc_implicit.specs.Decided.{IsNotBelow, decision, epoch_of, time_of}
 use Rattle.pc_implicit.specs.Writes.{home_of, txns_of}
@@ -71,14 +70,6 @@ decided_or_not p = by (decision p) refl
     by None is = inr is
     by (Some s) is = inl (s, is)
 
--- what is not decided in the end was not before
-undecided-then : (p q : Place) → Stands p q → decision q ≡ None → decision p ≡ None
-undecided-then p q stands none =
-    elim (decided_or_not p) [
-      | inl decided ↦ let both : None ≡ Some decided.0 = sym none ∙ stands.decided decided.0 decided.1 in absurd cc
-      | inr is ↦ is
-    ]
-
 -- a record that is not decided, and that a commit leaves so, is past it
 passes : (meta : TxnMeta) (ts : ℕ) (locks : List (List ℕ)) (p : Place) → decision p ≡ None → is_undecided_status (answer (requests.Commit meta ts locks) p) ≡ true → IsBeyond meta.epoch ts p
 passes meta ts locks Nothing none h = absurd cc
@@ -107,7 +98,7 @@ module _ (head : Head) (history : List (Entry Event)) (run : IsRun head history)
       let p = place_at head so.range meta.id so.front in
       let told : h.reply ≡ answer (requests.Commit meta ts locks) p = so.answers ∙ ap (λ r. reply r (state_at head so.range so.front)) asked in
       let stands : Stands p (place_at head so.range meta.id history) = subst (λ x. Stands p (place_at head so.range meta.id x)) so.whole (over _ (places_go_on meta.id) head so.range so.front so.back) in
-      let past : IsBeyond meta.epoch ts p = passes meta ts locks p (undecided-then p (place_at head so.range meta.id history) stands (ap decision there ∙ none)) (ap is_undecided_status (sym told) ∙ unsettled) in
+      let past : IsBeyond meta.epoch ts p = passes meta ts locks p (undecided_from p (place_at head so.range meta.id history) stands (ap decision there ∙ none)) (ap is_undecided_status (sym told) ∙ unsettled) in
       subst (IsBeyond meta.epoch ts) there (beyond-on meta.epoch ts p (place_at head so.range meta.id history) stands.rises past)
 
   -- the record of a transaction that is not decided is past each commit that its session heard to be refused
@@ -172,7 +163,7 @@ module _ (head : Head) where
       let act : Does head e.actor (known_at head e.actor history) (events.Send number range (requests.Commit meta ts locks)) = subst (Does head e.actor (known_at head e.actor history)) is (act_of head history e may) in
       let row = subst (λ x. MaySendCommit (known_at head x history) (record { meta = meta; ts = ts; locks = locks })) own act.row in
       let t_is : row.t ≡ t =
-      one_named (actors.Session meta.id.session) (k.begun + 1) k.txns row.t t (agreed head history run (actors.Session meta.id.session)).numbered row.mine inside (ap (λ (m : TxnMeta). m.id) (sym row.whose.same) ∙ sym same) in
+      one_txn (actors.Session meta.id.session) (k.begun + 1) k.txns row.t t (agreed head history run (actors.Session meta.id.session)).numbered row.mine inside (ap (λ (m : TxnMeta). m.id) (sym row.whose.same) ∙ sym same) in
       let epoch : meta.epoch ≡ t.epoch = ap (λ (m : TxnMeta). m.epoch) row.whose.same ∙ ap (λ (x : Txn). x.epoch) t_is in
       elim row.decided [
         | inl decides ↦

@@ -10,12 +10,12 @@ use Rattle.pc_base.specs.declared.transaction.TxnId.{TxnId}
 use Rattle.pc_base.specs.Transaction.{same_txn}
 use Rattle.pc_history.specs.History.{MayFollow}
 use Rattle.pc_history.specs.Own.{named_in}
-use Rattle.pc_implicit.proofs.Agreed.{AreNumbered, IsOwn, SaysOwn, agreed, begun-grows, begun_next, says_own}
+use Rattle.pc_implicit.proofs.Agreed.{AreNumbered, IsOwn, SaysOwn, agreed, begun-grows, begun_next, one_txn, says_own}
 use Rattle.pc_implicit.proofs.Commits.{act_of}
 use Rattle.pc_implicit.proofs.Doing.{Does, same_or_not}
 use Rattle.pc_implicit.proofs.Doings.{IsCallOf, call-after, doing-other, doing-same, doing_at}
 use Rattle.pc_implicit.proofs.Fronts.{IsFront, front_more, front_on, front_same}
-use Rattle.pc_implicit.proofs.Moves.{IsListed, IsNewlyBegun, Moved, Moves, Puts, Reads, Restarts, Stays, TellsRead, comes_from, first_after, is_first, moved, one_named}
+use Rattle.pc_implicit.proofs.Moves.{IsListed, IsNewlyBegun, Moved, Moves, Puts, Reads, Restarts, Stays, TellsRead, comes_from, first_after, is_first, moved}
 use Rattle.pc_implicit.proofs.SessionCommits.{written}
 use Rattle.pc_implicit.proofs.SessionReads.{last_seq_done}
 use Rattle.pc_implicit.proofs.Writings.{RiseFrom, is_a_write, last_filtered, last_written, rise_push}
@@ -134,7 +134,7 @@ module _ (head : Head) where
   -- in a run two of a session's transactions of one name are one
   pub one_known : (history : List (Entry Event)) → IsRun head history → (id : TxnId) (t u : Txn) → Contains (session_at head id history).txns t → Contains (session_at head id history).txns u → t.id ≡ u.id → t ≡ u
   one_known history run id t u a b same =
-      one_named (actors.Session id.session) ((session_at head id history).begun + 1) (session_at head id history).txns t u (numbered-at history run id) a b same
+      one_txn (actors.Session id.session) ((session_at head id history).begun + 1) (session_at head id history).txns t u (numbered-at history run id) a b same
 
   -- one more entry of the transaction's session
   module _ (history : List (Entry Event)) (e : Entry Event) (run : IsRun head history) (may : MayFollow (protocol head) history e) (id : TxnId) (same : e.actor ≡ actors.Session id.session) where

@@ -71,7 +71,7 @@ module _ (head : Head) where
       let anchored = subject_anchored head history run w.send w.listed h.number w.range h.request id w.sends about in
       let there : place_at head w.range id history ≡ home_of head id history =
       ap (λ r. place_at head r id history) anchored.there ∙ sym (home_is head id history anchored.anchor anchored.anchored) in
-      let stays = (w.shows id shows.view about shows.told).stays in
+      let stays = w.shows id shows.view about shows.told in
       view-fate shows.view fate (home_of head id history) shows.fits (subst (StaysTrue shows.view) there stays)
 
   says-fate : (history : List (Entry Event)) → IsRun head history → (actor : ActorId) (event : Event) → Does head actor (known_at head actor history) event → SaysFate head history event

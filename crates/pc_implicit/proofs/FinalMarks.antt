@@ -1,5 +1,8 @@
 -- A mark is final: only a removal leaves one, of a final record.
-use Rattle.std.proofs.Common.{◌≡◌, ℕ, Bool, true, false, ◌&&◌, not, if◌then◌else◌, List, [], refl, subst}
+use Rattle.std.proofs.Common.{Bool, List, None, Option, Some, [], false, if◌then◌else◌, not, refl, subst, true, ℕ, ◌&&◌, ◌≡◌}
+use Rattle.pc_world.specs.RangeOf.{range_of}
+use Rattle.pc_world.specs.Committed.{anchor_in}
+use Rattle.pc_implicit.specs.Writes.{home_of, place_under}
 use Rattle.pc_base.specs.declared.entry.Entry.{Entry}
 use Rattle.pc_base.specs.declared.transaction.TxnId.{TxnId}
 use Rattle.pc_base.specs.declared.transaction.Who.{Who}
@@ -90,3 +93,12 @@ pub marks_final : (head : Head) (range : ℕ) (id : TxnId) (history : List (Entr
 marks_final head range id history s is =
     let final : MarksFinal (place_at head range id history) = over _ (marks-go-on id) head range [] history tt in
     subst MarksFinal is final
+
+module _ (head : Head) where
+  -- a mark that the range of its transaction's anchor has is final
+  pub marks_at_home : (id : TxnId) (history : List (Entry Event)) (m : Status) → home_of head id history ≡ Marked m → is_final m.standing ≡ true
+  marks_at_home id history m is = by (anchor_in id history) is
+    where
+      by : (o : Option (List ℕ)) → place_under head id history o ≡ Marked m → is_final m.standing ≡ true
+      by None is = absurd cc
+      by (Some anchor) is = marks_final head (range_of head.splits anchor) id history m is

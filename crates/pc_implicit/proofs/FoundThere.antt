@@ -1,10 +1,11 @@
 -- A transaction that was heard to stage had sent that stage; and what a query found of an open stage was present since the stage was sent.
-use Rattle.std.proofs.Common.{◌≡◌, ℕ, Bool, true, false, ◌&&◌, ◌==◌, if◌then◌else◌, ◌⊎◌, inl, inr, List, [], ◌∷◌, ◌++◌, Some, Contains, refl, sym, ap, subst, ◌∙◌}
+use Rattle.std.proofs.Common.{◌≡◌, ℕ, true, ◌&&◌, ◌==◌, inl, inr, List, [], ◌∷◌, ◌++◌, Some, Contains, refl, sym, ap, subst, ◌∙◌}
 use Rattle.std.proofs.lemmas.Bool.{and_parts, eqb-true}
 use Rattle.std.proofs.lemmas.List.{append_assoc}
 use Rattle.std.proofs.lemmas.List.Elements.{Contains-append_left}
 use Rattle.std.proofs.lemmas.List.Folds.{Any-from_list_any}
 use Rattle.std.specs.Prelude.{IsTrue}
+use Rattle.pc_implicit.proofs.Written.{found_is}
 use Rattle.pc_base.specs.declared.actor.ActorId.{ActorId}
 use Rattle.pc_base.specs.declared.entry.Entry.{Entry}
 use Rattle.pc_base.specs.declared.transaction.TxnId.{TxnId}
@@ -16,10 +17,10 @@ use Rattle.pc_implicit.proofs.Hearing.{WasSentBy, sent_is_so}
 use Rattle.pc_implicit.proofs.HeardViews.{so_of}
 use Rattle.pc_implicit.proofs.Homes.{home_is}
 use Rattle.pc_implicit.proofs.Metas.{subject_anchored}
-use Rattle.pc_implicit.proofs.Presence.{staged_along}
 use Rattle.pc_implicit.proofs.RepliedAt.{replied_at}
 use Rattle.pc_implicit.proofs.Shown.{WasAnswered}
-use Rattle.pc_implicit.proofs.StagedAs.{marks_final, staged_as}
+use Rattle.pc_implicit.proofs.FinalMarks.{marks_final}
+use Rattle.pc_implicit.proofs.StagedAs.{staged_along, staged_as}
 use Rattle.pc_implicit.proofs.StagesRefuted.{one_staged}
 use Rattle.pc_implicit.proofs.StageWords.{WasStagedAs}
 use Rattle.pc_implicit.proofs.Views.{reply-view}
@@ -44,8 +45,7 @@ use Rattle.pc_proto.specs.Requests.{is_push_of, subject}
 use Rattle.pc_proto.specs.Table.{place_of}
 use Rattle.pc_world.proofs.Prefixes.{run_front}
 use Rattle.pc_world.specs.After.{known_at, place_at, state_at}
-use Rattle.pc_world.specs.Evaluation.{state_after}
-use Rattle.pc_world.specs.Evaluation.{reply as reply_of}
+use Rattle.pc_world.specs.Evaluation.{reply as reply_of, state_after}
 use Rattle.pc_world.specs.Evaluation.Query.{write_stands}
 use Rattle.pc_world.specs.Known.Traffic.{Sent}
 use Rattle.pc_world.specs.Known.Transactions.{has_staged, is_stage_of, lists_write}
@@ -105,8 +105,9 @@ module _ (head : Head) (history : List (Entry Event)) (run : IsRun head history)
       let after_is : place_of id (state_after request s).table ≡ p = ap (λ (x : RangeState). place_of id x.table) (sym at.at.after) in
       let shown : views.Staging epoch ts writes ≡ view_of p = subst (λ q. views.Staging epoch ts writes ≡ view_of q) after_is (reply-view request s id (views.Staging epoch ts writes) about replies_so) in
       let anchored = subject_anchored head now until at.send (Contains-append_left at.before (at.e ∷ []) at.send at.listed) number w.range request id at.sends about in
-      let home : home_of head id now ≡ p = home_is head id now anchored.anchor anchored.anchored ∙ ap (λ r. place_at head r id now) (sym anchored.there) in
-      let stages = view_stages p epoch ts writes (λ m is. marks_final head now until id m (home ∙ is)) (sym shown) in
+      let home : home_of head id now ≡ p =
+      subst (λ r. home_of head id now ≡ place_at head r id now) (sym anchored.there) (home_is head id now anchored.anchor anchored.anchored) in
+      let stages = view_stages p epoch ts writes (marks_final head w.range id now) (sym shown) in
       let r = stages.0 in
       let sent = staged_as head now until id r (home ∙ stages.1) stages.2 in
       staged-longer now at.later id epoch ts writes whole (record {
@@ -152,10 +153,6 @@ module _ (head : Head) (history : List (Entry Event)) (run : IsRun head history)
           staged-own id epoch ts seq key m.number m.range m.request w.send w.listed w.sends any.4
 
 module _ (head : Head) (history : List (Entry Event)) (run : IsRun head history) where
-  found-stands : (found : Bool) → replies.Found ≡ (if found then replies.Found else replies.Missing) → found ≡ true
-  found-stands true told = refl
-  found-stands false told = absurd cc
-
   -- a write that a query found was present since its stage was sent
   pub found_there : (s : SentStage) → WasStaged history s → IsOpenTo head history s → (w : List ℕ × ℕ) → QueryFound history s.meta.id s.meta.epoch w.0 w.1 s.ts → WasThere head history s w
   found_there s sent opened w found =
@@ -172,7 +169,7 @@ module _ (head : Head) (history : List (Entry Event)) (run : IsRun head history)
       let also : WasStaged history x = subst (λ h. WasStaged h x) (sym at.whole) (staged_along at.before (at.e ∷ at.later) x early) in
       let one : x ≡ s = one_staged head history run s x sent also saw.2 saw.3 saw.4 opened in
       let standing : write_stands s.meta.id s.meta.epoch w.1 s.ts w.0 (state_at head found.replied.range at.before) ≡ true =
-      found-stands (write_stands s.meta.id s.meta.epoch w.1 s.ts w.0 (state_at head found.replied.range at.before)) at.at.answers in
+      found_is (write_stands s.meta.id s.meta.epoch w.1 s.ts w.0 (state_at head found.replied.range at.before)) (sym at.at.answers) in
       record {
         front = at.before;
         back = at.e ∷ at.later;

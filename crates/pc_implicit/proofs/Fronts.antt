@@ -1,5 +1,5 @@
 -- Lists that are the front of another, lists that are split at an element, and what is so of each element after those before it.
-use Rattle.std.proofs.Common.{◌≡◌, List, [], ◌∷◌, ◌++◌, Contains, inl, inr, refl, sym, ap, subst, ◌∙◌}
+use Rattle.std.proofs.Common.{◌≡◌, List, [], ◌∷◌, ◌++◌, Contains, ◌⊎◌, inl, inr, refl, sym, ap, subst, ◌∙◌}
 use Rattle.std.proofs.lemmas.List.{append_assoc, append-nil}
 use Rattle.std.specs.Prelude.{⊤}
 use Rattle.pc_lists.proofs.Lists.{contains_cons, contains_nil}
@@ -56,3 +56,28 @@ module _ {X : Type 0} (P : List X → X → Type 0) where
   -- what is so of each element after those before it is so of one
   pub each_after_split : (done : List X) (x : X) (rest xs : List X) → xs ≡ done ++ x ∷ rest → EachAfter P [] xs → P done x
   each_after_split done x rest xs whole each = each_after_at [] done x rest (subst (EachAfter P []) whole each)
+
+-- of two fronts of one list one is a front of the other
+pub either_front : {X : Type 0} (xs ys vs ws : List X) → xs ++ ys ≡ vs ++ ws → IsFront xs vs ⊎ IsFront vs xs
+either_front [] ys vs ws same = inl (record { rest = vs; whole = refl })
+either_front (x ∷ xs) ys [] ws same = inr (record { rest = x ∷ xs; whole = refl })
+either_front (x ∷ xs) ys (v ∷ vs) ws same =
+    let first : x ≡ v = cc in
+    let rest : xs ++ ys ≡ vs ++ ws = cc in
+    elim (either_front xs ys vs ws rest) [
+      | inl front ↦ inl (record { rest = front.rest; whole = λ i. sym first i ∷ front.whole i })
+      | inr front ↦ inr (record { rest = front.rest; whole = λ i. first i ∷ front.whole i })
+    ]
+
+-- a list that is one longer splits at its end, or as it did before
+pub ends_or_before : {X : Type 0} (xs front back : List X) (x : X) → xs ++ x ∷ [] ≡ front ++ back → (xs ++ x ∷ [] ≡ front) ⊎ ((rest : List X) × (xs ≡ front ++ rest))
+ends_or_before xs [] back x split = inr (xs, refl)
+ends_or_before [] (f ∷ []) back x split = let same : x ≡ f = cc in inl (ap (λ y. y ∷ []) same)
+ends_or_before [] (f ∷ g ∷ front) back x split = absurd cc
+ends_or_before (y ∷ xs) (f ∷ front) back x split =
+    let first : y ≡ f = cc in
+    let rest : xs ++ x ∷ [] ≡ front ++ back = cc in
+    elim (ends_or_before xs front back x rest) [
+      | inl ends ↦ inl (λ i. first i ∷ ends i)
+      | inr before ↦ inr (before.0, λ i. first i ∷ before.1 i)
+    ]

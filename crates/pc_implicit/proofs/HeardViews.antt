@@ -1,6 +1,6 @@
 -- What was heard of a transaction is so of its record: a view stays true of it, and a reply was given as it was at some time before.
-use Rattle.std.proofs.Common.{◌≡◌, ℕ, false, List, ◌++◌, Option, None, Some, Contains, IsTrue, refl, sym, ap, subst, ◌∙◌}
-use Rattle.std.proofs.lemmas.Bool.{and_parts}
+use Rattle.std.proofs.Common.{◌≡◌, ℕ, ◌==◌, true, false, List, ◌++◌, Option, None, Some, Contains, IsTrue, sym, ap, subst, ◌∙◌}
+use Rattle.std.proofs.lemmas.Bool.{and_parts, eqb-true}
 use Rattle.std.specs.Option.{option_map_or}
 use Rattle.pc_base.specs.declared.actor.ActorId.{ActorId}
 use Rattle.pc_base.specs.declared.entry.Entry.{Entry}
@@ -18,16 +18,14 @@ use Rattle.pc_lists.proofs.Each.{each-contains}
 use Rattle.pc_proto.specs.declared.event.Event.{Event}
 use Rattle.pc_proto.specs.declared.event.Event.TheVariants as events
 use Rattle.pc_proto.specs.declared.record.Standing.TheVariants as standings
-use Rattle.pc_proto.specs.declared.record.Status.{Status}
 use Rattle.pc_proto.specs.declared.reply.Reply.{Reply}
 use Rattle.pc_proto.specs.declared.request.Request.{Request}
 use Rattle.pc_proto.specs.declared.view.View.{View}
 use Rattle.pc_proto.specs.declared.view.View.TheVariants as views
-use Rattle.pc_proto.specs.Place.{Place}
 use Rattle.pc_proto.specs.RecordRows.Reached.{status_of}
 use Rattle.pc_proto.specs.Replies.{view_in}
 use Rattle.pc_proto.specs.Requests.{is_about, subject}
-use Rattle.pc_proto.specs.Views.{is_committed_at}
+use Rattle.pc_proto.specs.Views.{is_committed_at, is_staging_at}
 use Rattle.pc_world.specs.After.{known_at, place_at, state_at}
 use Rattle.pc_world.specs.Evaluation.{reply as reply_of}
 use Rattle.pc_world.specs.Known.Traffic.{Heard}
@@ -35,13 +33,13 @@ use Rattle.pc_world.specs.Local.{Head}
 use Rattle.pc_world.specs.Run.{IsRun}
 use Rattle.pc_world.specs.Views.{WasCommitted}
 
--- what is not decided in the end was not decided before
-pub undecided_from : (p q : Place) → Stands p q → decision q ≡ None → decision p ≡ None
-undecided_from p q stands none = by (decision p) refl
-  where
-    by : (o : Option Status) → decision p ≡ o → decision p ≡ None
-    by None is = is
-    by (Some s) is = let both : None ≡ Some s = sym none ∙ stands.decided s is in absurd cc
+-- the view that shows a staging
+pub staging-view : (epoch ts : ℕ) (o : Option View) → option_map_or (is_staging_at epoch ts) o false ≡ true → (at : ℕ) × (writes : List (List ℕ × ℕ)) × (o ≡ Some (views.Staging epoch at writes)) × (at ≡ ts)
+staging-view epoch ts None h = absurd cc
+staging-view epoch ts (Some (views.Staging at_epoch at writes)) h =
+    let parts = and_parts (at_epoch == epoch) (at == ts) h in
+    (at, writes, ap (λ n. Some (views.Staging n at writes)) (eqb-true at_epoch epoch parts.0), eqb-true at ts parts.1)
+staging-view epoch ts (Some view) h = absurd cc
 
 module _ (head : Head) (history : List (Entry Event)) where
   -- what an actor heard was replied
@@ -95,7 +93,7 @@ module _ (head : Head) (history : List (Entry Event)) where
     pub view_is_so : (actor : ActorId) (h : Heard) → IsSo head history actor h → (id : TxnId) (view : View) → IsTrue (is_about id h.request) → view_in h.reply ≡ Some view → StaysTrue view (home_of head id history)
     view_is_so actor h so id view about told =
         let subject_is : subject h.request ≡ Some id = subject-is id (subject h.request) about in
-        subst (StaysTrue view) (there_is_home actor h so id subject_is) (so.shows id view subject_is told).stays
+        subst (StaysTrue view) (there_is_home actor h so id subject_is) (so.shows id view subject_is told)
 
     -- what was heard to be committed is decided so
     pub heard_decides : (actor : ActorId) (id : TxnId) (ts : ℕ) → WasCommitted (known_at head actor history).heard id ts → (epoch : ℕ) × (decision (home_of head id history) ≡ Some (status_of standings.Committed epoch ts))

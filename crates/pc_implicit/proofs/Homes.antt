@@ -1,11 +1,12 @@
 -- What the range of a transaction's anchor has of it.
-use Rattle.std.proofs.Common.{◌≡◌, ℕ, ◌≤◌, ◌⊎◌, inl, inr, List, [], ◌∷◌, ◌++◌, Option, None, Some, refl, sym, ap, subst, ◌∙◌, arith}
+use Rattle.std.proofs.Common.{◌≡◌, ℕ, ◌≤◌, List, [], ◌∷◌, ◌++◌, Option, None, Some, refl, sym, ap, subst, ◌∙◌, arith}
+use Rattle.std.proofs.lemmas.List.{append-nil, append_assoc}
 use Rattle.pc_base.specs.declared.entry.Entry.{Entry}
 use Rattle.pc_base.specs.declared.transaction.TxnId.{TxnId}
 use Rattle.pc_implicit.proofs.Anchored.{anchor_stays}
-use Rattle.pc_implicit.proofs.Commits.{ByRecord, ByTell, decided_is_committed, why_committed}
+use Rattle.pc_implicit.proofs.Commits.{decided_is_committed}
 use Rattle.pc_implicit.proofs.Lift.{over}
-use Rattle.pc_implicit.proofs.Views.{Stands, places_go_on}
+use Rattle.pc_implicit.proofs.Views.{Stands, places_go_on, stands-itself, stands-on}
 use Rattle.pc_implicit.specs.Decided.{decision, time_of}
 use Rattle.pc_implicit.specs.Writes.{home_of, place_under}
 use Rattle.pc_proto.specs.declared.event.Event.{Event}
@@ -16,8 +17,6 @@ use Rattle.pc_world.specs.After.{place_at}
 use Rattle.pc_world.specs.Committed.{IsCommitted, anchor_in}
 use Rattle.pc_world.specs.Local.{Head}
 use Rattle.pc_world.specs.RangeOf.{range_of}
-use Rattle.pc_world.specs.Run.{IsRun}
-use Rattle.pc_world.specs.Unstaged.{NothingIsStaged}
 
 module _ (head : Head) (id : TxnId) where
   -- of a transaction that has this anchor
@@ -55,11 +54,10 @@ module _ (head : Head) (id : TxnId) where
       by None is decided = absurd cc
       by (Some anchor) is decided = decided_is_committed head history id ts (record { anchor = anchor; anchored = is; epoch = epoch; decided = decided })
 
-  -- what is committed it has decided, or there is no anchor
-  pub committed_home : (history : List (Entry Event)) → IsRun head history → NothingIsStaged history → (ts : ℕ) → IsCommitted head history id ts
-      → ((epoch : ℕ) × (decision (home_of head id history) ≡ Some (status_of standings.Committed epoch ts))) ⊎ (anchor_in id history ≡ None)
-  committed_home history run only ts is =
-      elim (why_committed head history run only id ts is) [
-        | ByRecord d sent ↦ inl (d.epoch, ap decision (home_is history d.anchor d.anchored) ∙ d.decided)
-        | ByTell none told ↦ inr none
-      ]
+module _ (head : Head) where
+  -- a transaction's record over a longer history
+  pub home_along : (id : TxnId) (front back : List (Entry Event)) → Stands (home_of head id front) (home_of head id (front ++ back))
+  home_along id front [] = subst (λ h. Stands (home_of head id front) (home_of head id h)) (sym (append-nil front)) (stands-itself (home_of head id front))
+  home_along id front (e ∷ es) =
+      subst (λ h. Stands (home_of head id front) (home_of head id h)) (append_assoc front (e ∷ []) es)
+      (stands-on (home_of head id front) (home_of head id (front ++ e ∷ [])) (home_of head id ((front ++ e ∷ []) ++ es)) (home_on head id front e) (home_along id (front ++ e ∷ []) es))

@@ -12,7 +12,7 @@ use Rattle.std.specs.declared.cmp.Ordering.{Ordering}
 use Rattle.std.specs.declared.cmp.Ordering.TheVariants as orderings
 use Rattle.std.specs.List.{AllByRecursion as Each, AllPairs}
 use Rattle.std.specs.Option.{option_map}
-use Rattle.std.specs.Ordering.{is_eq, match_ordering, nat_cmp}
+use Rattle.std.specs.Ordering.{match_ordering, nat_cmp}
 use Rattle.pc_base.specs.Keyed.{at, without}
 use Rattle.pc_base.specs.Span.{same_key}
 use Rattle.pc_lists.proofs.Each.{each-both}

@@ -1,5 +1,5 @@
 -- What stands under a key after a value was put under one, or under one nothing stands any more.
-use Rattle.std.proofs.Common.{◌≡◌, true, false, cond, List, [], ◌∷◌, None, Some, refl, ap, ◌∙◌, arith}
+use Rattle.std.proofs.Common.{◌≡◌, false, cond, List, [], ◌∷◌, None, Some, refl, ap, ◌∙◌, arith}
 use Rattle.std.specs.BTreeMap.{insert_entry}
 use Rattle.pc_base.proofs.Entries.{at_inserted}
 use Rattle.pc_base.proofs.TxnOrder.{txn_equal, txn_total}

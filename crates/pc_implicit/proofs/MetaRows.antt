@@ -1,7 +1,5 @@
 -- What is so of the transaction and anchor of each meta in a range and in a request stays so over evaluation, and is so in the reply.
-use Rattle.std.proofs.Common.{ℕ, Bool, true, false, ◌&&◌, ◌==◌, not, nat_le, if◌then◌else◌, List, [], ◌∷◌, filter, fold, map, Option, None, Some, IfSome}
-use Rattle.std.specs.BTreeMap.{insert_entry}
-use Rattle.std.specs.declared.cmp.Ordering.{Ordering}
+use Rattle.std.proofs.Common.{ℕ, Bool, true, false, ◌&&◌, ◌==◌, not, nat_le, if◌then◌else◌, List, [], ◌∷◌, filter, Option, None, Some, IfSome}
 use Rattle.std.specs.List.{AllByRecursion as Each}
 use Rattle.std.specs.Option.{option_map_or}
 use Rattle.std.specs.Cmp.Lexicographic.{slice_cmp}
@@ -9,7 +7,7 @@ use Rattle.std.specs.Ordering.{nat_cmp}
 use Rattle.std.specs.Prelude.{⊤}
 use Rattle.pc_base.specs.declared.transaction.TxnId.{TxnId}
 use Rattle.pc_base.specs.declared.transaction.Who.{Who}
-use Rattle.pc_base.specs.Keyed.{at, in_order}
+use Rattle.pc_base.specs.Keyed.{at}
 use Rattle.pc_base.specs.Span.{contains, key_below, same_key}
 use Rattle.pc_base.specs.Transaction.{same_txn, txn_cmp}
 use Rattle.pc_lists.proofs.Each.{each-at, each-choose, each-filter, each-insert, each-without}
@@ -35,13 +33,14 @@ use Rattle.pc_proto.specs.RecordRows.Abort.{abort}
 use Rattle.pc_proto.specs.RecordRows.Beat.{beat}
 use Rattle.pc_proto.specs.RecordRows.Commit.{commit}
 use Rattle.pc_proto.specs.RecordRows.Push.{Verdict, There, Refuse, Doubt, Do, on_verdict, push, push_verdict, pushed}
-use Rattle.pc_proto.specs.RecordRows.Reached.{activity_of, alive_at, at_epoch, is_reached, is_staged_at, status_of}
+use Rattle.pc_proto.specs.RecordRows.Reached.{activity_of, alive_at, is_reached, is_staged_at, status_of}
 use Rattle.pc_proto.specs.RecordRows.Records.{listed_metas}
 use Rattle.pc_proto.specs.RecordRows.Recover.{decided, recover}
 use Rattle.pc_proto.specs.RecordRows.Remove.{remove}
 use Rattle.pc_proto.specs.RecordRows.Stage.{stage}
 use Rattle.pc_proto.specs.Requests.{subject}
 use Rattle.pc_proto.specs.Table.{Table, place_of, record_or_mark, records_after}
+use Rattle.pc_world.proofs.Stamps.Searches.{some-kept}
 use Rattle.pc_world.specs.Evaluation.{intents_after, reply, state_after}
 use Rattle.pc_world.specs.Evaluation.Get.{found_at, get_blocker, get_reply}
 use Rattle.pc_world.specs.Evaluation.IntentChange.{IntentChange, Leave, Lay, Drop, intents_with}
@@ -82,14 +81,6 @@ ReplyHas Has reply = ⊤
 pub record StateHas (Has : TxnId → List ℕ → Type 0) (s : RangeState) : Type 0 where
   pub intents : Each (λ e. MetaHas Has e.1.meta) s.intents
   pub records : Each (λ e. MetaHas Has e.1.meta) s.table.records
-
-some-kept : {A : Type 0} (P : A → Type 0) (test : A → Bool) (o : Option A) → IfSome o P → IfSome (kept_if test o) P
-some-kept P test None h = tt
-some-kept P test (Some x) h = by (test x)
-  where
-    by : (b : Bool) → IfSome (if b then Some x else None) P
-    by true = h
-    by false = tt
 
 module _ (Has : TxnId → List ℕ → Type 0) where
   Own : Intent → Type 0

@@ -42,9 +42,6 @@ module _ (id : TxnId) (epoch seq ts : ℕ) (key : List ℕ) where
   moved-it : (i : Intent) (at : ℕ) → is_it epoch seq ts i ≡ false → is_it epoch seq ts (record i { ts = max i.ts at }) ≡ false
   moved-it i at absent = grind (arith, common_steps)
 
-  lands-above : (meta_id : TxnId) (s : RangeState) (asked newest own : ℕ) → ts < free_from meta_id s.bound → ts < max (max asked (free_from meta_id s.bound)) (max newest own)
-  lands-above meta_id s asked newest own closed = omega (arith, closed)
-
   absent-step : (request : Request) (s : RangeState) → StaysMissing id epoch seq ts key s → is_found epoch seq ts (own_at id key (intents_after request s)) ≡ false
   absent-step request s missing =
       elim (own_changes id key request s) [

@@ -1,5 +1,5 @@
 -- What one event of its session does to a transaction, as its session knows it and as what it did.
-use Rattle.std.proofs.Common.{◌≡◌, ℕ, ◌+◌, Bool, true, false, cond, ◌&&◌, ◌==◌, if◌then◌else◌, not, ◌⊎◌, inl, inr, List, [], ◌∷◌, ◌++◌, filter, map, Option, None, Some, Contains, refl, sym, ap, subst, ◌∙◌, arith}
+use Rattle.std.proofs.Common.{◌≡◌, ℕ, ◌+◌, Bool, true, false, cond, ◌&&◌, ◌==◌, if◌then◌else◌, not, ◌⊎◌, inl, inr, List, [], ◌∷◌, ◌++◌, filter, map, Option, None, Some, Contains, refl, sym, ap, subst, ◌∙◌}
 use Rattle.std.proofs.lemmas.Bool.{and_from, eq-eqb}
 use Rattle.std.proofs.lemmas.List.{map-append}
 use Rattle.std.proofs.lemmas.List.Elements.{Contains-append_left, Contains-push}
@@ -8,7 +8,7 @@ use Rattle.std.specs.Bool.{MatchBool}
 use Rattle.pc_base.specs.declared.actor.ActorId.{ActorId}
 use Rattle.pc_base.specs.declared.transaction.TxnId.{TxnId}
 use Rattle.pc_base.specs.Transaction.{same_txn}
-use Rattle.pc_implicit.proofs.Agreed.{AreNumbered, open_is, open_there, owned}
+use Rattle.pc_implicit.proofs.Agreed.{AreNumbered, one_txn, open_is, open_there}
 use Rattle.pc_implicit.proofs.Doing.{Does, told_by_row}
 use Rattle.pc_implicit.proofs.Doings.{IsCallOf, call_is}
 use Rattle.pc_implicit.proofs.SessionCommits.{written}
@@ -69,31 +69,10 @@ first_after id event h k = refl
 
 -- ---- transactions of one actor
 
--- two of an actor's transactions of one name are one
-pub one_named : (actor : ActorId) (n : ℕ) (txns : List Txn) (t u : Txn) → AreNumbered actor n txns → Contains txns t → Contains txns u → t.id ≡ u.id → t ≡ u
-one_named actor n [] t u numbered a b same = absurd (contains_nil t a)
-one_named actor n (x ∷ xs) t u numbered a b same =
-    elim (contains_cons x xs t a) [
-      | inl first ↦ elim (contains_cons x xs u b) [
-        | inl second ↦ sym first ∙ second
-        | inr later ↦
-            let low = (owned actor x.id.number xs u numbered.2 later).1 in
-            let is : x.id.number ≡ u.id.number = ap (λ (y : Txn). y.id.number) first ∙ ap (λ (i : TxnId). i.number) same in
-            absurd (let no : ⊥ = omega (arith, low, is) in no)
-      ]
-      | inr early ↦ elim (contains_cons x xs u b) [
-        | inl second ↦
-            let low = (owned actor x.id.number xs t numbered.2 early).1 in
-            let is : t.id.number ≡ x.id.number = ap (λ (i : TxnId). i.number) same ∙ ap (λ (y : Txn). y.id.number) (sym second) in
-            absurd (let no : ⊥ = omega (arith, low, is) in no)
-        | inr later ↦ one_named actor x.id.number xs t u numbered.2 early later same
-      ]
-    ]
-
 -- the transaction that stands first is the open one, if any is open
 pub first_is_open : (actor : ActorId) (k : Known) (t : Txn) → AreNumbered actor (k.begun + 1) k.txns → Contains k.txns t → is_first t.id k.txns ≡ true → k.is_open ≡ true → open_txn k ≡ Some t
 first_is_open actor k t numbered there first opened =
-    ap (λ b. first_if b k.txns) opened ∙ by k.txns first there (λ u also same. one_named actor (k.begun + 1) k.txns u t numbered also there same)
+    ap (λ b. first_if b k.txns) opened ∙ by k.txns first there (λ u also same. one_txn actor (k.begun + 1) k.txns u t numbered also there same)
   where
     by : (txns : List Txn) → is_first t.id txns ≡ true → Contains txns t → ((u : Txn) → Contains txns u → u.id ≡ t.id → u ≡ t) → first_if true txns ≡ Some t
     by [] first there one = absurd cc
@@ -137,7 +116,7 @@ pub record Moved (k : Known) (event : Event) (h : Option Heard) (t : Txn) (done 
 -- An actor that knows its transactions, and one of them.
 module _ (head : Head) (actor : ActorId) (k : Known) (numbered : AreNumbered actor (k.begun + 1) k.txns) (t : Txn) (mine : Contains k.txns t) where
   same-one : (u : Txn) → Contains k.txns u → u.id ≡ t.id → u ≡ t
-  same-one u there same = one_named actor (k.begun + 1) k.txns u t numbered there mine same
+  same-one u there same = one_txn actor (k.begun + 1) k.txns u t numbered there mine same
 
   module _ (event : Event) (meta : TxnMeta) (seq ts : ℕ) (key : List ℕ) (value : Option (List ℕ)) (done : List Operation) (listed : IsListed t done) where
     any-done : (b : Bool) → list_any (is_write seq) (map written t.writes) ≡ b → list_any (is_write seq) done ≡ b

@@ -1,33 +1,35 @@
 -- A stage by which its transaction is committed is never known to be dead. Here dead differs from late: one of its writes may stand above it
 -- or be missing once the transaction is decided and its intents are settled; dead asks that it was undecided after that.
-use Rattle.std.proofs.Common.{◌≡◌, ℕ, ◌+◌, ◌<◌, Bool, true, false, cond, not, ◌⊎◌, inl, inr, List, [], ◌∷◌, ◌++◌, length, Option, None, Some, Contains, refl, sym, ap, subst, ◌∙◌, arith, length-append}
+use Rattle.std.proofs.Common.{◌≡◌, ℕ, ◌+◌, ◌<◌, Bool, true, false, cond, not, inl, inr, List, [], ◌∷◌, ◌++◌, length, Option, None, Some, Contains, refl, sym, ap, subst, ◌∙◌, arith, length-append}
 use Rattle.std.proofs.lemmas.Bool.{and_parts}
 use Rattle.std.proofs.lemmas.List.{append-nil, append_assoc}
 use Rattle.std.specs.Option.{option_map_or}
+use Rattle.pc_implicit.proofs.Answering.{final-status}
+use Rattle.pc_implicit.proofs.StagedAs.{staged_along}
 use Rattle.pc_base.specs.declared.actor.ActorId.{ActorId}
 use Rattle.pc_base.specs.declared.actor.ActorId.TheVariants as actors
 use Rattle.pc_base.specs.declared.entry.Entry.{Entry}
 use Rattle.pc_base.specs.declared.transaction.TxnId.{TxnId}
+use Rattle.pc_implicit.proofs.CommitsStay.{StaysCommitted, commits_on, none_refuted}
 use Rattle.pc_implicit.proofs.Did.{session_at}
 use Rattle.pc_implicit.proofs.EvaluatedAt.{goes_to}
-use Rattle.pc_implicit.proofs.FinalMarks.{marks_final}
-use Rattle.pc_implicit.proofs.Fronts.{IsFront}
+use Rattle.pc_implicit.proofs.FinalMarks.{marks_at_home}
+use Rattle.pc_implicit.proofs.Fronts.{either_front}
 use Rattle.pc_implicit.proofs.HeardAt.{heard_at, replied_then, viewed_then}
-use Rattle.pc_implicit.proofs.HeardViews.{so_of, undecided_from}
-use Rattle.pc_implicit.proofs.Homes.{home_is, home_on}
+use Rattle.pc_implicit.proofs.HeardViews.{so_of}
+use Rattle.pc_implicit.proofs.Homes.{home_along, home_is}
 use Rattle.pc_implicit.proofs.Lift.{over}
 use Rattle.pc_implicit.proofs.Metas.{subject_anchored}
-use Rattle.pc_implicit.proofs.Presence.{refuted_absent, refuted_more, staged_along}
+use Rattle.pc_implicit.proofs.Presence.{refuted_more}
 use Rattle.pc_implicit.proofs.StagesRefuted.{refutes_one, stage_passes}
 use Rattle.pc_implicit.proofs.StageWords.{CommitsBy, SomeRefuted, StagesAs, WasRefuted}
-use Rattle.pc_implicit.proofs.Views.{Stands, places_go_on, stands-itself, stands-on, subject-is}
+use Rattle.pc_implicit.proofs.Views.{Stands, places_go_on, stands-itself, subject-is, undecided_from}
 use Rattle.pc_implicit.specs.Decided.{decision, epoch_of, time_of}
 use Rattle.pc_implicit.specs.Stages.{WasStaged}
-use Rattle.pc_implicit.specs.Writes.{home_of, place_under}
+use Rattle.pc_implicit.specs.Writes.{home_of}
 use Rattle.pc_proto.specs.declared.event.Event.{Event}
 use Rattle.pc_proto.specs.declared.event.Event.TheVariants as events
 use Rattle.pc_proto.specs.declared.record.Record.{Record}
-use Rattle.pc_proto.specs.declared.record.Standing.{Standing}
 use Rattle.pc_proto.specs.declared.record.Standing.TheVariants as standings
 use Rattle.pc_proto.specs.declared.record.Status.{Status}
 use Rattle.pc_proto.specs.declared.reply.Reply.{Reply}
@@ -42,7 +44,6 @@ use Rattle.pc_proto.specs.Requests.{is_about, subject}
 use Rattle.pc_proto.specs.Views.{is_final_view}
 use Rattle.pc_world.proofs.Prefixes.{run_front}
 use Rattle.pc_world.specs.After.{place_at, state_at}
-use Rattle.pc_world.specs.Committed.{anchor_in}
 use Rattle.pc_world.specs.Evaluation.{reply as reply_of}
 use Rattle.pc_world.specs.Known.Traffic.{Heard}
 use Rattle.pc_world.specs.Local.{Head}
@@ -52,25 +53,7 @@ use Rattle.pc_world.specs.StageFate.{IsDead, RefutesRecord, RefutesWrite, SentSt
 use Rattle.pc_world.specs.Views.{shows_undecided}
 
 -- Of two beginnings of one list one is a beginning of the other.
-pub either_front : {X : Type 0} (xs ys vs ws : List X) → xs ++ ys ≡ vs ++ ws → IsFront xs vs ⊎ IsFront vs xs
-either_front [] ys vs ws same = inl (record { rest = vs; whole = refl })
-either_front (x ∷ xs) ys [] ws same = inr (record { rest = x ∷ xs; whole = refl })
-either_front (x ∷ xs) ys (v ∷ vs) ws same =
-    let first : x ≡ v = cc in
-    let rest : xs ++ ys ≡ vs ++ ws = cc in
-    elim (either_front xs ys vs ws rest) [
-      | inl front ↦ inl (record { rest = front.rest; whole = λ i. sym first i ∷ front.whole i })
-      | inr front ↦ inr (record { rest = front.rest; whole = λ i. first i ∷ front.whole i })
-    ]
-
 -- ---- places
-
--- a final standing is told by a final view
-final-told : (standing : Standing) (epoch ts : ℕ) (writes : List (List ℕ × ℕ)) (locks : List (List ℕ)) → is_final standing ≡ true → is_final_view (status_view standing epoch ts writes locks) ≡ true
-final-told standings.Pending epoch ts writes locks h = absurd cc
-final-told standings.Staging epoch ts writes locks h = absurd cc
-final-told standings.Committed epoch ts writes locks h = refl
-final-told (standings.Aborted why) epoch ts writes locks h = refl
 
 -- a place that is told by a view that is not final is not decided
 unsettled-place : (p : Place) → ((m : Status) → p ≡ Marked m → is_final m.standing ≡ true) → is_final_view (view_of p) ≡ false → decision p ≡ None
@@ -78,9 +61,9 @@ unsettled-place Nothing marks h = refl
 unsettled-place (Kept r) marks h = by (is_final r.status.standing) refl
   where
     by : (b : Bool) → is_final r.status.standing ≡ b → cond b (Some r.status) None ≡ None
-    by true final = let both : true ≡ false = sym (final-told r.status.standing r.status.epoch r.status.ts r.writes r.locks final) ∙ h in absurd cc
+    by true final = let both : true ≡ false = sym (final-status r.status.standing r.status.epoch r.status.ts r.writes r.locks final) ∙ h in absurd cc
     by false pending = refl
-unsettled-place (Marked m) marks h = let both : true ≡ false = sym (final-told m.standing m.epoch m.ts [] [] (marks m refl)) ∙ h in absurd cc
+unsettled-place (Marked m) marks h = let both : true ≡ false = sym (final-status m.standing m.epoch m.ts [] [] (marks m refl)) ∙ h in absurd cc
 
 staged-undecided : (s : SentStage) (r : Record) → StagesAs s r → decision (Kept r) ≡ None
 staged-undecided s r stages = ap (λ standing. cond (is_final standing) (Some r.status) None) stages.staging
@@ -125,27 +108,7 @@ unsettled-view id request reply h =
     by None h = absurd cc
     by (Some view) h = (view, refl, un (is_final_view view) h)
 
--- What is committed by a stage is so in every longer run, or it is decided as the stage says.
-abbrev pub CommitsGoOn : Head → Type 0
-CommitsGoOn head =
-    (front back : List (Entry Event)) → IsRun head (front ++ back) → (s : SentStage) → CommitsBy head front s
-    → CommitsBy head (front ++ back) s ⊎ ((epoch : ℕ) × (decision (home_of head s.meta.id (front ++ back)) ≡ Some (status_of standings.Committed epoch s.ts)))
-
 module _ (head : Head) where
-  -- a transaction's record over a longer history
-  pub home_along : (id : TxnId) (front back : List (Entry Event)) → Stands (home_of head id front) (home_of head id (front ++ back))
-  home_along id front [] = subst (λ h. Stands (home_of head id front) (home_of head id h)) (sym (append-nil front)) (stands-itself (home_of head id front))
-  home_along id front (e ∷ es) =
-      subst (λ h. Stands (home_of head id front) (home_of head id h)) (append_assoc front (e ∷ []) es)
-      (stands-on (home_of head id front) (home_of head id (front ++ e ∷ [])) (home_of head id ((front ++ e ∷ []) ++ es)) (home_on head id front e) (home_along id (front ++ e ∷ []) es))
-
-  marks-at-home : (id : TxnId) (history : List (Entry Event)) (m : Status) → home_of head id history ≡ Marked m → is_final m.standing ≡ true
-  marks-at-home id history m is = by (anchor_in id history) is
-    where
-      by : (o : Option (List ℕ)) → place_under head id history o ≡ Marked m → is_final m.standing ≡ true
-      by None is = absurd cc
-      by (Some anchor) is = marks_final head (range_of head.splits anchor) id history m is
-
   -- what was refuted stays so
   refuted-along : (front back : List (Entry Event)) (s : SentStage) (w : List ℕ × ℕ) → WasRefuted front s w → WasRefuted (front ++ back) s w
   refuted-along front [] s w refuted = subst (λ h. WasRefuted h s w) (sym (append-nil front)) refuted
@@ -158,21 +121,16 @@ module _ (head : Head) where
       let there : sent.range ≡ range_of head.splits s.meta.anchor = goes_to head history run sent.send sent.listed sent.number sent.range (stage_request s) sent.sends in
       home_is head s.meta.id history a.anchor a.anchored ∙ ap (λ r. place_at head r s.meta.id history) (sym a.there ∙ there)
 
-  -- while a transaction is committed by a stage, none of its writes is refuted
-  none-refuted : (history : List (Entry Event)) → IsRun head history → (s : SentStage) → CommitsBy head history s → SomeRefuted history s → ⊥
-  none-refuted history run s c some =
-      refuted_absent head history run s some.write (ap decision c.home ∙ staged-undecided s c.r c.stages) some.refuted (c.present some.write some.listed)
-
-module _ (head : Head) (go_on : CommitsGoOn head) (front back : List (Entry Event)) (run : IsRun head (front ++ back)) (s : SentStage) (c : CommitsBy head front s) where
+module _ (head : Head) (front back : List (Entry Event)) (run : IsRun head (front ++ back)) (s : SentStage) (c : CommitsBy head front s) where
   run-first : IsRun head front
   run-first = run_front head front back run
 
   -- it is so in each beginning that is longer, or decided
-  later-so : (now later rest : List (Entry Event)) → front ++ back ≡ now ++ later → now ≡ front ++ rest → CommitsBy head now s ⊎ ((epoch : ℕ) × (decision (home_of head s.meta.id now) ≡ Some (status_of standings.Committed epoch s.ts)))
+  later-so : (now later rest : List (Entry Event)) → front ++ back ≡ now ++ later → now ≡ front ++ rest → StaysCommitted head now s
   later-so now later rest whole longer =
       let run_now : IsRun head now = run_front head now later (subst (IsRun head) whole run) in
-      subst (λ h. CommitsBy head h s ⊎ ((epoch : ℕ) × (decision (home_of head s.meta.id h) ≡ Some (status_of standings.Committed epoch s.ts)))) (sym longer)
-      (go_on front rest (subst (IsRun head) longer run_now) s c)
+      subst (λ h. StaysCommitted head h s) (sym longer)
+      (commits_on head front rest (subst (IsRun head) longer run_now) s c)
 
   -- its own reply never says that the record went another way
   not-past : (h : Heard) → Contains (session_at head s.meta.id (front ++ back)).heard h → RefutesRecord s h → ⊥
@@ -217,7 +175,7 @@ module _ (head : Head) (go_on : CommitsGoOn head) (front back : List (Entry Even
       let some : SomeRefuted first s = refutes_one first s h (replied_then head history run actor h a) refutes in
       let view = unsettled-view id g.request g.reply unsettled in
       let shown = viewed_then head history run actor g b id view.1 (subject-is id (subject g.request) view.0) view.2 in
-      let open_second : decision (home_of head id second) ≡ None = unsettled-place (home_of head id second) (marks-at-home head id second) (ap is_final_view (sym shown) ∙ view.3) in
+      let open_second : decision (home_of head id second) ≡ None = unsettled-place (home_of head id second) (marks_at_home head id second) (ap is_final_view (sym shown) ∙ view.3) in
       let length_first : length first ≡ length a.before + 1 = length-append a.before (a.e ∷ []) in
       let length_second : length second ≡ length b.before + 1 = length-append b.before (b.e ∷ []) in
       let at_first : length a.before ≡ h.step = a.at in
@@ -232,11 +190,11 @@ module _ (head : Head) (go_on : CommitsGoOn head) (front back : List (Entry Even
       let run_then : IsRun head first = run_front head first a.later (subst (IsRun head) first_whole run) in
       elim (either_front front back first a.later first_whole) [
         | inl longer ↦ elim (later-so first a.later longer.rest first_whole longer.whole) [
-          | inl still ↦ none-refuted head first run_then s still some
+          | inl still ↦ none_refuted head first run_then s still some
           | inr decided ↦ let both : None ≡ Some (status_of standings.Committed decided.0 s.ts) = sym open_first ∙ decided.1 in cc both
         ]
         | inr shorter ↦
-            none-refuted head front run-first s c
+            none_refuted head front run-first s c
             (record { write = some.write; listed = some.listed; refuted = subst (λ x. WasRefuted x s some.write) (sym shorter.whole) (refuted-along head first shorter.rest s some.write some.refuted) })
       ]
 

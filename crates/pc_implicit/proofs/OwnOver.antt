@@ -34,12 +34,15 @@ use Rattle.pc_world.specs.RangeOf.{range_of}
 use Rattle.pc_world.specs.RangeState.{RangeState}
 use Rattle.pc_world.specs.Run.{IsRun, protocol}
 
--- A put of the transaction at the key, that was sent and not overtaken, lays this intent, no lower than its own intent lay.
-pub record IsLaidOver (history : List (Entry Event)) (id : TxnId) (key : List ℕ) (own later : Option Intent) : Type 0 where
+-- The entry evaluates a put of the transaction at the key, which was sent and not overtaken, and lays this intent, no lower than its own
+-- intent lay.
+pub record IsLaidOver (history : List (Entry Event)) (e : Entry Event) (id : TxnId) (key : List ℕ) (own later : Option Intent) : Type 0 where
   pub send : Entry Event
   pub listed : Contains history send
   pub number : ℕ
   pub range : ℕ
+  pub told : Reply
+  pub evaluates : e.event ≡ events.Eval send.actor number told
   pub meta : TxnMeta
   pub seq : ℕ
   pub asked : ℕ
@@ -53,12 +56,12 @@ pub record IsLaidOver (history : List (Entry Event)) (id : TxnId) (key : List �
 
 -- What becomes of the own intent: it stays, a put of the transaction lays it, it is moved no further than the transaction's record,
 -- or the transaction is decided.
-pub data OwnOver (head : Head) (history : List (Entry Event)) (id : TxnId) (key : List ℕ) (later : Option Intent) : Type 0 where
-  Stays : later ≡ own_intent head id key history → OwnOver head history id key later
-  Lays : IsLaidOver history id key (own_intent head id key history) later → OwnOver head history id key later
+pub data OwnOver (head : Head) (history : List (Entry Event)) (e : Entry Event) (id : TxnId) (key : List ℕ) (later : Option Intent) : Type 0 where
+  Stays : later ≡ own_intent head id key history → OwnOver head history e id key later
+  Lays : IsLaidOver history e id key (own_intent head id key history) later → OwnOver head history e id key later
   Moves : (i : Intent) (at : ℕ) → own_intent head id key history ≡ Some i → at ≤ time_of (home_of head id history)
-      → later ≡ Some (record i { ts = max i.ts at }) → OwnOver head history id key later
-  Decides : (s : Status) → decision (home_of head id history) ≡ Some s → OwnOver head history id key later
+      → later ≡ Some (record i { ts = max i.ts at }) → OwnOver head history e id key later
+  Decides : (s : Status) → decision (home_of head id history) ≡ Some s → OwnOver head history e id key later
 
 -- the transaction of a fate that takes its intent away is decided
 fate-decides : (fate : Fate) (p : Place) → Ends fate → FateIsSo fate p → (s : Status) × (decision p ≡ Some s)
@@ -68,7 +71,7 @@ fate-decides (fates.Pending ts) p ends so = absurd ends
 
 module _ (head : Head) (history : List (Entry Event)) (run : IsRun head history) (e : Entry Event) (may : MayFollow (protocol head) history e) (id : TxnId) (key : List ℕ) where
   over-evaluation : (actor : ActorId) (number : ℕ) (told : Reply) (ev : NamedMessage head history e.actor actor number told) → e.event ≡ events.Eval actor number told → ev.range ≡ range_of head.splits key
-      → OwnOver head history id key (own_intent head id key (history ++ e ∷ []))
+      → OwnOver head history e id key (own_intent head id key (history ++ e ∷ []))
   over-evaluation actor number told ev is there =
       let s = state_at head ev.range history in
       let here : own_at id key s.intents ≡ own_intent head id key history = ap (λ r. own_at id key (state_at head r history).intents) there in
@@ -85,6 +88,8 @@ module _ (head : Head) (history : List (Entry Event)) (run : IsRun head history)
               listed = ev.listed;
               number = number;
               range = ev.range;
+              told = told;
+              evaluates = is ∙ ap (λ a. events.Eval a number told) (sym ev.whose);
               meta = meta;
               seq = seq;
               asked = asked;
@@ -110,7 +115,7 @@ module _ (head : Head) (history : List (Entry Event)) (run : IsRun head history)
       above-own meta asked s (Some j) i is = let same : j ≡ i = cc in let time : j.ts ≡ i.ts = ap (λ (x : Intent). x.ts) same in omega (arith, time)
 
   -- what becomes of the own intent over the entry
-  pub own_over : OwnOver head history id key (own_intent head id key (history ++ e ∷ []))
+  pub own_over : OwnOver head history e id key (own_intent head id key (history ++ e ∷ []))
   own_over =
       let range = range_of head.splits key in
       elim (same_or_not e.actor (actors.Range range)) [

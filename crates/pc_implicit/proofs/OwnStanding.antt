@@ -1,5 +1,5 @@
 -- What a transaction wrote in its epoch stands in its intents while it is not decided.
-use Rattle.std.proofs.Common.{◌≡◌, ◌≢◌, ℕ, ◌+◌, ◌<◌, ◌≤◌, max, nat_le, Bool, true, false, cond, ◌==◌, ◌&&◌, if◌then◌else◌, inl, inr, List, [], ◌∷◌, ◌++◌, map, Option, None, Some, Contains, refl, sym, ap, subst, ◌∙◌, arith}
+use Rattle.std.proofs.Common.{◌≡◌, ◌≢◌, ℕ, ◌+◌, ◌<◌, ◌≤◌, max, nat_le, Bool, true, false, cond, ◌==◌, ◌&&◌, inl, inr, List, [], ◌∷◌, ◌++◌, map, Option, None, Some, Contains, refl, sym, ap, subst, ◌∙◌, arith}
 use Rattle.std.proofs.lemmas.Bool.{and_parts, eqb-true, leb-true}
 use Rattle.std.specs.List.{AllByRecursion as Each}
 use Rattle.pc_base.specs.declared.actor.ActorId.{ActorId}
@@ -22,10 +22,10 @@ use Rattle.pc_implicit.proofs.Recorded.{evaluated_state}
 use Rattle.pc_implicit.proofs.Runs.{reply_is}
 use Rattle.pc_implicit.proofs.Turns.{IsAnswered, IsBegun, Restarted, Turn, WentOn, Wrote, comes_from, not_session}
 use Rattle.pc_implicit.proofs.WriteLists.{Laid, alike_at, at_low, at_push, proof_of, rise_at, split_at, written_at}
-use Rattle.pc_implicit.proofs.Written.{IsFoundNow, IsRepliedNow, IsWrittenNow, found_cases, none_found, proven_cases, written_cases}
+use Rattle.pc_implicit.proofs.Written.{IsFoundNow, IsRepliedNow, IsWrittenNow, found_cases, found_is, none_found, proven_cases, written_cases}
 use Rattle.pc_implicit.specs.Decided.{decision, time_of}
 use Rattle.pc_implicit.specs.Replied.{QueryFound, WasProven}
-use Rattle.pc_implicit.specs.Writes.{OwnStand, home_of, own_intent, txns_of, writes_at}
+use Rattle.pc_implicit.specs.Writes.{OwnStand, home_of, own_intent, txns_of, writes_on}
 use Rattle.pc_lists.proofs.Each.{each-weaker}
 use Rattle.pc_lists.proofs.Lists.{contains_nil}
 use Rattle.pc_proto.specs.declared.event.Event.{Event}
@@ -70,12 +70,12 @@ one-intent o i j is also = let both : Some i ≡ Some j = sym is ∙ also in cc 
 module _ (head : Head) (history : List (Entry Event)) (run : IsRun head history) (e : Entry Event) (may : MayFollow (protocol head) history e)
     (actor : ActorId) (number : ℕ) (told : Reply) (ev : NamedMessage head history e.actor actor number told) (is : e.event ≡ events.Eval actor number told)
     (key : List ℕ) (there : ev.range ≡ range_of head.splits key) (t : Txn) (known : Contains (txns_of head t.id history) t)
-    (holds : Holds head history t.id key t.epoch (writes_at key t.writes)) where
+    (holds : Holds head history t.id key t.epoch (writes_on key t.writes)) where
   s : RangeState
   s = state_at head (range_of head.splits key) history
 
   all : List Laid
-  all = writes_at key t.writes
+  all = writes_on key t.writes
 
   -- the own intent after the evaluation
   later-is : own_intent head t.id key (history ++ e ∷ []) ≡ own_at t.id key (intents_after ev.request s)
@@ -99,7 +99,7 @@ module _ (head : Head) (history : List (Entry Event)) (run : IsRun head history)
       let w = put.written now in
       let laid_as : Laid = (w.0.seq, w.0.value) in
       let same : laid_as ≡ (seq, value) = (λ i. (w.2 i, w.4 i)) in
-      subst (Contains (writes_at key t.writes)) same (written_at key t.writes w.0 w.1 w.3)
+      subst (Contains (writes_on key t.writes)) same (written_at key t.writes w.0 w.1 w.3)
 
   fate-so : (fate : Fate) → ev.request ≡ requests.Resolve t.id key fate → FateIsSo fate (home_of head t.id history)
   fate-so fate asked = fates_are_so head history run ev.send ev.listed number ev.range t.id key fate (ev.sends ∙ ap (events.Send number ev.range) asked)
@@ -142,8 +142,8 @@ module _ (head : Head) (history : List (Entry Event)) (run : IsRun head history)
       each-weaker (AreAnswers history t.id t.epoch) (λ v. v.key ≡ key → is_proved v ≡ true → P v.seq)
       (λ v answers same is_proved. let p = proof_of v is_proved in (p.0, subst (λ k. WasProven history t.id t.epoch k v.seq p.0) same (answers p.0 p.1))) t.writes o.answers in
       let split = split_at P key t.writes o.turn proved w.0 w.1 w.3 in
-      let whole : writes_at key t.writes ≡ split.front ++ (seq, value) ∷ split.later = split.whole ∙ (λ i. split.front ++ (w.2 i, w.4 i) ∷ split.later) in
-      laid_front t.epoch (writes_at key t.writes) meta seq at value (own_at t.id key s.intents) put.low (lays-all meta seq value put) split.front split.later whole (rise_at key 0 t.writes o.rise)
+      let whole : writes_on key t.writes ≡ split.front ++ (seq, value) ∷ split.later = split.whole ∙ (λ i. split.front ++ (w.2 i, w.4 i) ∷ split.later) in
+      laid_front t.epoch (writes_on key t.writes) meta seq at value (own_at t.id key s.intents) put.low (lays-all meta seq value put) split.front split.later whole (rise_at key 0 t.writes o.rise)
       (each-weaker (λ (x : Laid). P x.0) (λ x. (i : Intent) × (own_at t.id key s.intents ≡ Some i) × (i.meta.epoch ≡ t.epoch) × (x.0 ≤ last_seq i))
       (λ x p. let r = holds.written none x.0 p.0 p.1 in let write_stands = r.2 in (r.0, r.1, write_stands.epoch_is, write_stands.has)) split.front split.before)
       (holds.front none) over now
@@ -218,12 +218,8 @@ module _ (head : Head) (history : List (Entry Event)) (run : IsRun head history)
   -- a query finds the own intent
   found-in : (at seq ts : ℕ) (by : Who) → AnswersSo (requests.Query t.id at seq ts key by) replies.Found → (i : Intent) × (own_at t.id key s.intents ≡ Some i) × (is_it at seq ts i ≡ true)
   unfolding s
-  found-in at seq ts by a = elim-found (own_at t.id key s.intents) refl (is-found (write_stands t.id at seq ts key s) a.answer)
+  found-in at seq ts by a = elim-found (own_at t.id key s.intents) refl (found_is (write_stands t.id at seq ts key s) a.answer)
     where
-      is-found : (b : Bool) → (if b then replies.Found else replies.Missing) ≡ replies.Found → b ≡ true
-      is-found true h = refl
-      is-found false h = absurd cc
-
       elim-found : (o : Option Intent) → own_at t.id key s.intents ≡ o → is_found at seq ts o ≡ true → (i : Intent) × (own_at t.id key s.intents ≡ Some i) × (is_it at seq ts i ≡ true)
       elim-found None own h = absurd cc
       elim-found (Some i) own h = (i, own, h)
@@ -271,10 +267,10 @@ module _ (head : Head) (history : List (Entry Event)) (run : IsRun head history)
             )
         | LaidNow over eq ↦
             let own = own_at t.id key s.intents in
-            (laid w.meta seq ts w.value own, state ∙ eq, laid_itself t.epoch (writes_at key t.writes) w.meta seq ts w.value own put.low (lays-all w.meta seq w.value put) home w.epoch_is)
+            (laid w.meta seq ts w.value own, state ∙ eq, laid_itself t.epoch (writes_on key t.writes) w.meta seq ts w.value own put.low (lays-all w.meta seq w.value put) home w.epoch_is)
       ]
 
-  eval-holds : Holds head (history ++ e ∷ []) t.id key t.epoch (writes_at key t.writes)
+  eval-holds : Holds head (history ++ e ∷ []) t.id key t.epoch (writes_on key t.writes)
   unfolding s all Stood
   eval-holds = record {
     among = λ i own. eval-among i (sym later-is ∙ own);
@@ -338,13 +334,13 @@ longer-holds head history id key epoch all more n low high h = record {
   found = h.found;
 }
 
-holds-as : (head : Head) (history : List (Entry Event)) (key : List ℕ) (t u : Txn) (all : List Laid) → u.id ≡ t.id → u.epoch ≡ t.epoch → writes_at key u.writes ≡ all
-    → Holds head history t.id key t.epoch all → Holds head history u.id key u.epoch (writes_at key u.writes)
+holds-as : (head : Head) (history : List (Entry Event)) (key : List ℕ) (t u : Txn) (all : List Laid) → u.id ≡ t.id → u.epoch ≡ t.epoch → writes_on key u.writes ≡ all
+    → Holds head history t.id key t.epoch all → Holds head history u.id key u.epoch (writes_on key u.writes)
 holds-as head history key t u all id epoch writes h =
     subst (λ l. Holds head history u.id key u.epoch l) (sym writes)
     (subst (λ n. Holds head history u.id key n all) (sym epoch) (subst (λ i. Holds head history i key t.epoch all) (sym id) h))
 
-one-more : (key : List ℕ) (n : ℕ) (w : Write) → n < w.seq → Each (λ (x : Laid). n < x.0) (writes_at key (w ∷ []))
+one-more : (key : List ℕ) (n : ℕ) (w : Write) → n < w.seq → Each (λ (x : Laid). n < x.0) (writes_on key (w ∷ []))
 one-more key n w low = by (same_key w.key key)
   where
     by : (b : Bool) → Each (λ (x : Laid). n < x.0) (map {B = Laid} (λ (v : Write). (v.seq, v.value)) (cond b (w ∷ []) []))
@@ -353,17 +349,17 @@ one-more key n w low = by (same_key w.key key)
 
 module _ (head : Head) (history : List (Entry Event)) (run : IsRun head history) (e : Entry Event) (may : MayFollow (protocol head) history e) (key : List ℕ)
     (elsewhere : e.actor ≢ actors.Range (range_of head.splits key)) where
-  turn-holds : (k : Known) (t u : Txn) → Contains (txns_of head t.id history) t → u.id ≡ t.id → Turn history e k t u → Holds head history t.id key t.epoch (writes_at key t.writes)
-      → Holds head (history ++ e ∷ []) u.id key u.epoch (writes_at key u.writes)
+  turn-holds : (k : Known) (t u : Txn) → Contains (txns_of head t.id history) t → u.id ≡ t.id → Turn history e k t u → Holds head history t.id key t.epoch (writes_on key t.writes)
+      → Holds head (history ++ e ∷ []) u.id key u.epoch (writes_on key u.writes)
   turn-holds k t u known same (WentOn epoch alike) h =
-      holds-as head (history ++ e ∷ []) key t u (writes_at key t.writes) same epoch (alike_at (IsAnswered history t) key t.writes u.writes alike)
-      (still-holds head history run e may key elsewhere t.id t.epoch (writes_at key t.writes) h)
+      holds-as head (history ++ e ∷ []) key t u (writes_on key t.writes) same epoch (alike_at (IsAnswered history t) key t.writes u.writes alike)
+      (still-holds head history run e may key elsewhere t.id t.epoch (writes_on key t.writes) h)
   turn-holds k t u known same (Wrote w f epoch writes) h =
       let next : w.seq ≡ last_seq_of t.writes + 1 = f.next in
       let low : last_seq_of t.writes < w.seq = omega (arith, next) in
-      holds-as head (history ++ e ∷ []) key t u (writes_at key t.writes ++ writes_at key (w ∷ [])) same epoch (ap (writes_at key) writes ∙ at_push key t.writes w)
-      (longer-holds head (history ++ e ∷ []) t.id key t.epoch (writes_at key t.writes) (writes_at key (w ∷ [])) (last_seq_of t.writes) (at_low key t.writes) (one-more key (last_seq_of t.writes) w low)
-      (still-holds head history run e may key elsewhere t.id t.epoch (writes_at key t.writes) h))
+      holds-as head (history ++ e ∷ []) key t u (writes_on key t.writes ++ writes_on key (w ∷ [])) same epoch (ap (writes_on key) writes ∙ at_push key t.writes w)
+      (longer-holds head (history ++ e ∷ []) t.id key t.epoch (writes_on key t.writes) (writes_on key (w ∷ [])) (last_seq_of t.writes) (at_low key t.writes) (one-more key (last_seq_of t.writes) w low)
+      (still-holds head history run e may key elsewhere t.id t.epoch (writes_on key t.writes) h))
   turn-holds k t u known same (Restarted r next writes) h = record {
     among = λ i own.
         let low = (h.among i (subst (λ j. own_intent head j key history ≡ Some i) same (sym (own-still head history run e may key elsewhere u.id) ∙ own))).low in
@@ -388,7 +384,7 @@ module _ (head : Head) (history : List (Entry Event)) (run : IsRun head history)
           omega (arith, low, next, epoch)
       proven-past seq ts (inr old) = let low = h.found u.epoch seq ts (subst (λ i. QueryFound history i u.epoch key seq ts) same old) in omega (arith, low, next)
 
-  begun-holds : (u : Txn) → IsBegun history e u → Holds head (history ++ e ∷ []) u.id key u.epoch (writes_at key u.writes)
+  begun-holds : (u : Txn) → IsBegun history e u → Holds head (history ++ e ∷ []) u.id key u.epoch (writes_on key u.writes)
   begun-holds u b =
       let none : own_intent head u.id key (history ++ e ∷ []) ≡ None = own-still head history run e may key elsewhere u.id ∙ no_intent head history run (range_of head.splits key) u.id key b.new.anchor in
       record {
@@ -408,10 +404,10 @@ module _ (head : Head) (history : List (Entry Event)) (run : IsRun head history)
 
 module _ (head : Head) where
   abbrev AllHold : List (Entry Event) → Type 0
-  AllHold history = (t : Txn) → Contains (txns_of head t.id history) t → (key : List ℕ) → Holds head history t.id key t.epoch (writes_at key t.writes)
+  AllHold history = (t : Txn) → Contains (txns_of head t.id history) t → (key : List ℕ) → Holds head history t.id key t.epoch (writes_on key t.writes)
 
   holds-more : (history : List (Entry Event)) → IsRun head history → (e : Entry Event) → MayFollow (protocol head) history e → AllHold history
-      → (u : Txn) → Contains (txns_of head u.id (history ++ e ∷ [])) u → (key : List ℕ) → Holds head (history ++ e ∷ []) u.id key u.epoch (writes_at key u.writes)
+      → (u : Txn) → Contains (txns_of head u.id (history ++ e ∷ [])) u → (key : List ℕ) → Holds head (history ++ e ∷ []) u.id key u.epoch (writes_on key u.writes)
   holds-more history run e may all u there key =
       elim (same_or_not e.actor (actors.Range (range_of head.splits key))) [
         | inl at ↦
@@ -430,7 +426,7 @@ module _ (head : Head) where
       ]
 
   -- what a transaction's own intents have of its writes
-  pub own_hold : (history : List (Entry Event)) → IsRun head history → (t : Txn) → Contains (txns_of head t.id history) t → (key : List ℕ) → Holds head history t.id key t.epoch (writes_at key t.writes)
+  pub own_hold : (history : List (Entry Event)) → IsRun head history → (t : Txn) → Contains (txns_of head t.id history) t → (key : List ℕ) → Holds head history t.id key t.epoch (writes_on key t.writes)
   own_hold = run_induction head AllHold (λ t there. absurd (contains_nil t there)) (λ history e run may all. holds-more history run e may all)
 
   -- what a transaction wrote stands while it is not decided

@@ -1,33 +1,12 @@
 -- A piece of a span that lies in one range lies in the range that it was cut for.
-use Rattle.std.proofs.Common.{◌≡◌, ℕ, ◌+◌, Bool, true, false, if◌then◌else◌, inl, inr, List, [], ◌∷◌, Option, None, Some, Contains, refl, sym, ap, subst, ◌∙◌}
+use Rattle.std.proofs.Common.{◌≡◌, ℕ, ◌+◌, Bool, true, false, if◌then◌else◌, inl, inr, List, [], ◌∷◌, Option, None, Some, Contains, sym, ap, subst, ◌∙◌}
 use Rattle.std.proofs.lemmas.List.Elements.{Contains-append_cases, Contains-append_left, Contains-append_right}
 use Rattle.pc_base.specs.declared.span.Span.{Span}
 use Rattle.pc_base.specs.declared.span.Span.TheVariants.{One, Between}
-use Rattle.pc_base.specs.Span.{is_empty, key_below}
+use Rattle.pc_base.specs.Span.{is_empty}
 use Rattle.pc_lists.proofs.Lists.{contains_cons, contains_nil}
+use Rattle.pc_world.proofs.Pieces.{later-again, earlier-again}
 use Rattle.pc_world.specs.RangeOf.{earlier_end, later_start, piece, pieces, pieces_from, range_of}
-
-if-same : {X : Type 0} (b : Bool) (x : X) → (if b then x else x) ≡ x
-if-same true x = refl
-if-same false x = refl
-
-start-again : (low from : Option (List ℕ)) → later_start low (later_start low from) ≡ later_start low from
-start-again None from = refl
-start-again (Some one) None = if-same (key_below one one) (Some one)
-start-again (Some one) (Some other) = by (key_below one other) refl
-  where
-    by : (b : Bool) → key_below one other ≡ b → later_start (Some one) (if b then Some other else Some one) ≡ (if b then Some other else Some one)
-    by true is = ap (λ b. if b then Some other else Some one) is
-    by false is = if-same (key_below one one) (Some one)
-
-end-again : (high to : Option (List ℕ)) → earlier_end high (earlier_end high to) ≡ earlier_end high to
-end-again None to = refl
-end-again (Some one) None = if-same (key_below one one) (Some one)
-end-again (Some one) (Some other) = by (key_below other one) refl
-  where
-    by : (b : Bool) → key_below other one ≡ b → earlier_end (Some one) (if b then Some other else Some one) ≡ (if b then Some other else Some one)
-    by true is = ap (λ b. if b then Some other else Some one) is
-    by false is = if-same (key_below one one) (Some one)
 
 -- The piece has two ends, and is a piece of itself.
 record IsOwnPiece (range : ℕ) (low : Option (List ℕ)) (splits : List (List ℕ)) (p : ℕ × Span) : Type 0 where
@@ -52,7 +31,7 @@ own-piece range low [] from to p there = record {
   from = later_start low from;
   to = to;
   ends = the-piece range (later_start low from) to p there;
-  there = subst (λ f. Contains (piece range f to) p) (sym (start-again low from)) there;
+  there = subst (λ f. Contains (piece range f to) p) (sym (later-again low from)) there;
 }
 own-piece range low (split ∷ splits) from to p there =
     elim (Contains-append_cases (piece range (later_start low from) (earlier_end (Some split) to)) (pieces_from (range + 1) (Some split) splits from to) p there) [
@@ -65,8 +44,8 @@ own-piece range low (split ∷ splits) from to p there =
             ends = the-piece range f t p here;
             there =
                 Contains-append_left (piece range (later_start low f) (earlier_end (Some split) t)) (pieces_from (range + 1) (Some split) splits f t) p
-                (subst (λ x. Contains (piece range x (earlier_end (Some split) t)) p) (sym (start-again low from))
-                (subst (λ x. Contains (piece range f x) p) (sym (end-again (Some split) to)) here));
+                (subst (λ x. Contains (piece range x (earlier_end (Some split) t)) p) (sym (later-again low from))
+                (subst (λ x. Contains (piece range f x) p) (sym (earlier-again (Some split) to)) here));
           }
       | inr later ↦
           let o = own-piece (range + 1) (Some split) splits from to p later in

@@ -2,8 +2,8 @@
 -- fails: some listed write of it was refuted and was never present.
 use Rattle.std.proofs.Common.{◌≡◌, ℕ, ◌≤◌, max, nat_le, Bool, true, false, ◌&&◌, ◌==◌, ◌⊎◌, inl, inr, List, [], ◌∷◌, ◌++◌, Option, None, Some, Contains, refl, sym, ap, subst, ◌∙◌, arith}
 use Rattle.std.proofs.lemmas.Bool.{and_from, and_parts, eq-eqb, eqb-true, leb-true, le-leb}
-use Rattle.std.proofs.lemmas.List.{append_assoc}
-use Rattle.std.proofs.lemmas.List.Elements.{Contains-append_left}
+use Rattle.pc_implicit.proofs.StagedAs.{staged_along}
+use Rattle.pc_implicit.proofs.Fronts.{ends_or_before}
 use Rattle.pc_base.specs.declared.entry.Entry.{Entry}
 use Rattle.pc_history.specs.History.{MayFollow}
 use Rattle.pc_implicit.proofs.Homes.{home_on, undecided_before}
@@ -89,23 +89,6 @@ refuted_more history e s w refuted =
       | inr missed ↦ inr (missed_more history e s.meta.id s.meta.epoch w.0 w.1 s.ts missed)
     ]
 
--- a list that is one longer splits at its end, or as it did before
-ends_or_before : {X : Type 0} (xs front back : List X) (x : X) → xs ++ x ∷ [] ≡ front ++ back → (xs ++ x ∷ [] ≡ front) ⊎ ((rest : List X) × (xs ≡ front ++ rest))
-ends_or_before xs [] back x split = inr (xs, refl)
-ends_or_before [] (f ∷ []) back x split = let same : x ≡ f = cc in inl (ap (λ y. y ∷ []) same)
-ends_or_before [] (f ∷ g ∷ front) back x split = absurd cc
-ends_or_before (y ∷ xs) (f ∷ front) back x split =
-    let first : y ≡ f = cc in
-    let rest : xs ++ x ∷ [] ≡ front ++ back = cc in
-    elim (ends_or_before xs front back x rest) [
-      | inl ends ↦ inl (λ i. first i ∷ ends i)
-      | inr before ↦ inr (before.0, λ i. first i ∷ before.1 i)
-    ]
-
--- a stage that was sent was sent in every longer history
-pub staged_along : (front back : List (Entry Event)) (s : SentStage) → WasStaged front s → WasStaged (front ++ back) s
-staged_along front back s sent = record { send = sent.send; listed = Contains-append_left front back sent.send sent.listed; number = sent.number; range = sent.range; sends = sent.sends }
-
 module _ (head : Head) where
   -- a write that was present at some time is so now, or was so before
   pub there_cases : (history : List (Entry Event)) (e : Entry Event) (s : SentStage) (w : List ℕ × ℕ) → WasThere head (history ++ e ∷ []) s w → IsThere head (history ++ e ∷ []) s w ⊎ WasThere head history s w
@@ -114,15 +97,6 @@ module _ (head : Head) where
         | inl now ↦ inl (subst (λ h. IsThere head h s w) (sym now) was.there)
         | inr before ↦ inr (record { front = was.front; back = before.0; whole = before.1; staged = was.staged; there = was.there })
       ]
-
-  pub there_more : (history : List (Entry Event)) (e : Entry Event) (s : SentStage) (w : List ℕ × ℕ) → WasThere head history s w → WasThere head (history ++ e ∷ []) s w
-  there_more history e s w was = record {
-    front = was.front;
-    back = was.back ++ e ∷ [];
-    whole = ap (λ h. h ++ e ∷ []) was.whole ∙ append_assoc was.front was.back (e ∷ []);
-    staged = was.staged;
-    there = was.there;
-  }
 
   -- a stage to which a record is open after an entry was so before it
   pub open_before : (history : List (Entry Event)) (e : Entry Event) (s : SentStage) → IsOpenTo head (history ++ e ∷ []) s → IsOpenTo head history s
@@ -178,7 +152,7 @@ module _ (head : Head) (history : List (Entry Event)) (run : IsRun head history)
       })
 
   newer : (w : List ℕ × ℕ) → HasListed s w (own_intent head s.meta.id w.0 history)
-      → (l : IsLaidOver history s.meta.id w.0 (own_intent head s.meta.id w.0 history) (own_intent head s.meta.id w.0 (history ++ e ∷ []))) → IsNewerPut s w l.meta l.seq
+      → (l : IsLaidOver history e s.meta.id w.0 (own_intent head s.meta.id w.0 history) (own_intent head s.meta.id w.0 (history ++ e ∷ []))) → IsNewerPut s w l.meta l.seq
   newer w has l =
       let i = has.0 in
       let free = not_overtaken l.meta l.seq i (ap (overtaken l.meta l.seq) (sym has.1) ∙ l.first) in

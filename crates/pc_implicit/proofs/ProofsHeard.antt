@@ -13,8 +13,8 @@ use Rattle.pc_implicit.proofs.EvaluatedAt.{answered_at, evaluated_more, goes_to}
 use Rattle.pc_implicit.proofs.Hearing.{IsSo, heard-event}
 use Rattle.pc_implicit.proofs.SessionReads.{ByPut, ByQuery, WasEvaluated, WasProved}
 use Rattle.pc_implicit.proofs.Shown.{WasAnswered}
+use Rattle.pc_implicit.proofs.WriteLists.{proof_of}
 use Rattle.pc_lists.proofs.Each.{each-append, each-contains, each-map, each-weaker}
-use Rattle.pc_lists.proofs.Lists.{contains_head}
 use Rattle.pc_lists.proofs.Same.{same_key-is, same_txn-is}
 use Rattle.pc_proto.specs.declared.answer.Answer.{Answer}
 use Rattle.pc_proto.specs.declared.answer.Answer.TheVariants as answers
@@ -188,13 +188,9 @@ module _ (head : Head) where
       each-contains (WasProved head history t.id t.epoch w.seq w.key) w.proofs at
       (each-contains (IsProven head history t.id t.epoch) t.writes w (each-contains (AreProven history) (known_at head actor history).txns t (proven history run actor) mine) written) proof
 
-  some-proof : (ats : List ℕ) → list_any (λ at. true) ats ≡ true → (at : ℕ) × Contains ats at
-  some-proof [] is = absurd cc
-  some-proof (at ∷ ats) is = (at, contains_head at ats)
-
   -- a write that a session knows proved was proved
   pub proved_is_so : (history : List (Entry Event)) → IsRun head history → (actor : ActorId) (t : Txn) (w : WriteMade) → Contains (known_at head actor history).txns t → Contains t.writes w → IsTrue (is_proved w)
       → (at : ℕ) × WasProved head history t.id t.epoch w.seq w.key at
   proved_is_so history run actor t w mine written is =
-      let proof = some-proof w.proofs is in
+      let proof = proof_of w is in
       (proof.0, proofs_are_so history run actor t w proof.0 mine written proof.1)

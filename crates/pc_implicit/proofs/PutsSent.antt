@@ -13,17 +13,17 @@ use Rattle.pc_base.specs.Span.{same_key}
 use Rattle.pc_base.specs.Transaction.{same_txn}
 use Rattle.pc_history.specs.History.{MayFollow}
 use Rattle.pc_history.specs.Own.{named_in}
-use Rattle.pc_implicit.proofs.Agreed.{agreed, open_there}
+use Rattle.pc_implicit.proofs.Agreed.{agreed, one_txn, open_there}
 use Rattle.pc_implicit.proofs.Anchored.{put_anchored}
 use Rattle.pc_implicit.proofs.Commits.{act_of}
 use Rattle.pc_implicit.proofs.Doing.{Does}
-use Rattle.pc_implicit.proofs.Turns.{IsAnswered, Restarted, Turn, WentOn, Wrote, comes_from, none-later, one_txn, some-there, unmap}
+use Rattle.pc_implicit.proofs.Turns.{IsAnswered, Restarted, Turn, WentOn, Wrote, comes_from, none-later, some-there}
 use Rattle.pc_implicit.proofs.WriteLists.{AreInTurn, Rise, alike_each, alike_on, alike_rise, alike_turn, rise_push, turn_push}
 use Rattle.pc_implicit.proofs.Written.{proven_more}
 use Rattle.pc_implicit.specs.Replied.{WasProven}
 use Rattle.pc_implicit.specs.Writes.{txns_of}
 use Rattle.pc_lists.proofs.Each.{each-append, each-contains, each-weaker}
-use Rattle.pc_lists.proofs.Lists.{contains_map, contains_nil}
+use Rattle.pc_lists.proofs.Lists.{contains_in_map, contains_map, contains_nil}
 use Rattle.pc_lists.proofs.Same.{same_txn-self}
 use Rattle.pc_proto.specs.declared.event.Event.{Event}
 use Rattle.pc_proto.specs.declared.event.Event.TheVariants as events
@@ -191,12 +191,12 @@ module _ (head : Head) (history : List (Entry Event)) (run : IsRun head history)
       let learnt = subst (λ (l : Known). Contains l.txns u) (known_same head e.actor history e refl) here in
       let sent : Contains (map (txn_sent (requests.Put meta seq ts key value)) k.txns) u =
       subst (λ event. Contains (txns_after event (heard_by event (named_in (protocol head) history e.event) k.sent) k) u) is learnt in
-      let from = unmap (txn_sent (requests.Put meta seq ts key value)) k.txns u sent in
+      let from = contains_in_map (txn_sent (requests.Put meta seq ts key value)) k.txns u sent in
       let id : from.0.id ≡ meta.id = ap (λ (x : Txn). x.id) from.2 ∙ same in
       subst (λ x. HasPut x meta.epoch seq key value) from.2 (put-now number range meta seq ts key value is act.row from.0 from.1 id)
 
 module _ (head : Head) where
-  has-turn : (history : List (Entry Event)) (e : Entry Event) (k : Known) (t u : Txn) (epoch seq : ℕ) (key : List ℕ) (value : Option (List ℕ)) → HasPut t epoch seq key value → Turn history e k t u → HasPut u epoch seq key value
+  pub has-turn : (history : List (Entry Event)) (e : Entry Event) (k : Known) (t u : Txn) (epoch seq : ℕ) (key : List ℕ) (value : Option (List ℕ)) → HasPut t epoch seq key value → Turn history e k t u → HasPut u epoch seq key value
   has-turn history e k t u epoch seq key value h (WentOn same alike) =
       let low = h.low in
       record {

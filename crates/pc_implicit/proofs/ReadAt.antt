@@ -16,7 +16,7 @@ use Rattle.pc_implicit.proofs.ProofsHeard.{proved_is_so, proved_more}
 use Rattle.pc_implicit.proofs.PutsDone.{puts_are_done}
 use Rattle.pc_implicit.proofs.SessionCommits.{written}
 use Rattle.pc_implicit.proofs.SessionReads.{EvaluatesAt, IsReadAt, WasProved, last_seq_done, seq_of}
-use Rattle.pc_implicit.proofs.Writings.{RiseFrom, is_a_write, last_written, seq_below}
+use Rattle.pc_implicit.proofs.Writings.{RiseFrom, is_a_write, last_written, max-above, seq_below}
 use Rattle.pc_lists.proofs.Lists.{contains_in_filter, contains_in_map}
 use Rattle.pc_proto.specs.declared.event.Event.{Event}
 use Rattle.pc_proto.specs.declared.reply.Reply.{Reply}
@@ -32,9 +32,6 @@ use Rattle.pc_world.specs.Run.{IsRun}
 use Rattle.pc_world.specs.Send.Reading.{IsReadOf}
 
 -- ---- a front of the writes that has the last one is all of them
-
-max-above : (n m : ℕ) → n < m → max n m ≡ m
-max-above n m h = omega (arith, h)
 
 rise-back : (n : ℕ) (xs : List Operation) (o : Operation) (os : List Operation) → RiseFrom n (xs ++ o ∷ os) → fold (λ most o. max most (seq_of o)) n xs < seq_of o
 rise-back n [] o os rise = rise.0

@@ -31,7 +31,7 @@ use Rattle.pc_proto.specs.declared.request.Request.{Request}
 use Rattle.pc_proto.specs.declared.request.Request.TheVariants as requests
 use Rattle.pc_world.proofs.Prefixes.{run_front}
 use Rattle.pc_world.specs.After.{known_at}
-use Rattle.pc_world.specs.Known.{Known, call_of, open_txn}
+use Rattle.pc_world.specs.Known.{call_of, open_txn}
 use Rattle.pc_world.specs.Known.Reads.{Read as ReadMade, read_heard, reads_heard}
 use Rattle.pc_world.specs.Known.Statements.{Statement}
 use Rattle.pc_world.specs.Known.Traffic.{Heard, Sent, is_reply_to_one, replies_to}
@@ -99,9 +99,6 @@ plain-told (row ∷ rows) = ap (λ rs. (row.0, row.2) ∷ rs) (plain-told rows)
 -- The open transaction of a session, in an open call.
 module _ (head : Head) (history : List (Entry Event)) (run : IsRun head history) (id : TxnId) (t : Txn) (named : t.id ≡ id) (opened : open_txn (session_at head id history) ≡ Some t)
     (s : Statement) (asked : (session_at head id history).statement ≡ Some s) where
-  k : Known
-  k = session_at head id history
-
   mine : Contains (session_at head id history).txns t
   mine = open_there (session_at head id history) t opened
 

@@ -3,6 +3,8 @@ use Rattle.std.proofs.Common.{◌≡◌, ℕ, ◌≤◌, Bool, true, false, not,
 use Rattle.std.proofs.lemmas.Bool.{and_from, le-leb}
 use Rattle.std.proofs.lemmas.List.{append_assoc}
 use Rattle.std.proofs.lemmas.List.Elements.{All-contains, Contains-append_left, Contains-push, Contains-push_cases}
+use Rattle.pc_lists.proofs.Same.{same_txn-self}
+use Rattle.pc_lists.proofs.Each.{each-contains}
 use Rattle.pc_base.specs.declared.actor.ActorId.{ActorId}
 use Rattle.pc_base.specs.declared.entry.Entry.{Entry}
 use Rattle.pc_implicit.proofs.Doing.{same_or_not}
@@ -12,9 +14,7 @@ use Rattle.pc_implicit.proofs.Lift.{over}
 use Rattle.pc_implicit.proofs.Runs.{kept-status}
 use Rattle.pc_implicit.proofs.Views.{Stands, places_go_on}
 use Rattle.pc_implicit.specs.Decided.{decision, epoch_of, time_of}
-use Rattle.pc_lists.proofs.Each.{each-contains}
 use Rattle.pc_lists.proofs.Lists.{contains_nil}
-use Rattle.pc_lists.proofs.Same.{same_txn-self}
 use Rattle.pc_proto.specs.declared.event.Event.{Event}
 use Rattle.pc_proto.specs.declared.event.Event.TheVariants as events
 use Rattle.pc_proto.specs.declared.meta.TxnMeta.{TxnMeta}
@@ -42,7 +42,7 @@ use Rattle.pc_world.specs.Run.{IsRun}
 use Rattle.pc_world.specs.StageFate.{IsUncommitted, OnCommit, WasCommitRefused}
 
 -- the epoch and the timestamp of a decided place
-decided-at : (q : Place) (s : Status) → decision q ≡ Some s → (epoch_of q ≡ s.epoch) × (time_of q ≡ s.ts)
+pub decided-at : (q : Place) (s : Status) → decision q ≡ Some s → (epoch_of q ≡ s.epoch) × (time_of q ≡ s.ts)
 decided-at Nothing s is = absurd cc
 decided-at (Kept r) s is = let same : r.status ≡ s = kept-status (is_final r.status.standing) r.status s is in (ap (λ (x : Status). x.epoch) same, ap (λ (x : Status). x.ts) same)
 decided-at (Marked m) s is = let same : m ≡ s = cc in (ap (λ (x : Status). x.epoch) same, ap (λ (x : Status). x.ts) same)
@@ -129,11 +129,15 @@ module _ (head : Head) where
         answered-final meta ts locks (place_at head range meta.id (front ++ back)) decided (place_at head range meta.id w.front) stands (ap is_undecided_status (sym told) ∙ unsettled)
 
     -- so it is not known refused
+    pub not_refused : WasCommitRefused (known_at head a.actor front).heard (record { meta = meta; ts = ts; locks = locks }) → ⊥
+    not_refused (n, h, inside, at, r) =
+        answered-settled a.actor h (each-contains (IsSo head front a.actor) (known_at head a.actor front).heard h (heard_is_so head front run-before a.actor) (n, inside, at)) r.asked r.unsettled
+
+    -- nor is its transaction known uncommitted
     pub never_refused : IsUncommitted meta.id (known_at head a.actor front).sent (known_at head a.actor front).heard → ⊥
     never_refused uncommitted =
         let k = known_at head a.actor front in
         let m : Sent = record { number = number; range = range; request = requests.Commit meta ts locks } in
         let sent : Contains k.sent m = sent_known front run-before a there number range (requests.Commit meta ts locks) sends in
         let on : OnCommit meta.id (WasCommitRefused k.heard) (requests.Commit meta ts locks) = All-contains (λ (x : Sent). OnCommit meta.id (WasCommitRefused k.heard) x.request) k.sent m uncommitted.commits sent in
-        let (n, h, inside, at, r) = on (same_txn-self meta.id) in
-        answered-settled a.actor h (each-contains (IsSo head front a.actor) k.heard h (heard_is_so head front run-before a.actor) (n, inside, at)) r.asked r.unsettled
+        not_refused (on (same_txn-self meta.id))

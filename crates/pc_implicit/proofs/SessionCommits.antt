@@ -18,6 +18,8 @@ use Rattle.pc_world.specs.Known.Writes.{IsProvedBy, Write as WriteMade}
 use Rattle.pc_world.specs.Local.{Head}
 use Rattle.pc_world.specs.Operations.{Operation, Write, operations_of}
 use Rattle.pc_world.specs.Send.Commit.{MayDecide}
+use Rattle.pc_world.specs.Send.Stage.{MaySendNewStage}
+use Rattle.pc_world.specs.StageFate.{SentStage, stage_request}
 
 -- A write as the operation that it is.
 abbrev pub written : WriteMade → Operation
@@ -40,9 +42,20 @@ pub record DecidesByTell (t : Txn) (ts : ℕ) (e : Entry Event) : Type 0 where
   pub no_put : t.anchor ≡ None
   pub at_begin : ts ≡ t.begin
 
--- What decides: a commit that is sent, or, where nothing was put, the telling.
+-- The entry sends a new stage of the open transaction.
+pub record DecidesByStage (k : Known) (t : Txn) (ts : ℕ) (e : Entry Event) : Type 0 where
+  pub number : ℕ
+  pub range : ℕ
+  pub stage : SentStage
+  pub sends : e.event ≡ events.Send number range (stage_request stage)
+  pub new : MaySendNewStage k stage
+  pub own : new.t ≡ t
+  pub at : stage.ts ≡ ts
+
+-- What decides: a commit or a stage that is sent, or, where nothing was put, the telling.
 pub data Decides (k : Known) (t : Txn) (ts : ℕ) (e : Entry Event) : Type 0 where
   BySend : DecidesBySend k t ts e → Decides k t ts e
+  ByStage : DecidesByStage k t ts e → Decides k t ts e
   ByTell : DecidesByTell t ts e → Decides k t ts e
 
 -- After this history the transaction stands as it stood after this other: in its epoch, with its reads, its writes and its

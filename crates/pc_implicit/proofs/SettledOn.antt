@@ -1,8 +1,9 @@
 -- What a committed transaction wrote stands over each later entry.
-use Rattle.std.proofs.Common.{◌≡◌, ℕ, ◌<◌, ◌≤◌, max, Bool, true, false, cond, inl, inr, List, [], ◌∷◌, ◌++◌, fold, Option, None, Some, Contains, sym, ap, subst, ◌∙◌, arith}
-use Rattle.std.proofs.lemmas.List.{append-nil}
+use Rattle.std.proofs.Common.{◌≡◌, ℕ, ◌<◌, ◌≤◌, max, false, inl, inr, List, [], ◌∷◌, ◌++◌, fold, Option, None, Some, Contains, sym, ap, subst, ◌∙◌, arith}
+use Rattle.std.proofs.lemmas.List.{append-nil, append_assoc}
 use Rattle.std.proofs.lemmas.List.Elements.{Contains-append_left}
 use Rattle.std.specs.Option.{option_map}
+use Rattle.pc_implicit.proofs.StagedAs.{staged_in}
 use Rattle.pc_base.specs.declared.actor.ActorId.{ActorId}
 use Rattle.pc_base.specs.declared.actor.ActorId.TheVariants as actors
 use Rattle.pc_base.specs.declared.entry.Entry.{Entry}
@@ -11,7 +12,7 @@ use Rattle.pc_base.specs.declared.version.Version.{Version}
 use Rattle.pc_history.specs.History.{MayFollow}
 use Rattle.pc_implicit.proofs.Agreed.{IsNew}
 use Rattle.pc_implicit.proofs.Anchored.{commit_anchored}
-use Rattle.pc_implicit.proofs.CommitPoint.{status_same}
+use Rattle.pc_implicit.proofs.Made.{status_same}
 use Rattle.pc_implicit.proofs.Doing.{same_or_not}
 use Rattle.pc_implicit.proofs.Evals.{NamedMessage, of_entry, range_evaluates}
 use Rattle.pc_implicit.proofs.Fates.{FateIsSo, fates_are_so}
@@ -20,12 +21,13 @@ use Rattle.pc_implicit.proofs.OwnKeys.{AsBefore, Ends, IsGone, IsLaid, IsMoved, 
 use Rattle.pc_implicit.proofs.OwnLaid.{not_overtaken}
 use Rattle.pc_implicit.proofs.PutsSent.{HasPut, orderly, puts_sent}
 use Rattle.pc_implicit.proofs.Recorded.{evaluated_state}
-use Rattle.pc_implicit.proofs.Refusals.{never_refused}
+use Rattle.pc_implicit.proofs.KnownOver.{IsKnownOver, over_of}
+use Rattle.pc_implicit.proofs.Refusals.{decided-at, not_refused}
 use Rattle.pc_implicit.proofs.Turns.{IsAnswered, Restarted, WentOn, Wrote, comes_from}
 use Rattle.pc_implicit.proofs.VersionSteps.{makes_version, version_stays}
 use Rattle.pc_implicit.proofs.WriteLists.{Laid, RiseAt, alike_at, each_low, rise_at, rise_value, written_at}
-use Rattle.pc_implicit.specs.Decided.{decision, epoch_of, time_of}
-use Rattle.pc_implicit.specs.Writes.{IsWholeBy, LastWriteStands, home_of, own_intent, place_under, txns_of, writes_at}
+use Rattle.pc_implicit.specs.Decided.{decision, time_of}
+use Rattle.pc_implicit.specs.Writes.{IsWholeBy, LastWriteStands, home_of, own_intent, place_under, txns_of, writes_on}
 use Rattle.pc_lists.proofs.Each.{each-contains}
 use Rattle.pc_proto.specs.declared.event.Event.{Event}
 use Rattle.pc_proto.specs.declared.event.Event.TheVariants as events
@@ -39,7 +41,7 @@ use Rattle.pc_proto.specs.declared.reply.Reply.{Reply}
 use Rattle.pc_proto.specs.declared.request.Request.TheVariants as requests
 use Rattle.pc_proto.specs.declared.why.Why.{Why}
 use Rattle.pc_proto.specs.Intents.{last_seq, last_value, later_write, own_at}
-use Rattle.pc_proto.specs.Place.{Place, Nothing, Kept, Marked, is_final}
+use Rattle.pc_proto.specs.Place.{Nothing}
 use Rattle.pc_proto.specs.RecordRows.Reached.{status_of}
 use Rattle.pc_world.proofs.Knowing.{state_other}
 use Rattle.pc_world.specs.After.{known_at, place_at, state_at}
@@ -51,8 +53,11 @@ use Rattle.pc_world.specs.Local.{Head}
 use Rattle.pc_world.specs.RangeOf.{range_of}
 use Rattle.pc_world.specs.RangeState.{RangeState}
 use Rattle.pc_world.specs.Run.{IsRun, protocol}
-use Rattle.pc_world.specs.StageFate.{IsUncommitted}
-use Rattle.pc_implicit.proofs.SettledNow.{IsSettled, WasAsked}
+use Rattle.pc_world.specs.StageFate.{IsDead, IsUncommitted, SentCommit, WasCommitRefused, commit_request, stage_request}
+use Rattle.pc_implicit.proofs.SettledNow.{IsSettled, WasAsked, WasImplied}
+use Rattle.pc_implicit.proofs.StagesKnown.{HasSent}
+use Rattle.pc_implicit.proofs.StagesSent.{has_sent_commit, has_sent_stage}
+use Rattle.pc_implicit.proofs.NeverDead.{never_dead}
 
 asked-more : (history : List (Entry Event)) (e : Entry Event) (id : TxnId) (epoch ts : ℕ) → WasAsked history id epoch ts → WasAsked (history ++ e ∷ []) id epoch ts
 asked-more history e id epoch ts w = record {
@@ -67,15 +72,13 @@ asked-more history e id epoch ts w = record {
   epoch_is = w.epoch_is;
 }
 
--- a decided place has the epoch and the timestamp of its decision
-decided-place : (p : Place) (s : Status) → decision p ≡ Some s → (epoch_of p ≡ s.epoch) × (time_of p ≡ s.ts)
-decided-place Nothing s h = absurd cc
-decided-place (Kept r) s h = by (is_final r.status.standing) h
-  where
-    by : (b : Bool) → cond b (Some r.status) None ≡ Some s → (r.status.epoch ≡ s.epoch) × (r.status.ts ≡ s.ts)
-    by true h = let same : r.status ≡ s = cc in (ap (λ (x : Status). x.epoch) same, ap (λ (x : Status). x.ts) same)
-    by false h = absurd cc
-decided-place (Marked m) s h = let same : m ≡ s = cc in (ap (λ (x : Status). x.epoch) same, ap (λ (x : Status). x.ts) same)
+implied-more : (head : Head) (history : List (Entry Event)) (e : Entry Event) (id : TxnId) (epoch ts : ℕ) → WasImplied head history id epoch ts → WasImplied head (history ++ e ∷ []) id epoch ts
+implied-more head history e id epoch ts w = record {
+  front = w.front;
+  back = w.back ++ e ∷ [];
+  whole = sym (append_assoc w.front w.back (e ∷ [])) ∙ ap (λ h. h ++ e ∷ []) w.whole;
+  implied = w.implied;
+}
 
 -- The range of the key evaluates one more request.
 module _ (head : Head) (history : List (Entry Event)) (run : IsRun head history) (e : Entry Event)
@@ -91,7 +94,7 @@ module _ (head : Head) (history : List (Entry Event)) (run : IsRun head history)
       ap (λ r. state_at head r (history ++ e ∷ [])) (sym there) ∙ evaluated_state head history e actor number ev.range told ev is
       ∙ ap (λ r. state_after ev.request (state_at head r history)) there
 
-  put-past : (meta : TxnMeta) (seq0 ts0 : ℕ) (value0 : Option (List ℕ)) (i : Intent) → ev.request ≡ requests.Put meta seq0 ts0 key value0 → meta.id ≡ t.id → i.meta.epoch ≡ t.epoch → i.history ≡ writes_at key t.writes
+  put-past : (meta : TxnMeta) (seq0 ts0 : ℕ) (value0 : Option (List ℕ)) (i : Intent) → ev.request ≡ requests.Put meta seq0 ts0 key value0 → meta.id ≡ t.id → i.meta.epoch ≡ t.epoch → i.history ≡ writes_on key t.writes
       → own_at t.id key s.intents ≡ Some i → overtaken meta seq0 (own_at t.id key s.intents) ≡ false → ⊥
   unfolding s
   put-past meta seq0 ts0 value0 i asked whose same whole own over =
@@ -112,7 +115,7 @@ module _ (head : Head) (history : List (Entry Event)) (run : IsRun head history)
   fate-so : (fate : Fate) → ev.request ≡ requests.Resolve t.id key fate → FateIsSo fate (home_of head t.id history)
   fate-so fate asked = fates_are_so head history run ev.send ev.listed number ev.range t.id key fate (ev.sends ∙ ap (events.Send number ev.range) asked)
 
-  intent-stands : (front : List Laid) (seq : ℕ) (value : Option (List ℕ)) → writes_at key t.writes ≡ front ++ (seq, value) ∷ [] → (i : Intent) → own_at t.id key s.intents ≡ Some i → IsWholeBy t key ts i
+  intent-stands : (front : List Laid) (seq : ℕ) (value : Option (List ℕ)) → writes_on key t.writes ≡ front ++ (seq, value) ∷ [] → (i : Intent) → own_at t.id key s.intents ≡ Some i → IsWholeBy t key ts i
       → LastWriteStands head (history ++ e ∷ []) t key value ts
   unfolding s
   intent-stands front seq value at_key i own w =
@@ -124,7 +127,7 @@ module _ (head : Head) (history : List (Entry Event)) (run : IsRun head history)
         | IsMoved at j asked there eq ↦
             let one : j ≡ i = let both : Some j ≡ Some i = sym there ∙ own in cc in
             let reached : at ≤ time_of (home_of head t.id history) = fate-so (fates.Pending at) asked in
-            let time : time_of (home_of head t.id history) ≡ ts = (decided-place (home_of head t.id history) (status_of standings.Committed epoch ts) decided).1 in
+            let time : time_of (home_of head t.id history) ≡ ts = (decided-at (home_of head t.id history) (status_of standings.Committed epoch ts) decided).1 in
             inr (record i { ts = max i.ts at }, later ∙ eq ∙ ap (λ (x : Intent). Some (record x { ts = max x.ts at })) one, record { epoch = w.epoch; low = omega (arith, low, reached, time); whole = w.whole })
         | IsGone fate j asked ends there eq ↦ gone fate ends asked (fate-so fate asked)
       ]
@@ -150,7 +153,7 @@ module _ (head : Head) (history : List (Entry Event)) (run : IsRun head history)
       gone (fates.Pending at) ends asked so = absurd ends
 
   -- what stood at the key stands after it
-  pub eval_stands : (front : List Laid) (seq : ℕ) (value : Option (List ℕ)) → writes_at key t.writes ≡ front ++ (seq, value) ∷ [] → LastWriteStands head history t key value ts → LastWriteStands head (history ++ e ∷ []) t key value ts
+  pub eval_stands : (front : List Laid) (seq : ℕ) (value : Option (List ℕ)) → writes_on key t.writes ≡ front ++ (seq, value) ∷ [] → LastWriteStands head history t key value ts → LastWriteStands head (history ++ e ∷ []) t key value ts
   unfolding s
   eval_stands front seq value at_key stands =
       elim stands [
@@ -158,13 +161,11 @@ module _ (head : Head) (history : List (Entry Event)) (run : IsRun head history)
         | inr intent ↦ intent-stands front seq value at_key intent.0 intent.1 intent.2
       ]
 
--- One more entry after the transaction was committed.
-module _ (head : Head) (history : List (Entry Event)) (run : IsRun head history) (e : Entry Event) (may : MayFollow (protocol head) history e) (id : TxnId) (epoch ts : ℕ)
+-- A committed transaction is not known to have come to nothing.
+module _ (head : Head) (history : List (Entry Event)) (run : IsRun head history) (id : TxnId) (epoch ts : ℕ)
     (decided : decision (home_of head id history) ≡ Some (status_of standings.Committed epoch ts)) (settled : IsSettled head history id epoch ts) where
-  -- its session does not know it uncommitted
-  known-committed : (t : Txn) → t.id ≡ id → IsUncommitted t.id (known_at head (actors.Session id.session) history).sent (known_at head (actors.Session id.session) history).heard → ⊥
-  known-committed t same uncommitted =
-      let a = settled.asked in
+  commit-not-refused : IsKnownOver (known_at head (actors.Session id.session) history) id → WasAsked history id epoch ts → ⊥
+  commit-not-refused over a =
       let anchored = commit_anchored head history run a.send a.listed a.number a.range a.meta ts a.locks a.sends in
       let there : place_at head a.range a.meta.id history ≡ home_of head a.meta.id history =
       ap (λ r. place_at head r a.meta.id history) anchored.there ∙ sym (home_is head a.meta.id history a.meta.anchor anchored.anchor) in
@@ -173,14 +174,38 @@ module _ (head : Head) (history : List (Entry Event)) (run : IsRun head history)
       (subst (λ i. decision (home_of head i history) ≡ Some (status_of standings.Committed epoch ts)) (sym a.whose) decided) in
       let place : decision (place_at head a.range a.meta.id (history ++ [])) ≡ Some (status_of standings.Committed a.meta.epoch ts) =
       subst (λ h. decision (place_at head a.range a.meta.id h) ≡ Some (status_of standings.Committed a.meta.epoch ts)) (sym (append-nil history)) (ap decision there ∙ as_sent) in
+      let c : SentCommit = record { meta = a.meta; ts = ts; locks = a.locks } in
+      let sent = has_sent_commit head history run a.send a.listed a.number a.range c a.sends in
+      let known : HasSent (known_at head (actors.Session id.session) history).sent (commit_request c) = subst (λ (i : TxnId). HasSent (known_at head (actors.Session i.session) history).sent (commit_request c)) a.whose sent in
       let who : actors.Session id.session ≡ a.send.actor = ap (λ (i : TxnId). actors.Session i.session) (sym a.whose) ∙ sym anchored.whose in
-      never_refused head history [] (subst (IsRun head) (sym (append-nil history)) run) a.send a.listed a.number a.range a.meta ts a.locks a.sends place
-      (subst (λ i. IsUncommitted i (known_at head a.send.actor history).sent (known_at head a.send.actor history).heard) (same ∙ sym a.whose)
-      (subst (λ actor. IsUncommitted t.id (known_at head actor history).sent (known_at head actor history).heard) who uncommitted))
+      not_refused head history [] (subst (IsRun head) (sym (append-nil history)) run) a.send a.listed a.number a.range a.meta ts a.locks a.sends place
+      (subst (λ actor. WasCommitRefused (known_at head actor history).heard c) who (over.refused c known a.whose))
+
+  stage-not-dead : IsKnownOver (known_at head (actors.Session id.session) history) id → WasImplied head history id epoch ts → ⊥
+  stage-not-dead over w =
+      let n = w.implied in
+      let s = n.stage in
+      let sent = has_sent_stage head history run s (staged_in w.front w.back history w.whole s n.commits.sent) in
+      let known : HasSent (known_at head (actors.Session id.session) history).sent (stage_request s) = subst (λ (i : TxnId). HasSent (known_at head (actors.Session i.session) history).sent (stage_request s)) n.whose sent in
+      let dead : IsDead (known_at head (actors.Session s.meta.id.session) history).heard s =
+      subst (λ (i : TxnId). IsDead (known_at head (actors.Session i.session) history).heard s) (sym n.whose) (over.dead s known n.whose) in
+      never_dead head w.front w.back (subst (IsRun head) (sym w.whole) run) s n.commits (subst (λ h. IsDead (known_at head (actors.Session s.meta.id.session) h).heard s) (sym w.whole) dead)
+
+  pub settled_not_over : IsKnownOver (known_at head (actors.Session id.session) history) id → ⊥
+  settled_not_over over = elim settled.asked [ inl asked ↦ commit-not-refused over asked | inr implied ↦ stage-not-dead over implied ]
+
+-- One more entry after the transaction was committed.
+module _ (head : Head) (history : List (Entry Event)) (run : IsRun head history) (e : Entry Event) (may : MayFollow (protocol head) history e) (id : TxnId) (epoch ts : ℕ)
+    (decided : decision (home_of head id history) ≡ Some (status_of standings.Committed epoch ts)) (settled : IsSettled head history id epoch ts) where
+  -- its session does not know it uncommitted
+  known-committed : (t : Txn) → t.id ≡ id → IsUncommitted t.id (known_at head (actors.Session id.session) history).sent (known_at head (actors.Session id.session) history).heard → ⊥
+  known-committed t same uncommitted =
+      let k = known_at head (actors.Session id.session) history in
+      settled_not_over head history run id epoch ts decided settled (over_of k id (subst (λ i. IsUncommitted i k.sent k.heard) same uncommitted))
 
   -- so it goes on as it was
   pub goes_on : (u : Txn) → Contains (txns_of head id (history ++ e ∷ [])) u → u.id ≡ id
-      → (t : Txn) × Contains (txns_of head id history) t × (t.id ≡ id) × (u.epoch ≡ t.epoch) × ((key : List ℕ) → writes_at key u.writes ≡ writes_at key t.writes)
+      → (t : Txn) × Contains (txns_of head id history) t × (t.id ≡ id) × (u.epoch ≡ t.epoch) × ((key : List ℕ) → writes_on key u.writes ≡ writes_on key t.writes)
   goes_on u there same =
       elim (comes_from head history run e may (actors.Session id.session) u there) [
         | inl b ↦ absurd (new-none b.new)
@@ -198,7 +223,7 @@ module _ (head : Head) (history : List (Entry Event)) (run : IsRun head history)
           let none : anchor_in id history ≡ None = ap (λ i. anchor_in i history) (sym same) ∙ new.anchor in
           let both : decision Nothing ≡ Some (status_of standings.Committed epoch ts) = ap (λ o. decision (place_under head id history o)) (sym none) ∙ decided in absurd cc
 
-  stands-as : (t u : Txn) (key : List ℕ) (value : Option (List ℕ)) → u.id ≡ t.id → u.epoch ≡ t.epoch → writes_at key u.writes ≡ writes_at key t.writes
+  stands-as : (t u : Txn) (key : List ℕ) (value : Option (List ℕ)) → u.id ≡ t.id → u.epoch ≡ t.epoch → writes_on key u.writes ≡ writes_on key t.writes
       → LastWriteStands head (history ++ e ∷ []) t key value ts → LastWriteStands head (history ++ e ∷ []) u key value ts
   stands-as t u key value same epochs writes stands =
       elim stands [
@@ -213,7 +238,7 @@ module _ (head : Head) (history : List (Entry Event)) (run : IsRun head history)
             )
       ]
 
-  still-stands : (t : Txn) → Contains (txns_of head id history) t → t.id ≡ id → (key : List ℕ) (front : List Laid) (seq : ℕ) (value : Option (List ℕ)) → writes_at key t.writes ≡ front ++ (seq, value) ∷ []
+  still-stands : (t : Txn) → Contains (txns_of head id history) t → t.id ≡ id → (key : List ℕ) (front : List Laid) (seq : ℕ) (value : Option (List ℕ)) → writes_on key t.writes ≡ front ++ (seq, value) ∷ []
       → LastWriteStands head (history ++ e ∷ []) t key value ts
   still-stands t known same key front seq value is =
       let before = settled.stand t known same key front seq value is in
@@ -235,7 +260,7 @@ module _ (head : Head) (history : List (Entry Event)) (run : IsRun head history)
   -- it is settled still
   pub settled_more : IsSettled head (history ++ e ∷ []) id epoch ts
   settled_more = record {
-    asked = asked-more history e id epoch ts settled.asked;
+    asked = elim settled.asked [ inl asked ↦ inl (asked-more history e id epoch ts asked) | inr implied ↦ inr (implied-more head history e id epoch ts implied) ];
     epochs = λ u there same. let g = goes_on u there same in g.3 ∙ settled.epochs g.0 g.1 g.2;
     stand = λ u there same key front seq value is.
         let g = goes_on u there same in

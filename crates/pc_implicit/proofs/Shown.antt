@@ -1,8 +1,7 @@
--- What an evaluation showed of a transaction stays true, and where nothing is staged it is never a staging record.
+-- What an evaluation showed of a transaction stays true.
 use Rattle.std.proofs.Common.{◌≡◌, ℕ, List, [], ◌∷◌, ◌++◌, Some, Contains, inl, inr, refl, sym, ap, subst, ◌∙◌}
 use Rattle.std.proofs.lemmas.List.{append_assoc}
 use Rattle.std.proofs.lemmas.List.Elements.{Contains-append_left, Contains-push, Contains-push_cases}
-use Rattle.std.specs.Prelude.{⊤}
 use Rattle.pc_base.specs.declared.actor.ActorId.{ActorId}
 use Rattle.pc_base.specs.declared.entry.Entry.{Entry}
 use Rattle.pc_base.specs.declared.transaction.TxnId.{TxnId}
@@ -10,22 +9,17 @@ use Rattle.pc_history.specs.History.{MayFollow}
 use Rattle.pc_history.specs.Own.{named_in}
 use Rattle.pc_implicit.proofs.Evals.{NamedMessage, of_entry}
 use Rattle.pc_implicit.proofs.Lift.{over}
-use Rattle.pc_implicit.proofs.Recorded.{IsBacked, IsRecorded, recorded}
 use Rattle.pc_implicit.proofs.Runs.{answered, reply_is}
-use Rattle.pc_implicit.proofs.Sent.{unstaged_front}
 use Rattle.pc_implicit.proofs.Views.{Stands, places_go_on, true-on, view-true}
 use Rattle.pc_implicit.specs.Answers.{Answers}
 use Rattle.pc_implicit.specs.Decided.{StaysTrue}
 use Rattle.pc_lists.proofs.Lists.{contains_nil}
 use Rattle.pc_proto.specs.declared.event.Event.{Event}
 use Rattle.pc_proto.specs.declared.event.Event.TheVariants as events
-use Rattle.pc_proto.specs.declared.record.Standing.{Standing}
-use Rattle.pc_proto.specs.declared.record.Standing.TheVariants as standings
 use Rattle.pc_proto.specs.declared.reply.Reply.{Reply}
 use Rattle.pc_proto.specs.declared.request.Request.{Request}
 use Rattle.pc_proto.specs.declared.view.View.{View}
-use Rattle.pc_proto.specs.declared.view.View.TheVariants as views
-use Rattle.pc_proto.specs.Place.{Place, Nothing, Kept, Marked, status_view, view_of}
+use Rattle.pc_proto.specs.Place.{view_of}
 use Rattle.pc_proto.specs.Replies.{view_in}
 use Rattle.pc_proto.specs.Requests.{subject}
 use Rattle.pc_world.proofs.Knowing.{run_push}
@@ -36,17 +30,6 @@ use Rattle.pc_world.specs.Known.Traffic.{reply_in}
 use Rattle.pc_world.specs.Local.{Head}
 use Rattle.pc_world.specs.Named.{request_in, request_named}
 use Rattle.pc_world.specs.Run.{IsRun, protocol}
-use Rattle.pc_world.specs.Unstaged.{NothingIsStaged}
-
--- The view is not that of a staging record.
-abbrev pub IsUnstaged : View → Type 0
-IsUnstaged (views.Staging epoch ts writes) = ⊥
-IsUnstaged view = ⊤
-
--- The view is true of the place for good, and where nothing is staged it is not that of a staging record.
-pub record Shows (history : List (Entry Event)) (view : View) (p : Place) : Type 0 where
-  pub stays : StaysTrue view p
-  pub unstaged : NothingIsStaged history → IsUnstaged view
 
 -- The actor's message of this number said this, went to this range, and was answered so, as the range was after some beginning of
 -- the history; what the answer shows is so.
@@ -56,7 +39,7 @@ pub record WasAnswered (head : Head) (history : List (Entry Event)) (actor : Act
   pub listed : Contains history send
   pub whose : send.actor ≡ actor
   pub sends : send.event ≡ events.Send number range request
-  pub shows : (id : TxnId) (view : View) → subject request ≡ Some id → view_in reply ≡ Some view → Shows history view (place_at head range id history)
+  pub shows : (id : TxnId) (view : View) → subject request ≡ Some id → view_in reply ≡ Some view → StaysTrue view (place_at head range id history)
   pub eval : Entry Event
   pub evaluated : Contains history eval
   pub told : eval.event ≡ events.Eval actor number reply
@@ -77,7 +60,7 @@ module _ (head : Head) where
     shows = λ id view about told.
         let before = w.shows id view about told in
         let stands : Stands (place_at head w.range id history) (place_at head w.range id (history ++ e ∷ [])) = over _ (places_go_on id) head w.range history (e ∷ []) in
-        record { stays = true-on view (place_at head w.range id history) (place_at head w.range id (history ++ e ∷ [])) before.stays stands; unstaged = λ none. before.unstaged (unstaged_front history (e ∷ []) none) };
+        true-on view (place_at head w.range id history) (place_at head w.range id (history ++ e ∷ [])) before stands;
     eval = w.eval;
     evaluated = Contains-append_left history (e ∷ []) w.eval w.evaluated;
     told = w.told;
@@ -86,17 +69,6 @@ module _ (head : Head) where
     whole = sym (append_assoc w.front w.back (e ∷ [])) ∙ ap (λ h. h ++ e ∷ []) w.whole;
     answers = w.answers;
   }
-
-  status-unstaged : (history : List (Entry Event)) (range : ℕ) (id : TxnId) (standing : Standing) (epoch ts : ℕ) (writes : List (List ℕ × ℕ)) (locks : List (List ℕ)) → IsBacked history range id ts standing → IsUnstaged (status_view standing epoch ts writes locks)
-  status-unstaged history range id standings.Pending epoch ts writes locks h = tt
-  status-unstaged history range id standings.Staging epoch ts writes locks h = absurd h
-  status-unstaged history range id standings.Committed epoch ts writes locks h = tt
-  status-unstaged history range id (standings.Aborted why) epoch ts writes locks h = tt
-
-  recorded-unstaged : (history : List (Entry Event)) (range : ℕ) (id : TxnId) (p : Place) → IsRecorded history range id p → IsUnstaged (view_of p)
-  recorded-unstaged history range id Nothing h = tt
-  recorded-unstaged history range id (Kept r) h = status-unstaged history range id r.status.standing r.status.epoch r.status.ts r.writes r.locks h
-  recorded-unstaged history range id (Marked s) h = status-unstaged history range id s.standing s.epoch s.ts [] [] h.1
 
   -- an evaluation's answer shows what is so after it
   pub answer_shows : (history : List (Entry Event)) (e : Entry Event) (actor : ActorId) (number : ℕ) (reply : Reply) → IsRun head (history ++ e ∷ []) → MayFollow (protocol head) history e
@@ -119,10 +91,7 @@ module _ (head : Head) where
           shown = told;
         } in
         let same : view ≡ view_of p = answered head ev.range id view history e may a in
-        record {
-          stays = subst (λ v. StaysTrue v p) (sym same) (view-true p);
-          unstaged = λ none. subst IsUnstaged (sym same) (recorded-unstaged (history ++ e ∷ []) ev.range id p (recorded head (history ++ e ∷ []) run none ev.range id));
-        };
+        subst (λ v. StaysTrue v p) (sym same) (view-true p);
     eval = e;
     evaluated = Contains-push history e;
     told = is;

@@ -1,5 +1,5 @@
--- A staging record is as a stage that was sent, and a mark is final.
-use Rattle.std.proofs.Common.{◌≡◌, ℕ, Bool, true, false, if◌then◌else◌, not, ◌&&◌, ◌⊎◌, inl, inr, List, [], ◌∷◌, ◌++◌, Some, refl, sym, ap, subst, ◌∙◌}
+-- A staging record is as a stage that was sent.
+use Rattle.std.proofs.Common.{◌≡◌, ℕ, Bool, true, false, if◌then◌else◌, not, ◌&&◌, inl, inr, List, [], ◌∷◌, ◌++◌, Some, refl, sym, ap, subst, ◌∙◌}
 use Rattle.std.proofs.lemmas.List.Elements.{Contains-append_left}
 use Rattle.pc_base.specs.declared.entry.Entry.{Entry}
 use Rattle.pc_base.specs.declared.transaction.Priority.{Priority}
@@ -41,29 +41,22 @@ pub data StagedFrom (p : Place) (request : Request) (r : Record) : Type 0 where
   StagedBefore : (old : Record) → p ≡ Kept old → old.status ≡ r.status → old.writes ≡ r.writes → StagedFrom p request r
   StagedBy : (s : SentStage) → request ≡ stage_request s → r.status.epoch ≡ s.meta.epoch → r.status.ts ≡ s.ts → r.writes ≡ s.writes → StagedFrom p request r
 
--- What a change leaves: a record that stages comes from there, and a mark was there before or is final.
-pub record SaysFrom (p : Place) (request : Request) (c : Change) : Type 0 where
-  pub staged : (r : Record) → after p c ≡ Kept r → r.status.standing ≡ standings.Staging → StagedFrom p request r
-  pub marked : (s : Status) → after p c ≡ Marked s → (p ≡ Marked s) ⊎ (is_final s.standing ≡ true)
+-- Whatever record stages after the change, it comes from there.
+abbrev SaysFrom : Place → Request → Change → Type 0
+SaysFrom p request c = (r : Record) → after p c ≡ Kept r → r.status.standing ≡ standings.Staging → StagedFrom p request r
 
 module _ (p : Place) (request : Request) where
   stays : SaysFrom p request Stay
-  stays = record { staged = λ r is staging. StagedBefore r is refl refl; marked = λ s is. inl is }
+  stays r is staging = StagedBefore r is refl refl
 
   -- what becomes of it does not stage
   becomes : (x : Record) → (x.status.standing ≡ standings.Staging → ⊥) → SaysFrom p request (Become x)
-  becomes x differs = record {
-    staged = λ r is staging.
-        let same : x ≡ r = let both : Kept x ≡ Kept r = is in cc both in
-        absurd (differs (ap (λ (y : Record). y.status.standing) same ∙ staging));
-    marked = λ s is. absurd cc;
-  }
+  becomes x differs r is staging =
+      let same : x ≡ r = let both : Kept x ≡ Kept r = is in cc both in
+      absurd (differs (ap (λ (y : Record). y.status.standing) same ∙ staging))
 
-  finishes : (s : Status) → is_final s.standing ≡ true → SaysFrom p request (Finish s)
-  finishes s final = record {
-    staged = λ r is staging. absurd cc;
-    marked = λ m is. let same : s ≡ m = let both : Marked s ≡ Marked m = is in cc both in inr (ap (λ (y : Status). is_final y.standing) (sym same) ∙ final);
-  }
+  finishes : (s : Status) → SaysFrom p request (Finish s)
+  finishes s r is staging = absurd cc
 
   either : (b : Bool) (c : Change) → SaysFrom p request c → SaysFrom p request (if b then c else Stay)
   either true c says = says
@@ -84,21 +77,15 @@ module _ (p : Place) (request : Request) where
 
 -- what it becomes stages as it did
 goes-on : (old x : Record) (request : Request) → old.status ≡ x.status → old.writes ≡ x.writes → SaysFrom (Kept old) request (Become x)
-goes-on old x request status writes = record {
-  staged = λ r is staging.
-      let same : x ≡ r = let both : Kept x ≡ Kept r = is in cc both in
-      StagedBefore old refl (status ∙ ap (λ (y : Record). y.status) same) (writes ∙ ap (λ (y : Record). y.writes) same);
-  marked = λ s is. absurd cc;
-}
+goes-on old x request status writes r is staging =
+    let same : x ≡ r = let both : Kept x ≡ Kept r = is in cc both in
+    StagedBefore old refl (status ∙ ap (λ (y : Record). y.status) same) (writes ∙ ap (λ (y : Record). y.writes) same)
 
 -- what it becomes stages as the request says
 becomes-stage : (p : Place) (x : Record) (s : SentStage) → x.status.epoch ≡ s.meta.epoch → x.status.ts ≡ s.ts → x.writes ≡ s.writes → SaysFrom p (stage_request s) (Become x)
-becomes-stage p x s epoch ts writes = record {
-  staged = λ r is staging.
-      let same : r ≡ x = let both : Kept x ≡ Kept r = is in sym (cc both) in
-      StagedBy s refl (ap (λ (y : Record). y.status.epoch) same ∙ epoch) (ap (λ (y : Record). y.status.ts) same ∙ ts) (ap (λ (y : Record). y.writes) same ∙ writes);
-  marked = λ m is. absurd cc;
-}
+becomes-stage p x s epoch ts writes r is staging =
+    let same : r ≡ x = let both : Kept x ≡ Kept r = is in sym (cc both) in
+    StagedBy s refl (ap (λ (y : Record). y.status.epoch) same ∙ epoch) (ap (λ (y : Record). y.status.ts) same ∙ ts) (ap (λ (y : Record). y.writes) same ∙ writes)
 
 from-beat : (meta : TxnMeta) (ts now : ℕ) (p : Place) → SaysFrom p (requests.Beat meta ts now) (beat meta ts now p)
 from-beat meta ts now Nothing = becomes Nothing (requests.Beat meta ts now) _ (λ same. cc)
@@ -129,36 +116,34 @@ from-push holder by level now goal p = on-verdict p (requests.Push holder by lev
 
 from-remove : (id : TxnId) (anchor : List ℕ) (p : Place) → SaysFrom p (requests.Remove id anchor) (remove p)
 from-remove id anchor Nothing = stays Nothing (requests.Remove id anchor)
-from-remove id anchor (Kept r) = by (is_final r.status.standing) refl
-  where
-    by : (b : Bool) → is_final r.status.standing ≡ b → SaysFrom (Kept r) (requests.Remove id anchor) (if b then Finish r.status else Stay)
-    by true final = finishes (Kept r) (requests.Remove id anchor) r.status final
-    by false unfinal = stays (Kept r) (requests.Remove id anchor)
+from-remove id anchor (Kept r) = either (Kept r) (requests.Remove id anchor) (is_final r.status.standing) (Finish r.status) (finishes (Kept r) (requests.Remove id anchor) r.status)
 from-remove id anchor (Marked s) = stays (Marked s) (requests.Remove id anchor)
-
-says-from : (request : Request) (p : Place) → SaysFrom p request (place_change request p)
-says-from (requests.Beat meta ts now) p = unless p (requests.Beat meta ts now) (beat meta ts now p) (from-beat meta ts now p)
-says-from (requests.Stage meta ts now writes locks) p = unless p (requests.Stage meta ts now writes locks) (stage meta ts now writes locks p) (from-stage meta ts now writes locks p)
-says-from (requests.Commit meta ts locks) p =
-    unless p (requests.Commit meta ts locks) (commit meta ts locks p)
-    (either p (requests.Commit meta ts locks) (is_reached p meta.epoch ts) _ (becomes p (requests.Commit meta ts locks) _ (λ same. cc)))
-says-from (requests.Abort meta why locks) p = unless p (requests.Abort meta why locks) _ (becomes p (requests.Abort meta why locks) _ (λ same. cc))
-says-from (requests.Push holder by level now goal) p = unless p (requests.Push holder by level now goal) (push holder by level now goal p) (from-push holder by level now goal p)
-says-from (requests.Recover id epoch ts anchor finding) p = unless p (requests.Recover id epoch ts anchor finding) (recover epoch ts finding p) (from-recover id epoch ts anchor finding p)
-says-from (requests.Remove id anchor) p = from-remove id anchor p
-says-from request p = stays p request
 
 -- where a staging record comes from over a request
 pub staged_from : (request : Request) (p : Place) (r : Record) → after p (place_change request p) ≡ Kept r → r.status.standing ≡ standings.Staging → StagedFrom p request r
-staged_from request p r is staging = (says-from request p).staged r is staging
+staged_from (requests.Beat meta ts now) p = unless p (requests.Beat meta ts now) (beat meta ts now p) (from-beat meta ts now p)
+staged_from (requests.Stage meta ts now writes locks) p = unless p (requests.Stage meta ts now writes locks) (stage meta ts now writes locks p) (from-stage meta ts now writes locks p)
+staged_from (requests.Commit meta ts locks) p =
+    unless p (requests.Commit meta ts locks) (commit meta ts locks p)
+    (either p (requests.Commit meta ts locks) (is_reached p meta.epoch ts) _ (becomes p (requests.Commit meta ts locks) _ (λ same. cc)))
+staged_from (requests.Abort meta why locks) p = unless p (requests.Abort meta why locks) _ (becomes p (requests.Abort meta why locks) _ (λ same. cc))
+staged_from (requests.Push holder by level now goal) p = unless p (requests.Push holder by level now goal) (push holder by level now goal p) (from-push holder by level now goal p)
+staged_from (requests.Recover id epoch ts anchor finding) p = unless p (requests.Recover id epoch ts anchor finding) (recover epoch ts finding p) (from-recover id epoch ts anchor finding p)
+staged_from (requests.Remove id anchor) p = from-remove id anchor p
+staged_from request p = stays p request
 
-pub staged_more : (history : List (Entry Event)) (e : Entry Event) (s : SentStage) → WasStaged history s → WasStaged (history ++ e ∷ []) s
-staged_more history e s sent = record { send = sent.send; listed = Contains-append_left history (e ∷ []) sent.send sent.listed; number = sent.number; range = sent.range; sends = sent.sends }
+-- a stage that was sent was sent in every longer history
+pub staged_along : (front back : List (Entry Event)) (s : SentStage) → WasStaged front s → WasStaged (front ++ back) s
+staged_along front back s sent = record { send = sent.send; listed = Contains-append_left front back sent.send sent.listed; number = sent.number; range = sent.range; sends = sent.sends }
+
+-- however the longer one splits
+pub staged_in : (front back history : List (Entry Event)) → front ++ back ≡ history → (s : SentStage) → WasStaged front s → WasStaged history s
+staged_in front back history whole s sent = subst (λ h. WasStaged h s) whole (staged_along front back s sent)
 
 staged-as-more : (history : List (Entry Event)) (e : Entry Event) (id : TxnId) (epoch ts : ℕ) (writes : List (List ℕ × ℕ)) → WasStagedAs history id epoch ts writes → WasStagedAs (history ++ e ∷ []) id epoch ts writes
 staged-as-more history e id epoch ts writes as_sent = record {
   stage = as_sent.stage;
-  sent = staged_more history e as_sent.stage as_sent.sent;
+  sent = staged_along history (e ∷ []) as_sent.stage as_sent.sent;
   whose = as_sent.whose;
   epoch_is = as_sent.epoch_is;
   ts_is = as_sent.ts_is;
@@ -185,20 +170,6 @@ module _ (head : Head) where
               let sent : WasStaged history s = record { send = c.ev.send; listed = c.ev.listed; number = c.number; range = c.ev.range; sends = c.ev.sends ∙ ap (events.Send c.number c.ev.range) asks } in
               let about : subject (stage_request s) ≡ Some id = ap subject (sym asks) ∙ c.about in
               let whose : s.meta.id ≡ id = let both : Some s.meta.id ≡ Some id = about in cc both in
-              record { stage = s; sent = staged_more history e s sent; whose = whose; epoch_is = sym epoch; ts_is = sym ts; writes_are = sym writes }
-        ]
-      ])
-
-  -- A mark is final.
-  abbrev AreMarksFinal : List (Entry Event) → Type 0
-  AreMarksFinal history = (id : TxnId) (s : Status) → home_of head id history ≡ Marked s → is_final s.standing ≡ true
-
-  pub marks_final : (history : List (Entry Event)) → IsRun head history → (id : TxnId) (s : Status) → home_of head id history ≡ Marked s → is_final s.standing ≡ true
-  marks_final = run_induction head AreMarksFinal (λ id s is. absurd cc) (λ history e run may all id s is.
-      elim (home_over head history run e may id) [
-        | inl same ↦ all id s (sym same ∙ is)
-        | inr c ↦ elim ((says-from c.ev.request (home_of head id history)).marked s (sym c.changed ∙ is)) [
-          | inl before ↦ all id s before
-          | inr final ↦ final
+              record { stage = s; sent = staged_along history (e ∷ []) s sent; whose = whose; epoch_is = sym epoch; ts_is = sym ts; writes_are = sym writes }
         ]
       ])

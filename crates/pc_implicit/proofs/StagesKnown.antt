@@ -147,17 +147,6 @@ module _ (head : Head) (history : List (Entry Event)) (e : Entry Event) where
         | inr differ ↦ inl (subst (λ (l : Known). HasSent l.sent request) (known_other head actor history e differ) h)
       ]
 
-  -- what it has sent stays so
-  pub sent_goes_on : (actor : ActorId) (request : Request) → HasSent (known_at head actor history).sent request → HasSent (known_at head actor (history ++ e ∷ [])).sent request
-  sent_goes_on actor request h =
-      let k = known_at head actor history in
-      elim (same_or_not e.actor actor) [
-        | inl same ↦
-            subst (λ (l : Known). HasSent l.sent request) (sym (known_same head actor history e same))
-            (any_kept (λ m. m.request ≡ request) k.sent (sent_by e.event) h)
-        | inr differ ↦ subst (λ (l : Known). HasSent l.sent request) (sym (known_other head actor history e differ)) h
-      ]
-
   module _ (may : MayFollow (protocol head) history e) where
     -- a stage that is sent was sent before, or may be sent for the first time
     pub stage_sent : (actor : ActorId) (s : SentStage) → SendsNow actor (stage_request s) → HasSent (known_at head actor history).sent (stage_request s) ⊎ MaySendNewStage (known_at head actor history) s

@@ -5,10 +5,9 @@ use Rattle.std.proofs.lemmas.List.Elements.{All-contains, Contains-append_left}
 use Rattle.pc_base.specs.declared.actor.ActorId.{ActorId}
 use Rattle.pc_base.specs.declared.actor.ActorId.TheVariants as actors
 use Rattle.pc_base.specs.declared.entry.Entry.{Entry}
-use Rattle.pc_implicit.proofs.Agreed.{agreed, open_there}
+use Rattle.pc_implicit.proofs.Agreed.{agreed, one_txn, open_there}
 use Rattle.pc_implicit.proofs.Hearing.{WasSentBy, sent_is_so}
 use Rattle.pc_implicit.proofs.Metas.{subject_anchored}
-use Rattle.pc_implicit.proofs.Moves.{one_named}
 use Rattle.pc_implicit.proofs.PutsSent.{AreOrderly, orderly, puts_sent}
 use Rattle.pc_implicit.proofs.StagesKnown.{HasSent, dead_more, heard_goes_on, none_sent, sent_cases, stage_of, stage_sent}
 use Rattle.pc_implicit.proofs.StagesRefuted.{dead_refuted}
@@ -188,7 +187,7 @@ module _ (head : Head) where
       (actor : ActorId) (s : SentStage) → HasSent (known_at head actor history).sent (stage_request s) → (t : Txn) → Contains (known_at head actor history).txns t → t.id ≡ s.meta.id → IsKnownLast (known_at head actor history).heard t s
 
   -- a stage that was sent is of a transaction with an anchor
-  anchored-so : (history : List (Entry Event)) → IsRun head history → (actor : ActorId) (s : SentStage) → HasSent (known_at head actor history).sent (stage_request s) → (anchor : List ℕ) × (anchor_in s.meta.id history ≡ Some anchor)
+  pub anchored-so : (history : List (Entry Event)) → IsRun head history → (actor : ActorId) (s : SentStage) → HasSent (known_at head actor history).sent (stage_request s) → (anchor : List ℕ) × (anchor_in s.meta.id history ≡ Some anchor)
   anchored-so history run actor s (n, m, inside, at, asks) =
       let w = each-contains (WasSentBy head history actor) (known_at head actor history).sent m (sent_is_so head history run actor) (n, inside, at) in
       let a = subject_anchored head history run w.send w.listed m.number m.range (stage_request s) s.meta.id (w.sends ∙ ap (events.Send m.number m.range) asks) refl in
@@ -218,7 +217,7 @@ module _ (head : Head) where
               | inr now ↦ elim (stage_sent head history e may actor s now) [
                 | inl old ↦ before old
                 | inr new ↦
-                    let own : new.t ≡ c.t = one_named actor (k.begun + 1) k.txns new.t c.t (agreed head history run actor).numbered (open_there k new.t new.opened) c.there (ap (λ (m : TxnMeta). m.id) (sym new.whose.same) ∙ named) in
+                    let own : new.t ≡ c.t = one_txn actor (k.begun + 1) k.txns new.t c.t (agreed head history run actor).numbered (open_there k new.t new.opened) c.there (ap (λ (m : TxnMeta). m.id) (sym new.whose.same) ∙ named) in
                     by history e run actor s u c.t now.number now.range now.sends new own (orderly head history run actor c.t c.there) more.0 c.turn
               ]
             ]
@@ -255,3 +254,12 @@ module _ (head : Head) where
             let at : v.0.seq ≡ seq = v.2 in
             absurd (omega (arith, most, past, at))
       ]
+
+-- a new stage lists the last write at each listed key
+pub new_last : (head : Head) (history : List (Entry Event)) (e : Entry Event) (k : Known) (s : SentStage) (t : Txn) (new : MaySendNewStage k s) → new.t ≡ t → AreOrderly history t
+    → (x : List ℕ × ℕ) → Contains s.writes x → (w : Write) → Contains t.writes w → w.key ≡ x.0 → w.seq ≤ x.1
+new_last head history e k s t new own o x there w inside key =
+    let v = listed-from head history e k [] s t t new own o x there in
+    let before = unproved-last 0 t.writes o.rise o.turn v.0 w v.1 inside v.2 (ap (λ (p : List ℕ × ℕ). p.0) v.3 ∙ sym key) in
+    let at : v.0.seq ≡ x.1 = ap (λ (p : List ℕ × ℕ). p.1) v.3 in
+    omega (arith, before, at)

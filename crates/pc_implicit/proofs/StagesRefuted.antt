@@ -1,6 +1,7 @@
 -- Where a stage is open and known to be late or dead, one of its writes was refuted; and a record stages as one stage that was sent.
 use Rattle.std.proofs.Common.{◌≡◌, ℕ, ◌<◌, ◌≤◌, ◌==◌, nat_le, nat_lt, Bool, true, false, cond, ◌&&◌, not, inl, inr, List, [], ◌∷◌, None, Some, Contains, refl, sym, ap, subst, ◌∙◌, arith}
 use Rattle.std.proofs.lemmas.Bool.{and_cases, and_from, and_parts, eq-eqb, eqb-true, leb-false, ltb-true, or_cases}
+use Rattle.pc_implicit.proofs.Views.{undecided_from}
 use Rattle.pc_base.specs.declared.actor.ActorId.{ActorId}
 use Rattle.pc_base.specs.declared.actor.ActorId.TheVariants as actors
 use Rattle.pc_base.specs.declared.entry.Entry.{Entry}
@@ -8,7 +9,7 @@ use Rattle.pc_base.specs.Span.{same_key}
 use Rattle.pc_base.specs.Transaction.{same_txn}
 use Rattle.pc_implicit.proofs.CommitsSent.{IsBeyond, beyond-on}
 use Rattle.pc_implicit.proofs.Did.{session_at}
-use Rattle.pc_implicit.proofs.HeardViews.{asked_home, replied_of, so_of, undecided_from}
+use Rattle.pc_implicit.proofs.HeardViews.{asked_home, replied_of, so_of}
 use Rattle.pc_implicit.proofs.StagesSent.{has_sent_stage}
 use Rattle.pc_implicit.proofs.StagePairs.{stages_paired}
 use Rattle.pc_implicit.proofs.StagesKnown.{HasSent, dead_is_late}

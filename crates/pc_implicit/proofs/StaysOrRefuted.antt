@@ -1,7 +1,7 @@
 -- A staging record stays so over one more entry, or is decided committed there, or one of its writes was refuted.
-use Rattle.std.proofs.Common.{◌≡◌, ℕ, ◌<◌, ◌≤◌, ◌⊎◌, if◌then◌else◌, inl, inr, List, [], ◌∷◌, ◌++◌, None, Some, Contains, refl, sym, ap, subst, ◌∙◌, arith}
+use Rattle.std.proofs.Common.{◌≡◌, ℕ, ◌<◌, ◌≤◌, ◌⊎◌, if◌then◌else◌, inl, inr, List, [], ◌∷◌, ◌++◌, None, Some, Contains, sym, ap, subst, ◌∙◌, arith}
 use Rattle.std.proofs.lemmas.List.Elements.{Contains-append_left}
-use Rattle.pc_base.specs.declared.actor.ActorId.{ActorId}
+use Rattle.pc_implicit.proofs.StagedAs.{staged_in}
 use Rattle.pc_base.specs.declared.entry.Entry.{Entry}
 use Rattle.pc_base.specs.declared.transaction.TxnId.{TxnId}
 use Rattle.pc_base.specs.declared.transaction.Who.{Who}
@@ -12,7 +12,7 @@ use Rattle.pc_implicit.proofs.EvaluatedAt.{sent_at}
 use Rattle.pc_implicit.proofs.FoundThere.{staging_heard}
 use Rattle.pc_implicit.proofs.HeardViews.{replied_of, so_of}
 use Rattle.pc_implicit.proofs.HomeOver.{ChangesPlace, home_over}
-use Rattle.pc_implicit.proofs.LeavesBy.{ByAbort, ByCommit, ByFound, ByMissing, ByStage, LeavesBy, Stages, StagesStill, leaves_by}
+use Rattle.pc_implicit.proofs.LeavesBy.{ByAbort, ByCommit, ByFound, ByMissing, ByStage, LeavesBy, Stages, leaves_by}
 use Rattle.pc_implicit.proofs.StagesOpen.{abort_refutes, commit_beside, stage_beside}
 use Rattle.pc_implicit.proofs.StagesRefuted.{listed_there, one_staged}
 use Rattle.pc_implicit.proofs.StageWords.{NowCommitted, SomeRefuted, StagesAs, StaysImplicit, StillStaged, WasStagedAs}
@@ -23,7 +23,6 @@ use Rattle.pc_implicit.specs.Writes.{home_of}
 use Rattle.pc_proto.specs.declared.event.Event.{Event}
 use Rattle.pc_proto.specs.declared.event.Event.TheVariants as events
 use Rattle.pc_proto.specs.declared.fate.Finding.TheVariants as findings
-use Rattle.pc_proto.specs.declared.meta.TxnMeta.{TxnMeta}
 use Rattle.pc_proto.specs.declared.record.Record.{Record}
 use Rattle.pc_proto.specs.declared.record.Standing.TheVariants as standings
 use Rattle.pc_proto.specs.declared.record.Status.{Status}
@@ -40,10 +39,10 @@ use Rattle.pc_world.specs.After.{known_at}
 use Rattle.pc_world.specs.Local.{Head}
 use Rattle.pc_world.specs.Run.{IsRun, protocol}
 use Rattle.pc_world.specs.Send.Recovery.{MaySendRecover}
-use Rattle.pc_world.specs.StageFate.{SentStage, stage_request}
+use Rattle.pc_world.specs.StageFate.{SentStage}
 
-replied-along : (front back history : List (Entry Event)) → front ++ back ≡ history → (request : Request) (reply : Reply) → WasReplied front request reply → WasReplied history request reply
-replied-along front back history whole request reply w = record {
+pub replied_along : (front back history : List (Entry Event)) → front ++ back ≡ history → (request : Request) (reply : Reply) → WasReplied front request reply → WasReplied history request reply
+replied_along front back history whole request reply w = record {
   send = w.send;
   listed = subst (λ h. Contains h w.send) whole (Contains-append_left front back w.send w.listed);
   number = w.number;
@@ -52,15 +51,6 @@ replied-along front back history whole request reply w = record {
   eval = w.eval;
   evaluated = subst (λ h. Contains h w.eval) whole (Contains-append_left front back w.eval w.evaluated);
   told = w.told;
-}
-
-staged-so-along : (front back history : List (Entry Event)) → front ++ back ≡ history → (s : SentStage) → WasStaged front s → WasStaged history s
-staged-so-along front back history whole s w = record {
-  send = w.send;
-  listed = subst (λ h. Contains h w.send) whole (Contains-append_left front back w.send w.listed);
-  number = w.number;
-  range = w.range;
-  sends = w.sends;
 }
 
 -- A stage as which the record stages is open.
@@ -93,11 +83,11 @@ module _ (head : Head) (history : List (Entry Event)) (run : IsRun head history)
       let row : MaySendRecover a.actor (known_at head a.actor at.before) id epoch ts anchor (findings.Missing key by) = act.row in
       let (n, h, inside, here, missed) = row.found.1 in
       let replied : WasReplied history (requests.Query id epoch missed.seq ts key by) replies.Missing =
-      replied-along at.before (a ∷ at.later) history joined (requests.Query id epoch missed.seq ts key by) replies.Missing
+      replied_along at.before (a ∷ at.later) history joined (requests.Query id epoch missed.seq ts key by) replies.Missing
       (replied_of head at.before a.actor h (so_of head at.before run_before a.actor h (n, inside, here)) (requests.Query id epoch missed.seq ts key by) replies.Missing missed.asked missed.told) in
       let seen : WasStagedAs at.before id epoch ts row.writes = staging_heard head at.before run_before a.actor id epoch ts row.writes row.staging in
       let one : seen.stage ≡ s =
-      one_staged head history run s seen.stage sent (staged-so-along at.before (a ∷ at.later) history joined seen.stage seen.sent) (seen.whose ∙ whose) (seen.epoch_is ∙ epochs) (seen.ts_is ∙ times) opened in
+      one_staged head history run s seen.stage sent (staged_in at.before (a ∷ at.later) history joined seen.stage seen.sent) (seen.whose ∙ whose) (seen.epoch_is ∙ epochs) (seen.ts_is ∙ times) opened in
       let writes : row.writes ≡ s.writes = sym seen.writes_are ∙ ap (λ (x : SentStage). x.writes) one in
       let asks : requests.Query id epoch missed.seq ts key by ≡ requests.Query s.meta.id s.meta.epoch missed.seq s.ts key by = λ i. requests.Query (whose i) (epochs i) missed.seq (times i) key by in
       whole (record {

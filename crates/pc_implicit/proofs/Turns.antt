@@ -11,13 +11,13 @@ use Rattle.pc_base.specs.Span.{same_key}
 use Rattle.pc_base.specs.Transaction.{same_txn}
 use Rattle.pc_history.specs.History.{MayFollow}
 use Rattle.pc_history.specs.Own.{named_in}
-use Rattle.pc_implicit.proofs.Agreed.{AreNumbered, IsNew, Knows, agreed, begun_next, open_there, owned}
+use Rattle.pc_implicit.proofs.Agreed.{IsNew, Knows, agreed, begun_next, one_txn, open_there}
 use Rattle.pc_implicit.proofs.Commits.{act_of}
 use Rattle.pc_implicit.proofs.Doing.{Does, same_or_not, told_by_row}
 use Rattle.pc_implicit.proofs.Hearing.{IsSo, heard-event}
 use Rattle.pc_implicit.proofs.WriteLists.{AreAlike, IsAlike, alike-itself, alike_map, alike_themselves}
 use Rattle.pc_implicit.specs.Replied.{QueryFound, WasProven, WasReplied, WasWritten}
-use Rattle.pc_lists.proofs.Lists.{contains_cons, contains_head, contains_nil, contains_tail}
+use Rattle.pc_lists.proofs.Lists.{contains_cons, contains_head, contains_in_map, contains_nil, contains_tail}
 use Rattle.pc_lists.proofs.Same.{same_key-is, same_txn-is}
 use Rattle.pc_proto.specs.declared.answer.Answer.{Answer}
 use Rattle.pc_proto.specs.declared.answer.Answer.TheVariants as answers
@@ -93,39 +93,6 @@ Comes history e k u = IsBegun history e u ⊎ CameFrom history e k u
 -- a range is no session
 pub not_session : (range session : ℕ) → actors.Range range ≡ actors.Session session → ⊥
 not_session range session h = absurd cc
-
--- An element of a list of images is the image of one.
-pub unmap : {X Y : Type 0} (f : X → Y) (xs : List X) (y : Y) → Contains (map f xs) y → (x : X) × Contains xs x × (f x ≡ y)
-unmap f [] y there = absurd (contains_nil y there)
-unmap f (x ∷ xs) y there =
-    elim (contains_cons (f x) (map f xs) y there) [
-      | inl same ↦ (x, contains_head x xs, same)
-      | inr later ↦ let r = unmap f xs y later in (r.0, contains_tail x xs r.0 r.1, r.2)
-    ]
-
-pub id_is : (one other : TxnId) → one.session ≡ other.session → one.number ≡ other.number → one ≡ other
-id_is one other session number = λ i. record { session = session i; number = number i }
-
--- of an actor's transactions no two have one name
-pub one_txn : (actor : ActorId) (n : ℕ) (txns : List Txn) (t u : Txn) → AreNumbered actor n txns → Contains txns t → Contains txns u → t.id ≡ u.id → t ≡ u
-one_txn actor n [] t u numbered a b same = absurd (contains_nil t a)
-one_txn actor n (x ∷ xs) t u numbered a b same =
-    elim (contains_cons x xs t a) [
-      | inl first ↦ elim (contains_cons x xs u b) [
-        | inl also ↦ sym first ∙ also
-        | inr later ↦
-            let below = (owned actor x.id.number xs u numbered.2 later).1 in
-            let number : x.id.number ≡ u.id.number = ap (λ (y : Txn). y.id.number) first ∙ ap (λ (i : TxnId). i.number) same in
-            absurd (omega (arith, below, number))
-      ]
-      | inr rest ↦ elim (contains_cons x xs u b) [
-        | inl also ↦
-            let below = (owned actor x.id.number xs t numbered.2 rest).1 in
-            let number : x.id.number ≡ t.id.number = ap (λ (y : Txn). y.id.number) also ∙ ap (λ (i : TxnId). i.number) (sym same) in
-            absurd (omega (arith, below, number))
-        | inr later ↦ one_txn actor x.id.number xs t u numbered.2 rest later same
-      ]
-    ]
 
 pub none-later : (most n : ℕ) (ws : List Write) → fold (λ most w. max most w.seq) most ws < n → (list_any (λ w. w.seq == n) ws ≡ false) × (most ≤ fold (λ most w. max most w.seq) most ws)
 none-later most n [] h = (refl, omega arith)
@@ -342,10 +309,10 @@ module _ (head : Head) (history : List (Entry Event)) (run : IsRun head history)
 
   event-comes : (event : Event) → e.event ≡ event → Does head e.actor k event → (h : Option Heard) → IfSome h (IsSo head history e.actor) → (u : Txn) → Contains (txns_after event h k) u → Comes history e k u
   event-comes (events.Send number range request) is may h so u there =
-      let from = unmap (txn_sent request) k.txns u there in
+      let from = contains_in_map (txn_sent request) k.txns u there in
       subst (Comes history e k) from.2 (sent-comes number range request is may from.0 from.1)
   event-comes (events.Hear number step) is may h so u there =
-      let from = unmap (txn_heard k.sent h) k.txns u there in
+      let from = contains_in_map (txn_heard k.sent h) k.txns u there in
       subst (Comes history e k) from.2 (heard-comes h so from.0 from.1)
   event-comes (events.Tell answer) is may h so u there = tell-comes answer is may u there
   event-comes event is may h so u there = still u u there refl refl refl

@@ -128,3 +128,11 @@ reply-view request s id view is h = absurd cc
 pub subject-is : (id : TxnId) (o : Option TxnId) → option_map_or (λ other. same_txn other id) o false ≡ true → o ≡ Some id
 subject-is id None h = absurd cc
 subject-is id (Some other) h = ap Some (same_txn-is other id h)
+
+-- what is not decided in the end was not decided before
+pub undecided_from : (p q : Place) → Stands p q → decision q ≡ None → decision p ≡ None
+undecided_from p q stands none = by (decision p) refl
+  where
+    by : (o : Option Status) → decision p ≡ o → decision p ≡ None
+    by None is = is
+    by (Some s) is = let both : None ≡ Some s = sym none ∙ stands.decided s is in absurd cc

@@ -7,7 +7,7 @@ use Rattle.std.specs.List.{AllByRecursion as Each, list_any}
 use Rattle.std.specs.Option.{option_map}
 use Rattle.std.specs.Prelude.{⊤}
 use Rattle.pc_base.specs.Span.{same_key}
-use Rattle.pc_implicit.specs.Writes.{writes_at}
+use Rattle.pc_implicit.specs.Writes.{writes_on}
 use Rattle.pc_lists.proofs.Each.{each-back}
 use Rattle.pc_lists.proofs.Lists.{contains_cons, contains_head, contains_nil, contains_tail}
 use Rattle.pc_lists.proofs.Same.{same_key-equal, same_key-is}
@@ -68,7 +68,7 @@ module _ (New : Write → ℕ → Type 0) where
   alike_themselves (w ∷ ws) = (alike-itself w, alike_themselves ws)
 
   -- the same is written at each key
-  pub alike_at : (key : List ℕ) (ws xs : List Write) → AreAlike New ws xs → writes_at key xs ≡ writes_at key ws
+  pub alike_at : (key : List ℕ) (ws xs : List Write) → AreAlike New ws xs → writes_on key xs ≡ writes_on key ws
   alike_at key [] [] a = refl
   alike_at key [] (x ∷ xs) a = absurd a
   alike_at key (w ∷ ws) [] a = absurd a
@@ -78,19 +78,11 @@ module _ (New : Write → ℕ → Type 0) where
       ap (λ k. map as-laid (cond (same_key k key) (x ∷ filter (λ v. same_key v.key key) xs) (filter (λ v. same_key v.key key) xs))) is.key
       ∙ by (same_key w.key key) later is
     where
-      by : (b : Bool) → writes_at key xs ≡ writes_at key ws → IsAlike New w x
+      by : (b : Bool) → writes_on key xs ≡ writes_on key ws → IsAlike New w x
           → map as-laid (cond b (x ∷ filter (λ v. same_key v.key key) xs) (filter (λ v. same_key v.key key) xs))
           ≡ map as-laid (cond b (w ∷ filter (λ v. same_key v.key key) ws) (filter (λ v. same_key v.key key) ws))
       by true later is = (λ i. (is.seq i, is.value i) ∷ later i)
       by false later is = later
-
-  alike-last : (most : ℕ) (ws xs : List Write) → AreAlike New ws xs → fold (λ most w. max most w.seq) most xs ≡ fold (λ most w. max most w.seq) most ws
-  alike-last most [] [] a = refl
-  alike-last most [] (x ∷ xs) a = absurd a
-  alike-last most (w ∷ ws) [] a = absurd a
-  alike-last most (w ∷ ws) (x ∷ xs) a =
-      let is = a.0 in
-      ap (λ n. fold (λ most (v : Write). max most v.seq) (max most n) xs) is.seq ∙ alike-last (max most w.seq) ws xs a.1
 
   -- what is so of each write of the first is so of each of the second
   pub alike_each : (A B : Write → Type 0) → ((w x : Write) → A w → IsAlike New w x → B x) → (ws xs : List Write) → AreAlike New ws xs → Each A ws → Each B xs
@@ -184,13 +176,13 @@ rise-lower : (n m : ℕ) (ws : List Laid) → n ≤ m → RiseAt m ws → RiseAt
 rise-lower n m [] low r = tt
 rise-lower n m (w ∷ ws) low r = (omega (arith, low, r.0), r.1)
 
-pub rise_at : (key : List ℕ) (n : ℕ) (ws : List Write) → Rise n ws → RiseAt n (writes_at key ws)
+pub rise_at : (key : List ℕ) (n : ℕ) (ws : List Write) → Rise n ws → RiseAt n (writes_on key ws)
 rise_at key n [] r = tt
 rise_at key n (w ∷ ws) r = by (same_key w.key key) (rise_at key w.seq ws r.1)
   where
-    by : (b : Bool) → RiseAt w.seq (writes_at key ws) → RiseAt n (map as-laid (cond b (w ∷ filter (λ v. same_key v.key key) ws) (filter (λ v. same_key v.key key) ws)))
+    by : (b : Bool) → RiseAt w.seq (writes_on key ws) → RiseAt n (map as-laid (cond b (w ∷ filter (λ v. same_key v.key key) ws) (filter (λ v. same_key v.key key) ws)))
     by true later = (r.0, later)
-    by false later = rise-lower n w.seq (writes_at key ws) (omega (arith, r.0)) later
+    by false later = rise-lower n w.seq (writes_on key ws) (omega (arith, r.0)) later
 
 each-above : (n : ℕ) (ws : List Laid) → RiseAt n ws → Each (λ x. n < x.0) ws
 each-above n [] r = tt
@@ -284,7 +276,7 @@ left_over P (x ∷ h) (y ∷ rest) (z ∷ front) w is each =
 pub record SplitAt (P : ℕ → Type 0) (key : List ℕ) (w : Laid) (ws : List Write) : Type 0 where
   pub front : List Laid
   pub later : List Laid
-  pub whole : writes_at key ws ≡ front ++ w ∷ later
+  pub whole : writes_on key ws ≡ front ++ w ∷ later
   pub before : Each (λ x. P x.0) front
 
 module _ (P : ℕ → Type 0) (key : List ℕ) where
@@ -297,10 +289,10 @@ module _ (P : ℕ → Type 0) (key : List ℕ) where
             let here : same_key x.key key ≡ true = ap (λ (y : Write). same_key y.key key) same ∙ ap (λ k. same_key k key) is ∙ same_key-equal key key refl in
             record {
               front = [];
-              later = writes_at key ws;
+              later = writes_on key ws;
               whole =
                   ap (λ b. map as-laid (cond b (x ∷ filter (λ v. same_key v.key key) ws) (filter (λ v. same_key v.key key) ws))) here
-                  ∙ ap (λ (y : Write). (y.seq, y.value) ∷ writes_at key ws) same;
+                  ∙ ap (λ (y : Write). (y.seq, y.value) ∷ writes_on key ws) same;
               before = tt;
             }
         | inr later ↦ by (same_key x.key key) refl later (split_at ws t.1 each.1 w later is)
@@ -324,7 +316,7 @@ module _ (P : ℕ → Type 0) (key : List ℕ) where
       }
 
 -- what is written at the key after one more write
-pub at_push : (key : List ℕ) (ws : List Write) (w : Write) → writes_at key (ws ++ w ∷ []) ≡ writes_at key ws ++ writes_at key (w ∷ [])
+pub at_push : (key : List ℕ) (ws : List Write) (w : Write) → writes_on key (ws ++ w ∷ []) ≡ writes_on key ws ++ writes_on key (w ∷ [])
 at_push key ws w =
     ap (map as-laid) (filter-append (λ (v : Write). same_key v.key key) ws (w ∷ []))
     ∙ map-append as-laid (filter (λ v. same_key v.key key) ws) (filter (λ v. same_key v.key key) (w ∷ []))
@@ -333,26 +325,26 @@ from-least : (most : ℕ) (ws : List Write) → most ≤ last-from most ws
 from-least most [] = omega arith
 from-least most (w ∷ ws) = let more : max most w.seq ≤ last-from (max most w.seq) ws = from-least (max most w.seq) ws in omega (arith, more)
 
-at-low : (key : List ℕ) (most : ℕ) (ws : List Write) → Each (λ (x : Laid). x.0 ≤ last-from most ws) (writes_at key ws)
+at-low : (key : List ℕ) (most : ℕ) (ws : List Write) → Each (λ (x : Laid). x.0 ≤ last-from most ws) (writes_on key ws)
 at-low key most [] = tt
 at-low key most (w ∷ ws) = by (same_key w.key key) (at-low key (max most w.seq) ws) (from-least (max most w.seq) ws)
   where
-    by : (b : Bool) → Each (λ (x : Laid). x.0 ≤ last-from (max most w.seq) ws) (writes_at key ws) → max most w.seq ≤ last-from (max most w.seq) ws
+    by : (b : Bool) → Each (λ (x : Laid). x.0 ≤ last-from (max most w.seq) ws) (writes_on key ws) → max most w.seq ≤ last-from (max most w.seq) ws
         → Each (λ (x : Laid). x.0 ≤ last-from (max most w.seq) ws) (map as-laid (cond b (w ∷ filter (λ v. same_key v.key key) ws) (filter (λ v. same_key v.key key) ws)))
     by true later low = (omega (arith, low), later)
     by false later low = later
 
 -- no sequence at a key is above the last one
-pub at_low : (key : List ℕ) (ws : List Write) → Each (λ (x : Laid). x.0 ≤ last_seq_of ws) (writes_at key ws)
+pub at_low : (key : List ℕ) (ws : List Write) → Each (λ (x : Laid). x.0 ≤ last_seq_of ws) (writes_on key ws)
 at_low key ws = at-low key 0 ws
 
-pub written_at : (key : List ℕ) (ws : List Write) (w : Write) → Contains ws w → w.key ≡ key → Contains (writes_at key ws) (w.seq, w.value)
+pub written_at : (key : List ℕ) (ws : List Write) (w : Write) → Contains ws w → w.key ≡ key → Contains (writes_on key ws) (w.seq, w.value)
 written_at key [] w there is = absurd (contains_nil w there)
 written_at key (x ∷ ws) w there is = by (λ later. written_at key ws w later is) (same_key x.key key) refl (contains_cons x ws w there)
   where
-    by : (Contains ws w → Contains (writes_at key ws) (w.seq, w.value)) → (b : Bool) → same_key x.key key ≡ b → (x ≡ w) ⊎ Contains ws w → Contains (map as-laid (cond b (x ∷ filter (λ v. same_key v.key key) ws) (filter (λ v. same_key v.key key) ws))) (w.seq, w.value)
-    by rest true e (inl same) = subst (λ (y : Write). Contains ((x.seq, x.value) ∷ writes_at key ws) (y.seq, y.value)) same (contains_head (x.seq, x.value) (writes_at key ws))
-    by rest true e (inr later) = contains_tail (x.seq, x.value) (writes_at key ws) (w.seq, w.value) (rest later)
+    by : (Contains ws w → Contains (writes_on key ws) (w.seq, w.value)) → (b : Bool) → same_key x.key key ≡ b → (x ≡ w) ⊎ Contains ws w → Contains (map as-laid (cond b (x ∷ filter (λ v. same_key v.key key) ws) (filter (λ v. same_key v.key key) ws))) (w.seq, w.value)
+    by rest true e (inl same) = subst (λ (y : Write). Contains ((x.seq, x.value) ∷ writes_on key ws) (y.seq, y.value)) same (contains_head (x.seq, x.value) (writes_on key ws))
+    by rest true e (inr later) = contains_tail (x.seq, x.value) (writes_on key ws) (w.seq, w.value) (rest later)
     by rest false e (inl same) =
         let here : same_key x.key key ≡ true = ap (λ (y : Write). same_key y.key key) same ∙ ap (λ k. same_key k key) is ∙ same_key-equal key key refl in absurd cc
     by rest false e (inr later) = rest later

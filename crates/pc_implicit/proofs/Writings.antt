@@ -27,7 +27,7 @@ abbrev pub RiseFrom : ℕ → List Operation → Type 0
 RiseFrom n [] = ⊤
 RiseFrom n (o ∷ os) = (n < seq_of o) × RiseFrom (seq_of o) os
 
-max-above : (n m : ℕ) → n < m → max n m ≡ m
+pub max-above : (n m : ℕ) → n < m → max n m ≡ m
 max-above n m h = omega (arith, h)
 
 pub rise_push : (n : ℕ) (os : List Operation) (o : Operation) → RiseFrom n os → fold (λ most o. max most (seq_of o)) n os < seq_of o → RiseFrom n (os ++ o ∷ [])

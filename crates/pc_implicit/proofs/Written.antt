@@ -1,5 +1,5 @@
 -- What was replied after one more entry was replied before it, or is replied by it.
-use Rattle.std.proofs.Common.{◌≡◌, ℕ, true, false, ◌&&◌, ◌⊎◌, if◌then◌else◌, inl, inr, List, [], ◌∷◌, ◌++◌, Option, None, Contains, refl, sym, ap, subst, ◌∙◌}
+use Rattle.std.proofs.Common.{Bool, Contains, List, None, Option, [], ap, false, if◌then◌else◌, inl, inr, refl, subst, sym, true, ℕ, ◌&&◌, ◌++◌, ◌∙◌, ◌∷◌, ◌≡◌, ◌⊎◌}
 use Rattle.std.proofs.lemmas.Bool.{and_from, eq-eqb}
 use Rattle.std.proofs.lemmas.List.Elements.{Contains-append_left, Contains-push_cases}
 use Rattle.pc_base.specs.declared.actor.ActorId.{ActorId}
@@ -41,6 +41,11 @@ one_send head history run a b inside also actor number own its range to one othe
     named : (x : Entry Event) (range : ℕ) (request : Request) → x.actor ≡ actor → x.event ≡ events.Send number range request → (same_id actor x.actor && is_send_of number x.event) ≡ true
     named x range request own sends =
         and_from (same_id actor x.actor) (is_send_of number x.event) (same_id-equal actor x.actor (sym own)) (ap (is_send_of number) sends ∙ eq-eqb number number refl)
+
+-- a query that found its write found it standing
+pub found_is : (b : Bool) → (if b then replies.Found else replies.Missing) ≡ replies.Found → b ≡ true
+found_is true told = refl
+found_is false told = absurd cc
 
 -- The entry evaluates a message with this request, and answers so.
 pub record IsRepliedNow (head : Head) (history : List (Entry Event)) (e : Entry Event) (request : Request) (reply : Reply) : Type 0 where

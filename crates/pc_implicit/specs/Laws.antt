@@ -1,4 +1,4 @@
--- Laws of runs: what a range decided stays decided; where nothing is staged, no two decisions differ; and what a range can answer.
+-- Laws of runs: what a range decided stays decided; no two decisions differ; and what a range can answer.
 use Rattle.std.specs.Prelude.{◌≡◌, ℕ, ◌≤◌, true, false, Some, List, ◌∷◌, ◌++◌}
 use Rattle.pc_base.specs.declared.actor.ActorId.TheVariants as actors
 use Rattle.pc_base.specs.declared.entry.Entry.{Entry}
@@ -15,14 +15,12 @@ use Rattle.pc_proto.specs.declared.view.View.{View}
 use Rattle.pc_proto.specs.RecordRows.Reached.{is_staged_at}
 use Rattle.pc_proto.specs.Views.{is_final_view}
 use Rattle.pc_world.specs.After.{place_at, state_at}
-use Rattle.pc_world.specs.Answering.{MayAnswer}
 use Rattle.pc_world.specs.Committed.{IsCommitted, commit_point}
 use Rattle.pc_world.specs.Decisions.{HasOneDecision}
 use Rattle.pc_world.specs.Evaluation.{reply}
 use Rattle.pc_world.specs.Known.{known_of}
 use Rattle.pc_world.specs.Local.{Head, IsActorOf}
 use Rattle.pc_world.specs.Run.{IsRun, protocol}
-use Rattle.pc_world.specs.Unstaged.{NothingIsStaged}
 
 -- A decision stands: a final record or mark keeps its status for good.
 abbrev pub DecisionsStand : Type 0
@@ -66,23 +64,17 @@ FinalViewsStay =
     → Answers head before range id one e → Answers head (before ++ e ∷ between) range id other f
     → is_final_view one ≡ true → (is_final_view other ≡ true) × Agree one other
 
--- Where nothing is staged, no two decisions differ.
+-- No two decisions differ.
 abbrev pub DecisionsDoNotDiffer : Type 0
 DecisionsDoNotDiffer =
-    (head : Head) (history : List (Entry Event)) → IsRun head history → NothingIsStaged history → HasOneDecision head history
+    (head : Head) (history : List (Entry Event)) → IsRun head history → HasOneDecision head history
 
--- Where nothing is staged, one entry makes at most one transaction committed.
+-- Commit points differ: one entry makes at most one transaction committed.
 abbrev pub CommitPointsDiffer : Type 0
 CommitPointsDiffer =
     (head : Head) (history : List (Entry Event)) (id other : TxnId) (ts later : ℕ)
-    → IsRun head history → NothingIsStaged history → IsCommitted head history id ts → IsCommitted head history other later
+    → IsRun head history → IsCommitted head history id ts → IsCommitted head history other later
     → commit_point head history id ≡ commit_point head history other → id ≡ other
-
--- Where nothing is staged, a range answers each request as the request may be answered, also one that was never sent.
-abbrev pub RepliesAreOfTheirKind : Type 0
-RepliesAreOfTheirKind =
-    (head : Head) (history : List (Entry Event)) (range : ℕ) (request : Request)
-    → IsRun head history → NothingIsStaged history → MayAnswer request (reply request (state_at head range history))
 
 -- A transaction whose intent stands in a request's way is one that its session has begun.
 abbrev pub HoldersWereBegun : Type 0

@@ -1,8 +1,13 @@
 pub mod Answers
+pub mod Causes
 pub mod Decided
+pub mod Ends
 pub mod Laws
+pub mod Outcomes
 pub mod Reads
 pub mod Replied
+pub mod ReplyKinds
+pub mod Restarts
 pub mod Stages
 pub mod Staging
 pub mod Versions

@@ -1,4 +1,5 @@
 -- What the replies of ranges say of a transaction's writes: that a put of it was written, that a query found it, that one missed it.
+-- RFC 20180324, "QueryIntent".
 use Rattle.std.specs.Prelude.{◌≡◌, ℕ, ◌⊎◌, Option, List, Contains}
 use Rattle.pc_base.specs.declared.entry.Entry.{Entry}
 use Rattle.pc_base.specs.declared.transaction.TxnId.{TxnId}

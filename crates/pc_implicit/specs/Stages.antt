@@ -1,4 +1,4 @@
--- Stages that were sent: while a stage's record is not past it, and when its writes are present.
+-- Stages that were sent: while a stage's record is not past it, and when its writes are present. RFC 20180324, "Parallel Commits".
 use Rattle.std.specs.Prelude.{◌≡◌, ℕ, ◌≤◌, true, None, List, ◌++◌, Contains}
 use Rattle.pc_base.specs.declared.entry.Entry.{Entry}
 use Rattle.pc_implicit.specs.Decided.{decision, epoch_of, time_of}

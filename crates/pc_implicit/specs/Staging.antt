@@ -1,5 +1,6 @@
 -- Laws of every run, staging included: what a query missed stays missing, what was written stands while its transaction is not
--- decided, a stage's writes stay present while its record is not past it, and what is committed stays so.
+-- decided, a stage's writes stay present while its record is not past it, and what is committed stays so. RFC 20180324; ParallelCommits
+-- TLA+, ImplicitCommitLeadsToExplicitCommit.
 use Rattle.std.specs.Prelude.{◌≡◌, ℕ, ◌<◌, ◌≤◌, false, None, Some, List, ◌∷◌, ◌++◌, Contains}
 use Rattle.pc_base.specs.Bound.{free_from}
 use Rattle.pc_base.specs.declared.entry.Entry.{Entry}

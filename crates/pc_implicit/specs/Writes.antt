@@ -18,11 +18,10 @@ use Rattle.pc_world.specs.Known.Writes.{Write}
 use Rattle.pc_world.specs.Local.{Head}
 use Rattle.pc_world.specs.RangeOf.{range_of}
 use Rattle.pc_world.specs.Run.{IsRun}
-use Rattle.pc_world.specs.Unstaged.{NothingIsStaged}
 
 -- What these writes lay at the key, each value under its sequence.
-abbrev pub writes_at : List ℕ → List Write → List (ℕ × Option (List ℕ))
-writes_at key writes = map (λ w. (w.seq, w.value)) (filter (λ w. same_key w.key key) writes)
+abbrev pub writes_on : List ℕ → List Write → List (ℕ × Option (List ℕ))
+writes_on key writes = map (λ w. (w.seq, w.value)) (filter (λ w. same_key w.key key) writes)
 
 -- The transactions of the session that began this one.
 abbrev pub txns_of : Head → TxnId → List (Entry Event) → List Txn
@@ -44,7 +43,7 @@ own_intent head id key history = own_at id key (state_at head (range_of head.spl
 -- The intent has the first writes at the key of the transaction's epoch, at least one.
 pub record IsFrontOf (t : Txn) (key : List ℕ) (i : Intent) : Type 0 where
   pub rest : List (ℕ × Option (List ℕ))
-  pub whole : i.history ++ rest ≡ writes_at key t.writes
+  pub whole : i.history ++ rest ≡ writes_on key t.writes
   pub first : ℕ × Option (List ℕ)
   pub some : Contains i.history first
 
@@ -81,7 +80,7 @@ ProofsWereWritten =
 pub record IsWholeBy (t : Txn) (key : List ℕ) (ts : ℕ) (i : Intent) : Type 0 where
   pub epoch : i.meta.epoch ≡ t.epoch
   pub low : i.ts ≤ ts
-  pub whole : i.history ≡ writes_at key t.writes
+  pub whole : i.history ≡ writes_on key t.writes
 
 -- The transaction's last write at the key stands as a version at this timestamp, or all its writes there as an intent that is not
 -- above it.
@@ -90,13 +89,13 @@ LastWriteStands head history t key value ts =
     Contains (state_at head (range_of head.splits key) history).versions (record { key = key; ts = ts; id = t.id; value = value })
     ⊎ ((i : Intent) × (own_intent head t.id key history ≡ Some i) × IsWholeBy t key ts i)
 
--- Where nothing is staged, what a committed transaction wrote stands.
+-- What a committed transaction wrote stands.
 abbrev pub WritesOfCommitted : Type 0
 WritesOfCommitted =
     (head : Head) (history : List (Entry Event)) (t : Txn) (ts : ℕ) (key : List ℕ)
     (front : List (ℕ × Option (List ℕ))) (seq : ℕ) (value : Option (List ℕ))
-    → IsRun head history → NothingIsStaged history → Contains (txns_of head t.id history) t → IsCommitted head history t.id ts
-    → writes_at key t.writes ≡ front ++ (seq, value) ∷ [] → LastWriteStands head history t key value ts
+    → IsRun head history → Contains (txns_of head t.id history) t → IsCommitted head history t.id ts
+    → writes_on key t.writes ≡ front ++ (seq, value) ∷ [] → LastWriteStands head history t key value ts
 
 -- The version is the last write at its key of a transaction that is committed at its timestamp, in the key's range.
 pub record IsOfCommitted (head : Head) (history : List (Entry Event)) (range : ℕ) (v : Version) : Type 0 where
@@ -107,11 +106,11 @@ pub record IsOfCommitted (head : Head) (history : List (Entry Event)) (range : �
   pub whose : t.id ≡ v.id
   pub front : List (ℕ × Option (List ℕ))
   pub seq : ℕ
-  pub last : writes_at v.key t.writes ≡ front ++ (seq, v.value) ∷ []
+  pub last : writes_on v.key t.writes ≡ front ++ (seq, v.value) ∷ []
 
--- Where nothing is staged, each version is of a committed transaction.
+-- Each version is of a committed transaction.
 abbrev pub VersionsAreCommitted : Type 0
 VersionsAreCommitted =
     (head : Head) (history : List (Entry Event)) (range : ℕ) (v : Version)
-    → IsRun head history → NothingIsStaged history → Contains (state_at head range history).versions v
+    → IsRun head history → Contains (state_at head range history).versions v
     → IsOfCommitted head history range v

@@ -1,4 +1,5 @@
-ghost use Rattle.pc_implicit.specs.Laws.{DecisionsStand, NothingFalls, LeftStagingsStayAway, BoundsStand, ViewsStayTrue, FinalViewsStay, DecisionsDoNotDiffer, CommitPointsDiffer, RepliesAreOfTheirKind, HoldersWereBegun, HeadsHaveHolders};
+ghost use Rattle.pc_implicit.specs.ReplyKinds.{RepliesHaveKinds};
+ghost use Rattle.pc_implicit.specs.Laws.{DecisionsStand, NothingFalls, LeftStagingsStayAway, BoundsStand, ViewsStayTrue, FinalViewsStay, DecisionsDoNotDiffer, CommitPointsDiffer, HoldersWereBegun, HeadsHaveHolders};
 
 /// A law: a final record or mark keeps its status for good.
 pub fn decisions_stand()
@@ -30,19 +31,19 @@ pub fn final_views_stay()
     ensures { FinalViewsStay }
 {}
 
-/// A law: where nothing is staged, no two decisions differ.
+/// A law: no two decisions differ.
 pub fn decisions_do_not_differ()
     ensures { DecisionsDoNotDiffer }
 {}
 
-/// A law: where nothing is staged, one entry makes at most one transaction committed.
+/// A law: one entry makes at most one transaction committed.
 pub fn commit_points_differ()
     ensures { CommitPointsDiffer }
 {}
 
-/// A law: where nothing is staged, a range answers each request as the request may be answered.
-pub fn replies_are_of_their_kind()
-    ensures { RepliesAreOfTheirKind }
+/// A law: after every history a range answers each request by a reply of its kind.
+pub fn replies_have_kinds()
+    ensures { RepliesHaveKinds }
 {}
 
 /// A law: a transaction whose intent stands in a request's way was begun by its session.

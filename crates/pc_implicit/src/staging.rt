@@ -1,4 +1,4 @@
-ghost use Rattle.pc_implicit.specs.Staging.{MissingStays, StagedWritesStay, WrittenStays};
+ghost use Rattle.pc_implicit.specs.Staging.{CommitsStay, MissingStays, RecoveriesAgree, StagedWritesStay, WrittenStays};
 
 /// A law: a write that a query missed is never present there again, and nobody may write there any more.
 pub fn missing_stays()
@@ -13,4 +13,14 @@ pub fn written_stays()
 /// A law: while a stage's record is not past it, its writes are all present if each was so at some time since it was sent.
 pub fn staged_writes_stay()
     ensures { StagedWritesStay }
+{}
+
+/// A law: what is committed, also by its staging record alone, stays so, at that timestamp and no other.
+pub fn commits_stay()
+    ensures { CommitsStay }
+{}
+
+/// A law: what a recovery answers committed was committed before it.
+pub fn recoveries_agree()
+    ensures { RecoveriesAgree }
 {}

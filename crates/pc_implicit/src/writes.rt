@@ -10,12 +10,12 @@ pub fn proofs_were_written()
     ensures { ProofsWereWritten }
 {}
 
-/// A law: where nothing is staged, what a committed transaction wrote stands, as its version or in its intent.
+/// A law: what a committed transaction wrote stands, as its version or in its intent.
 pub fn writes_of_committed()
     ensures { WritesOfCommitted }
 {}
 
-/// A law: where nothing is staged, each version is of a committed transaction.
+/// A law: each version is of a committed transaction.
 pub fn versions_are_committed()
     ensures { VersionsAreCommitted }
 {}

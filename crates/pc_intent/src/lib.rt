@@ -7,6 +7,3 @@ mod intents;
 pub use intent::{last_seq, last_value, value_by};
 pub use intents::Intents;
 pub use pc_proto::{History, Intent};
-
-#[cfg(test)]
-mod tests;

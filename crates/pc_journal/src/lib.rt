@@ -19,6 +19,3 @@ mod why;
 
 pub use journal::{print_event, print_journal};
 pub use text::Text;
-
-#[cfg(test)]
-mod tests;

@@ -3,6 +3,7 @@ use Rattle.std.proofs.Common.{◌≡◌, ℕ, ◌+◌, ◌^◌, ◌<◌, Bool, L
 use Rattle.pc_base.specs.declared.actor.ActorId.{ActorId}
 use Rattle.pc_base.specs.declared.entry.Entry.{Entry}
 use Rattle.pc_implicit.proofs.OneDecision.{decisions_do_not_differ}
+use Rattle.pc_implicit.proofs.Outcomes.{outcomes_are_true}
 use Rattle.pc_proto.specs.declared.event.Event.{Event}
 use Rattle.pc_report.specs.declared.rows.Report.{Report}
 use Rattle.pc_report.specs.ReportOf.{IsRunOver, report_of}
@@ -12,18 +13,18 @@ use Rattle.pc_work.specs.Built.{IsBuilt}
 use Rattle.pc_work.specs.declared.workload.Workload.{Workload}
 use Rattle.pc_world.specs.Local.{Head}
 use Rattle.pc_world.specs.Run.{IsRun}
-use Rattle.pc_world.specs.Unstaged.{NothingIsStaged}
 use Rattle.pc_program.specs.Output.{IsOutput, IsRunOf, head_in, output_text}
 
--- A run of the workload in which nothing is staged.
-pub is_run_of : (work : Workload) (rules : ActorId → ℕ → ℕ → Bool) (entries : List (Entry Event)) → IsRun (head_in work) entries → Follows work rules (head_in work) entries → NothingIsStaged entries
+-- A run of the workload.
+pub is_run_of : (work : Workload) (rules : ActorId → ℕ → ℕ → Bool) (entries : List (Entry Event)) → IsRun (head_in work) entries → Follows work rules (head_in work) entries
     → IsRunOf work rules entries
-is_run_of work rules entries run follows unstaged = record {
+is_run_of work rules entries run follows = record {
   run = run;
   follows = follows;
-  decisions = decisions_do_not_differ (head_in work) entries run unstaged;
-  ordered = is-ordered (head_in work) entries run unstaged;
-  legal = is-legal (head_in work) entries run unstaged;
+  decisions = decisions_do_not_differ (head_in work) entries run;
+  outcomes = outcomes_are_true (head_in work) entries run;
+  ordered = is-ordered (head_in work) entries run;
+  legal = is-legal (head_in work) entries run;
 }
 
 -- A workload of the built form has few splits.
@@ -36,14 +37,14 @@ run_over work entries reported run same = record { head = head_in work; cut = re
 
 -- The text of such a run and of its report is an output.
 pub output_of : {V E : Type 0} (r : Result V E) (items : V → List ℕ) (work : Workload) (rules : ActorId → ℕ → ℕ → Bool) (entries reported printed : List (Entry Event)) (report : Report)
-    → IsRun (head_in work) entries → Follows work rules (head_in work) entries → NothingIsStaged entries
+    → IsRun (head_in work) entries → Follows work rules (head_in work) entries
     → reported ≡ entries → printed ≡ entries → ((head : Head) → head.splits ≡ work.splits → report ≡ report_of head reported)
     → IfOk r (λ out. items out ≡ output_text work printed report) → IfOk r (λ out. IsOutput work rules (items out))
-output_of (Ok out) items work rules entries reported printed report run follows unstaged same_one same_two is text =
+output_of (Ok out) items work rules entries reported printed report run follows same_one same_two is text =
     let right : report ≡ report_of (head_in work) entries = is (head_in work) refl ∙ ap (report_of (head_in work)) same_one in
     record {
       entries = entries;
-      is = is_run_of work rules entries run follows unstaged;
+      is = is_run_of work rules entries run follows;
       whole = text ∙ ap (λ es. output_text work es report) same_two ∙ ap (output_text work entries) right;
     }
-output_of (Err e) items work rules entries reported printed report run follows unstaged same_one same_two is text = tt
+output_of (Err e) items work rules entries reported printed report run follows same_one same_two is text = tt

@@ -2,6 +2,7 @@
 use Rattle.std.specs.Prelude.{◌≡◌, ℕ, Bool, List, ◌++◌, length}
 use Rattle.pc_base.specs.declared.actor.ActorId.{ActorId}
 use Rattle.pc_base.specs.declared.entry.Entry.{Entry}
+use Rattle.pc_implicit.specs.Outcomes.{HasTrueOutcomes}
 use Rattle.pc_journal.specs.Journal.{journal_text}
 use Rattle.pc_proto.specs.declared.event.Event.{Event}
 use Rattle.pc_report.specs.declared.rows.Report.{Report}
@@ -25,12 +26,13 @@ abbrev pub head_in : Workload → Head
 head_in work = head_of work.splits (length work.sessions)
 
 -- The history is the run that the workload asks for, where these are the rules of the clocks that were handed in: a run of the protocol
--- that follows the workload. In it no two decisions differ, each committed transaction stands in the commit order once, and in that order
--- they are one legal history of a map.
+-- that follows the workload. In it no two decisions differ, what is aborted or told to be over commits nowhere, each committed transaction
+-- stands in the commit order once, and in that order they are one legal history of a map.
 pub record IsRunOf (work : Workload) (rules : ActorId → ℕ → ℕ → Bool) (entries : List (Entry Event)) : Type 0 where
   pub run : IsRun (head_in work) entries
   pub follows : Follows work rules (head_in work) entries
   pub decisions : HasOneDecision (head_in work) entries
+  pub outcomes : HasTrueOutcomes (head_in work) entries
   pub ordered : OrdersCommits (head_in work) entries
   pub legal : IsLegal (head_in work) entries
 

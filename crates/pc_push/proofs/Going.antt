@@ -1,5 +1,5 @@
 -- What a machine stands by it stands by later.
-use Rattle.std.proofs.Common.{◌≡◌, ℕ, ◌+◌, ◌≤◌, true, false, Bool, List, [], ◌∷◌, map, inl, inr, All, Option, Some, IsTrue, sym, ap, subst, arith}
+use Rattle.std.proofs.Common.{◌≡◌, ℕ, ◌+◌, ◌≤◌, true, false, Bool, List, [], ◌∷◌, map, inl, inr, All, Option, Some, IsTrue, ap, arith}
 use Rattle.std.proofs.lemmas.List.Elements.{All-weaker}
 use Rattle.std.specs.Option.{option_map, option_to_list}
 use Rattle.pc_base.specs.declared.actor.ActorId.{ActorId}
@@ -18,7 +18,7 @@ use Rattle.pc_push.specs.declared.progress.Progress.{Progress}
 use Rattle.pc_push.specs.declared.progress.Progress.TheVariants as progress
 use Rattle.pc_push.specs.PushKnows.{HasMetStaging, IsSettledOrLeft, MayPush, PushKnows, StandsAt}
 use Rattle.pc_push.specs.Pushing.{Pushing, holder_resolve, push_of}
-use Rattle.pc_world.proofs.Exchange.{ever_later, heard_later, kept_later, later-itself, later-later, top_later}
+use Rattle.pc_world.proofs.Exchange.{ever_later, heard_later, kept_later, later-later, top_later}
 use Rattle.pc_world.specs.Exchange.{IsLater, is_message}
 use Rattle.pc_world.specs.Known.{Known, first_if, known_after}
 use Rattle.pc_world.specs.Known.Traffic.{Heard}
@@ -122,12 +122,4 @@ goes_on actor start k later m knows is = record {
   may = knows.may;
   since = later-later start k later knows.since is;
   stands = stands_later start k later m is m.progress knows.stands;
-}
-
--- and from the first
-pub new_knows : (actor : ActorId) (k : Known) (m : Pushing) → m.progress ≡ progress.Push → MayPush actor k m → PushKnows actor k k m
-new_knows actor k m first may = record {
-  may = may;
-  since = later-itself k;
-  stands = subst (StandsAt k k m) (sym first) tt;
 }

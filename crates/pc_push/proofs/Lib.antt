@@ -1,4 +1,2 @@
 pub mod Going
-pub mod Marks
-pub mod Replies
 pub mod Stepping

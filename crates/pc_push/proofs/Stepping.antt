@@ -23,12 +23,12 @@ use Rattle.pc_proto.specs.Requests.{Recovers, is_about}
 use Rattle.pc_proto.specs.Stamps.{fate_stamps, goal_stamps, reply_stamps, view_stamps}
 use Rattle.pc_proto.specs.Views.{IsFateOf, fate_after, final_fate, is_final_view, moved_fate}
 use Rattle.pc_push.proofs.Going.{push_later, stamps_later, stands_later}
-use Rattle.pc_push.proofs.Replies.{IsPushReply, IsStatus, push_answers, recovery_answers, resolve_answers}
 use Rattle.pc_push.specs.declared.progress.Progress.{Progress}
 use Rattle.pc_push.specs.declared.progress.Progress.TheVariants as progress
 use Rattle.pc_push.specs.PushKnows.{Asks, AsksAt, HasMetStaging, MayPush, MaySettle, PushKnows, RoundMayCome, StandsAt}
 use Rattle.pc_push.specs.Pushing.{Pushing, holder_resolve, progress_after_push, progress_after_recovery, push_of, resolve_or, round_after, round_due, round_heard, round_next, with_progress}
 use Rattle.pc_world.proofs.Exchange.{answered, heard_earlier, heard_ever, later-later}
+use Rattle.pc_world.proofs.RoundReplies.{IsGoalReply, IsStatus, push_answers, recovery_answers, resolve_answers}
 use Rattle.pc_world.specs.declared.machine.MachineNext.{MachineNext}
 use Rattle.pc_world.specs.Exchange.{HeardSince, IsExchange, IsLater, IsPossibleReply, WasAnswered}
 use Rattle.pc_world.specs.Known.{Known}
@@ -79,22 +79,18 @@ module _ (top : ℕ) where
   final_stamps (views.Aborted epoch why locks) fate is low = let same : fates.Aborted ≡ fate = cc in subst (λ f. AreKnown (fate_stamps f)) same (All-nil (λ ts. ts ≤ top + 1))
   final_stamps view fate is low = absurd cc
 
-  moved_stamps : (goal : Goal) (fate : Fate) → moved_fate goal ≡ Some fate → AreKnown (goal_stamps goal) → AreKnown (fate_stamps fate)
-  moved_stamps (goals.Move target) fate is low = let same : fates.Pending target ≡ fate = cc in subst (λ f. AreKnown (fate_stamps f)) same low
-  moved_stamps goals.Abort fate is low = absurd cc
-
   -- What a fate needs that is chosen after a push.
   pub record Suits (view : View) (fate : Fate) : Type 0 where
     pub fits : IsFateOf view fate
     pub stamps : AreKnown (fate_stamps fate)
 
-  moved_suits : (goal : Goal) (view : View) (fate : Fate) → moved_fate goal ≡ Some fate → final_fate view ≡ None → IsPushReply goal (replies.Status view) → AreKnown (goal_stamps goal) → Suits view fate
+  moved_suits : (goal : Goal) (view : View) (fate : Fate) → moved_fate goal ≡ Some fate → final_fate view ≡ None → IsGoalReply goal (replies.Status view) → AreKnown (goal_stamps goal) → Suits view fate
   moved_suits (goals.Move target) view fate is none reply low =
       let same : fates.Pending target ≡ fate = cc in
       subst (Suits view) same (record { fits = reply target refl none; stamps = low })
   moved_suits goals.Abort view fate is none reply low = absurd cc
 
-  fate_suits : (goal : Goal) (view : View) (fate : Fate) (final : Option Fate) → final_fate view ≡ final → option_or final (moved_fate goal) ≡ Some fate → IsPushReply goal (replies.Status view) → AreKnown (goal_stamps goal) → AreKnown (view_stamps view) → Suits view fate
+  fate_suits : (goal : Goal) (view : View) (fate : Fate) (final : Option Fate) → final_fate view ≡ final → option_or final (moved_fate goal) ≡ Some fate → IsGoalReply goal (replies.Status view) → AreKnown (goal_stamps goal) → AreKnown (view_stamps view) → Suits view fate
   fate_suits goal view fate (Some other) is chosen reply goal_low view_low =
       let same : final_fate view ≡ Some fate = is ∙ chosen in
       record { fits = final_fits view fate same; stamps = final_stamps view fate same view_low }
@@ -147,7 +143,7 @@ module _ (actor : ActorId) (start k later : Known) (m : Pushing) (request : Requ
       stamps = suits.stamps;
     }
 
-    pushed_on : (fate : Option Fate) → fate_after m.goal view ≡ fate → is_about m.holder.id request ≡ true → IsPushReply m.goal (replies.Status view) → StandsAt start later m (resolve_or fate progress.Push)
+    pushed_on : (fate : Option Fate) → fate_after m.goal view ≡ fate → is_about m.holder.id request ≡ true → IsGoalReply m.goal (replies.Status view) → StandsAt start later m (resolve_or fate progress.Push)
     pushed_on None is about reply = tt
     pushed_on (Some fate) is about reply =
         let goal_low = stamps_later start later (goal_stamps m.goal) (since (replies.Status view) was) knows.may.stamps in
@@ -168,7 +164,7 @@ module _ (actor : ActorId) (start k later : Known) (m : Pushing) (request : Requ
         (record { fits = final_fits view fate is; stamps = final_stamps later.top view fate is (low (replies.Status view) was) })
 
   -- the reply to the push
-  after_push_at : (reply : Reply) → request ≡ push_of m → WasAnswered k later request reply → IsPushReply m.goal reply → StandsAt start later m (progress_after_push m.goal reply)
+  after_push_at : (reply : Reply) → request ≡ push_of m → WasAnswered k later request reply → IsGoalReply m.goal reply → StandsAt start later m (progress_after_push m.goal reply)
   after_push_at (replies.Status view) asked was is =
       pushed_on view was (fate_after m.goal view) refl (ap (is_about m.holder.id) asked ∙ same_txn-self m.holder.id) is
   after_push_at (replies.Refused view) asked was is = record { view = view; heard = subst (λ q. HeardSince start later q (replies.Refused view)) asked (heard_it (replies.Refused view) was) }
@@ -197,7 +193,7 @@ module _ (actor : ActorId) (start k later : Known) (m : Pushing) (request : Requ
   heard_by_progress : (p : Progress) (reply : Reply) → StandsAt start k m p → AsksAt p m request → WasAnswered k later request reply → IsPossibleReply request reply → PushKnows actor start later (round_heard p reply m)
   heard_by_progress progress.Push reply stands asked was is =
       goes_to reply was (progress_after_push m.goal reply)
-      (after_push_at reply asked was (push_answers m reply (subst (λ q. IsPossibleReply q reply) asked is)))
+      (after_push_at reply asked was (push_answers m.holder m.by m.level m.reading m.goal reply (subst (λ q. IsPossibleReply q reply) asked is)))
   heard_by_progress (progress.Unsure view) reply stands asked was is =
       goes_to reply was (progress_after_recovery reply)
       (after_recovery_at reply view asked was (recovery_answers m.holder.id request reply asked is)

@@ -14,6 +14,3 @@ mod step;
 mod table;
 
 pub use table::RecordTable;
-
-#[cfg(test)]
-mod tests;

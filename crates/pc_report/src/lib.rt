@@ -15,6 +15,3 @@ pub use print::print_report;
 pub use rows::{
     CommittedRow, CommittedRows, Ending, LastWrites, MapRow, MapRows, OtherRow, OtherRows, Report,
 };
-
-#[cfg(test)]
-mod tests;

@@ -39,7 +39,7 @@ module _ (start k : Known) (m : Resolving) (knows : ResolveKnows start k m) wher
       All-weaker (λ key. HeardSince start k (lock_resolve m key) replies.Resolved) (λ key. Any (WasResolved m.id key) k.heard)
       (λ key heard.
       any_weaker (IsExchange (lock_resolve m key) replies.Resolved) (WasResolved m.id key)
-      (λ h is. record { fate = m.fate; asked = is.asked; told = is.told }) k.heard (heard_ever start k (lock_resolve m key) replies.Resolved heard))
+      (λ h is. (m.fate, record { asked = is.asked; told = is.told })) k.heard (heard_ever start k (lock_resolve m key) replies.Resolved heard))
       m.locks (all_settled none)
 
   may_now : MayFinish k m.id m.anchor m.fate m.locks

@@ -1,5 +1,5 @@
 -- What a push that was done leaves to settle: an abort that is answered by a status is final.
-use Rattle.std.proofs.Common.{◌≡◌, ℕ, Bool, true, false, cond, List, Option, Some, None, refl, sym, ap, ◌∙◌, subst}
+use Rattle.std.proofs.Common.{◌≡◌, ℕ, Bool, true, false, cond, Option, Some, None, refl, sym, ap, ◌∙◌, subst}
 use Rattle.std.specs.Option.{option_or}
 use Rattle.pc_base.specs.declared.transaction.Priority.{Priority}
 use Rattle.pc_base.specs.declared.transaction.Who.{Who}
@@ -8,32 +8,20 @@ use Rattle.pc_proto.specs.declared.fate.Fate.TheVariants as fates
 use Rattle.pc_proto.specs.declared.fate.Goal.{Goal}
 use Rattle.pc_proto.specs.declared.fate.Goal.TheVariants as goals
 use Rattle.pc_proto.specs.declared.meta.TxnMeta.{TxnMeta}
-use Rattle.pc_proto.specs.declared.record.Standing.{Standing}
-use Rattle.pc_proto.specs.declared.record.Standing.TheVariants as standings
 use Rattle.pc_proto.specs.declared.reply.Reply.{Reply}
 use Rattle.pc_proto.specs.declared.reply.Reply.TheVariants as replies
 use Rattle.pc_proto.specs.declared.request.Request.TheVariants as requests
 use Rattle.pc_proto.specs.declared.view.View.{View}
-use Rattle.pc_proto.specs.Place.{Place, Nothing, Kept, Marked, after, is_decided, is_final, status_view, view_of}
+use Rattle.pc_proto.specs.Place.{Place, after, is_decided, view_of}
 use Rattle.pc_proto.specs.RecordRows.{push_reply}
 use Rattle.pc_proto.specs.RecordRows.Push.{Verdict, There, Refuse, Doubt, Do, is_staged, on_verdict, push, push_verdict, pushed, wins}
 use Rattle.pc_proto.specs.Table.{place_of}
 use Rattle.pc_proto.specs.Views.{fate_after, final_fate}
-use Rattle.pc_push.proofs.Marks.{IsFinalPlace, place_final}
 use Rattle.pc_push.specs.Pushing.{Pushing, push_of}
+use Rattle.pc_world.proofs.FinalMarks.{IsFinalPlace, place_final}
+use Rattle.pc_world.proofs.RoundReplies.{decided_shows}
 use Rattle.pc_world.specs.Exchange.{IsPossibleReply}
 use Rattle.pc_world.specs.StateOf.{state_of}
-
-final_shows : (s : Standing) (epoch ts : ℕ) (writes : List (List ℕ × ℕ)) (locks : List (List ℕ)) → is_final s ≡ true → final_fate (status_view s epoch ts writes locks) ≡ None → ⊥
-final_shows standings.Pending epoch ts writes locks h none = cc
-final_shows standings.Staging epoch ts writes locks h none = cc
-final_shows standings.Committed epoch ts writes locks h none = cc
-final_shows (standings.Aborted why) epoch ts writes locks h none = cc
-
-decided_shows : (p : Place) → IsFinalPlace p → is_decided p ≡ true → final_fate (view_of p) ≡ None → ⊥
-decided_shows Nothing final h none = cc
-decided_shows (Kept r) final h none = final_shows r.status.standing r.status.epoch r.status.ts r.writes r.locks h none
-decided_shows (Marked s) final h none = final_shows s.standing s.epoch s.ts _ _ final none
 
 -- If the reply is a status, it is final.
 abbrev Decides : Reply → Type 0

@@ -4,7 +4,6 @@ ghost use Rattle.pc_runner.specs.Beside.{HasExchanged, MayExchange};
 use crate::database::Database;
 use crate::session::SessionRun;
 use pc_base::NoMemory;
-use pc_coord::last_stamp;
 use pc_proto::{Reply, Request};
 
 impl<'a> SessionRun<'a> {
@@ -26,7 +25,7 @@ impl<'a> SessionRun<'a> {
         db.send(self.number, number, request)?;
         let (step, reply) = db.evaluate(self.number, number, request)?;
         db.hear(self.number, number, step)?;
-        self.coordinator.raise(last_stamp(&reply));
+        self.coordinator.raise(reply.last_stamp());
         self.sends = number;
         Ok(reply)
     }

@@ -2,10 +2,8 @@
 use Rattle.std.proofs.Common.{◌≢◌, ℕ, ◌+◌, ◌≤◌, [], ◌∷◌, Some, IfSome, inl, inr, refl, slice_get, take, codes, arith}
 use Rattle.std.proofs.lemmas.List.Elements.{All-from_recursion}
 use Rattle.pc_base.specs.declared.actor.ActorId.TheVariants as actors
-use Rattle.pc_base.specs.declared.entry.Entry.{Entry}
 use Rattle.pc_history.specs.History.{MayFollow}
 use Rattle.pc_history.specs.Own.{own}
-use Rattle.pc_proto.specs.declared.event.Event.{Event}
 use Rattle.pc_serial.proofs.Legal.{is-legal}
 use Rattle.pc_serial.specs.FirstRow.{first_head, first_history, first_ts, first_txn}
 use Rattle.pc_serial.specs.FirstRun.{FirstRowIsARun}
@@ -14,7 +12,6 @@ use Rattle.pc_world.specs.Known.Writes.{IsProvedBy, Write}
 use Rattle.pc_world.specs.Local.{IsActorOf}
 use Rattle.pc_world.specs.Run.{IsRun, protocol}
 use Rattle.pc_world.specs.StageFate.{IsLate, OnCommit, OnStage, WasCommitRefused}
-use Rattle.pc_world.specs.Unstaged.{IsNoStage, NothingIsStaged, OnSent}
 
 -- The entry at this place may follow those before it.
 abbrev Follows : ℕ → Type 0
@@ -134,10 +131,5 @@ tells_committed = record { step = refl; local = record { there = session; next =
 run : IsRun first_head first_history
 run = (asks_begin, (tells_begun, (asks_put, (sends_put, (evaluates_put, (hears_put, (tells_written, (asks_commit, (sends_commit, (evaluates_commit, (hears_commit, (tells_committed, tt))))))))))))
 
-unstaged : NothingIsStaged first_history
-unstaged =
-    All-from_recursion (λ (e : Entry Event). OnSent IsNoStage e.event) first_history
-    (tt, (tt, (tt, (tt, (tt, (tt, (tt, (tt, (tt, (tt, (tt, (tt, tt))))))))))))
-
 pub first_row_is_a_run : FirstRowIsARun
-first_row_is_a_run = record { run = run; unstaged = unstaged; legal = is-legal first_head first_history run unstaged }
+first_row_is_a_run = record { run = run; legal = is-legal first_head first_history run }

@@ -13,13 +13,12 @@ use Rattle.pc_implicit.proofs.Fronts.{front_same}
 use Rattle.pc_implicit.proofs.IntentKeys.{each-found}
 use Rattle.pc_implicit.proofs.LaidIntents.{own-there}
 use Rattle.pc_implicit.proofs.RisingVersions.{versions_rise}
-use Rattle.pc_implicit.proofs.Sent.{unstaged_front}
 use Rattle.pc_implicit.proofs.SessionReads.{HadDone, WasProved, last_seq_done}
 use Rattle.pc_implicit.proofs.Settled.{writes_of_committed}
 use Rattle.pc_implicit.proofs.SettledVersions.{versions_are_committed}
 use Rattle.pc_implicit.specs.Decided.{decision}
 use Rattle.pc_implicit.specs.Reads.{GrowsAbove}
-use Rattle.pc_implicit.specs.Writes.{IsWholeBy, home_of, own_intent, txns_of, writes_at}
+use Rattle.pc_implicit.specs.Writes.{IsWholeBy, home_of, own_intent, txns_of, writes_on}
 use Rattle.pc_lists.proofs.Each.{each-contains}
 use Rattle.pc_lists.proofs.Lists.{contains_head}
 use Rattle.pc_proto.specs.declared.event.Event.{Event}
@@ -42,7 +41,6 @@ use Rattle.pc_world.specs.Local.{Head}
 use Rattle.pc_world.specs.Operations.{Operation, Write, operations_of}
 use Rattle.pc_world.specs.RangeOf.{range_of}
 use Rattle.pc_world.specs.Run.{IsRun}
-use Rattle.pc_world.specs.Unstaged.{NothingIsStaged}
 
 -- A transaction of the session, as it is known.
 record IsKnown (head : Head) (history : List (Entry Event)) (id : TxnId) : Type 0 where
@@ -50,11 +48,11 @@ record IsKnown (head : Head) (history : List (Entry Event)) (id : TxnId) : Type 
   mine : Contains (txns_of head id history) t
   named : t.id ≡ id
 
-module _ (head : Head) (history : List (Entry Event)) (run : IsRun head history) (only : NothingIsStaged history) (differ : PointsDiffer head history) where
+module _ (head : Head) (history : List (Entry Event)) (run : IsRun head history) (differ : PointsDiffer head history) where
   -- a committed transaction is known to its session
   is-known : (id : TxnId) (ts : ℕ) → IsCommitted head history id ts → IsKnown head history id
   is-known id ts is =
-      let d = decided_by head history run only id ts is in
+      let d = decided_by head history run id ts is in
       let still = d.still d.later (front_same d.later) in
       let mine : Contains (txns_of head d.t.id history) still.now = subst (λ h. Contains (txns_of head d.t.id h) still.now) (sym d.whole) still.mine in
       record { t = still.now; mine = subst (λ i. Contains (txns_of head i history) still.now) d.named mine; named = still.named ∙ d.named }
@@ -86,11 +84,8 @@ module _ (head : Head) (history : List (Entry Event)) (run : IsRun head history)
     run-front : IsRun head front
     run-front = run_front head front r.back (subst (IsRun head) r.whole run)
 
-    only-front : NothingIsStaged front
-    only-front = unstaged_front front r.back (subst NothingIsStaged r.whole only)
-
     undecided : decision (home_of head id front) ≡ None
-    undecided = no-home head id history run only front r.back r.whole r.at r.committed r.uncommitted
+    undecided = no-home head id history run front r.back r.whole r.at r.committed r.uncommitted
 
     in-order : AreInOrder (operations_of history) (IsCommitted head history) key ts before (state_at head (range_of head.splits key) front).versions
     in-order first other back earlier at low whole there is also =
@@ -102,16 +97,16 @@ module _ (head : Head) (history : List (Entry Event)) (run : IsRun head history)
     of-before v there of_key seen =
         let still : Contains (state_at head (range_of head.splits key) history).versions v =
         r.grows.kept v there in
-        let early = versions_are_committed head front (range_of head.splits key) v run-front only-front there in
-        let now = versions_are_committed head history (range_of head.splits key) v run only still in
+        let early = versions_are_committed head front (range_of head.splits key) v run-front there in
+        let now = versions_are_committed head history (range_of head.splits key) v run still in
         let low = r.low in
         let is_last : laid key (operations_of history v.id) ≡ now.front ++ (now.seq, v.value) ∷ [] =
-        laid-is head history run v.id now.t now.known now.whose key ∙ subst (λ k. writes_at k now.t.writes ≡ now.front ++ (now.seq, v.value) ∷ []) of_key now.last in
+        laid-is head history run v.id now.t now.known now.whose key ∙ subst (λ k. writes_on k now.t.writes ≡ now.front ++ (now.seq, v.value) ∷ []) of_key now.last in
         let last = last-laid key (operations_of history v.id) now.front now.seq v.value is_last in
-        let first = point-earlier head history run only front r.back v.id v.ts r.whole early.committed now.committed in
-        let second = point-later head history run only front r.back id r.at r.whole r.uncommitted r.committed in
+        let first = point-earlier head history run front r.back v.id v.ts r.whole early.committed now.committed in
+        let second = point-later head history run front r.back id r.at r.whole r.uncommitted r.committed in
         record {
-          there = stands-there head history differ before id later r.stands v.id r.at v.ts (committed_was_begun head history run only v.id v.ts now.committed) r.committed now.committed (omega (arith, seen, low)) (omega (arith, first, second));
+          there = stands-there head history differ before id later r.stands v.id r.at v.ts (committed_was_begun head history run v.id v.ts now.committed) r.committed now.committed (omega (arith, seen, low)) (omega (arith, first, second));
           at = now.committed;
           last = last.0;
           value = last.1;
@@ -158,9 +153,9 @@ module _ (head : Head) (history : List (Entry Event)) (run : IsRun head history)
         let c = all-committed head history differ other (subst (λ xs. Contains xs other) (sym r.stands) (Contains-append_left before (id ∷ later) other there)) in
         let order = before-low head history differ before id later r.stands other r.at c.0 there r.committed c.1 in
         let k = is-known other c.0 c.1 in
-        let ends : writes_at key k.t.writes ≡ laid key last.front ++ (last.seq, last.value) ∷ [] =
+        let ends : writes_on key k.t.writes ≡ laid key last.front ++ (last.seq, last.value) ∷ [] =
         sym (laid-is head history run other k.t k.mine k.named key) ∙ laid-last key (operations_of history other) last in
-        let stands = writes_of_committed head history k.t c.0 key (laid key last.front) last.seq last.value run only (subst (λ i. Contains (txns_of head i history) k.t) (sym k.named) k.mine)
+        let stands = writes_of_committed head history k.t c.0 key (laid key last.front) last.seq last.value run (subst (λ i. Contains (txns_of head i history) k.t) (sym k.named) k.mine)
         (subst (λ i. IsCommitted head history i c.0) (sym k.named) c.1) ends in
         elim stands [
           | inl version ↦

@@ -1,6 +1,6 @@
 -- What a transaction read stays as it was up to where the read is good: no other's intent lies there, and no other's version between.
 use Rattle.std.proofs.Common.{◌≡◌, ℕ, ◌<◌, ◌≤◌, max, true, not, inl, inr, List, [], ◌∷◌, ◌++◌, append_assoc, Contains, Option, None, Some, IsTrue, refl, sym, ap, subst, ◌∙◌, arith}
-use Rattle.std.proofs.lemmas.Bool.{and_from, cases_lt}
+use Rattle.std.proofs.lemmas.Bool.{and_from, and_parts, cases_lt, not-true}
 use Rattle.std.proofs.lemmas.List.Elements.{Contains-append_left, recursion_from_All}
 use Rattle.std.specs.List.{AllByRecursion as Each}
 use Rattle.pc_base.specs.declared.actor.ActorId.{ActorId}
@@ -22,7 +22,6 @@ use Rattle.pc_proto.specs.declared.record.Intent.{Intent}
 use Rattle.pc_proto.specs.declared.reply.Reply.TheVariants as replies
 use Rattle.pc_proto.specs.declared.request.Request.TheVariants as requests
 use Rattle.pc_serial.proofs.SolePieces.{sole-range}
-use Rattle.pc_serial.proofs.SpanPieces.{both-true, not-true}
 use Rattle.pc_world.proofs.KeyOrder.{at_most-is, at_most-through, below-through}
 use Rattle.pc_world.proofs.Prefixes.{run_front}
 use Rattle.pc_world.specs.After.{known_at, state_at}
@@ -53,8 +52,8 @@ holds-key (One one) (One other) key h k = subst (λ x. same_key key x ≡ true) 
 holds-key (One one) (Between first end) key h k = absurd cc
 holds-key (Between from to) (One other) key h k = subst (λ x. contains (Between from to) x ≡ true) (sym (same_key-is key other k)) h
 holds-key (Between from to) (Between first end) key h k =
-    let ends = both-true (starts_by from first) (ends_after to end) h in
-    let inside = both-true (is_from first key) (is_before end key) k in
+    let ends = and_parts (starts_by from first) (ends_after to end) h in
+    let inside = and_parts (is_from first key) (is_before end key) k in
     and_from (is_from from key) (is_before to key) (from-held from first key ends.0 inside.0) (before-held to end key ends.1 inside.1)
 
 -- ---- refreshes that were heard

@@ -1,5 +1,5 @@
 -- Entries in the order of their keys: which stand in the list, which before which, and that each stands there once.
-use Rattle.std.proofs.Common.{◌≡◌, Bool, true, false, cond, inl, inr, List, [], ◌∷◌, map, filter, fold, Contains, refl, sym, ap, subst, ◌∙◌}
+use Rattle.std.proofs.Common.{◌≡◌, Bool, true, false, cond, inl, inr, List, [], ◌∷◌, ◌++◌, append-nil, append_assoc, map, filter, fold, Contains, refl, sym, ap, subst, ◌∙◌}
 use Rattle.std.proofs.lemmas.Cmp.{tied_itself}
 use Rattle.std.specs.BTreeMap.{insert_entry}
 use Rattle.std.specs.Cmp.{IsTotalOrder}
@@ -10,7 +10,7 @@ use Rattle.std.specs.List.Sorted.{IsStrictlySortedBy}
 use Rattle.std.specs.Ordering.{match_ordering, ordering_reverse}
 use Rattle.pc_base.specs.declared.transaction.TxnId.{TxnId}
 use Rattle.pc_base.specs.Keyed.{in_order}
-use Rattle.pc_lists.proofs.Each.{each-contains}
+use Rattle.pc_lists.proofs.Each.{each-back, each-contains}
 use Rattle.pc_lists.proofs.Lists.{contains_cons, contains_head, contains_map, contains_nil, contains_tail}
 use Rattle.pc_world.specs.Legal.{StandsBefore}
 
@@ -71,6 +71,28 @@ module _ {K V : Type 0} (cmp : K → K → Ordering) where
     -- entries put in order rise
     pub rises-in_order : (es : List (K × V)) → Rises (in_order cmp es)
     rises-in_order es = rises-from [] es tt
+
+    insert-last : (es : List (K × V)) (k : K) (v : V) → Each (λ x. cmp x.0 k ≡ Less) es → insert_entry cmp es k v ≡ es ++ (k, v) ∷ []
+    insert-last [] k v low = refl
+    insert-last (e ∷ es) k v low =
+        let above : cmp k e.0 ≡ Greater = total.antisymm k e.0 ∙ ap ordering_reverse low.0 in
+        ap (λ o. match_ordering o ((k, v) ∷ e ∷ es) ((e.0, v) ∷ es) (e ∷ insert_entry cmp es k v)) above ∙ ap (λ xs. e ∷ xs) (insert-last es k v low.1)
+
+    below-rest : (sorted : List (K × V)) (e : K × V) (es : List (K × V)) → Rises (sorted ++ e ∷ es) → Each (λ x. cmp x.0 e.0 ≡ Less) sorted
+    below-rest [] e es r = tt
+    below-rest (x ∷ sorted) e es r = ((each-back (λ y. cmp x.0 y.0 ≡ Less) sorted (e ∷ es) r.0).0, below-rest sorted e es r.1)
+
+    rising-from : (sorted es : List (K × V)) → Rises (sorted ++ es) → fold (λ (sorted : List (K × V)) (e : K × V). insert_entry cmp sorted e.0 e.1) sorted es ≡ sorted ++ es
+    rising-from sorted [] r = sym (append-nil sorted)
+    rising-from sorted (e ∷ es) r =
+        let here : insert_entry cmp sorted e.0 e.1 ≡ sorted ++ e ∷ [] = insert-last sorted e.0 e.1 (below-rest sorted e es r) in
+        let joined : (sorted ++ e ∷ []) ++ es ≡ sorted ++ e ∷ es = append_assoc sorted (e ∷ []) es in
+        ap (λ xs. fold (λ (sorted : List (K × V)) (e : K × V). insert_entry cmp sorted e.0 e.1) xs es) here
+        ∙ rising-from (sorted ++ e ∷ []) es (subst Rises (sym joined) r) ∙ joined
+
+    -- entries that rise are in order
+    pub in_order-rising : (es : List (K × V)) → Rises es → in_order cmp es ≡ es
+    in_order-rising es r = rising-from [] es r
 
     -- of rising entries, one that passes a test which no other passes is all that the test leaves
     none-left : (test : K × V → Bool) (e : K × V) (es : List (K × V)) → ((y : K × V) → Contains es y → test y ≡ true → y ≡ e) → Each (λ x. cmp e.0 x.0 ≡ Less) es → filter test es ≡ []

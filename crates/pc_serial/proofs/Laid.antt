@@ -10,7 +10,7 @@ use Rattle.pc_base.specs.Span.{same_key}
 use Rattle.pc_implicit.proofs.SessionCommits.{written as write_of}
 use Rattle.pc_implicit.proofs.SessionReads.{last_seq_done, seq_of}
 use Rattle.pc_implicit.proofs.Writings.{RiseFrom, is_a_write}
-use Rattle.pc_implicit.specs.Writes.{writes_at}
+use Rattle.pc_implicit.specs.Writes.{writes_on}
 use Rattle.pc_lists.proofs.Each.{each-append, each-choose, each-weaker}
 use Rattle.pc_lists.proofs.Lists.{contains_nil}
 use Rattle.pc_lists.proofs.Same.{same_key-is, same_key-self}
@@ -67,11 +67,11 @@ module _ (key : List ℕ) where
   laid-writes (ReadAll span rows ∷ os) = laid-writes os
 
   -- what a session knows that was written lays the same
-  pub laid-known : (ws : List WriteMade) → laid key (map write_of ws) ≡ writes_at key ws
+  pub laid-known : (ws : List WriteMade) → laid key (map write_of ws) ≡ writes_on key ws
   laid-known [] = refl
   laid-known (w ∷ ws) = ap (λ xs. if same_key w.key key then (w.seq, w.value) ∷ xs else xs) (laid-known ws) ∙ by (same_key w.key key)
     where
-      by : (b : Bool) → (if b then (w.seq, w.value) ∷ writes_at key ws else writes_at key ws) ≡ map (λ (v : WriteMade). (v.seq, v.value)) (cond b (w ∷ filter (λ v. same_key v.key key) ws) (filter (λ v. same_key v.key key) ws))
+      by : (b : Bool) → (if b then (w.seq, w.value) ∷ writes_on key ws else writes_on key ws) ≡ map (λ (v : WriteMade). (v.seq, v.value)) (cond b (w ∷ filter (λ v. same_key v.key key) ws) (filter (λ v. same_key v.key key) ws))
       by true = refl
       by false = refl
 

@@ -3,12 +3,15 @@ pub mod FirstRun
 pub mod FoundWritten
 pub mod GoodReads
 pub mod InOrder
+pub mod InTurn
 pub mod Legal
 pub mod Laid
 pub mod Maps
+pub mod OneSession
 pub mod Order
 pub mod OwnDone
 pub mod PieceRows
+pub mod Quiet
 pub mod Ranks
 pub mod ReadsAgree
 pub mod RunsOnWritten

@@ -10,7 +10,7 @@ use Rattle.pc_implicit.proofs.SessionCommits.{written as write_of}
 use Rattle.pc_implicit.proofs.SessionReads.{ByPut, ByQuery, HadDone, WasEvaluated, WasProved, last_seq_done}
 use Rattle.pc_implicit.specs.Decided.{decision}
 use Rattle.pc_implicit.specs.Replied.{WasProven, WasReplied}
-use Rattle.pc_implicit.specs.Writes.{OwnStand, home_of, own_intent, txns_of, writes_at}
+use Rattle.pc_implicit.specs.Writes.{OwnStand, home_of, own_intent, txns_of, writes_on}
 use Rattle.pc_lists.proofs.Lists.{contains_head}
 use Rattle.pc_proto.specs.declared.event.Event.{Event}
 use Rattle.pc_proto.specs.declared.event.Event.TheVariants as events
@@ -31,7 +31,7 @@ use Rattle.pc_world.specs.Run.{IsRun}
 
 module _ (head : Head) (history : List (Entry Event)) (run : IsRun head history) where
   -- what a transaction laid at a key is what its session knows that it wrote there
-  pub laid-is : (id : TxnId) (t : Txn) → Contains (txns_of head id history) t → t.id ≡ id → (key : List ℕ) → laid key (operations_of history id) ≡ writes_at key t.writes
+  pub laid-is : (id : TxnId) (t : Txn) → Contains (txns_of head id history) t → t.id ≡ id → (key : List ℕ) → laid key (operations_of history id) ≡ writes_on key t.writes
   laid-is id t mine named key =
       sym (laid-writes key (operations_of history id)) ∙ ap (laid key) (writes_are_done head history run id t mine named).same ∙ laid-known key t.writes
 

@@ -20,13 +20,6 @@ abbrev pub AreOfPieces : (ℕ × Span → List (List ℕ × List ℕ) → Type 0
 AreOfPieces Of [] rows = rows ≡ []
 AreOfPieces Of (p ∷ ps) rows = (found later : List (List ℕ × List ℕ)) × Of p found × (rows ≡ found ++ later) × AreOfPieces Of ps later
 
--- the relation may be a weaker one, at these pieces
-pub of-pieces-weaker : (Of Also : ℕ × Span → List (List ℕ × List ℕ) → Type 0) (ps : List (ℕ × Span)) (rows : List (List ℕ × List ℕ)) → ((p : ℕ × Span) (found : List (List ℕ × List ℕ)) → Contains ps p → Of p found → Also p found)
-    → AreOfPieces Of ps rows → AreOfPieces Also ps rows
-of-pieces-weaker Of Also [] rows on are = are
-of-pieces-weaker Of Also (p ∷ ps) rows on are =
-    (are.0, are.1, on p are.0 (contains_head p ps) are.2, are.3, of-pieces-weaker Of Also ps are.1 (λ q found c h. on q found (contains_tail p ps q c) h) are.4)
-
 -- A piece that has the key, and the rows found for it.
 pub record FoundFor (Of : ℕ × Span → List (List ℕ × List ℕ) → Type 0) (ps : List (ℕ × Span)) (rows : List (List ℕ × List ℕ)) (key : List ℕ) : Type 0 where
   pub range : ℕ

@@ -9,11 +9,10 @@ use Rattle.std.specs.List.{AllByRecursion as Each}
 use Rattle.std.specs.Ordering.{nat_cmp, ordering_then}
 use Rattle.pc_base.specs.declared.entry.Entry.{Entry}
 use Rattle.pc_base.specs.declared.transaction.TxnId.{TxnId}
-use Rattle.pc_implicit.proofs.Commits.{stays_committed}
+use Rattle.pc_implicit.proofs.CommitsStay.{commits_stay}
 use Rattle.pc_implicit.proofs.Points.{point_of}
-use Rattle.pc_implicit.proofs.Sent.{unstaged_front}
 use Rattle.pc_lists.proofs.Each.{each-back, each-contains}
-use Rattle.pc_lists.proofs.Lists.{contains_cons, contains_head, contains_map, contains_nil, contains_tail}
+use Rattle.pc_lists.proofs.Lists.{contains_cons, contains_head, contains_in_map, contains_map, contains_nil}
 use Rattle.pc_proto.specs.declared.event.Event.{Event}
 use Rattle.pc_serial.proofs.InOrder.{Rises, never-below, never-both, rises-in_order}
 use Rattle.pc_serial.proofs.Order.{IsRanked, PointsDiffer, committed-ranked, entry_of, order-committed, order-has, order-ranked, rank-less, rank-total}
@@ -23,7 +22,6 @@ use Rattle.pc_world.specs.Committed.{IsCommitted, commit_point, commit_ts}
 use Rattle.pc_world.specs.Legal.{committed_in_order}
 use Rattle.pc_world.specs.Local.{Head}
 use Rattle.pc_world.specs.Run.{IsRun}
-use Rattle.pc_world.specs.Unstaged.{NothingIsStaged}
 
 -- ---- lists that are mapped
 
@@ -53,14 +51,6 @@ module _ {X Y : Type 0} (f : X → Y) where
   map-split (x ∷ xs) [] y back h = record { first = []; x = x; rest = xs; whole = refl; front_is = refl; x_is = cc h }
   map-split (x ∷ xs) (z ∷ zs) y back h =
       split-push x xs z zs y back (cc h) (map-split xs zs y back (cc h))
-
-  contains-unmap : (xs : List X) (y : Y) → Contains (map f xs) y → (x : X) × Contains xs x × (f x ≡ y)
-  contains-unmap [] y c = absurd (contains_nil y c)
-  contains-unmap (x ∷ xs) y c =
-      elim (contains_cons (f x) (map f xs) y c) [
-        | inl same ↦ (x, contains_head x xs, same)
-        | inr later ↦ let r = contains-unmap xs y later in (r.0, contains_tail x xs r.0 r.1, r.2)
-      ]
 
 -- of two lists with one whole, the longer one goes on from the shorter
 pub goes-on : {X : Type 0} (xs ys us vs : List X) → xs ++ ys ≡ us ++ vs → length xs ≤ length us → (more : List X) × (us ≡ xs ++ more)
@@ -123,7 +113,7 @@ module _ (head : Head) (history : List (Entry Event)) (differ : PointsDiffer hea
   -- each that stands in the order is committed
   pub all-committed : (id : TxnId) → Contains (committed_in_order head history) id → (ts : ℕ) × IsCommitted head history id ts
   all-committed id c =
-      let e = contains-unmap (λ (x : Rank × TxnId). x.1) (commit_order head history) id c in
+      let e = contains_in_map (λ (x : Rank × TxnId). x.1) (commit_order head history) id c in
       (e.0.0.ts, subst (λ i. IsCommitted head history i e.0.0.ts) e.2 (each-contains (λ (x : Rank × TxnId). IsCommitted head history x.1 x.0.ts) (commit_order head history) e.0 (order-committed head history differ) e.1))
 
   module _ (before : List TxnId) (id : TxnId) (later : List TxnId) (whole : committed_in_order head history ≡ before ++ id ∷ later) where
@@ -131,7 +121,7 @@ module _ (head : Head) (history : List (Entry Event)) (differ : PointsDiffer hea
     pub before-low : (other : TxnId) (ts earlier : ℕ) → Contains before other → IsCommitted head history id ts → IsCommitted head history other earlier → (earlier ≤ ts) × (other ≡ id → ⊥)
     before-low other ts earlier c is also =
         let s = map-split (λ (x : Rank × TxnId). x.1) (commit_order head history) before id later whole in
-        let e = contains-unmap (λ (x : Rank × TxnId). x.1) s.first other (subst (λ xs. Contains xs other) (sym s.front_is) c) in
+        let e = contains_in_map (λ (x : Rank × TxnId). x.1) s.first other (subst (λ xs. Contains xs other) (sym s.front_is) c) in
         let there : Contains (commit_order head history) e.0 = subst (λ xs. Contains xs e.0) (sym s.whole) (Contains-append_left s.first (s.x ∷ s.rest) e.0 e.1) in
         let here : Contains (commit_order head history) s.x = subst (λ xs. Contains xs s.x) (sym s.whole) (Contains-append_right s.first (s.x ∷ s.rest) s.x (contains_head s.x s.rest)) in
         let less : rank_cmp e.0.0 s.x.0 ≡ Less = rises-before s.first s.x s.rest e.0 (subst (Rises rank_cmp) s.whole the-order-rises) e.1 in
@@ -168,12 +158,11 @@ module _ (head : Head) (history : List (Entry Event)) (differ : PointsDiffer hea
 
 -- ---- commit points
 
-module _ (head : Head) (history : List (Entry Event)) (run : IsRun head history) (only : NothingIsStaged history) where
+module _ (head : Head) (history : List (Entry Event)) (run : IsRun head history) where
   stays-there : (front back : List (Entry Event)) (more rest : List (Entry Event)) (id : TxnId) (ts : ℕ) → front ++ back ≡ history → front ≡ more ++ rest → IsCommitted head more id ts → IsCommitted head front id ts
   stays-there front back more rest id ts whole is committed =
       let part : IsRun head front = run_front head front back (subst (IsRun head) (sym whole) run) in
-      let still : NothingIsStaged front = unstaged_front front back (subst NothingIsStaged (sym whole) only) in
-      subst (λ h. IsCommitted head h id ts) (sym is) (stays_committed head more rest (subst (IsRun head) is part) (subst NothingIsStaged is still) id ts committed)
+      subst (λ h. IsCommitted head h id ts) (sym is) (commits_stay head more rest id ts (subst (IsRun head) is part) committed).0
 
   -- a transaction that is not committed yet has its commit point later
   pub point-later : (front back : List (Entry Event)) (id : TxnId) (ts : ℕ) → history ≡ front ++ back → commit_ts head front id ≡ None → IsCommitted head history id ts → length front < commit_point head history id

@@ -53,7 +53,6 @@ use Rattle.pc_world.specs.Named.{request_in, request_named}
 use Rattle.pc_world.specs.Operations.{Operation, Read, ReadAll, Write, operations_of}
 use Rattle.pc_world.specs.RangeOf.{pieces, range_of}
 use Rattle.pc_world.specs.Run.{IsRun}
-use Rattle.pc_world.specs.Unstaged.{NothingIsStaged}
 
 -- ---- what is answered is what was found
 
@@ -79,10 +78,10 @@ record IsGoodTxn (head : Head) (history : List (Entry Event)) (id : TxnId) : Typ
   did : operations_of history id ≡ operations_of front id
   good : All (IsGoodAt id (known_at head (actors.Session id.session) front).heard at) t.reads
 
-module _ (head : Head) (history : List (Entry Event)) (run : IsRun head history) (only : NothingIsStaged history) (differ : PointsDiffer head history) where
+module _ (head : Head) (history : List (Entry Event)) (run : IsRun head history) (differ : PointsDiffer head history) where
   good-txn : (id : TxnId) (at : ℕ) → IsCommitted head history id at → IsGoodTxn head history id
   good-txn id at is =
-      let d = decided_by head history run only id at is in
+      let d = decided_by head history run id at is in
       let did : operations_of (d.before ++ d.e ∷ d.later) id ≡ operations_of d.before id =
       subst (λ i. operations_of (d.before ++ d.e ∷ d.later) i ≡ operations_of d.before i) d.named (d.still d.later (front_same d.later)).operations in
       record {
@@ -130,9 +129,9 @@ module _ (head : Head) (history : List (Entry Event)) (run : IsRun head history)
       uncommitted =
           let size : length g.front ≡ length r.before + length (r.e ∷ r.later) = ap length r.whole ∙ length-append r.before (r.e ∷ r.later) in
           let early = g.early in
-          not-yet head id history run only r.before (r.e ∷ (r.later ++ g.back)) later-whole g.at g.committed (omega (arith, size, early))
+          not-yet head id history run r.before (r.e ∷ (r.later ++ g.back)) later-whole g.at g.committed (omega (arith, size, early))
 
-      read-of : (key : List ℕ) → contains span key ≡ true → range ≡ range_of head.splits key → IsReadOf head history run only differ id before later done g.t.epoch r.seq r.ts span key r.before
+      read-of : (key : List ℕ) → contains span key ≡ true → range ≡ range_of head.splits key → IsReadOf head history run differ id before later done g.t.epoch r.seq r.ts span key r.before
       read-of key inside there =
           let good = All-contains (IsGoodAt id (known_at head (actors.Session id.session) g.front).heard g.at) g.t.reads (record { span = span; ts = r.ts }) g.good r.kept in
           let read : HasRead id span r.ts (state_at head (range_of head.splits key) history) = subst (λ n. HasRead id span r.ts (state_at head n history)) there stays-read.0 in
@@ -160,7 +159,7 @@ module _ (head : Head) (history : List (Entry Event)) (run : IsRun head history)
       found-before : (key : List ℕ) → contains span key ≡ true → range ≡ range_of head.splits key → (found_at id g.t.epoch r.seq r.ts key (state_at head range r.before)).1 ≡ look key
       found-before key inside there =
           ap (λ n. (found_at id g.t.epoch r.seq r.ts key (state_at head n r.before)).1) there
-          ∙ found-is-written head history run only differ id before later done g.t.epoch r.seq r.ts span key r.before (read-of key inside there)
+          ∙ found-is-written head history run differ id before later done g.t.epoch r.seq r.ts span key r.before (read-of key inside there)
 
     -- What a piece of a scan was told comes from one evaluation.
     abbrev IsPieceRead : ℕ × Span → List (List ℕ × Origin × List ℕ) → Type 0

@@ -1,7 +1,7 @@
 -- A span that is its own one piece lies in the range of each of its keys, however the splits stand; and pieces that are each their own
 -- one piece stand in key order.
 use Rattle.std.proofs.Common.{◌≡◌, ℕ, ◌+◌, ◌<◌, ◌≤◌, Bool, true, false, cond, if◌then◌else◌, not, List, [], ◌∷◌, ◌++◌, Contains, Option, None, Some, refl, sym, ap, subst, ◌∙◌, inl, inr, arith}
-use Rattle.std.proofs.lemmas.Bool.{and_from}
+use Rattle.std.proofs.lemmas.Bool.{and_from, and_parts}
 use Rattle.std.specs.Cmp.Lexicographic.{slice_cmp}
 use Rattle.std.specs.declared.cmp.Ordering.TheVariants.{Less}
 use Rattle.std.specs.List.{AllByRecursion as Each}
@@ -13,8 +13,9 @@ use Rattle.pc_base.specs.Span.{contains, is_before, is_empty, is_from, key_at_mo
 use Rattle.pc_lists.proofs.Each.{each-append, each-back, each-both, each-contains, each-weaker}
 use Rattle.pc_lists.proofs.Lists.{contains_cons, contains_nil}
 use Rattle.pc_lists.proofs.Same.{same_key-is}
-use Rattle.pc_serial.proofs.SpanPieces.{InTurn, IsBelow, both-true, cut-ends, each-piece, has-piece, holds-from, is-less, later-from, earlier-before, never, no-more, one-more, range-of-cons}
+use Rattle.pc_serial.proofs.SpanPieces.{InTurn, IsBelow, cut-ends, each-piece, has-piece, holds-from, is-less, later-from, earlier-before, never}
 use Rattle.pc_world.proofs.KeyOrder.{at_most-is, at_most-through}
+use Rattle.pc_world.proofs.Pieces.{no-more, one-more, range-of-cons}
 use Rattle.pc_world.specs.RangeOf.{earlier_end, later_start, piece, pieces, pieces_from, range_of}
 
 module _ (key : List ℕ) where
@@ -94,7 +95,7 @@ sole-range splits (One own) range key sole h =
     let same : range_of splits own ≡ range = ap (λ (p : ℕ × Span). p.0) both in
     sym same ∙ ap (range_of splits) (sym (same_key-is key own h))
 sole-range splits (Between from to) range key sole h =
-    let ends = both-true (is_from from key) (is_before to key) h in
+    let ends = and_parts (is_from from key) (is_before to key) h in
     let each = one-counts key 0 None splits from to refl ends.0 ends.1 (subst (AtMostOne key) (sym sole) ((λ has. tt), tt)) in
     let here : Each (IsItsRange key 0 splits) ((range, Between from to) ∷ []) = subst (Each (IsItsRange key 0 splits)) sole each in
     let is = here.0 h in

@@ -1,8 +1,7 @@
 -- The pieces of a span have its keys alone, and each of its keys is in one of them.
-use Rattle.std.proofs.Common.{◌≡◌, ℕ, ◌+◌, Bool, true, false, cond, if◌then◌else◌, not, ◌&&◌, List, [], ◌∷◌, ◌++◌, Contains, Option, None, Some, refl, sym, ap, subst, ◌∙◌}
-use Rattle.std.proofs.lemmas.Bool.{and_from}
+use Rattle.std.proofs.Common.{◌≡◌, ℕ, ◌+◌, Bool, true, false, if◌then◌else◌, not, ◌&&◌, List, [], ◌∷◌, ◌++◌, Contains, Option, None, Some, refl, sym, ap, subst, ◌∙◌}
+use Rattle.std.proofs.lemmas.Bool.{and_from, and_parts, not-true}
 use Rattle.std.proofs.lemmas.List.Elements.{Contains-append_left, Contains-append_right}
-use Rattle.std.proofs.lemmas.List.Sums.{sum_by-cons}
 use Rattle.std.specs.Cmp.Lexicographic.{slice_cmp}
 use Rattle.std.specs.declared.cmp.Ordering.{Ordering}
 use Rattle.std.specs.declared.cmp.Ordering.TheVariants.{Less, Equal, Greater}
@@ -10,10 +9,10 @@ use Rattle.std.specs.List.{AllByRecursion as Each}
 use Rattle.std.specs.Ordering.{is_lt, nat_cmp}
 use Rattle.pc_base.specs.declared.span.Span.{Span}
 use Rattle.pc_base.specs.declared.span.Span.TheVariants.{One, Between}
-use Rattle.pc_base.specs.Span.{contains, is_before, is_empty, is_from, key_at_most, key_below}
+use Rattle.pc_base.specs.Span.{contains, is_before, is_empty, is_from, key_below}
 use Rattle.pc_lists.proofs.Each.{each-append}
 use Rattle.pc_lists.proofs.Lists.{contains_head}
-use Rattle.pc_world.proofs.KeyOrder.{at_most-is, at_most-through, below-once, below-through}
+use Rattle.pc_world.proofs.KeyOrder.{at_most-through, below-once, below-through}
 use Rattle.pc_world.specs.RangeOf.{earlier_end, later_start, piece, pieces, pieces_from, range_of}
 
 -- ---- order
@@ -22,15 +21,6 @@ pub is-less : (o : Ordering) → is_lt o ≡ true → o ≡ Less
 is-less Less h = refl
 is-less Equal h = absurd cc
 is-less Greater h = absurd cc
-
-pub not-true : (b : Bool) → not b ≡ true → b ≡ false
-not-true true h = absurd cc
-not-true false h = refl
-
-pub both-true : (a b : Bool) → (a && b) ≡ true → (a ≡ true) × (b ≡ true)
-both-true true true h = (refl, refl)
-both-true true false h = absurd cc
-both-true false b h = absurd cc
 
 pub never : (b : Bool) → b ≡ true → b ≡ false → ⊥
 never b h k = let both : true ≡ false = sym h ∙ k in cc
@@ -122,7 +112,7 @@ InTurn (p ∷ ps) = Each (λ q. IsBelow p.1 q.1) ps × InTurn ps
 
 cut-part : (range : ℕ) (low high from to : Option (List ℕ)) → IsPart (Between from to) (range, Between (later_start low from) (earlier_end high to))
 cut-part range low high from to key h =
-    let ends = both-true (is_from (later_start low from) key) (is_before (earlier_end high to) key) h in
+    let ends = and_parts (is_from (later_start low from) key) (is_before (earlier_end high to) key) h in
     and_from (is_from from key) (is_before to key) (from-later low from key ends.0).1 (before-earlier high to key ends.1).1
 
 parts-from : (range : ℕ) (low : Option (List ℕ)) (splits : List (List ℕ)) (from to : Option (List ℕ)) → Each (IsPart (Between from to)) (pieces_from range low splits from to)
@@ -135,19 +125,10 @@ parts-from range low (split ∷ splits) from to =
 -- a key of a piece that is cut at a split is below it
 pub cut-ends : (start : Option (List ℕ)) (split : List ℕ) (to : Option (List ℕ)) (key : List ℕ) → contains (Between start (earlier_end (Some split) to)) key ≡ true → key_below key split ≡ true
 cut-ends start split to key h =
-    let ends = both-true (is_from start key) (is_before (earlier_end (Some split) to) key) h in
+    let ends = and_parts (is_from start key) (is_before (earlier_end (Some split) to) key) h in
     (before-earlier (Some split) to key ends.1).0
 
 -- ---- the ranges of the pieces
-
-pub range-of-cons : (split : List ℕ) (splits : List (List ℕ)) (key : List ℕ) → range_of (split ∷ splits) key ≡ cond (key_at_most split key) 1 0 + range_of splits key
-range-of-cons split splits key = sum_by-cons (λ split. cond (key_at_most split key) 1 0) split splits
-
-pub one-more : (split : List ℕ) (splits : List (List ℕ)) (key : List ℕ) → key_below key split ≡ false → range_of (split ∷ splits) key ≡ 1 + range_of splits key
-one-more split splits key from = range-of-cons split splits key ∙ ap (λ b. cond b 1 0 + range_of splits key) (at_most-is split key ∙ ap not from)
-
-pub no-more : (split : List ℕ) (splits : List (List ℕ)) (key : List ℕ) → key_below key split ≡ true → range_of (split ∷ splits) key ≡ 0 + range_of splits key
-no-more split splits key below = range-of-cons split splits key ∙ ap (λ b. cond b 1 0 + range_of splits key) (at_most-is split key ∙ ap not below)
 
 -- ---- each key of the span is in a piece
 
@@ -193,5 +174,5 @@ pieces-are-parts splits (Between from to) = parts-from 0 None splits from to
 pub pieces-hold : (splits : List (List ℕ)) (whole : Span) (key : List ℕ) → contains whole key ≡ true → Holds (pieces splits whole) key
 pieces-hold splits (One own) key h = record { range = range_of splits own; span = One own; there = contains_head (range_of splits own, One own) []; inside = h }
 pieces-hold splits (Between from to) key h =
-    let ends = both-true (is_from from key) (is_before to key) h in
+    let ends = and_parts (is_from from key) (is_before to key) h in
     holds-from 0 None splits from to key refl ends.0 ends.1

@@ -1,7 +1,7 @@
 ghost use Rattle.std.specs.Prelude.{◌<◌};
 
-use pc_coord::{Coordinator, Job, Next, Round};
 use pc_base::{Items, Key, Priority, Span, Timestamp, TxnId, Value, Who};
+use pc_coord::{Coordinator, Job, Next, Round};
 use pc_proto::{Answer, Call, Fate, Keys, Origin, Reply, Request, Rows, TxnMeta, View, Why};
 use std::alloc::Global;
 use std::test::Fail;

@@ -2,10 +2,24 @@
 #![tactic(auto)]
 
 #[cfg(test)]
+mod accepted;
+#[cfg(test)]
 mod coordinator;
 #[cfg(test)]
+mod evaluation;
+#[cfg(test)]
+mod intents;
+#[cfg(test)]
+mod limits;
+#[cfg(test)]
 mod push;
+#[cfg(test)]
+mod records;
+#[cfg(test)]
+mod report;
 #[cfg(test)]
 mod resolve;
 #[cfg(test)]
 mod turns;
+#[cfg(test)]
+mod workloads;

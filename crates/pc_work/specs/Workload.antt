@@ -1,4 +1,4 @@
--- What bytes are as a workload, and where they are none. A workload is in stated turns without pipelining, of up to 64 sessions that
+-- What bytes are as a workload, and where they are none. A workload is in stated turns without pipelining, of sessions that
 -- state their clocks.
 use Rattle.std.specs.Prelude.{ℕ, Bool, false, ◌&&◌, ◌==◌, not, List, [], ◌∷◌, length, sum_by, nat_le, Option, Some, None, IsSome, Result, Ok, Err, codes, option_and_then, IsUtf8, if◌then◌else◌}
 use Rattle.std.specs.List.{list_all}

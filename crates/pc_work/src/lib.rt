@@ -13,8 +13,6 @@ mod session;
 mod span;
 mod splits;
 mod statement;
-#[cfg(test)]
-mod tests;
 mod turn;
 mod workload;
 

@@ -90,9 +90,6 @@ module _ (P : Heard → Type 0) (since now : Known) (later : IsLater since now) 
   pub ever_later : Any P since.heard → Any P now.heard
   ever_later any = let m = has_more since now later in subst (λ l. Any P l) (sym m.ever) (any_kept P since.heard m.more any)
 
-  pub in_call_later : Any P since.heard_now → Any P now.heard_now
-  in_call_later any = let m = has_more since now later in subst (λ l. Any P l) (sym m.in_call) (any_kept P since.heard_now m.more any)
-
 pub heard_ever : (since now : Known) (request : Request) (reply : Reply) → HeardSince since now request reply → Any (IsExchange request reply) now.heard
 heard_ever since now request reply heard =
     subst (λ l. Any (IsExchange request reply) l) (sym heard.ever) (any_behind (IsExchange request reply) since.heard heard.more heard.there)

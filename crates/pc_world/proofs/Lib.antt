@@ -1,9 +1,11 @@
 pub mod Exchange
+pub mod FinalMarks
 pub mod Kept
 pub mod KeptVersions
 pub mod KeyOrder
 pub mod Knowing
 pub mod Pieces
 pub mod Prefixes
+pub mod RoundReplies
 pub mod Stamps
 pub mod World

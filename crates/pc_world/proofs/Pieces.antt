@@ -25,7 +25,7 @@ record IsUpTo (high : List ℕ) (end : Option (List ℕ)) : Type 0 where
   is : end ≡ Some key
   up_to : key_below high key ≡ false
 
-later-again : (one other : Option (List ℕ)) → later_start one (later_start one other) ≡ later_start one other
+pub later-again : (one other : Option (List ℕ)) → later_start one (later_start one other) ≡ later_start one other
 later-again None other = refl
 later-again (Some one) None = ap (λ b. if b then Some one else Some one) (key_below-self one)
 later-again (Some one) (Some other) = by (key_below one other) refl
@@ -34,7 +34,7 @@ later-again (Some one) (Some other) = by (key_below one other) refl
     by true is = ap (λ b. if b then Some other else Some one) is
     by false is = ap (λ b. if b then Some one else Some one) (key_below-self one)
 
-earlier-again : (one other : Option (List ℕ)) → earlier_end one (earlier_end one other) ≡ earlier_end one other
+pub earlier-again : (one other : Option (List ℕ)) → earlier_end one (earlier_end one other) ≡ earlier_end one other
 earlier-again None other = refl
 earlier-again (Some one) None = ap (λ b. if b then Some one else Some one) (key_below-self one)
 earlier-again (Some one) (Some other) = by (key_below other one) refl
@@ -261,13 +261,13 @@ pieces-differ splits whole rising = distinct splits (pieces splits whole) (all-a
     climbs (One key) = (tt, tt)
     climbs (Between from to) = all-climb 0 None splits from to
 
-range-of-cons : (split : List ℕ) (splits : List (List ℕ)) (key : List ℕ) → range_of (split ∷ splits) key ≡ cond (key_at_most split key) 1 0 + range_of splits key
+pub range-of-cons : (split : List ℕ) (splits : List (List ℕ)) (key : List ℕ) → range_of (split ∷ splits) key ≡ cond (key_at_most split key) 1 0 + range_of splits key
 range-of-cons split splits key = sum_by-cons (λ split. cond (key_at_most split key) 1 0) split splits
 
-one-more : (split : List ℕ) (splits : List (List ℕ)) (key : List ℕ) → key_below key split ≡ false → range_of (split ∷ splits) key ≡ 1 + range_of splits key
+pub one-more : (split : List ℕ) (splits : List (List ℕ)) (key : List ℕ) → key_below key split ≡ false → range_of (split ∷ splits) key ≡ 1 + range_of splits key
 one-more split splits key from = range-of-cons split splits key ∙ ap (λ b. cond b 1 0 + range_of splits key) (at_most-is split key ∙ ap not from)
 
-no-more : (split : List ℕ) (splits : List (List ℕ)) (key : List ℕ) → key_below key split ≡ true → range_of (split ∷ splits) key ≡ 0 + range_of splits key
+pub no-more : (split : List ℕ) (splits : List (List ℕ)) (key : List ℕ) → key_below key split ≡ true → range_of (split ∷ splits) key ≡ 0 + range_of splits key
 no-more split splits key below = range-of-cons split splits key ∙ ap (λ b. cond b 1 0 + range_of splits key) (at_most-is split key ∙ ap not below)
 
 -- a key below the first split lies in the first range

@@ -1,5 +1,6 @@
 -- The protocol is a world: its events meet the laws that a meaning of events has to meet.
 use Rattle.std.proofs.Common.{◌≡◌, ◌≢◌, ℕ, ◌+◌, ◌<◌, ◌≤◌, Bool, true, false, ◌&&◌, ◌==◌, ◌⊎◌, inl, inr, Any, Contains, List, [], ◌∷◌, ◌++◌, length, Option, refl, sym, ap, subst, ◌∙◌, arith, length-append}
+use Rattle.std.proofs.lemmas.Bool.{and_from, and_parts, eq-eqb, eqb-true}
 use Rattle.std.proofs.lemmas.List.Elements.{Contains-push_cases}
 use Rattle.pc_base.specs.declared.actor.ActorId.{ActorId}
 use Rattle.pc_base.specs.declared.actor.ActorId.TheVariants as actors
@@ -22,23 +23,8 @@ use Rattle.pc_world.specs.Local.{Head, MayComeNext}
 use Rattle.pc_world.specs.Named.{is_eval, is_send_of, is_tell}
 use Rattle.pc_world.specs.Run.{IsRun, protocol}
 
-same-number : (m n : ℕ) → m ≡ n → (m == n) ≡ true
-same-number m n h = grind arith
-
-both : (a b : Bool) → a ≡ true → b ≡ true → (a && b) ≡ true
-both a b h k = grind arith
-
-first : (a b : Bool) → (a && b) ≡ true → a ≡ true
-first a b h = grind arith
-
-second : (a b : Bool) → (a && b) ≡ true → b ≡ true
-second a b h = grind arith
-
-equal-number : (m n : ℕ) → (m == n) ≡ true → m ≡ n
-equal-number m n h = grind arith
-
 sends : (range : ActorId) (number : ℕ) (event : Event) → SendsTo range number event → is_send_of number event ≡ true
-sends (actors.Range range) number (events.Send sent to request) h = same-number sent number h.0
+sends (actors.Range range) number (events.Send sent to request) h = eq-eqb sent number h.0
 sends range number event h = absurd h
 
 evaluates : (actor : ActorId) (number : ℕ) (event : Event) → Evaluates actor number event → is_eval event ≡ true
@@ -53,11 +39,11 @@ tells id event h = absurd h
 module _ (head : Head) where
   one-or-none : (entries : List (Entry Event)) (event : Event) (id : ActorId) → IsCaused entries event id → NamesOneOrNone (protocol head) entries event
   one-or-none entries (events.Eval actor number reply) id (k, e, inside, at, is) =
-      inr (e, (k, inside, at), both (same_id actor e.actor) (is_send_of number e.event) (same_id-equal actor e.actor (sym is.whose)) (sends id number e.event is.send))
+      inr (e, (k, inside, at), and_from (same_id actor e.actor) (is_send_of number e.event) (same_id-equal actor e.actor (sym is.whose)) (sends id number e.event is.send))
   one-or-none entries (events.Hear number step) id (k, e, inside, at, is) =
-      inr (e, (k, inside, at), both (e.step == step) (is_eval e.event) (same-number e.step step is.at) (evaluates id number e.event is.eval))
+      inr (e, (k, inside, at), and_from (e.step == step) (is_eval e.event) (eq-eqb e.step step is.at) (evaluates id number e.event is.eval))
   one-or-none entries (events.Meet txn step) id (k, e, inside, at, is) =
-      inr (e, (k, inside, at), both (e.step == step) (is_tell e.event) (same-number e.step step is.at) (tells txn e.event is.tell))
+      inr (e, (k, inside, at), and_from (e.step == step) (is_tell e.event) (eq-eqb e.step step is.at) (tells txn e.event is.tell))
   one-or-none entries (events.Ask call reading) id cause = inl (λ e. refl)
   one-or-none entries (events.Send number range request) id cause = inl (λ e. refl)
   one-or-none entries (events.Tell answer) id cause = inl (λ e. refl)
@@ -119,8 +105,8 @@ module _ (head : Head) where
 
   next-number-is : (actor : ActorId) (entries : List (Pair Event)) (event : Event) (named : Option (Entry Event)) (number : ℕ) → MayComeNext head actor entries event named → is_send_of number event ≡ true → number ≡ length (known_of entries).sent + 1
   next-number-is (actors.Range range) entries (events.Send sent to request) named number may is = absurd may
-  next-number-is (actors.Session session) entries (events.Send sent to request) named number may is = sym (equal-number sent number is) ∙ may.next
-  next-number-is (actors.Recoverer recoverer) entries (events.Send sent to request) named number may is = sym (equal-number sent number is) ∙ may.next
+  next-number-is (actors.Session session) entries (events.Send sent to request) named number may is = sym (eqb-true sent number is) ∙ may.next
+  next-number-is (actors.Recoverer recoverer) entries (events.Send sent to request) named number may is = sym (eqb-true sent number is) ∙ may.next
   next-number-is actor entries event named number may is = absurd cc
 
   -- the next message of an actor has the next number
@@ -192,16 +178,16 @@ module _ (head : Head) where
   pub names_one : (history : List (Entry Event)) (event : Event) → IsRun head history → NamesAtMostOne (protocol head) history event
   unfolding IsOnePerStep IsOnePerNumber
   names_one history (events.Eval actor number reply) run a b is_a is_b na nb =
-      let one : actor ≡ a.actor = same_id-true actor a.actor (first (same_id actor a.actor) (is_send_of number a.event) na) in
-      let other : actor ≡ b.actor = same_id-true actor b.actor (first (same_id actor b.actor) (is_send_of number b.event) nb) in
+      let one : actor ≡ a.actor = same_id-true actor a.actor (and_parts (same_id actor a.actor) (is_send_of number a.event) na).0 in
+      let other : actor ≡ b.actor = same_id-true actor b.actor (and_parts (same_id actor b.actor) (is_send_of number b.event) nb).0 in
       one-per-number history run a b number is_a is_b (sym one ∙ other)
-      (second (same_id actor a.actor) (is_send_of number a.event) na) (second (same_id actor b.actor) (is_send_of number b.event) nb)
+      (and_parts (same_id actor a.actor) (is_send_of number a.event) na).1 (and_parts (same_id actor b.actor) (is_send_of number b.event) nb).1
   names_one history (events.Hear number step) run a b is_a is_b na nb =
       one-per-step history run a b is_a is_b
-      (equal-number a.step step (first (a.step == step) (is_eval a.event) na) ∙ sym (equal-number b.step step (first (b.step == step) (is_eval b.event) nb)))
+      (eqb-true a.step step (and_parts (a.step == step) (is_eval a.event) na).0 ∙ sym (eqb-true b.step step (and_parts (b.step == step) (is_eval b.event) nb).0))
   names_one history (events.Meet txn step) run a b is_a is_b na nb =
       one-per-step history run a b is_a is_b
-      (equal-number a.step step (first (a.step == step) (is_tell a.event) na) ∙ sym (equal-number b.step step (first (b.step == step) (is_tell b.event) nb)))
+      (eqb-true a.step step (and_parts (a.step == step) (is_tell a.event) na).0 ∙ sym (eqb-true b.step step (and_parts (b.step == step) (is_tell b.event) nb).0))
   names_one history event run a b is_a is_b na nb = absurd cc
 
   -- the protocol is a world

@@ -22,16 +22,12 @@ use Rattle.pc_world.specs.Known.{Known}
 use Rattle.pc_world.specs.Known.Statements.{Statement}
 use Rattle.pc_world.specs.Known.Traffic.{Heard}
 use Rattle.pc_world.specs.SameRequest.{IsSameRequest}
+use Rattle.pc_world.specs.Send.Settling.{ResolvedTo}
 use Rattle.pc_world.specs.Tell.Refusal.{is_heard}
 
 -- Each message of the request that was sent since the last call was asked was answered since.
 abbrev pub AreAnsweredNow : Known → Request → Type 0
 AreAnsweredNow k request = All (λ m. IsSameRequest request m.request → IsTrue (is_heard k.heard_now m)) k.sent_now
-
--- The intent at the key was settled for this transaction, with this fate.
-pub record ResolvedTo (id : TxnId) (key : List ℕ) (fate : Fate) (h : Heard) : Type 0 where
-  pub asked : h.request ≡ requests.Resolve id key fate
-  pub told : h.reply ≡ replies.Resolved
 
 -- The reply is to a recovery of the transaction, and shows this view.
 abbrev pub RecoveredTo : TxnId → View → Request → Reply → Type 0

@@ -26,11 +26,14 @@ pub record ShowsFate (id : TxnId) (fate : Fate) (h : Heard) : Type 0 where
 abbrev pub MaySendResolve : Known → TxnId → Fate → Type 0
 MaySendResolve k id fate = Any (ShowsFate id fate) k.heard
 
--- The key's intent was settled for this transaction.
-pub record WasResolved (id : TxnId) (key : List ℕ) (h : Heard) : Type 0 where
-  pub fate : Fate
+-- The intent at the key was settled for this transaction, with this fate.
+pub record ResolvedTo (id : TxnId) (key : List ℕ) (fate : Fate) (h : Heard) : Type 0 where
   pub asked : h.request ≡ requests.Resolve id key fate
   pub told : h.reply ≡ replies.Resolved
+
+-- The intent at the key was settled for this transaction.
+abbrev pub WasResolved : TxnId → List ℕ → Heard → Type 0
+WasResolved id key h = (fate : Fate) × ResolvedTo id key fate h
 
 -- The intent at each of these keys was settled for this transaction.
 abbrev pub AllResolved : List Heard → TxnId → List (List ℕ) → Type 0

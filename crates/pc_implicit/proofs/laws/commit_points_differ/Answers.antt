@@ -1,4 +1,4 @@
-use Rattle.pc_implicit.proofs.Points.{commit_points_differ}
+use Rattle.pc_implicit.proofs.CommitPoints.{commit_points_differ}
 use Rattle.pc_implicit.proofs.laws.commit_points_differ.Goals as goal
 
 pub returns : goal.returns

@@ -1,0 +1,2 @@
+pub mod ReadsStanding
+pub mod Replies

@@ -1,0 +1,11 @@
+-- Why a wave goes on standing.
+pub mod Awaiting
+pub mod Changed
+pub mod Dues
+pub mod Hearing
+pub mod Joining
+pub mod Lists
+pub mod Places
+pub mod Rounds
+pub mod Sending
+pub mod Standings

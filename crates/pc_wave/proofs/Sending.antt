@@ -1,0 +1,132 @@
+-- The first message that is to be sent goes out.
+use Rattle.std.proofs.Common.{◌≡◌, ◌≢◌, ℕ, ◌+◌, ◌≤◌, Bool, true, false, List, [], ◌∷◌, find, length, None, Some, Option, refl, sym, ap, ◌∙◌, subst, arith, All, IsTrue, length-append, cond, nat_le, ◌<◌, ◌==◌}
+use Rattle.std.specs.List.{list_all, list_any}
+use Rattle.std.specs.Option.{option_map}
+use Rattle.std.proofs.lemmas.List.{append-nil}
+use Rattle.std.proofs.lemmas.List.Elements.{All-cons, All-nil, All-push, All-weaker}
+use Rattle.pc_base.specs.declared.limits.TheConstants.{MOST_CONFLICTS}
+use Rattle.pc_base.specs.declared.transaction.TxnId.{TxnId}
+use Rattle.pc_proto.specs.declared.reply.Reply.{Reply}
+use Rattle.pc_proto.specs.Replies.{holder_in}
+use Rattle.pc_proto.specs.declared.request.Request.{Request}
+use Rattle.pc_wave.proofs.Changed.{changed_other, found_all, found_passes, pairwise_changed}
+use Rattle.pc_wave.proofs.Lists.{any_last_of, find-last}
+use Rattle.pc_wave.proofs.Standings.{IsOther, IsOtherSent, heard-kept, stands-kept}
+use Rattle.pc_wave.specs.declared.message.Message.{Message}
+use Rattle.pc_wave.specs.declared.message.Progress.{Progress}
+use Rattle.pc_wave.specs.declared.message.Progress.TheVariants as progresses
+use Rattle.pc_wave.specs.declared.step.Step.{Step}
+use Rattle.pc_wave.specs.declared.step.Step.TheVariants as steps
+use Rattle.pc_wave.specs.Messages.{conflict_by, first_changed, first_in_conflict, has_answer, is_to_send, progress_to_send, step_by, step_in, step_of, sent_under}
+use Rattle.pc_wave.specs.Standing.{AreAnsweredBut, AreNumbered, AreOfTwo, HasMore, IsAsFar, MessageStands, WaveStands}
+use Rattle.pc_world.specs.Counting.{AtLeast}
+use Rattle.pc_world.specs.Follows.Resends.{AreAnsweredNow}
+use Rattle.pc_world.specs.Known.{Known, next_number}
+use Rattle.pc_world.specs.Known.Traffic.{Sent, request_sent}
+use Rattle.pc_world.specs.SameRequest.{IsSameRequest}
+use Rattle.pc_world.specs.Tell.Refusal.{IsConflictOf, is_heard}
+
+conflict_sends : (o : Option TxnId) (number : ℕ) (conflict : Reply) (request : Request) → conflict_by o number conflict ≡ steps.Send request → ⊥
+conflict_sends None number conflict request e = absurd cc
+conflict_sends (Some holder) number conflict request e = absurd cc
+
+step_sends : (n : ℕ) (p : Progress) (request : Request) → step_in n p ≡ steps.Send request → ⊥
+step_sends n (progresses.Met number conflict) request e = conflict_sends (cond (nat_le MOST_CONFLICTS n) (holder_in conflict) None) number conflict request e
+step_sends n p request e = absurd cc
+
+-- the request that is due is that of the first message that is to be sent
+pub sends_first : (first to_send : Option Message) (b : Bool) (request : Request) → step_by first to_send b ≡ steps.Send request → (m : Message) × (to_send ≡ Some m) × (m.request ≡ request)
+sends_first (Some m) to_send b request e = absurd (step_sends m.conflicts m.progress request e)
+sends_first None (Some m) b request e = (m, refl, ap sent_in e)
+  where
+    sent_in : Step → Request
+    sent_in (steps.Send request) = request
+    sent_in step = m.request
+sends_first None None true request e = absurd cc
+sends_first None None false request e = absurd cc
+
+-- a message of a new number
+module _ (k now : Known) (ms : List Message) (w : WaveStands k ms) (numbered : AreNumbered k) (m : Message) (found : find is_to_send ms ≡ Some m) (range : ℕ) where
+  abbrev n : ℕ
+  n = next_number k
+
+  abbrev new : Sent
+  new = record { number = n; range = range; request = m.request }
+
+  module _ (more : HasMore k now (new ∷ []) []) where
+    longer : length now.sent ≡ length k.sent + 1
+    longer = ap length more.sent ∙ length-append k.sent (new ∷ [])
+
+    stands_m : MessageStands k m
+    stands_m = found_all is_to_send (MessageStands k) ms m found w.stand
+
+    stands_m_goes : (p : Progress) → progress_to_send p ≡ true → IsAsFar k m.request m.conflicts p → AreAnsweredNow k m.request
+    stands_m_goes progresses.ToSend is far = far.0.answered
+    stands_m_goes (progresses.Sent number) is far = absurd cc
+    stands_m_goes (progresses.Met number conflict) is far = absurd cc
+    stands_m_goes (progresses.Answered number reply) is far = absurd cc
+
+    rest_answered : AreAnsweredNow k m.request → AreAnsweredBut now n m.request
+    rest_answered a =
+        let P : Sent → Type 0 = λ s. IsSameRequest m.request s.request → IsTrue (is_heard k.heard_now s) in
+        let Q : Sent → Type 0 = λ s. IsSameRequest m.request s.request → s.number ≢ n → IsTrue (is_heard now.heard_now s) in
+        let old : All Q k.sent_now = All-weaker P Q (λ s p same differ. heard-kept k now (new ∷ []) [] more s (p same)) k.sent_now a in
+        subst (λ ms. All Q ms) (sym more.sent_now) (All-push Q k.sent_now new old (λ same differ. absurd (differ refl)))
+
+    few : (p : Progress) → progress_to_send p ≡ true → IsAsFar k m.request m.conflicts p → m.conflicts < MOST_CONFLICTS
+    few progresses.ToSend is far = far.1
+    few (progresses.Sent number) is far = absurd cc
+    few (progresses.Met number conflict) is far = absurd cc
+    few (progresses.Answered number reply) is far = absurd cc
+
+    low : (x : ℕ) → x ≤ length k.sent → x ≢ n
+    low x h e = absurd (omega arith)
+
+    goes_out : MessageStands now (sent_under n m)
+    goes_out = record {
+      as_far = (
+        record {
+          out = record {
+            said =
+                ap (request_sent n) more.sent
+                ∙ ap (option_map (λ s. s.request)) (find-last (λ s. s.number) n k.sent new (All-weaker (λ s. s.number ≤ length k.sent) (λ s. s.number ≢ n) (λ s h. low s.number h) k.sent numbered.sent) refl);
+            numbered = omega (arith, longer);
+            now = ap (list_any (λ s. s.number == n)) more.sent_now ∙ any_last_of (λ s. s.number) n k.sent_now new refl;
+          };
+          rest = rest_answered (stands_m_goes m.progress (found_passes is_to_send ms m found) stands_m.as_far);
+          unheard =
+              subst (λ hs. All (λ h. h.number ≢ n) hs) (sym (more.heard ∙ append-nil k.heard))
+              (All-weaker (λ h. h.number ≤ length k.sent) (λ h. h.number ≢ n) (λ h l. low h.number l) k.heard numbered.heard);
+        },
+        few m.progress (found_passes is_to_send ms m found) stands_m.as_far,
+      );
+      counted =
+          let same : now.heard_now ≡ k.heard_now = more.heard_now ∙ append-nil k.heard_now in
+          record {
+            heard = subst (λ hs. AtLeast (IsConflictOf m.request) m.conflicts hs) (sym same) stands_m.counted.heard;
+            no_more = λ a. stands_m.counted.no_more (subst (λ hs. AtLeast (IsConflictOf m.request) (m.conflicts + 1) hs) same a);
+          };
+      no_round = stands_m.no_round;
+    }
+
+    stays : (y : Message) → MessageStands k y → (IsSameRequest y.request m.request → ⊥) → MessageStands now y
+    stays y s other =
+        stands-kept k now (new ∷ []) [] more y (All-cons (IsOtherSent y.request) new [] other (All-nil (IsOtherSent y.request))) (All-nil (IsOther y.request))
+        (λ number e. All-nil (λ h. h.number ≢ number)) s
+
+    pub sent_stands : WaveStands now (first_changed is_to_send (sent_under n) ms)
+    sent_stands = record {
+      stand =
+          changed_other AreOfTwo is_to_send (sent_under n) (MessageStands k) (MessageStands now) ms m found
+          (λ y s two. stays y s two.differ) (λ y s two. stays y s two.back) (λ s. goes_out) w.stand w.differ;
+      differ = pairwise_changed AreOfTwo is_to_send (sent_under n) (λ x y two. record { differ = two.differ; back = two.back }) (λ x y two. record { differ = two.differ; back = two.back }) ms w.differ;
+    }
+
+-- after the request that was due was sent
+pub wave_sent : (k now : Known) (ms : List Message) (number range : ℕ) (request : Request) → WaveStands k ms → AreNumbered k → step_of ms ≡ steps.Send request → number ≡ next_number k
+    → HasMore k now (record { number = number; range = range; request = request } ∷ []) [] → WaveStands now (first_changed is_to_send (sent_under number) ms)
+wave_sent k now ms number range request w numbered due next more =
+    let f = sends_first (first_in_conflict ms) (find is_to_send ms) (list_all has_answer ms) request due in
+    let P : ℕ → Request → Type 0 = λ n r. HasMore k now (record { number = n; range = range; request = r } ∷ []) [] in
+    let is : P (next_number k) f.0.request = subst (λ r. P (next_number k) r) (sym f.2) (subst (λ n. P n request) next more) in
+    subst (λ n. WaveStands now (first_changed is_to_send (sent_under n) ms)) (sym next) (sent_stands k now ms w numbered f.0 f.1 range is)

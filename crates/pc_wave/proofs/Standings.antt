@@ -1,0 +1,184 @@
+-- A message stands on while its session sends and hears what is of other requests.
+use Rattle.std.proofs.Common.{◌≡◌, ◌≢◌, ℕ, ◌+◌, ◌==◌, inl, inr, List, ◌∷◌, ◌++◌, find, length, None, Some, Option, refl, sym, ap, ◌∙◌, subst, arith, All, Any, IsTrue, length-append}
+use Rattle.std.specs.List.{list_any}
+use Rattle.std.specs.Option.{option_map, option_or}
+use Rattle.std.proofs.lemmas.List.{append_assoc}
+use Rattle.std.proofs.lemmas.List.Elements.{All-append, All-weaker}
+use Rattle.std.proofs.lemmas.List.Folds.{find-append}
+use Rattle.pc_base.specs.declared.transaction.TxnId.{TxnId}
+use Rattle.pc_proto.specs.declared.fate.Goal.{Goal}
+use Rattle.pc_proto.specs.declared.reply.Reply.{Reply}
+use Rattle.pc_proto.specs.declared.reply.Reply.TheVariants as replies
+use Rattle.pc_proto.specs.declared.request.Request.{Request}
+use Rattle.pc_proto.specs.Replies.{is_undecided_status}
+use Rattle.pc_lists.proofs.Anywhere.{any_kept}
+use Rattle.pc_wave.proofs.Lists.{any_before, any_true_kept, at_least-before, at_least-kept}
+use Rattle.pc_wave.specs.declared.message.Message.{Message}
+use Rattle.pc_wave.specs.declared.message.Progress.{Progress}
+use Rattle.pc_wave.specs.declared.message.Progress.TheVariants as progresses
+use Rattle.pc_wave.specs.Standing.{AreAnsweredBut, AreCounted, HasComeBack, HasMore, IsAsFar, IsOnItsWay, IsReplyAt, MayGoOut, MessageStands, MetConflict, IsSentUnder}
+use Rattle.pc_world.specs.Counting.{AtLeast}
+use Rattle.pc_world.specs.Follows.Resends.{AreAnsweredNow, MayGoAgain, MetConflictNow, WasDone, WasFollowed, WasRefusedNow}
+use Rattle.pc_world.specs.Known.{Known}
+use Rattle.pc_world.specs.Known.Traffic.{Heard, Sent, request_sent}
+use Rattle.pc_world.specs.SameRequest.{IsSameRequest}
+use Rattle.pc_world.specs.Send.Settling.{ResolvedTo}
+use Rattle.pc_world.specs.Tell.Refusal.{IsConflictOf, is_heard}
+
+done-more : (id : TxnId) (key : List ℕ) (goal : Goal) (reply : Reply) (after more : List Heard) → WasDone id key goal reply after → WasDone id key goal reply (after ++ more)
+done-more id key goal (replies.Status view) after more done = record { fate = done.fate; left = done.left; settled = any_kept (ResolvedTo id key done.fate) after more done.settled }
+done-more id key goal (replies.Unsure view) after more done = record {
+  before = done.before;
+  recovery = done.recovery;
+  after = done.after ++ more;
+  whole = ap (λ hs. hs ++ more) done.whole ∙ append_assoc done.before (done.recovery ∷ done.after) more;
+  view = done.view;
+  shown = done.shown;
+  settled = λ fate final. any_kept (ResolvedTo id key fate) done.after more (done.settled fate final);
+}
+done-more id key goal reply after more done = absurd done
+
+followed-more : (id : TxnId) (key : List ℕ) (later more : List Heard) → WasFollowed id key later → WasFollowed id key (later ++ more)
+followed-more id key later more f = record {
+  before = f.before;
+  push = f.push;
+  after = f.after ++ more;
+  whole = ap (λ hs. hs ++ more) f.whole ∙ append_assoc f.before (f.push ∷ f.after) more;
+  pushed = f.pushed;
+  goal = f.goal;
+  aims = f.aims;
+  done = done-more id key f.goal f.push.reply f.after more f.done;
+}
+
+some-or : (a b : Option Sent) (r : Request) → option_map (λ s. s.request) a ≡ Some r → option_map (λ s. s.request) (option_or a b) ≡ Some r
+some-or None b r h = absurd cc
+some-or (Some s) b r h = h
+
+said_kept : (n : ℕ) (r : Request) (xs ys : List Sent) → request_sent n xs ≡ Some r → request_sent n (xs ++ ys) ≡ Some r
+said_kept n r xs ys h = ap (option_map (λ s. s.request)) (find-append (λ s. s.number == n) xs ys) ∙ some-or (find (λ s. s.number == n) xs) (find (λ s. s.number == n) ys) r h
+
+-- A reply that was heard is to another request.
+abbrev pub IsOther : Request → Heard → Type 0
+IsOther request h = IsSameRequest request h.request → ⊥
+
+-- A message that was sent is of another request.
+abbrev pub IsOtherSent : Request → Sent → Type 0
+IsOtherSent request m = IsSameRequest request m.request → ⊥
+
+module _ (k k2 : Known) (sent_more : List Sent) (heard_more : List Heard) (more : HasMore k k2 sent_more heard_more) where
+  pub out-kept : (number : ℕ) (request : Request) → IsSentUnder k number request → IsSentUnder k2 number request
+  out-kept number request out =
+      let longer : length k2.sent ≡ length k.sent + length sent_more = ap length more.sent ∙ length-append k.sent sent_more in
+      record {
+        said = ap (request_sent number) more.sent ∙ said_kept number request k.sent sent_more out.said;
+        numbered = omega (arith, longer, out.numbered);
+        now = ap (list_any (λ m. m.number == number)) more.sent_now ∙ any_true_kept (λ m. m.number == number) k.sent_now sent_more out.now;
+      }
+
+  pub heard-kept : (m : Sent) → IsTrue (is_heard k.heard_now m) → IsTrue (is_heard k2.heard_now m)
+  heard-kept m heard = ap (list_any (λ h. h.number == m.number)) more.heard_now ∙ any_true_kept (λ h. h.number == m.number) k.heard_now heard_more heard
+
+  module _ (request : Request) (news : All (IsOtherSent request) sent_more) (others : All (IsOther request) heard_more) where
+    met-kept : MetConflictNow k request → MetConflictNow k2 request
+    met-kept m = record {
+      before = m.before;
+      conflict = m.conflict;
+      later = m.later ++ heard_more;
+      whole = more.heard_now ∙ ap (λ hs. hs ++ heard_more) m.whole ∙ append_assoc m.before (m.conflict ∷ m.later) heard_more;
+      same = m.same;
+      last = All-append (IsOther request) m.later heard_more m.last others;
+      holder = m.holder;
+      ts = m.ts;
+      key = m.key;
+      met = m.met;
+      followed = followed-more m.holder.id m.key m.later heard_more m.followed;
+    }
+
+    refused-kept : WasRefusedNow k request → WasRefusedNow k2 request
+    refused-kept r =
+        let P : Heard → Type 0 = λ h. (h.request ≡ request) × IsTrue (is_undecided_status h.reply) in
+        record { commits = r.commits; refused = subst (λ hs. Any P hs) (sym more.heard_now) (any_kept P k.heard_now heard_more r.refused) }
+
+    again-kept : MayGoAgain k request None → MayGoAgain k2 request None
+    again-kept (inl met) = inl (met-kept met)
+    again-kept (inr refused) = inr (refused-kept refused)
+
+    pub answered-kept : AreAnsweredNow k request → AreAnsweredNow k2 request
+    answered-kept a =
+        let P : Sent → Type 0 = λ m. IsSameRequest request m.request → IsTrue (is_heard k.heard_now m) in
+        let Q : Sent → Type 0 = λ m. IsSameRequest request m.request → IsTrue (is_heard k2.heard_now m) in
+        let old : All Q k.sent_now = All-weaker P Q (λ m p same. heard-kept m (p same)) k.sent_now a in
+        let new : All Q sent_more = All-weaker (IsOtherSent request) Q (λ m other same. absurd (other same)) sent_more news in
+        subst (λ ms. All Q ms) (sym more.sent_now) (All-append Q k.sent_now sent_more old new)
+
+    rest-kept : (number : ℕ) → AreAnsweredBut k number request → AreAnsweredBut k2 number request
+    rest-kept number a =
+        let P : Sent → Type 0 = λ m. IsSameRequest request m.request → m.number ≢ number → IsTrue (is_heard k.heard_now m) in
+        let Q : Sent → Type 0 = λ m. IsSameRequest request m.request → m.number ≢ number → IsTrue (is_heard k2.heard_now m) in
+        let old : All Q k.sent_now = All-weaker P Q (λ m p same differ. heard-kept m (p same differ)) k.sent_now a in
+        let new : All Q sent_more = All-weaker (IsOtherSent request) Q (λ m other same. absurd (other same)) sent_more news in
+        subst (λ ms. All Q ms) (sym more.sent_now) (All-append Q k.sent_now sent_more old new)
+
+    awaited-kept : (number : ℕ) → All (λ h. h.number ≢ number) heard_more → IsOnItsWay k number request → IsOnItsWay k2 number request
+    awaited-kept number apart w = record {
+      out = out-kept number request w.out;
+      rest = rest-kept number w.rest;
+      unheard = subst (λ hs. All (λ h. h.number ≢ number) hs) (sym more.heard) (All-append (λ h. h.number ≢ number) k.heard heard_more w.unheard apart);
+    }
+
+    back-kept : (number : ℕ) (reply : Reply) → HasComeBack k number request reply → HasComeBack k2 number request reply
+    back-kept number reply b = record {
+      out = out-kept number request b.out;
+      answered = answered-kept b.answered;
+      heard = subst (λ hs. Any (IsReplyAt number request reply) hs) (sym more.heard_now) (any_kept (IsReplyAt number request reply) k.heard_now heard_more b.heard);
+      kind = b.kind;
+    }
+
+    pub go_out-kept : MayGoOut k request → MayGoOut k2 request
+    go_out-kept g = record {
+      answered = answered-kept g.answered;
+      again = λ some.
+          let P : Sent → Type 0 = λ m. IsSameRequest request m.request in
+          again-kept (g.again (any_before P k.sent_now sent_more news (subst (λ ms. Any P ms) more.sent_now some)));
+    }
+
+    pub conflict-kept : (number : ℕ) (conflict : Reply) → MetConflict k number request conflict → MetConflict k2 number request conflict
+    conflict-kept number conflict m = record {
+      out = out-kept number request m.out;
+      answered = answered-kept m.answered;
+      kind = m.kind;
+      holder = m.holder;
+      ts = m.ts;
+      key = m.key;
+      is = m.is;
+      before = m.before;
+      h = m.h;
+      later = m.later ++ heard_more;
+      whole = more.heard_now ∙ ap (λ hs. hs ++ heard_more) m.whole ∙ append_assoc m.before (m.h ∷ m.later) heard_more;
+      reply = m.reply;
+      last = All-append (IsOther request) m.later heard_more m.last others;
+    }
+
+    pub counted-kept : (n : ℕ) → AreCounted k request n → AreCounted k2 request n
+    counted-kept n c =
+        let P : Heard → Type 0 = IsConflictOf request in
+        let none : All (λ h. P h → ⊥) heard_more = All-weaker (IsOther request) (λ h. P h → ⊥) (λ h other is. other is.same) heard_more others in
+        record {
+          heard = subst (λ hs. AtLeast P n hs) (sym more.heard_now) (at_least-kept P n k.heard_now heard_more c.heard);
+          no_more = λ a. c.no_more (at_least-before P (n + 1) k.heard_now heard_more none (subst (λ hs. AtLeast P (n + 1) hs) more.heard_now a));
+        }
+
+    pub far-kept : (n : ℕ) (p : Progress) → ((number : ℕ) → p ≡ progresses.Sent number → All (λ h. h.number ≢ number) heard_more) → IsAsFar k request n p → IsAsFar k2 request n p
+    far-kept n progresses.ToSend apart f = (go_out-kept f.0, f.1)
+    far-kept n (progresses.Sent number) apart f = (awaited-kept number (apart number refl) f.0, f.1)
+    far-kept n (progresses.Met number conflict) apart f = conflict-kept number conflict f
+    far-kept n (progresses.Answered number reply) apart f = (back-kept number reply f.0, f.1)
+
+  -- the message stands as before
+  pub stands-kept : (m : Message) → All (IsOtherSent m.request) sent_more → All (IsOther m.request) heard_more
+      → ((number : ℕ) → m.progress ≡ progresses.Sent number → All (λ h. h.number ≢ number) heard_more) → MessageStands k m → MessageStands k2 m
+  stands-kept m news others apart s = record {
+    as_far = far-kept m.request news others m.conflicts m.progress apart s.as_far;
+    counted = counted-kept m.request news others m.conflicts s.counted;
+    no_round = s.no_round;
+  }

@@ -1,0 +1,11 @@
+use Rattle.std.proofs.Common.{◌≡◌, ◌∷◌, ◌++◌, [], sym, ap, subst, ◌∙◌}
+use Rattle.pc_wave.proofs.Joining.{wave_joined}
+use Rattle.pc_wave.specs.Messages.{message_to_send}
+use Rattle.pc_wave.specs.Standing.{WaveStands}
+use Rattle.pc_wave.proofs.wave.Wave.add.Goals as goal
+
+pub returns-clause-stands : goal.returns-clause-stands
+returns-clause-stands c k w join =
+    let made : c.push.new.self.items ≡ c.args.self.now ++ message_to_send c.args.request ∷ [] =
+    c.in_ok-push.ensures.items ∙ ap (λ ms. ms ++ c.to_send.result ∷ []) c.self.view_is ∙ ap (λ m. c.args.self.now ++ m ∷ []) c.to_send.ensures in
+    subst (λ ms. WaveStands k ms) (sym made) (wave_joined k c.args.self.now c.args.request w join)

@@ -1,0 +1,145 @@
+ghost use Rattle.std.specs.Prelude.{◌≡◌, IfOk};
+ghost use Rattle.pc_wave.specs.Messages.{awaits_at, back_with, conflicts_at, goes_again, has_answer, is_out, is_in_conflict, is_to_send, message_to_send, conflict_step, one_conflict_more, step_in, sent_under};
+
+use crate::step::Step;
+use pc_base::limits::MOST_CONFLICTS;
+use pc_base::{NoMemory, TryCopy};
+use pc_proto::{Reply, Request};
+
+/// A message of the open statement. Its request is kept, and sent again as it is.
+#[derive(Drop)]
+pub struct Message {
+    pub request: Request,
+    /// How many intents it met in this call.
+    pub conflicts: u32,
+    pub progress: Progress,
+}
+
+/// How far a message is.
+#[derive(Drop)]
+pub enum Progress {
+    /// It is to be sent.
+    ToSend,
+    /// It went out under this number, and its reply is waited for.
+    Sent { number: u64 },
+    /// Under this number it met this conflict, whose round is to be made.
+    Met { number: u64, conflict: Reply },
+    /// This was replied to it under this number, and it was no conflict.
+    Answered { number: u64, reply: Reply },
+}
+
+impl Message {
+    pub fn to_send(request: Request) -> Message
+        ensures { result ≡ message_to_send request }
+    {
+        Message {
+            request,
+            conflicts: 0,
+            progress: Progress::ToSend,
+        }
+    }
+
+    pub fn is_to_send(&self) -> bool
+        ensures { result ≡ is_to_send self.now }
+    {
+        matches!(self.progress, Progress::ToSend)
+    }
+
+    pub fn is_out(&self) -> bool
+        ensures { result ≡ is_out self.now }
+    {
+        matches!(self.progress, Progress::Sent { .. })
+    }
+
+    pub fn is_in_conflict(&self) -> bool
+        ensures { result ≡ is_in_conflict self.now }
+    {
+        matches!(self.progress, Progress::Met { .. })
+    }
+
+    pub fn has_answer(&self) -> bool
+        ensures { result ≡ has_answer self.now }
+    {
+        matches!(self.progress, Progress::Answered { .. })
+    }
+
+    pub fn awaits_at(&self, number: u64) -> bool
+        ensures { result ≡ awaits_at number self.now }
+    {
+        match &self.progress {
+            Progress::Sent { number: sent } => *sent == number,
+            _ => false,
+        }
+    }
+
+    pub fn conflicts_at(&self, number: u64) -> bool
+        ensures { result ≡ conflicts_at number self.now }
+    {
+        match &self.progress {
+            Progress::Met { number: sent, .. } => *sent == number,
+            _ => false,
+        }
+    }
+
+    /// What is due of a message that met an intent: its round, or the call is blocked.
+    pub fn step(&self) -> Result<Step, NoMemory>
+        ensures { IfOk result (λ step. step ≡ step_in self.now.conflicts self.now.progress) }
+    {
+        match &self.progress {
+            Progress::Met { number, conflict } => self.conflict_step(*number, conflict),
+            _ => Ok(Step::Deliver),
+        }
+    }
+
+    fn conflict_step(&self, number: u64, conflict: &Reply) -> Result<Step, NoMemory>
+        ensures { IfOk result (λ step. step ≡ conflict_step self.now.conflicts number conflict.now) }
+    {
+        match conflict.holder() {
+            Some(holder) if self.conflicts >= MOST_CONFLICTS => Ok(Step::Blocked { holder }),
+            _ => Ok(Step::Round {
+                number,
+                conflict: conflict.copy()?,
+            }),
+        }
+    }
+
+    /// It went out under this number.
+    pub fn go_out(&mut self, number: u64)
+        ensures { self.new ≡ sent_under number self.old }
+    {
+        self.progress = Progress::Sent { number };
+    }
+
+    /// This was replied to it; it went out under this number.
+    pub fn hear(&mut self, number: u64, reply: Reply)
+        ensures { self.new ≡ back_with number reply self.old }
+    {
+        if matches!(reply, Reply::Conflict { .. }) {
+            self.conflicts = one_conflict_more(self.conflicts);
+            self.progress = Progress::Met {
+                number,
+                conflict: reply,
+            };
+        } else {
+            self.progress = Progress::Answered { number, reply };
+        }
+    }
+
+    /// The round of its conflict was made: it is to be sent again.
+    pub fn go_again(&mut self)
+        ensures { self.new ≡ goes_again self.old }
+    {
+        self.progress = Progress::ToSend;
+    }
+}
+
+/// One conflict more, counted up to the eighth.
+fn one_conflict_more(conflicts: u32) -> u32
+    ensures { result ≡ one_conflict_more conflicts }
+{
+    if conflicts < MOST_CONFLICTS {
+        conflicts + 1
+    } else {
+        MOST_CONFLICTS
+    }
+}

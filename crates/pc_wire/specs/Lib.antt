@@ -1,0 +1,3 @@
+-- The wire, and what waits to go over it.
+pub mod Outbox
+pub mod Verdicts

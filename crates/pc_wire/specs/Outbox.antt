@@ -1,0 +1,25 @@
+-- What an actor has sent and what is not yet delivered.
+use Rattle.std.specs.Prelude.{ℕ, Bool, nat_le, List, Option, None, Some, find}
+use Rattle.std.specs.BTreeMap.{is_at}
+use Rattle.std.specs.Map.{remove_entry}
+use Rattle.std.specs.Ordering.{nat_cmp}
+use Rattle.pc_wire.specs.declared.outbox.Waiting.{Waiting}
+use Rattle.pc_wire.specs.declared.outbox.Stray.{Stray}
+
+-- The messages that are not yet delivered and the strays, each under its number, in the order of their numbers.
+pub record OutboxMeaning (M : Type 0) : Type 0 where
+  pub waiting : List (ℕ × Waiting M)
+  pub bag : List (ℕ × Stray M)
+
+-- The stray is due once so many messages were sent.
+abbrev pub is_due_by : {M : Type 0} → ℕ → ℕ × Stray M → Bool
+is_due_by sent e = nat_le e.1.due sent
+
+-- The bag once this stray was taken, if one was.
+abbrev pub without_stray : {M : Type 0} → Option (ℕ × Stray M) → List (ℕ × Stray M) → List (ℕ × Stray M)
+without_stray None bag = bag
+without_stray (Some e) bag = remove_entry (is_at (nat_cmp e.0)) bag
+
+-- The bag once the first stray that is due was taken.
+abbrev pub after_due : {M : Type 0} → ℕ → List (ℕ × Stray M) → List (ℕ × Stray M)
+after_due sent bag = without_stray (find (is_due_by sent) bag) bag

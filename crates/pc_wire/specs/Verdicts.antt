@@ -1,0 +1,40 @@
+-- What becomes of messages on a wire. Own profile: loss is stated, message by message.
+use Rattle.std.specs.Prelude.{ℕ, ◌+◌, ◌-◌, ◌^◌, ◌%◌, ◌==◌, min, Bool, true, false, cond, List, slice_get, Option, Some, None}
+use Rattle.pc_wire.specs.declared.verdict.Verdict.{Verdict}
+use Rattle.pc_wire.specs.declared.verdict.Verdict.TheVariants as verdicts
+
+-- Nothing is heard of the message: it, its reply, or both in time, are lost.
+abbrev pub is_losing : Verdict → Bool
+is_losing verdicts.LoseRequest = true
+is_losing verdicts.LoseReply = true
+is_losing (verdicts.Hold later) = true
+is_losing verdicts.Deliver = false
+is_losing (verdicts.Repeat later) = false
+
+-- A count of faults after one more verdict; it stands still at the greatest `u64`.
+abbrev pub faults_after : Verdict → ℕ → ℕ
+faults_after verdict faults = cond (is_losing verdict) (min (faults + 1) (2 ^ 64 - 1)) faults
+
+-- What contracts see of a wire with a list of verdicts.
+pub record ListedWire : Type 0 where
+  pub list : List Verdict
+  pub faults : ℕ
+
+-- What contracts see of a wire with one verdict for every so many sends.
+pub record PeriodicWire : Type 0 where
+  pub period : ℕ
+  pub verdict : Verdict
+  pub faults : ℕ
+
+-- A verdict where there is one, else the message is delivered.
+abbrev pub or_deliver : Option Verdict → Verdict
+or_deliver None = verdicts.Deliver
+or_deliver (Some verdict) = verdict
+
+-- The n-th verdict of a list, counted from 1; a message past its end is delivered.
+abbrev pub listed_verdict : List Verdict → ℕ → Verdict
+listed_verdict list number = cond (number == 0) verdicts.Deliver (or_deliver (slice_get list (number - 1)))
+
+-- The verdict for each message whose number is a multiple of the period; the others are delivered.
+abbrev pub periodic_verdict : ℕ → Verdict → ℕ → Verdict
+periodic_verdict period verdict number = cond (number % period == 0) verdict verdicts.Deliver

@@ -1,0 +1,14 @@
+/// What becomes of a message.
+#[derive(Clone, Copy, Debug, PartialEq, Eq)]
+pub enum Verdict {
+    /// It is evaluated, and its reply heard.
+    Deliver,
+    /// It is not evaluated.
+    LoseRequest,
+    /// It is evaluated, and its reply not heard.
+    LoseReply,
+    /// It is evaluated and heard, and a copy is evaluated once its sender has sent so many more.
+    Repeat(u32),
+    /// It is evaluated once its sender has sent so many more, and its reply not heard.
+    Hold(u32),
+}

@@ -1,0 +1,30 @@
+ghost use Rattle.std.specs.Prelude.{◌≡◌, ℕ};
+ghost use Rattle.pc_wire.specs.declared.verdict.Verdict.{Verdict as Outcome};
+ghost use Rattle.pc_wire.specs.Verdicts.{faults_after};
+
+use crate::verdict::Verdict;
+
+/// The way of one actor's messages: what becomes of its send of each number, counted from 1.
+pub trait Wire {
+    /// The verdict on each send.
+    ghost rule: { Self → ℕ → Outcome };
+
+    /// How many verdicts were losing ones; it stands still at the greatest `u64`.
+    ghost faults: { Self → ℕ };
+
+    /// The verdict on the send of this number.
+    fn verdict(&mut self, number: u64) -> Verdict
+        ensures given { result ≡ rule self.old number }
+        ensures counted { faults self.new ≡ faults_after result (faults self.old) }
+        ensures kept { rule self.new ≡ rule self.old };
+}
+
+/// The count of faults after one more verdict.
+pub(crate) fn count_after(verdict: Verdict, faults: u64) -> u64
+    ensures { result ≡ faults_after verdict faults }
+{
+    match verdict {
+        Verdict::LoseRequest | Verdict::LoseReply | Verdict::Hold(_) => faults.saturating_add(1),
+        Verdict::Deliver | Verdict::Repeat(_) => faults,
+    }
+}

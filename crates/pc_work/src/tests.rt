@@ -1,4 +1,0 @@
-mod accepted;
-mod fixtures;
-mod limits;
-mod parts;
