@@ -21,7 +21,6 @@ pub struct Flight {
 impl Model for Flight {
     ghost use Rattle.std.specs.Prelude.{List};
     ghost use Rattle.pc_flight.specs.declared.write.WriteInFlight.{WriteInFlight};
-
     ghost use Rattle.pc_flight.specs.InFlight.{IsFlight};
 
     ghost Value = { List WriteInFlight };
