@@ -1,13 +1,16 @@
 -- What is in flight stays what the session knows to be sent and not proved.
-use Rattle.std.proofs.Common.{◌≡◌, ℕ, true, false, Bool, ◌&&◌, ◌==◌, cond, not, List, [], ◌∷◌, ◌++◌, map, filter, Option, Contains, Result, Ok, Err, OnOk, IfOk, inl, inr, refl, sym, ap, ◌∙◌, subst}
+use Rattle.std.proofs.Common.{◌≡◌, ℕ, ◌+◌, ◌<◌, ◌≤◌, max, fold, All, true, false, Bool, ◌&&◌, ◌||◌, ◌==◌, cond, not, List, [], ◌∷◌, ◌++◌, map, filter, Option, IsTrue, Contains, Result, Ok, Err, OnOk, IfOk, inl, inr, refl, sym, ap, ◌∙◌, subst, arith}
+use Rattle.std.proofs.lemmas.List.Elements.{All-cons, All-head, All-nil, All-tail, All-weaker}
 use Rattle.std.specs.List.{list_any}
 use Rattle.pc_base.specs.declared.memory.NoMemory.{NoMemory}
-use Rattle.pc_base.specs.Span.{same_key}
+use Rattle.pc_base.specs.declared.span.Span.{Span}
+use Rattle.pc_base.specs.Span.{contains, same_key}
 use Rattle.pc_lists.proofs.Lists.{contains_cons, contains_head, contains_nil, contains_tail}
 use Rattle.pc_flight.specs.declared.write.WriteInFlight.{WriteInFlight}
 use Rattle.pc_flight.specs.InFlight.{AreInFlight, HasNoSeq, in_flight_as, is_another, listed_in_flight}
 use Rattle.pc_flight.specs.Laws.{FlightsHold, IsKnownUnproved}
-use Rattle.pc_world.specs.Known.Writes.{Write, asked_again, is_proved, listed_as, proved_at, unproved, with_put}
+use Rattle.pc_world.specs.Known.Writes.{Write, asked_again, is_proved, last_seq_of, listed_as, proved_at, unproved, with_put}
+use Rattle.pc_world.specs.Send.Reading.{IsProvedIn}
 
 -- The write, where it is not proved, in front of the others.
 abbrev front_if : Bool → WriteInFlight → List WriteInFlight → List WriteInFlight
@@ -133,6 +136,70 @@ known_of : (ws : List Write) (f : WriteInFlight) → Contains (map in_flight_as 
 known_of [] f c = absurd (contains_nil f c)
 known_of (w ∷ ws) f c = known_by w ws f (not (is_proved w)) refl (known_of ws f) (subst (λ l. Contains l f) (flight_cons w ws) c)
 
+-- ---- the next sequence
+
+-- The greatest sequence, from this one on.
+abbrev last_from : ℕ → List Write → ℕ
+last_from n ws = fold (λ most w. max most w.seq) n ws
+
+from_least : (n : ℕ) (ws : List Write) → n ≤ last_from n ws
+from_least n [] = omega arith
+from_least n (w ∷ ws) = let low : max n w.seq ≤ last_from (max n w.seq) ws = from_least (max n w.seq) ws in omega (arith, low)
+
+each_within : (n : ℕ) (ws : List Write) → All (λ w. w.seq ≤ last_from n ws) ws
+each_within n [] = All-nil (λ w. w.seq ≤ n)
+each_within n (w ∷ ws) =
+    let low : max n w.seq ≤ last_from (max n w.seq) ws = from_least (max n w.seq) ws in
+    All-cons (λ x. x.seq ≤ last_from n (w ∷ ws)) w ws (omega (arith, low)) (each_within (max n w.seq) ws)
+
+none_above : (seq : ℕ) (ws : List Write) → All (λ w. w.seq < seq) ws → HasNoSeq seq ws
+none_above seq [] all = refl
+none_above seq (w ∷ ws) all =
+    let P : Write → Type 0 = λ w. w.seq < seq in
+    let rest = none_above seq ws (All-tail P w ws all) in
+    let first : w.seq < seq = All-head P w ws all in
+    let differs : (w.seq == seq) ≡ false = grind arith in
+    ap (λ b. b || list_any (λ w. w.seq == seq) ws) differs ∙ rest
+
+all_front : (P : WriteInFlight → Type 0) (b : Bool) (f : WriteInFlight) (fs : List WriteInFlight) → P f → All P fs → All P (front_if b f fs)
+all_front P true f fs one rest = All-cons P f fs one rest
+all_front P false f fs one rest = rest
+
+flight_below : (n : ℕ) (ws : List Write) → All (λ w. w.seq < n) ws → All (λ f. f.seq < n) (map in_flight_as (unproved ws))
+flight_below n [] all = All-nil (λ f. f.seq < n)
+flight_below n (w ∷ ws) all =
+    let P : Write → Type 0 = λ w. w.seq < n in
+    let Q : WriteInFlight → Type 0 = λ f. f.seq < n in
+    subst (λ l. All Q l) (sym (flight_cons w ws))
+    (all_front Q (not (is_proved w)) (in_flight_as w) (map in_flight_as (unproved ws)) (All-head P w ws all) (flight_below n ws (All-tail P w ws all)))
+
+below_next : (ws : List Write) → All (λ w. w.seq < last_seq_of ws + 1) ws
+below_next ws = All-weaker (λ w. w.seq ≤ last_seq_of ws) (λ w. w.seq < last_seq_of ws + 1) (λ w low. omega (arith, low)) ws (each_within 0 ws)
+
+-- ---- what is proved where none in flight lies
+
+module _ (span : Span) where
+  -- It lies in the span.
+  abbrev lies : WriteInFlight → Bool
+  lies f = contains span f.key
+
+  or_false : (a b : Bool) → (a || b) ≡ false → (a ≡ false) × (b ≡ false)
+  or_false true b h = absurd cc
+  or_false false b h = (refl, h)
+
+  none_by : (proved : Bool) (w : Write) (fs : List WriteInFlight) → is_proved w ≡ proved → list_any lies (front_if (not proved) (in_flight_as w) fs) ≡ false → (contains span w.key ≡ true → is_proved w ≡ true) × (list_any lies fs ≡ false)
+  none_by true w fs is h = ((λ c. is), h)
+  none_by false w fs is h =
+      let parts = or_false (contains span w.key) (list_any lies fs) h in
+      let out : contains span w.key ≡ false = parts.0 in
+      ((λ c. absurd cc), parts.1)
+
+  proved_in : (ws : List Write) → list_any lies (map in_flight_as (unproved ws)) ≡ false → IsProvedIn span ws
+  proved_in [] none = All-nil (λ w. IsTrue (contains span w.key) → IsTrue (is_proved w))
+  proved_in (w ∷ ws) none =
+      let parts = none_by (is_proved w) w (map in_flight_as (unproved ws)) refl (sym (ap (list_any lies) (flight_cons w ws)) ∙ none) in
+      All-cons (λ w. IsTrue (contains span w.key) → IsTrue (is_proved w)) w ws parts.0 (proved_in ws parts.1)
+
 pub flights_hold : FlightsHold
 flights_hold = record {
   again = λ flight writes seq ts key value are there.
@@ -140,4 +207,9 @@ flights_hold = record {
       ∙ ap (λ l. map in_flight_as (unproved l))
       (sym (ap (λ b. cond b (map (asked_again seq ts) writes) (writes ++ record { key = key; seq = seq; value = value; asked = ts ∷ []; proofs = [] } ∷ [])) there));
   known = λ flight writes are f there. known_of writes f (subst (λ l. Contains l f) are there);
+  next = λ flight writes are. (
+    subst (λ l. All (λ f. f.seq < last_seq_of writes + 1) l) (sym are) (flight_below (last_seq_of writes + 1) writes (below_next writes)),
+    none_above (last_seq_of writes + 1) writes (below_next writes),
+  );
+  read = λ span flight writes are none. proved_in span writes (sym (ap (list_any (lies span)) are) ∙ none);
 }

@@ -1,9 +1,19 @@
 -- The writes in flight, beside what the session knows of its transaction's writes.
-use Rattle.std.specs.Prelude.{◌≡◌, ℕ, Bool, false, ◌&&◌, ◌==◌, not, List, map}
+use Rattle.std.specs.Prelude.{◌≡◌, ℕ, ◌<◌, ◌≤◌, Bool, false, ◌&&◌, ◌==◌, not, List, length, map, AllPairs}
 use Rattle.std.specs.List.{list_any}
+use Rattle.pc_base.specs.declared.limits.TheConstants.{MOST_IN_FLIGHT}
 use Rattle.pc_base.specs.Span.{same_key}
 use Rattle.pc_flight.specs.declared.write.WriteInFlight.{WriteInFlight}
 use Rattle.pc_world.specs.Known.Writes.{Write, unproved}
+
+-- The writes stand by sequence, each under one of its own.
+abbrev pub AreBySequence : List WriteInFlight → Type 0
+AreBySequence flight = AllPairs (λ w later. w.seq < later.seq) flight
+
+-- The writes that are in flight at once: by sequence, and no more than may be.
+pub record IsFlight (flight : List WriteInFlight) : Type 0 where
+  pub by_sequence : AreBySequence flight
+  pub within : length flight ≤ MOST_IN_FLIGHT
 
 -- A write that the session knows, as one in flight.
 abbrev pub in_flight_as : Write → WriteInFlight

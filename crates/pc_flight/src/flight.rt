@@ -1,8 +1,8 @@
-ghost use Rattle.std.specs.Prelude.{◌≡◌, ◌++◌, ◌∷◌, [], ℕ, List, OnErr, OnOk, IfOk, filter, length, map, nat_le};
+ghost use Rattle.std.specs.Prelude.{◌≡◌, ◌<◌, ◌≤◌, All, ◌++◌, ◌∷◌, [], ℕ, List, OnErr, OnOk, IfOk, filter, length, map, nat_le};
 ghost use Rattle.std.specs.List.{list_any};
 ghost use Rattle.pc_base.specs.declared.limits.TheConstants.{MOST_IN_FLIGHT};
 ghost use Rattle.pc_base.specs.Span.{contains};
-ghost use Rattle.pc_flight.specs.InFlight.{AreInFlight, HasNoSeq, is_another, listed_in_flight, listed_one};
+ghost use Rattle.pc_flight.specs.InFlight.{AreBySequence, AreInFlight, HasNoSeq, is_another, listed_in_flight, listed_one};
 ghost use Rattle.pc_world.specs.Known.Writes.{Write, listed_as, proved_at, unproved, with_put};
 
 use crate::write::WriteInFlight;
@@ -21,10 +21,13 @@ pub struct Flight {
 impl Model for Flight {
     ghost use Rattle.std.specs.Prelude.{List};
     ghost use Rattle.pc_flight.specs.declared.write.WriteInFlight.{WriteInFlight};
+    ghost use Rattle.pc_flight.specs.InFlight.{IsFlight};
 
     ghost Value = { List WriteInFlight };
 
     ghost view = { λ f. f.writes.items };
+
+    ghost invariant = { λ f. IsFlight f.writes.items };
 }
 
 impl Flight {
@@ -39,6 +42,8 @@ impl Flight {
 
     /// This write, whose sequence is above all earlier ones, was sent.
     pub fn add(&mut self, key: Key, seq: u32, value: Option<Value>) -> Result<(), NoMemory>
+        requires room { length self.old < MOST_IN_FLIGHT }
+        requires above { All (λ w. w.seq < seq) self.old }
         ensures ok { OnOk result (self.new ≡ self.old ++ record { key = key; seq = seq; value = value } ∷ []) }
         ensures err { OnErr result (self.new ≡ self.old) }
         ensures holds { (writes : List Write) (ts : ℕ) → AreInFlight self.old writes → HasNoSeq seq writes → OnOk result (AreInFlight self.new (with_put seq ts key value writes)) }
@@ -76,14 +81,16 @@ impl Flight {
     }
 
     pub fn len(&self) -> usize
-        ensures { result ≡ length self.now }
+        ensures count { result ≡ length self.now }
+        ensures most { result ≤ MOST_IN_FLIGHT }
     {
         self.writes.len()
     }
 
     /// The writes in flight, by sequence.
     pub fn writes(&self) -> &[WriteInFlight]
-        ensures { result.now ≡ self.now }
+        ensures all { result.now ≡ self.now }
+        ensures by_sequence { AreBySequence result.now }
     {
         self.writes.as_slice()
     }

@@ -1,6 +1,7 @@
 ghost use Rattle.pc_flight.specs.Laws.{FlightsHold};
 
-/// A law: sending a write again leaves the writes in flight, and each of them may be sent again as it is.
+/// A law: what the writes in flight say of the writes that the session knows: which may be sent again, which are proved, and which
+/// sequence is the next.
 pub fn flights_hold()
     ensures { FlightsHold }
 {}
