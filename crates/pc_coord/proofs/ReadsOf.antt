@@ -90,7 +90,7 @@ scan_tells x span reply unmet may = absurd may
 get_of_call : (splits : List (List ℕ)) (x : Transaction) (key : List ℕ) → IsReadOfCall splits x (calls.Get key) (get_of x key)
 get_of_call splits x key = record {
   kind = tt;
-  built = tt;
+  built = refl;
   stamps = refl;
   reads = refl;
   at = λ number step reply. get_at x.id x.epoch x.seq x.read_ts key reply;
@@ -113,7 +113,7 @@ get_of_call splits x key = record {
 scan_of_call : (splits : List (List ℕ)) (x : Transaction) (whole span : Span) → Contains (map (λ p. p.1) (pieces splits whole)) span → IsReadOfCall splits x (calls.Scan whole) (scan_of x span)
 scan_of_call splits x whole span cut = record {
   kind = tt;
-  built = tt;
+  built = refl;
   stamps = refl;
   reads = refl;
   at = λ number step reply. scan_at x.id x.epoch x.seq x.read_ts span reply;

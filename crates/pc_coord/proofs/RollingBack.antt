@@ -144,7 +144,7 @@ module _ (c : Coordination) (k : Known) (reading : ℕ) (rising : AreRising c.sp
           all_locks = refl;
         };
         stamps = All-nil (λ ts. ts ≤ k2.top + 1);
-        kind = record { s = record { call = calls.Rollback; reading = reading }; opened = refl; kind = tt };
+        kind = record { s = record { call = calls.Rollback; reading = reading }; opened = refl; kind = refl };
         undecided = λ other ts decided. let e = decided.asked in absurd cc;
         again = λ was. absurd (none_sent was);
       };

@@ -1,4 +1,3 @@
 pub mod KeysAndRows
 pub mod OnRecord
 pub mod Room
-mod Places

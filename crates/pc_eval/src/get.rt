@@ -8,7 +8,6 @@ ghost use Rattle.pc_world.specs.Evaluation.Get.{found_at, get_blocker, own_value
 
 use crate::put::conflict;
 use crate::state::RangeState;
-use crate::versions::visible;
 use pc_base::{Key, NoMemory, Timestamp, TryCopy, TxnId, Value, Version};
 use pc_intent::{Intent, value_by};
 use pc_proto::{Origin, Reply, Request};
@@ -56,7 +55,7 @@ impl RangeState {
     {
         match self.own_value(id, epoch, seq, key) {
             Some(value) => Ok((Origin::Own, value.copy()?)),
-            None => version_found(visible(&self.versions, key, ts)),
+            None => version_found(self.versions.visible(key, ts)),
         }
     }
 

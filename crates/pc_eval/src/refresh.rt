@@ -7,7 +7,6 @@ ghost use Rattle.pc_world.specs.Evaluation.{reply, state_after};
 ghost use Rattle.pc_world.specs.Evaluation.Refresh.{refuter};
 
 use crate::state::RangeState;
-use crate::versions::first_between;
 use pc_base::{Key, NoMemory, Span, Timestamp, TryCopy, TxnId, Version};
 use pc_intent::Intent;
 use pc_proto::{Reply, Request};
@@ -24,7 +23,7 @@ impl RangeState {
         ensures after { OnOk result (self.new ≡ state_after (Request.Refresh id from to span.now) self.old) }
         ensures err { OnErr result (self.new ≡ self.old) }
     {
-        let version = first_between(&self.versions, span, from, to);
+        let version = self.versions.any_in(span, from, to);
         let other = self.intents.first_other(span, to, id);
         if let Some((key, ts)) = refuter(version, other)? {
             return Ok(Reply::Unrefreshed { key, ts });

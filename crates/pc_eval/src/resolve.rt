@@ -8,7 +8,6 @@ ghost use Rattle.pc_world.specs.Evaluation.{reply, state_after};
 ghost use Rattle.pc_world.specs.Evaluation.Resolve.{is_committed_by, versions_of};
 
 use crate::state::RangeState;
-use crate::versions::add;
 use pc_base::{Key, NoMemory, Timestamp, TryCopy, TxnId, Version};
 use pc_intent::{Intent, last_value};
 use pc_proto::{Fate, Reply, Request};
@@ -42,7 +41,7 @@ impl RangeState {
         ensures err { OnErr result (self.new ≡ self.old) }
     {
         if let Some(version) = version {
-            add(&mut self.versions, version)?;
+            self.versions.add(version)?;
         }
         Ok(())
     }

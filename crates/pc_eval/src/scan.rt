@@ -1,18 +1,14 @@
 //! Scan: reads the keys of a span. It closes the same race as a get, for every key of the span, also those that nobody has
 //! written yet: the read bound keeps later writes above the read's timestamp.
 
-ghost use Rattle.std.specs.Prelude.{◌≡◌, IfOk, OnOk, OnErr, ◌++◌, filter, fold, map};
-ghost use Rattle.std.specs.BTreeSet.{insert_key};
-ghost use Rattle.std.specs.Cmp.Lexicographic.{slice_cmp};
+ghost use Rattle.std.specs.Prelude.{◌≡◌, IfOk, OnOk, OnErr, ◌++◌};
 ghost use Rattle.std.specs.Option.{option_to_list};
-ghost use Rattle.std.specs.Ordering.{nat_cmp};
-ghost use Rattle.pc_base.specs.Span.{contains};
 ghost use Rattle.pc_world.specs.Evaluation.{reply, state_after};
 ghost use Rattle.pc_world.specs.Evaluation.Scan.{keys_in, row_found, rows_in};
 
 use crate::put::conflict;
 use crate::state::RangeState;
-use pc_base::{Items, Key, NoMemory, Span, Timestamp, TryCopy, TxnId, Value, Version};
+use pc_base::{Items, Key, NoMemory, Span, Timestamp, TxnId, Value};
 use pc_proto::{Origin, Reply, Request, Rows};
 use std::collections::BTreeSet;
 
@@ -49,7 +45,7 @@ impl RangeState {
     ) -> Result<Rows, NoMemory>
         ensures { IfOk result (λ made. made ≡ rows_in id epoch seq ts span.now self.now) }
     {
-        let mut rows = Items::new(*self.versions.allocator());
+        let mut rows = Items::new(self.alloc);
         for key in self.keys_in(span)? {
             let found = self.found_at(id, epoch, seq, ts, &key)?;
             add_row(&mut rows, key, found)?;
@@ -61,8 +57,8 @@ impl RangeState {
     fn keys_in(&self, span: &Span) -> Result<BTreeSet<Key>, NoMemory>
         ensures { IfOk result (λ made. made.keys ≡ keys_in span.now self.now) }
     {
-        let mut keys = BTreeSet::new(*self.versions.allocator());
-        add_versions(&mut keys, &self.versions, span)?;
+        let mut keys = BTreeSet::new(self.alloc);
+        self.versions.add_keys(span, &mut keys)?;
         self.intents.add_keys(span, &mut keys)?;
         Ok(keys)
     }
@@ -75,19 +71,6 @@ fn add_row(rows: &mut Rows, key: Key, found: (Origin, Option<Value>)) -> Result<
     let (origin, value) = found;
     if let Some(value) = value {
         rows.add((key, origin, value))?;
-    }
-    Ok(())
-}
-
-/// Adds the versions' keys that lie in the span.
-#[tactic(auto, using(pc_intent::proofs::Folds::keys_more))]
-fn add_versions(keys: &mut BTreeSet<Key>, versions: &[Version], span: &Span) -> Result<(), NoMemory>
-    ensures { OnOk result (keys.new.keys ≡ fold (insert_key (slice_cmp nat_cmp)) keys.old.keys (filter (contains span.now) (map (λ v. v.key) versions.now))) }
-{
-    for version in versions {
-        if span.contains(&version.key) {
-            keys.insert(version.key.copy()?)?;
-        }
     }
     Ok(())
 }

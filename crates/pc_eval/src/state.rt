@@ -6,9 +6,10 @@ ghost use Rattle.pc_world.specs.RangeState.{no_state};
 ghost use Rattle.pc_world.specs.Stamps.{HasRoom};
 ghost use Rattle.pc_world.specs.Evaluation.{reply, state_after};
 
-use pc_base::{NoMemory, TxnId, Version};
+use pc_base::{NoMemory, TxnId};
 use pc_bound::Bound;
 use pc_intent::Intents;
+use pc_mvcc::Versions;
 use pc_proto::{Record, Reply, Request, Status};
 use pc_record::RecordTable;
 use std::alloc::Global;
@@ -18,7 +19,8 @@ use std::marker::Model;
 /// the transactions whose anchor it holds.
 #[derive(Debug, Drop)]
 pub struct RangeState {
-    pub(crate) versions: Vec<Version>,
+    pub(crate) alloc: Global,
+    pub(crate) versions: Versions,
     pub(crate) intents: Intents,
     pub(crate) bound: Bound,
     pub(crate) table: RecordTable,
@@ -29,7 +31,7 @@ impl Model for RangeState {
 
     ghost Value = { range_state };
 
-    ghost view = { λ s. record { versions = s.versions.items; intents = s.intents; bound = s.bound; table = s.table } };
+    ghost view = { λ s. record { versions = s.versions; intents = s.intents; bound = s.bound; table = s.table } };
 }
 
 impl RangeState {
@@ -38,7 +40,8 @@ impl RangeState {
         ensures { result ≡ no_state }
     {
         RangeState {
-            versions: Vec::new(alloc),
+            alloc,
+            versions: Versions::new(alloc),
             intents: Intents::new(alloc),
             bound: Bound::new(),
             table: RecordTable::new(alloc),

@@ -21,13 +21,13 @@ use Rattle.pc_proto.specs.Place.{Place, Nothing, Kept, Marked}
 use Rattle.pc_proto.specs.Table.{place_of}
 use Rattle.pc_report.proofs.Intents.{is_one}
 use Rattle.pc_report.proofs.Naming.{asked_there}
-use Rattle.pc_report.proofs.Points.{point_push, point_stays, point_start}
+use Rattle.pc_report.proofs.Points.{point_push, point_stays}
 use Rattle.pc_report.proofs.RowLists.{take_next}
 use Rattle.pc_report.proofs.Staying.{commit_stays, first_none, first_push}
 use Rattle.pc_report.specs.declared.replay.Replay.{Replay}
 use Rattle.pc_report.specs.ReportOf.{IsRunOver, ending_at, ending_of, rolled_back, rolled_back_in}
 use Rattle.pc_report.specs.ReportOf.{ending_from as ending_in_history}
-use Rattle.pc_report.specs.Replaying.{AreBlank, AreStates, HasRoomFor, Holds, IsPoint, IsReplayOf, Notes, after_eval, asked_in, commit_from, commit_kept, commit_of_place, ending_in, ending_there, first_of, held, is_present_in, only_for, committed_one, over, place_in, point_for, PointsFollow, state_kept, states_after, touched_in}
+use Rattle.pc_report.specs.Replaying.{AreStates, HasRoomFor, Holds, IsPoint, IsReplayOf, Notes, after_eval, asked_in, commit_from, commit_kept, commit_of_place, ending_in, ending_there, first_of, held, is_present_in, only_for, committed_one, over, place_in, point_for, PointsFollow, state_kept, states_after, touched_in}
 use Rattle.pc_world.proofs.Kept.{run_has_room}
 use Rattle.pc_world.proofs.Knowing.{state_other, state_same}
 use Rattle.pc_world.proofs.Prefixes.{run_front, run_take}
@@ -240,17 +240,6 @@ followed splits history e old new was anchors told rolled states points = record
             ∙ ap (λ b. cond (is_some (commit_kept splits new one)) (cond b (Some (length history + 1)) None) None) (sym t) in
             subst (λ o. IsPoint (over splits) (history ++ e ∷ []) id (first_of (held old.points id) o)) now
             (point_push (over splits) id history e (held old.points id) (commit_ts (over splits) (history ++ e ∷ []) id) (was.points id) refl)
-
--- Before the first entry.
-pub begins : (splits : List (List ℕ)) (r : Replay) → AreBlank (length splits) r.states.items → ((id : TxnId) → held r.anchors id ≡ None) → ((id : TxnId) → held r.told id ≡ None) → ((id : TxnId) → held r.rolled_back id ≡ None) → ((id : TxnId) → held r.points id ≡ None)
-    → IsReplayOf splits [] r
-begins splits r states anchors told rolled points = record {
-  states = record { count = states.count; each = λ range le. states.each range le };
-  anchors = anchors;
-  told = told;
-  rolled_back = rolled;
-  points = λ id. subst (IsPoint (over splits) [] id) (sym (points id)) (point_start (over splits) id);
-}
 
 -- where nothing was committed now, the points stay
 pub points_stay : (splits : List (List ℕ)) (touched : Option TxnId) (far : ℕ) (old new : Replay) → committed_one (commit_kept splits new) touched ≡ None → new.points ≡ old.points → PointsFollow splits touched far old new

@@ -10,7 +10,7 @@ use Rattle.pc_base.proofs.Entries.{at_inserted, at_left}
 use Rattle.pc_base.specs.Keyed.{at, without}
 use Rattle.pc_base.specs.Span.{same_key}
 use Rattle.pc_base.specs.Transaction.{same_txn}
-use Rattle.pc_lists.proofs.Same.{same_key-is}
+use Rattle.pc_lists.proofs.Same.{same_key-is, same_txn-differs}
 use Rattle.pc_proto.specs.declared.fate.Fate.{Fate}
 use Rattle.pc_proto.specs.declared.fate.Fate.TheVariants as fates
 use Rattle.pc_proto.specs.declared.meta.TxnMeta.{TxnMeta}
@@ -36,13 +36,10 @@ at-set key k i xs = at_inserted nat_list_cmp_total same_key (λ a b. refl) key k
 at-without : (key k : List ℕ) (xs : List (List ℕ × Intent)) → at same_key k (without same_key key xs) ≡ cond (same_key key k) None (at same_key k xs)
 at-without key k xs = at_left nat_list_cmp_total same_key (λ a b. refl) key k xs
 
-differ : (a one id : TxnId) → same_txn a one ≡ true → same_txn one id ≡ false → same_txn a id ≡ false
-differ a one id h k = grind arith
-
 -- what is another's is not the transaction's own
 not-own : (one id : TxnId) (o : Option Intent) (i : Intent) → same_txn one id ≡ false → kept_if (λ i. same_txn i.meta.id one) o ≡ Some i → kept_if (λ i. same_txn i.meta.id id) o ≡ None
 not-own one id None i apart h = refl
-not-own one id (Some j) i apart h = grind (arith, differ j.meta.id one id)
+not-own one id (Some j) i apart h = grind (arith, same_txn-differs j.meta.id one id)
 
 own-is : (one : TxnId) (o : Option Intent) (i : Intent) → kept_if (λ i. same_txn i.meta.id one) o ≡ Some i → same_txn i.meta.id one ≡ true
 own-is one None i h = absurd cc
@@ -54,7 +51,7 @@ own-is one (Some j) i h = by (same_txn j.meta.id one) refl h
 
 not-own-free : (one id : TxnId) (o : Option Intent) → same_txn one id ≡ false → kept_if (λ i. not (same_txn i.meta.id one)) o ≡ None → kept_if (λ i. same_txn i.meta.id id) o ≡ None
 not-own-free one id None apart h = refl
-not-own-free one id (Some j) apart h = grind (arith, differ j.meta.id one id)
+not-own-free one id (Some j) apart h = grind (arith, same_txn-differs j.meta.id one id)
 
 module _ (id : TxnId) (k : List ℕ) (key : List ℕ) (xs : List (List ℕ × Intent)) where
   lays : (i : Intent) → same_txn i.meta.id id ≡ false → own_at id key xs ≡ None → own_at id k (insert_entry (slice_cmp nat_cmp) xs key i) ≡ own_at id k xs
@@ -85,7 +82,7 @@ module _ (id : TxnId) (k : List ℕ) where
       by-over own e none true = refl
       by-over own e none false =
           lays id k key s.intents (laid meta seq (write_ts meta ts key own s) value own)
-          (laid-apart meta seq (write_ts meta ts key own s) value own apart (λ i is. differ i.meta.id meta.id id (own-is meta.id (at same_key key s.intents) i (e ∙ is)) apart))
+          (laid-apart meta seq (write_ts meta ts key own s) value own apart (λ i is. same_txn-differs i.meta.id meta.id id (own-is meta.id (at same_key key s.intents) i (e ∙ is)) apart))
           none
 
       by-own : (own : Option Intent) → own_at meta.id key s.intents ≡ own → own_at id key s.intents ≡ None → (b : Bool) → overtaken meta seq own ≡ b → own_at id k (intents_with key (put_change (own_outcome meta seq ts key value own s)) s.intents) ≡ own_at id k s.intents
@@ -106,7 +103,7 @@ module _ (id : TxnId) (k : List ℕ) where
       by-own (Some i) e (fates.Committed epoch ts) = drops id k key s.intents (not-own one id (at same_key key s.intents) i apart e)
       by-own (Some i) e fates.Aborted = drops id k key s.intents (not-own one id (at same_key key s.intents) i apart e)
       by-own (Some i) e (fates.Pending ts) =
-          lays id k key s.intents _ (differ i.meta.id one id (own-is one (at same_key key s.intents) i e) apart) (not-own one id (at same_key key s.intents) i apart e)
+          lays id k key s.intents _ (same_txn-differs i.meta.id one id (own-is one (at same_key key s.intents) i e) apart) (not-own one id (at same_key key s.intents) i apart e)
 
   -- a request of another transaction leaves the transaction's own intents as they are
   pub own_stays : (request : Request) (s : RangeState) → is_one id (touched request) ≡ false → own_at id k (intents_after request s) ≡ own_at id k s.intents

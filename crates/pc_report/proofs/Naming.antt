@@ -1,5 +1,6 @@
 -- Which request an event evaluates: that of the one send that it names.
-use Rattle.std.proofs.Common.{◌≡◌, ℕ, Bool, true, false, ◌&&◌, ◌==◌, cond, List, [], ◌∷◌, Contains, Option, None, Some, refl, sym, ap, subst, ◌∙◌, reverse, arith}
+use Rattle.std.proofs.Common.{◌≡◌, ℕ, Bool, true, false, ◌&&◌, ◌==◌, cond, List, [], ◌∷◌, Contains, Option, None, Some, refl, sym, ap, subst, ◌∙◌, reverse}
+use Rattle.std.proofs.lemmas.Bool.{and_parts}
 use Rattle.std.proofs.lemmas.List.{reverse-reverse}
 use Rattle.std.proofs.lemmas.List.Sorted.{Contains-permutation, IsPermutation-reverse}
 use Rattle.std.specs.List.{find}
@@ -23,9 +24,6 @@ no-request-told : (event : Event) → (is_tell event ≡ true) → request_in ev
 no-request-told (events.Tell answer) h = refl
 no-request-told event h = absurd cc
 
-second : (a b : Bool) → (a && b) ≡ true → b ≡ true
-second a b h = grind arith
-
 -- where whatever passes has no request, what is found has none
 found-none : (p : Entry Event → Bool) → ((e : Entry Event) → p e ≡ true → request_in e.event ≡ None) → (xs : List (Entry Event)) → request_named (find p xs) ≡ None
 found-none p none [] = refl
@@ -41,7 +39,7 @@ asked_send before number range request = ap request_named (find_none (λ e. fals
 
 pub asked_hear : (before : List (Entry Event)) (number step : ℕ) → asked_in before (events.Hear number step) ≡ None
 asked_hear before number step =
-    found-none (λ e. names (events.Hear number step) e) (λ e h. no-request e.event (second (e.step == step) (is_eval e.event) h)) before
+    found-none (λ e. names (events.Hear number step) e) (λ e h. no-request e.event (and_parts (e.step == step) (is_eval e.event) h).1) before
 
 -- what is found of a run looking from its end is what is found looking from its beginning
 module _ (p : Entry Event → Bool) where
@@ -102,4 +100,4 @@ asked_other before (events.Eval actor number reply) h = absurd (h actor number r
 asked_other before (events.Hear number step) h = asked_hear before number step
 asked_other before (events.Tell answer) h = ap request_named (find_none (λ e. false) before (λ e. refl))
 asked_other before (events.Meet id step) h =
-    found-none (λ e. names (events.Meet id step) e) (λ e h. no-request-told e.event (second (e.step == step) (is_tell e.event) h)) before
+    found-none (λ e. names (events.Meet id step) e) (λ e h. no-request-told e.event (and_parts (e.step == step) (is_tell e.event) h).1) before

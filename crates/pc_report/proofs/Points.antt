@@ -10,10 +10,6 @@ use Rattle.pc_world.specs.Committed.{commit_point, commit_ts, point_after}
 use Rattle.pc_world.specs.Local.{Head}
 
 module _ (head : Head) (id : TxnId) where
-  -- no transaction is committed before the first entry
-  pub point_start : IsPoint head [] id None
-  point_start = (refl, λ later. refl)
-
   here : (history later : List (Entry Event)) → is_some (commit_ts head history id) ≡ true → point_after head id history later ≡ length history
   here history [] is = refl
   here history (e ∷ later) is = ap (λ b. cond b (length history) (point_after head id (history ++ e ∷ []) later)) is

@@ -1,31 +1,21 @@
 -- A key that is removed from a map leaves the entries of the others.
 use Rattle.std.proofs.Common.{◌≡◌, ℕ, Bool, true, false, not, cond, List, [], ◌∷◌, None, Some, refl, sym, ap, subst, ◌∙◌, filter}
-use Rattle.std.proofs.lemmas.Map.Lookups.{exact_bytes}
 use Rattle.std.specs.BTreeMap.{BTreeMap, is_at}
 use Rattle.std.specs.Cmp.Lexicographic.{slice_cmp}
-use Rattle.std.specs.declared.cmp.Ordering.{Ordering}
-use Rattle.std.specs.declared.cmp.Ordering.TheVariants.{Less, Equal, Greater}
 use Rattle.std.specs.Map.{lookup, remove_entry}
-use Rattle.std.specs.Ordering.{is_eq, nat_cmp}
+use Rattle.std.specs.Ordering.{nat_cmp}
 use Rattle.pc_base.specs.Keyed.{without}
 use Rattle.pc_base.specs.Span.{same_key}
-
-is-equal : (o : Ordering) → is_eq o ≡ true → o ≡ Equal
-is-equal Less h = absurd cc
-is-equal Equal h = refl
-is-equal Greater h = absurd cc
+use Rattle.pc_lists.proofs.Same.{same_key-is}
 
 same-flip : (a b : List ℕ) → same_key a b ≡ same_key b a
 same-flip a b = by (same_key a b) (same_key b a) refl refl
   where
-    is : (a b : List ℕ) → same_key a b ≡ true → a ≡ b
-    is a b h = exact_bytes a b (is-equal (slice_cmp nat_cmp a b) h)
-
     by : (s t : Bool) → same_key a b ≡ s → same_key b a ≡ t → s ≡ t
     by true true e h = refl
     by false false e h = refl
-    by true false e h = let same : same_key a b ≡ same_key b a = subst (λ x. same_key a x ≡ same_key x a) (is a b e) refl in absurd cc
-    by false true e h = let same : same_key b a ≡ same_key a b = subst (λ x. same_key b x ≡ same_key x b) (is b a h) refl in absurd cc
+    by true false e h = let same : same_key a b ≡ same_key b a = subst (λ x. same_key a x ≡ same_key x a) (same_key-is a b e) refl in absurd cc
+    by false true e h = let same : same_key b a ≡ same_key a b = subst (λ x. same_key b x ≡ same_key x b) (same_key-is b a h) refl in absurd cc
 
 module _ {V : Type 0} (test : List ℕ → Bool) where
   filter-removed : (es : List (List ℕ × V)) → filter (λ e. not (test e.0)) (remove_entry test es) ≡ filter (λ e. not (test e.0)) es

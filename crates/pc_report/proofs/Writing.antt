@@ -1,5 +1,6 @@
 -- What was kept of the transactions' puts, one entry further, and what it says.
-use Rattle.std.proofs.Common.{◌≡◌, ℕ, Bool, true, false, ◌&&◌, ◌||◌, ◌==◌, not, cond, List, [], ◌∷◌, ◌++◌, Option, None, Some, refl, sym, ap, ◌∙◌, arith, filter, fold, map}
+use Rattle.std.proofs.Common.{◌≡◌, ℕ, Bool, true, false, ◌&&◌, ◌||◌, ◌==◌, not, cond, List, [], ◌∷◌, ◌++◌, Option, None, Some, refl, sym, ap, ◌∙◌, filter, fold, map}
+use Rattle.std.proofs.lemmas.Bool.{eq-eqb, eqb-true}
 use Rattle.std.proofs.lemmas.Grind.{fold-append}
 use Rattle.std.proofs.lemmas.List.{append-nil, map-append}
 use Rattle.std.proofs.lemmas.List.Elements.{filter-append, filter_map-append}
@@ -136,22 +137,16 @@ pub restarted : (old new : Writes) (session : ℕ) (one : TxnId) → get nat_cmp
     → (id : TxnId) → puts_held new id ≡ cond (id.session == session) (cond (is_last_in old id) [] (puts_held old id)) (puts_held old id)
 restarted old new session one found mine h id = ap puts_of (updated old.puts new.puts one None h id) ∙ by (same_txn one id) refl
   where
-    numbers : (m n : ℕ) → m ≡ n → (m == n) ≡ true
-    numbers m n same = grind arith
-
-    equal : (m n : ℕ) → (m == n) ≡ true → m ≡ n
-    equal m n same = grind arith
-
     last : id.session ≡ session → is_last_in old id ≡ same_txn one id
     last own = ap (is_last_of id) (ap (get nat_cmp old.last) own ∙ found)
 
     by-own : same_txn one id ≡ false → (b : Bool) → (id.session == session) ≡ b → puts_held old id ≡ cond b (cond (is_last_in old id) [] (puts_held old id)) (puts_held old id)
     by-own t false e = refl
-    by-own t true e = sym (ap (λ b. cond b [] (puts_held old id)) (last (equal id.session session e) ∙ t))
+    by-own t true e = sym (ap (λ b. cond b [] (puts_held old id)) (last (eqb-true id.session session e) ∙ t))
 
     by : (b : Bool) → same_txn one id ≡ b → puts_of (cond b None (held old.puts id)) ≡ cond (id.session == session) (cond (is_last_in old id) [] (puts_held old id)) (puts_held old id)
     by true t =
         let own : id.session ≡ session = ap (λ (x : TxnId). x.session) (sym (same_txn-is one id t)) ∙ mine in
-        sym (ap (λ b. cond b (cond (is_last_in old id) [] (puts_held old id)) (puts_held old id)) (numbers id.session session own)
+        sym (ap (λ b. cond b (cond (is_last_in old id) [] (puts_held old id)) (puts_held old id)) (eq-eqb id.session session own)
         ∙ ap (λ b. cond b [] (puts_held old id)) (last own ∙ t))
     by false t = by-own t (id.session == session) refl

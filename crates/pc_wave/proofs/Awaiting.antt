@@ -15,8 +15,8 @@ use Rattle.pc_wave.specs.declared.message.Message.{Message}
 use Rattle.pc_wave.specs.declared.message.Progress.{Progress}
 use Rattle.pc_wave.specs.declared.message.Progress.TheVariants as progresses
 use Rattle.pc_wave.specs.declared.step.Step.TheVariants as steps
-use Rattle.pc_wave.specs.Messages.{awaits_at, came_back, came_back_by, conflicts_at, first_changed, first_in_conflict, goes_again, is_answered, is_awaited, is_to_send, progress_awaited, progress_awaits, progress_to_send, step_of, wave_awaits, went_out}
-use Rattle.pc_wave.specs.Standing.{AreOfTwo, IsAsFar, IsAwaited, MessageStands, Pairwise, WaveStands}
+use Rattle.pc_wave.specs.Messages.{awaits_at, back_with, back_with_by, conflicts_at, first_changed, first_in_conflict, goes_again, has_answer, is_out, is_to_send, progress_out, progress_awaits, progress_to_send, step_of, wave_awaits, sent_under}
+use Rattle.pc_wave.specs.Standing.{AreOfTwo, IsAsFar, IsOnItsWay, MessageStands, Pairwise, WaveStands}
 use Rattle.pc_world.specs.Known.{Known}
 
 to_send_idle : (n : ℕ) (p : Progress) → progress_to_send p ≡ true → progress_awaits n p ≡ false
@@ -25,7 +25,7 @@ to_send_idle n (progresses.Sent number) is = absurd cc
 to_send_idle n (progresses.Met number conflict) is = absurd cc
 to_send_idle n (progresses.Answered number reply) is = absurd cc
 
-idle_at : (n : ℕ) (p : Progress) → progress_awaited p ≡ false → progress_awaits n p ≡ false
+idle_at : (n : ℕ) (p : Progress) → progress_out p ≡ false → progress_awaits n p ≡ false
 idle_at n progresses.ToSend is = refl
 idle_at n (progresses.Sent number) is = absurd cc
 idle_at n (progresses.Met number conflict) is = refl
@@ -41,27 +41,27 @@ or_swap true false c = refl
 or_swap false b c = refl
 
 -- where no reply is waited for, none is under any number
-none_awaited : (n : ℕ) (ms : List Message) → list_any is_awaited ms ≡ false → wave_awaits n ms ≡ false
+none_awaited : (n : ℕ) (ms : List Message) → list_any is_out ms ≡ false → wave_awaits n ms ≡ false
 none_awaited n [] e = refl
 none_awaited n (m ∷ ms) e =
-    let parts = or_parts (is_awaited m) (list_any is_awaited ms) e in
+    let parts = or_parts (is_out m) (list_any is_out ms) e in
     ap (λ b. b || wave_awaits n ms) (idle_at n m.progress parts.0) ∙ none_awaited n ms parts.1
 
 module _ (number other : ℕ) where
   -- after the first message that is to be sent was sent, it too is waited for
-  sent_more : (ms : List Message) (m : Message) → find is_to_send ms ≡ Some m → wave_awaits other (first_changed is_to_send (went_out number) ms) ≡ (number == other || wave_awaits other ms)
+  sent_more : (ms : List Message) (m : Message) → find is_to_send ms ≡ Some m → wave_awaits other (first_changed is_to_send (sent_under number) ms) ≡ (number == other || wave_awaits other ms)
   sent_more [] m found = absurd cc
   sent_more (y ∷ ms) m found = by (sent_more ms m) (is_to_send y) refl found
     where
-      by : (find is_to_send ms ≡ Some m → wave_awaits other (first_changed is_to_send (went_out number) ms) ≡ (number == other || wave_awaits other ms))
+      by : (find is_to_send ms ≡ Some m → wave_awaits other (first_changed is_to_send (sent_under number) ms) ≡ (number == other || wave_awaits other ms))
           → (b : Bool) → is_to_send y ≡ b → cond b (Some y) (find is_to_send ms) ≡ Some m
-          → wave_awaits other (cond b (went_out number y ∷ ms) (y ∷ first_changed is_to_send (went_out number) ms)) ≡ (number == other || wave_awaits other (y ∷ ms))
+          → wave_awaits other (cond b (sent_under number y ∷ ms) (y ∷ first_changed is_to_send (sent_under number) ms)) ≡ (number == other || wave_awaits other (y ∷ ms))
       by later true is here = ap (λ b. number == other || (b || wave_awaits other ms)) (sym (to_send_idle other y.progress is))
       by later false is there = ap (λ b. awaits_at other y || b) (later there) ∙ or_swap (awaits_at other y) (number == other) (wave_awaits other ms)
 
-  pub sent_awaits : (ms : List Message) (request : Request) → step_of ms ≡ steps.Send request → wave_awaits other (first_changed is_to_send (went_out number) ms) ≡ (number == other || wave_awaits other ms)
+  pub sent_awaits : (ms : List Message) (request : Request) → step_of ms ≡ steps.Send request → wave_awaits other (first_changed is_to_send (sent_under number) ms) ≡ (number == other || wave_awaits other ms)
   sent_awaits ms request due =
-      let f = sends_first (first_in_conflict ms) (find is_to_send ms) (list_all is_answered ms) request due in
+      let f = sends_first (first_in_conflict ms) (find is_to_send ms) (list_all has_answer ms) request due in
       sent_more ms f.0 f.1
 
 -- The two messages do not wait under one number.
@@ -69,9 +69,9 @@ abbrev IsApart : Message → Message → Type 0
 IsApart m other = (number : ℕ) → IsTrue (awaits_at number m) → IsTrue (awaits_at number other) → ⊥
 
 module _ (k : Known) where
-  awaited_far : (m : Message) → MessageStands k m → (number : ℕ) → IsTrue (awaits_at number m) → IsAwaited k number m.request
+  awaited_far : (m : Message) → MessageStands k m → (number : ℕ) → IsTrue (awaits_at number m) → IsOnItsWay k number m.request
   awaited_far m s number is =
-      let far : IsAwaited k number m.request × (m.conflicts < MOST_CONFLICTS) = subst (λ p. IsAsFar k m.request m.conflicts p) (awaits_as number m.progress is) s.as_far in
+      let far : IsOnItsWay k number m.request × (m.conflicts < MOST_CONFLICTS) = subst (λ p. IsAsFar k m.request m.conflicts p) (awaits_as number m.progress is) s.as_far in
       far.0
 
   -- messages of different requests wait under different numbers
@@ -107,14 +107,14 @@ none_left true e is = sym (ap not is)
 none_left false e is = refl
 
 -- what came back waits no more
-came_idle : (n number : ℕ) (reply : Reply) (m : Message) → awaits_at n (came_back number reply m) ≡ false
-came_idle n number reply m = elim (is_conflict reply) as (λ b. awaits_at n (came_back_by b number reply m) ≡ false) [ true ↦ refl | false ↦ refl ]
+came_idle : (n number : ℕ) (reply : Reply) (m : Message) → awaits_at n (back_with number reply m) ≡ false
+came_idle n number reply m = elim (is_conflict reply) as (λ b. awaits_at n (back_with_by b number reply m) ≡ false) [ true ↦ refl | false ↦ refl ]
 
 module _ (number other : ℕ) (reply : Reply) where
   abbrev heard_in : List Message → List Message
-  heard_in ms = first_changed (awaits_at number) (came_back number reply) ms
+  heard_in ms = first_changed (awaits_at number) (back_with number reply) ms
 
-  here : (y : Message) (ms : List Message) → All (IsApart y) ms → awaits_at number y ≡ true → wave_awaits other (came_back number reply y ∷ ms) ≡ (wave_awaits other (y ∷ ms) && not (number == other))
+  here : (y : Message) (ms : List Message) → All (IsApart y) ms → awaits_at number y ≡ true → wave_awaits other (back_with number reply y ∷ ms) ≡ (wave_awaits other (y ∷ ms) && not (number == other))
   here y ms apart is =
       ap (λ b. b || wave_awaits other ms) (came_idle other number reply y) ∙ by (number == other) refl
     where
@@ -148,19 +148,19 @@ module _ (number other : ℕ) (reply : Reply) where
       later is = sym (ap (λ b. b || wave_awaits number ms) is) ∙ some
 
       by : (wave_awaits number ms ≡ true → wave_awaits other (heard_in ms) ≡ (wave_awaits other ms && not (number == other))) → (b : Bool) → awaits_at number y ≡ b
-          → wave_awaits other (cond b (came_back number reply y ∷ ms) (y ∷ heard_in ms)) ≡ (wave_awaits other (y ∷ ms) && not (number == other))
+          → wave_awaits other (cond b (back_with number reply y ∷ ms) (y ∷ heard_in ms)) ≡ (wave_awaits other (y ∷ ms) && not (number == other))
       by rest true is = here y ms apart.0 is
       by rest false is = there y ms is (rest (later is))
 
   pub heard_awaits : (k : Known) (ms : List Message) → WaveStands k ms → wave_awaits number ms ≡ true → wave_awaits other (heard_in ms) ≡ (wave_awaits other ms && not (number == other))
   heard_awaits k ms w some = heard_less ms (are_apart k ms w.stand w.differ) some
 
-again_idle : (number : ℕ) (ms : List Message) → list_any is_awaited ms ≡ false → list_any is_awaited (first_changed (conflicts_at number) goes_again ms) ≡ false
+again_idle : (number : ℕ) (ms : List Message) → list_any is_out ms ≡ false → list_any is_out (first_changed (conflicts_at number) goes_again ms) ≡ false
 again_idle number [] e = refl
 again_idle number (m ∷ ms) e =
-    let parts = or_parts (is_awaited m) (list_any is_awaited ms) e in
-    elim (conflicts_at number m) as (λ b. list_any is_awaited (cond b (goes_again m ∷ ms) (m ∷ first_changed (conflicts_at number) goes_again ms)) ≡ false)
-    [ true ↦ parts.1 | false ↦ ap (λ b. b || list_any is_awaited (first_changed (conflicts_at number) goes_again ms)) parts.0 ∙ again_idle number ms parts.1 ]
+    let parts = or_parts (is_out m) (list_any is_out ms) e in
+    elim (conflicts_at number m) as (λ b. list_any is_out (cond b (goes_again m ∷ ms) (m ∷ first_changed (conflicts_at number) goes_again ms)) ≡ false)
+    [ true ↦ parts.1 | false ↦ ap (λ b. b || list_any is_out (first_changed (conflicts_at number) goes_again ms)) parts.0 ∙ again_idle number ms parts.1 ]
 
 -- after a round no message is waited for
 pub again_awaits : (number other : ℕ) (conflict : Reply) (ms : List Message) → step_of ms ≡ steps.Round number conflict → wave_awaits other (first_changed (conflicts_at number) goes_again ms) ≡ false

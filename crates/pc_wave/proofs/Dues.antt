@@ -19,7 +19,7 @@ use Rattle.pc_wave.specs.declared.message.Progress.{Progress}
 use Rattle.pc_wave.specs.declared.message.Progress.TheVariants as progresses
 use Rattle.pc_wave.specs.declared.step.Step.{Step}
 use Rattle.pc_wave.specs.Due.{MayBeDue, WasAnsweredWith}
-use Rattle.pc_wave.specs.Messages.{conflict_by, first_in_conflict, is_answered, is_awaited, is_in_conflict, is_to_send, progress_answered, progress_awaited, progress_in_conflict, progress_to_send, step_by, step_in, step_of}
+use Rattle.pc_wave.specs.Messages.{conflict_by, first_in_conflict, has_answer, is_out, is_in_conflict, is_to_send, progress_has_answer, progress_out, progress_in_conflict, progress_to_send, step_by, step_in, step_of}
 use Rattle.pc_wave.specs.Standing.{AreCounted, IsAsFar, MayGoOut, MessageStands, MetConflict, WaveStands}
 use Rattle.pc_world.specs.Counting.{LastIs}
 use Rattle.pc_world.specs.Follows.Eighth.{MetEighth}
@@ -86,43 +86,43 @@ module _ (k : Known) (ms : List Message) (w : WaveStands k ms) where
   to_send m s (progresses.Met number conflict) is far = absurd cc
   to_send m s (progresses.Answered number reply) is far = absurd cc
 
-  answered : (m : Message) → MessageStands k m → is_answered m ≡ true → WasAnsweredWith k m
+  answered : (m : Message) → MessageStands k m → has_answer m ≡ true → WasAnsweredWith k m
   answered m s is = by m.progress refl is s.as_far
     where
-      by : (p : Progress) → m.progress ≡ p → progress_answered p ≡ true → IsAsFar k m.request m.conflicts p → WasAnsweredWith k m
+      by : (p : Progress) → m.progress ≡ p → progress_has_answer p ≡ true → IsAsFar k m.request m.conflicts p → WasAnsweredWith k m
       by (progresses.Answered number reply) e is far = record { number = number; reply = reply; progress = e; back = far.0 }
       by progresses.ToSend e is far = absurd cc
       by (progresses.Sent number) e is far = absurd cc
       by (progresses.Met number conflict) e is far = absurd cc
 
-  all_answered : (xs : List Message) → All (MessageStands k) xs → All (λ m. is_answered m ≡ true) xs → All (WasAnsweredWith k) xs
+  all_answered : (xs : List Message) → All (MessageStands k) xs → All (λ m. has_answer m ≡ true) xs → All (WasAnsweredWith k) xs
   all_answered [] s a = All-nil (WasAnsweredWith k)
   all_answered (x ∷ xs) s a =
-      All-cons (WasAnsweredWith k) x xs (answered x (All-head (MessageStands k) x xs s) (All-head (λ m. is_answered m ≡ true) x xs a))
-      (all_answered xs (All-tail (MessageStands k) x xs s) (All-tail (λ m. is_answered m ≡ true) x xs a))
+      All-cons (WasAnsweredWith k) x xs (answered x (All-head (MessageStands k) x xs s) (All-head (λ m. has_answer m ≡ true) x xs a))
+      (all_answered xs (All-tail (MessageStands k) x xs s) (All-tail (λ m. has_answer m ≡ true) x xs a))
 
-  only_answered : (p : Progress) → progress_to_send p ≡ false → progress_awaited p ≡ false → progress_in_conflict p ≡ false → progress_answered p ≡ true
+  only_answered : (p : Progress) → progress_to_send p ≡ false → progress_out p ≡ false → progress_in_conflict p ≡ false → progress_has_answer p ≡ true
   only_answered progresses.ToSend a b c = absurd cc
   only_answered (progresses.Sent number) a b c = absurd cc
   only_answered (progresses.Met number conflict) a b c = absurd cc
   only_answered (progresses.Answered number reply) a b c = refl
 
-  each_answered : (xs : List Message) → All (λ m. is_to_send m ≡ false) xs → All (λ m. is_awaited m ≡ false) xs → All (λ m. is_in_conflict m ≡ false) xs → All (λ m. is_answered m ≡ true) xs
-  each_answered [] a b c = All-nil (λ m. is_answered m ≡ true)
+  each_answered : (xs : List Message) → All (λ m. is_to_send m ≡ false) xs → All (λ m. is_out m ≡ false) xs → All (λ m. is_in_conflict m ≡ false) xs → All (λ m. has_answer m ≡ true) xs
+  each_answered [] a b c = All-nil (λ m. has_answer m ≡ true)
   each_answered (x ∷ xs) a b c =
-      All-cons (λ m. is_answered m ≡ true) x xs
-      (only_answered x.progress (All-head (λ m. is_to_send m ≡ false) x xs a) (All-head (λ m. is_awaited m ≡ false) x xs b) (All-head (λ m. is_in_conflict m ≡ false) x xs c))
-      (each_answered xs (All-tail (λ m. is_to_send m ≡ false) x xs a) (All-tail (λ m. is_awaited m ≡ false) x xs b) (All-tail (λ m. is_in_conflict m ≡ false) x xs c))
+      All-cons (λ m. has_answer m ≡ true) x xs
+      (only_answered x.progress (All-head (λ m. is_to_send m ≡ false) x xs a) (All-head (λ m. is_out m ≡ false) x xs b) (All-head (λ m. is_in_conflict m ≡ false) x xs c))
+      (each_answered xs (All-tail (λ m. is_to_send m ≡ false) x xs a) (All-tail (λ m. is_out m ≡ false) x xs b) (All-tail (λ m. is_in_conflict m ≡ false) x xs c))
 
   -- where nothing else is due, a reply is waited for
-  awaited_by : (b : Bool) → list_any is_awaited ms ≡ b → cond b None (find is_in_conflict ms) ≡ None → find is_to_send ms ≡ None → list_all is_answered ms ≡ false → list_any is_awaited ms ≡ true
+  awaited_by : (b : Bool) → list_any is_out ms ≡ b → cond b None (find is_in_conflict ms) ≡ None → find is_to_send ms ≡ None → list_all has_answer ms ≡ false → list_any is_out ms ≡ true
   awaited_by true is first none some = is
   awaited_by false is first none some =
-      let t : list_all is_answered ms ≡ true =
-      pass_all is_answered ms (each_answered ms (found_none is_to_send ms none) (any_none is_awaited ms is) (found_none is_in_conflict ms first)) in
+      let t : list_all has_answer ms ≡ true =
+      pass_all has_answer ms (each_answered ms (found_none is_to_send ms none) (any_none is_out ms is) (found_none is_in_conflict ms first)) in
       absurd cc
 
-  due_by : (first next : Option Message) (b : Bool) → first_in_conflict ms ≡ first → find is_to_send ms ≡ next → list_all is_answered ms ≡ b → MayBeDue k ms (step_by first next b)
+  due_by : (first next : Option Message) (b : Bool) → first_in_conflict ms ≡ first → find is_to_send ms ≡ next → list_all has_answer ms ≡ b → MayBeDue k ms (step_by first next b)
   due_by (Some m) next b first e all =
       let found : find is_in_conflict ms ≡ Some m = (first_found ms m first).0 in
       let s : MessageStands k m = found_all is_in_conflict (MessageStands k) ms m found w.stand in
@@ -130,11 +130,11 @@ module _ (k : Known) (ms : List Message) (w : WaveStands k ms) where
   due_by None (Some m) b first e all =
       let s : MessageStands k m = found_all is_to_send (MessageStands k) ms m e w.stand in
       to_send m s m.progress (found_passes is_to_send ms m e) s.as_far
-  due_by None None true first e all = all_answered ms w.stand (all_pass is_answered ms all)
-  due_by None None false first e all = awaited_by (list_any is_awaited ms) refl first e all
+  due_by None None true first e all = all_answered ms w.stand (all_pass has_answer ms all)
+  due_by None None false first e all = awaited_by (list_any is_out ms) refl first e all
 
   pub may_be_due : MayBeDue k ms (step_of ms)
-  may_be_due = due_by (first_in_conflict ms) (find is_to_send ms) (list_all is_answered ms) refl refl refl
+  may_be_due = due_by (first_in_conflict ms) (find is_to_send ms) (list_all has_answer ms) refl refl refl
 
 -- so what a call gives that gives what is due
 pub step_may : {E : Type 0} (k : Known) (ms : List Message) → WaveStands k ms → (due : Step) → step_of ms ≡ due → (r : Result Step E) → IfOk r (λ step. step ≡ due) → IfOk r (MayBeDue k ms)

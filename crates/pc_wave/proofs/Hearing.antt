@@ -16,8 +16,8 @@ use Rattle.pc_wave.proofs.Standings.{IsOther, IsOtherSent, heard-kept, out-kept,
 use Rattle.pc_wave.specs.declared.message.Message.{Message}
 use Rattle.pc_wave.specs.declared.message.Progress.{Progress}
 use Rattle.pc_wave.specs.declared.message.Progress.TheVariants as progresses
-use Rattle.pc_wave.specs.Messages.{awaits_at, came_back, came_back_by, first_changed, one_conflict_more, progress_awaits, wave_awaits}
-use Rattle.pc_wave.specs.Standing.{AreOfTwo, HasMore, IsAsFar, IsAwaited, IsHeardTo, IsReplyAt, MessageStands, WaveStands}
+use Rattle.pc_wave.specs.Messages.{awaits_at, back_with, back_with_by, first_changed, one_conflict_more, progress_awaits, wave_awaits}
+use Rattle.pc_wave.specs.Standing.{AreOfTwo, HasMore, IsAsFar, IsOnItsWay, IsHeardTo, IsReplyAt, MessageStands, WaveStands}
 use Rattle.pc_world.specs.Answering.{MayAnswer}
 use Rattle.pc_world.specs.Counting.{AtLeast}
 use Rattle.pc_world.specs.Follows.Resends.{AreAnsweredNow}
@@ -34,8 +34,8 @@ awaits_as number (progresses.Met sent conflict) is = absurd cc
 awaits_as number (progresses.Answered sent reply) is = absurd cc
 
 -- a reply leaves the request as it is
-pub came_request : (number : ℕ) (reply : Reply) (m : Message) → (came_back number reply m).request ≡ m.request
-came_request number reply m = elim (is_conflict reply) as (λ b. (came_back_by b number reply m).request ≡ m.request) [ true ↦ refl | false ↦ refl ]
+pub came_request : (number : ℕ) (reply : Reply) (m : Message) → (back_with number reply m).request ≡ m.request
+came_request number reply m = elim (is_conflict reply) as (λ b. (back_with_by b number reply m).request ≡ m.request) [ true ↦ refl | false ↦ refl ]
 
 module _ (k now : Known) (ms : List Message) (w : WaveStands k ms) (number : ℕ) (m : Message) (found : find (awaits_at number) ms ≡ Some m) (h : Heard) (reply : Reply) (is : IsHeardTo k number reply h) (more : HasMore k now [] (h ∷ [])) where
   stands_m : MessageStands k m
@@ -44,7 +44,7 @@ module _ (k now : Known) (ms : List Message) (w : WaveStands k ms) (number : ℕ
   waits : m.progress ≡ progresses.Sent number
   waits = awaits_as number m.progress (found_passes (awaits_at number) ms m found)
 
-  far_m : IsAwaited k number m.request × (m.conflicts < MOST_CONFLICTS)
+  far_m : IsOnItsWay k number m.request × (m.conflicts < MOST_CONFLICTS)
   far_m = subst (λ p. IsAsFar k m.request m.conflicts p) waits stands_m.as_far
 
   same_request : h.request ≡ m.request
@@ -66,7 +66,7 @@ module _ (k now : Known) (ms : List Message) (w : WaveStands k ms) (number : ℕ
       ] in
       subst (λ ms. All Q ms) (sym (more.sent_now ∙ append-nil k.sent_now)) (All-weaker P Q (λ s. by s (s.number == number) refl) k.sent_now far_m.0.rest)
 
-  comes_by : (r : Reply) → reply ≡ r → MessageStands now (came_back_by (is_conflict r) number r m)
+  comes_by : (r : Reply) → reply ≡ r → MessageStands now (back_with_by (is_conflict r) number r m)
   comes_by (replies.Conflict holder ts key) e =
       let P : Heard → Type 0 = IsConflictOf m.request in
       let conflict : P h = record { same = inl (sym same_request); conflict = ap is_conflict (is.told ∙ e) } in
@@ -119,19 +119,19 @@ module _ (k now : Known) (ms : List Message) (w : WaveStands k ms) (number : ℕ
     where
       apart : (n : ℕ) → y.progress ≡ progresses.Sent n → All (λ g. g.number ≢ n) (h ∷ [])
       apart n e =
-          let far : IsAwaited k n y.request × (y.conflicts < MOST_CONFLICTS) = subst (λ p. IsAsFar k y.request y.conflicts p) e s.as_far in
+          let far : IsOnItsWay k n y.request × (y.conflicts < MOST_CONFLICTS) = subst (λ p. IsAsFar k y.request y.conflicts p) e s.as_far in
           let differ : h.number ≢ n = λ q.
           let said : request_sent number k.sent ≡ Some y.request = ap (λ i. request_sent i k.sent) (sym is.numbered ∙ q) ∙ far.0.out.said in
           other (inl (same_Some y.request m.request (sym said ∙ far_m.0.out.said))) in
           All-cons (λ g. g.number ≢ n) h [] differ (All-nil (λ g. g.number ≢ n))
 
-  pub heard_stands : WaveStands now (first_changed (awaits_at number) (came_back number reply) ms)
+  pub heard_stands : WaveStands now (first_changed (awaits_at number) (back_with number reply) ms)
   heard_stands = record {
     stand =
-        changed_other AreOfTwo (awaits_at number) (came_back number reply) (MessageStands k) (MessageStands now) ms m found
+        changed_other AreOfTwo (awaits_at number) (back_with number reply) (MessageStands k) (MessageStands now) ms m found
         (λ y s two. stays y s two.differ) (λ y s two. stays y s two.back) (λ s. comes_by reply refl) w.stand w.differ;
     differ =
-        pairwise_changed AreOfTwo (awaits_at number) (came_back number reply)
+        pairwise_changed AreOfTwo (awaits_at number) (back_with number reply)
         (λ x y two. record {
           differ = λ same. two.differ (subst (λ r. IsSameRequest r y.request) (came_request number reply x) same);
           back = λ same. two.back (subst (λ r. IsSameRequest y.request r) (came_request number reply x) same);
@@ -145,7 +145,7 @@ module _ (k now : Known) (ms : List Message) (w : WaveStands k ms) (number : ℕ
 
 -- after a reply to a message that was waited for was heard
 pub wave_heard : (k now : Known) (ms : List Message) (number : ℕ) (reply : Reply) (h : Heard) → WaveStands k ms → wave_awaits number ms ≡ true → IsHeardTo k number reply h → HasMore k now [] (h ∷ [])
-    → WaveStands now (first_changed (awaits_at number) (came_back number reply) ms)
+    → WaveStands now (first_changed (awaits_at number) (back_with number reply) ms)
 wave_heard k now ms number reply h w waited is more =
     let f = found_some (awaits_at number) ms waited in
     heard_stands k now ms w number f.0 f.1 h reply is more

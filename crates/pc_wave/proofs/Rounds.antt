@@ -18,7 +18,7 @@ use Rattle.pc_wave.specs.declared.message.Progress.TheVariants as progresses
 use Rattle.pc_wave.specs.declared.step.Step.{Step}
 use Rattle.pc_wave.specs.declared.step.Step.TheVariants as steps
 use Rattle.pc_wave.specs.Due.{FollowsConflict, MadeRound}
-use Rattle.pc_wave.specs.Messages.{conflict_by, conflicts_at, first_changed, first_in_conflict, goes_again, is_answered, is_awaited, is_in_conflict, is_to_send, progress_awaited, progress_conflicts, progress_in_conflict, step_by, step_in, step_of}
+use Rattle.pc_wave.specs.Messages.{conflict_by, conflicts_at, first_changed, first_in_conflict, goes_again, has_answer, is_out, is_in_conflict, is_to_send, progress_out, progress_conflicts, progress_in_conflict, step_by, step_in, step_of}
 use Rattle.pc_wave.specs.Standing.{AreOfTwo, IsAsFar, MessageStands, MetConflict, WaveStands}
 use Rattle.pc_world.specs.Follows.CallMessages.{IsOfRound}
 use Rattle.pc_proto.specs.Requests.{round_of}
@@ -64,10 +64,10 @@ round_of_first None None true number conflict e = absurd cc
 round_of_first None None false number conflict e = absurd cc
 
 -- the first in conflict is found, and none is waited for
-pub first_found : (ms : List Message) (m : Message) → first_in_conflict ms ≡ Some m → (find is_in_conflict ms ≡ Some m) × (list_any is_awaited ms ≡ false)
-first_found ms m e = by (list_any is_awaited ms) refl e
+pub first_found : (ms : List Message) (m : Message) → first_in_conflict ms ≡ Some m → (find is_in_conflict ms ≡ Some m) × (list_any is_out ms ≡ false)
+first_found ms m e = by (list_any is_out ms) refl e
   where
-    by : (b : Bool) → list_any is_awaited ms ≡ b → cond b None (find is_in_conflict ms) ≡ Some m → (find is_in_conflict ms ≡ Some m) × (list_any is_awaited ms ≡ false)
+    by : (b : Bool) → list_any is_out ms ≡ b → cond b None (find is_in_conflict ms) ≡ Some m → (find is_in_conflict ms ≡ Some m) × (list_any is_out ms ≡ false)
     by true is e = absurd cc
     by false is e = (e, is)
 
@@ -112,7 +112,7 @@ followed-behind id key earlier later f = record {
   done = f.done;
 }
 
-module _ (k now : Known) (ms : List Message) (w : WaveStands k ms) (number : ℕ) (conflict : Reply) (m : Message) (found : find is_in_conflict ms ≡ Some m) (idle : list_any is_awaited ms ≡ false) (in_round : IsInRound m number conflict) (made : MadeRound k now conflict) where
+module _ (k now : Known) (ms : List Message) (w : WaveStands k ms) (number : ℕ) (conflict : Reply) (m : Message) (found : find is_in_conflict ms ≡ Some m) (idle : list_any is_out ms ≡ false) (in_round : IsInRound m number conflict) (made : MadeRound k now conflict) where
   stands_m : MessageStands k m
   stands_m = found_all is_in_conflict (MessageStands k) ms m found w.stand
 
@@ -156,22 +156,22 @@ module _ (k now : Known) (ms : List Message) (w : WaveStands k ms) (number : ℕ
     no_round = stands_m.no_round;
   }
 
-  stays : (y : Message) → MessageStands k y → is_awaited y ≡ false → MessageStands now y
-  stays y s not = stands-kept k now made.sent_more made.heard_more made.more y (news y s) (others y s) (λ n e. let t : is_awaited y ≡ true = ap progress_awaited e in absurd cc) s
+  stays : (y : Message) → MessageStands k y → is_out y ≡ false → MessageStands now y
+  stays y s not = stands-kept k now made.sent_more made.heard_more made.more y (news y s) (others y s) (λ n e. let t : is_out y ≡ true = ap progress_out e in absurd cc) s
 
   pub again_stands : WaveStands now (first_changed (conflicts_at number) goes_again ms)
   again_stands = record {
     stand =
-        changed_other AreOfTwo (conflicts_at number) goes_again (λ y. MessageStands k y × (is_awaited y ≡ false)) (MessageStands now) ms m
+        changed_other AreOfTwo (conflicts_at number) goes_again (λ y. MessageStands k y × (is_out y ≡ false)) (MessageStands now) ms m
         (found_at number ms m found (ap (progress_conflicts number) in_round.progress ∙ eq-eqb number number refl))
         (λ y s two. stays y s.0 s.1) (λ y s two. stays y s.0 s.1) (λ s. again)
-        (all_both (MessageStands k) (λ y. is_awaited y ≡ false) ms w.stand (any_none is_awaited ms idle)) w.differ;
+        (all_both (MessageStands k) (λ y. is_out y ≡ false) ms w.stand (any_none is_out ms idle)) w.differ;
     differ = pairwise_changed AreOfTwo (conflicts_at number) goes_again (λ x y two. record { differ = two.differ; back = two.back }) (λ x y two. record { differ = two.differ; back = two.back }) ms w.differ;
   }
 
 -- which message is in the round that is due
 pub due_round : (ms : List Message) (number : ℕ) (conflict : Reply) → step_of ms ≡ steps.Round number conflict → (m : Message) × (first_in_conflict ms ≡ Some m) × IsInRound m number conflict
-due_round ms number conflict due = round_of_first (first_in_conflict ms) (find is_to_send ms) (list_all is_answered ms) number conflict due
+due_round ms number conflict due = round_of_first (first_in_conflict ms) (find is_to_send ms) (list_all has_answer ms) number conflict due
 
 -- after the round that was due was made
 pub wave_again : (k now : Known) (ms : List Message) (number : ℕ) (conflict : Reply) → WaveStands k ms → step_of ms ≡ steps.Round number conflict → MadeRound k now conflict

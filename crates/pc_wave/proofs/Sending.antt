@@ -17,7 +17,7 @@ use Rattle.pc_wave.specs.declared.message.Progress.{Progress}
 use Rattle.pc_wave.specs.declared.message.Progress.TheVariants as progresses
 use Rattle.pc_wave.specs.declared.step.Step.{Step}
 use Rattle.pc_wave.specs.declared.step.Step.TheVariants as steps
-use Rattle.pc_wave.specs.Messages.{conflict_by, first_changed, first_in_conflict, is_answered, is_to_send, progress_to_send, step_by, step_in, step_of, went_out}
+use Rattle.pc_wave.specs.Messages.{conflict_by, first_changed, first_in_conflict, has_answer, is_to_send, progress_to_send, step_by, step_in, step_of, sent_under}
 use Rattle.pc_wave.specs.Standing.{AreAnsweredBut, AreNumbered, AreOfTwo, HasMore, IsAsFar, MessageStands, WaveStands}
 use Rattle.pc_world.specs.Counting.{AtLeast}
 use Rattle.pc_world.specs.Follows.Resends.{AreAnsweredNow}
@@ -82,7 +82,7 @@ module _ (k now : Known) (ms : List Message) (w : WaveStands k ms) (numbered : A
     low : (x : ℕ) → x ≤ length k.sent → x ≢ n
     low x h e = absurd (omega arith)
 
-    goes_out : MessageStands now (went_out n m)
+    goes_out : MessageStands now (sent_under n m)
     goes_out = record {
       as_far = (
         record {
@@ -114,19 +114,19 @@ module _ (k now : Known) (ms : List Message) (w : WaveStands k ms) (numbered : A
         stands-kept k now (new ∷ []) [] more y (All-cons (IsOtherSent y.request) new [] other (All-nil (IsOtherSent y.request))) (All-nil (IsOther y.request))
         (λ number e. All-nil (λ h. h.number ≢ number)) s
 
-    pub sent_stands : WaveStands now (first_changed is_to_send (went_out n) ms)
+    pub sent_stands : WaveStands now (first_changed is_to_send (sent_under n) ms)
     sent_stands = record {
       stand =
-          changed_other AreOfTwo is_to_send (went_out n) (MessageStands k) (MessageStands now) ms m found
+          changed_other AreOfTwo is_to_send (sent_under n) (MessageStands k) (MessageStands now) ms m found
           (λ y s two. stays y s two.differ) (λ y s two. stays y s two.back) (λ s. goes_out) w.stand w.differ;
-      differ = pairwise_changed AreOfTwo is_to_send (went_out n) (λ x y two. record { differ = two.differ; back = two.back }) (λ x y two. record { differ = two.differ; back = two.back }) ms w.differ;
+      differ = pairwise_changed AreOfTwo is_to_send (sent_under n) (λ x y two. record { differ = two.differ; back = two.back }) (λ x y two. record { differ = two.differ; back = two.back }) ms w.differ;
     }
 
 -- after the request that was due was sent
 pub wave_sent : (k now : Known) (ms : List Message) (number range : ℕ) (request : Request) → WaveStands k ms → AreNumbered k → step_of ms ≡ steps.Send request → number ≡ next_number k
-    → HasMore k now (record { number = number; range = range; request = request } ∷ []) [] → WaveStands now (first_changed is_to_send (went_out number) ms)
+    → HasMore k now (record { number = number; range = range; request = request } ∷ []) [] → WaveStands now (first_changed is_to_send (sent_under number) ms)
 wave_sent k now ms number range request w numbered due next more =
-    let f = sends_first (first_in_conflict ms) (find is_to_send ms) (list_all is_answered ms) request due in
+    let f = sends_first (first_in_conflict ms) (find is_to_send ms) (list_all has_answer ms) request due in
     let P : ℕ → Request → Type 0 = λ n r. HasMore k now (record { number = n; range = range; request = r } ∷ []) [] in
     let is : P (next_number k) f.0.request = subst (λ r. P (next_number k) r) (sym f.2) (subst (λ n. P n request) next more) in
-    subst (λ n. WaveStands now (first_changed is_to_send (went_out n) ms)) (sym next) (sent_stands k now ms w numbered f.0 f.1 range is)
+    subst (λ n. WaveStands now (first_changed is_to_send (sent_under n) ms)) (sym next) (sent_stands k now ms w numbered f.0 f.1 range is)

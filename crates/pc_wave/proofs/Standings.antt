@@ -16,7 +16,7 @@ use Rattle.pc_wave.proofs.Lists.{any_before, any_true_kept, at_least-before, at_
 use Rattle.pc_wave.specs.declared.message.Message.{Message}
 use Rattle.pc_wave.specs.declared.message.Progress.{Progress}
 use Rattle.pc_wave.specs.declared.message.Progress.TheVariants as progresses
-use Rattle.pc_wave.specs.Standing.{AreAnsweredBut, AreCounted, CameBack, HasMore, IsAsFar, IsAwaited, IsReplyAt, MayGoOut, MessageStands, MetConflict, WentOut}
+use Rattle.pc_wave.specs.Standing.{AreAnsweredBut, AreCounted, HasComeBack, HasMore, IsAsFar, IsOnItsWay, IsReplyAt, MayGoOut, MessageStands, MetConflict, IsSentUnder}
 use Rattle.pc_world.specs.Counting.{AtLeast}
 use Rattle.pc_world.specs.Follows.Resends.{AreAnsweredNow, MayGoAgain, MetConflictNow, WasDone, WasFollowed, WasRefusedNow}
 use Rattle.pc_world.specs.Known.{Known}
@@ -66,7 +66,7 @@ abbrev pub IsOtherSent : Request → Sent → Type 0
 IsOtherSent request m = IsSameRequest request m.request → ⊥
 
 module _ (k k2 : Known) (sent_more : List Sent) (heard_more : List Heard) (more : HasMore k k2 sent_more heard_more) where
-  pub out-kept : (number : ℕ) (request : Request) → WentOut k number request → WentOut k2 number request
+  pub out-kept : (number : ℕ) (request : Request) → IsSentUnder k number request → IsSentUnder k2 number request
   out-kept number request out =
       let longer : length k2.sent ≡ length k.sent + length sent_more = ap length more.sent ∙ length-append k.sent sent_more in
       record {
@@ -119,14 +119,14 @@ module _ (k k2 : Known) (sent_more : List Sent) (heard_more : List Heard) (more 
         let new : All Q sent_more = All-weaker (IsOtherSent request) Q (λ m other same. absurd (other same)) sent_more news in
         subst (λ ms. All Q ms) (sym more.sent_now) (All-append Q k.sent_now sent_more old new)
 
-    awaited-kept : (number : ℕ) → All (λ h. h.number ≢ number) heard_more → IsAwaited k number request → IsAwaited k2 number request
+    awaited-kept : (number : ℕ) → All (λ h. h.number ≢ number) heard_more → IsOnItsWay k number request → IsOnItsWay k2 number request
     awaited-kept number apart w = record {
       out = out-kept number request w.out;
       rest = rest-kept number w.rest;
       unheard = subst (λ hs. All (λ h. h.number ≢ number) hs) (sym more.heard) (All-append (λ h. h.number ≢ number) k.heard heard_more w.unheard apart);
     }
 
-    back-kept : (number : ℕ) (reply : Reply) → CameBack k number request reply → CameBack k2 number request reply
+    back-kept : (number : ℕ) (reply : Reply) → HasComeBack k number request reply → HasComeBack k2 number request reply
     back-kept number reply b = record {
       out = out-kept number request b.out;
       answered = answered-kept b.answered;

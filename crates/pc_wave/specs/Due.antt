@@ -8,8 +8,8 @@ use Rattle.pc_wave.specs.declared.message.Message.{Message}
 use Rattle.pc_wave.specs.declared.message.Progress.TheVariants as progresses
 use Rattle.pc_wave.specs.declared.step.Step.{Step}
 use Rattle.pc_wave.specs.declared.step.Step.TheVariants as steps
-use Rattle.pc_wave.specs.Messages.{is_awaited}
-use Rattle.pc_wave.specs.Standing.{CameBack, HasMore, MayGoOut, MetConflict}
+use Rattle.pc_wave.specs.Messages.{is_out}
+use Rattle.pc_wave.specs.Standing.{HasComeBack, HasMore, MayGoOut, MetConflict}
 use Rattle.pc_world.specs.Follows.CallMessages.{IsOfRound}
 use Rattle.pc_world.specs.Follows.Eighth.{MetEighth}
 use Rattle.pc_world.specs.Follows.Resends.{WasFollowed}
@@ -28,14 +28,14 @@ pub record WasAnsweredWith (k : Known) (m : Message) : Type 0 where
   pub number : ℕ
   pub reply : Reply
   pub progress : m.progress ≡ progresses.Answered number reply
-  pub back : CameBack k number m.request reply
+  pub back : HasComeBack k number m.request reply
 
 -- What is due may come: a request goes out where none of it is waited for, for a reason, and not after its eighth conflict; the messages
 -- are delivered where a reply is waited for; a conflict that was heard has its round; a holder blocks the call after eight conflicts of
 -- one request, the last with it; and all is answered where each message was.
 abbrev pub MayBeDue : Known → List Message → Step → Type 0
 MayBeDue k messages (steps.Send request) = MayGoOut k request × (MetEighth k request → ⊥)
-MayBeDue k messages steps.Deliver = IsTrue (list_any is_awaited messages)
+MayBeDue k messages steps.Deliver = IsTrue (list_any is_out messages)
 MayBeDue k messages (steps.Round number conflict) = IsRoundDue k number conflict
 MayBeDue k messages (steps.Blocked holder) = MetEight holder k.heard_now
 MayBeDue k messages steps.Answered = All (WasAnsweredWith k) messages

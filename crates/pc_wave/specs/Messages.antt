@@ -32,15 +32,15 @@ progress_to_send (progresses.Answered number reply) = false
 abbrev pub is_to_send : Message → Bool
 is_to_send m = progress_to_send m.progress
 
-abbrev pub progress_awaited : Progress → Bool
-progress_awaited progresses.ToSend = false
-progress_awaited (progresses.Sent number) = true
-progress_awaited (progresses.Met number conflict) = false
-progress_awaited (progresses.Answered number reply) = false
+abbrev pub progress_out : Progress → Bool
+progress_out progresses.ToSend = false
+progress_out (progresses.Sent number) = true
+progress_out (progresses.Met number conflict) = false
+progress_out (progresses.Answered number reply) = false
 
 -- The reply to the message is waited for.
-abbrev pub is_awaited : Message → Bool
-is_awaited m = progress_awaited m.progress
+abbrev pub is_out : Message → Bool
+is_out m = progress_out m.progress
 
 abbrev pub progress_in_conflict : Progress → Bool
 progress_in_conflict progresses.ToSend = false
@@ -52,15 +52,15 @@ progress_in_conflict (progresses.Answered number reply) = false
 abbrev pub is_in_conflict : Message → Bool
 is_in_conflict m = progress_in_conflict m.progress
 
-abbrev pub progress_answered : Progress → Bool
-progress_answered progresses.ToSend = false
-progress_answered (progresses.Sent number) = false
-progress_answered (progresses.Met number conflict) = false
-progress_answered (progresses.Answered number reply) = true
+abbrev pub progress_has_answer : Progress → Bool
+progress_has_answer progresses.ToSend = false
+progress_has_answer (progresses.Sent number) = false
+progress_has_answer (progresses.Met number conflict) = false
+progress_has_answer (progresses.Answered number reply) = true
 
 -- The message was answered, by no conflict.
-abbrev pub is_answered : Message → Bool
-is_answered m = progress_answered m.progress
+abbrev pub has_answer : Message → Bool
+has_answer m = progress_has_answer m.progress
 
 abbrev pub progress_awaits : ℕ → Progress → Bool
 progress_awaits number progresses.ToSend = false
@@ -83,20 +83,20 @@ abbrev pub conflicts_at : ℕ → Message → Bool
 conflicts_at number m = progress_conflicts number m.progress
 
 -- The message went out under this number.
-abbrev pub went_out : ℕ → Message → Message
-went_out number m = record m { progress = progresses.Sent number }
+abbrev pub sent_under : ℕ → Message → Message
+sent_under number m = record m { progress = progresses.Sent number }
 
 -- One conflict more, counted up to the eighth.
 abbrev pub one_conflict_more : ℕ → ℕ
 one_conflict_more conflicts = if nat_lt conflicts MOST_CONFLICTS then conflicts + 1 else MOST_CONFLICTS
 
-abbrev pub came_back_by : Bool → ℕ → Reply → Message → Message
-came_back_by true number reply m = record m { conflicts = one_conflict_more m.conflicts; progress = progresses.Met number reply }
-came_back_by false number reply m = record m { progress = progresses.Answered number reply }
+abbrev pub back_with_by : Bool → ℕ → Reply → Message → Message
+back_with_by true number reply m = record m { conflicts = one_conflict_more m.conflicts; progress = progresses.Met number reply }
+back_with_by false number reply m = record m { progress = progresses.Answered number reply }
 
 -- This was replied to the message, which went out under this number.
-abbrev pub came_back : ℕ → Reply → Message → Message
-came_back number reply m = came_back_by (is_conflict reply) number reply m
+abbrev pub back_with : ℕ → Reply → Message → Message
+back_with number reply m = back_with_by (is_conflict reply) number reply m
 
 -- The message is to be sent again.
 abbrev pub goes_again : Message → Message
@@ -104,7 +104,7 @@ goes_again m = record m { progress = progresses.ToSend }
 
 -- The first message that waits for its conflict's round, once no reply is waited for any more.
 abbrev pub first_in_conflict : List Message → Option Message
-first_in_conflict messages = if list_any is_awaited messages then None else find is_in_conflict messages
+first_in_conflict messages = if list_any is_out messages then None else find is_in_conflict messages
 
 abbrev pub conflict_by : Option TxnId → ℕ → Reply → Step
 conflict_by None number conflict = steps.Round number conflict
@@ -131,7 +131,7 @@ step_by None to_send all_answered = step_without to_send all_answered
 -- What is due of a wave: the round of the first conflict, else the first message that is to be sent, else that the messages are
 -- delivered, until all were answered.
 abbrev pub step_of : List Message → Step
-step_of messages = step_by (first_in_conflict messages) (find is_to_send messages) (list_all is_answered messages)
+step_of messages = step_by (first_in_conflict messages) (find is_to_send messages) (list_all has_answer messages)
 
 -- The reply to the message of this number is waited for.
 abbrev pub wave_awaits : ℕ → List Message → Bool

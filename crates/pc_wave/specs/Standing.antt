@@ -24,7 +24,7 @@ pub record MayGoOut (k : Known) (request : Request) : Type 0 where
   pub again : Any (λ m. IsSameRequest request m.request) k.sent_now → MayGoAgain k request None
 
 -- The request went out in the open call under this number.
-pub record WentOut (k : Known) (number : ℕ) (request : Request) : Type 0 where
+pub record IsSentUnder (k : Known) (number : ℕ) (request : Request) : Type 0 where
   pub said : request_sent number k.sent ≡ Some request
   pub numbered : number ≤ length k.sent
   pub now : IsTrue (list_any (λ m. m.number == number) k.sent_now)
@@ -35,8 +35,8 @@ AreAnsweredBut k number request =
     All (λ m. IsSameRequest request m.request → m.number ≢ number → IsTrue (is_heard k.heard_now m)) k.sent_now
 
 -- Its reply alone is waited for.
-pub record IsAwaited (k : Known) (number : ℕ) (request : Request) : Type 0 where
-  pub out : WentOut k number request
+pub record IsOnItsWay (k : Known) (number : ℕ) (request : Request) : Type 0 where
+  pub out : IsSentUnder k number request
   pub rest : AreAnsweredBut k number request
   pub unheard : All (λ h. h.number ≢ number) k.heard
 
@@ -47,15 +47,15 @@ pub record IsReplyAt (number : ℕ) (request : Request) (reply : Reply) (h : Hea
   pub told : h.reply ≡ reply
 
 -- The request came back with this reply, which is one that may be given to it.
-pub record CameBack (k : Known) (number : ℕ) (request : Request) (reply : Reply) : Type 0 where
-  pub out : WentOut k number request
+pub record HasComeBack (k : Known) (number : ℕ) (request : Request) (reply : Reply) : Type 0 where
+  pub out : IsSentUnder k number request
   pub answered : AreAnsweredNow k request
   pub heard : Any (IsReplyAt number request reply) k.heard_now
   pub kind : MayAnswer request reply
 
 -- The request met this conflict, and no reply to it was heard after that.
 pub record MetConflict (k : Known) (number : ℕ) (request : Request) (conflict : Reply) : Type 0 where
-  pub out : WentOut k number request
+  pub out : IsSentUnder k number request
   pub answered : AreAnsweredNow k request
   pub kind : MayAnswer request conflict
   pub holder : TxnMeta
@@ -72,9 +72,9 @@ pub record MetConflict (k : Known) (number : ℕ) (request : Request) (conflict 
 -- The request is as far as the wave has it, after so many conflicts: it goes out only before the eighth.
 abbrev pub IsAsFar : Known → Request → ℕ → Progress → Type 0
 IsAsFar k request conflicts progresses.ToSend = MayGoOut k request × (conflicts < MOST_CONFLICTS)
-IsAsFar k request conflicts (progresses.Sent number) = IsAwaited k number request × (conflicts < MOST_CONFLICTS)
+IsAsFar k request conflicts (progresses.Sent number) = IsOnItsWay k number request × (conflicts < MOST_CONFLICTS)
 IsAsFar k request conflicts (progresses.Met number conflict) = MetConflict k number request conflict
-IsAsFar k request conflicts (progresses.Answered number reply) = CameBack k number request reply × (conflicts < MOST_CONFLICTS)
+IsAsFar k request conflicts (progresses.Answered number reply) = HasComeBack k number request reply × (conflicts < MOST_CONFLICTS)
 
 -- As many conflicts of the request were heard in the call, no more and no fewer.
 pub record AreCounted (k : Known) (request : Request) (conflicts : ℕ) : Type 0 where

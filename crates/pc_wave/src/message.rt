@@ -1,5 +1,5 @@
 ghost use Rattle.std.specs.Prelude.{◌≡◌, IfOk};
-ghost use Rattle.pc_wave.specs.Messages.{awaits_at, came_back, conflicts_at, goes_again, is_answered, is_awaited, is_in_conflict, is_to_send, message_to_send, conflict_step, one_conflict_more, step_in, went_out};
+ghost use Rattle.pc_wave.specs.Messages.{awaits_at, back_with, conflicts_at, goes_again, has_answer, is_out, is_in_conflict, is_to_send, message_to_send, conflict_step, one_conflict_more, step_in, sent_under};
 
 use crate::step::Step;
 use pc_base::limits::MOST_CONFLICTS;
@@ -45,8 +45,8 @@ impl Message {
         matches!(self.progress, Progress::ToSend)
     }
 
-    pub fn is_awaited(&self) -> bool
-        ensures { result ≡ is_awaited self.now }
+    pub fn is_out(&self) -> bool
+        ensures { result ≡ is_out self.now }
     {
         matches!(self.progress, Progress::Sent { .. })
     }
@@ -57,8 +57,8 @@ impl Message {
         matches!(self.progress, Progress::Met { .. })
     }
 
-    pub fn is_answered(&self) -> bool
-        ensures { result ≡ is_answered self.now }
+    pub fn has_answer(&self) -> bool
+        ensures { result ≡ has_answer self.now }
     {
         matches!(self.progress, Progress::Answered { .. })
     }
@@ -105,14 +105,14 @@ impl Message {
 
     /// It went out under this number.
     pub fn go_out(&mut self, number: u64)
-        ensures { self.new ≡ went_out number self.old }
+        ensures { self.new ≡ sent_under number self.old }
     {
         self.progress = Progress::Sent { number };
     }
 
     /// This was replied to it; it went out under this number.
     pub fn hear(&mut self, number: u64, reply: Reply)
-        ensures { self.new ≡ came_back number reply self.old }
+        ensures { self.new ≡ back_with number reply self.old }
     {
         if matches!(reply, Reply::Conflict { .. }) {
             self.conflicts = one_conflict_more(self.conflicts);

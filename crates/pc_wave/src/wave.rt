@@ -1,7 +1,7 @@
 ghost use Rattle.std.specs.Prelude.{◌≡◌, ℕ, true, false, ◌==◌, ◌||◌, ◌&&◌, not, ◌++◌, [], ◌∷◌, find, IfOk, OnOk, position};
 ghost use Rattle.std.specs.Option.{option_copied};
 ghost use Rattle.std.specs.List.{list_all, list_any};
-ghost use Rattle.pc_wave.specs.Messages.{awaits_at, came_back, conflicts_at, first_changed, first_in_conflict, goes_again, is_answered, is_awaited, is_in_conflict, is_to_send, message_to_send, step_of, step_without, wave_awaits, went_out};
+ghost use Rattle.pc_wave.specs.Messages.{awaits_at, back_with, conflicts_at, first_changed, first_in_conflict, goes_again, has_answer, is_out, is_in_conflict, is_to_send, message_to_send, step_of, step_without, wave_awaits, sent_under};
 ghost use Rattle.pc_wave.specs.declared.step.Step.TheVariants as steps;
 ghost use Rattle.pc_wave.specs.Due.{MadeRound, MayBeDue};
 ghost use Rattle.pc_wave.specs.Standing.{AreNumbered, HasMore, IsHeardTo, MayJoin, WaveStands};
@@ -72,11 +72,11 @@ impl Wave {
     }
 
     fn step_without(&self) -> Result<Step, NoMemory>
-        ensures { IfOk result (λ step. step ≡ step_without (find is_to_send self.now) (list_all is_answered self.now)) }
+        ensures { IfOk result (λ step. step ≡ step_without (find is_to_send self.now) (list_all has_answer self.now)) }
     {
         match self.to_send() {
             Some(message) => Ok(Step::Send(message.request.copy()?)),
-            None if self.is_answered() => Ok(Step::Answered),
+            None if self.has_answer() => Ok(Step::Answered),
             None => Ok(Step::Deliver),
         }
     }
@@ -84,22 +84,22 @@ impl Wave {
     fn first_in_conflict(&self) -> Option<&Message>
         ensures { option_copied result ≡ first_in_conflict self.now }
     {
-        if self.is_awaited() {
+        if self.is_out() {
             return None;
         }
         self.in_conflict()
     }
 
-    fn is_awaited(&self) -> bool
-        ensures { result ≡ list_any is_awaited self.now }
+    fn is_out(&self) -> bool
+        ensures { result ≡ list_any is_out self.now }
     {
-        self.messages.iter().any(|message| message.is_awaited())
+        self.messages.iter().any(|message| message.is_out())
     }
 
-    fn is_answered(&self) -> bool
-        ensures { result ≡ list_all is_answered self.now }
+    fn has_answer(&self) -> bool
+        ensures { result ≡ list_all has_answer self.now }
     {
-        self.messages.iter().all(|message| message.is_answered())
+        self.messages.iter().all(|message| message.has_answer())
     }
 
     fn in_conflict(&self) -> Option<&Message>
@@ -127,7 +127,7 @@ impl Wave {
 
     /// The first message that is to be sent went out under this number.
     pub fn sent(&mut self, number: u64)
-        ensures made { self.new ≡ first_changed is_to_send (went_out number) self.old }
+        ensures made { self.new ≡ first_changed is_to_send (sent_under number) self.old }
         ensures awaited { (request : Request) (other : ℕ) → step_of self.old ≡ steps.Send request → wave_awaits other self.new ≡ (number == other || wave_awaits other self.old) }
         ensures stands { (k now : Known) (range : ℕ) (request : Request) → WaveStands k self.old → AreNumbered k → step_of self.old ≡ steps.Send request → number ≡ next_number k → HasMore k now (record { number = number; range = range; request = request } ∷ []) [] → WaveStands now self.new }
     {
@@ -146,7 +146,7 @@ impl Wave {
 
     /// This was replied to the message of this number.
     pub fn heard(&mut self, number: u64, reply: Reply)
-        ensures made { self.new ≡ first_changed (awaits_at number) (came_back number reply) self.old }
+        ensures made { self.new ≡ first_changed (awaits_at number) (back_with number reply) self.old }
         ensures awaited { (k : Known) (other : ℕ) → WaveStands k self.old → wave_awaits number self.old ≡ true → wave_awaits other self.new ≡ (wave_awaits other self.old && not (number == other)) }
         ensures stands { (k now : Known) (h : Heard) → WaveStands k self.old → wave_awaits number self.old ≡ true → IsHeardTo k number reply h → HasMore k now [] (h ∷ []) → WaveStands now self.new }
     {

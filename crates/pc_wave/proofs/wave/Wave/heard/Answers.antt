@@ -2,13 +2,13 @@ use Rattle.std.proofs.Common.{sym, subst, ap, ◌∙◌}
 use Rattle.pc_wave.proofs.Awaiting.{heard_awaits}
 use Rattle.pc_wave.proofs.Hearing.{wave_heard}
 use Rattle.pc_wave.proofs.Places.{set_found, set_none}
-use Rattle.pc_wave.specs.Messages.{awaits_at, came_back, wave_awaits}
+use Rattle.pc_wave.specs.Messages.{awaits_at, back_with, wave_awaits}
 use Rattle.pc_wave.specs.Standing.{WaveStands}
 use Rattle.pc_wave.proofs.wave.Wave.heard.Goals as goal
 
 pub returns-in-Some-clause-made : goal.returns-in-Some-clause-made
 returns-in-Some-clause-made c =
-    set_found (awaits_at c.args.number) (came_back c.args.number c.args.reply) c.self.inside.messages.items c.args.self.now c.place_awaited.result c.in-Some.place c.index_mut.result.now c.hear.new.self
+    set_found (awaits_at c.args.number) (back_with c.args.number c.args.reply) c.self.inside.messages.items c.args.self.now c.place_awaited.result c.in-Some.place c.index_mut.result.now c.hear.new.self
     c.self.view_is c.place_awaited.ensures c.in-Some.is c.index_mut.ensures.value c.hear.ensures
 
 pub returns-in-Some-clause-stands : goal.returns-in-Some-clause-stands
@@ -17,7 +17,7 @@ returns-in-Some-clause-stands c k now h w waited is more =
 
 pub returns-in_default-clause-made : goal.returns-in_default-clause-made
 returns-in_default-clause-made c =
-    set_none (awaits_at c.args.number) (came_back c.args.number c.args.reply) c.args.self.now c.place_awaited.result c.place_awaited.ensures c.in_default.not-Some
+    set_none (awaits_at c.args.number) (back_with c.args.number c.args.reply) c.args.self.now c.place_awaited.result c.place_awaited.ensures c.in_default.not-Some
 
 pub returns-in_default-clause-stands : goal.returns-in_default-clause-stands
 returns-in_default-clause-stands c k now h w waited is more =

@@ -1,0 +1,73 @@
+//! One key's versions, by timestamp.
+
+ghost use Rattle.std.specs.Prelude.{◌≡◌, ◌&&◌, ◌∷◌, [], IfOk, OnErr, OnOk, filter, find, fold, None, nat_le, nat_lt, slice_get};
+ghost use Rattle.std.specs.Option.{is_some, option_copied};
+ghost use Rattle.std.specs.List.Sorted.{IsNonDecreasingBy};
+ghost use Rattle.pc_base.specs.Versions.{later, with_version};
+ghost use Rattle.pc_mvcc.specs.Chains.{IsChain};
+
+use pc_base::{NoMemory, Timestamp, Version};
+use std::alloc::Global;
+
+/// The version of the greatest timestamp.
+pub(crate) fn latest(chain: &[Version]) -> Option<&Version>
+    requires { IsNonDecreasingBy (λ v. v.ts) chain.now }
+    ensures { option_copied result ≡ fold later None chain.now }
+{
+    let last = chain.last()?;
+    let place = chain.partition_point(|version| version.ts < last.ts);
+    version_at(chain, place)
+}
+
+/// The version of the greatest timestamp that is not above this one.
+pub(crate) fn latest_by(chain: &[Version], ts: Timestamp) -> Option<&Version>
+    requires { IsNonDecreasingBy (λ v. v.ts) chain.now }
+    ensures { option_copied result ≡ fold later None (filter (λ v. nat_le v.ts ts) chain.now) }
+{
+    let count = chain.partition_point(|version| version.ts <= ts);
+    latest(&chain[..count])
+}
+
+/// The version of the least timestamp above `from` and not above `to`.
+pub(crate) fn between(chain: &[Version], from: Timestamp, to: Timestamp) -> Option<&Version>
+    ensures { option_copied result ≡ find (λ v. nat_lt from v.ts && nat_le v.ts to) chain.now }
+{
+    chain
+        .iter()
+        .find(|version| from < version.ts && version.ts <= to)
+}
+
+/// Whether a version lies above `from` and not above `to`.
+pub(crate) fn has_between(chain: &Vec<Version>, from: Timestamp, to: Timestamp) -> bool
+    ensures { result ≡ is_some (find (λ v. nat_lt from v.ts && nat_le v.ts to) chain.now.items) }
+{
+    between(chain, from, to).is_some()
+}
+
+/// The version at a place.
+fn version_at(chain: &[Version], place: usize) -> Option<&Version>
+    ensures { option_copied result ≡ slice_get chain.now place }
+{
+    chain.get(place)
+}
+
+/// Puts a version of the chain's key in its place.
+pub(crate) fn put(chain: &mut Vec<Version>, version: Version) -> Result<(), NoMemory>
+    requires { IsChain version.key chain.old.items }
+    ensures ok { OnOk result (chain.new.items ≡ with_version chain.old.items version) }
+    ensures chain { IsChain version.key chain.new.items }
+    ensures err { OnErr result (chain.new.items ≡ chain.old.items) }
+{
+    let place = chain.partition_point(|kept| kept.ts <= version.ts);
+    chain.insert(place, version)?;
+    Ok(())
+}
+
+/// A chain of one version.
+pub(crate) fn alone(alloc: Global, version: Version) -> Result<Vec<Version>, NoMemory>
+    ensures { IfOk result (λ made. made.items ≡ version ∷ []) }
+{
+    let mut chain = Vec::new(alloc);
+    chain.push(version)?;
+    Ok(chain)
+}

@@ -1,0 +1,2 @@
+-- Why the count of moves stands on.
+pub mod Counted

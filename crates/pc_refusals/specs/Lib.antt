@@ -1,0 +1,2 @@
+-- How often a commit was moved.
+pub mod Moves
