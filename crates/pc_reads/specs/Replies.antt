@@ -26,9 +26,9 @@ unrefreshed_in (progresses.Met number conflict) = None
 unrefreshed_in (progresses.Answered number reply) = unrefreshed_by reply
 
 -- The message did not hold.
-abbrev pub is_unrefreshed : Message → Bool
-is_unrefreshed m = is_some (unrefreshed_in m.progress)
+abbrev pub shows_unrefreshed : Message → Bool
+shows_unrefreshed m = is_some (unrefreshed_in m.progress)
 
 -- The write that the first of the messages met that did not hold.
 abbrev pub first_unrefreshed : List Message → Option (List ℕ × ℕ)
-first_unrefreshed messages = option_and_then (λ m. unrefreshed_in m.progress) (find is_unrefreshed messages)
+first_unrefreshed messages = option_and_then (λ m. unrefreshed_in m.progress) (find shows_unrefreshed messages)

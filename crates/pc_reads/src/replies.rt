@@ -1,6 +1,6 @@
 ghost use Rattle.std.specs.Prelude.{◌≡◌, None, find, is_some};
 ghost use Rattle.std.specs.Option.{option_copied, option_map};
-ghost use Rattle.pc_reads.specs.Replies.{IsRefreshKind, first_unrefreshed, is_unrefreshed, unrefreshed_by, unrefreshed_in};
+ghost use Rattle.pc_reads.specs.Replies.{IsRefreshKind, first_unrefreshed, shows_unrefreshed, unrefreshed_by, unrefreshed_in};
 ghost use Rattle.pc_proto.specs.declared.reply.Reply.TheVariants as replies;
 
 use pc_base::{Key, Timestamp};
@@ -29,13 +29,13 @@ pub fn first_unrefreshed(wave: &Wave) -> Option<(&Key, Timestamp)>
 }
 
 fn first_met(messages: &[Message]) -> Option<&Message>
-    ensures { option_copied result ≡ find is_unrefreshed messages.now }
+    ensures { option_copied result ≡ find shows_unrefreshed messages.now }
 {
     messages.iter().find(|message| is_met(message))
 }
 
 fn is_met(message: &Message) -> bool
-    ensures { result ≡ is_unrefreshed message.now }
+    ensures { result ≡ shows_unrefreshed message.now }
 {
     met(message).is_some()
 }

@@ -30,19 +30,19 @@ use Rattle.pc_runner.proofs.Left.{PutsNothing, PutsOpen, nothing_put}
 
 gets_nothing : (request : Request) → IsTrue (is_get request) → PutsNothing request
 gets_nothing (requests.Get id epoch seq ts key) is other = refl
-gets_nothing request is other = absurd is
+gets_nothing request is other = absurd cc
 
 scans_nothing : (request : Request) → IsTrue (is_scan request) → PutsNothing request
 scans_nothing (requests.Scan id epoch seq ts span) is other = refl
-scans_nothing request is other = absurd is
+scans_nothing request is other = absurd cc
 
 commits_nothing : (request : Request) → IsTrue (is_commit request) → PutsNothing request
 commits_nothing (requests.Commit meta ts locks) is other = refl
-commits_nothing request is other = absurd is
+commits_nothing request is other = absurd cc
 
 aborts_nothing : (request : Request) → IsTrue (is_abort request) → PutsNothing request
 aborts_nothing (requests.Abort meta why locks) is other = refl
-aborts_nothing request is other = absurd is
+aborts_nothing request is other = absurd cc
 
 -- The open call is this one.
 call_is : (k : Known) (s : Statement) (call : Call) (reading : ℕ) → k.statement ≡ Some s → k.statement ≡ Some (record { call = call; reading = reading }) → s.call ≡ call

@@ -38,11 +38,11 @@ pub record IsPlainRequest (request : Request) : Type 0 where
 
 plain_get : (request : Request) → IsTrue (is_get request) → IsPlainRequest request
 plain_get (requests.Get id epoch seq ts key) is = record { no_round = refl; unstaged = tt }
-plain_get request is = absurd is
+plain_get request is = absurd cc
 
 plain_scan : (request : Request) → IsTrue (is_scan request) → IsPlainRequest request
 plain_scan (requests.Scan id epoch seq ts span) is = record { no_round = refl; unstaged = tt }
-plain_scan request is = absurd is
+plain_scan request is = absurd cc
 
 plain_put : (key : List ℕ) (request : Request) → IsPutOn key request → IsPlainRequest request
 plain_put key (requests.Put meta seq ts own value) is = record { no_round = refl; unstaged = tt }
@@ -50,11 +50,11 @@ plain_put key request is = absurd is
 
 plain_commit : (request : Request) → IsTrue (is_commit request) → IsPlainRequest request
 plain_commit (requests.Commit meta ts locks) is = record { no_round = refl; unstaged = tt }
-plain_commit request is = absurd is
+plain_commit request is = absurd cc
 
 plain_abort : (request : Request) → IsTrue (is_abort request) → IsPlainRequest request
 plain_abort (requests.Abort meta why locks) is = record { no_round = refl; unstaged = tt }
-plain_abort request is = absurd is
+plain_abort request is = absurd cc
 
 pub plain_for : (call : Call) (request : Request) → IsFor call request → IsPlainRequest request
 plain_for (calls.Get key) request is = plain_get request is
@@ -96,11 +96,11 @@ step_sent pipelining rule asks at jobs k number range request splits session may
 -- a put that is answered is one for which its call waits
 waited_get : (k : Known) (key : List ℕ) (request : Request) → IsTrue (is_get request) → IsPutWaitedFor k (calls.Get key) request
 waited_get k key (requests.Get id epoch seq ts own) is = tt
-waited_get k key request is = absurd is
+waited_get k key request is = absurd cc
 
 waited_scan : (k : Known) (call : Call) (request : Request) → IsTrue (is_scan request) → IsPutWaitedFor k call request
 waited_scan k call (requests.Scan id epoch seq ts span) is = tt
-waited_scan k call request is = absurd is
+waited_scan k call request is = absurd cc
 
 waited_put : (k : Known) (key value : List ℕ) (request : Request) → IsPutOn key request → IsPutWaitedFor k (calls.Put key value) request
 waited_put k key value (requests.Put meta seq ts own written) is = inl (sym is)
@@ -112,11 +112,11 @@ waited_delete k key request is = absurd is
 
 waited_commit : (k : Known) (request : Request) → IsTrue (is_commit request) → IsPutWaitedFor k calls.Commit request
 waited_commit k (requests.Commit meta ts locks) is = tt
-waited_commit k request is = absurd is
+waited_commit k request is = absurd cc
 
 waited_abort : (k : Known) (request : Request) → IsTrue (is_abort request) → IsPutWaitedFor k calls.Rollback request
 waited_abort k (requests.Abort meta why locks) is = tt
-waited_abort k request is = absurd is
+waited_abort k request is = absurd cc
 
 waited_for : (k : Known) (call : Call) (request : Request) → IsFor call request → IsPutWaitedFor k call request
 waited_for k (calls.Get key) request is = waited_get k key request is
@@ -129,7 +129,7 @@ waited_for k call request is = absurd is
 
 no_put : (request : Request) → IsTrue (is_commit request) → is_put request ≡ false
 no_put (requests.Commit meta ts locks) is = refl
-no_put request is = absurd is
+no_put request is = absurd cc
 
 asked_is : (k : Known) (s : Statement) (call : Call) → k.statement ≡ Some s → call_in k.statement ≡ Some call → s.call ≡ call
 asked_is k s call opened asked = let e : Some s.call ≡ Some call = sym (ap call_in opened) ∙ asked in cc

@@ -45,7 +45,7 @@ cut_some byte (b ∷ bs) p e =
           subst (λ (q : List ℕ × List ℕ). b ∷ bs ≡ q.0 ++ (byte ∷ q.1)) m.2 (ap (λ (t : List ℕ). b ∷ t) (cut_some byte bs m.0 m.1))
     ]
 
-cut_last_none : (class : ℕ → Bool) (byte : ℕ) → class byte ≡ false → (xs : List ℕ) → list_all class xs ≡ true → cut_last byte xs ≡ None
+pub cut_last_none : (class : ℕ → Bool) (byte : ℕ) → class byte ≡ false → (xs : List ℕ) → list_all class xs ≡ true → cut_last byte xs ≡ None
 unfolding cut_last
 cut_last_none class byte out [] h = refl
 cut_last_none class byte out (x ∷ xs) h =

@@ -11,5 +11,6 @@ pub mod Parts
 pub mod Readings
 pub mod Replies
 pub mod Requests
+pub mod TellsBare
 pub mod Views
 pub mod Words

@@ -3,5 +3,7 @@ pub mod Bytes
 pub mod Cutting
 pub mod Reading
 pub mod ReadingLines
+pub mod ReadingReport
 pub mod OneToOne
 pub mod ReadingHead
+pub mod RunsTellBare

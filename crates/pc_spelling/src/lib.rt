@@ -3,6 +3,7 @@
 #![tactic(auto)]
 
 ghost use Rattle.pc_spelling.specs.OneToOne.{EntriesAreReadAgain, EntriesAreSpelled, IsOneToOne};
+ghost use Rattle.pc_spelling.specs.RunsTellBare.{RunsTellBare};
 
 /// A law: what is printed of an entry is read as that entry.
 pub fn entries_are_read_again()
@@ -17,4 +18,9 @@ pub fn entries_are_spelled()
 /// A law: one text is the journal of one head and one history, whatever stands below it.
 pub fn journal_is_one_to_one()
     ensures { IsOneToOne }
+{}
+
+/// A law: a run tells no row with its origin, so its text loses nothing.
+pub fn runs_tell_bare()
+    ensures { RunsTellBare }
 {}

@@ -1,0 +1,5 @@
+use Rattle.pc_flight.proofs.Holding.{proved_holds}
+use Rattle.pc_flight.proofs.flight.Flight.proved.Goals as goal
+
+pub returns-clause-holds : goal.returns-clause-holds
+returns-clause-holds c = λ writes ts are. proved_holds c.args.key.now c.args.seq ts c.args.self.now c.take_out.new.self c.take_out.ensures writes are

@@ -1,0 +1,5 @@
+pub mod Places
+pub mod Digits
+pub mod Items
+pub mod Steps
+pub mod SplitKeys

@@ -1,0 +1,12 @@
+use Rattle.std.proofs.Common.{refl}
+use Rattle.pc_spelling.specs.Reading.{key_at, keys_at}
+use Rattle.pc_read.proofs.Items.{given_list, no_list}
+use Rattle.pc_read.proofs.list.keys.Goals as goal
+
+pub returns-then-is_list : goal.returns-then-is_list
+unfolding keys_at
+returns-then-is_list c = (refl, given_list key_at c.args.bytes.now c.is_list.result c.is_list.ensures c.if-is_list.true)
+
+pub returns-else-is_list : goal.returns-else-is_list
+unfolding keys_at
+returns-else-is_list c = no_list key_at c.args.bytes.now c.is_list.result c.is_list.ensures c.if-is_list.false

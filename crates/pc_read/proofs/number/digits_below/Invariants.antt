@@ -1,0 +1,10 @@
+-- The value is that of the digits so far, and below the limit.
+use Rattle.std.proofs.Common.{◌≡◌, ◌<◌, take}
+use Rattle.std.specs.Str.Parse.{digits_value}
+use Rattle.pc_read.proofs.number.digits_below.Given as goal
+
+abbrev pub invariant-loop-digit : goal.invariant-loop-digit
+invariant-loop-digit l = record {
+  value : l.value ≡ digits_value 10 (take l.digit-index l.digits);
+  small : l.value < l.limit;
+}

@@ -1,0 +1,9 @@
+-- What a borrowed value of the reader stands for.
+pub mod Given
+pub mod Items
+pub mod Left
+pub mod Lines
+pub mod Lists
+pub mod Parts
+pub mod Texts
+pub mod Rising

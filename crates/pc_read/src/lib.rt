@@ -1,0 +1,27 @@
+//! The lines of a journal over the bytes that spell them: nothing is copied.
+#![tactic(auto)]
+
+mod answer;
+mod call;
+mod cut;
+mod event;
+mod lines;
+mod list;
+mod name;
+mod number;
+mod part;
+mod reply;
+mod report;
+mod request;
+mod splits;
+mod text;
+mod view;
+
+pub use answer::AnswerRef;
+pub use call::CallRef;
+pub use event::{EntryRef, EventRef};
+pub use lines::{HeadRef, LineRef, Lines, Malformed};
+pub use part::{MetaRef, SpanRef, WhyRef};
+pub use reply::ReplyRef;
+pub use request::RequestRef;
+pub use view::{FindingRef, ViewRef};

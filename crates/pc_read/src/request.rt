@@ -1,0 +1,344 @@
+ghost use Rattle.std.specs.Prelude.{◌≡◌};
+ghost use Rattle.pc_read.specs.Given.{StandsFor};
+ghost use Rattle.pc_read.specs.Lines.{own_request};
+ghost use Rattle.pc_proto.specs.declared.request.Request.TheVariants as requests;
+ghost use Rattle.pc_spelling.specs.Cutting.{◌&◌, made};
+ghost use Rattle.pc_spelling.specs.Reading.{id_at, key_at, keys_at, maybe_value_at, meta_at, number32_at, number64_at, point_at, priority_at, span_at, ts_at, who_at, why_at, writes_at};
+ghost use Rattle.pc_spelling.specs.ReadingLines.{fate_at, finding_at, goal_at, request_at};
+
+use crate::cut::{cut, is, word_of};
+use crate::part::{MetaRef, SpanRef, WhyRef};
+use crate::view::FindingRef;
+use crate::{list, name, number, part, text, view};
+use pc_base::{Priority, Timestamp, TxnId, Who};
+use pc_proto::{Fate, Goal};
+
+/// A request, its keys, values and lists as they stand in the input.
+#[derive(Clone, Copy, Debug)]
+pub enum RequestRef<'a> {
+    Get {
+        id: TxnId,
+        epoch: u32,
+        seq: u32,
+        ts: Timestamp,
+        key: &'a [u8],
+    },
+    Scan {
+        id: TxnId,
+        epoch: u32,
+        seq: u32,
+        ts: Timestamp,
+        span: SpanRef<'a>,
+    },
+    Put {
+        meta: MetaRef<'a>,
+        seq: u32,
+        ts: Timestamp,
+        key: &'a [u8],
+        value: Option<&'a [u8]>,
+    },
+    Refresh {
+        id: TxnId,
+        from: Timestamp,
+        to: Timestamp,
+        span: SpanRef<'a>,
+    },
+    Beat {
+        meta: MetaRef<'a>,
+        ts: Timestamp,
+        now: u64,
+    },
+    Stage {
+        meta: MetaRef<'a>,
+        ts: Timestamp,
+        now: u64,
+        writes: &'a [u8],
+        locks: &'a [u8],
+    },
+    Commit {
+        meta: MetaRef<'a>,
+        ts: Timestamp,
+        locks: &'a [u8],
+    },
+    Abort {
+        meta: MetaRef<'a>,
+        why: WhyRef<'a>,
+        locks: &'a [u8],
+    },
+    Push {
+        holder: MetaRef<'a>,
+        by: Who,
+        level: Priority,
+        now: u64,
+        goal: Goal,
+    },
+    Query {
+        id: TxnId,
+        epoch: u32,
+        seq: u32,
+        ts: Timestamp,
+        key: &'a [u8],
+        by: Who,
+    },
+    Recover {
+        id: TxnId,
+        epoch: u32,
+        ts: Timestamp,
+        anchor: &'a [u8],
+        finding: FindingRef<'a>,
+    },
+    Resolve {
+        id: TxnId,
+        key: &'a [u8],
+        fate: Fate,
+    },
+    Remove {
+        id: TxnId,
+        anchor: &'a [u8],
+    },
+    Records,
+}
+
+#[tactic(auto, unfolding(pc_spelling::specs::ReadingLines::request_at))]
+pub fn request(bytes: &[u8]) -> Option<RequestRef<'_>>
+    ensures { StandsFor own_request result (request_at bytes.now) }
+{
+    let (word, rest) = word_of(b' ', bytes);
+    match rest {
+        None if is(word, b"records") => Some(RequestRef::Records),
+        None => None,
+        Some(rest) if is(word, b"get") => get(rest),
+        Some(rest) if is(word, b"scan") => scan(rest),
+        Some(rest) if is(word, b"put") => put(rest),
+        Some(rest) if is(word, b"refresh") => refresh(rest),
+        Some(rest) if is(word, b"query") => query(rest),
+        Some(rest) if is(word, b"resolve") => resolve(rest),
+        Some(rest) if is(word, b"beat") => beat(rest),
+        Some(rest) if is(word, b"stage") => stage(rest),
+        Some(rest) if is(word, b"commit") => commit(rest),
+        Some(rest) if is(word, b"abort") => abort(rest),
+        Some(rest) if is(word, b"push") => push(rest),
+        Some(rest) if is(word, b"recover") => recover(rest),
+        Some(rest) if is(word, b"remove") => remove(rest),
+        Some(_) => None,
+    }
+}
+
+/// The value of a key.
+fn get(bytes: &[u8]) -> Option<RequestRef<'_>>
+    ensures { StandsFor own_request result (made (λ p. requests.Get p.0.0 p.0.1.0 p.0.1.1 p.1.0 p.1.1) (point_at & ts_at & key_at) bytes.now) }
+{
+    let (point, rest) = cut(b' ', bytes)?;
+    let (id, (epoch, seq)) = part::point(point)?;
+    let (ts, rest) = cut(b' ', rest)?;
+    let ts = number::timestamp(ts)?;
+    let key = text::key(rest)?;
+    Some(RequestRef::Get {
+        id,
+        epoch,
+        seq,
+        ts,
+        key,
+    })
+}
+
+/// The rows of a span.
+fn scan(bytes: &[u8]) -> Option<RequestRef<'_>>
+    ensures { StandsFor own_request result (made (λ p. requests.Scan p.0.0 p.0.1.0 p.0.1.1 p.1.0 p.1.1) (point_at & ts_at & span_at) bytes.now) }
+{
+    let (point, rest) = cut(b' ', bytes)?;
+    let (id, (epoch, seq)) = part::point(point)?;
+    let (ts, rest) = cut(b' ', rest)?;
+    let ts = number::timestamp(ts)?;
+    let span = part::span(rest)?;
+    Some(RequestRef::Scan {
+        id,
+        epoch,
+        seq,
+        ts,
+        span,
+    })
+}
+
+/// A write, or the deletion of a key.
+fn put(bytes: &[u8]) -> Option<RequestRef<'_>>
+    ensures { StandsFor own_request result (made (λ p. requests.Put p.0 p.1.0 p.1.1.0 p.1.1.1.0 p.1.1.1.1) (meta_at & number32_at & ts_at & key_at & maybe_value_at) bytes.now) }
+{
+    let (meta, rest) = cut(b' ', bytes)?;
+    let meta = part::meta(meta)?;
+    let (seq, rest) = cut(b' ', rest)?;
+    let seq = number::number32(seq)?;
+    let (ts, rest) = cut(b' ', rest)?;
+    let ts = number::timestamp(ts)?;
+    let (key, rest) = cut(b' ', rest)?;
+    let key = text::key(key)?;
+    let value = text::maybe_value(rest)?;
+    Some(RequestRef::Put {
+        meta,
+        seq,
+        ts,
+        key,
+        value,
+    })
+}
+
+/// Whether what was read is so at a later timestamp.
+fn refresh(bytes: &[u8]) -> Option<RequestRef<'_>>
+    ensures { StandsFor own_request result (made (λ p. requests.Refresh p.0 p.1.0 p.1.1.0 p.1.1.1) (id_at & ts_at & ts_at & span_at) bytes.now) }
+{
+    let (id, rest) = cut(b' ', bytes)?;
+    let id = name::id(id)?;
+    let (from, rest) = cut(b' ', rest)?;
+    let from = number::timestamp(from)?;
+    let (to, rest) = cut(b' ', rest)?;
+    let to = number::timestamp(to)?;
+    let span = part::span(rest)?;
+    Some(RequestRef::Refresh { id, from, to, span })
+}
+
+/// That a transaction is alive.
+fn beat(bytes: &[u8]) -> Option<RequestRef<'_>>
+    ensures { StandsFor own_request result (made (λ p. requests.Beat p.0 p.1.0 p.1.1) (meta_at & ts_at & number64_at) bytes.now) }
+{
+    let (meta, rest) = cut(b' ', bytes)?;
+    let meta = part::meta(meta)?;
+    let (ts, rest) = cut(b' ', rest)?;
+    let ts = number::timestamp(ts)?;
+    let now = number::number64(rest)?;
+    Some(RequestRef::Beat { meta, ts, now })
+}
+
+/// A record with the writes in flight.
+fn stage(bytes: &[u8]) -> Option<RequestRef<'_>>
+    ensures { StandsFor own_request result (made (λ p. requests.Stage p.0 p.1.0 p.1.1.0 p.1.1.1.0 p.1.1.1.1) (meta_at & ts_at & number64_at & writes_at & keys_at) bytes.now) }
+{
+    let (meta, rest) = cut(b' ', bytes)?;
+    let meta = part::meta(meta)?;
+    let (ts, rest) = cut(b' ', rest)?;
+    let ts = number::timestamp(ts)?;
+    let (now, rest) = cut(b' ', rest)?;
+    let now = number::number64(now)?;
+    let (writes, rest) = cut(b' ', rest)?;
+    let writes = list::writes(writes)?;
+    let locks = list::keys(rest)?;
+    Some(RequestRef::Stage {
+        meta,
+        ts,
+        now,
+        writes,
+        locks,
+    })
+}
+
+/// A commit.
+fn commit(bytes: &[u8]) -> Option<RequestRef<'_>>
+    ensures { StandsFor own_request result (made (λ p. requests.Commit p.0 p.1.0 p.1.1) (meta_at & ts_at & keys_at) bytes.now) }
+{
+    let (meta, rest) = cut(b' ', bytes)?;
+    let meta = part::meta(meta)?;
+    let (ts, rest) = cut(b' ', rest)?;
+    let ts = number::timestamp(ts)?;
+    let locks = list::keys(rest)?;
+    Some(RequestRef::Commit { meta, ts, locks })
+}
+
+/// An abort.
+fn abort(bytes: &[u8]) -> Option<RequestRef<'_>>
+    ensures { StandsFor own_request result (made (λ p. requests.Abort p.0 p.1.0 p.1.1) (meta_at & why_at & keys_at) bytes.now) }
+{
+    let (meta, rest) = cut(b' ', bytes)?;
+    let meta = part::meta(meta)?;
+    let (why, rest) = cut(b' ', rest)?;
+    let Some(why) = part::why(why) else {
+        return None;
+    };
+    let locks = list::keys(rest)?;
+    Some(RequestRef::Abort { meta, why, locks })
+}
+
+/// A push.
+fn push(bytes: &[u8]) -> Option<RequestRef<'_>>
+    ensures { StandsFor own_request result (made (λ p. requests.Push p.0 p.1.0 p.1.1.0 p.1.1.1.0 p.1.1.1.1) (meta_at & who_at & priority_at & number64_at & goal_at) bytes.now) }
+{
+    let (holder, rest) = cut(b' ', bytes)?;
+    let holder = part::meta(holder)?;
+    let (by, rest) = cut(b' ', rest)?;
+    let by = name::who(by)?;
+    let (level, rest) = cut(b' ', rest)?;
+    let level = name::priority(level)?;
+    let (now, rest) = cut(b' ', rest)?;
+    let now = number::number64(now)?;
+    let goal = view::goal(rest)?;
+    Some(RequestRef::Push {
+        holder,
+        by,
+        level,
+        now,
+        goal,
+    })
+}
+
+/// Whether a listed write stands.
+fn query(bytes: &[u8]) -> Option<RequestRef<'_>>
+    ensures { StandsFor own_request result (made (λ p. requests.Query p.0.0 p.0.1.0 p.0.1.1 p.1.0 p.1.1.0 p.1.1.1) (point_at & ts_at & key_at & who_at) bytes.now) }
+{
+    let (point, rest) = cut(b' ', bytes)?;
+    let (id, (epoch, seq)) = part::point(point)?;
+    let (ts, rest) = cut(b' ', rest)?;
+    let ts = number::timestamp(ts)?;
+    let (key, rest) = cut(b' ', rest)?;
+    let key = text::key(key)?;
+    let by = name::who(rest)?;
+    Some(RequestRef::Query {
+        id,
+        epoch,
+        seq,
+        ts,
+        key,
+        by,
+    })
+}
+
+/// What a recovery found.
+fn recover(bytes: &[u8]) -> Option<RequestRef<'_>>
+    ensures { StandsFor own_request result (made (λ p. requests.Recover p.0 p.1.0 p.1.1.0 p.1.1.1.0 p.1.1.1.1) (id_at & number32_at & ts_at & key_at & finding_at) bytes.now) }
+{
+    let (id, rest) = cut(b' ', bytes)?;
+    let id = name::id(id)?;
+    let (epoch, rest) = cut(b' ', rest)?;
+    let epoch = number::number32(epoch)?;
+    let (ts, rest) = cut(b' ', rest)?;
+    let ts = number::timestamp(ts)?;
+    let (anchor, rest) = cut(b' ', rest)?;
+    let anchor = text::key(anchor)?;
+    let finding = view::finding(rest)?;
+    Some(RequestRef::Recover {
+        id,
+        epoch,
+        ts,
+        anchor,
+        finding,
+    })
+}
+
+/// What becomes of an intent.
+fn resolve(bytes: &[u8]) -> Option<RequestRef<'_>>
+    ensures { StandsFor own_request result (made (λ p. requests.Resolve p.0 p.1.0 p.1.1) (id_at & key_at & fate_at) bytes.now) }
+{
+    let (id, rest) = cut(b' ', bytes)?;
+    let id = name::id(id)?;
+    let (key, rest) = cut(b' ', rest)?;
+    let key = text::key(key)?;
+    let fate = view::fate(rest)?;
+    Some(RequestRef::Resolve { id, key, fate })
+}
+
+/// That a record may go.
+fn remove(bytes: &[u8]) -> Option<RequestRef<'_>>
+    ensures { StandsFor own_request result (made (λ p. requests.Remove p.0 p.1) (id_at & key_at) bytes.now) }
+{
+    let (id, rest) = cut(b' ', bytes)?;
+    let id = name::id(id)?;
+    let anchor = text::key(rest)?;
+    Some(RequestRef::Remove { id, anchor })
+}
