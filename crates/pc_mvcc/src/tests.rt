@@ -3,6 +3,8 @@ use pc_base::{Key, Timestamp, TxnId, Version};
 use std::alloc::Global;
 use std::test::Fail;
 
+const DIGITS: [u8; 10] = *b"0123456789";
+
 fn version(alloc: Global, key: &[u8], wall: u64) -> Result<Version, Fail> {
     let id = TxnId {
         session: 1,
@@ -18,18 +20,37 @@ fn version(alloc: Global, key: &[u8], wall: u64) -> Result<Version, Fail> {
     })
 }
 
-#[test]
-fn a_read_sees_the_last_version_before_it(rt: HostRuntime) -> Result<(), Fail> {
-    let alloc = rt.alloc();
+/// 100 versions of each of 500 keys, at the timestamps 1.0 to 100.0.
+fn many(alloc: Global) -> Result<Versions, Fail> {
     let mut versions = Versions::new(alloc);
-    versions.add(version(alloc, b"b", 5)?)?;
-    versions.add(version(alloc, b"a", 3)?)?;
-    versions.add(version(alloc, b"a", 1)?)?;
-    let key = Key::new(alloc, b"a")?;
-    let expected = version(alloc, b"a", 1)?;
-    assert!(rt; versions.visible(&key, Timestamp::new(2, 0)) == Some(&expected));
-    let expected = version(alloc, b"a", 3)?;
-    assert!(rt; versions.newest(&key) == Some(&expected));
-    assert!(rt; versions.visible(&key, Timestamp::ZERO).is_none());
+    for wall in 1..101 {
+        for hundreds in b'0'..b'5' {
+            for tens in DIGITS.as_slice() {
+                for units in DIGITS.as_slice() {
+                    let key = [hundreds, *tens, *units];
+                    versions.add(version(alloc, key.as_slice(), wall)?)?;
+                }
+            }
+        }
+    }
+    Ok(versions)
+}
+
+#[test]
+fn a_hundred_thousand_reads_in_the_middle_find_their_version(rt: HostRuntime) -> Result<(), Fail> {
+    let alloc = rt.alloc();
+    let versions = many(alloc)?;
+    let middle = Timestamp::new(50, 0);
+    for _ in 0..200 {
+        for hundreds in b'0'..b'5' {
+            for tens in DIGITS.as_slice() {
+                for units in DIGITS.as_slice() {
+                    let key = Key::new(alloc, [hundreds, *tens, *units].as_slice())?;
+                    let seen = versions.visible(&key, middle);
+                    assert!(rt; seen.is_some_and(|version| version.ts == middle));
+                }
+            }
+        }
+    }
     Ok(())
 }
