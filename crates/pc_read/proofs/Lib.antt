@@ -3,3 +3,4 @@ pub mod Digits
 pub mod Items
 pub mod Steps
 pub mod SplitKeys
+pub mod Again

@@ -12,10 +12,10 @@ use Rattle.pc_read.specs.Items.{Item, Head, Line, ReportWord, Row, End, Malforme
 use Rattle.pc_read.proofs.Items.{parts_cut, parts_whole, shorter_cut}
 
 -- A text has at least one piece.
-record HasPiece (bs : List ℕ) : Type 0 where
-  first : List ℕ
-  others : List (List ℕ)
-  is : text_lines bs ≡ first ∷ others
+pub record HasPiece (bs : List ℕ) : Type 0 where
+  pub first : List ℕ
+  pub others : List (List ℕ)
+  pub is : text_lines bs ≡ first ∷ others
 
 onto_has : (b : ℕ) (parts : List (List ℕ)) → (first : List ℕ) × (others : List (List ℕ)) × (onto_first b parts ≡ first ∷ others)
 onto_has b [] = (b ∷ [], [], refl)
@@ -25,7 +25,7 @@ chosen_has : (t : Bool) (b : ℕ) (parts : List (List ℕ)) → (first : List �
 chosen_has true b parts = ([], parts, refl)
 chosen_has false b parts = onto_has b parts
 
-has_piece : (bs : List ℕ) → HasPiece bs
+pub has_piece : (bs : List ℕ) → HasPiece bs
 has_piece [] = record { first = []; others = []; is = refl }
 has_piece (b ∷ bs) =
     let some = chosen_has (b == 10) b (text_lines bs) in

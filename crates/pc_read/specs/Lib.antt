@@ -7,3 +7,4 @@ pub mod Lists
 pub mod Parts
 pub mod Texts
 pub mod Rising
+pub mod JournalsAreRead

@@ -141,7 +141,7 @@ no_entry : entry_at (codes "report") ≡ None
 unfolding entry_at cut
 no_entry = refl
 
-not_report : (e : Entry Event) → FitsEntry e → entry_text e ≡ codes "report" → ⊥
+pub not_report : (e : Entry Event) → FitsEntry e → entry_text e ≡ codes "report" → ⊥
 not_report e h same = none-some e (sym no_entry ∙ ap entry_at (sym same) ∙ entry.again e h)
 
 same_history : (entries events : List (Entry Event)) (below under : List (List ℕ)) → AllByRecursion FitsEntry entries → AllByRecursion FitsEntry events → map entry_text entries ++ (codes "report" ∷ below) ≡ map entry_text events ++ (codes "report" ∷ under) → (entries ≡ events) × (below ≡ under)
@@ -176,3 +176,8 @@ one_to_one splits others sessions many recoverers more entries events below unde
       same_entries = history.0;
       same_below = same_text below under history.1;
     }
+
+-- The lines of a journal, with those below the line `report`.
+pub journal_pieces : (splits : List (List ℕ)) (sessions recoverers : ℕ) (entries : List (Entry Event)) (below : List ℕ) → FitsHead splits sessions recoverers → FitsEntries entries → slice_split (λ b. b == 10) (journal_then splits sessions recoverers entries below) ≡ codes "journal 1" ∷ ranges_text splits ∷ actors_text sessions recoverers ∷ (map entry_text entries ++ (codes "report" ∷ slice_split (λ b. b == 10) below))
+unfolding lines_of journal_lines
+journal_pieces splits sessions recoverers entries below h hs = lines_of_journal splits sessions recoverers entries below h hs
