@@ -1,14 +1,20 @@
 -- What the laws of runs say of the history that the program writes.
-use Rattle.std.proofs.Common.{◌≡◌, ℕ, ◌+◌, ◌^◌, ◌<◌, Bool, List, arith, length, IfOk, Ok, Err, Result, refl, sym, ap, subst, ◌∙◌}
+use Rattle.std.proofs.Common.{◌≡◌, ℕ, ◌+◌, ◌^◌, ◌<◌, Bool, true, List, [], ◌∷◌, arith, length, IfOk, OnOk, Ok, Err, Result, refl, sym, ap, subst, ◌∙◌}
 use Rattle.pc_base.specs.declared.actor.ActorId.{ActorId}
 use Rattle.pc_base.specs.declared.entry.Entry.{Entry}
+use Rattle.pc_base.specs.Rising.{AreRising}
+use Rattle.pc_base.specs.Span.{key_below}
 use Rattle.pc_implicit.proofs.OneDecision.{decisions_do_not_differ}
 use Rattle.pc_implicit.proofs.Outcomes.{outcomes_are_true}
+use Rattle.pc_journal.specs.Fits.{FitsKeys}
+use Rattle.pc_journal.specs.FitsJournal.{FitsEntries, FitsHead, keys_rise}
+use Rattle.pc_journal.specs.ToldRows.{AllTellBare}
 use Rattle.pc_proto.specs.declared.event.Event.{Event}
 use Rattle.pc_report.specs.declared.rows.Report.{Report}
 use Rattle.pc_report.specs.ReportOf.{IsRunOver, report_of}
 use Rattle.pc_runner.specs.Follows.{Follows}
 use Rattle.pc_serial.proofs.Legal.{is-legal, is-ordered}
+use Rattle.pc_spelling.proofs.TellsBare.{runs_tell_bare}
 use Rattle.pc_work.specs.Built.{IsBuilt}
 use Rattle.pc_work.specs.declared.workload.Workload.{Workload}
 use Rattle.pc_world.specs.Local.{Head}
@@ -31,20 +37,37 @@ is_run_of work rules entries run follows = record {
 pub few_over : (work : Workload) → IsBuilt work → length work.splits + 1 < 2 ^ 32
 few_over work built = omega (arith, built.few_splits)
 
+-- Keys that rise have a spelling in their order.
+rise_of : (keys : List (List ℕ)) → AreRising keys → keys_rise keys ≡ true
+rise_of [] rising = refl
+rise_of (key ∷ []) rising = refl
+rise_of (key ∷ next ∷ keys) rising = let rest : keys_rise (next ∷ keys) ≡ true = rise_of (next ∷ keys) rising.1 in let first : key_below key next ≡ true = rising.0 in cc
+
+-- The head of such a workload's journal has a spelling.
+head_fits : (work : Workload) → IsBuilt work → FitsKeys work.splits → FitsHead work.splits (length work.sessions) 0
+head_fits work built keys = record {
+  cuts = record { keys = keys; rise = rise_of work.splits built.splits; count = omega (arith, built.few_splits) };
+  first_count = omega (arith, built.few_sessions);
+  second_count = omega arith;
+}
+
 -- The entries are a run over the workload's splits.
 pub run_over : (work : Workload) (entries reported : List (Entry Event)) → IsRun (head_in work) entries → reported ≡ entries → IsRunOver work.splits reported
 run_over work entries reported run same = record { head = head_in work; cut = refl; run = subst (λ es. IsRun (head_in work) es) (sym same) run }
 
 -- The text of such a run and of its report is an output.
 pub output_of : {V E : Type 0} (r : Result V E) (items : V → List ℕ) (work : Workload) (rules : ActorId → ℕ → ℕ → Bool) (entries reported printed : List (Entry Event)) (report : Report)
-    → IsRun (head_in work) entries → Follows work rules (head_in work) entries
+    → IsBuilt work → IsRun (head_in work) entries → Follows work rules (head_in work) entries
     → reported ≡ entries → printed ≡ entries → ((head : Head) → head.splits ≡ work.splits → report ≡ report_of head reported)
-    → IfOk r (λ out. items out ≡ output_text work printed report) → IfOk r (λ out. IsOutput work rules (items out))
-output_of (Ok out) items work rules entries reported printed report run follows same_one same_two is text =
+    → IfOk r (λ out. items out ≡ output_text work printed report) → OnOk r (FitsKeys work.splits) → OnOk r (AllTellBare printed → FitsEntries printed)
+    → IfOk r (λ out. IsOutput work rules (items out))
+output_of (Ok out) items work rules entries reported printed report built run follows same_one same_two is text keys spelled =
     let right : report ≡ report_of (head_in work) entries = is (head_in work) refl ∙ ap (report_of (head_in work)) same_one in
     record {
       entries = entries;
       is = is_run_of work rules entries run follows;
+      head = head_fits work built keys;
+      spelled = subst FitsEntries same_two (spelled (subst AllTellBare (sym same_two) (runs_tell_bare (head_in work) entries run)));
       whole = text ∙ ap (λ es. output_text work es report) same_two ∙ ap (output_text work entries) right;
     }
-output_of (Err e) items work rules entries reported printed report run follows same_one same_two is text = tt
+output_of (Err e) items work rules entries reported printed report built run follows same_one same_two is text keys spelled = tt

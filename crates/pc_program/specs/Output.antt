@@ -3,6 +3,7 @@ use Rattle.std.specs.Prelude.{◌≡◌, ℕ, Bool, List, ◌++◌, length}
 use Rattle.pc_base.specs.declared.actor.ActorId.{ActorId}
 use Rattle.pc_base.specs.declared.entry.Entry.{Entry}
 use Rattle.pc_implicit.specs.Outcomes.{HasTrueOutcomes}
+use Rattle.pc_journal.specs.FitsJournal.{FitsEntries, FitsHead}
 use Rattle.pc_journal.specs.Journal.{journal_text}
 use Rattle.pc_proto.specs.declared.event.Event.{Event}
 use Rattle.pc_report.specs.declared.rows.Report.{Report}
@@ -36,8 +37,10 @@ pub record IsRunOf (work : Workload) (rules : ActorId → ℕ → ℕ → Bool) 
   pub ordered : OrdersCommits (head_in work) entries
   pub legal : IsLegal (head_in work) entries
 
--- The text is the journal and the report of one such history.
+-- The text is the journal and the report of one such history. Its head and the history have a spelling, so that it is the journal of no other.
 pub record IsOutput (work : Workload) (rules : ActorId → ℕ → ℕ → Bool) (text : List ℕ) : Type 0 where
   pub entries : List (Entry Event)
   pub is : IsRunOf work rules entries
+  pub head : FitsHead work.splits (length work.sessions) 0
+  pub spelled : FitsEntries entries
   pub whole : text ≡ output_text work entries (report_of (head_in work) entries)

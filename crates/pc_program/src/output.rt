@@ -1,4 +1,7 @@
-ghost use Rattle.std.specs.Prelude.{◌≡◌, IfOk};
+ghost use Rattle.std.specs.Prelude.{◌≡◌, IfOk, OnOk};
+ghost use Rattle.pc_journal.specs.Fits.{FitsKeys};
+ghost use Rattle.pc_journal.specs.FitsJournal.{FitsEntries};
+ghost use Rattle.pc_journal.specs.ToldRows.{AllTellBare};
 ghost use Rattle.pc_work.specs.Built.{IsBuilt};
 ghost use Rattle.pc_program.specs.Output.{IsOutput, output_text};
 
@@ -34,7 +37,9 @@ fn print_output(
     report: &Report,
 ) -> Result<Vec<u8>, NoMemory>
     requires { IsBuilt work.now }
-    ensures { IfOk result (λ out. out.items ≡ output_text work.now entries.now report.now) }
+    ensures text { IfOk result (λ out. out.items ≡ output_text work.now entries.now report.now) }
+    ensures keys { OnOk result (FitsKeys work.now.splits) }
+    ensures spelled { OnOk result (AllTellBare entries.now → FitsEntries entries.now) }
 {
     let mut out = Vec::new(alloc);
     let sessions = work.sessions.len() as u32;
