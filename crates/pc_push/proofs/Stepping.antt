@@ -29,7 +29,7 @@ use Rattle.pc_push.specs.PushKnows.{Asks, AsksAt, HasMetStaging, MayPush, MaySet
 use Rattle.pc_push.specs.Pushing.{Pushing, holder_resolve, progress_after_push, progress_after_recovery, push_of, resolve_or, round_after, round_due, round_heard, round_next, with_progress}
 use Rattle.pc_world.proofs.Exchange.{answered, heard_earlier, heard_ever, later-later}
 use Rattle.pc_world.proofs.RoundReplies.{IsGoalReply, IsStatus, push_answers, recovery_answers, resolve_answers}
-use Rattle.pc_world.specs.declared.machine.MachineNext.{MachineNext}
+use Rattle.pc_proto.specs.declared.machine.MachineNext.{MachineNext}
 use Rattle.pc_world.specs.Exchange.{HeardSince, IsExchange, IsLater, IsPossibleReply, WasAnswered}
 use Rattle.pc_world.specs.Known.{Known}
 use Rattle.pc_world.specs.Send.Settling.{MaySendResolve, ShowsFate}

@@ -12,8 +12,8 @@ use Rattle.pc_proto.specs.Views.{is_final_view}
 use Rattle.pc_push.specs.declared.progress.Progress.{Progress}
 use Rattle.pc_push.specs.declared.progress.Progress.TheVariants as progress
 use Rattle.pc_push.specs.Pushing.{Pushing, holder_resolve, push_of}
-use Rattle.pc_world.specs.declared.machine.MachineNext.{MachineNext}
-use Rattle.pc_world.specs.declared.machine.MachineNext.TheVariants as nexts
+use Rattle.pc_proto.specs.declared.machine.MachineNext.{MachineNext}
+use Rattle.pc_proto.specs.declared.machine.MachineNext.TheVariants as nexts
 use Rattle.pc_world.specs.Exchange.{HeardSince, IsAllowed, IsLater}
 use Rattle.pc_world.specs.Known.{Known}
 use Rattle.pc_world.specs.Send.Push.{MaySendPush}

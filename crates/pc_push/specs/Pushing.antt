@@ -13,8 +13,8 @@ use Rattle.pc_proto.specs.declared.request.Request.TheVariants as requests
 use Rattle.pc_proto.specs.Views.{fate_after, final_fate}
 use Rattle.pc_push.specs.declared.progress.Progress.{Progress}
 use Rattle.pc_push.specs.declared.progress.Progress.TheVariants as progress
-use Rattle.pc_world.specs.declared.machine.MachineNext.{MachineNext}
-use Rattle.pc_world.specs.declared.machine.MachineNext.TheVariants as nexts
+use Rattle.pc_proto.specs.declared.machine.MachineNext.{MachineNext}
+use Rattle.pc_proto.specs.declared.machine.MachineNext.TheVariants as nexts
 
 -- A round: whose intent stands in the way, and at which key; who pushes, at which level and reading, and what for; and how far
 -- it has come.

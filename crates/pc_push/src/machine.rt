@@ -5,14 +5,13 @@ ghost use Rattle.pc_proto.specs.declared.request.Request.{Request};
 ghost use Rattle.pc_proto.specs.Replies.{is_conflict};
 ghost use Rattle.pc_push.specs.Pushing.{IsStart, after_recovery, after_push, goal_of, push_of, resolve_or, round_after, round_next};
 ghost use Rattle.pc_push.specs.PushKnows.{Asks, MayPush, PushKnows, RoundMayCome};
-ghost use Rattle.pc_world.specs.declared.machine.MachineNext.TheVariants as nexts;
+ghost use Rattle.pc_proto.specs.declared.machine.MachineNext.TheVariants as nexts;
 ghost use Rattle.pc_world.specs.Exchange.{IsPossibleReply, WasAnswered};
 ghost use Rattle.pc_world.specs.Known.{Known};
 
 use crate::progress::Progress;
 use pc_base::{Key, NoMemory, Priority, Timestamp, TryCopy, Who};
-use pc_proto::{Fate, Goal, Reply, Request, TxnMeta};
-use pc_world::MachineNext;
+use pc_proto::{Fate, Goal, MachineNext, Reply, Request, TxnMeta};
 use std::marker::Model;
 
 /// Pushes the holder of an intent that stood in the way, and settles the intent as the push came out.

@@ -23,8 +23,8 @@ use Rattle.pc_recover.specs.declared.progress.Progress.TheVariants as progress
 use Rattle.pc_recover.specs.RecoverKnows.{AreFound, HasFound, IsMissing, MayRecover, RecoverKnows, RecoveringMayCome, RecoveryStands, HasDecided}
 use Rattle.pc_recover.specs.Recovering.{Recovering, asked_for, over_by, progress_after, progress_after_query, progress_after_deciding, recovering_heard, query_of, recover_of, recovering_after, recovering_due, recovering_next, recovering_at}
 use Rattle.pc_world.proofs.Exchange.{answered, heard_earlier, heard_ever, later-later}
-use Rattle.pc_world.specs.declared.machine.MachineNext.{MachineNext}
-use Rattle.pc_world.specs.declared.machine.MachineNext.TheVariants as nexts
+use Rattle.pc_proto.specs.declared.machine.MachineNext.{MachineNext}
+use Rattle.pc_proto.specs.declared.machine.MachineNext.TheVariants as nexts
 use Rattle.pc_world.specs.Exchange.{HeardSince, IsAllowed, IsExchange, IsLater, IsPossibleReply, WasAnswered}
 use Rattle.pc_world.specs.Known.{Known}
 use Rattle.pc_world.specs.Known.Transactions.{lists_write}

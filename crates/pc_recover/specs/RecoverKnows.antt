@@ -10,8 +10,8 @@ use Rattle.pc_proto.specs.Views.{is_final_view}
 use Rattle.pc_recover.specs.declared.progress.Progress.{Progress}
 use Rattle.pc_recover.specs.declared.progress.Progress.TheVariants as progress
 use Rattle.pc_recover.specs.Recovering.{Recovering, query_of, recover_of}
-use Rattle.pc_world.specs.declared.machine.MachineNext.{MachineNext}
-use Rattle.pc_world.specs.declared.machine.MachineNext.TheVariants as nexts
+use Rattle.pc_proto.specs.declared.machine.MachineNext.{MachineNext}
+use Rattle.pc_proto.specs.declared.machine.MachineNext.TheVariants as nexts
 use Rattle.pc_world.specs.Exchange.{HeardSince, IsAllowed, IsLater}
 use Rattle.pc_world.specs.Known.{Known}
 use Rattle.pc_world.specs.Known.Transactions.{lists_write}

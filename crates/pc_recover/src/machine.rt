@@ -3,14 +3,13 @@ ghost use Rattle.pc_base.specs.declared.actor.ActorId.{ActorId};
 ghost use Rattle.pc_proto.specs.declared.request.Request.{Request};
 ghost use Rattle.pc_recover.specs.Recovering.{IsRecoveryOf, is_staging_view, over_due, progress_after_deciding, query_of, recover_of, recovering_after, recovering_next, recovering_at};
 ghost use Rattle.pc_recover.specs.RecoverKnows.{MayRecover, RecoverKnows, RecoveringMayCome};
-ghost use Rattle.pc_world.specs.declared.machine.MachineNext.TheVariants as nexts;
+ghost use Rattle.pc_proto.specs.declared.machine.MachineNext.TheVariants as nexts;
 ghost use Rattle.pc_world.specs.Exchange.{IsPossibleReply, WasAnswered};
 ghost use Rattle.pc_world.specs.Known.{Known};
 
 use crate::progress::Progress;
 use pc_base::{Key, NoMemory, Timestamp, TryCopy, Who};
-use pc_proto::{Finding, Reply, Request, TxnMeta, View, Writes};
-use pc_world::MachineNext;
+use pc_proto::{Finding, MachineNext, Reply, Request, TxnMeta, View, Writes};
 use std::marker::Model;
 
 /// Recovers a transaction whose record a push met staging: each write that the record lists is asked for in order, up to the first

@@ -14,8 +14,8 @@ use Rattle.pc_resolve.proofs.Going.{goes_on}
 use Rattle.pc_resolve.specs.ResolveKnows.{AreSettled, FinishingMayCome, IsLaterWithoutPuts, IsRemoved, ResolveKnows, WasAnsweredToIt, sends_put_by}
 use Rattle.pc_resolve.specs.Resolving.{Resolving, at_end, finishing_after, finishing_due, finishing_heard, finishing_next, lock_resolve, remove_of, unsettled, with_reply}
 use Rattle.pc_world.proofs.Exchange.{answered, heard_earlier, heard_ever, is_hearing, later-push}
-use Rattle.pc_world.specs.declared.machine.MachineNext.{MachineNext}
-use Rattle.pc_world.specs.declared.machine.MachineNext.TheVariants as nexts
+use Rattle.pc_proto.specs.declared.machine.MachineNext.{MachineNext}
+use Rattle.pc_proto.specs.declared.machine.MachineNext.TheVariants as nexts
 use Rattle.pc_world.specs.Exchange.{HeardSince, IsExchange}
 use Rattle.pc_world.specs.Known.{Known}
 use Rattle.pc_world.specs.Send.Settling.{AllResolved, MayFinish, MaySendRemove, WasResolved}

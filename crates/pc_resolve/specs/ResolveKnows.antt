@@ -11,8 +11,8 @@ use Rattle.pc_proto.specs.declared.reply.Reply.TheVariants as replies
 use Rattle.pc_proto.specs.declared.request.Request.{Request}
 use Rattle.pc_proto.specs.Requests.{is_put_by}
 use Rattle.pc_resolve.specs.Resolving.{Resolving, lock_resolve, remove_of}
-use Rattle.pc_world.specs.declared.machine.MachineNext.{MachineNext}
-use Rattle.pc_world.specs.declared.machine.MachineNext.TheVariants as nexts
+use Rattle.pc_proto.specs.declared.machine.MachineNext.{MachineNext}
+use Rattle.pc_proto.specs.declared.machine.MachineNext.TheVariants as nexts
 use Rattle.pc_world.specs.Exchange.{HeardSince, IsAllowed, IsLater, WasAnswered}
 use Rattle.pc_world.specs.Known.{Known}
 use Rattle.pc_world.specs.Send.Settling.{MayFinish}

@@ -3,13 +3,12 @@ ghost use Rattle.pc_base.specs.declared.actor.ActorId.{ActorId};
 ghost use Rattle.pc_proto.specs.declared.request.Request.{Request};
 ghost use Rattle.pc_resolve.specs.Resolving.{finishing_after, finishing_next};
 ghost use Rattle.pc_resolve.specs.ResolveKnows.{FinishingMayCome, ResolveKnows, WasAnsweredToIt};
-ghost use Rattle.pc_world.specs.declared.machine.MachineNext.TheVariants as nexts;
+ghost use Rattle.pc_proto.specs.declared.machine.MachineNext.TheVariants as nexts;
 ghost use Rattle.pc_world.specs.Known.{Known};
 ghost use Rattle.pc_world.specs.Send.Settling.{MayFinish};
 
 use pc_base::{Key, NoMemory, TryCopy, TxnId};
-use pc_proto::{Fate, Keys, Reply, Request};
-use pc_world::MachineNext;
+use pc_proto::{Fate, Keys, MachineNext, Reply, Request};
 use std::marker::Model;
 
 /// Finishes a transaction: each of its locks is settled with its fate, in key order, and then its record is removed.

@@ -43,7 +43,7 @@ use Rattle.pc_push.specs.PushKnows.{Asks, AsksAt, MayPush}
 use Rattle.pc_push.specs.Pushing.{Pushing, goal_of, holder_resolve, push_of, resolve_or, round_after, round_due, round_heard}
 use Rattle.pc_world.specs.Answering.{MayAnswer}
 use Rattle.pc_world.specs.Counting.{AtLeast}
-use Rattle.pc_world.specs.declared.machine.MachineNext.TheVariants as machine
+use Rattle.pc_proto.specs.declared.machine.MachineNext.TheVariants as machine
 use Rattle.pc_world.specs.Exchange.{IsPossibleReply}
 use Rattle.pc_world.specs.Follows.EarlyTell.{IsCommitKnown}
 use Rattle.pc_world.specs.Follows.Resends.{HasMoreConflicts, MayGoAgain}

@@ -25,8 +25,8 @@ use Rattle.pc_push.specs.declared.progress.Progress.{Progress}
 use Rattle.pc_push.specs.declared.progress.Progress.TheVariants as progresses
 use Rattle.pc_push.specs.PushKnows.{Asks, AsksAt, MayPush, PushKnows, RoundMayCome}
 use Rattle.pc_push.specs.Pushing.{IsStart, Pushing, goal_of, round_next as next_due}
-use Rattle.pc_world.specs.declared.machine.MachineNext.{MachineNext}
-use Rattle.pc_world.specs.declared.machine.MachineNext.TheVariants as machine
+use Rattle.pc_proto.specs.declared.machine.MachineNext.{MachineNext}
+use Rattle.pc_proto.specs.declared.machine.MachineNext.TheVariants as machine
 use Rattle.pc_world.proofs.Kept.{run_top}
 use Rattle.pc_world.specs.Exchange.{IsAllowed}
 use Rattle.pc_world.specs.Known.{Known}

@@ -17,8 +17,8 @@ use Rattle.pc_proto.specs.declared.reply.Reply.TheVariants as replies
 use Rattle.pc_proto.specs.declared.request.Request.{Request}
 use Rattle.pc_resolve.specs.Resolving.{Resolving, finishing_after, finishing_heard, finishing_next, unsettled}
 use Rattle.pc_resolve.specs.ResolveKnows.{FinishingMayCome, ResolveKnows, WasAnsweredToIt}
-use Rattle.pc_world.specs.declared.machine.MachineNext.{MachineNext}
-use Rattle.pc_world.specs.declared.machine.MachineNext.TheVariants as machine
+use Rattle.pc_proto.specs.declared.machine.MachineNext.{MachineNext}
+use Rattle.pc_proto.specs.declared.machine.MachineNext.TheVariants as machine
 use Rattle.pc_world.specs.Exchange.{IsAllowed}
 use Rattle.pc_world.specs.Follows.FinishingJobs.{jobs_of}
 use Rattle.pc_world.specs.Known.{Known, known_of, open_txn}

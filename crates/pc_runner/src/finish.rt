@@ -1,7 +1,7 @@
 ghost use Rattle.std.specs.Prelude.{◌≡◌, OnOk};
 ghost use Rattle.pc_coord.specs.declared.due.Due.TheVariants as dues;
 ghost use Rattle.pc_resolve.specs.Resolving.{finishing_next};
-ghost use Rattle.pc_world.specs.declared.machine.MachineNext.TheVariants as machines;
+ghost use Rattle.pc_proto.specs.declared.machine.MachineNext.TheVariants as machines;
 ghost use Rattle.pc_runner.specs.Beside.{MayExchange};
 ghost use Rattle.pc_runner.specs.declared.session.SessionRun.{SessionRun};
 ghost use Rattle.pc_runner.specs.History.{History};
@@ -14,9 +14,8 @@ use crate::database::Database;
 use crate::session::SessionRun;
 use pc_base::NoMemory;
 use pc_coord::Job;
-use pc_proto::Request;
+use pc_proto::{MachineNext, Request};
 use pc_resolve::ResolveMachine;
-use pc_world::MachineNext;
 
 impl<'a> SessionRun<'a> {
     /// Does the oldest of the session's jobs: each lock is settled, and then the record removed. Nothing where none waits.

@@ -16,9 +16,8 @@ use crate::database::Database;
 use crate::session::SessionRun;
 use pc_base::{NoMemory, Timestamp, Who};
 use pc_coord::Round;
-use pc_proto::{Reply, Request};
+use pc_proto::{MachineNext, Reply, Request};
 use pc_push::PushMachine;
-use pc_world::MachineNext;
 
 impl<'a> SessionRun<'a> {
     /// Makes the round of the conflict that the message of this number met, and tells the coordinator how it ended.

@@ -2,7 +2,6 @@
 #![tactic(auto)]
 
 mod laws;
-mod machine;
 mod ranges;
 
 pub use laws::{
@@ -10,5 +9,4 @@ pub use laws::{
     protocol_is_a_world, runs_are_bounded, runs_are_kept, sent_requests_have_room,
     steps_are_places,
 };
-pub use machine::MachineNext;
 pub use ranges::{range_for, range_of};

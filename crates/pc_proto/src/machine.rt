@@ -1,5 +1,6 @@
+use crate::request::Request;
+use crate::view::View;
 use pc_base::TxnId;
-use pc_proto::{Request, View};
 
 /// What a machine that settles a transaction asks for next.
 #[derive(Debug, PartialEq, Eq, Drop)]
