@@ -202,7 +202,7 @@ module _ (history : List (Entry Event)) (range : ℕ) (id : TxnId) where
 
 -- ---- each request
 
-refresh-kind : (write : Option (List ℕ × ℕ)) → IsRefreshReply (refresh_reply write)
+pub refresh-kind : (write : Option (List ℕ × ℕ)) → IsRefreshReply (refresh_reply write)
 refresh-kind None = tt
 refresh-kind (Some w) = tt
 
