@@ -188,7 +188,7 @@ module _ (c : Coordination) (k : Known) (t : Txn) (anchor : List ℕ) (refusals 
     may = record {
       row = may_send;
       stamps = All-cons (λ ts. ts ≤ k.top + 1) t.write_ts [] (omega (arith, may.settled.plain.below, counted.below)) (All-nil (λ ts. ts ≤ k.top + 1));
-      kind = record { s = record { call = calls.Commit; reading = may.reading }; opened = may.call; kind = refl };
+      kind = record { s = record { call = calls.Commit; reading = may.reading }; opened = may.call; kind = inl refl };
       undecided = undecided k t k.sent may.settled.plain opened;
       again = again;
     };

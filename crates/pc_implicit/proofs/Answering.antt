@@ -39,9 +39,10 @@ use Rattle.pc_proto.specs.Table.{place_of}
 use Rattle.pc_proto.specs.Views.{is_final_view}
 use Rattle.pc_world.proofs.Stamps.Searches.{some-kept}
 use Rattle.pc_world.specs.After.{state_at}
-use Rattle.pc_world.specs.Answering.{IsGetReply, IsPushReply, IsPutReply, IsScanReply, IsUnstagedView, MayAnswer}
+use Rattle.pc_world.specs.Answering.{IsGetReply, IsPushReply, IsPutReply, IsRefreshReply, IsScanReply, IsUnstagedView, MayAnswer}
 use Rattle.pc_world.specs.Evaluation.{reply}
 use Rattle.pc_world.specs.Evaluation.Get.{found_at, get_blocker, get_reply}
+use Rattle.pc_world.specs.Evaluation.Refresh.{refresh_reply, refuter_in}
 use Rattle.pc_world.specs.Evaluation.Put.{PutOutcome, Stands, Lands, first_outcome, laid, overtaken, own_outcome, put_reply, write_ts}
 use Rattle.pc_world.specs.Evaluation.Scan.{rows_in, scan_reply}
 use Rattle.pc_world.specs.Exchange.{IsPossibleReply}
@@ -201,6 +202,10 @@ module _ (history : List (Entry Event)) (range : ℕ) (id : TxnId) where
 
 -- ---- each request
 
+pub refresh-kind : (write : Option (List ℕ × ℕ)) → IsRefreshReply (refresh_reply write)
+refresh-kind None = tt
+refresh-kind (Some w) = tt
+
 may-answer : (history : List (Entry Event)) (range : ℕ) (request : Request) (s : RangeState) → ((id : TxnId) → IsRecorded history range id (place_of id s.table)) → MayAnswer request (reply request s)
 may-answer history range (requests.Get id epoch seq ts key) s all =
     get-kind id (get_blocker id ts key s) key (found_at id epoch seq ts key s)
@@ -211,6 +216,7 @@ may-answer history range (requests.Put meta seq ts key value) s all =
     let own = own_at meta.id key s.intents in
     put-kind meta.id key (other_at meta.id key s.intents) (own_outcome meta seq ts key value own s) (other-differs meta.id (intent_at key s.intents))
     (written-kind meta.id key (overtaken meta seq own) (option_map_or (λ i. i.ts) own 0) (laid meta seq (write_ts meta ts key own s) value own))
+may-answer history range (requests.Refresh id from to span) s all = refresh-kind (refuter_in id from to span s)
 may-answer history range (requests.Commit meta ts locks) s all = commit-kind history range meta.id meta ts locks (place_of meta.id s.table) (all meta.id)
 may-answer history range (requests.Abort meta why locks) s all = abort-kind history range meta.id meta why locks (place_of meta.id s.table) (all meta.id)
 may-answer history range (requests.Push holder by level now goal) s all = push-kind history range holder.id holder by goal (place_of holder.id s.table) (all holder.id) level now

@@ -25,7 +25,7 @@ use Rattle.pc_implicit.proofs.RisingVersions.{versions_rise}
 use Rattle.pc_implicit.proofs.Runs.{reply_is}
 use Rattle.pc_implicit.proofs.VersionSearches.{none-between, none-other}
 use Rattle.pc_implicit.specs.Versions.{IsRising}
-use Rattle.pc_implicit.specs.Reads.{GrowsAbove, HasRead, IsReadOfSpan, IsRefresh, RangeEvaluated, Reads, Refreshes}
+use Rattle.pc_implicit.specs.Reads.{GrowsAbove, HasRead, IsReadOfSpan, IsRefreshOfSpan, RangeEvaluated, Reads, Refreshes}
 use Rattle.pc_lists.proofs.Each.{each-weaker}
 use Rattle.pc_lists.proofs.Lists.{all_from_contains}
 use Rattle.pc_lists.proofs.Same.{same_key-is, same_txn-is}
@@ -146,7 +146,7 @@ module _ (id : TxnId) (span : Span) (from to : ℕ) where
     pub read : HasRead id span to t
     pub unwritten : All IsUnwritten t.versions
 
-  refreshed-at : (s : RangeState) (reader : TxnId) (at_from at_to : ℕ) (piece : Span) (o : Option (List ℕ × ℕ)) → refuter_in reader at_from at_to piece s ≡ o → IsRefresh id span from to (requests.Refresh reader at_from at_to piece) (refresh_reply o)
+  refreshed-at : (s : RangeState) (reader : TxnId) (at_from at_to : ℕ) (piece : Span) (o : Option (List ℕ × ℕ)) → refuter_in reader at_from at_to piece s ≡ o → IsRefreshOfSpan id span from to (requests.Refresh reader at_from at_to piece) (refresh_reply o)
       → IsRefreshed (record s { bound = refreshed_bound o reader at_to s.bound })
   refreshed-at s reader at_from at_to piece (Some w) met h = absurd h
   refreshed-at s reader at_from at_to piece None none h =
@@ -166,7 +166,7 @@ module _ (id : TxnId) (span : Span) (from to : ℕ) where
             s.versions unwritten;
       }
 
-  refreshed-now : (request : Request) (s : RangeState) → IsRefresh id span from to request (reply request s) → IsRefreshed (state_after request s)
+  refreshed-now : (request : Request) (s : RangeState) → IsRefreshOfSpan id span from to request (reply request s) → IsRefreshed (state_after request s)
   refreshed-now (requests.Refresh reader at_from at_to piece) s h =
       let r = refreshed-at s reader at_from at_to piece (refuter_in reader at_from at_to piece s) refl h in
       record { read = record { clear = r.read.clear; closed = r.read.closed }; unwritten = r.unwritten }
@@ -196,7 +196,7 @@ module _ (head : Head) (range : ℕ) (id : TxnId) (span : Span) where
       → HasRead id span to (state_at head range (before ++ e ∷ later)) × All (IsUnwritten id span from to) (state_at head range (before ++ e ∷ later)).versions
   refreshes_stand from to before e later run a =
       let s = state_at head range before in
-      let so = answered_so head before range (IsRefresh id span from to) e (run_front head before (e ∷ later) run) (run_may head before e later run) a in
+      let so = answered_so head before range (IsRefreshOfSpan id span from to) e (run_front head before (e ∷ later) run) (run_may head before e later run) a in
       let now : IsRefreshed id span from to (state_at head range (before ++ e ∷ [])) = subst (IsRefreshed id span from to) (sym so.after) (refreshed-now id span from to so.request s so.is) in
       let on = reads-on to before e later now.read in
       let grows = on.1 in (

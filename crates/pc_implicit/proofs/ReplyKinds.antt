@@ -5,9 +5,9 @@ use Rattle.pc_base.specs.declared.entry.Entry.{Entry}
 use Rattle.pc_base.specs.declared.transaction.Priority.{Priority}
 use Rattle.pc_base.specs.declared.transaction.TxnId.{TxnId}
 use Rattle.pc_base.specs.declared.transaction.Who.{Who}
-use Rattle.pc_implicit.proofs.Answering.{IsAnothers, IsThere, decided-there, final-status, first-differs, get-kind, moved-there, other-differs, put-kind, scan-kind, written-kind}
+use Rattle.pc_implicit.proofs.Answering.{IsAnothers, IsThere, decided-there, final-status, first-differs, get-kind, moved-there, other-differs, put-kind, refresh-kind, scan-kind, written-kind}
 use Rattle.pc_implicit.proofs.FinalMarks.{marks_final}
-use Rattle.pc_implicit.specs.ReplyKinds.{IsOfKind, IsOfSome, IsOfStaging, IsPushOutcome, IsQueryReply, IsRefreshReply, IsRemoveReply}
+use Rattle.pc_implicit.specs.ReplyKinds.{IsOfKind, IsOfSome, IsOfStaging, IsPushOutcome, IsQueryReply, IsRemoveReply}
 use Rattle.pc_proto.specs.declared.event.Event.{Event}
 use Rattle.pc_proto.specs.declared.fate.Goal.{Goal}
 use Rattle.pc_proto.specs.declared.fate.Goal.TheVariants as goals
@@ -36,14 +36,10 @@ use Rattle.pc_world.specs.Evaluation.{reply}
 use Rattle.pc_world.specs.Evaluation.Get.{found_at, get_blocker}
 use Rattle.pc_world.specs.Evaluation.Put.{laid, overtaken, own_outcome, write_ts}
 use Rattle.pc_world.specs.Evaluation.Query.{write_stands}
-use Rattle.pc_world.specs.Evaluation.Refresh.{refresh_reply, refuter_in}
+use Rattle.pc_world.specs.Evaluation.Refresh.{refuter_in}
 use Rattle.pc_world.specs.Evaluation.Scan.{rows_in}
 use Rattle.pc_world.specs.Local.{Head}
 use Rattle.pc_world.specs.RangeState.{RangeState}
-
-refresh-kind : (met : Option (List ℕ × ℕ)) → IsRefreshReply (refresh_reply met)
-refresh-kind None = tt
-refresh-kind (Some w) = tt
 
 query-kind : (found : Bool) → IsQueryReply (if found then replies.Found else replies.Missing)
 query-kind true = tt

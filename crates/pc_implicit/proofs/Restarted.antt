@@ -49,7 +49,7 @@ use Rattle.pc_world.specs.Tell.End.{IsUnrefreshed, MayTellRestart}
 -- ---- only a refresh is answered that a write stands in its way
 
 -- The request is a refresh.
-pub record IsRefresh (request : Request) : Type 0 where
+pub record IsRefreshOfSpan (request : Request) : Type 0 where
   pub id : TxnId
   pub from : ℕ
   pub to : ℕ
@@ -72,7 +72,7 @@ pushed-not Refuse before later = refl
 pushed-not Doubt before later = refl
 pushed-not Do before later = refl
 
-refresh-only : (request : Request) (s : RangeState) → unrefreshes (reply request s) ≡ true → IsRefresh request
+refresh-only : (request : Request) (s : RangeState) → unrefreshes (reply request s) ≡ true → IsRefreshOfSpan request
 unfolding unrefreshes
 refresh-only (requests.Get id epoch seq ts key) s is = absurd (no (get_blocker id ts key s) (sym is))
   where

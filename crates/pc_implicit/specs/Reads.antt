@@ -39,10 +39,10 @@ IsReadOfSpan id span ts (requests.Scan reader epoch seq at piece) (replies.Rows 
 IsReadOfSpan id span ts _ _ = ⊥
 
 -- What the transaction read of the span at the first timestamp was refreshed to the second.
-abbrev pub IsRefresh : TxnId → Span → ℕ → ℕ → Request → Reply → Type 0
-IsRefresh id span from to (requests.Refresh reader at_from at_to piece) replies.Refreshed =
+abbrev pub IsRefreshOfSpan : TxnId → Span → ℕ → ℕ → Request → Reply → Type 0
+IsRefreshOfSpan id span from to (requests.Refresh reader at_from at_to piece) replies.Refreshed =
     (reader ≡ id) × (span ≡ piece) × (at_from ≡ from) × (at_to ≡ to)
-IsRefresh id span from to _ _ = ⊥
+IsRefreshOfSpan id span from to _ _ = ⊥
 
 -- After this history the range evaluated a read of the span at this timestamp, and answered what it found.
 abbrev pub Reads : Head → List (Entry Event) → ℕ → TxnId → Span → ℕ → Entry Event → Type 0
@@ -50,7 +50,7 @@ Reads head before range id span ts e = RangeEvaluated head before range (IsReadO
 
 -- After this history the range evaluated a refresh of the span, and answered that it held.
 abbrev pub Refreshes : Head → List (Entry Event) → ℕ → TxnId → Span → ℕ → ℕ → Entry Event → Type 0
-Refreshes head before range id span from to e = RangeEvaluated head before range (IsRefresh id span from to) e
+Refreshes head before range id span from to e = RangeEvaluated head before range (IsRefreshOfSpan id span from to) e
 
 -- The transaction has read the span up to this timestamp in the range: no other's intent lies there at or below it, and the bound
 -- leaves others only later timestamps.

@@ -10,7 +10,7 @@ use Rattle.pc_proto.specs.declared.view.View.{View}
 use Rattle.pc_proto.specs.declared.view.View.TheVariants as views
 use Rattle.pc_proto.specs.Views.{is_final_view}
 use Rattle.pc_world.specs.After.{state_at}
-use Rattle.pc_world.specs.Answering.{IsAbortReply, IsGetReply, IsPutReply, IsResolved, IsScanReply}
+use Rattle.pc_world.specs.Answering.{IsAbortReply, IsGetReply, IsPutReply, IsRefreshReply, IsResolved, IsScanReply}
 use Rattle.pc_world.specs.Evaluation.{reply}
 use Rattle.pc_world.specs.Local.{Head}
 
@@ -23,12 +23,6 @@ IsOfSome view = ⊤
 abbrev pub IsOfStaging : View → Type 0
 IsOfStaging (views.Staging epoch ts writes) = ⊤
 IsOfStaging view = ⊥
-
--- A refresh held, or met a write.
-abbrev pub IsRefreshReply : Reply → Type 0
-IsRefreshReply replies.Refreshed = ⊤
-IsRefreshReply (replies.Unrefreshed key ts) = ⊤
-IsRefreshReply told = ⊥
 
 -- A query found its write, or missed it.
 abbrev pub IsQueryReply : Reply → Type 0

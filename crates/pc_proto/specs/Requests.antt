@@ -33,6 +33,11 @@ abbrev pub is_commit : Request → Bool
 is_commit (requests.Commit meta ts locks) = true
 is_commit _ = false
 
+-- The request is a refresh.
+abbrev pub is_refresh : Request → Bool
+is_refresh (requests.Refresh id from to span) = true
+is_refresh _ = false
+
 -- The request is an abort.
 abbrev pub is_abort : Request → Bool
 is_abort (requests.Abort meta why locks) = true

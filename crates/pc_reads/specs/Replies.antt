@@ -1,5 +1,5 @@
 -- What the replies to refreshes say. SIGMOD 2020 paper, section 3.4.
-use Rattle.std.specs.Prelude.{ℕ, Bool, Option, None, Some, List, ⊤, find, is_some}
+use Rattle.std.specs.Prelude.{ℕ, Bool, Option, None, Some, List, find, is_some}
 use Rattle.std.specs.Option.{option_and_then}
 use Rattle.pc_proto.specs.declared.reply.Reply.{Reply}
 use Rattle.pc_proto.specs.declared.reply.Reply.TheVariants as replies
@@ -11,12 +11,6 @@ use Rattle.pc_wave.specs.declared.message.Progress.TheVariants as progresses
 abbrev pub unrefreshed_by : Reply → Option (List ℕ × ℕ)
 unrefreshed_by (replies.Unrefreshed key ts) = Some (key, ts)
 unrefreshed_by _ = None
-
--- The reply is one that a refresh may be given: it held, or it met a write.
-abbrev pub IsRefreshKind : Reply → Type 0
-IsRefreshKind replies.Refreshed = ⊤
-IsRefreshKind (replies.Unrefreshed key ts) = ⊤
-IsRefreshKind _ = ⊥
 
 -- The write that a message met, where it is a refresh that was answered and did not hold.
 abbrev pub unrefreshed_in : Progress → Option (List ℕ × ℕ)

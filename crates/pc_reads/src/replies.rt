@@ -1,6 +1,7 @@
 ghost use Rattle.std.specs.Prelude.{◌≡◌, None, find, is_some};
 ghost use Rattle.std.specs.Option.{option_copied, option_map};
-ghost use Rattle.pc_reads.specs.Replies.{IsRefreshKind, first_unrefreshed, shows_unrefreshed, unrefreshed_by, unrefreshed_in};
+ghost use Rattle.pc_reads.specs.Replies.{first_unrefreshed, shows_unrefreshed, unrefreshed_by, unrefreshed_in};
+ghost use Rattle.pc_world.specs.Answering.{IsRefreshReply};
 ghost use Rattle.pc_proto.specs.declared.reply.Reply.TheVariants as replies;
 
 use pc_base::{Key, Timestamp};
@@ -10,7 +11,7 @@ use pc_wave::{Message, Progress, Wave};
 /// The write that a refresh met, where this is a reply to one that did not hold.
 pub fn unrefreshed(reply: &Reply) -> Option<(&Key, Timestamp)>
     ensures met { option_map (λ write. (write.0.now, write.1)) result ≡ unrefreshed_by reply.now }
-    ensures held { result ≡ None → IsRefreshKind reply.now → reply.now ≡ replies.Refreshed }
+    ensures held { result ≡ None → IsRefreshReply reply.now → reply.now ≡ replies.Refreshed }
 {
     match reply {
         Reply::Unrefreshed { key, ts } => Some((key, *ts)),

@@ -1,5 +1,5 @@
 -- The puts that a coordinator sends are of the open transaction.
-use Rattle.std.proofs.Common.{◌≡◌, ℕ, ◌<◌, Bool, true, All, List, [], ◌∷◌, map, Option, Some, refl, sym, ap, subst, ◌∙◌, IsTrue}
+use Rattle.std.proofs.Common.{◌≡◌, ℕ, ◌<◌, Bool, true, All, List, [], ◌∷◌, map, Option, Some, inl, inr, refl, sym, ap, subst, ◌∙◌, IsTrue}
 use Rattle.std.specs.Option.{option_map}
 use Rattle.pc_base.specs.declared.transaction.TxnId.{TxnId}
 use Rattle.pc_coord.proofs.Lists.{find-last}
@@ -20,7 +20,7 @@ use Rattle.pc_proto.specs.declared.call.Call.TheVariants as calls
 use Rattle.pc_proto.specs.declared.event.Event.TheVariants as events
 use Rattle.pc_proto.specs.declared.request.Request.{Request}
 use Rattle.pc_proto.specs.declared.request.Request.TheVariants as requests
-use Rattle.pc_proto.specs.Requests.{is_abort, is_commit, is_get, is_put_by, is_scan}
+use Rattle.pc_proto.specs.Requests.{is_abort, is_get, is_put_by, is_scan}
 use Rattle.pc_world.specs.Follows.CallMessages.{IsFor, IsForCall}
 use Rattle.pc_world.specs.Known.{Known, first_if, next_number}
 use Rattle.pc_world.specs.Known.Statements.{Statement}
@@ -36,9 +36,11 @@ scans_nothing : (request : Request) → IsTrue (is_scan request) → PutsNothing
 scans_nothing (requests.Scan id epoch seq ts span) is other = refl
 scans_nothing request is other = absurd cc
 
-commits_nothing : (request : Request) → IsTrue (is_commit request) → PutsNothing request
+commits_nothing : (request : Request) → IsFor calls.Commit request → PutsNothing request
 commits_nothing (requests.Commit meta ts locks) is other = refl
-commits_nothing request is other = absurd cc
+commits_nothing (requests.Refresh id from to span) is other = refl
+commits_nothing request (inl is) other = absurd cc
+commits_nothing request (inr is) other = absurd cc
 
 aborts_nothing : (request : Request) → IsTrue (is_abort request) → PutsNothing request
 aborts_nothing (requests.Abort meta why locks) is other = refl

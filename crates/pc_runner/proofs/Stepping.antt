@@ -1,5 +1,5 @@
 -- What each event of a session keeps of its workload.
-use Rattle.std.proofs.Common.{◌≡◌, ℕ, Bool, false, ◌⊎◌, inl, List, Some, None, All, IsTrue, refl, sym, ap, subst, ◌∙◌}
+use Rattle.std.proofs.Common.{◌≡◌, ℕ, Bool, false, ◌⊎◌, inl, inr, List, Some, None, All, IsTrue, refl, sym, ap, subst, ◌∙◌}
 use Rattle.std.proofs.lemmas.List.Elements.{All-weaker}
 use Rattle.pc_coord.specs.Coordination.{Coordination}
 use Rattle.pc_coord.specs.Knows.{IsTellable}
@@ -10,7 +10,7 @@ use Rattle.pc_proto.specs.declared.call.Call.TheVariants as calls
 use Rattle.pc_proto.specs.declared.event.Event.TheVariants as events
 use Rattle.pc_proto.specs.declared.request.Request.{Request}
 use Rattle.pc_proto.specs.declared.request.Request.TheVariants as requests
-use Rattle.pc_proto.specs.Requests.{IsPutOn, is_abort, is_commit, is_get, is_put, is_scan, round_of}
+use Rattle.pc_proto.specs.Requests.{IsPutOn, is_abort, is_commit, is_get, is_put, is_refresh, is_scan, round_of}
 use Rattle.pc_world.specs.Follows.CallMessages.{IsFor, IsForCall}
 use Rattle.pc_world.specs.Follows.EarlyProof.{ProvesNothingEarly}
 use Rattle.pc_world.specs.Follows.PipelinedPuts.{HearsOnlyItsPuts, IsPutWaitedFor, TellsWritten}
@@ -52,6 +52,10 @@ plain_commit : (request : Request) → IsTrue (is_commit request) → IsPlainReq
 plain_commit (requests.Commit meta ts locks) is = record { no_round = refl; unstaged = tt }
 plain_commit request is = absurd cc
 
+plain_refresh : (request : Request) → IsTrue (is_refresh request) → IsPlainRequest request
+plain_refresh (requests.Refresh id from to span) is = record { no_round = refl; unstaged = tt }
+plain_refresh request is = absurd cc
+
 plain_abort : (request : Request) → IsTrue (is_abort request) → IsPlainRequest request
 plain_abort (requests.Abort meta why locks) is = record { no_round = refl; unstaged = tt }
 plain_abort request is = absurd cc
@@ -61,7 +65,8 @@ plain_for (calls.Get key) request is = plain_get request is
 plain_for (calls.Scan span) request is = plain_scan request is
 plain_for (calls.Put key value) request is = plain_put key request is
 plain_for (calls.Delete key) request is = plain_put key request is
-plain_for calls.Commit request is = plain_commit request is
+plain_for calls.Commit request (inl is) = plain_commit request is
+plain_for calls.Commit request (inr is) = plain_refresh request is
 plain_for calls.Rollback request is = plain_abort request is
 plain_for call request is = absurd is
 
@@ -114,6 +119,10 @@ waited_commit : (k : Known) (request : Request) → IsTrue (is_commit request) �
 waited_commit k (requests.Commit meta ts locks) is = tt
 waited_commit k request is = absurd cc
 
+waited_refresh : (k : Known) (request : Request) → IsTrue (is_refresh request) → IsPutWaitedFor k calls.Commit request
+waited_refresh k (requests.Refresh id from to span) is = tt
+waited_refresh k request is = absurd cc
+
 waited_abort : (k : Known) (request : Request) → IsTrue (is_abort request) → IsPutWaitedFor k calls.Rollback request
 waited_abort k (requests.Abort meta why locks) is = tt
 waited_abort k request is = absurd cc
@@ -123,13 +132,16 @@ waited_for k (calls.Get key) request is = waited_get k key request is
 waited_for k (calls.Scan span) request is = waited_scan k (calls.Scan span) request is
 waited_for k (calls.Put key value) request is = waited_put k key value request is
 waited_for k (calls.Delete key) request is = waited_delete k key request is
-waited_for k calls.Commit request is = waited_commit k request is
+waited_for k calls.Commit request (inl is) = waited_commit k request is
+waited_for k calls.Commit request (inr is) = waited_refresh k request is
 waited_for k calls.Rollback request is = waited_abort k request is
 waited_for k call request is = absurd is
 
-no_put : (request : Request) → IsTrue (is_commit request) → is_put request ≡ false
+no_put : (request : Request) → IsFor calls.Commit request → is_put request ≡ false
 no_put (requests.Commit meta ts locks) is = refl
-no_put request is = absurd cc
+no_put (requests.Refresh id from to span) is = refl
+no_put request (inl is) = absurd cc
+no_put request (inr is) = absurd cc
 
 asked_is : (k : Known) (s : Statement) (call : Call) → k.statement ≡ Some s → call_in k.statement ≡ Some call → s.call ≡ call
 asked_is k s call opened asked = let e : Some s.call ≡ Some call = sym (ap call_in opened) ∙ asked in cc

@@ -1,5 +1,5 @@
--- The kinds of reply that a range gives where nothing is staged: to gets, scans, puts, commits, aborts, pushes and resolves. Nothing is
--- said of the other requests, which no session sends so far but for removals.
+-- The kinds of reply that a range gives where nothing is staged: to gets, scans, puts, refreshes, commits, aborts, pushes and resolves.
+-- Nothing is said of the other requests, which no session sends so far but for removals.
 use Rattle.std.specs.Prelude.{◌≡◌, true, ⊤}
 use Rattle.pc_base.specs.declared.transaction.TxnId.{TxnId}
 use Rattle.pc_proto.specs.declared.reply.Reply.{Reply}
@@ -29,6 +29,12 @@ IsScanReply id told = IsWithAnother id told
 abbrev pub IsPutReply : TxnId → Reply → Type 0
 IsPutReply id (replies.Written ts) = ⊤
 IsPutReply id told = IsWithAnother id told
+
+-- A refresh is answered that it held, or by the write that refutes it.
+abbrev pub IsRefreshReply : Reply → Type 0
+IsRefreshReply replies.Refreshed = ⊤
+IsRefreshReply (replies.Unrefreshed key ts) = ⊤
+IsRefreshReply _ = ⊥
 
 -- The record is there, and stages nothing.
 abbrev pub IsUnstagedView : View → Type 0
@@ -63,6 +69,7 @@ abbrev pub MayAnswer : Request → Reply → Type 0
 MayAnswer (requests.Get id epoch seq ts key) told = IsGetReply id told
 MayAnswer (requests.Scan id epoch seq ts span) told = IsScanReply id told
 MayAnswer (requests.Put meta seq ts key value) told = IsPutReply meta.id told
+MayAnswer (requests.Refresh id from to span) told = IsRefreshReply told
 MayAnswer (requests.Commit meta ts locks) told = IsCommitReply told
 MayAnswer (requests.Abort meta why locks) told = IsAbortReply told
 MayAnswer (requests.Push holder by level now goal) told = IsPushReply told

@@ -7,6 +7,7 @@ pub mod Eighth
 pub mod FinishingJobs
 pub mod OneWrite
 pub mod PipelinedPuts
+pub mod Refreshes
 pub mod Resends
 pub mod Rounds
 pub mod WaveOrder

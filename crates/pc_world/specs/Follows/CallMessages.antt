@@ -7,17 +7,18 @@ use Rattle.pc_proto.specs.declared.call.Call.TheVariants as calls
 use Rattle.pc_proto.specs.declared.event.Event.{Event}
 use Rattle.pc_proto.specs.declared.event.Event.TheVariants as events
 use Rattle.pc_proto.specs.declared.request.Request.{Request}
-use Rattle.pc_proto.specs.Requests.{IsPutOn, is_abort, is_commit, is_get, is_scan, round_of}
+use Rattle.pc_proto.specs.Requests.{IsPutOn, is_abort, is_commit, is_get, is_refresh, is_scan, round_of}
 use Rattle.pc_world.specs.Known.{Known}
 use Rattle.pc_world.specs.Known.Statements.{Statement}
 
--- The request is of the kind that is sent for the call: a get, a scan, a put of its key, a commit, or the abort of a rollback.
+-- The request is of the kind that is sent for the call: a get, a scan, a put of its key, a commit and the refreshes before it, or the
+-- abort of a rollback.
 abbrev pub IsFor : Call → Request → Type 0
 IsFor (calls.Get key) request = IsTrue (is_get request)
 IsFor (calls.Scan span) request = IsTrue (is_scan request)
 IsFor (calls.Put key value) request = IsPutOn key request
 IsFor (calls.Delete key) request = IsPutOn key request
-IsFor calls.Commit request = IsTrue (is_commit request)
+IsFor calls.Commit request = IsTrue (is_commit request) ⊎ IsTrue (is_refresh request)
 IsFor calls.Rollback request = IsTrue (is_abort request)
 IsFor _ request = ⊥
 
