@@ -15,7 +15,7 @@ use Rattle.pc_history.specs.Own.{entries_of}
 use Rattle.pc_history.specs.History.{IsFine}
 use Rattle.pc_history.specs.World.{IsWorld, HasAll}
 use Rattle.pc_history.specs.Parts.{knowledge, told_entries}
-use Rattle.pc_history.specs.Closed.{IsSound}
+use Rattle.pc_history.specs.Closed.{IsSound, Stands}
 use Rattle.pc_history.specs.Table.{Books, FitsActing, IsPart, FitsOpener, FitsNote, FitsAs, Fits, IsStepTable}
 use Rattle.pc_history.specs.Steps.{TellsLook}
 use Rattle.pc_history.proofs.Histories.{own-contains, fine-below, fine-one, fine-kept, stands-contains}
@@ -108,4 +108,11 @@ module _ {W E : Type 0} (S : Sense E) (world : Option W) (words : List ℕ) (vie
         small = subst (λ m. m ≤ 2 ^ 48) (sym n) (table-small table);
         above = subst (λ m. All (λ e. e.step < m) (knowledge v.part)) (sym n) (above-in S table.history (knowledge v.part) table.fine has);
         sound = sound-in S laws table.history (knowledge v.part) table.fine has;
+        stands = record {
+          history = table.history;
+          short = table-small table;
+          fine = table.fine;
+          list = sym actor.part_is.list;
+          stand = all_from_contains (Stands S table.history) v.part.known actor.part_is.stand;
+        };
       }

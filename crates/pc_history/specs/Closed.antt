@@ -1,5 +1,5 @@
 -- What actors learn of the history while it grows, and what it is at its end.
-use Rattle.std.specs.Prelude.{◌≡◌, ℕ, ◌≤◌, Bool, false, eqb, ◌&&◌, List, map, Option, Some, None, slice_get, slice_index, count_by, All, Contains}
+use Rattle.std.specs.Prelude.{◌≡◌, ℕ, ◌≤◌, ◌^◌, length, Bool, false, eqb, ◌&&◌, List, map, Option, Some, None, slice_get, slice_index, count_by, All, Contains}
 use Rattle.pc_base.specs.declared.ActorId.{ActorId}
 use Rattle.pc_base.specs.declared.Entry.{Entry}
 use Rattle.pc_history.specs.declared.pair.Pair.{Pair}
@@ -41,6 +41,14 @@ module _ {E : Type 0} (S : Sense E) where
   -- How many entries of the history name and spend the entry of this step.
   abbrev pub spenders : ℕ → List (Entry E) → ℕ
   spenders step history = count_by (λ p. S.spends p.entry.event && names_step step p.named) (pairs_of S history)
+
+  -- There is a fine history in which the part stands: what it stored is what the history has of its actor, and what it knows stands there.
+  pub record StandsInHistory (part : Part E) : Type 0 where
+    pub history : List (Entry E)
+    pub short : length history ≤ 2 ^ 48
+    pub fine : IsFine S history
+    pub list : own S part.id history ≡ part.own
+    pub stand : All (Stands history) part.known
 
   -- What an actor handed in is true to the history.
   pub record IsClosedPart (history : List (Entry E)) (part : Part E) : Type 0 where

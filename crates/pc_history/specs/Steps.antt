@@ -10,7 +10,7 @@ use Rattle.pc_history.specs.declared.view.Part.{Part}
 use Rattle.pc_history.specs.declared.view.View.{View}
 use Rattle.pc_history.specs.Sense.{Sense}
 use Rattle.pc_history.specs.Parts.{newcomer, knowledge, acted, gave, noted, told, without_uses, with_uses}
-use Rattle.pc_history.specs.Closed.{IsSound, IsHistoryOf, ids_of}
+use Rattle.pc_history.specs.Closed.{IsSound, IsHistoryOf, StandsInHistory, ids_of}
 use Rattle.pc_history.specs.Table.{count_of}
 
 module _ {W E : Type 0} where
@@ -74,11 +74,12 @@ pub record TellsAct {E : Type 0} (S : Sense E) (part : Part E) (step : ℕ) (eve
   pub above : All (λ e. e.step < step) (knowledge part)
   pub sound : IsSound S (knowledge (acted S step event part))
 
--- The number of steps is above those of all that the actor stored or knows, which is sound.
+-- The number of steps is above those of all that the actor stored or knows, which is sound and stands in a fine history.
 pub record TellsLook {E : Type 0} (S : Sense E) (part : Part E) (steps : ℕ) : Type 0 where
   pub small : steps ≤ 2 ^ 48
   pub above : All (λ e. e.step < steps) (knowledge part)
   pub sound : IsSound S (knowledge part)
+  pub stands : StandsInHistory S part
 
 -- The parts that the opener has make up a history as long as the number of steps, and no actor has two of them.
 abbrev pub TellsClose : {E : Type 0} → Sense E → List (Part E) → ℕ → Type 0

@@ -1,7 +1,7 @@
 ghost use Rattle.std.specs.Prelude.{◌≡◌, ℕ, ◌<◌, ◌≤◌, ◌-◌, ◌^◌, length, IsOk, OnOk, OnErr, IfOk, Some, All};
 ghost use Rattle.pc_history.specs.Own.{entries_of};
 ghost use Rattle.pc_history.specs.Parts.{knowledge, CanSpend, IsCausedFor, IsLocalFor, acted, gave, noted, told};
-ghost use Rattle.pc_history.specs.Closed.{IsSound};
+ghost use Rattle.pc_history.specs.Closed.{IsSound, StandsInHistory};
 ghost use Rattle.pc_history.specs.Steps.{TellsAct, TellsLook};
 ghost use Rattle.pc_history.specs.Ties.{ActorIsTied, ActorFields};
 
@@ -102,6 +102,7 @@ impl<W: World, N: Named<W>> Actor<W, N> {
         ensures told { self.new ≡ record self.old { part = told note.known self.old.part } }
         ensures world { note.world ≡ self.old.world }
         ensures sound { IsSound (W.sense self.old.world) (knowledge self.new.part) }
+        ensures stands { StandsInHistory (W.sense self.old.world) self.new.part }
     {
         let seat = note.into_seat();
         self.table.shared.join_seat::<Taking>(&mut self.seat, seat);
@@ -113,6 +114,7 @@ impl<W: World, N: Named<W>> Actor<W, N> {
         ensures same { self.new ≡ self.old }
         ensures above { All (λ e. e.step < result) (knowledge self.old.part) }
         ensures sound { IsSound (W.sense self.old.world) (knowledge self.old.part) }
+        ensures stands { StandsInHistory (W.sense self.old.world) self.old.part }
         ensures small { result ≤ 2 ^ 48 }
     {
         self.table.shared.load::<Looking>(&mut self.seat, 0)
