@@ -192,6 +192,7 @@ module _ {X W E : Type 0} (sense : W → Sense E) (w : W) where
         small = below;
         above = subst (λ m. All (λ e. e.step < m) (knowledge v.part)) (sym n) (above-in S table.history (knowledge v.part) table.fine (part-in S table.history table.books.given_of v.part actor.part_is));
         sound = now'.sound;
+        stands = now'.stands;
       } in (
         after,
         keeps,

@@ -68,11 +68,13 @@ module _ {W E : Type 0} where
   abbrev pub after_acting : Sense E → ℕ → E → View W E → View W E
   after_acting S step event v = record v { part = acted S step event v.part }
 
--- The step that an event got is above those of all that the actor stored or knew, and what it stored or knows now is sound.
+-- The step that an event got is above those of all that the actor stored or knew, and what it stored or knows now is sound and stands in
+-- a fine history.
 pub record TellsAct {E : Type 0} (S : Sense E) (part : Part E) (step : ℕ) (event : E) : Type 0 where
   pub small : step < 2 ^ 48
   pub above : All (λ e. e.step < step) (knowledge part)
   pub sound : IsSound S (knowledge (acted S step event part))
+  pub stands : StandsInHistory S (acted S step event part)
 
 -- The number of steps is above those of all that the actor stored or knows, which is sound and stands in a fine history.
 pub record TellsLook {E : Type 0} (S : Sense E) (part : Part E) (steps : ℕ) : Type 0 where

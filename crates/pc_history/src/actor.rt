@@ -77,6 +77,7 @@ impl<W: World, N: Named<W>> Actor<W, N> {
         } }
         ensures above { All (λ e. e.step < result) (knowledge self.old.part) }
         ensures sound { IsSound (W.sense self.old.world) (knowledge self.new.part) }
+        ensures stands { StandsInHistory (W.sense self.old.world) self.new.part }
         ensures small { result < 2 ^ 48 }
     {
         self.act_as::<Brand>(event)
