@@ -2,3 +2,4 @@ pub mod Entries
 pub mod KeyTables
 pub mod VersionOrder
 pub mod TxnOrder
+pub mod SpanBounds

@@ -8,6 +8,7 @@ pub mod Keyed
 pub mod Rising
 pub mod Span
 pub mod SpanOrder
+pub mod SpanBounds
 pub mod Timestamp
 pub mod TimestampParts
 pub mod Transaction
