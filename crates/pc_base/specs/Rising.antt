@@ -1,9 +1,13 @@
 -- Keys that rise.
-use Rattle.std.specs.Prelude.{List, [], ◌∷◌, IsTrue, ⊤, ℕ}
+use Rattle.std.specs.Prelude.{Bool, true, ◌&&◌, List, [], ◌∷◌, IsTrue, ℕ}
 use Rattle.pc_base.specs.Span.{key_below}
 
--- The keys rise, each strictly above the one before.
+-- Whether each key is strictly above the one before.
+abbrev pub keys_rise : List (List ℕ) → Bool
+keys_rise [] = true
+keys_rise (key ∷ []) = true
+keys_rise (key ∷ next ∷ keys) = key_below key next && keys_rise (next ∷ keys)
+
+-- The keys rise.
 abbrev pub AreRising : List (List ℕ) → Type 0
-AreRising [] = ⊤
-AreRising (key ∷ []) = ⊤
-AreRising (key ∷ next ∷ keys) = IsTrue (key_below key next) × AreRising (next ∷ keys)
+AreRising keys = IsTrue (keys_rise keys)

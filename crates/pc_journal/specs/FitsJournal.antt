@@ -2,20 +2,14 @@
 use Rattle.std.specs.Prelude.{◌≡◌, ℕ, ◌+◌, Bool, true, ◌&&◌, List, [], ◌∷◌, length}
 use Rattle.std.specs.Prelude.{All}
 use Rattle.pc_base.specs.declared.entry.Entry.{Entry}
-use Rattle.pc_base.specs.Span.{key_below}
+use Rattle.pc_base.specs.Rising.{AreRising}
 use Rattle.pc_proto.specs.declared.event.Event.{Event}
 use Rattle.pc_journal.specs.Fits.{Fits32, FitsEntry, FitsKeys}
-
--- Each key stands before the next.
-abbrev pub keys_rise : List (List ℕ) → Bool
-keys_rise [] = true
-keys_rise (key ∷ []) = true
-keys_rise (key ∷ next ∷ keys) = key_below key next && keys_rise (next ∷ keys)
 
 -- The keys at which a map is split: they rise, and the number of ranges is one of 32 bits.
 pub record FitsSplits (splits : List (List ℕ)) : Type 0 where
   pub keys : FitsKeys splits
-  pub rise : keys_rise splits ≡ true
+  pub rise : AreRising splits
   pub count : Fits32 (length splits + 1)
 
 -- What stands in the head of a journal.

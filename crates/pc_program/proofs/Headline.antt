@@ -2,12 +2,10 @@
 use Rattle.std.proofs.Common.{◌≡◌, ℕ, ◌+◌, ◌^◌, ◌<◌, Bool, true, List, [], ◌∷◌, arith, length, IfOk, OnOk, Ok, Err, Result, refl, sym, ap, subst, ◌∙◌}
 use Rattle.pc_base.specs.declared.actor.ActorId.{ActorId}
 use Rattle.pc_base.specs.declared.entry.Entry.{Entry}
-use Rattle.pc_base.specs.Rising.{AreRising}
-use Rattle.pc_base.specs.Span.{key_below}
 use Rattle.pc_implicit.proofs.OneDecision.{decisions_do_not_differ}
 use Rattle.pc_implicit.proofs.Outcomes.{outcomes_are_true}
 use Rattle.pc_journal.specs.Fits.{FitsKeys}
-use Rattle.pc_journal.specs.FitsJournal.{FitsEntries, FitsHead, keys_rise}
+use Rattle.pc_journal.specs.FitsJournal.{FitsEntries, FitsHead}
 use Rattle.pc_journal.specs.ToldRows.{AllTellBare}
 use Rattle.pc_proto.specs.declared.event.Event.{Event}
 use Rattle.pc_report.specs.declared.rows.Report.{Report}
@@ -37,16 +35,10 @@ is_run_of work rules entries run follows = record {
 pub few_over : (work : Workload) → IsBuilt work → length work.splits + 1 < 2 ^ 32
 few_over work built = omega (arith, built.few_splits)
 
--- Keys that rise have a spelling in their order.
-rise_of : (keys : List (List ℕ)) → AreRising keys → keys_rise keys ≡ true
-rise_of [] rising = refl
-rise_of (key ∷ []) rising = refl
-rise_of (key ∷ next ∷ keys) rising = let rest : keys_rise (next ∷ keys) ≡ true = rise_of (next ∷ keys) rising.1 in let first : key_below key next ≡ true = rising.0 in cc
-
 -- The head of such a workload's journal has a spelling.
 head_fits : (work : Workload) → IsBuilt work → FitsKeys work.splits → FitsHead work.splits (length work.sessions) 0
 head_fits work built keys = record {
-  cuts = record { keys = keys; rise = rise_of work.splits built.splits; count = omega (arith, built.few_splits) };
+  cuts = record { keys = keys; rise = built.splits; count = omega (arith, built.few_splits) };
   first_count = omega (arith, built.few_sessions);
   second_count = omega arith;
 }

@@ -1,9 +1,9 @@
 -- The split keys of a head: what is counted of them, and that they rise.
 use Rattle.std.proofs.Common.{◌≡◌, ℕ, ◌+◌, Bool, true, false, cond, ◌&&◌, ◌==◌, List, [], ◌∷◌, length, suc, Option, None, Some, option_map, option_and_then, is_some, refl, sym, ap, ◌∙◌, arith}
 use Rattle.std.specs.List.{slice_split}
+use Rattle.pc_base.specs.Rising.{keys_rise}
 use Rattle.pc_base.specs.Span.{key_below}
 use Rattle.pc_spelling.specs.Cutting.{cut, each_at}
-use Rattle.pc_journal.specs.FitsJournal.{keys_rise}
 use Rattle.pc_spelling.specs.Reading.{key_at, number32_at}
 use Rattle.pc_spelling.specs.ReadingHead.{splits_at}
 use Rattle.pc_spelling.proofs.Names.{key}

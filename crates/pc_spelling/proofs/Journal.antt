@@ -8,6 +8,7 @@ use Rattle.std.proofs.lemmas.List.Splits.{join_with_byte-slice_split}
 use Rattle.std.proofs.lemmas.Option.{cond_some, none-some, same_Some}
 use Rattle.pc_base.specs.declared.entry.Entry.{Entry}
 use Rattle.pc_base.specs.Key.{IsKey}
+use Rattle.pc_base.specs.Rising.{keys_rise}
 use Rattle.pc_proto.specs.declared.event.Event.{Event}
 use Rattle.pc_journal.specs.Event.{entry_text}
 use Rattle.pc_journal.specs.Journal.{actors_text, entries_text, ranges_text, splits_text}
@@ -16,7 +17,7 @@ use Rattle.pc_journal.specs.Side.{◌⏎◌}
 use Rattle.pc_spelling.specs.Bytes.{is_line_byte, is_part_byte}
 use Rattle.pc_spelling.specs.Cutting.{cut, each_at, ◌&◌}
 use Rattle.pc_journal.specs.Fits.{Fits32, FitsEntry}
-use Rattle.pc_journal.specs.FitsJournal.{FitsEntries, FitsHead, FitsSplits, keys_rise}
+use Rattle.pc_journal.specs.FitsJournal.{FitsEntries, FitsHead, FitsSplits}
 use Rattle.pc_spelling.specs.OneToOne.{IsOneToOne, journal_then}
 use Rattle.pc_spelling.specs.Reading.{number32_at, key_at}
 use Rattle.pc_spelling.specs.ReadingHead.{splits_at, ranges_at, actors_at}

@@ -1,8 +1,8 @@
 -- What the second and the third line of a journal are read as. Own profile.
 use Rattle.std.specs.Prelude.{ℕ, ◌+◌, ◌==◌, ◌&&◌, if◌then◌else◌, List, [], ◌∷◌, length, Option, None, Some, option_and_then, codes}
 use Rattle.std.specs.List.{slice_split}
+use Rattle.pc_base.specs.Rising.{keys_rise}
 use Rattle.pc_spelling.specs.Cutting.{◌&◌, each_at, word_of, or_word, no_word, behind}
-use Rattle.pc_journal.specs.FitsJournal.{keys_rise}
 use Rattle.pc_spelling.specs.Reading.{number32_at, key_at}
 
 -- The keys behind the number of ranges, which is one more than there are keys.

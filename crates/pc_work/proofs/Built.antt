@@ -7,7 +7,7 @@ use Rattle.std.proofs.lemmas.Option.{none-some}
 use Rattle.serde_json.specs.Data.{Data, null, boolean, number, string, array, object, Items, no_items, item}
 use Rattle.serde_json.specs.Find.{get, as_bool}
 use Rattle.pc_base.specs.declared.limits.TheConstants.{MOST_RERUNS, MOST_SESSIONS, MOST_SPLITS, MOST_STATEMENTS, MOST_TURNS}
-use Rattle.pc_base.specs.Rising.{AreRising}
+use Rattle.pc_base.specs.Rising.{AreRising, keys_rise}
 use Rattle.pc_base.specs.Span.{key_below}
 use Rattle.pc_base.specs.declared.transaction.Priority.TheVariants.{Normal}
 use Rattle.pc_work.specs.Reading.{◌>>=◌}
@@ -21,7 +21,7 @@ use Rattle.pc_work.specs.Priority.{priority_of}
 use Rattle.pc_work.specs.Statement.{statement_of}
 use Rattle.pc_work.specs.Texts.{key_of}
 use Rattle.pc_work.specs.Session.{session_names, session_of}
-use Rattle.pc_work.specs.Splits.{rises, splits_of}
+use Rattle.pc_work.specs.Splits.{splits_of}
 use Rattle.pc_work.specs.Turn.{is_turn_there, turn_of}
 use Rattle.pc_work.specs.Workload.{are_stated_turns, is_within_limits, first_items, are_sessions, workload_names, workload_of}
 use Rattle.pc_work.specs.Built.{IsReadStatement, IsWriteStatement, IsBuiltItem, IsBuiltSession, IsTurnOf, AreTurnsOf, IsBuilt}
@@ -129,13 +129,6 @@ session_is_built value =
     only_known (All IsBuiltItem) IsBuiltSession (list_by item_of found) _ (list_only IsBuiltItem item_of item_is_built found) (λ script items.
     only_some IsBuiltSession (record { script = script; clock = Some clock }) (record { clock = refl; items = items }))))))
 
-rises_by : (keys : List (List ℕ)) → rises keys ≡ true → AreRising keys
-rises_by [] e = tt
-rises_by (key ∷ []) e = tt
-rises_by (key ∷ next ∷ others) e =
-    let both = and_parts (key_below key next) (rises (next ∷ others)) e in
-    (both.0, rises_by (next ∷ others) both.1)
-
 -- The splits rise, and are no more than the limit.
 record AreSplits (splits : List (List ℕ)) : Type 0 where
   rising : AreRising splits
@@ -145,9 +138,9 @@ splits_only : (value : Data) → Only AreSplits (splits_of value)
 unfolding splits_of
 splits_only value =
     only_behind AreSplits (list_by key_of value) _ (λ keys.
-    only_when AreSplits (nat_le (length keys) MOST_SPLITS && rises keys) (Some keys) (λ within.
-    let both = and_parts (nat_le (length keys) MOST_SPLITS) (rises keys) within in
-    only_some AreSplits keys (record { rising = rises_by keys both.1; few = leb-true (length keys) MOST_SPLITS both.0 })))
+    only_when AreSplits (nat_le (length keys) MOST_SPLITS && keys_rise keys) (Some keys) (λ within.
+    let both = and_parts (nat_le (length keys) MOST_SPLITS) (keys_rise keys) within in
+    only_some AreSplits keys (record { rising = both.1; few = leb-true (length keys) MOST_SPLITS both.0 })))
 
 whole_only : (most : ℕ) (value : Data) → Only (λ n. n ≤ most) (whole_up_to most value)
 whole_only most value =

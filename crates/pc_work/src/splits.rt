@@ -2,7 +2,8 @@ ghost use Rattle.std.specs.Prelude.{◌≡◌, []};
 ghost use Rattle.serde_json.specs.View.{view};
 ghost use Rattle.pc_work.specs.Reading.{Gives};
 ghost use Rattle.pc_work.specs.Members.{member_or};
-ghost use Rattle.pc_work.specs.Splits.{rises, splits_of};
+ghost use Rattle.pc_base.specs.Rising.{keys_rise};
+ghost use Rattle.pc_work.specs.Splits.{splits_of};
 
 use crate::fault::Misfit;
 use crate::json::list;
@@ -35,7 +36,7 @@ pub(crate) fn splits_of(alloc: Global, json: &Json) -> Result<Keys, Misfit>
 
 /// Whether each key stands before the one behind it.
 fn rises(keys: &[Key]) -> bool
-    ensures { result ≡ rises keys.now }
+    ensures { result ≡ keys_rise keys.now }
 {
     keys.is_sorted_by(|key, next| key < next)
 }

@@ -1,12 +1,13 @@
 -- Each piece of a span lies in the one range that it was cut for, and the pieces differ.
 use Rattle.std.proofs.Common.{◌≡◌, ℕ, ◌+◌, ◌<◌, ◌≤◌, Bool, true, false, cond, if◌then◌else◌, not, ◌⊎◌, inl, inr, List, [], ◌∷◌, ◌++◌, map, Option, None, Some, Contains, refl, sym, ap, ◌∙◌, subst, arith}
+use Rattle.std.proofs.lemmas.Bool.{and_parts}
 use Rattle.std.proofs.lemmas.List.Elements.{All-contains, All-from_recursion, All-map}
 use Rattle.std.proofs.lemmas.List.Sums.{sum_by-cons}
 use Rattle.std.specs.Bool.{⊤}
 use Rattle.std.specs.List.{AllByRecursion as Each}
 use Rattle.pc_base.specs.declared.span.Span.{Span}
 use Rattle.pc_base.specs.declared.span.Span.TheVariants.{One, Between}
-use Rattle.pc_base.specs.Rising.{AreRising}
+use Rattle.pc_base.specs.Rising.{AreRising, keys_rise}
 use Rattle.pc_base.specs.Span.{is_empty, key_at_most, key_below}
 use Rattle.pc_lists.proofs.Each.{each-append, each-weaker}
 use Rattle.pc_lists.proofs.Same.{key_below-self}
@@ -90,9 +91,12 @@ no-piece range from to is = ap (λ b. if b then [] else (range, Between from to)
 one-piece : (range : ℕ) (from to : Option (List ℕ)) → is_empty from to ≡ false → piece range from to ≡ (range, Between from to) ∷ []
 one-piece range from to is = ap (λ b. if b then [] else (range, Between from to) ∷ []) is
 
+first-rises : (low split : List ℕ) (splits : List (List ℕ)) → AreRising (low ∷ split ∷ splits) → key_below low split ≡ true
+first-rises low split splits rising = (and_parts (key_below low split) (keys_rise (split ∷ splits)) rising).0
+
 rest-rises : (split : List ℕ) (splits : List (List ℕ)) → AreRising (split ∷ splits) → AreRising splits
-rest-rises split [] rising = tt
-rest-rises split (next ∷ splits) rising = rising.1
+rest-rises split [] rising = refl
+rest-rises split (next ∷ splits) rising = (and_parts (key_below split next) (keys_rise (next ∷ splits)) rising).1
 
 -- In which of the ranges from this one on a span lies.
 abbrev LiesAt : ℕ → Option (List ℕ) → List (List ℕ) → ℕ → Option (List ℕ) → Option (List ℕ) → Type 0
@@ -138,8 +142,8 @@ lies-from : (range : ℕ) (low : List ℕ) (splits : List (List ℕ)) (at : ℕ)
 lies-from range low [] at from to rising lies = start-from low from lies.1
 lies-from range low (split ∷ splits) at from to rising (inl here) = start-from low from here.1
 lies-from range low (split ∷ splits) at from to rising (inr there) =
-    let start = lies-from (range + 1) split splits at from to rising.1 there in
-    record { key = start.key; is = start.is; from = at_most-through low split start.key (below-once low split rising.0) start.from }
+    let start = lies-from (range + 1) split splits at from to (rest-rises low (split ∷ splits) rising) there in
+    record { key = start.key; is = start.is; from = at_most-through low split start.key (below-once low split (first-rises low split splits rising)) start.from }
 
 up-to-later : (one other : List ℕ) (end : Option (List ℕ)) → key_below other one ≡ false → IsUpTo one end → IsUpTo other end
 up-to-later one other end at-most is = record { key = is.key; is = is.is; up_to = at_most-through is.key one other is.up_to at-most }
@@ -154,8 +158,8 @@ none-behind range low (split ∷ splits) from to rising over =
     let start = later_start (Some low) from in
     let end = earlier_end (Some split) (Some to) in
     let here : piece range start end ≡ [] = no-piece range start end (empty-at low start end (later-from low from) (up-to-later to low end over (earlier-up-to-other (Some split) to))) in
-    let behind : key_below split to ≡ false = at_most-through to low split over (below-once low split rising.0) in
-    ap (λ ps. ps ++ pieces_from (range + 1) (Some split) splits from (Some to)) here ∙ none-behind (range + 1) split splits from to rising.1 behind
+    let behind : key_below split to ≡ false = at_most-through to low split over (below-once low split (first-rises low split splits rising)) in
+    ap (λ ps. ps ++ pieces_from (range + 1) (Some split) splits from (Some to)) here ∙ none-behind (range + 1) split splits from to (rest-rises low (split ∷ splits) rising) behind
 
 -- what lies in a range has its piece there alone
 one-there : (range : ℕ) (low : Option (List ℕ)) (splits : List (List ℕ)) (at : ℕ) (from to : Option (List ℕ)) → AreRising splits → LiesAt range low splits at from to
@@ -274,7 +278,7 @@ no-more split splits key below = range-of-cons split splits key ∙ ap (λ b. co
 first-range : (split : List ℕ) (splits : List (List ℕ)) (key : List ℕ) → AreRising (split ∷ splits) → key_below key split ≡ true → range_of (split ∷ splits) key ≡ 0
 first-range split [] key rising below = no-more split [] key below
 first-range split (next ∷ splits) key rising below =
-    let rest = first-range next splits key rising.1 (below-through key split next below (below-once split next rising.0)) in
+    let rest = first-range next splits key (rest-rises split (next ∷ splits) rising) (below-through key split next below (below-once split next (first-rises split next splits rising))) in
     let here = no-more split (next ∷ splits) key below in
     omega arith
 
