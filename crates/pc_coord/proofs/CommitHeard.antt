@@ -23,7 +23,7 @@ use Rattle.pc_proto.specs.declared.request.Request.TheVariants as requests
 use Rattle.pc_proto.specs.declared.view.View.{View}
 use Rattle.pc_proto.specs.declared.view.View.TheVariants as views
 use Rattle.pc_proto.specs.declared.why.Why.{Why}
-use Rattle.pc_world.specs.Answering.{IsCommitReply, IsUnstagedView}
+use Rattle.pc_world.specs.Answering.{IsCommitReply, IsPastWherePending, IsUnstagedView}
 use Rattle.pc_world.specs.Known.{Known, learn}
 use Rattle.pc_world.specs.Known.Transactions.{meta_of}
 
@@ -34,20 +34,20 @@ abort_as c k number step ts refusals epoch why locks rising handed counted a =
     subst (λ txn. Knows (record (with_heard (replies.Status view) c) { txn = None; due = dues.Tell (answers.Aborted why); job = job_of (Some fates.Aborted) txn }) (reply_known number step (requests.Commit (meta_of a.t a.anchor) ts a.t.locks) (replies.Status view) k)) (sym a.held)
     (aborted_told c k number step ts refusals view rising handed counted a fates.Aborted (final_aborted epoch why locks) why refl)
 
-view_heard : (c : Coordination) (k : Known) (number step ts refusals : ℕ) (view : View) → AreRising c.splits → c.job ≡ None → IsCounted c.session c.clock c.begun k → (a : AwaitsCommit k c.txn number ts refusals) → IsUnstagedView view
+view_heard : (c : Coordination) (k : Known) (number step ts refusals : ℕ) (view : View) → AreRising c.splits → c.job ≡ None → IsCounted c.session c.clock c.begun k → (a : AwaitsCommit k c.txn number ts refusals) → IsUnstagedView view → IsPastWherePending a.t.epoch ts view
     → Knows (after_view ts refusals view (with_heard (replies.Status view) c)) (reply_known number step (requests.Commit (meta_of a.t a.anchor) ts a.t.locks) (replies.Status view) k)
-view_heard c k number step ts refusals (views.Committed epoch at locks) rising handed counted a kind =
+view_heard c k number step ts refusals (views.Committed epoch at locks) rising handed counted a kind past =
     let view = views.Committed epoch at locks in
     subst (λ txn. Knows (committed_with epoch at txn (with_heard (replies.Status view) c)) (reply_known number step (requests.Commit (meta_of a.t a.anchor) ts a.t.locks) (replies.Status view) k)) (sym a.held)
     (committed_told c k number step ts refusals view rising handed counted a (fates.Committed epoch at) (final_committed epoch at locks) at epoch locks refl refl)
-view_heard c k number step ts refusals (views.Aborted epoch why locks) rising handed counted a kind = abort_as c k number step ts refusals epoch why locks rising handed counted a
-view_heard c k number step ts refusals (views.Pending epoch recorded) rising handed counted a kind = refused_on c k number step ts refusals epoch recorded rising handed counted a
-view_heard c k number step ts refusals (views.Staging epoch recorded writes) rising handed counted a kind = absurd kind
-view_heard c k number step ts refusals views.Nothing rising handed counted a kind = absurd kind
+view_heard c k number step ts refusals (views.Aborted epoch why locks) rising handed counted a kind past = abort_as c k number step ts refusals epoch why locks rising handed counted a
+view_heard c k number step ts refusals (views.Pending epoch recorded) rising handed counted a kind past = refused_on c k number step ts refusals epoch recorded rising handed counted a past
+view_heard c k number step ts refusals (views.Staging epoch recorded writes) rising handed counted a kind past = absurd kind
+view_heard c k number step ts refusals views.Nothing rising handed counted a kind past = absurd kind
 
-commit_reply : (c : Coordination) (k : Known) (number step ts refusals : ℕ) (reply : Reply) → AreRising c.splits → c.job ≡ None → IsCounted c.session c.clock c.begun k → (a : AwaitsCommit k c.txn number ts refusals) → IsCommitReply reply
+commit_reply : (c : Coordination) (k : Known) (number step ts refusals : ℕ) (reply : Reply) → AreRising c.splits → c.job ≡ None → IsCounted c.session c.clock c.begun k → (a : AwaitsCommit k c.txn number ts refusals) → IsCommitReply (meta_of a.t a.anchor) ts reply
     → Knows (after_commit_reply ts refusals reply (with_heard reply c)) (reply_known number step (requests.Commit (meta_of a.t a.anchor) ts a.t.locks) reply k)
-commit_reply c k number step ts refusals (replies.Status view) rising handed counted a kind = view_heard c k number step ts refusals view rising handed counted a kind
+commit_reply c k number step ts refusals (replies.Status view) rising handed counted a kind = view_heard c k number step ts refusals view rising handed counted a kind.0 kind.1
 commit_reply c k number step ts refusals reply rising handed counted a kind = absurd kind
 
 pub commit_heard : (c : Coordination) (k : Known) (p : Pair Event) (number step ts refusals : ℕ) (reply : Reply) → AreRising c.splits → c.job ≡ None → HearsAwaited c number step reply k p → Awaits c.session c.clock c.begun c.txn number (waits.Commit ts refusals) k

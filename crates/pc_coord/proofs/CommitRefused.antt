@@ -1,5 +1,5 @@
 -- The reply to a commit shows that its record is pending: the commit is tried again, or given up.
-use Rattle.std.proofs.Common.{◌≡◌, ℕ, suc, ◌+◌, ◌<◌, ◌≤◌, max, nat_lt, Bool, true, false, cond, not, List, [], ◌∷◌, length, map, Option, Some, None, refl, sym, ap, ◌∙◌, subst, arith, All, IsTrue}
+use Rattle.std.proofs.Common.{◌≡◌, ℕ, suc, ◌+◌, ◌<◌, ◌≤◌, max, nat_lt, Bool, true, false, cond, not, inl, inr, List, [], ◌∷◌, length, map, Option, Some, None, refl, sym, ap, ◌∙◌, subst, arith, All, IsTrue}
 use Rattle.std.specs.Option.{option_map}
 use Rattle.std.proofs.lemmas.Bool.{and_from, ltb-false, ltb-true}
 use Rattle.std.proofs.lemmas.List.Elements.{All-push, All-weaker}
@@ -23,7 +23,7 @@ use Rattle.pc_coord.specs.Coordination.{Coordination, commit_due}
 use Rattle.pc_coord.specs.declared.due.Due.TheVariants as dues
 use Rattle.pc_coord.specs.Events.{Suits}
 use Rattle.pc_coord.specs.Knows.{Knows, Rests}
-use Rattle.pc_coord.specs.Knows.Ending.{AwaitsCommit, IsRefusedNow}
+use Rattle.pc_coord.specs.Knows.Ending.{AwaitsCommit, CommitsBelow, IsRefusedNow}
 use Rattle.pc_coord.specs.Knows.Held.{IsCounted, IsHeld, IsOpenAs, IsPendingOf, IsSettled}
 use Rattle.pc_coord.specs.Knows.Sending.{learned}
 use Rattle.pc_coord.specs.Transaction.{refreshed, risen_to, transaction_of}
@@ -41,14 +41,16 @@ use Rattle.pc_proto.specs.declared.view.View.TheVariants as views
 use Rattle.pc_proto.specs.Replies.{is_undecided_status, status_ts}
 use Rattle.pc_proto.specs.Stamps.{greatest_of, view_stamps}
 use Rattle.pc_proto.specs.Views.{is_final_view}
+use Rattle.pc_world.specs.Answering.{IsPastWherePending}
 use Rattle.pc_world.specs.Counting.{AtLeast}
+use Rattle.pc_world.specs.Follows.Resends.{ShowsLaterEpoch}
 use Rattle.pc_world.specs.Known.{Known}
-use Rattle.pc_world.specs.Known.Traffic.{Heard, is_reply_to_one}
+use Rattle.pc_world.specs.Known.Traffic.{Heard, Sent, is_reply_to_one}
 use Rattle.pc_world.specs.Known.Transactions.{Txn, meta_of, txn_heard}
 use Rattle.pc_world.specs.StageFate.{EachCommit, IsDead, OnCommit, Refuses, SentCommit, WasCommitRefused}
 use Rattle.pc_world.specs.Tell.Refusal.{WasMoved, is_moved}
 
-module _ (c : Coordination) (k : Known) (number step ts refusals epoch recorded : ℕ) (rising : AreRising c.splits) (handed : c.job ≡ None) (counted : IsCounted c.session c.clock c.begun k) (a : AwaitsCommit k c.txn number ts refusals) where
+module _ (c : Coordination) (k : Known) (number step ts refusals epoch recorded : ℕ) (rising : AreRising c.splits) (handed : c.job ≡ None) (counted : IsCounted c.session c.clock c.begun k) (a : AwaitsCommit k c.txn number ts refusals) (past : IsPastWherePending a.t.epoch ts (views.Pending epoch recorded)) where
   abbrev view : View
   view = views.Pending epoch recorded
 
@@ -136,13 +138,28 @@ module _ (c : Coordination) (k : Known) (number step ts refusals epoch recorded 
         puts = a.puts;
       }
 
-  answered3 : All (IsRefusedNow k3) k3.sent_now
+  abbrev raised_ts : ℕ
+  raised_ts = max a.t.write_ts recorded
+
+  below-more : (request : Request) → CommitsBelow a.t.write_ts request → CommitsBelow raised_ts request
+  below-more (requests.Commit meta at locks) below = omega (arith, below)
+  below-more request below = tt
+
+  refused-more : (m : Sent) → IsRefusedNow k a.t.write_ts m → IsRefusedNow k3 raised_ts m
+  refused-more m (inl below) = inl (below-more m.request below)
+  refused-more m (inr met) = inr (any_kept (λ h. (h.request ≡ m.request) × ShowsLaterEpoch h.request h.reply) k.heard_now (h ∷ []) met)
+
+  -- the record is past the commit, in its timestamp or in its epoch
+  refused-now : IsPastWherePending a.t.epoch ts view → IsRefusedNow k3 raised_ts a.m
+  refused-now (inl later) = inr (any_last (λ h. (h.request ≡ a.m.request) × ShowsLaterEpoch h.request h.reply) k.heard_now h (sym a.said, later))
+  refused-now (inr above) = inl (let past : CommitsBelow raised_ts said = omega (arith, above) in subst (CommitsBelow raised_ts) (sym a.said) past)
+
+  answered3 : All (IsRefusedNow k3 raised_ts) k3.sent_now
   answered3 =
-      let Refused : Heard → Type 0 = λ h. (h.request ≡ a.m.request) × IsTrue (is_undecided_status h.reply) in
-      subst (λ sent. All (IsRefusedNow k3) sent) (sym a.sent_now)
-      (All-push (IsRefusedNow k3) a.before_now a.m
-      (All-weaker (IsRefusedNow k) (IsRefusedNow k3) (λ m refused. record { heard = any_kept (λ h. (h.request ≡ m.request) × IsTrue (is_undecided_status h.reply)) k.heard_now (h ∷ []) refused.heard }) a.before_now a.answered)
-      (record { heard = any_last Refused k.heard_now h (sym a.said, refl) }))
+      subst (λ sent. All (IsRefusedNow k3 raised_ts) sent) (sym a.sent_now)
+      (All-push (IsRefusedNow k3 raised_ts) a.before_now a.m
+      (All-weaker (IsRefusedNow k a.t.write_ts) (IsRefusedNow k3 raised_ts) refused-more a.before_now a.answered)
+      (refused-now past))
 
   was_moved : nat_lt ts recorded ≡ true → WasMoved k3 h
   was_moved above =

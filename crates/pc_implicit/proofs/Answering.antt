@@ -1,6 +1,6 @@
 -- Where nothing is staged, a range answers each request as the request may be answered.
-use Rattle.std.proofs.Common.{◌≡◌, ℕ, Bool, true, false, ◌&&◌, not, nat_le, if◌then◌else◌, List, [], filter, Option, None, Some, IfSome, refl, ap, ◌∙◌}
-use Rattle.std.proofs.lemmas.Bool.{and_parts, not-true}
+use Rattle.std.proofs.Common.{◌≡◌, ℕ, ◌<◌, Bool, true, false, ◌&&◌, not, nat_le, if◌then◌else◌, ◌⊎◌, inl, inr, List, [], filter, Option, None, Some, IfSome, refl, sym, ap, ◌∙◌}
+use Rattle.std.proofs.lemmas.Bool.{and_parts, leb-false, not-true}
 use Rattle.std.proofs.lemmas.List.Elements.{filter_passes, recursion_from_All}
 use Rattle.std.specs.Option.{option_map_or}
 use Rattle.std.specs.Prelude.{⊤}
@@ -21,6 +21,7 @@ use Rattle.pc_proto.specs.declared.fate.Goal.{Goal}
 use Rattle.pc_proto.specs.declared.fate.Goal.TheVariants as goals
 use Rattle.pc_proto.specs.declared.meta.TxnMeta.{TxnMeta}
 use Rattle.pc_proto.specs.declared.record.Intent.{Intent}
+use Rattle.pc_proto.specs.declared.record.Record.{Record}
 use Rattle.pc_proto.specs.declared.record.Standing.{Standing}
 use Rattle.pc_proto.specs.declared.record.Standing.TheVariants as standings
 use Rattle.pc_proto.specs.declared.reply.Origin.{Origin}
@@ -29,17 +30,17 @@ use Rattle.pc_proto.specs.declared.request.Request.{Request}
 use Rattle.pc_proto.specs.declared.request.Request.TheVariants as requests
 use Rattle.pc_proto.specs.declared.why.Why.{Why}
 use Rattle.pc_proto.specs.Intents.{first_other, intent_at, kept_if, lesser_key, other_at, own_at}
-use Rattle.pc_proto.specs.Place.{Place, Nothing, Kept, Marked, Change, Stay, after, is_decided, is_final, status_view, view_of}
+use Rattle.pc_proto.specs.Place.{Place, Nothing, Kept, Marked, Change, Stay, Become, after, is_decided, is_final, status_view, view_of}
 use Rattle.pc_proto.specs.RecordRows.{answer, push_reply, unless_decided}
 use Rattle.pc_proto.specs.RecordRows.Abort.{abort}
 use Rattle.pc_proto.specs.RecordRows.Commit.{commit}
 use Rattle.pc_proto.specs.RecordRows.Push.{Verdict, There, Refuse, Doubt, Do, is_staged, on_verdict, push, push_verdict, pushed, reaches_goal, wins}
-use Rattle.pc_proto.specs.RecordRows.Reached.{is_reached}
+use Rattle.pc_proto.specs.RecordRows.Reached.{activity_of, is_reached, status_of}
 use Rattle.pc_proto.specs.Table.{place_of}
 use Rattle.pc_proto.specs.Views.{is_final_view}
 use Rattle.pc_world.proofs.Stamps.Searches.{some-kept}
 use Rattle.pc_world.specs.After.{state_at}
-use Rattle.pc_world.specs.Answering.{IsGetReply, IsPushReply, IsPutReply, IsRefreshReply, IsScanReply, IsUnstagedView, MayAnswer}
+use Rattle.pc_world.specs.Answering.{IsGetReply, IsPastWherePending, IsPushReply, IsPutReply, IsRefreshReply, IsScanReply, IsUnstagedView, MayAnswer}
 use Rattle.pc_world.specs.Evaluation.{reply}
 use Rattle.pc_world.specs.Evaluation.Get.{found_at, get_blocker, get_reply}
 use Rattle.pc_world.specs.Evaluation.Refresh.{refresh_reply, refuter_in}
@@ -171,6 +172,39 @@ module _ (history : List (Entry Event)) (range : ℕ) (id : TxnId) where
       either (is_decided p) p Stay (commit meta ts locks p) here (either (is_reached p meta.epoch ts) p _ Stay tt here)
   commit-kind meta ts locks (Marked s) h = there-view (Marked s) h tt
 
+  -- a record that a commit leaves undecided is past it
+  past-where : (epoch ts : ℕ) (standing : Standing) (other at : ℕ) (writes : List (List ℕ × ℕ)) (locks : List (List ℕ)) → (nat_le other epoch && nat_le at ts) ≡ false
+      → IsPastWherePending epoch ts (status_view standing other at writes locks)
+  past-where epoch ts standings.Pending other at writes locks over = by (nat_le other epoch) refl
+    where
+      by : (b : Bool) → nat_le other epoch ≡ b → (epoch < other) ⊎ (ts < at)
+      by true low = inr (leb-false at ts (sym (ap (λ b. b && nat_le at ts) low) ∙ over))
+      by false high = inl (leb-false other epoch high)
+  past-where epoch ts standings.Staging other at writes locks over = tt
+  past-where epoch ts standings.Committed other at writes locks over = tt
+  past-where epoch ts (standings.Aborted why) other at writes locks over = tt
+
+  final-past : (epoch ts : ℕ) (standing : Standing) (other at : ℕ) (writes : List (List ℕ × ℕ)) (locks : List (List ℕ)) → is_final standing ≡ true
+      → IsPastWherePending epoch ts (status_view standing other at writes locks)
+  final-past epoch ts standings.Pending other at writes locks final = absurd cc
+  final-past epoch ts standings.Staging other at writes locks final = tt
+  final-past epoch ts standings.Committed other at writes locks final = tt
+  final-past epoch ts (standings.Aborted why) other at writes locks final = tt
+
+  commit-past : (meta : TxnMeta) (ts : ℕ) (locks : List (List ℕ)) (p : Place) → IsRecorded history range id p → IsPastWherePending meta.epoch ts (view_of (after p (unless_decided p (commit meta ts locks p))))
+  commit-past meta ts locks Nothing h = tt
+  commit-past meta ts locks (Kept r) h = by (is_final r.status.standing) refl (nat_le r.status.epoch meta.epoch && nat_le r.status.ts ts) refl
+    where
+      made : Record
+      made = record { meta = meta; status = status_of standings.Committed meta.epoch ts; activity = activity_of (Kept r) meta.born; writes = []; locks = locks }
+
+      by : (b : Bool) → is_final r.status.standing ≡ b → (c : Bool) → (nat_le r.status.epoch meta.epoch && nat_le r.status.ts ts) ≡ c
+          → IsPastWherePending meta.epoch ts (view_of (after (Kept r) (if b then Stay else (if c then Become made else Stay))))
+      by true final c is = final-past meta.epoch ts r.status.standing r.status.epoch r.status.ts r.writes r.locks final
+      by false more true reached = tt
+      by false more false over = past-where meta.epoch ts r.status.standing r.status.epoch r.status.ts r.writes r.locks over
+  commit-past meta ts locks (Marked s) h = final-past meta.epoch ts s.standing s.epoch s.ts [] [] h.0
+
   abort-kind : (meta : TxnMeta) (why : Why) (locks : List (List ℕ)) (p : Place) → IsRecorded history range id p → is_final_view (view_of (after p (unless_decided p (abort meta why locks p)))) ≡ true
   abort-kind meta why locks p h = by (is_decided p) refl
     where
@@ -217,7 +251,9 @@ may-answer history range (requests.Put meta seq ts key value) s all =
     put-kind meta.id key (other_at meta.id key s.intents) (own_outcome meta seq ts key value own s) (other-differs meta.id (intent_at key s.intents))
     (written-kind meta.id key (overtaken meta seq own) (option_map_or (λ i. i.ts) own 0) (laid meta seq (write_ts meta ts key own s) value own))
 may-answer history range (requests.Refresh id from to span) s all = refresh-kind (refuter_in id from to span s)
-may-answer history range (requests.Commit meta ts locks) s all = commit-kind history range meta.id meta ts locks (place_of meta.id s.table) (all meta.id)
+may-answer history range (requests.Commit meta ts locks) s all =
+    let p = place_of meta.id s.table in
+    (commit-kind history range meta.id meta ts locks p (all meta.id), commit-past history range meta.id meta ts locks p (all meta.id))
 may-answer history range (requests.Abort meta why locks) s all = abort-kind history range meta.id meta why locks (place_of meta.id s.table) (all meta.id)
 may-answer history range (requests.Push holder by level now goal) s all = push-kind history range holder.id holder by goal (place_of holder.id s.table) (all holder.id) level now
 may-answer history range request s all = tt

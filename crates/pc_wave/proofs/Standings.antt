@@ -10,7 +10,6 @@ use Rattle.pc_proto.specs.declared.fate.Goal.{Goal}
 use Rattle.pc_proto.specs.declared.reply.Reply.{Reply}
 use Rattle.pc_proto.specs.declared.reply.Reply.TheVariants as replies
 use Rattle.pc_proto.specs.declared.request.Request.{Request}
-use Rattle.pc_proto.specs.Replies.{is_undecided_status}
 use Rattle.pc_lists.proofs.Anywhere.{any_kept}
 use Rattle.pc_wave.proofs.Lists.{any_before, any_true_kept, at_least-before, at_least-kept}
 use Rattle.pc_wave.specs.declared.message.Message.{Message}
@@ -18,7 +17,7 @@ use Rattle.pc_wave.specs.declared.message.Progress.{Progress}
 use Rattle.pc_wave.specs.declared.message.Progress.TheVariants as progresses
 use Rattle.pc_wave.specs.Standing.{AreAnsweredBut, AreCounted, HasComeBack, HasMore, IsAsFar, IsOnItsWay, IsReplyAt, MayGoOut, MessageStands, MetConflict, IsSentUnder}
 use Rattle.pc_world.specs.Counting.{AtLeast}
-use Rattle.pc_world.specs.Follows.Resends.{AreAnsweredNow, MayGoAgain, MetConflictNow, WasDone, WasFollowed, WasRefusedNow}
+use Rattle.pc_world.specs.Follows.Resends.{AreAnsweredNow, MayGoAgain, MetConflictNow, MetLaterEpochNow, ShowsLaterEpoch, WasDone, WasFollowed}
 use Rattle.pc_world.specs.Known.{Known}
 use Rattle.pc_world.specs.Known.Traffic.{Heard, Sent, request_sent}
 use Rattle.pc_world.specs.SameRequest.{IsSameRequest}
@@ -94,14 +93,14 @@ module _ (k k2 : Known) (sent_more : List Sent) (heard_more : List Heard) (more 
       followed = followed-more m.holder.id m.key m.later heard_more m.followed;
     }
 
-    refused-kept : WasRefusedNow k request → WasRefusedNow k2 request
-    refused-kept r =
-        let P : Heard → Type 0 = λ h. (h.request ≡ request) × IsTrue (is_undecided_status h.reply) in
-        record { commits = r.commits; refused = subst (λ hs. Any P hs) (sym more.heard_now) (any_kept P k.heard_now heard_more r.refused) }
+    epoch-kept : MetLaterEpochNow k request → MetLaterEpochNow k2 request
+    epoch-kept met =
+        let P : Heard → Type 0 = λ h. (h.request ≡ request) × ShowsLaterEpoch h.request h.reply in
+        subst (λ hs. Any P hs) (sym more.heard_now) (any_kept P k.heard_now heard_more met)
 
     again-kept : MayGoAgain k request None → MayGoAgain k2 request None
     again-kept (inl met) = inl (met-kept met)
-    again-kept (inr refused) = inr (refused-kept refused)
+    again-kept (inr met) = inr (epoch-kept met)
 
     pub answered-kept : AreAnsweredNow k request → AreAnsweredNow k2 request
     answered-kept a =

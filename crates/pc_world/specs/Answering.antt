@@ -1,7 +1,8 @@
 -- The kinds of reply that a range gives where nothing is staged: to gets, scans, puts, refreshes, commits, aborts, pushes and resolves.
 -- Nothing is said of the other requests, which no session sends so far but for removals.
-use Rattle.std.specs.Prelude.{◌≡◌, true, ⊤}
+use Rattle.std.specs.Prelude.{◌≡◌, ◌<◌, ◌⊎◌, ℕ, true, ⊤}
 use Rattle.pc_base.specs.declared.transaction.TxnId.{TxnId}
+use Rattle.pc_proto.specs.declared.meta.TxnMeta.{TxnMeta}
 use Rattle.pc_proto.specs.declared.reply.Reply.{Reply}
 use Rattle.pc_proto.specs.declared.reply.Reply.TheVariants as replies
 use Rattle.pc_proto.specs.declared.request.Request.{Request}
@@ -44,10 +45,15 @@ IsUnstagedView (views.Aborted epoch why locks) = ⊤
 IsUnstagedView (views.Staging epoch ts writes) = ⊥
 IsUnstagedView views.Nothing = ⊥
 
--- A commit is answered by its record's status.
-abbrev pub IsCommitReply : Reply → Type 0
-IsCommitReply (replies.Status view) = IsUnstagedView view
-IsCommitReply _ = ⊥
+-- Where the record is pending, it is past this epoch or this timestamp.
+abbrev pub IsPastWherePending : ℕ → ℕ → View → Type 0
+IsPastWherePending epoch ts (views.Pending other at) = (epoch < other) ⊎ (ts < at)
+IsPastWherePending epoch ts _ = ⊤
+
+-- A commit is answered by its record's status; a record that is pending is past the commit.
+abbrev pub IsCommitReply : TxnMeta → ℕ → Reply → Type 0
+IsCommitReply meta ts (replies.Status view) = IsUnstagedView view × IsPastWherePending meta.epoch ts view
+IsCommitReply meta ts _ = ⊥
 
 -- An abort is answered by a final status.
 abbrev pub IsAbortReply : Reply → Type 0
@@ -70,7 +76,7 @@ MayAnswer (requests.Get id epoch seq ts key) told = IsGetReply id told
 MayAnswer (requests.Scan id epoch seq ts span) told = IsScanReply id told
 MayAnswer (requests.Put meta seq ts key value) told = IsPutReply meta.id told
 MayAnswer (requests.Refresh id from to span) told = IsRefreshReply told
-MayAnswer (requests.Commit meta ts locks) told = IsCommitReply told
+MayAnswer (requests.Commit meta ts locks) told = IsCommitReply meta ts told
 MayAnswer (requests.Abort meta why locks) told = IsAbortReply told
 MayAnswer (requests.Push holder by level now goal) told = IsPushReply told
 MayAnswer (requests.Resolve id key fate) told = IsResolved told

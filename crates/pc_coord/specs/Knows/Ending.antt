@@ -1,12 +1,13 @@
 -- A call that commits or rolls back, beside what its session knows.
-use Rattle.std.specs.Prelude.{◌≡◌, ℕ, ◌≤◌, ◌<◌, Option, None, Some, List, [], ◌∷◌, ◌++◌, length, All, Any, IsTrue}
+use Rattle.std.specs.Prelude.{◌≡◌, ℕ, ◌≤◌, ◌<◌, ◌⊎◌, ⊤, Option, None, Some, List, [], ◌∷◌, ◌++◌, length, All, Any, IsTrue}
 use Rattle.pc_coord.specs.declared.transaction.Transaction.{Transaction}
 use Rattle.pc_coord.specs.Knows.Held.{IsOpenAs, IsPlain, PutsUpTo}
 use Rattle.pc_proto.specs.declared.call.Call.TheVariants as calls
+use Rattle.pc_proto.specs.declared.request.Request.{Request}
 use Rattle.pc_proto.specs.declared.request.Request.TheVariants as requests
 use Rattle.pc_proto.specs.declared.why.Why.TheVariants as whys
-use Rattle.pc_proto.specs.Replies.{is_undecided_status}
 use Rattle.pc_world.specs.Counting.{AtLeast}
+use Rattle.pc_world.specs.Follows.Resends.{MetLaterEpochNow}
 use Rattle.pc_world.specs.Known.{Known}
 use Rattle.pc_world.specs.Known.Traffic.{Sent}
 use Rattle.pc_world.specs.Known.Transactions.{Txn, meta_of}
@@ -21,9 +22,14 @@ pub record IsLastSent (k : Known) (number : ℕ) (before : List Sent) (m : Sent)
   pub earlier : All (λ other. other.number < number) before
   pub unheard : All (λ h. h.number < number) k.heard
 
--- A reply to the message was heard in the open call: that the record is not final.
-pub record IsRefusedNow (k : Known) (m : Sent) : Type 0 where
-  pub heard : Any (λ h. (h.request ≡ m.request) × IsTrue (is_undecided_status h.reply)) k.heard_now
+-- If the request is a commit, it is below this timestamp.
+abbrev pub CommitsBelow : ℕ → Request → Type 0
+CommitsBelow ts (requests.Commit meta at locks) = at < ts
+CommitsBelow ts _ = ⊤
+
+-- The message will not go out again at this timestamp: it was a commit below it, or met its record in a later epoch.
+abbrev pub IsRefusedNow : Known → ℕ → Sent → Type 0
+IsRefusedNow k ts m = CommitsBelow ts m.request ⊎ MetLaterEpochNow k m.request
 
 -- The commit of a call was sent and not heard, after so many that met a record above them; all earlier ones were refused.
 pub record AwaitsCommit (k : Known) (txn : Option Transaction) (number ts refusals : ℕ) : Type 0 where
@@ -45,7 +51,7 @@ pub record AwaitsCommit (k : Known) (txn : Option Transaction) (number ts refusa
   pub proved : All (IsProvedBy t.write_ts) t.writes
   pub puts : All (PutsUpTo t (last_seq_of t.writes)) k.sent
   pub plain : IsPlain k t before
-  pub answered : All (IsRefusedNow k) before_now
+  pub answered : All (IsRefusedNow k t.write_ts) before_now
   pub few : refusals < 8
   pub moved : AtLeast (WasMoved k) refusals k.heard_now
 
