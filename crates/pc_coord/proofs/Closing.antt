@@ -1,7 +1,10 @@
 -- A transaction ends with the final view that was heard last.
-use Rattle.std.proofs.Common.{◌≡◌, ℕ, ◌≤◌, List, ◌∷◌, map, Option, Some, IfSome, refl, sym, ap, ◌∙◌, subst, arith, Contains}
+use Rattle.std.proofs.Common.{◌≡◌, ℕ, ◌≤◌, Bool, true, false, ◌||◌, cond, List, [], ◌∷◌, ◌++◌, map, Option, Some, IfSome, IsTrue, refl, sym, ap, ◌∙◌, subst, arith, Contains}
+use Rattle.std.proofs.lemmas.List.Folds.{list_any-append}
+use Rattle.std.specs.List.{list_any}
+use Rattle.std.specs.Option.{option_or}
 use Rattle.std.proofs.lemmas.Option.{same_Some}
-use Rattle.pc_coord.proofs.Ending.{EndsWith, left_is, may_finish}
+use Rattle.pc_coord.proofs.Ending.{EndsWith, fate_is, left_is, may_finish}
 use Rattle.pc_coord.proofs.Resting.{open_is}
 use Rattle.pc_coord.proofs.Steps.{heard, told}
 use Rattle.pc_coord.specs.Coordination.{job_at, job_of}
@@ -16,17 +19,25 @@ use Rattle.pc_proto.specs.declared.reply.Reply.{Reply}
 use Rattle.pc_proto.specs.declared.reply.Reply.TheVariants as replies
 use Rattle.pc_proto.specs.declared.view.View.{View}
 use Rattle.pc_proto.specs.Replies.{view_in}
+use Rattle.pc_proto.specs.declared.request.Request.{Request}
+use Rattle.pc_proto.specs.declared.request.Request.TheVariants as requests
+use Rattle.pc_proto.specs.declared.fate.Fate.TheVariants as fates
 use Rattle.pc_proto.specs.Stamps.{greatest_of, reply_stamps, view_stamps}
-use Rattle.pc_world.specs.Follows.FinishingJobs.{left_if}
+use Rattle.pc_world.specs.Follows.FinishingJobs.{committing, committed_fate, is_commit_told, left_committed, left_if, settling}
 use Rattle.pc_world.specs.Known.{Known, open_txn, txns_told}
 use Rattle.pc_world.specs.Known.Traffic.{Heard, replies_to}
-use Rattle.pc_world.specs.Known.Transactions.{Txn, txn_heard, txn_told}
+use Rattle.pc_world.specs.Known.Transactions.{Txn, meta_of, txn_heard, txn_told}
+use Rattle.pc_world.specs.Views.{fate_heard}
 
 view-stamps : (reply : Reply) (view : View) → view_in reply ≡ Some view → reply_stamps reply ≡ view_stamps view
 view-stamps (replies.Status shown) view e = ap view_stamps (same_Some shown view e)
 view-stamps (replies.Refused shown) view e = ap view_stamps (same_Some shown view e)
 view-stamps (replies.Unsure shown) view e = ap view_stamps (same_Some shown view e)
 view-stamps reply view e = absurd cc
+
+or-true : (b : Bool) → (b || true) ≡ true
+or-true true = refl
+or-true false = refl
 
 module _ (k : Known) (x : Transaction) (t : Txn) (anchor : List ℕ) (fate : Fate) (h : Heard) (open_as : IsOpenAs x k t) (ends : EndsWith t anchor fate k.heard h) where
   abbrev k3 : Known
@@ -53,6 +64,22 @@ module _ (k : Known) (x : Transaction) (t : Txn) (anchor : List ℕ) (fate : Fat
   -- what is left is its settling
   pub closing-left : messages_left (job_of (Some fate) (Some x)) ≡ left_if k3 (open_txn k3)
   closing-left = ap messages_left job_is ∙ left_is t anchor fate k.heard h ends x.has_read x.in_flight ∙ sym (ap (left_if k3) opened3)
+
+  -- which is all, where a commit of it was answered so
+  committing-none : (ts : ℕ) → IsTrue (is_commit_told t.id ts h) → committing k3 t3 ts t.anchor ≡ []
+  committing-none ts told =
+      let any : list_any (is_commit_told t.id ts) (k.heard ++ h ∷ []) ≡ true = list_any-append (is_commit_told t.id ts) k.heard (h ∷ []) ∙ ap (λ b. list_any (is_commit_told t.id ts) k.heard || (b || list_any (is_commit_told t.id ts) [])) told ∙ or-true (list_any (is_commit_told t.id ts) k.heard) in
+      ap (committing k3 t3 ts) ends.anchored
+      ∙ ap (λ b. cond b [] (requests.Commit (meta_of t3 anchor) ts t3.locks ∷ [])) any
+
+  pub closing-committed : (ts : ℕ) → IsTrue (is_commit_told t.id ts h) → messages_left (job_of (Some fate) (Some x)) ≡ left_committed ts k3 (open_txn k3)
+  closing-committed ts told =
+      let heard_fate = fate_is t anchor fate k.heard h ends in
+      let same : committed_fate k3 t3 ts ≡ fate_heard t.id k3.heard = ap (λ o. option_or o (Some (fates.Committed t3.epoch ts))) heard_fate ∙ sym heard_fate in
+      let now : left_if k3 (open_txn k3) ≡ settling t3 (fate_heard t.id k3.heard) t.anchor = ap (left_if k3) opened3 in
+      let whole : left_committed ts k3 (open_txn k3) ≡ settling t3 (fate_heard t.id k3.heard) t.anchor =
+      ap (left_committed ts k3) opened3 ∙ ap (λ l. l ++ settling t3 (committed_fate k3 t3 ts) t.anchor) (committing-none ts told) ∙ ap (λ f. settling t3 f t.anchor) same in
+      closing-left ∙ now ∙ sym whole
 
   -- which may be done, once the answer is told
   pub closing-may : (answer : Answer) → txns_told answer k3 ≡ txn_told answer (replies_to k3.sent_now k3.heard_now) t3 ∷ others3 → IfSome (job_of (Some fate) (Some x)) (MayFinishJob (told answer k3))

@@ -4,7 +4,7 @@ use Rattle.std.specs.Option.{option_map_or}
 use Rattle.std.proofs.lemmas.Bool.{and_from, eq-eqb}
 use Rattle.pc_base.specs.Rising.{AreRising}
 use Rattle.pc_base.specs.Transaction.{same_txn}
-use Rattle.pc_coord.proofs.Closing.{closing-left, closing-may, opened3}
+use Rattle.pc_coord.proofs.Closing.{closing-committed, closing-left, closing-may, opened3}
 use Rattle.pc_coord.proofs.Ending.{EndsWith, IsFinalAs}
 use Rattle.pc_coord.proofs.Replies.{still_open}
 use Rattle.pc_coord.proofs.Resting.{closed_told, match_false}
@@ -98,7 +98,7 @@ module _ (c : Coordination) (k : Known) (number step ts refusals : ℕ) (view : 
               };
               written = tt;
               aborts = tt;
-              left = closing-left k a.x a.t a.anchor fate h a.open_as ends;
+              left = closing-committed k a.x a.t a.anchor fate h a.open_as ends at (shown at epoch locks is);
               suits = λ s is. tt;
             };
             after =

@@ -20,7 +20,7 @@ use Rattle.pc_coord.specs.declared.due.Wait.TheVariants as waits
 use Rattle.pc_coord.specs.declared.transaction.Transaction.{Transaction}
 use Rattle.pc_coord.specs.Events.{IsAsked, Suits}
 use Rattle.pc_coord.specs.Knows.{Awaits, Knows, SendsNow}
-use Rattle.pc_coord.specs.Knows.Ending.{IsRefusedNow}
+use Rattle.pc_coord.specs.Knows.Ending.{CommitsBelow, IsRefusedNow}
 use Rattle.pc_coord.specs.Knows.Held.{IsCounted, IsHeld, IsOpenAs, IsOwnHeard, IsOwnSent, IsSettled, PutsUpTo}
 use Rattle.pc_coord.specs.Transaction.{commit_of, refreshed, transaction_of}
 use Rattle.pc_history.specs.declared.pair.Pair.{Pair}
@@ -33,8 +33,8 @@ use Rattle.pc_proto.specs.declared.fate.Fate.{Fate}
 use Rattle.pc_proto.specs.declared.request.Request.{Request}
 use Rattle.pc_proto.specs.Replies.{is_undecided_status}
 use Rattle.pc_world.specs.Counting.{AtLeast}
-use Rattle.pc_world.specs.Follows.FinishingJobs.{left_if, settling}
-use Rattle.pc_world.specs.Follows.Resends.{MayGoAgain, WasRefusedNow}
+use Rattle.pc_world.specs.Follows.FinishingJobs.{committed_fate, committing, left_committed, settling}
+use Rattle.pc_world.specs.Follows.Resends.{MayGoAgain, MetLaterEpochNow}
 use Rattle.pc_world.specs.Known.{Known, call_in, learn, next_number, open_txn}
 use Rattle.pc_world.specs.Known.Reads.{IsGoodAt}
 use Rattle.pc_world.specs.Known.Reads.IsGoodTo.{AtOnce}
@@ -82,7 +82,7 @@ pub record MayCommitNow (k : Known) (t : Txn) (anchor : List ℕ) (refusals : �
   pub call : k.statement ≡ Some (record { call = calls.Commit; reading = reading })
   pub anchored : t.anchor ≡ Some anchor
   pub settled : IsSettled k t None
-  pub answered : All (IsRefusedNow k) k.sent_now
+  pub answered : All (IsRefusedNow k t.write_ts) k.sent_now
   pub few : refusals < 8
   pub moved : AtLeast (WasMoved k) refusals k.heard_now
 
@@ -112,14 +112,15 @@ module _ (c : Coordination) (k : Known) (t : Txn) (anchor : List ℕ) (refusals 
     });
   }
 
-  -- it was sent in the call before only where it was refused there
+  -- it was sent in the call before only where its record is in a later epoch
   again : Any (λ m. IsSameRequest request m.request) k.sent_now → MayGoAgain k request None
   again was =
-      let f = any_of (IsRefusedNow k) (λ m. IsSameRequest request m.request) k.sent_now may.answered was in
+      let f = any_of (IsRefusedNow k t.write_ts) (λ m. IsSameRequest request m.request) k.sent_now may.answered was in
       inr (by f.0 f.1 f.2)
     where
-      by : (m : Sent) → IsRefusedNow k m → IsSameRequest request m.request → WasRefusedNow k request
-      by m refused (inl same) = record { commits = refl; refused = subst (λ r. Any (λ h. (h.request ≡ r) × IsTrue (is_undecided_status h.reply)) k.heard_now) (sym same) refused.heard }
+      by : (m : Sent) → IsRefusedNow k t.write_ts m → IsSameRequest request m.request → MetLaterEpochNow k request
+      by m (inl below) (inl same) = let itself : t.write_ts < t.write_ts = subst (CommitsBelow t.write_ts) (sym same) below in absurd (let none : ⊥ = omega (arith, itself) in none)
+      by m (inr met) (inl same) = subst (MetLaterEpochNow k) (sym same) met
       by m refused (inr put) = absurd put
 
   awaits : (range : ℕ) → Awaits c.session c.clock c.begun (Some (refreshed (transaction_of false None t))) (next_number k) (waits.Commit t.write_ts refusals) (sent (next_number k) range request k)
@@ -174,16 +175,16 @@ module _ (c : Coordination) (k : Known) (t : Txn) (anchor : List ℕ) (refusals 
             refused = plain.refused;
             views = views-as t t2 k.heard refl refl plain.views;
           };
-          answered = All-weaker (IsRefusedNow k) (IsRefusedNow k3) (λ m refused. record { heard = refused.heard }) k.sent_now may.answered;
+          answered = may.answered;
           few = may.few;
           moved = at_least-weaker (WasMoved k) (WasMoved k3) (moved-kept k range request) refusals k.heard_now may.moved;
         };
       }
 
-  abbrev committing : Coordination
-  committing = record c { txn = Some (refreshed (transaction_of false None t)); due = dues.Send request (waits.Commit t.write_ts refusals) }
+  abbrev at_commit : Coordination
+  at_commit = record c { txn = Some (refreshed (transaction_of false None t)); due = dues.Send request (waits.Commit t.write_ts refusals) }
 
-  sends_now : SendsNow committing k request (waits.Commit t.write_ts refusals)
+  sends_now : SendsNow at_commit k request (waits.Commit t.write_ts refusals)
   sends_now = record {
     may = record {
       row = may_send;
@@ -219,6 +220,9 @@ commit_sends c k x t anchor refusals rising handed counted open_as none may =
 pub unwritten_left : (t : Txn) (fate : Option Fate) (anchor : Option (List ℕ)) → anchor ≡ None → settling t fate anchor ≡ []
 unwritten_left t None anchor none = refl
 unwritten_left t (Some fate) anchor none = ap (settling t (Some fate)) none
+
+uncommitted_left : (k : Known) (t : Txn) (ts : ℕ) → t.anchor ≡ None → left_committed ts k (Some t) ≡ []
+uncommitted_left k t ts none = ap (λ a. committing k t ts a ++ settling t (committed_fate k t ts) a) none ∙ unwritten_left t (committed_fate k t ts) None refl
 
 module _ (c : Coordination) (k : Known) (x : Transaction) (t : Txn) (reading : ℕ) (rising : AreRising c.splits) (handed : c.job ≡ None) (counted : IsCounted c.session c.clock c.begun k) (open_as : IsOpenAs x k t) (settled : IsSettled k t x.in_flight) where
   abbrev k2 : Known
@@ -259,7 +263,7 @@ module _ (c : Coordination) (k : Known) (x : Transaction) (t : Txn) (reading : �
             };
             written = tt;
             aborts = tt;
-            left = no_messages c.job handed ∙ sym (ap (left_if k2) opened ∙ unwritten_left t (fate_heard t.id k.heard) t.anchor (anchor_same ∙ none));
+            left = no_messages c.job handed ∙ sym (ap (left_committed x.begin k2) opened ∙ uncommitted_left k2 t x.begin (anchor_same ∙ none));
             suits = λ s is. tt;
           };
           after = closed_told c.session c.clock c.begun c.job k2 answer rc refl refl refl (none_left c.job (told answer k2) handed);
@@ -276,7 +280,7 @@ module _ (c : Coordination) (k : Known) (x : Transaction) (t : Txn) (reading : �
         call = refl;
         anchored = anchor_same ∙ some;
         settled = subst (λ w. IsSettled k2 t w) none (settled_asked calls.Commit reading k t x.in_flight settled);
-        answered = All-nil (IsRefusedNow k2);
+        answered = All-nil (IsRefusedNow k2 t.write_ts);
         few = omega arith;
         moved = tt;
       })

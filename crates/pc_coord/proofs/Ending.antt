@@ -98,7 +98,8 @@ pub record EndsWith (t : Txn) (anchor : List ℕ) (fate : Fate) (heard : List He
   pub final : IsFinalAs view fate
 
 module _ (t : Txn) (anchor : List ℕ) (fate : Fate) (heard : List Heard) (h : Heard) (ends : EndsWith t anchor fate heard h) where
-  fate_is : fate_heard t.id (heard ++ h ∷ []) ≡ Some fate
+  -- and its fate is the one that was heard
+  pub fate_is : fate_heard t.id (heard ++ h ∷ []) ≡ Some fate
   fate_is =
       let shown : fate_shown t.id h ≡ Some fate =
       ap (λ b. cond b (option_and_then final_fate (view_in h.reply)) None) ends.about ∙ ap (option_and_then final_fate) ends.told ∙ ends.final.shows in

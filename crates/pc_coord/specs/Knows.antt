@@ -23,7 +23,7 @@ use Rattle.pc_proto.specs.declared.event.Event.TheVariants as events
 use Rattle.pc_proto.specs.declared.reply.Reply.{Reply}
 use Rattle.pc_proto.specs.declared.request.Request.{Request}
 use Rattle.pc_proto.specs.declared.request.Request.TheVariants as requests
-use Rattle.pc_world.specs.Follows.FinishingJobs.{AbortsFirst, left_by}
+use Rattle.pc_world.specs.Follows.FinishingJobs.{AbortsFirst, finishing_messages, left_by}
 use Rattle.pc_world.specs.Follows.PipelinedPuts.{TellsWritten}
 use Rattle.pc_world.specs.Known.{Known, next_number}
 use Rattle.pc_world.specs.Known.Statements.{Statement}
@@ -41,7 +41,7 @@ MayFinishJob k job = MayFinish k job.meta.id job.meta.anchor job.fate job.locks
 
 -- The messages that a job comes to: each lock is settled, then the record is removed.
 abbrev pub messages_of_job : Job → List Request
-messages_of_job job = map (λ lock. requests.Resolve job.meta.id lock job.fate) job.locks ++ requests.Remove job.meta.id job.meta.anchor ∷ []
+messages_of_job job = finishing_messages job.meta.id job.fate job.meta.anchor job.locks
 
 -- The messages that what is left comes to.
 abbrev pub messages_left : Option Job → List Request

@@ -1,9 +1,9 @@
 -- The finishing jobs that wait at a session may be done after an answer; and one that ends a transaction leaves one more.
 use Rattle.std.proofs.Common.{◌≡◌, ℕ, ◌+◌, ◌≤◌, max, Bool, true, false, cond, All, Contains, List, [], ◌∷◌, ◌++◌, map, Option, Some, None, IfSome, ◌⊎◌, inl, inr, refl, sym, ap, subst, ◌∙◌, arith}
-use Rattle.std.proofs.lemmas.List.{append-nil}
+use Rattle.std.proofs.lemmas.List.{append_assoc, append-nil}
 use Rattle.std.proofs.lemmas.List.{map-append}
 use Rattle.std.proofs.lemmas.List.Elements.{All-cons, All-head, All-push, All-tail, All-weaker}
-use Rattle.std.specs.Option.{option_to_list}
+use Rattle.std.specs.Option.{option_or, option_to_list}
 use Rattle.pc_base.specs.declared.transaction.TxnId.{TxnId}
 use Rattle.pc_coord.proofs.Steps.{told}
 use Rattle.pc_coord.specs.declared.job.Job.{Job}
@@ -12,10 +12,11 @@ use Rattle.pc_lists.proofs.Lists.{contains_cons, contains_head, contains_tail}
 use Rattle.pc_proto.specs.declared.answer.Answer.{Answer}
 use Rattle.pc_proto.specs.declared.answer.Answer.TheVariants as answers
 use Rattle.pc_proto.specs.declared.fate.Fate.{Fate}
+use Rattle.pc_proto.specs.declared.fate.Fate.TheVariants as fates
 use Rattle.pc_proto.specs.declared.request.Request.{Request}
 use Rattle.pc_proto.specs.declared.request.Request.TheVariants as requests
 use Rattle.pc_proto.specs.Stamps.{answer_stamps, fate_stamps, greatest_of}
-use Rattle.pc_world.specs.Follows.FinishingJobs.{left_by, left_if, settling, with_job}
+use Rattle.pc_world.specs.Follows.FinishingJobs.{committed_fate, committing, left_by, left_committed, left_if, settling, with_job}
 use Rattle.pc_world.specs.Known.{Known, first_if, open_txn, told_first, txn_begun, txns_told}
 use Rattle.pc_world.specs.Known.Statements.{Statement, begun_told, is_open_told}
 use Rattle.pc_world.specs.Known.Traffic.{Heard, replies_to}
@@ -159,8 +160,28 @@ ends_if : (k : Known) (job : Job) (t : Option Txn) → messages_of_job job ≡ l
 ends_if k job None e = absurd (none_last (map (λ lock. requests.Resolve job.meta.id lock job.fate) job.locks) (requests.Remove job.meta.id job.meta.anchor) e)
 ends_if k job (Some t) e = (t, refl, removed_of job t (fate_heard t.id k.heard) t.anchor e)
 
+fate_after_commit : (o : Option Fate) (other : Fate) → (fate : Fate) × (option_or o (Some other) ≡ Some fate)
+fate_after_commit None other = (other, refl)
+fate_after_commit (Some fate) other = (fate, refl)
+
+-- the last message of what is left names the transaction, whatever stands before its settling
+ends_committed : (k : Known) (job : Job) (ts : ℕ) (t : Option Txn) → messages_of_job job ≡ left_committed ts k t → (u : Txn) × (t ≡ Some u) × (job.meta.id ≡ u.id)
+ends_committed k job ts None e = absurd (none_last (map (λ lock. requests.Resolve job.meta.id lock job.fate) job.locks) (requests.Remove job.meta.id job.meta.anchor) e)
+ends_committed k job ts (Some t) e =
+    let f = fate_after_commit (fate_heard t.id k.heard) (fates.Committed t.epoch ts) in
+    (t, refl, by t.anchor f.0 (e ∙ ap (λ o. committing k t ts t.anchor ++ settling t o t.anchor) f.1))
+  where
+    by : (anchor : Option (List ℕ)) (fate : Fate) → messages_of_job job ≡ committing k t ts anchor ++ settling t (Some fate) anchor → job.meta.id ≡ t.id
+    by None fate e = absurd (none_last (map (λ lock. requests.Resolve job.meta.id lock job.fate) job.locks) (requests.Remove job.meta.id job.meta.anchor) e)
+    by (Some anchor) fate e =
+        let front = committing k t ts (Some anchor) in
+        let locks = map (λ lock. requests.Resolve t.id lock fate) t.locks in
+        let same = last_same (map (λ lock. requests.Resolve job.meta.id lock job.fate) job.locks) (front ++ locks)
+        (requests.Remove job.meta.id job.meta.anchor) (requests.Remove t.id anchor) (e ∙ sym (append_assoc front locks (requests.Remove t.id anchor ∷ []))) in
+        cc
+
 pub ends_by : (answer : Answer) (k : Known) (job : Job) → messages_of_job job ≡ left_by answer k → EndsBy k answer job
-ends_by (answers.Committed id ts) k job e = let t = ends_if k job (open_txn k) e in record { t = t.0; opened = t.1; named = t.2; closed = refl; begun = refl }
+ends_by (answers.Committed id ts) k job e = let t = ends_committed k job ts (open_txn k) e in record { t = t.0; opened = t.1; named = t.2; closed = refl; begun = refl }
 ends_by (answers.Aborted why) k job e = let t = ends_if k job (open_txn k) e in record { t = t.0; opened = t.1; named = t.2; closed = refl; begun = refl }
 ends_by (answers.RolledBack id why) k job e = let t = ends_if k job (open_txn k) e in record { t = t.0; opened = t.1; named = t.2; closed = refl; begun = refl }
 ends_by answer k job e = absurd (none_last (map (λ lock. requests.Resolve job.meta.id lock job.fate) job.locks) (requests.Remove job.meta.id job.meta.anchor) e)

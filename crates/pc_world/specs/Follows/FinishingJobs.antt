@@ -1,26 +1,35 @@
 -- Finishing jobs: what a transaction leaves behind when it is over is settled by its own session, between calls: each of its locks in
 -- key order, and then its record is removed. SIGMOD 2020 paper, section 3.2, "asynchronous intent resolution"; the order and the
 -- removal are this project's own profile.
-use Rattle.std.specs.Prelude.{◌≡◌, ℕ, Option, None, Some, List, [], ◌∷◌, ◌++◌, All, Any, IsTrue, map, fold, is_some, if◌then◌else◌, slice_get, ⊤}
+use Rattle.std.specs.Prelude.{◌≡◌, ℕ, Bool, ◌&&◌, Option, None, Some, List, [], ◌∷◌, ◌++◌, All, Any, IsTrue, map, fold, is_some, if◌then◌else◌, slice_get, ⊤}
+use Rattle.std.specs.List.{list_any}
+use Rattle.std.specs.Option.{option_or}
+use Rattle.pc_base.specs.declared.transaction.TxnId.{TxnId}
 use Rattle.pc_history.specs.declared.pair.Pair.{Pair}
 use Rattle.pc_proto.specs.declared.answer.Answer.{Answer}
 use Rattle.pc_proto.specs.declared.answer.Answer.TheVariants as answers
 use Rattle.pc_proto.specs.declared.event.Event.{Event}
 use Rattle.pc_proto.specs.declared.event.Event.TheVariants as events
 use Rattle.pc_proto.specs.declared.fate.Fate.{Fate}
+use Rattle.pc_proto.specs.declared.fate.Fate.TheVariants as fates
 use Rattle.pc_proto.specs.declared.request.Request.{Request}
 use Rattle.pc_proto.specs.declared.request.Request.TheVariants as requests
-use Rattle.pc_proto.specs.Requests.{is_abort_of}
+use Rattle.pc_proto.specs.Requests.{is_abort_of, is_commit}
 use Rattle.pc_world.specs.Known.{Known, learn, nothing_known, open_txn}
-use Rattle.pc_world.specs.Known.Transactions.{Txn}
+use Rattle.pc_world.specs.Known.Transactions.{Txn, meta_of}
+use Rattle.pc_world.specs.Known.Traffic.{Heard}
 use Rattle.pc_world.specs.Tell.Refusal.{is_heard}
-use Rattle.pc_world.specs.Views.{fate_heard}
+use Rattle.pc_world.specs.Views.{fate_heard, shows_committed}
 
--- The messages that settle a transaction of this fate and anchor: each of its locks, and then its record.
+-- The messages that finish a transaction of this fate and anchor: each of these locks is settled, and then its record is removed.
+abbrev pub finishing_messages : TxnId → Fate → List ℕ → List (List ℕ) → List Request
+finishing_messages id fate anchor locks = map (λ lock. requests.Resolve id lock fate) locks ++ requests.Remove id anchor ∷ []
+
+-- The messages that finish a transaction, where its fate and its anchor are known.
 abbrev pub settling : Txn → Option Fate → Option (List ℕ) → List Request
 settling t None anchor = []
 settling t (Some fate) None = []
-settling t (Some fate) (Some anchor) = map (λ lock. requests.Resolve t.id lock fate) t.locks ++ requests.Remove t.id anchor ∷ []
+settling t (Some fate) (Some anchor) = finishing_messages t.id fate anchor t.locks
 
 -- What is left to be done of a transaction that ends: its settling, where it was heard to be committed or aborted.
 abbrev pub left_of : Known → Txn → List Request
@@ -30,9 +39,29 @@ abbrev pub left_if : Known → Option Txn → List Request
 left_if k None = []
 left_if k (Some t) = left_of k t
 
+-- The reply is to a commit of the transaction, and shows it committed at this timestamp.
+abbrev pub is_commit_told : TxnId → ℕ → Heard → Bool
+is_commit_told id ts h = is_commit h.request && shows_committed id ts h
+
+-- The explicit commit of a transaction that was told committed, where no commit of it was answered so: what its staging committed its
+-- record has to say by itself before its writes are settled.
+abbrev pub committing : Known → Txn → ℕ → Option (List ℕ) → List Request
+committing k t ts None = []
+committing k t ts (Some anchor) =
+    if list_any (is_commit_told t.id ts) k.heard then [] else requests.Commit (meta_of t anchor) ts t.locks ∷ []
+
+-- The fate of a transaction that was told committed: as it was heard, else that of its staging.
+abbrev pub committed_fate : Known → Txn → ℕ → Option Fate
+committed_fate k t ts = option_or (fate_heard t.id k.heard) (Some (fates.Committed t.epoch ts))
+
+-- What is left to be done of the transaction that was told committed.
+abbrev pub left_committed : ℕ → Known → Option Txn → List Request
+left_committed ts k None = []
+left_committed ts k (Some t) = committing k t ts t.anchor ++ settling t (committed_fate k t ts) t.anchor
+
 -- What an answer leaves to be done of the open transaction, which it ends. A commit of which nothing is known leaves nothing.
 abbrev pub left_by : Answer → Known → List Request
-left_by (answers.Committed id ts) k = left_if k (open_txn k)
+left_by (answers.Committed id ts) k = left_committed ts k (open_txn k)
 left_by (answers.Aborted why) k = left_if k (open_txn k)
 left_by (answers.RolledBack id why) k = left_if k (open_txn k)
 left_by _ k = []
