@@ -18,18 +18,13 @@ use Rattle.pc_push.specs.declared.progress.Progress.{Progress}
 use Rattle.pc_push.specs.declared.progress.Progress.TheVariants as progress
 use Rattle.pc_push.specs.PushKnows.{HasMetStaging, IsSettledOrLeft, MayPush, PushKnows, StandsAt}
 use Rattle.pc_push.specs.Pushing.{Pushing, holder_resolve, push_of}
-use Rattle.pc_world.proofs.Exchange.{ever_later, heard_later, kept_later, later-later, top_later}
+use Rattle.pc_world.proofs.Exchange.{ever_later, first_mapped, heard_later, kept_later, later-later, top_later}
 use Rattle.pc_world.specs.Exchange.{IsLater, is_message}
 use Rattle.pc_world.specs.Known.{Known, first_if, known_after}
 use Rattle.pc_world.specs.Known.Traffic.{Heard}
 use Rattle.pc_world.specs.Known.Transactions.{Txn, txn_heard, txn_sent}
 use Rattle.pc_world.specs.Send.Push.{ListsRecord, MaySendPush, RecovererPush, SessionPush, StoodInTheWay}
 use Rattle.pc_world.specs.Send.Settling.{ShowsFate}
-
-first_mapped : (f : Txn → Txn) (is_open : Bool) (txns : List Txn) (t : Txn) → first_if is_open txns ≡ Some t → first_if is_open (map f txns) ≡ Some (f t)
-first_mapped f is_open [] t h = absurd cc
-first_mapped f true (x ∷ xs) t h = ap (option_map f) h
-first_mapped f false (x ∷ xs) t h = absurd cc
 
 module _ (holder : TxnMeta) (by : Who) (level : Priority) (reading : ℕ) (goal : Goal) where
   session_step : (event : Event) (h : Option Heard) (top high : ℕ) (k : Known) → IsTrue (is_message event) → k.top ≤ top → SessionPush k holder by level reading goal → SessionPush (known_after event h top high k) holder by level reading goal

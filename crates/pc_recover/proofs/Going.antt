@@ -17,18 +17,13 @@ use Rattle.pc_recover.specs.declared.progress.Progress.{Progress}
 use Rattle.pc_recover.specs.declared.progress.Progress.TheVariants as progress
 use Rattle.pc_recover.specs.RecoverKnows.{AreFound, HasFound, IsMissing, MayRecover, RecoverKnows, RecoveryStands}
 use Rattle.pc_recover.specs.Recovering.{Recovering, query_of, recover_of}
-use Rattle.pc_world.proofs.Exchange.{ever_later, has_more, heard_later, kept_later, later-itself, later-later, top_later}
+use Rattle.pc_world.proofs.Exchange.{ever_later, first_mapped, has_more, heard_later, kept_later, later-itself, later-later, top_later}
 use Rattle.pc_world.specs.Exchange.{HeardSince, IsLater, is_message}
 use Rattle.pc_world.specs.Known.{Known, first_if, known_after}
 use Rattle.pc_world.specs.Known.Traffic.{Heard}
 use Rattle.pc_world.specs.Known.Transactions.{Txn, txn_heard, txn_sent}
 use Rattle.pc_world.specs.Send.Recovery.{IsOwnName, MetStaging}
 use Rattle.pc_world.specs.Views.{anchor_heard, shows_view}
-
-first_mapped : (f : Txn → Txn) (is_open : Bool) (txns : List Txn) (t : Txn) → first_if is_open txns ≡ Some t → first_if is_open (map f txns) ≡ Some (f t)
-first_mapped f is_open [] t h = absurd cc
-first_mapped f true (x ∷ xs) t h = ap (option_map f) h
-first_mapped f false (x ∷ xs) t h = absurd cc
 
 -- A session's open transaction stays the same while it sends and hears.
 session_step : (number : ℕ) (by : Who) (event : Event) (h : Option Heard) (top high : ℕ) (k : Known) → IsTrue (is_message event) → k.top ≤ top → IsOwnName (actors.Session number) k by → IsOwnName (actors.Session number) (known_after event h top high k) by

@@ -1,5 +1,5 @@
 -- What is kept while an actor only sends and hears.
-use Rattle.std.proofs.Common.{◌≡◌, ℕ, ◌≤◌, max, List, [], ◌∷◌, ◌++◌, fold, All, Any, Option, Some, IsTrue, refl, sym, ap, ◌∙◌, subst, arith}
+use Rattle.std.proofs.Common.{◌≡◌, ℕ, ◌≤◌, max, Bool, true, false, List, [], ◌∷◌, ◌++◌, fold, map, All, Any, Option, Some, option_map, IsTrue, refl, sym, ap, ◌∙◌, subst, arith}
 use Rattle.std.proofs.lemmas.List.{append_assoc, append-nil}
 use Rattle.std.proofs.lemmas.List.Elements.{All-append, All-from_recursion, All-head, All-nil, All-push, All-tail, All-weaker}
 use Rattle.std.specs.List.{AllByRecursion as Each}
@@ -13,8 +13,9 @@ use Rattle.pc_proto.specs.declared.reply.Reply.{Reply}
 use Rattle.pc_proto.specs.declared.request.Request.{Request}
 use Rattle.pc_proto.specs.Stamps.{event_stamps, greatest_of, reply_stamps}
 use Rattle.pc_world.specs.Exchange.{HeardSince, HearsReply, IsExchange, IsLater, WasAnswered, is_message, known_from}
-use Rattle.pc_world.specs.Known.{Known, known_after, learn}
+use Rattle.pc_world.specs.Known.{Known, first_if, known_after, learn}
 use Rattle.pc_world.specs.Known.Clock.{high_after, top_after}
+use Rattle.pc_world.specs.Known.Transactions.{Txn}
 use Rattle.pc_world.specs.Known.Traffic.{Heard, heard_as, heard_by, reply_in, request_sent}
 
 module _ (P : Known → Type 0) (step : (event : Event) (h : Option Heard) (top high : ℕ) (k : Known) → IsTrue (is_message event) → k.top ≤ top → P k → P (known_after event h top high k)) where
@@ -64,6 +65,12 @@ pub record HasMore (since now : Known) : Type 0 where
   pub more : List Heard
   pub ever : now.heard ≡ since.heard ++ more
   pub in_call : now.heard_now ≡ since.heard_now ++ more
+
+-- the open transaction, with the same done to each
+pub first_mapped : (f : Txn → Txn) (is_open : Bool) (txns : List Txn) (t : Txn) → first_if is_open txns ≡ Some t → first_if is_open (map f txns) ≡ Some (f t)
+first_mapped f is_open [] t h = absurd cc
+first_mapped f true (x ∷ xs) t h = ap (option_map f) h
+first_mapped f false (x ∷ xs) t h = absurd cc
 
 longer : {X : Type 0} (xs before more new : List X) → xs ≡ before ++ more → xs ++ new ≡ before ++ (more ++ new)
 longer xs before more new e = ap (λ l. l ++ new) e ∙ append_assoc before more new
