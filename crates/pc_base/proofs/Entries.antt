@@ -31,10 +31,6 @@ module _ {K : Type 0} {cmp : K → K → Ordering} (order : IsTotalOrder cmp) (s
   flipped : (a b : K) → is_eq (cmp a b) ≡ same b a
   flipped a b = ap is_eq (order.antisymm a b) ∙ turned-equal (cmp b a) ∙ agrees b a
 
-  -- a key is itself
-  pub same_itself : (a : K) → same a a ≡ true
-  same_itself a = sym (agrees a a) ∙ ap is_eq (tied_itself order a)
-
   -- what is one key is one key beside any third
   pub same_beside : (a b c : K) → same a b ≡ true → same a c ≡ same b c
   same_beside a b c h = sym (agrees a c) ∙ ap is_eq (order.congr a b c (equal-only (cmp a b) (agrees a b ∙ h))) ∙ agrees b c

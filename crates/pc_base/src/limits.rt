@@ -24,8 +24,14 @@ pub const HEARTBEAT: u64 = 1_000_000_000;
 /// After how many nanoseconds of silence a transaction counts as dead.
 pub const EXPIRY: u64 = 5_000_000_000;
 
-/// The most entries of a run, where its workload doesn't say.
+/// The most entries of one actor, where the workload doesn't say.
 pub const DEFAULT_ENTRIES: u64 = 1_000_000;
+
+/// The least number of entries that a workload sets as its limit.
+pub const LEAST_ENTRIES: u64 = 64;
+
+/// The greatest number of entries that a workload sets as its limit.
+pub const MOST_ENTRIES: u64 = 4_294_967_295;
 
 /// How often a message is sent in all before its range counts as unavailable, where the workload doesn't say.
 pub const DEFAULT_TRIES: u32 = 4;

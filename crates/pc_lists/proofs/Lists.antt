@@ -121,12 +121,6 @@ module _ {X : Type 0} where
   length_set (x ∷ xs) zero w = refl
   length_set (x ∷ xs) (suc i) w = ap suc (length_set xs i w)
 
-  pub filter_filter : (p : X → Bool) (xs : List X) → ((x : X) → Contains xs x → p x ≡ true) → filter p xs ≡ xs
-  filter_filter p [] h = refl
-  filter_filter p (x ∷ xs) h =
-      ap (λ b. cond b (x ∷ filter p xs) (filter p xs)) (h x (contains_head x xs))
-      ∙ ap (λ ys. x ∷ ys) (filter_filter p xs (λ y c. h y (contains_tail x xs y c)))
-
 module _ {X Y : Type 0} where
   pub contains_map : (f : X → Y) (xs : List X) (a : X) → Contains xs a → Contains (map f xs) (f a)
   contains_map f [] a c = absurd (contains_nil a c)

@@ -1,5 +1,5 @@
--- Histories in which no stage is sent. Parallel commit alone sends stages, so that the laws of decisions and of the legal order are stated
--- for the histories without them until they are proved for all.
+-- Histories in which no stage is sent. Parallel commit alone sends stages: the histories of a program without it are such, and only for
+-- them are the kinds of reply in `Answering` proved. The laws are for all runs.
 use Rattle.std.specs.Prelude.{List, All, ⊤}
 use Rattle.pc_base.specs.declared.entry.Entry.{Entry}
 use Rattle.pc_proto.specs.declared.event.Event.{Event}
