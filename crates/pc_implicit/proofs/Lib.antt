@@ -22,6 +22,8 @@ pub mod Did
 pub mod Doing
 pub mod Doings
 pub mod Ended
+pub mod EpochRows
+pub mod Epochs
 pub mod Evals
 pub mod EvaluatedAt
 pub mod FailsSteps
@@ -42,6 +44,7 @@ pub mod ImplicitCommitted
 pub mod ImplicitFails
 pub mod ImplicitStands
 pub mod IntentKeys
+pub mod IntentMetas
 pub mod Keyed
 pub mod KnownOver
 pub mod LaidIntents

@@ -1,32 +1,23 @@
 -- What is so of the transaction and anchor of each meta in a range and in a request stays so over evaluation, and is so in the reply.
-use Rattle.std.proofs.Common.{ℕ, Bool, true, false, ◌&&◌, ◌==◌, not, nat_le, if◌then◌else◌, List, [], ◌∷◌, filter, Option, None, Some, IfSome}
+use Rattle.std.proofs.Common.{if◌then◌else◌, ℕ, Bool, true, false, ◌&&◌, not, List, [], ◌∷◌, Option, None, Some, IfSome}
 use Rattle.std.specs.List.{AllByRecursion as Each}
-use Rattle.std.specs.Option.{option_map_or}
-use Rattle.std.specs.Cmp.Lexicographic.{slice_cmp}
-use Rattle.std.specs.Ordering.{nat_cmp}
 use Rattle.std.specs.Prelude.{⊤}
 use Rattle.pc_base.specs.declared.transaction.TxnId.{TxnId}
 use Rattle.pc_base.specs.declared.transaction.Who.{Who}
 use Rattle.pc_base.specs.Keyed.{at}
-use Rattle.pc_base.specs.Span.{contains, key_below, same_key}
 use Rattle.pc_base.specs.Transaction.{same_txn, txn_cmp}
-use Rattle.pc_lists.proofs.Each.{each-at, each-choose, each-filter, each-insert, each-without}
-use Rattle.pc_proto.specs.declared.fate.Fate.{Fate}
-use Rattle.pc_proto.specs.declared.fate.Fate.TheVariants as fates
+use Rattle.pc_lists.proofs.Each.{each-at, each-insert, each-without}
 use Rattle.pc_proto.specs.declared.fate.Finding.{Finding}
 use Rattle.pc_proto.specs.declared.fate.Goal.{Goal}
 use Rattle.pc_proto.specs.declared.fate.Goal.TheVariants as goals
 use Rattle.pc_proto.specs.declared.meta.TxnMeta.{TxnMeta}
-use Rattle.pc_proto.specs.declared.record.Intent.{Intent}
 use Rattle.pc_proto.specs.declared.record.Record.{Record}
 use Rattle.pc_proto.specs.declared.record.Standing.TheVariants as standings
 use Rattle.pc_proto.specs.declared.record.Status.{Status}
-use Rattle.pc_proto.specs.declared.reply.Origin.{Origin}
 use Rattle.pc_proto.specs.declared.reply.Reply.{Reply}
 use Rattle.pc_proto.specs.declared.reply.Reply.TheVariants as replies
 use Rattle.pc_proto.specs.declared.request.Request.{Request}
 use Rattle.pc_proto.specs.declared.request.Request.TheVariants as requests
-use Rattle.pc_proto.specs.Intents.{first_other, fresh, grown, intent_at, kept_if, lesser_key, other_at, own_at}
 use Rattle.pc_proto.specs.Place.{Place, Nothing, Kept, Marked, Change, Stay, Become, Finish, after, is_decided, is_final, view_of}
 use Rattle.pc_proto.specs.RecordRows.{place_change, push_reply, table_for}
 use Rattle.pc_proto.specs.RecordRows.Abort.{abort}
@@ -40,16 +31,11 @@ use Rattle.pc_proto.specs.RecordRows.Remove.{remove}
 use Rattle.pc_proto.specs.RecordRows.Stage.{stage}
 use Rattle.pc_proto.specs.Requests.{subject}
 use Rattle.pc_proto.specs.Table.{Table, place_of, record_or_mark, records_after}
-use Rattle.pc_world.proofs.Stamps.Searches.{some-kept}
-use Rattle.pc_world.specs.Evaluation.{intents_after, reply, state_after}
-use Rattle.pc_world.specs.Evaluation.Get.{found_at, get_blocker, get_reply}
-use Rattle.pc_world.specs.Evaluation.IntentChange.{IntentChange, Leave, Lay, Drop, intents_with}
-use Rattle.pc_world.specs.Evaluation.Put.{PutOutcome, Stands, Lands, first_outcome, laid, outcome_of_put, overtaken, own_outcome, put_change, put_reply, write_ts}
+use Rattle.pc_world.specs.Evaluation.{reply, state_after}
 use Rattle.pc_world.specs.Evaluation.Query.{write_stands}
 use Rattle.pc_world.specs.Evaluation.Refresh.{refresh_reply, refuter_in}
-use Rattle.pc_world.specs.Evaluation.Resolve.{change_for}
-use Rattle.pc_world.specs.Evaluation.Scan.{rows_in, scan_reply}
 use Rattle.pc_world.specs.RangeState.{RangeState}
+use Rattle.pc_implicit.proofs.IntentMetas.{AreInReply, get-names, intents-have, meta_named, push-has, put-names, refresh-has, reply-either, scan-names}
 
 -- The transaction and the anchor that a request names.
 abbrev pub anchor_named : Request → Option (TxnId × List ℕ)
@@ -73,74 +59,24 @@ RequestHas Has request = IfSome (anchor_named request) (λ n. Has n.0 n.1)
 
 -- So has each holder, and each transaction that is listed.
 abbrev pub ReplyHas : (TxnId → List ℕ → Type 0) → Reply → Type 0
-ReplyHas Has (replies.Conflict holder ts key) = MetaHas Has holder
-ReplyHas Has (replies.Listed metas) = Each (MetaHas Has) metas
-ReplyHas Has reply = ⊤
+ReplyHas Has reply = AreInReply (MetaHas Has) reply
 
 -- So has the transaction of each intent and record.
 pub record StateHas (Has : TxnId → List ℕ → Type 0) (s : RangeState) : Type 0 where
   pub intents : Each (λ e. MetaHas Has e.1.meta) s.intents
   pub records : Each (λ e. MetaHas Has e.1.meta) s.table.records
 
+-- A meta whose transaction and anchor the request names has its anchor.
+pub brings : (Has : TxnId → List ℕ → Type 0) (request : Request) → RequestHas Has request → IfSome (meta_named request) (MetaHas Has)
+brings Has (requests.Put meta seq ts key value) h = h
+brings Has (requests.Beat meta ts now) h = h
+brings Has (requests.Stage meta ts now writes locks) h = h
+brings Has (requests.Commit meta ts locks) h = h
+brings Has (requests.Abort meta why locks) h = h
+brings Has (requests.Push holder by level now goal) h = h
+brings Has request h = tt
+
 module _ (Has : TxnId → List ℕ → Type 0) where
-  Own : Intent → Type 0
-  Own i = Has i.meta.id i.meta.anchor
-
-  -- What a change lays is so.
-  Lays : IntentChange → Type 0
-  Lays (Lay i) = Own i
-  Lays Leave = ⊤
-  Lays Drop = ⊤
-
-  found : (test : Intent → Bool) (key : List ℕ) (intents : List (List ℕ × Intent)) → Each (λ e. MetaHas Has e.1.meta) intents → IfSome (kept_if test (intent_at key intents)) Own
-  unfolding Own
-  found test key intents a = some-kept Own test (intent_at key intents) (each-at Own same_key key intents a)
-
-  with-change : (key : List ℕ) (c : IntentChange) (intents : List (List ℕ × Intent)) → Lays c → Each (λ e. MetaHas Has e.1.meta) intents → Each (λ e. MetaHas Has e.1.meta) (intents_with key c intents)
-  unfolding Lays Own
-  with-change key Leave intents h a = a
-  with-change key (Lay i) intents h a = each-insert Own (slice_cmp nat_cmp) key i intents h a
-  with-change key Drop intents h a = each-without Own same_key key intents a
-
-  laid-has : (meta : TxnMeta) (seq ts : ℕ) (value : Option (List ℕ)) (own : Option Intent) → MetaHas Has meta → IfSome own Own → Own (laid meta seq ts value own)
-  unfolding Own
-  laid-has meta seq ts value None h a = h
-  laid-has meta seq ts value (Some i) h a = by (i.meta.epoch == meta.epoch)
-    where
-      by : (b : Bool) → Own (if b then grown seq ts value i else fresh meta seq ts value)
-      by true = a
-      by false = h
-
-  own-lays : (meta : TxnMeta) (seq ts : ℕ) (key : List ℕ) (value : Option (List ℕ)) (own : Option Intent) (s : RangeState) → MetaHas Has meta → IfSome own Own → Lays (put_change (own_outcome meta seq ts key value own s))
-  unfolding Lays
-  own-lays meta seq ts key value own s h a = by (overtaken meta seq own) (laid meta seq (write_ts meta ts key own s) value own) (laid-has meta seq (write_ts meta ts key own s) value own h a)
-    where
-      by : (b : Bool) (i : Intent) → Own i → Lays (put_change (if b then Stands (option_map_or (λ j. j.ts) own 0) else Lands i))
-      by true i is = tt
-      by false i is = is
-
-  put-lays : (other : Option Intent) (outcome : PutOutcome) → Lays (put_change outcome) → Lays (put_change (first_outcome other outcome))
-  unfolding Lays
-  put-lays None outcome h = h
-  put-lays (Some i) outcome h = tt
-
-  settled-lays : (fate : Fate) (own : Option Intent) → IfSome own Own → Lays (change_for fate own)
-  unfolding Lays Own
-  settled-lays fate None a = tt
-  settled-lays (fates.Committed epoch ts) (Some i) a = tt
-  settled-lays fates.Aborted (Some i) a = tt
-  settled-lays (fates.Pending ts) (Some i) a = a
-
-  intents-have : (request : Request) (s : RangeState) → RequestHas Has request → Each (λ e. MetaHas Has e.1.meta) s.intents → Each (λ e. MetaHas Has e.1.meta) (intents_after request s)
-  intents-have (requests.Put meta seq ts key value) s h a =
-      with-change key (put_change (outcome_of_put meta seq ts key value s)) s.intents
-      (put-lays (other_at meta.id key s.intents) (own_outcome meta seq ts key value (own_at meta.id key s.intents) s)
-      (own-lays meta seq ts key value (own_at meta.id key s.intents) s h (found (λ i. same_txn i.meta.id meta.id) key s.intents a))) a
-  intents-have (requests.Resolve id key fate) s h a =
-      with-change key (change_for fate (own_at id key s.intents)) s.intents
-      (settled-lays fate (own_at id key s.intents) (found (λ i. same_txn i.meta.id id) key s.intents a)) a
-  intents-have request s h a = a
-
   -- The meta of the record there is so.
   PlaceHas : Place → Type 0
   PlaceHas (Kept r) = MetaHas Has r.meta
@@ -226,51 +162,7 @@ module _ (Has : TxnId → List ℕ → Type 0) where
 
   -- over evaluation
   pub state_has : (request : Request) (s : RangeState) → RequestHas Has request → StateHas Has s → StateHas Has (state_after request s)
-  state_has request s h a = record { intents = intents-have request s h a.intents; records = records-for (subject request) request s.table h a.records }
-
-  get-has : (blocker : Option Intent) (key : List ℕ) (what : Origin × Option (List ℕ)) → IfSome blocker Own → ReplyHas Has (get_reply blocker key what)
-  unfolding Own
-  get-has None key what a = tt
-  get-has (Some i) key what a = a
-
-  OwnEntry : List ℕ × Intent → Type 0
-  OwnEntry e = Has e.1.meta.id e.1.meta.anchor
-
-  lesser-has : (best : Option (List ℕ × Intent)) (e : List ℕ × Intent) → IfSome best OwnEntry → OwnEntry e → IfSome (lesser_key best e) OwnEntry
-  lesser-has None e h a = a
-  lesser-has (Some best) e h a = by (key_below e.0 best.0)
-    where
-      by : (b : Bool) → IfSome (if b then Some e else Some best) OwnEntry
-      by true = a
-      by false = h
-
-  scan-has : (blocker : Option (List ℕ × Intent)) (rows : List (List ℕ × Origin × List ℕ)) → IfSome blocker OwnEntry → ReplyHas Has (scan_reply blocker rows)
-  unfolding OwnEntry
-  scan-has None rows a = tt
-  scan-has (Some e) rows a = a
-
-  put-has : (key : List ℕ) (other : Option Intent) (meta : TxnMeta) (seq ts : ℕ) (value : Option (List ℕ)) (own : Option Intent) (s : RangeState) → IfSome other Own → ReplyHas Has (put_reply key (first_outcome other (own_outcome meta seq ts key value own s)))
-  unfolding Own
-  put-has key (Some i) meta seq ts value own s a = a
-  put-has key None meta seq ts value own s a = by (overtaken meta seq own)
-    where
-      by : (b : Bool) → ReplyHas Has (put_reply key (if b then Stands (option_map_or (λ j. j.ts) own 0) else Lands (laid meta seq (write_ts meta ts key own s) value own)))
-      by true = tt
-      by false = tt
-
-  refresh-has : (w : Option (List ℕ × ℕ)) → ReplyHas Has (refresh_reply w)
-  refresh-has None = tt
-  refresh-has (Some w) = tt
-
-  reply-either : (b : Bool) (r q : Reply) → ReplyHas Has r → ReplyHas Has q → ReplyHas Has (if b then r else q)
-  reply-either true r q x y = x
-  reply-either false r q x y = y
-
-  push-has : (v : Verdict) (before later : Place) → ReplyHas Has (push_reply v before later)
-  push-has There before later = tt
-  push-has Refuse before later = tt
-  push-has Doubt before later = tt
-  push-has Do before later = tt
+  state_has request s h a = record { intents = intents-have (MetaHas Has) request s (brings Has request h) a.intents; records = records-for (subject request) request s.table h a.records }
 
   listed-has : (records : List (TxnId × Record)) → Each (λ e. MetaHas Has e.1.meta) records → Each (MetaHas Has) (listed_metas records)
   listed-has [] a = tt
@@ -278,22 +170,15 @@ module _ (Has : TxnId → List ℕ → Type 0) where
 
   -- and in the reply
   pub reply_has : (request : Request) (s : RangeState) → StateHas Has s → ReplyHas Has (reply request s)
-  unfolding OwnEntry Own
-  reply_has (requests.Get id epoch seq ts key) s a =
-      get-has (get_blocker id ts key s) key (found_at id epoch seq ts key s)
-      (some-kept Own (λ i. nat_le i.ts ts) (other_at id key s.intents) (found (λ i. not (same_txn i.meta.id id)) key s.intents a.intents))
-  reply_has (requests.Scan id epoch seq ts span) s a =
-      scan-has (first_other span ts id s.intents) (rows_in id epoch seq ts span s)
-      (each-choose OwnEntry lesser_key lesser-has None (filter (λ e. contains span e.0 && (nat_le e.1.ts ts && not (same_txn e.1.meta.id id))) s.intents) tt
-      (each-filter OwnEntry (λ e. contains span e.0 && (nat_le e.1.ts ts && not (same_txn e.1.meta.id id))) s.intents a.intents))
-  reply_has (requests.Put meta seq ts key value) s a =
-      put-has key (other_at meta.id key s.intents) meta seq ts value (own_at meta.id key s.intents) s (found (λ i. not (same_txn i.meta.id meta.id)) key s.intents a.intents)
-  reply_has (requests.Refresh id from to span) s a = refresh-has (refuter_in id from to span s)
-  reply_has (requests.Query id epoch seq ts key by) s a = reply-either (write_stands id epoch seq ts key s) replies.Found replies.Missing tt tt
+  reply_has (requests.Get id epoch seq ts key) s a = get-names (MetaHas Has) id epoch seq ts key s a.intents
+  reply_has (requests.Scan id epoch seq ts span) s a = scan-names (MetaHas Has) id epoch seq ts span s a.intents
+  reply_has (requests.Put meta seq ts key value) s a = put-names (MetaHas Has) meta seq ts key value s a.intents
+  reply_has (requests.Refresh id from to span) s a = refresh-has (MetaHas Has) (refuter_in id from to span s)
+  reply_has (requests.Query id epoch seq ts key by) s a = reply-either (MetaHas Has) (write_stands id epoch seq ts key s) replies.Found replies.Missing tt tt
   reply_has (requests.Push holder by level now goal) s a =
       let p = place_of holder.id s.table in
-      reply-either (is_decided p) (replies.Status (view_of p)) (push_reply (push_verdict holder level now goal p) p (after p (push holder by level now goal p))) tt
-      (push-has (push_verdict holder level now goal p) p (after p (push holder by level now goal p)))
-  reply_has (requests.Remove id anchor) s a = let p = place_of id s.table in reply-either (is_decided p) replies.Removed (replies.Status (view_of p)) tt tt
+      reply-either (MetaHas Has) (is_decided p) (replies.Status (view_of p)) (push_reply (push_verdict holder level now goal p) p (after p (push holder by level now goal p))) tt
+      (push-has (MetaHas Has) (push_verdict holder level now goal p) p (after p (push holder by level now goal p)))
+  reply_has (requests.Remove id anchor) s a = let p = place_of id s.table in reply-either (MetaHas Has) (is_decided p) replies.Removed (replies.Status (view_of p)) tt tt
   reply_has requests.Records s a = listed-has s.table.records a.records
   reply_has request s a = tt

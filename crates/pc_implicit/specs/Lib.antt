@@ -2,6 +2,7 @@ pub mod Answers
 pub mod Causes
 pub mod Decided
 pub mod Ends
+pub mod Epochs
 pub mod Laws
 pub mod Outcomes
 pub mod Reads

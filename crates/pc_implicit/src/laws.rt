@@ -1,4 +1,5 @@
 ghost use Rattle.pc_implicit.specs.ReplyKinds.{RepliesHaveKinds};
+ghost use Rattle.pc_implicit.specs.Epochs.{OpenRecordsArePast};
 ghost use Rattle.pc_implicit.specs.Laws.{DecisionsStand, NothingFalls, LeftStagingsStayAway, BoundsStand, ViewsStayTrue, FinalViewsStay, DecisionsDoNotDiffer, CommitPointsDiffer, HoldersWereBegun, HeadsHaveHolders};
 
 /// A law: a final record or mark keeps its status for good.
@@ -54,4 +55,9 @@ pub fn holders_were_begun()
 /// A law: a transaction whose intent stands in a request's way is of a session of the run.
 pub fn heads_have_holders()
     ensures { HeadsHaveHolders }
+{}
+
+/// A law: a commit of the epoch that its session has reached, which leaves the record undecided, finds it past the commit's timestamp.
+pub fn open_records_are_past()
+    ensures { OpenRecordsArePast }
 {}
