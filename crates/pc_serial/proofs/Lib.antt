@@ -1,3 +1,15 @@
+pub mod AloneIntents
+pub mod AloneJobs
+pub mod AloneLow
+pub mod AloneMoved
+pub mod AlonePlain
+pub mod AloneRun
+pub mod AloneStanding
+pub mod AloneSteps
+pub mod AloneTimes
+pub mod AloneTimesOver
+pub mod AloneTimesRun
+pub mod AloneTold
 pub mod FirstRow
 pub mod FirstRun
 pub mod FoundWritten

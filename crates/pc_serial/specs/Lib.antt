@@ -1,3 +1,5 @@
+pub mod Alone
 pub mod FirstRow
 pub mod FirstRun
 pub mod Laws
+pub mod Plain

@@ -1,4 +1,5 @@
 ghost use Rattle.pc_serial.specs.Laws.{CommitsAreOrdered, CommittedOnce, HistoriesAreLegal, OneQuietSession, OneSessionRunsInTurn, SessionsGoInTurn};
+ghost use Rattle.pc_serial.specs.Plain.{OneSessionRunsPlainly};
 
 /// A law: the committed transactions are one legal history of a map.
 pub fn histories_are_legal()
@@ -28,4 +29,9 @@ pub fn one_session_runs_in_turn()
 /// A law: one session alone that hears each reply before it goes on is never told that messages were lost, and so runs on the plain map.
 pub fn one_quiet_session()
     ensures { OneQuietSession }
+{}
+
+/// A law: one session alone, whose messages go over a quiet wire and which finishes what is over, is told plain answers alone, and runs on the plain map.
+pub fn one_session_runs_plainly()
+    ensures { OneSessionRunsPlainly }
 {}

@@ -1,0 +1,106 @@
+-- One session alone is told plain answers.
+use Rattle.std.proofs.Common.{◌≡◌, ℕ, Bool, true, false, ◌&&◌, not, List, ◌∷◌, ◌++◌, Option, None, Some, Contains, inl, inr, sym, ap, subst, ◌∙◌}
+use Rattle.std.specs.Bool.{MatchBool}
+use Rattle.pc_base.specs.declared.entry.Entry.{Entry}
+use Rattle.pc_history.specs.History.{MayFollow}
+use Rattle.pc_implicit.proofs.Commits.{act_of}
+use Rattle.pc_implicit.proofs.Doing.{Does}
+use Rattle.pc_implicit.proofs.Evals.{range_evaluates}
+use Rattle.pc_proto.specs.declared.answer.Answer.{Answer}
+use Rattle.pc_proto.specs.declared.answer.Answer.TheVariants as answers
+use Rattle.pc_proto.specs.declared.call.Call.{Call}
+use Rattle.pc_proto.specs.declared.call.Call.TheVariants as calls
+use Rattle.pc_proto.specs.declared.event.Event.{Event}
+use Rattle.pc_proto.specs.declared.event.Event.TheVariants as events
+use Rattle.pc_serial.proofs.AloneMoved.{not_moved}
+use Rattle.pc_serial.proofs.AloneRun.{who}
+use Rattle.pc_serial.proofs.AloneStanding.{contains_split}
+use Rattle.pc_serial.proofs.AloneTimesRun.{low_at, never-restart}
+use Rattle.pc_serial.proofs.AloneTold.{abort_is_own, not_blocked}
+use Rattle.pc_serial.proofs.Quiet.{one_quiet_session}
+use Rattle.pc_serial.specs.Alone.{IsAlone, the_session}
+use Rattle.pc_serial.specs.Plain.{IsPlainTo, RunsPlainly, TellsPlainly}
+use Rattle.pc_world.proofs.Prefixes.{run_front, run_may}
+use Rattle.pc_world.specs.After.{known_at}
+use Rattle.pc_world.specs.Known.{Known, call_in}
+use Rattle.pc_world.specs.Known.Statements.{Statement}
+use Rattle.pc_world.specs.Local.{Head}
+use Rattle.pc_world.specs.MayTell.{IsLearnTold, MayTell, MayTellRow, is_past_range, needs_txn}
+use Rattle.pc_world.specs.Run.{IsRun, protocol}
+use Rattle.pc_world.specs.Send.Put.{AsksFor}
+
+plain-as : (one other : Call) (answer : Answer) → one ≡ other → IsPlainTo other answer → IsPlainTo one answer
+plain-as one other answer same is = subst (λ c. IsPlainTo c answer) (sym same) is
+
+written-plain : (call : Call) (key : List ℕ) (value : Option (List ℕ)) → AsksFor (Some call) key value → IsPlainTo call answers.Written
+written-plain call key None asks = let same : call ≡ calls.Delete key = cc asks in plain-as call (calls.Delete key) answers.Written same tt
+written-plain call key (Some value) asks = let same : call ≡ calls.Put key value = cc asks in plain-as call (calls.Put key value) answers.Written same tt
+
+learnt-plain : (met : Bool) (k : Known) (call : Call) → IsLearnTold met k call → IsPlainTo call answers.Learnt × IsPlainTo call answers.NotYet
+learnt-plain met k (calls.Learn id) is = (tt, tt)
+learnt-plain met k call is = absurd is
+
+module _ (head : Head) (whole : List (Entry Event)) (run : IsRun head whole) (alone : IsAlone head whole) where
+  module _ (before : List (Entry Event)) (e : Entry Event) (later : List (Entry Event)) (split : whole ≡ before ++ e ∷ later) (me : e.actor ≡ the_session) where
+    abbrev k : Known
+    k = known_at head the_session before
+
+    run_before : IsRun head before
+    run_before = run_front head before (e ∷ later) (subst (IsRun head) split run)
+
+    may : MayFollow (protocol head) before e
+    may = run_may head before e later (subst (IsRun head) split run)
+
+    plain-row : (s : Statement) (answer : Answer) → k.statement ≡ Some s → e.event ≡ events.Tell answer → MayTellRow head.splits the_session k s answer → IsPlainTo s.call answer
+    plain-row s (answers.Begun id ts) opened tells row = plain-as s.call (calls.Begin row.priority) (answers.Begun id ts) row.asked tt
+    plain-row s (answers.Value value) opened tells row = plain-as s.call (calls.Get row.key) (answers.Value value) row.asked tt
+    plain-row s (answers.Rows rows) opened tells row = plain-as s.call (calls.Scan row.span) (answers.Rows rows) row.asked tt
+    plain-row s answers.Written opened tells row = let (n, m, inside, at, f) = row.sent in written-plain s.call f.key f.value f.asked
+    plain-row s (answers.Committed id ts) opened tells row = plain-as s.call calls.Commit (answers.Committed id ts) row.asked tt
+    plain-row s (answers.RolledBack id why) opened tells row = plain-as s.call calls.Rollback (answers.RolledBack id why) row.asked tt
+    plain-row s answers.Learnt opened tells row = (learnt-plain true k s.call row).0
+    plain-row s answers.NotYet opened tells row = (learnt-plain false k s.call row).1
+    plain-row s answers.Done opened tells row = plain-as s.call calls.Round answers.Done row tt
+    plain-row s (answers.Blocked holder) opened tells row = absurd (not_blocked head whole run alone before run_before (e ∷ later) split the_session s holder row)
+    plain-row s (answers.Unavailable faults) opened tells row =
+        absurd ((one_quiet_session head whole run alone.one alone.quiet).1 e (answers.Unavailable faults) (subst (λ h. Contains h e) (sym split) (contains_split before e later)) tells tt)
+    plain-row s (answers.Unknown id) opened tells row =
+        absurd ((one_quiet_session head whole run alone.one alone.quiet).1 e (answers.Unknown id) (subst (λ h. Contains h e) (sym split) (contains_split before e later)) tells tt)
+    plain-row s (answers.Aborted why) opened tells row =
+        let call = abort_is_own head whole run alone before e later split row.t why row.opened me tells in
+        let same : s.call ≡ calls.Rollback = let both : ◌≡◌ {A = Option Call} (Some s.call) (Some calls.Rollback) = sym (ap call_in opened) ∙ call in cc both in
+        plain-as s.call calls.Rollback (answers.Aborted why) same tt
+    plain-row s (answers.Restart key ts) opened tells row =
+        absurd (never-restart head whole run alone before run_before e later split may (low_at head whole run alone before run_before (e ∷ later) split) me key ts row.heard)
+    plain-row s (answers.Moved ts) opened tells row = absurd (not_moved head whole run alone before run_before (e ∷ later) split s ts opened row)
+    plain-row s (answers.Clock reading) opened tells row = absurd row
+    plain-row s answers.NoTxn opened tells row = absurd row
+
+    plain-in : (a b : Bool) (P Q R S : Type 0) → (R → S) → MatchBool a P (MatchBool b Q R) → MatchBool a P (MatchBool b Q S)
+    plain-in true b P Q R S on m = m
+    plain-in false true P Q R S on m = m
+    plain-in false false P Q R S on m = on m
+
+    pub tells_plainly : (answer : Answer) → e.event ≡ events.Tell answer → MayTell head.splits the_session k answer → TellsPlainly head before answer
+    tells_plainly answer tells told = record {
+      s = told.s;
+      opened = told.opened;
+      plain =
+          plain-in (needs_txn told.s.call && not k.is_open) (is_past_range told.s) (answer ≡ answers.NoTxn) (answer ≡ answers.Clock told.s.reading)
+          (MayTellRow head.splits the_session k told.s answer) (IsPlainTo told.s.call answer) (plain-row told.s answer told.opened tells) told.told;
+    }
+
+-- one session alone runs plainly
+pub one_session_runs_plainly : (head : Head) (history : List (Entry Event)) → IsRun head history → IsAlone head history → RunsPlainly head history
+one_session_runs_plainly head history run alone = record {
+  answered = λ before e later answer split tells.
+      let may : MayFollow (protocol head) before e = run_may head before e later (subst (IsRun head) split run) in
+      elim (who head history run alone e.actor may.local.there) [
+        | inl me ↦
+            let act : Does head the_session (known_at head the_session before) (events.Tell answer) =
+            subst (λ a. Does head a (known_at head a before) (events.Tell answer)) me (subst (Does head e.actor (known_at head e.actor before)) tells (act_of head before e may)) in
+            tells_plainly head history run alone before e later split me answer tells act
+        | inr at ↦ let what = range_evaluates head before e at.0 may at.1 in absurd (let both = sym tells ∙ what.3 in cc both)
+      ];
+  in_turn = (one_quiet_session head history run alone.one alone.quiet).0;
+}

@@ -1,0 +1,5 @@
+use Rattle.pc_serial.proofs.AlonePlain.{one_session_runs_plainly}
+use Rattle.pc_serial.proofs.laws.one_session_runs_plainly.Goals as goal
+
+pub returns : goal.returns
+returns c = one_session_runs_plainly
