@@ -1,11 +1,8 @@
 -- One session alone is told plain answers.
-use Rattle.std.proofs.Common.{◌≡◌, ℕ, Bool, true, false, ◌&&◌, not, List, ◌∷◌, ◌++◌, Option, None, Some, Contains, inl, inr, sym, ap, subst, ◌∙◌}
+use Rattle.std.proofs.Common.{◌≡◌, ℕ, Bool, true, false, ◌&&◌, not, List, ◌∷◌, ◌++◌, Option, None, Some, Contains, sym, ap, subst, ◌∙◌}
 use Rattle.std.specs.Bool.{MatchBool}
 use Rattle.pc_base.specs.declared.entry.Entry.{Entry}
 use Rattle.pc_history.specs.History.{MayFollow}
-use Rattle.pc_implicit.proofs.Commits.{act_of}
-use Rattle.pc_implicit.proofs.Doing.{Does}
-use Rattle.pc_implicit.proofs.Evals.{range_evaluates}
 use Rattle.pc_proto.specs.declared.answer.Answer.{Answer}
 use Rattle.pc_proto.specs.declared.answer.Answer.TheVariants as answers
 use Rattle.pc_proto.specs.declared.call.Call.{Call}
@@ -13,13 +10,12 @@ use Rattle.pc_proto.specs.declared.call.Call.TheVariants as calls
 use Rattle.pc_proto.specs.declared.event.Event.{Event}
 use Rattle.pc_proto.specs.declared.event.Event.TheVariants as events
 use Rattle.pc_serial.proofs.AloneMoved.{not_moved}
-use Rattle.pc_serial.proofs.AloneRun.{who}
 use Rattle.pc_serial.proofs.AloneStanding.{contains_split}
 use Rattle.pc_serial.proofs.AloneTimesRun.{low_at, never-restart}
 use Rattle.pc_serial.proofs.AloneTold.{abort_is_own, not_blocked}
 use Rattle.pc_serial.proofs.Quiet.{one_quiet_session}
 use Rattle.pc_serial.specs.Alone.{IsAlone, the_session}
-use Rattle.pc_serial.specs.Plain.{IsPlainTo, RunsPlainly, TellsPlainly}
+use Rattle.pc_serial.specs.Plain.{IsPlainTo, TellsPlainly}
 use Rattle.pc_world.proofs.Prefixes.{run_front, run_may}
 use Rattle.pc_world.specs.After.{known_at}
 use Rattle.pc_world.specs.Known.{Known, call_in}
@@ -89,18 +85,3 @@ module _ (head : Head) (whole : List (Entry Event)) (run : IsRun head whole) (al
           plain-in (needs_txn told.s.call && not k.is_open) (is_past_range told.s) (answer ≡ answers.NoTxn) (answer ≡ answers.Clock told.s.reading)
           (MayTellRow head.splits the_session k told.s answer) (IsPlainTo told.s.call answer) (plain-row told.s answer told.opened tells) told.told;
     }
-
--- one session alone runs plainly
-pub one_session_runs_plainly : (head : Head) (history : List (Entry Event)) → IsRun head history → IsAlone head history → RunsPlainly head history
-one_session_runs_plainly head history run alone = record {
-  answered = λ before e later answer split tells.
-      let may : MayFollow (protocol head) before e = run_may head before e later (subst (IsRun head) split run) in
-      elim (who head history run alone e.actor may.local.there) [
-        | inl me ↦
-            let act : Does head the_session (known_at head the_session before) (events.Tell answer) =
-            subst (λ a. Does head a (known_at head a before) (events.Tell answer)) me (subst (Does head e.actor (known_at head e.actor before)) tells (act_of head before e may)) in
-            tells_plainly head history run alone before e later split me answer tells act
-        | inr at ↦ let what = range_evaluates head before e at.0 may at.1 in absurd (let both = sym tells ∙ what.3 in cc both)
-      ];
-  in_turn = (one_quiet_session head history run alone.one alone.quiet).0;
-}

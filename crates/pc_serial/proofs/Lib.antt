@@ -1,9 +1,11 @@
+pub mod AloneEnds
 pub mod AloneIntents
 pub mod AloneJobs
 pub mod AloneLow
 pub mod AloneMoved
 pub mod AlonePlain
 pub mod AloneRun
+pub mod AloneRunsPlainly
 pub mod AloneStanding
 pub mod AloneSteps
 pub mod AloneTimes

@@ -1,8 +1,9 @@
 -- Plain answers: what a call is told where nobody stands in its way and no message is lost. One session alone, on a quiet wire, is told nothing
 -- else, and its committed transactions run on the plain map in the order of their begins.
 use Rattle.std.specs.Bool.{MatchBool}
-use Rattle.std.specs.Prelude.{◌≡◌, ◌&&◌, not, Some, List, ◌∷◌, ◌++◌, ⊤}
+use Rattle.std.specs.Prelude.{◌≡◌, ℕ, ◌&&◌, not, ◌⊎◌, Some, List, ◌∷◌, ◌++◌, Any, ⊤}
 use Rattle.pc_base.specs.declared.entry.Entry.{Entry}
+use Rattle.pc_base.specs.declared.transaction.TxnId.{TxnId}
 use Rattle.pc_proto.specs.declared.answer.Answer.{Answer}
 use Rattle.pc_proto.specs.declared.answer.Answer.TheVariants as answers
 use Rattle.pc_proto.specs.declared.call.Call.{Call}
@@ -12,8 +13,11 @@ use Rattle.pc_proto.specs.declared.event.Event.TheVariants as events
 use Rattle.pc_serial.specs.Alone.{IsAlone, the_session}
 use Rattle.pc_serial.specs.Laws.{RunsInTurn}
 use Rattle.pc_world.specs.After.{known_at}
-use Rattle.pc_world.specs.Known.{Known}
+use Rattle.pc_world.specs.Committed.{IsCommitted}
+use Rattle.pc_world.specs.Decisions.{TellsCommit}
+use Rattle.pc_world.specs.Known.{Known, call_of, open_txn}
 use Rattle.pc_world.specs.Known.Statements.{Statement}
+use Rattle.pc_world.specs.Known.Transactions.{Txn}
 use Rattle.pc_world.specs.Local.{Head}
 use Rattle.pc_world.specs.MayTell.{is_past_range, needs_txn}
 use Rattle.pc_world.specs.Run.{IsRun}
@@ -47,10 +51,19 @@ pub record TellsPlainly (head : Head) (before : List (Entry Event)) (answer : An
   pub opened : (known_at head the_session before).statement ≡ Some s
   pub plain : IsPlainAnswer (known_at head the_session before) s answer
 
--- The session is told plain answers alone, and runs in turn.
+-- The transaction is open in a commit.
+pub record IsOpenInCommit (head : Head) (history : List (Entry Event)) (id : TxnId) : Type 0 where
+  pub t : Txn
+  pub opened : open_txn (known_at head the_session history) ≡ Some t
+  pub whose : t.id ≡ id
+  pub asked : call_of (known_at head the_session history) ≡ Some calls.Commit
+
+-- The session is told plain answers alone; the committed transactions are those whose commit was told, but for one whose commit is still open;
+-- and they run in turn.
 pub record RunsPlainly (head : Head) (history : List (Entry Event)) : Type 0 where
   pub answered : (before : List (Entry Event)) (e : Entry Event) (later : List (Entry Event)) (answer : Answer)
       → history ≡ before ++ e ∷ later → e.event ≡ events.Tell answer → TellsPlainly head before answer
+  pub committed : (id : TxnId) (ts : ℕ) → IsCommitted head history id ts → Any (λ e. TellsCommit id ts e.event) history ⊎ IsOpenInCommit head history id
   pub in_turn : RunsInTurn head history
 
 -- One session alone runs plainly: it is never told that it is blocked, that it has to restart, that its commit was moved or is unknown, that

@@ -1,4 +1,4 @@
-use Rattle.pc_serial.proofs.AlonePlain.{one_session_runs_plainly}
+use Rattle.pc_serial.proofs.AloneRunsPlainly.{one_session_runs_plainly}
 use Rattle.pc_serial.proofs.laws.one_session_runs_plainly.Goals as goal
 
 pub returns : goal.returns
