@@ -1,9 +1,21 @@
 -- One session alone: what stands along a run. No request ever meets an intent of another transaction.
-use Rattle.std.proofs.Common.{◌≡◌, ◌≢◌, ℕ, ◌+◌, true, false, ◌==◌, List, [], ◌∷◌, ◌++◌, length, ◌⊎◌, inl, inr, Option, Some, All, Any, Contains, IsTrue, refl, sym, ap, subst, ◌∙◌, arith, append_assoc, append-nil}
+use Rattle.std.proofs.Common.{◌≡◌, ◌≢◌, ℕ, ◌+◌, Bool, None, true, false, ◌==◌, List, [], ◌∷◌, ◌++◌, length, ◌⊎◌, inl, inr, Option, Some, All, Any, Contains, IsTrue, refl, sym, ap, subst, ◌∙◌, arith, append_assoc, append-nil, cond, not, IfSome}
 use Rattle.std.proofs.lemmas.Bool.{and_from, eq-eqb, eqb-true}
 use Rattle.std.proofs.lemmas.List.Elements.{All-contains, Contains-append_left, Contains-push_cases}
 use Rattle.std.proofs.lemmas.List.Folds.{Any-from_list_any}
 use Rattle.std.specs.List.{AllByRecursion as Each}
+use Rattle.std.specs.Option.{option_to_list}
+use Rattle.pc_implicit.proofs.Agreed.{open_is}
+use Rattle.pc_proto.specs.declared.answer.Answer.{Answer}
+use Rattle.pc_serial.proofs.AloneWrites.{AreAwaited, IsPutOfWrite, Lays, awaited_heard, awaited_sent, none_awaited}
+use Rattle.pc_lists.proofs.Lists.{contains_cons, contains_head, contains_nil, contains_tail}
+use Rattle.pc_world.specs.Caused.{Evaluates, IsCaused}
+use Rattle.pc_world.specs.Known.{Known, known_after, learn, told_first, txn_begun, txns_told}
+use Rattle.pc_world.specs.Known.Statements.{Statement}
+use Rattle.pc_world.specs.Known.Traffic.{Heard, Sent, heard_by, replies_to, request_sent}
+use Rattle.pc_world.specs.Known.Transactions.{Txn, txn_told}
+use Rattle.pc_world.specs.Known.Writes.{Write, is_proved, writes_told}
+use Rattle.pc_world.specs.MaySend.{MaySend}
 use Rattle.pc_base.specs.declared.actor.ActorId.{ActorId}
 use Rattle.pc_base.specs.declared.actor.ActorId.TheVariants as actors
 use Rattle.pc_base.specs.declared.entry.Entry.{Entry}
@@ -17,15 +29,14 @@ use Rattle.pc_implicit.proofs.Doing.{same_or_not}
 use Rattle.pc_implicit.proofs.Evals.{NamedMessage, of_entry, range_evaluates}
 use Rattle.pc_implicit.proofs.EvaluatedAt.{goes_to, one_sent}
 use Rattle.pc_implicit.proofs.Fronts.{split_there}
-use Rattle.pc_implicit.proofs.Hearing.{heard_is_so, now_is_so, sent_is_so}
+use Rattle.pc_implicit.proofs.Hearing.{heard-event, heard_is_so, now_is_so, sent_is_so}
 use Rattle.pc_implicit.proofs.OwnKeys.{Ends}
 use Rattle.pc_implicit.proofs.Recorded.{evaluated_state}
 use Rattle.pc_implicit.proofs.ReplyKinds.{replies_have_kinds}
 use Rattle.pc_implicit.proofs.Runs.{reply_is}
-use Rattle.pc_implicit.proofs.Shown.{shown}
+use Rattle.pc_implicit.proofs.Shown.{WasAnswered, shown}
 use Rattle.pc_implicit.specs.ReplyKinds.{IsOfKind}
 use Rattle.pc_lists.proofs.Each.{each-contains, each-weaker}
-use Rattle.pc_lists.proofs.Lists.{contains_nil}
 use Rattle.pc_proto.specs.declared.answer.Answer.TheVariants as answers
 use Rattle.pc_proto.specs.declared.event.Event.{Event}
 use Rattle.pc_proto.specs.declared.event.Event.TheVariants as events
@@ -48,13 +59,9 @@ use Rattle.pc_world.proofs.Knowing.{known_other, known_same, state_other}
 use Rattle.pc_world.proofs.Prefixes.{run_induction, run_may}
 use Rattle.pc_world.proofs.World.{names_one}
 use Rattle.pc_world.specs.After.{known_at, state_at}
-use Rattle.pc_world.specs.Caused.{Evaluates}
 use Rattle.pc_world.specs.Evaluation.{reply as reply_of, state_after}
 use Rattle.pc_world.specs.Follows.FinishingJobs.{jobs_after, jobs_of}
-use Rattle.pc_world.specs.Known.{Known, learn}
 use Rattle.pc_world.specs.Known.Clock.{high_after, top_after}
-use Rattle.pc_world.specs.Known.Traffic.{Heard, Sent, heard_by, request_sent}
-use Rattle.pc_world.specs.Known.Transactions.{Txn}
 use Rattle.pc_world.specs.Local.{Head, IsActorOf, MayComeNext, MayDo}
 use Rattle.pc_world.specs.Named.{is_send_of, request_in}
 use Rattle.pc_world.specs.RangeOf.{GoesTo, range_of}
@@ -80,6 +87,41 @@ pub record StandsAll (head : Head) (history : List (Entry Event)) : Type 0 where
   pub stands : StandsAs history (known_at head the_session history) (jobs_at head history)
   pub kept : (range : ℕ) → Each (IsOne (last_of (known_at head the_session history)) (IsKept head history (known_at head the_session history) (jobs_at head history) range)) (state_at head range history).intents
   pub clear : (x : Entry Event) → Contains history x → MeetsNone x.event
+  pub awaited : AreAwaited (known_at head the_session history) (known_at head the_session history).txns
+
+-- what an answer leaves of the writes was there
+told-writes : (answer : Answer) (k : Known) (u : Txn) → Contains (txns_told answer k) u → (w : Write) → Contains u.writes w → (t : Txn) × Contains k.txns t × Contains t.writes w
+told-writes answer k u there w written = by answer there
+  where
+    begun : (s : Option Statement) (id : TxnId) (ts : ℕ) → (txn_begun s id ts).writes ≡ []
+    begun None id ts = refl
+    begun (Some s) id ts = refl
+
+    of-told : (answer : Answer) (ws : List Write) → Contains (writes_told answer ws) w → Contains ws w
+    of-told (answers.Restart key ts) ws inside = absurd (contains_nil w inside)
+    of-told answer ws inside = inside
+
+    first : (answer : Answer) (replied : List Heard) (txns : List Txn) → Contains (told_first answer replied txns) u → (t : Txn) × Contains txns t × Contains t.writes w
+    first answer replied [] inside = absurd (contains_nil u inside)
+    first answer replied (t ∷ ts) inside = elim (contains_cons (txn_told answer replied t) ts u inside) [
+      | inl same ↦ (t, contains_head t ts, of-told answer t.writes (subst (λ (x : Txn). Contains x.writes w) (sym same) written))
+      | inr later ↦ (u, contains_tail t ts u later, written)
+    ]
+
+    when : (answer : Answer) (replied : List Heard) (b : Bool) (txns : List Txn) → Contains (cond b (told_first answer replied txns) txns) u → (t : Txn) × Contains txns t × Contains t.writes w
+    when answer replied true txns inside = first answer replied txns inside
+    when answer replied false txns inside = (u, inside, written)
+
+    by : (answer : Answer) → Contains (txns_told answer k) u → (t : Txn) × Contains k.txns t × Contains t.writes w
+    by (answers.Begun id ts) inside = elim (contains_cons (txn_begun k.statement id ts) k.txns u inside) [
+      | inl same ↦ absurd (contains_nil w (subst (λ ws. Contains ws w) (sym (ap (λ (x : Txn). x.writes) same) ∙ begun k.statement id ts) written))
+      | inr later ↦ (u, later, written)
+    ]
+    by answer inside = when answer (replies_to k.sent_now k.heard_now) k.is_open k.txns inside
+
+not-proved : (b : Bool) → IsTrue (not b) → b ≡ false
+not-proved true is = cc is
+not-proved false is = refl
 
 module _ (head : Head) (whole : List (Entry Event)) (run : IsRun head whole) (alone : IsAlone head whole) where
   -- who does an entry
@@ -325,6 +367,7 @@ module _ (head : Head) (whole : List (Entry Event)) (run : IsRun head whole) (al
               kept = λ r. subst (λ l. Each (IsOne (last_of l) (IsKept head after l (jobs_at head after) r)) (state_at head r after).intents) (sym same)
                   (subst (λ js. Each (IsOne (last_of k) (IsKept head after k js r)) (state_at head r after).intents) (sym jobs) (kept-there r));
               clear = clear-more evaluates-clear;
+              awaited = subst (λ (l : Known). AreAwaited l l.txns) (sym same) st.awaited;
             }
 
       -- ---- the session goes on
@@ -351,6 +394,73 @@ module _ (head : Head) (whole : List (Entry Event)) (run : IsRun head whole) (al
             let is = m.2 in
             absurd (let no : ⊥ = omega (arith, low, is, next) in no)
 
+        puts : (number range : ℕ) (meta : TxnMeta) (seq ts : ℕ) (key : List ℕ) (value : Option (List ℕ)) → MaySend head.splits the_session k number range (requests.Put meta seq ts key value) → (meta.id ≡ last_of k) × (k.is_open ≡ true)
+        puts number range meta seq ts key value sends = elim sends.row [
+          | inl f ↦ (ap (λ (m : TxnMeta). m.id) f.whose ∙ st.stands.first f.t f.opened, (open_is k.is_open k.txns f.t f.opened).0)
+          | inr a ↦ let w = st.awaited a.t a.mine a.w a.written (not-proved (is_proved a.w) a.unproved) in (ap (λ (m : TxnMeta). m.id) a.whose.same ∙ w.0, w.1)
+        ]
+
+        all-heard : IsTalk e.event → (m : Sent) → Contains k.sent m → is_heard k.heard m ≡ true
+        all-heard talks m there =
+            let quiet = subst (λ a. All (λ m. IsTrue (is_heard (known_at head a history).heard m)) (known_at head a history).sent) me (alone.quiet history e later split talks) in
+            All-contains (λ m. IsTrue (is_heard k.heard m)) k.sent m quiet there
+
+        unheard-new : (m : Sent) → length k.sent + 1 ≡ m.number → is_heard k.heard m ≡ false
+        unheard-new m next = by (is_heard k.heard m) refl
+          where
+            by : (b : Bool) → is_heard k.heard m ≡ b → is_heard k.heard m ≡ false
+            by true is = absurd (unsent m.number next (heard-evaluated m is))
+            by false is = is
+
+        -- what a reply that is heard says
+        hears-so : (g : Option Heard) → IfSome g (λ h. WasAnswered head history the_session h.number h.request h.reply)
+            → IfSome g (λ h. (IsOfKind h.request h.reply) × (is_conflict h.reply ≡ false) × ((m : Sent) → Contains k.sent m → h.number ≡ m.number → m.request ≡ h.request))
+        hears-so None is = tt
+        hears-so (Some h) w = (
+          subst (IsOfKind h.request) (sym w.answers) (replies_have_kinds head w.front w.range h.request),
+          subst MeetsNone w.told (st.clear w.eval w.evaluated),
+          λ m there same.
+              let x = each-contains _ k.sent m (sent_is_so head history before the_session) there in
+              let sends : x.send.event ≡ events.Send h.number m.range m.request = x.sends ∙ ap (λ n. events.Send n m.range m.request) (sym same) in
+              let one = one_sent head history before the_session h.number h.reply x.send w.send m.range w.range m.request h.request x.listed w.listed x.whose w.whose sends w.sends in
+              let both : events.Send h.number m.range m.request ≡ events.Send h.number w.range h.request = sym sends ∙ ap (λ (y : Entry Event). y.event) one ∙ w.sends in
+              cc both,
+        )
+
+        lays-last : (number range : ℕ) (request : Request) → MaySend head.splits the_session k number range request → (id : TxnId) (epoch : ℕ) (w : Write) → Lays id epoch request w → (id ≡ last_of k) × (k.is_open ≡ true)
+        lays-last number range request sends id epoch w lays = by request sends lays.put
+          where
+            by : (request : Request) → MaySend head.splits the_session k number range request → IsPutOfWrite id epoch w request → (id ≡ last_of k) × (k.is_open ≡ true)
+            by (requests.Put meta seq ts key value) sends put = let is = puts number range meta seq ts key value sends in (sym put.0 ∙ is.0, is.1)
+            by request sends put = absurd put
+
+        -- the writes that are not proved, by the event
+        awaits : (event : Event) (g : Option Heard) (top high : ℕ) → g ≡ heard_by event (named_in (protocol head) history e.event) k.sent → MayDo head the_session k event
+            → (IsTalk event → (m : Sent) → Contains k.sent m → is_heard k.heard m ≡ true)
+            → IfSome g (λ h. WasAnswered head history the_session h.number h.request h.reply)
+            → AreAwaited (known_after event g top high k) (known_after event g top high k).txns
+        awaits (events.Ask call reading) g top high none may_do all so = λ t there w written unproved. absurd (none_awaited k st.awaited (all tt) t there w written unproved)
+        awaits (events.Send number range request) g top high none may_do all so =
+            awaited_sent k st.awaited (known_after (events.Send number range request) g top high k) number range request refl (ap (λ o. k.heard ++ option_to_list o) none ∙ append-nil k.heard) refl refl
+            (unheard-new (record { number = number; range = range; request = request }) (sym may_do.next)) (lays-last number range request may_do)
+        awaits (events.Eval sender sent told) g top high none may_do all so = absurd may_do
+        awaits (events.Hear number step) g top high none may_do all so =
+            awaited_heard k st.awaited (known_after (events.Hear number step) g top high k) g (append-nil k.sent) refl refl refl (hears-so g so)
+        awaits (events.Tell answer) g top high none may_do all so = λ u there w written unproved.
+            let t = told-writes answer k u there w written in
+            absurd (none_awaited k st.awaited (all tt) t.0 t.1 w t.2 unproved)
+        awaits (events.Meet id step) g top high none may_do all so = λ t there w written unproved.
+            let a = st.awaited t there w written unproved in (
+              a.0,
+              a.1,
+              record {
+                m = a.2.m;
+                listed = subst (λ l. Contains l a.2.m) (sym (append-nil k.sent)) a.2.listed;
+                put = a.2.put;
+                unheard = subst (λ l. is_heard l a.2.m ≡ false) (sym (ap (λ o. k.heard ++ option_to_list o) none ∙ append-nil k.heard)) a.2.unheard;
+              },
+            )
+
         known-commit : (id : TxnId) → e.event ≡ events.Tell (answers.Unknown id) → ⊥
         known-commit id is =
             (one_quiet_session head whole run alone.one alone.quiet).1 e (answers.Unknown id) (subst (λ h. Contains h e) (sym split) (contains_split history e later)) is tt
@@ -361,7 +471,7 @@ module _ (head : Head) (whole : List (Entry Event)) (run : IsRun head whole) (al
         goes : Goes head history after k learnt (jobs_at head history) (jobs_after e.event k (jobs_at head history))
         goes =
             let named = named_in (protocol head) history e.event in
-            session_step head history after k (jobs_at head history) st.stands evaluated-more still unsent aborts-known aborted-known e.event (heard_by e.event named k.sent)
+            session_step head history after k (jobs_at head history) st.stands evaluated-more still unsent puts aborts-known aborted-known e.event (heard_by e.event named k.sent)
             (top_after e.event named k.top) (high_after e.event named k.high) acts tidy all-done known-commit
 
         nothing-met : (event : Event) → MayDo head the_session k event → MeetsNone event
@@ -386,6 +496,11 @@ module _ (head : Head) (whole : List (Entry Event)) (run : IsRun head whole) (al
                   subst (λ l. Each (IsOne (last_of l) (IsKept head after l (jobs_at head after) r)) (state_at head r after).intents) (sym same)
                   (subst (λ js. Each (IsOne (last_of learnt) (IsKept head after learnt js r)) (state_at head r after).intents) (sym jobs) there);
               clear = clear-more (nothing-met e.event acts);
+              awaited =
+                  let named = named_in (protocol head) history e.event in
+                  subst (λ (l : Known). AreAwaited l l.txns) (sym same)
+                  (awaits e.event (heard_by e.event named k.sent) (top_after e.event named k.top) (high_after e.event named k.high) refl acts all-heard
+                  (heard-event head history before the_session e.event (subst (IsCaused history e.event) me may.caused)));
             }
 
   StandsOn : List (Entry Event) → Type 0
@@ -404,6 +519,7 @@ module _ (head : Head) (whole : List (Entry Event)) (run : IsRun head whole) (al
     };
     kept = λ range. tt;
     clear = λ x there. absurd (contains_nil x there);
+    awaited = λ t there. absurd (contains_nil t there);
   }) (λ history e before may all later split.
       let on : whole ≡ history ++ e ∷ later = split ∙ append_assoc history (e ∷ []) later in
       let st = all (e ∷ later) on in

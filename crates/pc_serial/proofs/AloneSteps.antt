@@ -5,7 +5,7 @@ use Rattle.std.specs.List.{AllByRecursion as Each}
 use Rattle.std.specs.Prelude.{is_some}
 use Rattle.pc_base.specs.declared.entry.Entry.{Entry}
 use Rattle.pc_base.specs.declared.transaction.TxnId.{TxnId}
-use Rattle.pc_implicit.proofs.Agreed.{begun_next, open_is, open_there}
+use Rattle.pc_implicit.proofs.Agreed.{begun_next, open_there}
 use Rattle.pc_implicit.proofs.Doing.{told_by_row}
 use Rattle.pc_proto.specs.declared.answer.Answer.{Answer}
 use Rattle.pc_proto.specs.declared.answer.Answer.TheVariants as answers
@@ -13,11 +13,12 @@ use Rattle.pc_proto.specs.declared.call.Call.{Call}
 use Rattle.pc_proto.specs.declared.event.Event.{Event}
 use Rattle.pc_proto.specs.declared.event.Event.TheVariants as events
 use Rattle.pc_proto.specs.declared.fate.Fate.{Fate}
+use Rattle.pc_proto.specs.declared.meta.TxnMeta.{TxnMeta}
 use Rattle.pc_proto.specs.declared.request.Request.{Request}
 use Rattle.pc_proto.specs.declared.request.Request.TheVariants as requests
 use Rattle.pc_proto.specs.declared.why.Why.{Why}
 use Rattle.pc_proto.specs.Requests.{is_abort_of}
-use Rattle.pc_serial.proofs.AloneJobs.{HasLock, HasMessage, IsFinishing, IsLocked, LeavesSettling, finishing_first, finishing_left, finishing_with, finishing_without, leaves_committed, leaves_if, locked_heard, locked_put, locked_sent, locked_told, message_left, message_new, message_none}
+use Rattle.pc_serial.proofs.AloneJobs.{HasLock, HasMessage, IsFinishing, IsLocked, LeavesSettling, finishing_left, finishing_with, finishing_without, leaves_committed, leaves_if, locked_heard, locked_put, locked_sent, locked_told, message_left, message_new, message_none}
 use Rattle.pc_serial.proofs.AloneStanding.{IsEvaluated, IsKept, IsOfLast, IsWaiting, StandsAs, WillSettle, begun-id, first-mapped, first-told, last_of}
 use Rattle.pc_serial.specs.Alone.{IsTidy, the_session}
 use Rattle.pc_serial.specs.Laws.{IsTalk}
@@ -45,6 +46,7 @@ evaluates_nothing head k event number may is = is
 module _ (head : Head) (history after : List (Entry Event)) (k : Known) (jobs : List (List Request)) (st : StandsAs history k jobs)
     (more : (number : ℕ) → IsEvaluated number history → IsEvaluated number after) (still : (number : ℕ) → IsEvaluated number after → IsEvaluated number history)
     (unsent : (number : ℕ) → length k.sent + 1 ≡ number → IsEvaluated number history → ⊥)
+    (puts : (number range : ℕ) (meta : TxnMeta) (seq ts : ℕ) (key : List ℕ) (value : Option (List ℕ)) → MaySend head.splits the_session k number range (requests.Put meta seq ts key value) → (meta.id ≡ last_of k) × (k.is_open ≡ true))
     (aborts : (t : Txn) → Any (λ h. IsTrue (is_abort_of t.id h.request)) k.heard_now → (fate : Fate) × (fate_heard t.id k.heard ≡ Some fate))
     (aborted : (t : Txn) (why : Why) → WasAborted k.heard t.id why → (fate : Fate) × (fate_heard t.id k.heard ≡ Some fate)) where
   -- what waits goes on to wait
@@ -224,14 +226,9 @@ module _ (head : Head) (history after : List (Entry Event)) (k : Known) (jobs : 
       → IsOfLast (known_after (events.Send number range request) g top high k) request
   new-last number range (requests.Get id epoch seq ts key) g top high may tidy = may.row.read.whose ∙ st.first may.row.t may.row.opened
   new-last number range (requests.Scan id epoch seq ts span) g top high may tidy = may.row.read.whose ∙ st.first may.row.t may.row.opened
-  new-last number range (requests.Put meta seq ts key value) g top high may tidy = by k.statement refl
-    where
-      by : (o : Option Statement) → k.statement ≡ o → IsOfLast (known_after (events.Send number range (requests.Put meta seq ts key value)) g top high k) (requests.Put meta seq ts key value)
-      by (Some s) is =
-          let own = (tidy.writes s is).0 in
-          let named : meta.id ≡ last_of k = own.whose ∙ st.first own.t own.opened in
-          (named, (open_is k.is_open k.txns own.t own.opened).0, subst (λ i. IsLocked i key (map (txn_sent (requests.Put meta seq ts key value)) k.txns)) named (locked_put meta seq ts key value k.txns))
-      by None is = absurd (finishing_first jobs (requests.Put meta seq ts key value) st.finishing (tidy.finishes is).next)
+  new-last number range (requests.Put meta seq ts key value) g top high may tidy =
+      let is = puts number range meta seq ts key value may in
+      (is.0, is.1, subst (λ i. IsLocked i key (map (txn_sent (requests.Put meta seq ts key value)) k.txns)) is.0 (locked_put meta seq ts key value k.txns))
   new-last number range request g top high may tidy = tt
 
   sends-step : (number range : ℕ) (request : Request) (g : Option Heard) (top high : ℕ) → MaySend head.splits the_session k number range request → IsTidy k jobs (events.Send number range request)

@@ -12,6 +12,7 @@ pub mod AloneTimes
 pub mod AloneTimesOver
 pub mod AloneTimesRun
 pub mod AloneTold
+pub mod AloneWrites
 pub mod FirstRow
 pub mod FirstRun
 pub mod FoundWritten

@@ -1,6 +1,6 @@
 -- One session alone: no other session and no recoverer is there, the wire is quiet, each message is evaluated once, and the session keeps what
--- it owes beside the protocol: it sends puts of its open transaction alone, aborts before it tells that it rolled back, and finishes what is over
--- before it asks again. Then no call is told that another stands in its way.
+-- it owes beside the protocol: in a call it sends nothing but what the call is for, it aborts before it tells that it rolled back, and it finishes
+-- what is over before it asks again.
 use Rattle.std.specs.Prelude.{◌≡◌, ℕ, List, [], ◌∷◌, ◌++◌, ⊤}
 use Rattle.pc_base.specs.declared.actor.ActorId.{ActorId}
 use Rattle.pc_base.specs.declared.actor.ActorId.TheVariants as actors
@@ -14,7 +14,6 @@ use Rattle.pc_world.specs.After.{known_at}
 use Rattle.pc_world.specs.Caused.{Evaluates}
 use Rattle.pc_world.specs.Follows.CallMessages.{SendsForCall}
 use Rattle.pc_world.specs.Follows.FinishingJobs.{AbortsFirst, DoesJobs, jobs_of}
-use Rattle.pc_world.specs.Follows.OneWrite.{WritesOnce}
 use Rattle.pc_world.specs.Known.{Known}
 use Rattle.pc_world.specs.Local.{Head}
 use Rattle.pc_world.specs.Run.{protocol}
@@ -39,7 +38,6 @@ pub record IsTidy (k : Known) (jobs : List (List Request)) (event : Event) : Typ
   pub finishes : DoesJobs k jobs event
   pub asks : AsksWhenDone jobs event
   pub aborts : AbortsFirst k event
-  pub writes : WritesOnce k event
   pub calls : SendsForCall k event
 
 -- The jobs that wait at the session after a history.
