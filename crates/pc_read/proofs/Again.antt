@@ -1,6 +1,6 @@
 -- What was printed of a journal is read again.
-use Rattle.std.proofs.Common.{◌≡◌, ℕ, ◌+◌, Bool, true, false, cond, ◌==◌, List, [], ◌∷◌, ◌++◌, map, length, Option, None, Some, refl, sym, ap, ◌∙◌, arith, codes, bytes_eq}
-use Rattle.std.specs.List.{slice_split, AllByRecursion}
+use Rattle.std.proofs.Common.{◌≡◌, ℕ, ◌+◌, Bool, false, cond, List, [], ◌∷◌, ◌++◌, map, length, Option, Some, refl, sym, ap, ◌∙◌, arith, codes, bytes_eq}
+use Rattle.std.specs.List.{AllByRecursion}
 use Rattle.std.specs.Option.{option_map_or}
 use Rattle.std.proofs.lemmas.Bool.{false_from_ne_true}
 use Rattle.std.proofs.lemmas.List.Elements.{recursion_from_All}
@@ -9,7 +9,6 @@ use Rattle.pc_base.specs.declared.entry.Entry.{Entry}
 use Rattle.pc_proto.specs.declared.event.Event.{Event}
 use Rattle.pc_journal.specs.Event.{entry_text}
 use Rattle.pc_journal.specs.Fits.{FitsEntry}
-use Rattle.pc_journal.specs.FitsJournal.{FitsEntries, FitsHead}
 use Rattle.pc_journal.specs.Journal.{actors_text, ranges_text}
 use Rattle.pc_spelling.specs.ReadingHead.{actors_at, ranges_at}
 use Rattle.pc_spelling.specs.ReadingLines.{entry_at}
@@ -17,7 +16,7 @@ use Rattle.pc_spelling.proofs.Events.{entry}
 use Rattle.pc_spelling.proofs.Journal.{actors, journal_pieces, not_report, ranges}
 use Rattle.pc_read.specs.Items.{Item, Head, Line, ReportWord, Malformed, entry_items, head_items, row_items, second_items, text_lines, third_items}
 use Rattle.pc_read.specs.JournalsAreRead.{JournalsAreRead, at_lines}
-use Rattle.pc_read.proofs.Steps.{HasPiece, has_piece}
+use Rattle.pc_read.proofs.Steps.{has_piece}
 
 -- Some lines of which there is a first.
 record HasFirst (lines : List (List ℕ)) : Type 0 where

@@ -4,3 +4,5 @@ pub mod Items
 pub mod Steps
 pub mod SplitKeys
 pub mod Again
+pub mod Owned
+pub mod Spelled

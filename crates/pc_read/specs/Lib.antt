@@ -8,3 +8,4 @@ pub mod Parts
 pub mod Texts
 pub mod Rising
 pub mod JournalsAreRead
+pub mod ReadAsSpelled

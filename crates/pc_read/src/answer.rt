@@ -1,4 +1,4 @@
-ghost use Rattle.std.specs.Prelude.{◌≡◌};
+ghost use Rattle.std.specs.Prelude.{◌≡◌, IfOk, IsSome, Some};
 ghost use Rattle.pc_read.specs.Given.{StandsFor};
 ghost use Rattle.pc_read.specs.Lines.{own_answer};
 ghost use Rattle.pc_proto.specs.declared.answer.Answer.TheVariants as answers;
@@ -9,7 +9,9 @@ ghost use Rattle.pc_spelling.specs.ReadingLines.{answer_at};
 use crate::cut::{cut, is, word_of};
 use crate::part::WhyRef;
 use crate::{list, name, number, part, text};
-use pc_base::{Timestamp, TxnId};
+use pc_base::{NoMemory, Timestamp, TxnId};
+use pc_proto::Answer;
+use std::alloc::Global;
 
 /// An answer, its keys, values and rows as they stand in the input.
 #[derive(Clone, Copy, Debug)]
@@ -167,4 +169,40 @@ fn clock(bytes: &[u8]) -> Option<AnswerRef<'_>>
 {
     let reading = number::number64(bytes)?;
     Some(AnswerRef::Clock { reading })
+}
+
+impl<'a> AnswerRef<'a> {
+    /// The answer in memory of its own.
+    pub fn answer(&self, alloc: Global) -> Result<Answer, NoMemory>
+        requires { IsSome (own_answer self.now) }
+        ensures { IfOk result (λ made. own_answer self.now ≡ Some made) }
+    {
+        match self {
+            AnswerRef::Begun { id, ts } => Ok(Answer::Begun { id: *id, ts: *ts }),
+            AnswerRef::Value(value) => Ok(Answer::Value(text::owned_maybe_value(alloc, *value)?)),
+            AnswerRef::Rows(rows) => Ok(Answer::Rows(list::owned_told_rows(alloc, rows)?)),
+            AnswerRef::Written => Ok(Answer::Written),
+            AnswerRef::Committed { id, ts } => Ok(Answer::Committed { id: *id, ts: *ts }),
+            AnswerRef::RolledBack { id, why } => Ok(Answer::RolledBack {
+                id: *id,
+                why: why.why(alloc)?,
+            }),
+            AnswerRef::Learnt => Ok(Answer::Learnt),
+            AnswerRef::NotYet => Ok(Answer::NotYet),
+            AnswerRef::Done => Ok(Answer::Done),
+            AnswerRef::Blocked { holder } => Ok(Answer::Blocked { holder: *holder }),
+            AnswerRef::Unavailable { faults } => Ok(Answer::Unavailable { faults: *faults }),
+            AnswerRef::Aborted { why } => Ok(Answer::Aborted {
+                why: why.why(alloc)?,
+            }),
+            AnswerRef::Restart { key, ts } => Ok(Answer::Restart {
+                key: text::owned_key(alloc, key)?,
+                ts: *ts,
+            }),
+            AnswerRef::Unknown { id } => Ok(Answer::Unknown { id: *id }),
+            AnswerRef::Moved { ts } => Ok(Answer::Moved { ts: *ts }),
+            AnswerRef::Clock { reading } => Ok(Answer::Clock { reading: *reading }),
+            AnswerRef::NoTxn => Ok(Answer::NoTxn),
+        }
+    }
 }

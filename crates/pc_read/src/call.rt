@@ -1,4 +1,4 @@
-ghost use Rattle.std.specs.Prelude.{◌≡◌};
+ghost use Rattle.std.specs.Prelude.{◌≡◌, IfOk, IsSome, Some};
 ghost use Rattle.pc_read.specs.Given.{StandsFor};
 ghost use Rattle.pc_read.specs.Lines.{own_call};
 ghost use Rattle.pc_proto.specs.declared.call.Call.TheVariants as calls;
@@ -9,7 +9,9 @@ ghost use Rattle.pc_spelling.specs.ReadingLines.{call_at};
 use crate::cut::{cut, is, word_of};
 use crate::part::SpanRef;
 use crate::{name, part, text};
-use pc_base::{Priority, TxnId};
+use pc_base::{NoMemory, Priority, TxnId};
+use pc_proto::Call;
+use std::alloc::Global;
 
 /// A call, its keys and values as they stand in the input.
 #[derive(Clone, Copy, Debug)]
@@ -93,4 +95,28 @@ fn learn(bytes: &[u8]) -> Option<CallRef<'_>>
 {
     let id = name::id(bytes)?;
     Some(CallRef::Learn(id))
+}
+
+impl<'a> CallRef<'a> {
+    /// The call in memory of its own.
+    pub fn call(&self, alloc: Global) -> Result<Call, NoMemory>
+        requires { IsSome (own_call self.now) }
+        ensures { IfOk result (λ made. own_call self.now ≡ Some made) }
+    {
+        match self {
+            CallRef::Begin(priority) => Ok(Call::Begin(*priority)),
+            CallRef::Get(key) => Ok(Call::Get(text::owned_key(alloc, key)?)),
+            CallRef::Scan(span) => Ok(Call::Scan(span.span(alloc)?)),
+            CallRef::Put(key, value) => {
+                let key = text::owned_key(alloc, key)?;
+                let value = text::owned_value(alloc, value)?;
+                Ok(Call::Put(key, value))
+            }
+            CallRef::Delete(key) => Ok(Call::Delete(text::owned_key(alloc, key)?)),
+            CallRef::Commit => Ok(Call::Commit),
+            CallRef::Rollback => Ok(Call::Rollback),
+            CallRef::Learn(id) => Ok(Call::Learn(*id)),
+            CallRef::Round => Ok(Call::Round),
+        }
+    }
 }

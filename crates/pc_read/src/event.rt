@@ -1,4 +1,4 @@
-ghost use Rattle.std.specs.Prelude.{◌≡◌, IfSome};
+ghost use Rattle.std.specs.Prelude.{◌≡◌, IfOk, IfSome, IsSome, Some};
 ghost use Rattle.pc_read.specs.Given.{StandsFor};
 ghost use Rattle.pc_read.specs.Lines.{own_entry, own_event};
 ghost use Rattle.pc_proto.specs.declared.event.Event.TheVariants as events;
@@ -12,7 +12,9 @@ use crate::cut::{cut, cut_last, is, word_of};
 use crate::reply::ReplyRef;
 use crate::request::RequestRef;
 use crate::{answer, call, name, number, reply, request};
-use pc_base::{ActorId, TxnId};
+use pc_base::{ActorId, Entry, NoMemory, TxnId};
+use pc_proto::Event;
+use std::alloc::Global;
 
 /// An event, its keys, values and lists as they stand in the input.
 #[derive(Clone, Copy, Debug)]
@@ -175,4 +177,60 @@ pub fn entry(line: u64, bytes: &[u8]) -> Option<EntryRef<'_>>
         actor,
         event,
     })
+}
+
+impl<'a> EventRef<'a> {
+    /// The event in memory of its own.
+    pub fn event(&self, alloc: Global) -> Result<Event, NoMemory>
+        requires { IsSome (own_event self.now) }
+        ensures { IfOk result (λ made. own_event self.now ≡ Some made) }
+    {
+        match self {
+            EventRef::Ask { call, reading } => Ok(Event::Ask {
+                call: call.call(alloc)?,
+                reading: *reading,
+            }),
+            EventRef::Send {
+                number,
+                range,
+                request,
+            } => Ok(Event::Send {
+                number: *number,
+                range: *range,
+                request: request.request(alloc)?,
+            }),
+            EventRef::Eval {
+                actor,
+                number,
+                reply,
+            } => Ok(Event::Eval {
+                actor: *actor,
+                number: *number,
+                reply: reply.reply(alloc)?,
+            }),
+            EventRef::Hear { number, step } => Ok(Event::Hear {
+                number: *number,
+                step: *step,
+            }),
+            EventRef::Tell(answer) => Ok(Event::Tell(answer.answer(alloc)?)),
+            EventRef::Meet { id, step } => Ok(Event::Meet {
+                id: *id,
+                step: *step,
+            }),
+        }
+    }
+}
+
+impl<'a> EntryRef<'a> {
+    /// The entry that the line spells, in memory of its own.
+    pub fn entry(&self, alloc: Global) -> Result<Entry<Event>, NoMemory>
+        requires { IsSome (own_entry self.now) }
+        ensures { IfOk result (λ made. own_entry self.now ≡ Some made) }
+    {
+        Ok(Entry {
+            step: self.step,
+            actor: self.actor,
+            event: self.event.event(alloc)?,
+        })
+    }
 }

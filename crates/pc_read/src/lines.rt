@@ -1,4 +1,4 @@
-ghost use Rattle.std.specs.Prelude.{◌≡◌, ◌+◌, ◌^◌, ◌<◌, ◌∷◌, [], IfSome, IsSome, length};
+ghost use Rattle.std.specs.Prelude.{◌≡◌, ◌+◌, ◌^◌, ◌<◌, ◌∷◌, [], IfOk, IfSome, IsSome, Some, length};
 ghost use Rattle.pc_read.specs.Items.{Malformed as malformed_line, entry_items, head_items, text_lines, row_items, second_items, third_items};
 ghost use Rattle.pc_read.specs.Left.{StepTakes, TakesNext};
 ghost use Rattle.pc_read.specs.Texts.{splits_in};
@@ -6,7 +6,10 @@ ghost use Rattle.pc_read.specs.Texts.{splits_in};
 use crate::cut::{cut, is};
 use crate::event::{EntryRef, entry};
 use crate::report::is_report_row;
-use crate::splits::{actors, ranges};
+use crate::splits::{actors, owned_splits, ranges};
+use pc_base::NoMemory;
+use pc_proto::Keys;
+use std::alloc::Global;
 use std::marker::Model;
 
 /// The head of a journal: the number of ranges and the split keys as they stand in the second line, and the counts of the third.
@@ -15,6 +18,16 @@ pub struct HeadRef<'a> {
     pub splits: &'a [u8],
     pub sessions: u32,
     pub recoverers: u32,
+}
+
+impl<'a> HeadRef<'a> {
+    /// The split keys in memory of their own.
+    pub fn keys(&self, alloc: Global) -> Result<Keys, NoMemory>
+        requires { IsSome (splits_in self.now.splits.now) }
+        ensures { IfOk result (λ keys. splits_in self.now.splits.now ≡ Some keys) }
+    {
+        owned_splits(alloc, self.splits)
+    }
 }
 
 /// A line of a journal and its report; the head stands for the first three.

@@ -1,4 +1,4 @@
-ghost use Rattle.std.specs.Prelude.{◌≡◌};
+ghost use Rattle.std.specs.Prelude.{◌≡◌, IfOk, IsSome, Some};
 ghost use Rattle.pc_read.specs.Given.{StandsFor};
 ghost use Rattle.pc_read.specs.Parts.{own_meta, own_span, own_why};
 ghost use Rattle.pc_spelling.specs.Reading.{meta_at, point_at, span_at, why_at};
@@ -6,8 +6,10 @@ ghost use Rattle.pc_spelling.specs.Reading.{meta_at, point_at, span_at, why_at};
 use crate::cut::{cut, is, word_of};
 use crate::name::{id, priority, who};
 use crate::number::{number32, number64, timestamp};
-use crate::text::{key, maybe_key};
-use pc_base::{Priority, Timestamp, TxnId, Who};
+use crate::text::{key, maybe_key, owned_key, owned_maybe_key};
+use pc_base::{NoMemory, Priority, Span, Timestamp, TxnId, Who};
+use pc_proto::{TxnMeta, Why};
+use std::alloc::Global;
 
 /// A transaction's particulars, its anchor as it stands in the input.
 #[derive(Clone, Copy, Debug)]
@@ -111,5 +113,59 @@ pub fn why(bytes: &[u8]) -> Option<WhyRef<'_>>
         Some(WhyRef::Refresh { key: named, ts })
     } else {
         None
+    }
+}
+
+impl<'a> MetaRef<'a> {
+    /// The particulars in memory of their own.
+    pub fn meta(&self, alloc: Global) -> Result<TxnMeta, NoMemory>
+        requires { IsSome (own_meta self.now) }
+        ensures { IfOk result (λ made. own_meta self.now ≡ Some made) }
+    {
+        Ok(TxnMeta {
+            id: self.id,
+            epoch: self.epoch,
+            priority: self.priority,
+            born: self.born,
+            anchor: owned_key(alloc, self.anchor)?,
+        })
+    }
+}
+
+impl<'a> SpanRef<'a> {
+    /// The span in memory of its own.
+    pub fn span(&self, alloc: Global) -> Result<Span, NoMemory>
+        requires { IsSome (own_span self.now) }
+        ensures { IfOk result (λ made. own_span self.now ≡ Some made) }
+    {
+        match self {
+            SpanRef::One(key) => Ok(Span::One(owned_key(alloc, key)?)),
+            SpanRef::Between { from, to } => {
+                let from = owned_maybe_key(alloc, *from)?;
+                let to = owned_maybe_key(alloc, *to)?;
+                Ok(Span::Between { from, to })
+            }
+        }
+    }
+}
+
+impl<'a> WhyRef<'a> {
+    /// The cause in memory of its own.
+    pub fn why(&self, alloc: Global) -> Result<Why, NoMemory>
+        requires { IsSome (own_why self.now) }
+        ensures { IfOk result (λ made. own_why self.now ≡ Some made) }
+    {
+        match self {
+            WhyRef::Pushed { by } => Ok(Why::Pushed { by: *by }),
+            WhyRef::Missing { key, by } => Ok(Why::Missing {
+                key: owned_key(alloc, key)?,
+                by: *by,
+            }),
+            WhyRef::Refresh { key, ts } => Ok(Why::Refresh {
+                key: owned_key(alloc, key)?,
+                ts: *ts,
+            }),
+            WhyRef::Client => Ok(Why::Client),
+        }
     }
 }

@@ -1,4 +1,4 @@
-ghost use Rattle.std.specs.Prelude.{◌≡◌};
+ghost use Rattle.std.specs.Prelude.{◌≡◌, IfOk, IsSome, Some};
 ghost use Rattle.pc_read.specs.Given.{StandsFor};
 ghost use Rattle.pc_read.specs.Lines.{own_reply};
 ghost use Rattle.pc_proto.specs.declared.reply.Reply.TheVariants as replies;
@@ -10,8 +10,9 @@ use crate::cut::{cut, is, word_of};
 use crate::part::MetaRef;
 use crate::view::ViewRef;
 use crate::{list, number, part, text, view};
-use pc_base::Timestamp;
-use pc_proto::Origin;
+use pc_base::{NoMemory, Timestamp};
+use pc_proto::{Origin, Reply};
+use std::alloc::Global;
 
 /// A reply, its keys, values and lists as they stand in the input.
 #[derive(Clone, Copy, Debug)]
@@ -153,4 +154,43 @@ fn listed(bytes: &[u8]) -> Option<ReplyRef<'_>>
 {
     let metas = list::metas(bytes)?;
     Some(ReplyRef::Listed(metas))
+}
+
+impl<'a> ReplyRef<'a> {
+    /// The reply in memory of its own.
+    pub fn reply(&self, alloc: Global) -> Result<Reply, NoMemory>
+        requires { IsSome (own_reply self.now) }
+        ensures { IfOk result (λ made. own_reply self.now ≡ Some made) }
+    {
+        match self {
+            ReplyRef::Value { origin, value } => Ok(Reply::Value {
+                origin: *origin,
+                value: text::owned_maybe_value(alloc, *value)?,
+            }),
+            ReplyRef::Rows(rows) => Ok(Reply::Rows(list::owned_rows(alloc, rows)?)),
+            ReplyRef::Conflict { holder, ts, key } => {
+                let holder = holder.meta(alloc)?;
+                let key = text::owned_key(alloc, key)?;
+                Ok(Reply::Conflict {
+                    holder,
+                    ts: *ts,
+                    key,
+                })
+            }
+            ReplyRef::Written { ts } => Ok(Reply::Written { ts: *ts }),
+            ReplyRef::Refreshed => Ok(Reply::Refreshed),
+            ReplyRef::Unrefreshed { key, ts } => Ok(Reply::Unrefreshed {
+                key: text::owned_key(alloc, key)?,
+                ts: *ts,
+            }),
+            ReplyRef::Status(view) => Ok(Reply::Status(view.view(alloc)?)),
+            ReplyRef::Refused(view) => Ok(Reply::Refused(view.view(alloc)?)),
+            ReplyRef::Unsure(view) => Ok(Reply::Unsure(view.view(alloc)?)),
+            ReplyRef::Found => Ok(Reply::Found),
+            ReplyRef::Missing => Ok(Reply::Missing),
+            ReplyRef::Resolved => Ok(Reply::Resolved),
+            ReplyRef::Removed => Ok(Reply::Removed),
+            ReplyRef::Listed(metas) => Ok(Reply::Listed(list::owned_metas(alloc, metas)?)),
+        }
+    }
 }

@@ -1,4 +1,4 @@
-ghost use Rattle.std.specs.Prelude.{◌≡◌};
+ghost use Rattle.std.specs.Prelude.{◌≡◌, IfOk, IsSome, Some};
 ghost use Rattle.pc_read.specs.Given.{StandsFor};
 ghost use Rattle.pc_read.specs.Lines.{own_request};
 ghost use Rattle.pc_proto.specs.declared.request.Request.TheVariants as requests;
@@ -10,8 +10,9 @@ use crate::cut::{cut, is, word_of};
 use crate::part::{MetaRef, SpanRef, WhyRef};
 use crate::view::FindingRef;
 use crate::{list, name, number, part, text, view};
-use pc_base::{Priority, Timestamp, TxnId, Who};
-use pc_proto::{Fate, Goal};
+use pc_base::{NoMemory, Priority, Timestamp, TxnId, Who};
+use pc_proto::{Fate, Goal, Request};
+use std::alloc::Global;
 
 /// A request, its keys, values and lists as they stand in the input.
 #[derive(Clone, Copy, Debug)]
@@ -341,4 +342,210 @@ fn remove(bytes: &[u8]) -> Option<RequestRef<'_>>
     let id = name::id(id)?;
     let anchor = text::key(rest)?;
     Some(RequestRef::Remove { id, anchor })
+}
+
+impl<'a> RequestRef<'a> {
+    /// The request in memory of its own.
+    pub fn request(&self, alloc: Global) -> Result<Request, NoMemory>
+        requires { IsSome (own_request self.now) }
+        ensures { IfOk result (λ made. own_request self.now ≡ Some made) }
+    {
+        match self {
+            RequestRef::Get {
+                id,
+                epoch,
+                seq,
+                ts,
+                key,
+            } => Ok(Request::Get {
+                id: *id,
+                epoch: *epoch,
+                seq: *seq,
+                ts: *ts,
+                key: text::owned_key(alloc, key)?,
+            }),
+            RequestRef::Scan {
+                id,
+                epoch,
+                seq,
+                ts,
+                span,
+            } => Ok(Request::Scan {
+                id: *id,
+                epoch: *epoch,
+                seq: *seq,
+                ts: *ts,
+                span: span.span(alloc)?,
+            }),
+            RequestRef::Put {
+                meta,
+                seq,
+                ts,
+                key,
+                value,
+            } => owned_put(alloc, meta, *seq, *ts, key, *value),
+            RequestRef::Refresh { id, from, to, span } => Ok(Request::Refresh {
+                id: *id,
+                from: *from,
+                to: *to,
+                span: span.span(alloc)?,
+            }),
+            RequestRef::Beat { meta, ts, now } => Ok(Request::Beat {
+                meta: meta.meta(alloc)?,
+                ts: *ts,
+                now: *now,
+            }),
+            RequestRef::Stage {
+                meta,
+                ts,
+                now,
+                writes,
+                locks,
+            } => owned_stage(alloc, meta, *ts, *now, writes, locks),
+            RequestRef::Commit { meta, ts, locks } => owned_commit(alloc, meta, *ts, locks),
+            RequestRef::Abort { meta, why, locks } => owned_abort(alloc, meta, why, locks),
+            RequestRef::Push {
+                holder,
+                by,
+                level,
+                now,
+                goal,
+            } => Ok(Request::Push {
+                holder: holder.meta(alloc)?,
+                by: *by,
+                level: *level,
+                now: *now,
+                goal: *goal,
+            }),
+            RequestRef::Query {
+                id,
+                epoch,
+                seq,
+                ts,
+                key,
+                by,
+            } => Ok(Request::Query {
+                id: *id,
+                epoch: *epoch,
+                seq: *seq,
+                ts: *ts,
+                key: text::owned_key(alloc, key)?,
+                by: *by,
+            }),
+            RequestRef::Recover {
+                id,
+                epoch,
+                ts,
+                anchor,
+                finding,
+            } => owned_recover(alloc, *id, *epoch, *ts, anchor, finding),
+            RequestRef::Resolve { id, key, fate } => Ok(Request::Resolve {
+                id: *id,
+                key: text::owned_key(alloc, key)?,
+                fate: *fate,
+            }),
+            RequestRef::Remove { id, anchor } => Ok(Request::Remove {
+                id: *id,
+                anchor: text::owned_key(alloc, anchor)?,
+            }),
+            RequestRef::Records => Ok(Request::Records),
+        }
+    }
+}
+
+fn owned_put(
+    alloc: Global,
+    meta: &MetaRef<'_>,
+    seq: u32,
+    ts: Timestamp,
+    key: &[u8],
+    value: Option<&[u8]>,
+) -> Result<Request, NoMemory>
+    requires { IsSome (own_request (RequestRef.Put meta.now seq ts key value)) }
+    ensures { IfOk result (λ made. own_request (RequestRef.Put meta.now seq ts key.entry value.entry) ≡ Some made) }
+{
+    let meta = meta.meta(alloc)?;
+    let key = text::owned_key(alloc, key)?;
+    let value = text::owned_maybe_value(alloc, value)?;
+    Ok(Request::Put {
+        meta,
+        seq,
+        ts,
+        key,
+        value,
+    })
+}
+
+fn owned_stage(
+    alloc: Global,
+    meta: &MetaRef<'_>,
+    ts: Timestamp,
+    now: u64,
+    writes: &[u8],
+    locks: &[u8],
+) -> Result<Request, NoMemory>
+    requires { IsSome (own_request (RequestRef.Stage meta.now ts now writes locks)) }
+    ensures { IfOk result (λ made. own_request (RequestRef.Stage meta.now ts now writes.entry locks.entry) ≡ Some made) }
+{
+    let meta = meta.meta(alloc)?;
+    let writes = list::owned_writes(alloc, writes)?;
+    let locks = list::owned_keys(alloc, locks)?;
+    Ok(Request::Stage {
+        meta,
+        ts,
+        now,
+        writes,
+        locks,
+    })
+}
+
+fn owned_commit(
+    alloc: Global,
+    meta: &MetaRef<'_>,
+    ts: Timestamp,
+    locks: &[u8],
+) -> Result<Request, NoMemory>
+    requires { IsSome (own_request (RequestRef.Commit meta.now ts locks)) }
+    ensures { IfOk result (λ made. own_request (RequestRef.Commit meta.now ts locks.entry) ≡ Some made) }
+{
+    let meta = meta.meta(alloc)?;
+    let locks = list::owned_keys(alloc, locks)?;
+    Ok(Request::Commit { meta, ts, locks })
+}
+
+fn owned_abort(
+    alloc: Global,
+    meta: &MetaRef<'_>,
+    why: &WhyRef<'_>,
+    locks: &[u8],
+) -> Result<Request, NoMemory>
+    requires { IsSome (own_request (RequestRef.Abort meta.now why.now locks)) }
+    ensures { IfOk result (λ made. own_request (RequestRef.Abort meta.now why.now locks.entry) ≡ Some made) }
+{
+    let meta = meta.meta(alloc)?;
+    let why = why.why(alloc)?;
+    let locks = list::owned_keys(alloc, locks)?;
+    Ok(Request::Abort { meta, why, locks })
+}
+
+fn owned_recover(
+    alloc: Global,
+    id: TxnId,
+    epoch: u32,
+    ts: Timestamp,
+    anchor: &[u8],
+    finding: &FindingRef<'_>,
+) -> Result<Request, NoMemory>
+    requires { IsSome (own_request (RequestRef.Recover id epoch ts anchor finding.now)) }
+    ensures { IfOk result (λ made. own_request (RequestRef.Recover id epoch ts anchor.entry finding.now) ≡ Some made) }
+{
+    let anchor = text::owned_key(alloc, anchor)?;
+    let finding = finding.finding(alloc)?;
+    Ok(Request::Recover {
+        id,
+        epoch,
+        ts,
+        anchor,
+        finding,
+    })
 }

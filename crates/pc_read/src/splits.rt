@@ -1,14 +1,18 @@
-ghost use Rattle.std.specs.Prelude.{◌≡◌, ◌==◌, ◌+◌, ◌&&◌, None, is_some, option_map};
+ghost use Rattle.std.specs.Prelude.{◌≡◌, ◌==◌, ◌+◌, ◌&&◌, IfOk, IsSome, None, Some, is_some, option_map};
 ghost use Rattle.std.specs.List.{slice_split};
 ghost use Rattle.pc_read.specs.Given.{StandsFor};
 ghost use Rattle.pc_read.specs.Rising.{is_above, rising};
-ghost use Rattle.pc_read.specs.Texts.{own_splits};
+ghost use Rattle.pc_read.specs.Texts.{own_splits, splits_in};
 ghost use Rattle.pc_spelling.specs.Reading.{key_at};
 ghost use Rattle.pc_spelling.specs.ReadingHead.{actors_at, ranges_at, splits_at};
 
 use crate::cut::{cut, is, word_of};
+use crate::list::{KeyItem, owned_items};
 use crate::number::number32;
 use crate::text::key;
+use pc_base::{Items, Key, NoMemory};
+use pc_proto::Keys;
+use std::alloc::Global;
 
 /// The counts of the third line.
 #[tactic(auto, unfolding(pc_spelling::specs::ReadingHead::actors_at))]
@@ -96,5 +100,16 @@ fn rising(bytes: &[u8]) -> Option<u64>
                 rest = behind;
             }
         }
+    }
+}
+
+/// The split keys behind the number of ranges, in memory of their own.
+pub fn owned_splits(alloc: Global, bytes: &[u8]) -> Result<Keys, NoMemory>
+    requires { IsSome (splits_in bytes.now) }
+    ensures { IfOk result (λ keys. splits_in bytes.now ≡ Some keys) }
+{
+    match cut(b' ', bytes) {
+        None => Ok(Items::new(alloc)),
+        Some((_, keys)) => owned_items::<Key, KeyItem>(alloc, b' ', keys),
     }
 }

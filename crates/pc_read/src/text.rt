@@ -1,4 +1,4 @@
-ghost use Rattle.std.specs.Prelude.{◌≡◌};
+ghost use Rattle.std.specs.Prelude.{◌≡◌, IfOk, IsSome, Some};
 ghost use Rattle.std.specs.List.{list_all};
 ghost use Rattle.pc_base.specs.Key.{is_key_byte};
 ghost use Rattle.pc_base.specs.Value.{is_value_byte};
@@ -8,7 +8,8 @@ ghost use Rattle.pc_spelling.specs.Cutting.{or_dash_at};
 ghost use Rattle.pc_spelling.specs.Reading.{key_at, maybe_value_at, value_at, value_bytes_at};
 
 use crate::cut::is;
-use pc_base::{KEY_BYTES, VALUE_BYTES};
+use pc_base::{BaseFault, KEY_BYTES, Key, NoMemory, VALUE_BYTES, Value};
+use std::alloc::Global;
 
 fn is_key_byte(byte: u8) -> bool
     ensures { result ≡ is_key_byte byte }
@@ -88,5 +89,53 @@ pub fn maybe_key(bytes: &[u8]) -> Option<Option<&[u8]>>
         Some(None)
     } else {
         Some(Some(key(bytes)?))
+    }
+}
+
+/// The key that the bytes are, in memory of its own.
+#[tactic(auto, unfolding(pc_spelling::specs::Reading::key_at))]
+pub fn owned_key(alloc: Global, bytes: &[u8]) -> Result<Key, NoMemory>
+    requires { IsSome (key_at bytes.now) }
+    ensures { IfOk result (λ key. key_at bytes.now ≡ Some key) }
+{
+    match Key::new(alloc, bytes) {
+        Ok(key) => Ok(key),
+        Err(BaseFault::NoMemory) => Err(NoMemory),
+        Err(_) => unreachable!(),
+    }
+}
+
+/// The value whose bytes these are, in memory of its own.
+#[tactic(auto, unfolding(pc_spelling::specs::Reading::value_bytes_at))]
+pub fn owned_value(alloc: Global, bytes: &[u8]) -> Result<Value, NoMemory>
+    requires { IsSome (value_bytes_at bytes.now) }
+    ensures { IfOk result (λ value. value_bytes_at bytes.now ≡ Some value) }
+{
+    match Value::new(alloc, bytes) {
+        Ok(value) => Ok(value),
+        Err(BaseFault::NoMemory) => Err(NoMemory),
+        Err(_) => unreachable!(),
+    }
+}
+
+/// The same of a key that may be absent.
+pub fn owned_maybe_key(alloc: Global, bytes: Option<&[u8]>) -> Result<Option<Key>, NoMemory>
+    requires { IsSome (own_option own_key bytes) }
+    ensures { IfOk result (λ key. own_option own_key bytes.entry ≡ Some key) }
+{
+    match bytes {
+        Some(bytes) => Ok(Some(owned_key(alloc, bytes)?)),
+        None => Ok(None),
+    }
+}
+
+/// The same of a value that may be absent.
+pub fn owned_maybe_value(alloc: Global, bytes: Option<&[u8]>) -> Result<Option<Value>, NoMemory>
+    requires { IsSome (own_option own_value_bytes bytes) }
+    ensures { IfOk result (λ value. own_option own_value_bytes bytes.entry ≡ Some value) }
+{
+    match bytes {
+        Some(bytes) => Ok(Some(owned_value(alloc, bytes)?)),
+        None => Ok(None),
     }
 }

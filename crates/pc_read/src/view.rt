@@ -1,16 +1,17 @@
-ghost use Rattle.std.specs.Prelude.{◌≡◌};
+ghost use Rattle.std.specs.Prelude.{◌≡◌, IfOk, IsSome, Some};
 ghost use Rattle.pc_read.specs.Given.{StandsFor};
 ghost use Rattle.pc_read.specs.Lines.{own_finding, own_view};
 ghost use Rattle.pc_spelling.specs.ReadingLines.{fate_at, finding_at, goal_at, view_at};
 
 use crate::cut::{cut, is, word_of};
-use crate::list::{keys, writes};
+use crate::list::{keys, owned_keys, owned_writes, writes};
 use crate::name::who;
 use crate::number::{number32, timestamp};
 use crate::part::{WhyRef, why};
-use crate::text::key;
-use pc_base::{Timestamp, Who};
-use pc_proto::{Fate, Goal};
+use crate::text::{key, owned_key};
+use pc_base::{NoMemory, Timestamp, Who};
+use pc_proto::{Fate, Finding, Goal, View};
+use std::alloc::Global;
 
 /// What a range shows of a transaction, its lists as they stand in the input.
 #[derive(Clone, Copy, Debug)]
@@ -126,5 +127,56 @@ pub fn fate(bytes: &[u8]) -> Option<Fate>
             Some(Fate::Committed { epoch, ts })
         }
         _ => None,
+    }
+}
+
+impl<'a> ViewRef<'a> {
+    /// The view in memory of its own.
+    pub fn view(&self, alloc: Global) -> Result<View, NoMemory>
+        requires { IsSome (own_view self.now) }
+        ensures { IfOk result (λ made. own_view self.now ≡ Some made) }
+    {
+        match self {
+            ViewRef::Nothing => Ok(View::Nothing),
+            ViewRef::Pending { epoch, ts } => Ok(View::Pending {
+                epoch: *epoch,
+                ts: *ts,
+            }),
+            ViewRef::Staging { epoch, ts, writes } => Ok(View::Staging {
+                epoch: *epoch,
+                ts: *ts,
+                writes: owned_writes(alloc, writes)?,
+            }),
+            ViewRef::Committed { epoch, ts, locks } => Ok(View::Committed {
+                epoch: *epoch,
+                ts: *ts,
+                locks: owned_keys(alloc, locks)?,
+            }),
+            ViewRef::Aborted { epoch, why, locks } => {
+                let why = why.why(alloc)?;
+                let locks = owned_keys(alloc, locks)?;
+                Ok(View::Aborted {
+                    epoch: *epoch,
+                    why,
+                    locks,
+                })
+            }
+        }
+    }
+}
+
+impl<'a> FindingRef<'a> {
+    /// The finding in memory of its own.
+    pub fn finding(&self, alloc: Global) -> Result<Finding, NoMemory>
+        requires { IsSome (own_finding self.now) }
+        ensures { IfOk result (λ made. own_finding self.now ≡ Some made) }
+    {
+        match self {
+            FindingRef::All => Ok(Finding::All),
+            FindingRef::Missing { key, by } => Ok(Finding::Missing {
+                key: owned_key(alloc, key)?,
+                by: *by,
+            }),
+        }
     }
 }
