@@ -1,0 +1,2 @@
+pub mod EarlierEntries
+pub mod NextEntry

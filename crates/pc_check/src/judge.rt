@@ -1,0 +1,23 @@
+ghost use Rattle.std.specs.Prelude.{◌≡◌, ◌↔◌, ◌++◌, ◌∷◌, [], IfOk, IsTrue, List, OnOk};
+ghost use Rattle.pc_base.specs.declared.entry.Entry.{Entry as entry_of};
+ghost use Rattle.pc_proto.specs.declared.event.Event.{Event as event_of};
+ghost use Rattle.pc_world.specs.Local.{Head};
+ghost use Rattle.pc_check.specs.Judging.{IsNextFor, MayComeAfter};
+
+use pc_base::{Entry, NoMemory};
+use pc_proto::Event;
+
+/// Decides, entry by entry, which event may come next in its actor's own list.
+pub trait Judge<'a> {
+    ghost keeps: { Head → List (entry_of event_of) → Self → Type 0 };
+
+    /// Whether the next entry, which is caused by those before it, may come next in its actor's list. Where it may, it is taken.
+    fn take(
+        &mut self,
+        before: &'a [Entry<Event>],
+        entry: &'a Entry<Event>,
+    ) -> Result<bool, NoMemory>
+        requires { IsNextFor keeps self.old before.now entry.now }
+        ensures may { IfOk result (λ may. (head : Head) → keeps head before.now self.old → IsNextFor keeps self.old before.now entry.now → IsTrue may ↔ MayComeAfter head before.now entry.now) }
+        ensures taken { (head : Head) → keeps head before.now self.old → MayComeAfter head before.now entry.now → OnOk result (keeps head (before.now ++ entry.now ∷ []) self.new) };
+}
