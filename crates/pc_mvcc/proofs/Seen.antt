@@ -19,8 +19,8 @@ use Rattle.pc_base.specs.Span.{contains, same_key}
 use Rattle.pc_base.specs.Versions.{later, visible}
 use Rattle.pc_mvcc.proofs.Joined.{Chain, all_in_chain, chain_of, filtered_twice}
 use Rattle.pc_mvcc.proofs.Spans.{keys_of_chains}
-use Rattle.pc_mvcc.specs.Chains.{AreChains, IsChain, joined, with_key_of}
-use Rattle.pc_mvcc.specs.VisibleIn.{visible_in, written_keys}
+use Rattle.pc_mvcc.specs.Chains.{AreChains, joined, with_key_of}
+use Rattle.pc_mvcc.specs.VisibleIn.{visible_in}
 
 turned-less : (o : Ordering) → o ≡ Less → is_eq (ordering_reverse o) ≡ false
 turned-less Less h = refl

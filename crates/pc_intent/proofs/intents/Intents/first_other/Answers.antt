@@ -1,4 +1,4 @@
-use Rattle.std.proofs.Common.{◌≡◌, ◌&&◌, nat_le, not, ℕ, List, filter, ap, ◌∙◌, rules, tests}
+use Rattle.std.proofs.Common.{◌&&◌, nat_le, not, ℕ, List, filter, ap, ◌∙◌, rules, tests}
 use Rattle.std.proofs.lemmas.Iterator.Consumers.{YieldsList-from_rest}
 use Rattle.std.proofs.lemmas.Iterator.Search.{find_from_yields_List}
 use Rattle.pc_base.specs.Span.{contains}
