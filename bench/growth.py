@@ -1,8 +1,9 @@
 #!/usr/bin/env python3
-"""growth.py BINARY [N]: how the time of `BINARY run` grows with the workload.
+"""growth.py BINARY [N [PLAIN]]: how the time of `BINARY run` grows with the workload, and how it stands to a plain program's.
 
 Each case runs in a process of its own, five times with N and five times with 2 N statements (N is 2000 where it is not given). Each line
-that is printed: the case, the medians of the processor seconds at both sizes, and the exponent between them.
+that is printed: the case, the medians of the processor seconds at both sizes, the exponent between them, that of the entries in the journal
+between the two sizes, and, where PLAIN is given, how many times its seconds the larger one takes. PLAIN must write the same bytes.
 """
 import json
 import math
@@ -93,9 +94,9 @@ CASES = [
 ]
 
 
-def seconds(binary, path):
+def seconds(binary, path, sink):
     """The processor seconds of one run."""
-    with open(path, "rb") as data, open(os.devnull, "wb") as sink:
+    with open(path, "rb") as data:
         child = subprocess.Popen([binary, "run"], stdin=data, stdout=sink)
         _, status, usage = os.wait4(child.pid, 0)
         child.returncode = os.waitstatus_to_exitcode(status)
@@ -104,22 +105,46 @@ def seconds(binary, path):
     return usage.ru_utime + usage.ru_stime
 
 
-def median(binary, work):
+def output(binary, path):
+    with tempfile.TemporaryFile() as sink:
+        seconds(binary, path, sink)
+        sink.seek(0)
+        return sink.read()
+
+
+def median(binary, path):
+    with open(os.devnull, "wb") as sink:
+        return statistics.median(seconds(binary, path, sink) for _ in range(RUNS))
+
+
+def measured(binary, plain, work):
+    """The seconds, the entries, and the plain program's seconds, if there is one."""
     with tempfile.NamedTemporaryFile("w", suffix=".json") as file:
         json.dump(work, file)
         file.flush()
-        return statistics.median(seconds(binary, file.name) for _ in range(RUNS))
+        written = output(binary, file.name)
+        entries = written[: written.index(b"report\n")].count(b"\n") - 3
+        if plain is None:
+            return median(binary, file.name), entries, None
+        if output(plain, file.name) != written:
+            raise RuntimeError("the plain program writes something else")
+        return median(binary, file.name), entries, median(plain, file.name)
 
 
 def main():
-    if len(sys.argv) not in (2, 3):
+    if len(sys.argv) not in (2, 3, 4):
         print(__doc__, file=sys.stderr)
         return 2
     binary = os.path.abspath(sys.argv[1])
-    size = int(sys.argv[2]) if len(sys.argv) == 3 else 2000
+    size = int(sys.argv[2]) if len(sys.argv) > 2 else 2000
+    plain = os.path.abspath(sys.argv[3]) if len(sys.argv) > 3 else None
     for name, made in CASES:
-        one, two = median(binary, made(size)), median(binary, made(2 * size))
-        print("%-28s %8.3f s %8.3f s   exponent %.2f" % (name, one, two, math.log(two / one, 2)), flush=True)
+        one, few, _ = measured(binary, None, made(size))
+        two, many, beside = measured(binary, plain, made(2 * size))
+        line = "%-28s %8.3f s %8.3f s   exponent %.2f, of entries %.2f" % (name, one, two, math.log(two / one, 2), math.log(many / few, 2))
+        if beside:
+            line += "   %.1f times the plain program's" % (two / beside)
+        print(line, flush=True)
     return 0
 
 

@@ -1,3 +1,4 @@
 pub mod Folds
 mod FirstOther
 mod Laying
+mod InSpan

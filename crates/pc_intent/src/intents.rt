@@ -2,6 +2,7 @@ ghost use Rattle.std.specs.Prelude.{◌≡◌, [], IfNone, MatchOption, None, On
 ghost use Rattle.std.specs.BTreeMap.{insert_entry};
 ghost use Rattle.std.specs.BTreeSet.{insert_key};
 ghost use Rattle.std.specs.Cmp.Lexicographic.{slice_cmp};
+ghost use Rattle.std.specs.List.{list_any};
 ghost use Rattle.std.specs.Option.{option_copied, option_map};
 ghost use Rattle.std.specs.Ordering.{nat_cmp};
 ghost use Rattle.pc_base.specs.Keyed.{without};
@@ -75,16 +76,26 @@ impl Intents {
     pub fn first_other(&self, span: &Span, ts: Timestamp, id: TxnId) -> Option<(&Key, &Intent)>
         ensures { option_map (λ e. (e.0.now, e.1.now)) result ≡ first_other span.now ts id self.now }
     {
-        self.entries.iter().find(|entry| span.contains(entry.0)
-            && entry.1.ts <= ts
-            && entry.1.meta.id != id)
+        self.entries
+            .range(span.bounds())
+            .find(|entry| entry.1.ts <= ts && entry.1.meta.id != id)
+    }
+
+    /// Whether an intent stands at a key of the span.
+    pub fn any_in(&self, span: &Span) -> bool
+        ensures { result ≡ list_any (λ e. contains span.now e.0) self.now }
+    {
+        self.entries.range(span.bounds()).next().is_some()
     }
 
     /// Adds the keys of the span at which an intent stands to the others; where memory runs out, some of them.
     pub fn add_keys(&self, span: &Span, keys: &mut BTreeSet<Key>) -> Result<(), NoMemory>
         ensures { OnOk result (keys.new.keys ≡ fold (insert_key (slice_cmp nat_cmp)) keys.old.keys (filter (contains span.now) (map (λ e. e.0) self.now))) }
     {
-        add_keys(keys, &self.entries, span)
+        for (key, _) in self.entries.range(span.bounds()) {
+            keys.insert(key.copy()?)?;
+        }
+        Ok(())
     }
 
     /// Lays a write: one more of the transaction's intent of this epoch, or the first one.
@@ -132,20 +143,4 @@ impl Intents {
         self.own_at(id, key)?;
         self.entries.remove(key)
     }
-}
-
-/// Adds the intents' keys that lie in the span.
-fn add_keys(
-    keys: &mut BTreeSet<Key>,
-    intents: &BTreeMap<Key, Intent>,
-    span: &Span,
-) -> Result<(), NoMemory>
-    ensures { OnOk result (keys.new.keys ≡ fold (insert_key (slice_cmp nat_cmp)) keys.old.keys (filter (contains span.now) (map (λ e. e.0) intents.now.entries))) }
-{
-    for (key, _) in intents {
-        if span.contains(key) {
-            keys.insert(key.copy()?)?;
-        }
-    }
-    Ok(())
 }

@@ -1,3 +1,4 @@
 mod Rising
 mod Joined
 mod Spans
+mod Seen

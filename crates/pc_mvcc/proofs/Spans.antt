@@ -4,10 +4,12 @@ use Rattle.std.proofs.lemmas.Cmp.{nat_list_cmp_total, tied_itself}
 use Rattle.std.proofs.lemmas.List.{map-append}
 use Rattle.std.proofs.lemmas.List.Elements.{filter-append, recursion_from_All}
 use Rattle.std.proofs.lemmas.List.Sums.{fold-append}
+use Rattle.std.specs.BTreeMap.Range.{entries_between}
 use Rattle.std.specs.BTreeSet.{insert_key}
 use Rattle.std.specs.Cmp.Lexicographic.{slice_cmp}
 use Rattle.std.specs.declared.cmp.Ordering.{Ordering}
 use Rattle.std.specs.declared.cmp.Ordering.TheVariants.{Less, Equal, Greater}
+use Rattle.std.specs.declared.ops.Bound.{Bound}
 use Rattle.std.specs.List.{AllByRecursion as Each}
 use Rattle.std.specs.List.Sorted.{IsNonDecreasingBy, IsStrictlySortedBy}
 use Rattle.std.specs.Map.{keys_of}
@@ -17,10 +19,11 @@ use Rattle.std.specs.Prelude.{⊤}
 use Rattle.pc_base.specs.declared.span.Span.{Span}
 use Rattle.pc_base.specs.declared.version.Version.{Version}
 use Rattle.pc_base.specs.Span.{contains, key_below, same_key}
+use Rattle.pc_base.specs.SpanBounds.{AreBoundsOf}
 use Rattle.pc_base.specs.Versions.{first_between, sooner}
 use Rattle.pc_mvcc.proofs.Joined.{Chain}
 use Rattle.pc_mvcc.proofs.Rising.{rising_rest}
-use Rattle.pc_mvcc.specs.Chains.{AreChains, IsChain, joined, with_first_key}
+use Rattle.pc_mvcc.specs.Chains.{AreChains, IsChain, joined, with_key_of}
 
 -- The second version is not sooner than the first.
 record IsNotSooner (v w : Version) : Type 0 where
@@ -121,11 +124,11 @@ joined-in-order (e ∷ es) chains =
 abbrev pub lies_between : ℕ → ℕ → Version → Bool
 lies_between from to v = nat_lt from v.ts && nat_le v.ts to
 
-module _ (span : Span) (from to : ℕ) where
-  -- The chain's key is in the span, and a version of it lies between.
-  abbrev pub has_one : Chain → Bool
-  has_one e = contains span e.0 && is_some (find (lies_between from to) e.1.items)
+-- A version of the chain lies between.
+abbrev pub has_one : ℕ → ℕ → Chain → Bool
+has_one from to e = is_some (find (lies_between from to) e.1.items)
 
+module _ (span : Span) (from to : ℕ) where
   Passes : Version → Bool
   Passes v = contains span v.key && lies_between from to v
 
@@ -157,7 +160,7 @@ module _ (span : Span) (from to : ℕ) where
       by false rest = rest
 
   in-chains : (es : List Chain) → Each (λ e. IsChain e.0 e.1.items) es
-      → find (λ v. contains span v.key && lies_between from to v) (joined es) ≡ option_and_then (λ e. find (lies_between from to) e.1.items) (find has_one es)
+      → find (λ v. contains span v.key && lies_between from to v) (joined es) ≡ option_and_then (λ e. find (lies_between from to) e.1.items) (find (has_one from to) (filter (λ e. contains span e.0) es))
   unfolding or-later
   in-chains [] each = refl
   in-chains (e ∷ es) each =
@@ -166,16 +169,21 @@ module _ (span : Span) (from to : ℕ) where
       ∙ by (contains span e.0) refl (find (lies_between from to) e.1.items) refl own.own (in-chains es each.1)
     where
       by : (b : Bool) → contains span e.0 ≡ b → (o : Option Version) → find (lies_between from to) e.1.items ≡ o → Each (λ v. v.key ≡ e.0) e.1.items
-          → find (λ v. contains span v.key && lies_between from to v) (joined es) ≡ option_and_then (λ e. find (lies_between from to) e.1.items) (find has_one es)
+          → find (λ v. contains span v.key && lies_between from to v) (joined es) ≡ option_and_then (λ e. find (lies_between from to) e.1.items) (find (has_one from to) (filter (λ e. contains span e.0) es))
           → or-later (find (λ v. contains span v.key && lies_between from to v) e.1.items) (find (λ v. contains span v.key && lies_between from to v) (joined es))
-          ≡ option_and_then (λ e. find (lies_between from to) e.1.items) (cond (b && is_some o) (Some e) (find has_one es))
+          ≡ option_and_then (λ e. find (lies_between from to) e.1.items) (find (has_one from to) (cond b (e ∷ filter (λ e. contains span e.0) es) (filter (λ e. contains span e.0) es)))
       by false is o there own rest = ap (λ o. or-later o (find (λ v. contains span v.key && lies_between from to v) (joined es))) (find-outside e.0 e.1.items own is) ∙ rest
-      by true is None there own rest = ap (λ o. or-later o (find (λ v. contains span v.key && lies_between from to v) (joined es))) (find-inside e.0 e.1.items own is ∙ there) ∙ rest
+      by true is None there own rest =
+          ap (λ o. or-later o (find (λ v. contains span v.key && lies_between from to v) (joined es))) (find-inside e.0 e.1.items own is ∙ there)
+          ∙ (rest
+          ∙ sym (ap (λ o. option_and_then (λ (e : Chain). find (lies_between from to) e.1.items) (cond (is_some o) (Some e) (find (has_one from to) (filter (λ e. contains span e.0) es)))) there))
       by true is (Some v) there own rest =
-          ap (λ o. or-later o (find (λ v. contains span v.key && lies_between from to v) (joined es))) (find-inside e.0 e.1.items own is ∙ there) ∙ sym there
+          ap (λ o. or-later o (find (λ v. contains span v.key && lies_between from to v) (joined es))) (find-inside e.0 e.1.items own is ∙ there)
+          ∙ sym (ap (λ o. option_and_then (λ (e : Chain). find (lies_between from to) e.1.items) (cond (is_some o) (Some e) (find (has_one from to) (filter (λ e. contains span e.0) es)))) there ∙ there)
 
-  -- the first in the span is the first of the first chain that has one
-  pub first_in_chains : (es : List Chain) → AreChains es → first_between span from to (joined es) ≡ option_and_then (λ e. find (lies_between from to) e.1.items) (find has_one es)
+  -- the first in the span is the first of the span's first chain that has one
+  pub first_in_chains : (es : List Chain) → AreChains es
+      → first_between span from to (joined es) ≡ option_and_then (λ e. find (lies_between from to) e.1.items) (find (has_one from to) (filter (λ e. contains span e.0) es))
   first_in_chains es chains =
       first-found (λ v. contains span v.key && lies_between from to v) (joined es) (joined-in-order es chains) ∙ in-chains es chains.each
 
@@ -211,25 +219,39 @@ module _ (span : Span) where
       ap (λ k. cond (contains span k) (k ∷ filter (contains span) (map (λ (v : Version). v.key) vs)) (filter (contains span) (map (λ (v : Version). v.key) vs))) own.0
       ∙ (ap (λ b. cond b (key ∷ filter (contains span) (map (λ (v : Version). v.key) vs)) (filter (contains span) (map (λ (v : Version). v.key) vs))) is ∙ none-inside key vs own.1 is)
 
-  one-chain : (key : List ℕ) (vs : List Version) (keys : List (List ℕ)) → Each (λ v. v.key ≡ key) vs → with_first_key span vs keys ≡ with_keys keys (map (λ v. v.key) vs)
-  one-chain key [] keys own = refl
-  one-chain key (v ∷ vs) keys own = by (contains span v.key) refl
-    where
-      by : (b : Bool) → contains span v.key ≡ b
-          → (if b then insert_key (slice_cmp nat_cmp) keys v.key else keys) ≡ fold (insert_key (slice_cmp nat_cmp)) keys (cond b (v.key ∷ filter (contains span) (map (λ v. v.key) vs)) (filter (contains span) (map (λ v. v.key) vs)))
-      by true is = sym (same-again v.key vs keys (keyed key v.key vs (sym own.0) own.1) is)
-      by false is = sym (ap (fold (insert_key (slice_cmp nat_cmp)) keys) (none-inside v.key vs (keyed key v.key vs (sym own.0) own.1) is))
+  one-chain : (key : List ℕ) (vs : List Version) (keys : List (List ℕ)) → Each (λ v. v.key ≡ key) vs → contains span key ≡ true → with_key_of key vs keys ≡ with_keys keys (map (λ v. v.key) vs)
+  one-chain key [] keys own is = refl
+  one-chain key (v ∷ vs) keys own is =
+      sym (same-again key vs keys own.1 is)
+      ∙ sym (ap (λ k. fold (insert_key (slice_cmp nat_cmp)) keys (filter (contains span) (k ∷ map (λ (v : Version). v.key) vs))) own.0
+      ∙ ap (λ b. fold (insert_key (slice_cmp nat_cmp)) keys (cond b (key ∷ filter (contains span) (map (λ (v : Version). v.key) vs)) (filter (contains span) (map (λ (v : Version). v.key) vs)))) is)
 
-  -- the keys of all chains are those of all versions
+  -- the keys of the span's chains are those of all versions in the span
   pub keys_of_chains : (keys : List (List ℕ)) (es : List Chain) → Each (λ e. IsChain e.0 e.1.items) es
-      → fold (λ keys e. with_first_key span e.1.items keys) keys es ≡ fold (insert_key (slice_cmp nat_cmp)) keys (filter (contains span) (map (λ v. v.key) (joined es)))
+      → fold (λ keys e. with_key_of e.0 e.1.items keys) keys (filter (λ e. contains span e.0) es) ≡ fold (insert_key (slice_cmp nat_cmp)) keys (filter (contains span) (map (λ v. v.key) (joined es)))
   keys_of_chains keys [] each = refl
   keys_of_chains keys (e ∷ es) each =
-      let own = each.0 in
-      let first = map (λ (v : Version). v.key) e.1.items in
-      let rest = map (λ (v : Version). v.key) (joined es) in
-      keys_of_chains (with_first_key span e.1.items keys) es each.1
-      ∙ (ap (λ ks. with_keys ks rest) (one-chain e.0 e.1.items keys own.own)
-      ∙ (sym (fold-append (insert_key (slice_cmp nat_cmp)) keys (filter (contains span) first) (filter (contains span) rest))
-      ∙ (ap (fold (insert_key (slice_cmp nat_cmp)) keys) (sym (filter-append (contains span) first rest))
-      ∙ ap (λ ks. fold (insert_key (slice_cmp nat_cmp)) keys (filter (contains span) ks)) (sym (map-append (λ (v : Version). v.key) e.1.items (joined es))))))
+      by (contains span e.0) refl each (λ keys. keys_of_chains keys es each.1)
+      ∙ (ap (fold (insert_key (slice_cmp nat_cmp)) keys) (sym (filter-append (contains span) (map (λ (v : Version). v.key) e.1.items) (map (λ (v : Version). v.key) (joined es))))
+      ∙ ap (λ ks. fold (insert_key (slice_cmp nat_cmp)) keys (filter (contains span) ks)) (sym (map-append (λ (v : Version). v.key) e.1.items (joined es))))
+    where
+      by : (b : Bool) → contains span e.0 ≡ b → Each (λ e. IsChain e.0 e.1.items) (e ∷ es)
+          → ((keys : List (List ℕ)) → fold (λ keys (e : Chain). with_key_of e.0 e.1.items keys) keys (filter (λ e. contains span e.0) es) ≡ fold (insert_key (slice_cmp nat_cmp)) keys (filter (contains span) (map (λ v. v.key) (joined es))))
+          → fold (λ keys (e : Chain). with_key_of e.0 e.1.items keys) keys (cond b (e ∷ filter (λ e. contains span e.0) es) (filter (λ e. contains span e.0) es))
+          ≡ fold (insert_key (slice_cmp nat_cmp)) keys (filter (contains span) (map (λ v. v.key) e.1.items) ++ filter (contains span) (map (λ v. v.key) (joined es)))
+      by true is each rest =
+          let own = each.0 in
+          rest (with_key_of e.0 e.1.items keys)
+          ∙ (ap (λ ks. with_keys ks (map (λ (v : Version). v.key) (joined es))) (one-chain e.0 e.1.items keys own.own is)
+          ∙ sym (fold-append (insert_key (slice_cmp nat_cmp)) keys (filter (contains span) (map (λ (v : Version). v.key) e.1.items)) (filter (contains span) (map (λ (v : Version). v.key) (joined es)))))
+      by false is each rest =
+          let own = each.0 in
+          rest keys
+          ∙ sym (ap (λ ks. fold (insert_key (slice_cmp nat_cmp)) keys (ks ++ filter (contains span) (map (λ (v : Version). v.key) (joined es)))) (none-inside e.0 e.1.items own.own is))
+
+-- the entries between a span's bounds are those whose keys it has
+pub entries_of_span : {X : Type 0} (span : Span) (low high : Bound (List ℕ)) (es : List (List ℕ × X)) → AreBoundsOf span low high → entries_between (slice_cmp nat_cmp) low high es ≡ filter (λ e. contains span e.0) es
+entries_of_span span low high [] bounds = refl
+entries_of_span span low high (e ∷ es) bounds =
+    ap (λ b. cond b (e ∷ entries_between (slice_cmp nat_cmp) low high es) (entries_between (slice_cmp nat_cmp) low high es)) (bounds.keys e.0)
+    ∙ ap (λ es. cond (contains span e.0) (e ∷ es) es) (entries_of_span span low high es bounds)

@@ -1,5 +1,5 @@
 -- Versions in chains: one for each key, in the order of the keys, each by timestamp. Own profile (a map of version chains).
-use Rattle.std.specs.Prelude.{◌≡◌, ℕ, if◌then◌else◌, List, [], ◌∷◌}
+use Rattle.std.specs.Prelude.{◌≡◌, ℕ, List, [], ◌∷◌}
 use Rattle.std.specs.BTreeSet.{insert_key}
 use Rattle.std.specs.Cmp.Lexicographic.{slice_cmp}
 use Rattle.std.specs.List.{AllByRecursion as Each, flat_map}
@@ -7,8 +7,6 @@ use Rattle.std.specs.List.Sorted.{IsNonDecreasingBy, IsStrictlySortedBy}
 use Rattle.std.specs.Map.{keys_of}
 use Rattle.std.specs.Ordering.{nat_cmp}
 use Rattle.std.specs.Global.{Vec}
-use Rattle.pc_base.specs.declared.span.Span.{Span}
-use Rattle.pc_base.specs.Span.{contains}
 use Rattle.pc_base.specs.declared.version.Version.{Version}
 
 -- All versions, chain after chain.
@@ -25,7 +23,7 @@ pub record AreChains (chains : List (List ℕ × Vec Version)) : Type 0 where
   pub ordered : IsStrictlySortedBy (slice_cmp nat_cmp) (keys_of chains)
   pub each : Each (λ e. IsChain e.0 e.1.items) chains
 
--- The keys with that of the first version, if there is one and the span has its key.
-abbrev pub with_first_key : Span → List Version → List (List ℕ) → List (List ℕ)
-with_first_key span [] keys = keys
-with_first_key span (v ∷ vs) keys = if contains span v.key then insert_key (slice_cmp nat_cmp) keys v.key else keys
+-- The keys with that of a chain, if the chain has a version.
+abbrev pub with_key_of : List ℕ → List Version → List (List ℕ) → List (List ℕ)
+with_key_of key [] keys = keys
+with_key_of key (v ∷ vs) keys = insert_key (slice_cmp nat_cmp) keys key

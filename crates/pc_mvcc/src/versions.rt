@@ -1,11 +1,12 @@
-ghost use Rattle.std.specs.Prelude.{◌≡◌, [], OnErr, OnOk, filter, fold, map};
+ghost use Rattle.std.specs.Prelude.{◌≡◌, [], IfOk, OnErr, OnOk, filter, fold, map};
 ghost use Rattle.std.specs.BTreeSet.{insert_key};
 ghost use Rattle.std.specs.Cmp.Lexicographic.{slice_cmp};
 ghost use Rattle.std.specs.Option.{option_copied};
 ghost use Rattle.std.specs.Ordering.{nat_cmp};
 ghost use Rattle.pc_base.specs.Span.{contains, same_key};
 ghost use Rattle.pc_base.specs.Versions.{first_between, newest, visible, with_version};
-ghost use Rattle.pc_mvcc.specs.Chains.{IsChain, with_first_key};
+ghost use Rattle.pc_mvcc.specs.Chains.{IsChain, with_key_of};
+ghost use Rattle.pc_mvcc.specs.VisibleIn.{visible_in};
 
 use crate::chain::{alone, between, has_between, latest, latest_by, put};
 use pc_base::{Key, NoMemory, Span, Timestamp, TryCopy, Version};
@@ -77,17 +78,32 @@ impl Versions {
     pub fn any_in(&self, span: &Span, from: Timestamp, to: Timestamp) -> Option<&Version>
         ensures { option_copied result ≡ first_between span.now from to self.now }
     {
-        let (_, chain) = self.chains.iter().find(|entry| span.contains(entry.0)
-            && has_between(entry.1, from, to))?;
+        let (_, chain) = self
+            .chains
+            .range(span.bounds())
+            .find(|entry| has_between(entry.1, from, to))?;
         between(chain, from, to)
+    }
+
+    /// Of each key in the span the version that a read at this timestamp sees, in the order of the keys.
+    pub fn visible_in(&self, span: &Span, ts: Timestamp) -> Result<Vec<&Version>, NoMemory>
+        ensures { IfOk result (λ seen. map (λ v. v.now) seen.items ≡ visible_in span.now ts self.now) }
+    {
+        let mut seen = Vec::new(self.alloc);
+        for (key, _) in self.chains.range(span.bounds()) {
+            if let Some(version) = self.visible(key, ts) {
+                seen.push(version)?;
+            }
+        }
+        Ok(seen)
     }
 
     /// Adds the keys of the span that have a version to the others; where memory runs out, some of them.
     pub fn add_keys(&self, span: &Span, keys: &mut BTreeSet<Key>) -> Result<(), NoMemory>
         ensures { OnOk result (keys.new.keys ≡ fold (insert_key (slice_cmp nat_cmp)) keys.old.keys (filter (contains span.now) (map (λ v. v.key) self.now))) }
     {
-        for (_, chain) in &self.chains {
-            add_key(keys, chain, span)?;
+        for (key, chain) in self.chains.range(span.bounds()) {
+            add_key(keys, key, chain)?;
         }
         Ok(())
     }
@@ -104,14 +120,12 @@ impl Versions {
     }
 }
 
-/// Adds the chain's key, if the chain has a version and the span has the key.
-fn add_key(keys: &mut BTreeSet<Key>, chain: &Vec<Version>, span: &Span) -> Result<(), NoMemory>
-    ensures { OnOk result (keys.new.keys ≡ with_first_key span.now chain.now.items keys.old.keys) }
+/// Adds the chain's key, if the chain has a version.
+fn add_key(keys: &mut BTreeSet<Key>, key: &Key, chain: &Vec<Version>) -> Result<(), NoMemory>
+    ensures { OnOk result (keys.new.keys ≡ with_key_of key.now chain.now.items keys.old.keys) }
 {
-    if let Some(version) = chain.first()
-        && span.contains(&version.key)
-    {
-        keys.insert(version.key.copy()?)?;
+    if !chain.is_empty() {
+        keys.insert(key.copy()?)?;
     }
     Ok(())
 }
