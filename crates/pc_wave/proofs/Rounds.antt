@@ -1,5 +1,5 @@
 -- The round of a conflict was made, and its message goes out again.
-use Rattle.std.proofs.Common.{◌≡◌, ℕ, ◌<◌, nat_le, Bool, true, false, cond, inl, inr, List, [], ◌∷◌, ◌++◌, find, None, Some, Option, refl, sym, ap, ◌∙◌, subst, All}
+use Rattle.std.proofs.Common.{◌≡◌, ℕ, ◌<◌, nat_le, Bool, true, false, cond, inl, inr, List, [], ◌∷◌, ◌++◌, find, None, Some, Option, refl, sym, ap, ◌∙◌, subst, All, IsTrue}
 use Rattle.std.specs.List.{list_all, list_any}
 use Rattle.std.proofs.lemmas.Bool.{eq-eqb, leb-false}
 use Rattle.std.proofs.lemmas.List.{append_assoc}
@@ -19,9 +19,7 @@ use Rattle.pc_wave.specs.declared.step.Step.{Step}
 use Rattle.pc_wave.specs.declared.step.Step.TheVariants as steps
 use Rattle.pc_wave.specs.Due.{FollowsConflict, MadeRound}
 use Rattle.pc_wave.specs.Messages.{conflict_by, conflicts_at, first_changed, first_in_conflict, goes_again, has_answer, is_out, is_in_conflict, is_to_send, progress_out, progress_conflicts, progress_in_conflict, step_by, step_in, step_of}
-use Rattle.pc_wave.specs.Standing.{AreOfTwo, IsAsFar, MessageStands, MetConflict, WaveStands}
-use Rattle.pc_world.specs.Follows.CallMessages.{IsOfRound}
-use Rattle.pc_proto.specs.Requests.{round_of}
+use Rattle.pc_wave.specs.Standing.{AreOfTwo, IsAsFar, MessageStands, MetConflict, WaveStands, goes_beside}
 use Rattle.pc_world.specs.Follows.Resends.{MetConflictNow, WasFollowed}
 use Rattle.pc_world.specs.Known.{Known}
 use Rattle.pc_world.specs.Known.Traffic.{Heard}
@@ -78,7 +76,7 @@ not_at n (progresses.Met number conflict) e = absurd cc
 not_at n (progresses.Answered number reply) e = refl
 
 -- the first in conflict is the first of its number that is
-found_at : (n : ℕ) (ms : List Message) (m : Message) → find is_in_conflict ms ≡ Some m → conflicts_at n m ≡ true → find (conflicts_at n) ms ≡ Some m
+pub found_at : (n : ℕ) (ms : List Message) (m : Message) → find is_in_conflict ms ≡ Some m → conflicts_at n m ≡ true → find (conflicts_at n) ms ≡ Some m
 found_at n [] m found at = absurd cc
 found_at n (y ∷ ms) m found at = by (λ there. found_at n ms m there at) (is_in_conflict y) refl found
   where
@@ -92,13 +90,13 @@ all_both P Q (x ∷ xs) ps qs =
     All-cons (λ x. P x × Q x) x xs (All-head P x xs ps, All-head Q x xs qs) (all_both P Q xs (All-tail P x xs ps) (All-tail Q x xs qs))
 
 -- two requests of one kind are both messages of a round, or neither is
-same_round : (one other : Request) → IsSameRequest one other → round_of one ≡ round_of other
-same_round one other (inl same) = ap round_of same
+same_round : (one other : Request) → IsSameRequest one other → goes_beside one ≡ goes_beside other
+same_round one other (inl same) = ap goes_beside same
 same_round (requests.Put meta seq ts key value) (requests.Put holder at now lock laid) (inr put) = refl
 same_round one other (inr put) = absurd put
 
-none_of_round : (request other : Request) → round_of request ≡ None → IsOfRound other → IsSameRequest request other → ⊥
-none_of_round request other none of same = let e : None ≡ Some of.0 = sym none ∙ same_round request other same ∙ of.1 in absurd cc
+none_of_round : (request other : Request) → goes_beside request ≡ false → IsTrue (goes_beside other) → IsSameRequest request other → ⊥
+none_of_round request other none of same = let e : false ≡ true = sym none ∙ same_round request other same ∙ of in absurd cc
 
 followed-behind : (id : TxnId) (key : List ℕ) (earlier later : List Heard) → WasFollowed id key later → WasFollowed id key (earlier ++ later)
 followed-behind id key earlier later f = record {
@@ -120,10 +118,10 @@ module _ (k now : Known) (ms : List Message) (w : WaveStands k ms) (number : ℕ
   met = subst (λ p. IsAsFar k m.request m.conflicts p) in_round.progress stands_m.as_far
 
   news : (y : Message) → MessageStands k y → All (IsOtherSent y.request) made.sent_more
-  news y s = All-weaker (λ m. IsOfRound m.request) (IsOtherSent y.request) (λ m of. none_of_round y.request m.request s.no_round of) made.sent_more made.sent
+  news y s = All-weaker (λ m. IsTrue (goes_beside m.request)) (IsOtherSent y.request) (λ m of. none_of_round y.request m.request s.no_round of) made.sent_more made.sent
 
   others : (y : Message) → MessageStands k y → All (IsOther y.request) made.heard_more
-  others y s = All-weaker (λ h. IsOfRound h.request) (IsOther y.request) (λ h of. none_of_round y.request h.request s.no_round of) made.heard_more made.heard
+  others y s = All-weaker (λ h. IsTrue (goes_beside h.request)) (IsOther y.request) (λ h of. none_of_round y.request h.request s.no_round of) made.heard_more made.heard
 
   followed : WasFollowed met.holder.id met.key made.heard_more
   followed = subst (λ c. FollowsConflict c made.heard_more) met.is made.followed

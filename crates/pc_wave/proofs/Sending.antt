@@ -1,16 +1,17 @@
 -- The first message that is to be sent goes out.
-use Rattle.std.proofs.Common.{◌≡◌, ◌≢◌, ℕ, ◌+◌, ◌≤◌, Bool, true, false, List, [], ◌∷◌, find, length, None, Some, Option, refl, sym, ap, ◌∙◌, subst, arith, All, IsTrue, length-append, cond, nat_le, ◌<◌, ◌==◌}
-use Rattle.std.specs.List.{list_all, list_any}
+use Rattle.std.proofs.Common.{◌≡◌, ◌≢◌, ℕ, ◌+◌, ◌≤◌, Bool, true, false, List, [], ◌∷◌, find, length, None, Some, Option, refl, sym, ap, ◌∙◌, subst, arith, All, Any, IsTrue, length-append, cond, nat_le, ◌<◌}
+use Rattle.std.specs.List.{list_all}
 use Rattle.std.specs.Option.{option_map}
 use Rattle.std.proofs.lemmas.List.{append-nil}
 use Rattle.std.proofs.lemmas.List.Elements.{All-cons, All-nil, All-push, All-weaker}
 use Rattle.pc_base.specs.declared.limits.TheConstants.{MOST_CONFLICTS}
 use Rattle.pc_base.specs.declared.transaction.TxnId.{TxnId}
+use Rattle.pc_lists.proofs.Anywhere.{any_last}
 use Rattle.pc_proto.specs.declared.reply.Reply.{Reply}
 use Rattle.pc_proto.specs.Replies.{holder_in}
 use Rattle.pc_proto.specs.declared.request.Request.{Request}
 use Rattle.pc_wave.proofs.Changed.{changed_other, found_all, found_passes, pairwise_changed}
-use Rattle.pc_wave.proofs.Lists.{any_last_of, find-last}
+use Rattle.pc_wave.proofs.Lists.{find-last}
 use Rattle.pc_wave.proofs.Standings.{IsOther, IsOtherSent, heard-kept, stands-kept}
 use Rattle.pc_wave.specs.declared.message.Message.{Message}
 use Rattle.pc_wave.specs.declared.message.Progress.{Progress}
@@ -18,7 +19,7 @@ use Rattle.pc_wave.specs.declared.message.Progress.TheVariants as progresses
 use Rattle.pc_wave.specs.declared.step.Step.{Step}
 use Rattle.pc_wave.specs.declared.step.Step.TheVariants as steps
 use Rattle.pc_wave.specs.Messages.{conflict_by, first_changed, first_in_conflict, has_answer, is_to_send, progress_to_send, step_by, step_in, step_of, sent_under}
-use Rattle.pc_wave.specs.Standing.{AreAnsweredBut, AreNumbered, AreOfTwo, HasMore, IsAsFar, MessageStands, WaveStands}
+use Rattle.pc_wave.specs.Standing.{AreAnsweredBut, AreNumbered, AreOfTwo, HasMore, IsAsFar, IsMessageAt, MessageStands, WaveStands}
 use Rattle.pc_world.specs.Counting.{AtLeast}
 use Rattle.pc_world.specs.Follows.Resends.{AreAnsweredNow}
 use Rattle.pc_world.specs.Known.{Known, next_number}
@@ -91,7 +92,7 @@ module _ (k now : Known) (ms : List Message) (w : WaveStands k ms) (numbered : A
                 ap (request_sent n) more.sent
                 ∙ ap (option_map (λ s. s.request)) (find-last (λ s. s.number) n k.sent new (All-weaker (λ s. s.number ≤ length k.sent) (λ s. s.number ≢ n) (λ s h. low s.number h) k.sent numbered.sent) refl);
             numbered = omega (arith, longer);
-            now = ap (list_any (λ s. s.number == n)) more.sent_now ∙ any_last_of (λ s. s.number) n k.sent_now new refl;
+            now = subst (λ ms. Any (IsMessageAt n m.request) ms) (sym more.sent_now) (any_last (IsMessageAt n m.request) k.sent_now new (record { numbered = refl; asked = refl }));
           };
           rest = rest_answered (stands_m_goes m.progress (found_passes is_to_send ms m found) stands_m.as_far);
           unheard =

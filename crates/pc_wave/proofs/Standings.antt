@@ -15,7 +15,7 @@ use Rattle.pc_wave.proofs.Lists.{any_before, any_true_kept, at_least-before, at_
 use Rattle.pc_wave.specs.declared.message.Message.{Message}
 use Rattle.pc_wave.specs.declared.message.Progress.{Progress}
 use Rattle.pc_wave.specs.declared.message.Progress.TheVariants as progresses
-use Rattle.pc_wave.specs.Standing.{AreAnsweredBut, AreCounted, HasComeBack, HasMore, IsAsFar, IsOnItsWay, IsReplyAt, MayGoOut, MessageStands, MetConflict, IsSentUnder}
+use Rattle.pc_wave.specs.Standing.{AreAnsweredBut, AreCounted, HasComeBack, HasMore, IsAsFar, IsMessageAt, IsOnItsWay, IsReplyAt, MayGoOut, MessageStands, MetConflict, IsSentUnder}
 use Rattle.pc_world.specs.Counting.{AtLeast}
 use Rattle.pc_world.specs.Follows.Resends.{AreAnsweredNow, MayGoAgain, MetConflictNow, MetLaterEpochNow, ShowsLaterEpoch, WasDone, WasFollowed}
 use Rattle.pc_world.specs.Known.{Known}
@@ -71,7 +71,7 @@ module _ (k k2 : Known) (sent_more : List Sent) (heard_more : List Heard) (more 
       record {
         said = ap (request_sent number) more.sent ∙ said_kept number request k.sent sent_more out.said;
         numbered = omega (arith, longer, out.numbered);
-        now = ap (list_any (λ m. m.number == number)) more.sent_now ∙ any_true_kept (λ m. m.number == number) k.sent_now sent_more out.now;
+        now = subst (λ ms. Any (IsMessageAt number request) ms) (sym more.sent_now) (any_kept (IsMessageAt number request) k.sent_now sent_more out.now);
       }
 
   pub heard-kept : (m : Sent) → IsTrue (is_heard k.heard_now m) → IsTrue (is_heard k2.heard_now m)

@@ -9,8 +9,7 @@ use Rattle.pc_wave.specs.declared.message.Progress.TheVariants as progresses
 use Rattle.pc_wave.specs.declared.step.Step.{Step}
 use Rattle.pc_wave.specs.declared.step.Step.TheVariants as steps
 use Rattle.pc_wave.specs.Messages.{is_out}
-use Rattle.pc_wave.specs.Standing.{HasComeBack, HasMore, MayGoOut, MetConflict}
-use Rattle.pc_world.specs.Follows.CallMessages.{IsOfRound}
+use Rattle.pc_wave.specs.Standing.{HasComeBack, HasMore, MayGoOut, MetConflict, goes_beside}
 use Rattle.pc_world.specs.Follows.Eighth.{MetEighth}
 use Rattle.pc_world.specs.Follows.Resends.{WasFollowed}
 use Rattle.pc_world.specs.Known.{Known}
@@ -50,6 +49,6 @@ pub record MadeRound (before now : Known) (conflict : Reply) : Type 0 where
   pub sent_more : List Sent
   pub heard_more : List Heard
   pub more : HasMore before now sent_more heard_more
-  pub sent : All (λ m. IsOfRound m.request) sent_more
-  pub heard : All (λ h. IsOfRound h.request) heard_more
+  pub sent : All (λ m. IsTrue (goes_beside m.request)) sent_more
+  pub heard : All (λ h. IsTrue (goes_beside h.request)) heard_more
   pub followed : FollowsConflict conflict heard_more

@@ -1,12 +1,11 @@
 -- How the messages of a wave stand beside what their session knows.
-use Rattle.std.specs.Prelude.{◌≡◌, ◌≢◌, ℕ, ◌+◌, ◌≤◌, ◌<◌, ◌==◌, None, List, [], ◌∷◌, ◌++◌, length, All, Any, IsTrue, Some}
-use Rattle.std.specs.List.{list_any}
+use Rattle.std.specs.Prelude.{◌≡◌, ◌≢◌, ℕ, ◌+◌, ◌≤◌, ◌<◌, Bool, true, false, None, List, [], ◌∷◌, ◌++◌, length, All, Any, IsTrue, Some}
 use Rattle.pc_base.specs.declared.limits.TheConstants.{MOST_CONFLICTS}
 use Rattle.pc_proto.specs.declared.meta.TxnMeta.{TxnMeta}
 use Rattle.pc_proto.specs.declared.reply.Reply.{Reply}
 use Rattle.pc_proto.specs.declared.reply.Reply.TheVariants as replies
 use Rattle.pc_proto.specs.declared.request.Request.{Request}
-use Rattle.pc_proto.specs.Requests.{round_of}
+use Rattle.pc_proto.specs.declared.request.Request.TheVariants as requests
 use Rattle.pc_wave.specs.declared.message.Message.{Message}
 use Rattle.pc_wave.specs.declared.message.Progress.{Progress}
 use Rattle.pc_wave.specs.declared.message.Progress.TheVariants as progresses
@@ -23,11 +22,16 @@ pub record MayGoOut (k : Known) (request : Request) : Type 0 where
   pub answered : AreAnsweredNow k request
   pub again : Any (λ m. IsSameRequest request m.request) k.sent_now → MayGoAgain k request None
 
+-- The message is of this request, under this number.
+pub record IsMessageAt (number : ℕ) (request : Request) (m : Sent) : Type 0 where
+  pub numbered : m.number ≡ number
+  pub asked : m.request ≡ request
+
 -- The request went out in the open call under this number.
 pub record IsSentUnder (k : Known) (number : ℕ) (request : Request) : Type 0 where
   pub said : request_sent number k.sent ≡ Some request
   pub numbered : number ≤ length k.sent
-  pub now : IsTrue (list_any (λ m. m.number == number) k.sent_now)
+  pub now : Any (IsMessageAt number request) k.sent_now
 
 -- Each message of the request that went out in the call was answered there, but for the one of this number.
 abbrev pub AreAnsweredBut : Known → ℕ → Request → Type 0
@@ -81,11 +85,20 @@ pub record AreCounted (k : Known) (request : Request) (conflicts : ℕ) : Type 0
   pub heard : AtLeast (IsConflictOf request) conflicts k.heard_now
   pub no_more : AtLeast (IsConflictOf request) (conflicts + 1) k.heard_now → ⊥
 
--- The message is as far as the wave has it, and met as many conflicts. It is none of a conflict's round.
+-- The request is one that a session sends beside its waves: of a conflict's round, or of a finishing job.
+abbrev pub goes_beside : Request → Bool
+goes_beside (requests.Push holder by level now goal) = true
+goes_beside (requests.Query id epoch seq ts key by) = true
+goes_beside (requests.Recover id epoch ts anchor finding) = true
+goes_beside (requests.Resolve id key fate) = true
+goes_beside (requests.Remove id anchor) = true
+goes_beside _ = false
+
+-- The message is as far as the wave has it, and met as many conflicts. It is none that is sent beside a wave.
 pub record MessageStands (k : Known) (m : Message) : Type 0 where
   pub as_far : IsAsFar k m.request m.conflicts m.progress
   pub counted : AreCounted k m.request m.conflicts
-  pub no_round : round_of m.request ≡ None
+  pub no_round : goes_beside m.request ≡ false
 
 -- The two messages are of different requests.
 pub record AreOfTwo (one other : Message) : Type 0 where
@@ -122,11 +135,11 @@ pub record IsHeardTo (k : Known) (number : ℕ) (reply : Reply) (h : Heard) : Ty
   pub told : h.reply ≡ reply
   pub kind : MayAnswer h.request reply
 
--- The request may join the wave: it may go out, met no intent in the call, is none of a conflict's round, and is of none of the messages'
+-- The request may join the wave: it may go out, met no intent in the call, is none that is sent beside a wave, and is of none of the messages'
 -- requests.
 pub record MayJoin (k : Known) (messages : List Message) (request : Request) : Type 0 where
   pub out : MayGoOut k request
   pub unmet : AtLeast (IsConflictOf request) 1 k.heard_now → ⊥
-  pub no_round : round_of request ≡ None
+  pub no_round : goes_beside request ≡ false
   pub differ : All (λ m. IsSameRequest m.request request → ⊥) messages
   pub back : All (λ m. IsSameRequest request m.request → ⊥) messages

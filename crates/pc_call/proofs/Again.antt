@@ -1,0 +1,238 @@
+-- The round of a conflict was made, and its message goes out again.
+use Rattle.std.proofs.Common.{◌≡◌, ℕ, Bool, true, false, cond, ◌⊎◌, inl, inr, List, [], ◌∷◌, ◌++◌, map, find, Option, Some, refl, sym, ap, ◌∙◌, subst, arith, All, IsTrue, append_assoc, not}
+use Rattle.std.specs.List.{list_any}
+use Rattle.std.proofs.lemmas.Bool.{eq-eqb}
+use Rattle.std.proofs.lemmas.List.Elements.{All-append, All-cons, All-head, All-map, All-nil, All-tail, All-weaker}
+use Rattle.pc_base.specs.declared.limits.TheConstants.{MOST_CONFLICTS}
+use Rattle.pc_call.proofs.Facts.{before_is}
+use Rattle.pc_call.proofs.Hearing.{refresh_kind}
+use Rattle.pc_call.proofs.Holders.{holders_again}
+use Rattle.pc_call.proofs.Lists.{all_unmapped, kept_by, only_found}
+use Rattle.pc_call.specs.declared.purpose.Purpose.{Purpose}
+use Rattle.pc_call.specs.declared.purpose.Purpose.TheVariants as purposes
+use Rattle.pc_call.specs.Paced.{IsPaced}
+use Rattle.pc_call.specs.Rounding.{KeepsPace, MakesRound, IsPushedOnce}
+use Rattle.pc_call.specs.Serving.{AreReadsOf, InCall, IsReadFor, IsSplit, LaysLast, LaysNext, NoOtherMetEighth, Serves, ServesRead, ServesWrite, holder_met, holders_met, out_of}
+use Rattle.pc_proto.specs.declared.reply.Reply.{Reply}
+use Rattle.pc_proto.specs.declared.reply.Reply.TheVariants as replies
+use Rattle.pc_proto.specs.declared.request.Request.{Request}
+use Rattle.pc_proto.specs.declared.request.Request.TheVariants as requests
+use Rattle.pc_proto.specs.Replies.{holder_in}
+use Rattle.pc_proto.specs.Requests.{is_about, is_put_of}
+use Rattle.pc_txn.proofs.Keeping.{quiet_leaves, stands_on}
+use Rattle.pc_txn.specs.declared.txn.OpenTxn.{OpenTxn}
+use Rattle.pc_txn.specs.Opened.{own_abort, own_commit}
+use Rattle.pc_txn.specs.Standing.{HasMovedOn, LeavesAsIs, TxnStands, is_plain}
+use Rattle.pc_wave.proofs.Changed.{found_all}
+use Rattle.pc_wave.proofs.Lists.{at_least-before}
+use Rattle.pc_wave.proofs.Rounds.{due_round, first_found, found_at, wave_again}
+use Rattle.pc_wave.specs.declared.message.Message.{Message}
+use Rattle.pc_wave.specs.declared.message.Progress.TheVariants as progresses
+use Rattle.pc_wave.specs.declared.step.Step.TheVariants as steps
+use Rattle.pc_wave.specs.Messages.{conflicts_at, first_changed, goes_again, is_in_conflict, progress_conflicts, step_of}
+use Rattle.pc_wave.specs.Standing.{IsAsFar, MessageStands, MetConflict, WaveStands, goes_beside}
+use Rattle.pc_world.specs.Answering.{IsRefreshReply, MayAnswer}
+use Rattle.pc_world.specs.Counting.{AtLeast}
+use Rattle.pc_world.specs.Known.{Known}
+use Rattle.pc_world.specs.Known.Reads.{read_heard}
+use Rattle.pc_world.specs.Known.Traffic.{Heard, Sent}
+use Rattle.pc_world.specs.Known.Transactions.{Txn}
+use Rattle.pc_world.specs.SameRequest.{IsSameRequest}
+use Rattle.pc_world.specs.Tell.Data.{IsFirstPut, IsPutFor, sent_before}
+use Rattle.pc_world.specs.Tell.Refusal.{IsConflictOf}
+
+beside_quiet : (r : Request) → goes_beside r ≡ true → is_plain r ≡ true
+beside_quiet (requests.Put meta seq ts key value) e = absurd cc
+beside_quiet (requests.Stage meta ts now writes locks) e = absurd cc
+beside_quiet (requests.Commit meta ts locks) e = absurd cc
+beside_quiet r e = refl
+
+beside_no_read : (r : Request) (reply : Reply) → goes_beside r ≡ true → read_heard r reply ≡ []
+beside_no_read (requests.Get id epoch seq ts key) reply e = absurd cc
+beside_no_read (requests.Scan id epoch seq ts span) reply e = absurd cc
+beside_no_read r reply e = refl
+
+beside_no_put : (t : Txn) (key : List ℕ) (value : Option (List ℕ)) (seq : ℕ) (r : Request) → goes_beside r ≡ true → IsPutFor t key value seq r → ⊥
+beside_no_put t key value seq (requests.Put meta at ts place what) e put = cc
+beside_no_put t key value seq r e put = put
+
+same_beside : (one other : Request) → IsSameRequest one other → goes_beside one ≡ goes_beside other
+same_beside one other (inl same) = ap goes_beside same
+same_beside (requests.Put meta seq ts key value) (requests.Put holder at now lock laid) (inr put) = refl
+same_beside one other (inr put) = absurd put
+
+module _ (splits : List (List ℕ)) (start k : Known) (x : OpenTxn) (p : Purpose) (ms : List Message) (w : InCall splits start x p ms) (number : ℕ) (conflict : Reply)
+    (due : step_of ms ≡ steps.Round number conflict) (made : MakesRound start k x.id conflict) where
+  abbrev ms2 : List Message
+  ms2 = first_changed (conflicts_at number) goes_again ms
+
+  module _ (m : Message) (found_c : find is_in_conflict ms ≡ Some m) (progress : m.progress ≡ progresses.Met number conflict) where
+    found : find (conflicts_at number) ms ≡ Some m
+    found = found_at number ms m found_c (ap (progress_conflicts number) progress ∙ eq-eqb number number refl)
+
+    stands_m : MessageStands start m
+    stands_m = found_all is_in_conflict (MessageStands start) ms m found_c w.wave.stand
+
+    met : MetConflict start number m.request conflict
+    met = subst (λ p. IsAsFar start m.request m.conflicts p) progress stands_m.as_far
+
+    gone : HasMovedOn start k made.sent_more made.heard_more
+    gone = record { sent = made.more.sent; heard = made.more.heard; begun = made.begun; high = made.high }
+
+    wave2 : WaveStands k ms2
+    wave2 =
+        wave_again start k ms number conflict w.wave due
+        (record { sent_more = made.sent_more; heard_more = made.heard_more; more = made.more; sent = made.sent_beside; heard = made.heard_beside; followed = made.followed })
+
+    requests2 : map (λ m. m.request) ms2 ≡ map (λ m. m.request) ms
+    requests2 = kept_by (conflicts_at number) goes_again (λ (m : Message). m.request) ms (λ m. refl)
+
+    holder_is : holder_in conflict ≡ Some met.holder.id
+    holder_is = ap holder_in met.is
+
+    pace : IsPushedOnce met.holder.id start.heard_now k.heard_now
+    pace = subst (λ o. KeepsPace o start.heard_now k.heard_now) holder_is made.pace
+
+    paced2 : IsPaced (holders_met ms2) k.heard_now
+    paced2 = record {
+      pushes = λ id.
+          let held = holders_again id met.holder.id number ms m found (ap holder_met progress ∙ holder_is) in
+          let pushed = pace.pushes id in
+          let more = pace.met id in
+          let old = w.paced.pushes id in
+          omega arith;
+      resolves = pace.resolves;
+    }
+
+    fewer2 : NoOtherMetEighth k.heard_now ms2
+    fewer2 r beside none eight =
+        let P : Request → Type 0 = λ q. IsSameRequest q r → ⊥ in
+        let before : All (λ (m : Message). P m.request) ms = all_unmapped P (λ (m : Message). m.request) ms (subst (λ rs. All P rs) requests2 (All-map P (λ (m : Message). m.request) ms2 none)) in
+        w.fewer r beside before
+        (at_least-before (IsConflictOf r) MOST_CONFLICTS start.heard_now made.heard_more
+        (All-weaker (λ h. IsTrue (goes_beside h.request)) (λ h. IsConflictOf r h → ⊥)
+        (λ h of c. let e : false ≡ true = sym beside ∙ same_beside r h.request c.same ∙ of in absurd cc) made.heard_more made.heard_beside)
+        (subst (λ hs. AtLeast (IsConflictOf r) MOST_CONFLICTS hs) made.more.heard_now eight))
+
+    same_id : x.id ≡ w.t.id
+    same_id = ap (λ x. x.id) w.stands.same
+
+    leaves : (hs : List Heard) → All (λ h. IsTrue (goes_beside h.request)) hs → All (λ h. is_about x.id h.request ≡ false) hs → All (LeavesAsIs w.t) hs
+    leaves [] a b = All-nil (LeavesAsIs w.t)
+    leaves (h ∷ hs) a b =
+        let quiet : is_plain h.request ≡ true = beside_quiet h.request (All-head (λ h. IsTrue (goes_beside h.request)) h hs a) in
+        let no : is_about w.t.id h.request ≡ false = subst (λ id. is_about id h.request ≡ false) same_id (All-head (λ h. is_about x.id h.request ≡ false) h hs b) in
+        All-cons (LeavesAsIs w.t) h hs (quiet_leaves w.t h quiet (λ about. absurd cc))
+        (leaves hs (All-tail (λ h. IsTrue (goes_beside h.request)) h hs a) (All-tail (λ h. is_about x.id h.request ≡ false) h hs b))
+
+    stands2 : TxnStands k (out_of p ms) w.t x
+    stands2 =
+        stands_on start k (out_of p ms) w.t x made.sent_more made.heard_more w.stands gone
+        (All-weaker (λ m. IsTrue (goes_beside m.request)) (λ m. IsTrue (is_plain m.request)) (λ m of. beside_quiet m.request of) made.sent_more made.sent_beside)
+        (leaves made.heard_more made.heard_beside made.other)
+
+    split2 : IsSplit k
+    split2 = record {
+      sent_first = w.split.sent_first;
+      sent = made.more.sent ∙ ap (λ ms. ms ++ made.sent_more) w.split.sent ∙ append_assoc w.split.sent_first start.sent_now made.sent_more ∙ ap (λ ms. w.split.sent_first ++ ms) (sym made.more.sent_now);
+      heard_first = w.split.heard_first;
+      heard = made.more.heard ∙ ap (λ hs. hs ++ made.heard_more) w.split.heard ∙ append_assoc w.split.heard_first start.heard_now made.heard_more ∙ ap (λ hs. w.split.heard_first ++ hs) (sym made.more.heard_now);
+    }
+
+    goes_on : out_of p ms2 ≡ out_of p ms → Serves splits k w.s w.t x p ms2 → InCall splits k x p ms2
+    goes_on out serves = record {
+      t = w.t;
+      open_in = record { others = w.open_in.others; is_open = made.is_open ∙ w.open_in.is_open; first = made.txns ∙ w.open_in.first };
+      stands = subst (λ o. TxnStands k o w.t x) (sym out) stands2;
+      cause = w.cause;
+      s = w.s;
+      opened = made.statement ∙ w.opened;
+      split = split2;
+      wave = wave2;
+      paced = paced2;
+      fewer = fewer2;
+      serves = serves;
+    }
+
+    read_serves : ServesRead splits start w.s x ms → ServesRead splits k w.s x ms2
+    read_serves r = record {
+      asked = subst (λ rs. AreReadsOf splits x w.s.call rs) (sym requests2) r.asked;
+      none_in_flight = r.none_in_flight;
+      heard =
+          subst (λ hs. All (IsReadFor (map (λ m. m.request) ms2)) hs) (sym made.more.heard_now)
+          (All-append (IsReadFor (map (λ m. m.request) ms2)) start.heard_now made.heard_more (subst (λ rs. All (IsReadFor rs) start.heard_now) (sym requests2) r.heard)
+          (All-weaker (λ h. IsTrue (goes_beside h.request)) (IsReadFor (map (λ m. m.request) ms2)) (λ h of. inl (beside_no_read h.request h.reply of)) made.heard_more made.heard_beside));
+    }
+
+    before_same : sent_before k ≡ sent_before start
+    unfolding split2
+    before_same = before_is k split2 ∙ sym (before_is start w.split)
+
+    first_back : (m : Sent) → IsFirstPut k w.s w.t m → IsFirstPut start w.s w.t m
+    first_back m f = record {
+      seq = f.seq;
+      key = f.key;
+      value = f.value;
+      asked = f.asked;
+      put = f.put;
+      first = subst (λ ms. IsTrue (not (list_any (λ other. is_put_of w.t.id w.t.epoch f.seq other.request) ms))) before_same f.first;
+    }
+
+    new_on : All (λ m. IsFirstPut start w.s w.t m → ⊥) start.sent_now → All (λ m. IsFirstPut k w.s w.t m → ⊥) k.sent_now
+    new_on a =
+        let P : Sent → Type 0 = λ m. IsFirstPut k w.s w.t m → ⊥ in
+        subst (λ ms. All P ms) (sym made.more.sent_now)
+        (All-append P start.sent_now made.sent_more (All-weaker (λ m. IsFirstPut start w.s w.t m → ⊥) P (λ m none f. none (first_back m f)) start.sent_now a)
+        (All-weaker (λ m. IsTrue (goes_beside m.request)) P (λ m of f. beside_no_put w.t f.key f.value f.seq m.request of f.put) made.sent_more made.sent_beside))
+
+    write_serves : (again : Bool) → ServesWrite again start w.s w.t x ms → ServesWrite again k w.s w.t x ms2
+    write_serves again r = by r.lays
+      where
+        is_m : r.m ≡ m
+        is_m = (only_found is_in_conflict r.m m (subst (λ ms. find is_in_conflict ms ≡ Some m) r.one found_c)).0
+
+        at_number : conflicts_at number r.m ≡ true
+        at_number = ap (conflicts_at number) is_m ∙ ap (progress_conflicts number) progress ∙ eq-eqb number number refl
+
+        by : LaysNext start w.s w.t x r.key r.value again r.m ⊎ LaysLast start w.s w.t x r.key r.value again r.m → ServesWrite again k w.s w.t x ms2
+        by (inl l) = let f : false ≡ true = ap (progress_conflicts number) (sym l.to_send) ∙ at_number in absurd cc
+        by (inr l) = record {
+          key = r.key;
+          value = r.value;
+          call = r.call;
+          m = goes_again r.m;
+          one = ap (first_changed (conflicts_at number) goes_again) r.one ∙ ap (λ b. cond b (goes_again r.m ∷ []) (r.m ∷ [])) at_number;
+          lays = inr (record {
+            in_flight = l.in_flight;
+            anchor = l.anchor;
+            anchored = l.anchored;
+            said = l.said;
+            first = λ e. ap (λ ms. list_any (λ other. is_put_of w.t.id w.t.epoch x.seq other.request) ms) before_same ∙ l.first e;
+            old = λ e. new_on (l.old e);
+            before = λ e. ap (λ ms. list_any (λ other. is_put_of w.t.id w.t.epoch x.seq other.request) ms) before_same ∙ l.before e;
+          });
+        }
+
+    kind : MayAnswer m.request (replies.Conflict met.holder met.ts met.key)
+    kind = subst (MayAnswer m.request) met.is met.kind
+
+    again_by : (q : Purpose) → p ≡ q → Serves splits start w.s w.t x q ms → InCall splits k x p ms2
+    again_by purposes.Read e r = goes_on (ap (λ q. out_of q ms2) e ∙ sym (ap (λ q. out_of q ms) e)) (subst (λ q. Serves splits k w.s w.t x q ms2) (sym e) (read_serves r))
+    again_by (purposes.Write again) e r = goes_on (ap (λ q. out_of q ms2) e ∙ sym (ap (λ q. out_of q ms) e)) (subst (λ q. Serves splits k w.s w.t x q ms2) (sym e) (write_serves again r))
+    again_by (purposes.Refresh n) e r =
+        let Q : Request → Type 0 = λ r. (reply : Reply) → MayAnswer r reply → IsRefreshReply reply in
+        let all : All (λ (m : Message). Q m.request) ms = all_unmapped Q (λ (m : Message). m.request) ms (refresh_kind m.request conflict x (map (λ m. m.request) ms) r.asked) in
+        absurd (found_all is_in_conflict (λ (m : Message). Q m.request) ms m found_c all (replies.Conflict met.holder met.ts met.key) kind)
+    again_by (purposes.Commit n) e r =
+        let is_m : r.m ≡ m = (only_found is_in_conflict r.m m (subst (λ ms. find is_in_conflict ms ≡ Some m) r.one found_c)).0 in
+        let said : m.request ≡ own_commit x r.commits.anchor = sym (ap (λ (m : Message). m.request) is_m) ∙ r.said in
+        absurd (subst (λ q. MayAnswer q (replies.Conflict met.holder met.ts met.key)) said kind)
+    again_by (purposes.Abort why) e r =
+        let is_m : r.m ≡ m = (only_found is_in_conflict r.m m (subst (λ ms. find is_in_conflict ms ≡ Some m) r.one found_c)).0 in
+        let said : m.request ≡ own_abort x why r.anchor = sym (ap (λ (m : Message). m.request) is_m) ∙ r.said in
+        absurd (subst (λ q. MayAnswer q (replies.Conflict met.holder met.ts met.key)) said kind)
+
+  pub call_again : InCall splits k x p ms2
+  call_again =
+      let f = due_round ms number conflict due in
+      again_by f.0 (first_found ms f.0 f.1).0 f.2.progress p refl w.serves

@@ -1,0 +1,199 @@
+-- A commit's refreshes, and the commit itself, are to be sent.
+use Rattle.std.proofs.Common.{◌≡◌, ℕ, ◌≤◌, ◌<◌, true, false, ◌==◌, ◌⊎◌, inl, inr, List, [], ◌∷◌, map, None, refl, sym, ap, ◌∙◌, subst, arith, All, Any, IsTrue, lit<}
+use Rattle.std.proofs.lemmas.Bool.{eq-eqb}
+use Rattle.std.proofs.lemmas.List.Elements.{All-cons, All-head, All-map, All-nil, All-tail, All-weaker}
+use Rattle.pc_base.specs.declared.limits.TheConstants.{MOST_CONFLICTS}
+use Rattle.pc_base.specs.declared.span.Span.{Span}
+use Rattle.pc_call.proofs.Beginning.{AreTwo, any_true, none_held, requests_are}
+use Rattle.pc_call.specs.Committing.{CommitsNow, CommitsUpTo, RefreshesNow}
+use Rattle.pc_call.specs.declared.purpose.Purpose.{Purpose}
+use Rattle.pc_call.specs.declared.purpose.Purpose.TheVariants as purposes
+use Rattle.pc_call.specs.Paced.{IsPaced}
+use Rattle.pc_call.specs.Serving.{InCall, IsCommitBelow, IsOutHere, IsRefreshUpTo, IsRefusedBy, Serves, WasRefusedIfCommit, out_of}
+use Rattle.pc_lists.proofs.Anywhere.{any_of}
+use Rattle.pc_proto.specs.declared.request.Request.{Request}
+use Rattle.pc_proto.specs.declared.request.Request.TheVariants as requests
+use Rattle.pc_proto.specs.Replies.{is_conflict}
+use Rattle.pc_proto.specs.Requests.{is_commit}
+use Rattle.pc_reads.specs.ReadsStanding.{refresh_to}
+use Rattle.pc_txn.specs.declared.txn.OpenTxn.{OpenTxn}
+use Rattle.pc_txn.specs.Opened.{own_commit}
+use Rattle.pc_txn.specs.Standing.{TxnStands}
+use Rattle.pc_wave.proofs.Lists.{at_least-before, at_least-fewer}
+use Rattle.pc_wave.specs.Messages.{message_to_send}
+use Rattle.pc_wave.specs.Standing.{AreOfTwo, MayGoOut, MessageStands, Pairwise, WaveStands, goes_beside}
+use Rattle.pc_world.specs.Counting.{AtLeast}
+use Rattle.pc_world.specs.Follows.Resends.{ShowsLaterEpoch}
+use Rattle.pc_world.specs.Known.{Known}
+use Rattle.pc_world.specs.Known.Statements.{Statement}
+use Rattle.pc_world.specs.Known.Traffic.{Heard, Sent}
+use Rattle.pc_world.specs.Known.Transactions.{Txn}
+use Rattle.pc_world.specs.SameRequest.{IsSameRequest}
+use Rattle.pc_world.specs.Tell.Refusal.{IsConflictOf, is_heard}
+
+module _ (k : Known) (unmet : All (λ h. is_conflict h.reply ≡ false) k.heard_now) where
+  no_conflict : (r : Request) → All (λ h. IsConflictOf r h → ⊥) k.heard_now
+  no_conflict r = All-weaker (λ h. is_conflict h.reply ≡ false) (λ h. IsConflictOf r h → ⊥) (λ h none c. let e : false ≡ true = sym none ∙ c.conflict in absurd cc) k.heard_now unmet
+
+  none_met : (r : Request) → AtLeast (IsConflictOf r) 1 k.heard_now → ⊥
+  none_met r one = at_least-before (IsConflictOf r) 1 [] k.heard_now (no_conflict r) one
+
+  ready_to_go : (r : Request) → goes_beside r ≡ false → MayGoOut k r → MessageStands k (message_to_send r)
+  ready_to_go r own out = record { as_far = (out, lit< tt); counted = record { heard = tt; no_more = none_met r }; no_round = own }
+
+  all_go : (rs : List Request) → All (λ r. goes_beside r ≡ false) rs → All (MayGoOut k) rs → All (MessageStands k) (map message_to_send rs)
+  all_go [] own out = All-nil (MessageStands k)
+  all_go (r ∷ rs) own out =
+      All-cons (MessageStands k) (message_to_send r) (map message_to_send rs) (ready_to_go r (All-head (λ r. goes_beside r ≡ false) r rs own) (All-head (MayGoOut k) r rs out))
+      (all_go rs (All-tail (λ r. goes_beside r ≡ false) r rs own) (All-tail (MayGoOut k) r rs out))
+
+  two_of : (r : Request) (rs : List Request) → All (AreTwo r) rs → All (AreOfTwo (message_to_send r)) (map message_to_send rs)
+  two_of r [] a = All-nil (AreOfTwo (message_to_send r))
+  two_of r (q ∷ rs) a =
+      let t = All-head (AreTwo r) q rs a in
+      All-cons (AreOfTwo (message_to_send r)) (message_to_send q) (map message_to_send rs) (record { differ = t.differ; back = t.back }) (two_of r rs (All-tail (AreTwo r) q rs a))
+
+  each_of : (rs : List Request) → Pairwise AreTwo rs → Pairwise AreOfTwo (map message_to_send rs)
+  each_of [] two = tt
+  each_of (r ∷ rs) two = (two_of r rs two.0, each_of rs two.1)
+
+  wave_goes : (rs : List Request) → All (λ r. goes_beside r ≡ false) rs → All (MayGoOut k) rs → Pairwise AreTwo rs → WaveStands k (map message_to_send rs)
+  wave_goes rs own out two = record { stand = all_go rs own out; differ = each_of rs two }
+
+module _ (splits : List (List ℕ)) (bound n : ℕ) (k : Known) (t : Txn) (x : OpenTxn) (s : Statement) (c : CommitsUpTo bound n k t x s) where
+  -- the commit goes on with these messages
+  goes_on : (p : Purpose) (rs : List Request) → All (λ r. goes_beside r ≡ false) rs → All (MayGoOut k) rs → Pairwise AreTwo rs → out_of p (map message_to_send rs) ≡ None → Serves splits k s t x p (map message_to_send rs)
+      → InCall splits k x p (map message_to_send rs)
+  goes_on p rs own goes two out serves = record {
+    t = t;
+    open_in = c.open_in;
+    stands = subst (λ o. TxnStands k o t x) (sym out) c.stands;
+    cause = c.client;
+    s = s;
+    opened = c.opened;
+    split = c.split;
+    wave = wave_goes k c.commits.unmet rs own goes two;
+    paced = subst (λ hs. IsPaced hs k.heard_now) (sym (none_held rs)) c.paced;
+    fewer = λ r beside none eight. none_met k c.commits.unmet r (at_least-fewer (IsConflictOf r) 1 MOST_CONFLICTS k.heard_now (omega arith) eight);
+    serves = serves;
+  }
+
+-- a commit that is of one request with another is it
+same_commit : (r other : Request) → is_commit r ≡ true → IsSameRequest r other → other ≡ r
+same_commit r other is (inl e) = sym e
+same_commit (requests.Commit meta ts locks) other is (inr put) = absurd put
+same_commit r other is (inr put) = absurd cc
+
+same_refresh : (x : OpenTxn) (span : Span) (other : Request) → IsSameRequest (refresh_to x.id x.reads.ts x.write_ts span) other → other ≡ refresh_to x.id x.reads.ts x.write_ts span
+same_refresh x span other (inl e) = sym e
+same_refresh x span other (inr put) = absurd put
+
+module _ (n : ℕ) (k : Known) (x : OpenTxn) (s : Statement) (c : CommitsNow n k x s) where
+  abbrev said : Request
+  said = own_commit x c.on.commits.anchor
+
+  writes_at : x.write_ts ≡ c.t.write_ts
+  writes_at = ap (λ x. x.write_ts) c.on.stands.same
+
+  commit_of : (m : Sent) → IsSameRequest said m.request → m.request ≡ said
+  commit_of m same = same_commit said m.request refl same
+
+  -- each that was sent was answered
+  answered_by : (m : Sent) → Any (IsRefusedBy c.t.write_ts m) k.heard_now → IsTrue (is_heard k.heard_now m)
+  answered_by m some = any_true (λ h. h.number == m.number) k.heard_now (some.0, some.1, some.2, some.3, eq-eqb some.1.number m.number some.4.numbered)
+
+  -- and is not the one that goes out now, unless its record is in a later epoch
+  later_by : (m : Sent) → m.request ≡ said → (h : Heard) → IsRefusedBy c.t.write_ts m h → (h.request ≡ said) × ShowsLaterEpoch h.request h.reply
+  later_by m is h r = (r.asked ∙ is, by r.past)
+    where
+      by : IsCommitBelow c.t.write_ts m.request ⊎ ShowsLaterEpoch h.request h.reply → ShowsLaterEpoch h.request h.reply
+      by (inl below) = let low : x.write_ts < c.t.write_ts = subst (IsCommitBelow c.t.write_ts) is below in absurd (omega (arith, low, writes_at))
+      by (inr later) = later
+
+  commit_goes : MayGoOut k said
+  commit_goes = record {
+    answered =
+        All-weaker (WasRefusedIfCommit c.t.write_ts k.heard_now) (λ m. IsSameRequest said m.request → IsTrue (is_heard k.heard_now m))
+        (λ m refused same. answered_by m (refused (ap is_commit (commit_of m same)))) k.sent_now c.on.refused;
+    again = λ some.
+        let f = any_of (WasRefusedIfCommit c.t.write_ts k.heard_now) (λ m. IsSameRequest said m.request) k.sent_now c.on.refused some in
+        let is : f.0.request ≡ said = commit_of f.0 f.2 in
+        let r : Any (IsRefusedBy c.t.write_ts f.0) k.heard_now = f.1 (ap is_commit is) in
+        inr (r.0, r.1, r.2, r.3, later_by f.0 is r.1 r.4);
+  }
+
+  pub commit_begins : (splits : List (List ℕ)) → InCall splits k x (purposes.Commit n) (message_to_send said ∷ [])
+  commit_begins splits =
+      goes_on splits c.t.write_ts n k c.t x s c.on (purposes.Commit n) (said ∷ []) (All-cons (λ r. goes_beside r ≡ false) said [] refl (All-nil (λ r. goes_beside r ≡ false)))
+      (All-cons (MayGoOut k) said [] commit_goes (All-nil (MayGoOut k))) (All-nil (AreTwo said), tt) refl
+      (record {
+        commits = c.on.commits;
+        refused =
+            All-weaker (WasRefusedIfCommit c.t.write_ts k.heard_now) (λ m. IsOutHere (message_to_send said ∷ []) said m ⊎ WasRefusedIfCommit c.t.write_ts k.heard_now m) (λ m r. inr r) k.sent_now c.on.refused;
+        refreshes = c.on.refreshes;
+        m = message_to_send said;
+        one = refl;
+        said = refl;
+        good = λ e. c.good;
+        there = λ e. absurd cc;
+      })
+
+module _ (n : ℕ) (k : Known) (x : OpenTxn) (s : Statement) (c : RefreshesNow n k x s) (behind : x.reads.ts < x.write_ts) where
+  abbrev asks : Span → Request
+  asks span = refresh_to x.id x.reads.ts x.write_ts span
+
+  reads_at : x.reads.ts ≡ c.t.read_ts
+  reads_at = ap (λ x. x.reads.ts) c.on.stands.same
+
+  writes_now : x.write_ts ≡ c.t.write_ts
+  writes_now = ap (λ x. x.write_ts) c.on.stands.same
+
+  -- none of it was sent
+  unsent : (span : Span) → All (λ m. IsSameRequest (asks span) m.request → ⊥) k.sent_now
+  unsent span =
+      All-weaker (λ m. IsRefreshUpTo c.t.read_ts m.request) (λ m. IsSameRequest (asks span) m.request → ⊥)
+      (λ m up same. let low : x.write_ts ≤ c.t.read_ts = subst (IsRefreshUpTo c.t.read_ts) (same_refresh x span m.request same) up in omega (arith, low, reads_at, behind)) k.sent_now c.on.refreshes
+
+  refresh_goes : (span : Span) → MayGoOut k (asks span)
+  refresh_goes span = record {
+    answered = All-weaker (λ m. IsSameRequest (asks span) m.request → ⊥) (λ m. IsSameRequest (asks span) m.request → IsTrue (is_heard k.heard_now m)) (λ m none same. absurd (none same)) k.sent_now (unsent span);
+    again = λ some.
+        let f = any_of (λ m. IsSameRequest (asks span) m.request → ⊥) (λ m. IsSameRequest (asks span) m.request) k.sent_now (unsent span) some in
+        absurd (f.1 f.2);
+  }
+
+  all_asked : (P : Request → Type 0) → ((span : Span) → P (asks span)) → (spans : List Span) → All P (map asks spans)
+  all_asked P all [] = All-nil P
+  all_asked P all (span ∷ spans) = All-cons P (asks span) (map asks spans) (all span) (all_asked P all spans)
+
+  not_same : (one other : Span) → (one ≡ other → ⊥) → IsSameRequest (asks one) (asks other) → ⊥
+  not_same one other differ (inl e) = let f : one ≡ other = cc in differ f
+  not_same one other differ (inr put) = put
+
+  apart : (one other : Span) → (one ≡ other → ⊥) → AreTwo (asks one) (asks other)
+  apart one other differ = record { differ = not_same one other differ; back = not_same other one (λ e. differ (sym e)) }
+
+  are_two : (spans : List Span) → Pairwise (λ one other. one ≡ other → ⊥) spans → Pairwise AreTwo (map asks spans)
+  are_two [] d = tt
+  are_two (span ∷ spans) d = (
+    All-map (AreTwo (asks span)) asks spans (All-weaker (λ other. span ≡ other → ⊥) (λ other. AreTwo (asks span) (asks other)) (λ other differ. apart span other differ) spans d.0),
+    are_two spans d.1,
+  )
+
+  pub refresh_begins : (splits : List (List ℕ)) → InCall splits k x (purposes.Refresh n) (map message_to_send (map asks x.reads.spans))
+  refresh_begins splits =
+      goes_on splits c.t.read_ts n k c.t x s c.on (purposes.Refresh n) (map asks x.reads.spans) (all_asked (λ r. goes_beside r ≡ false) (λ span. refl) x.reads.spans)
+      (all_asked (MayGoOut k) refresh_goes x.reads.spans) (are_two x.reads.spans c.once) refl
+      (record {
+        commits = c.on.commits;
+        refused = c.on.refused;
+        refreshes =
+            All-weaker (λ m. IsRefreshUpTo c.t.read_ts m.request) (λ m. IsRefreshUpTo c.t.write_ts m.request)
+            (λ m up. up_more c.t.read_ts c.t.write_ts m.request (omega (arith, c.on.stands.behind)) up) k.sent_now c.on.refreshes;
+        behind = behind;
+        asked = requests_are (map asks x.reads.spans);
+      })
+    where
+      up_more : (low high : ℕ) (r : Request) → low ≤ high → IsRefreshUpTo low r → IsRefreshUpTo high r
+      up_more low high (requests.Refresh id from to span) h up = omega arith
+      up_more low high r h up = tt

@@ -1,0 +1,60 @@
+-- What is known inside an open call.
+use Rattle.std.proofs.Common.{◌≡◌, ℕ, ◌+◌, ◌-◌, ◌≤◌, take, length-append, true, List, Option, Some, None, refl, ap, ◌∙◌, arith, length}
+use Rattle.std.proofs.Math.Seq.{take-append_seam}
+use Rattle.std.proofs.lemmas.List.Elements.{All-weaker}
+use Rattle.pc_base.specs.declared.transaction.TxnId.{TxnId}
+use Rattle.pc_base.specs.declared.limits.TheConstants.{MOST_REFUSALS}
+use Rattle.pc_call.specs.Serving.{IsOpenIn, IsSplit, write_call}
+use Rattle.pc_proto.specs.declared.request.Request.{Request}
+use Rattle.pc_proto.specs.declared.request.Request.TheVariants as requests
+use Rattle.pc_proto.specs.declared.meta.TxnMeta.{TxnMeta}
+use Rattle.pc_refusals.specs.Moves.{CountsMoves}
+use Rattle.pc_txn.specs.Counted.{IsCounted, IsOwnHeard, IsOwnSent, IsOwnWrite}
+use Rattle.pc_wave.proofs.Lists.{at_least-fewer}
+use Rattle.pc_wave.specs.Standing.{AreNumbered}
+use Rattle.pc_world.specs.Follows.CallMessages.{IsFor}
+use Rattle.pc_world.specs.Follows.Eighth.{WasMovedEighth}
+use Rattle.pc_world.specs.Known.{Known, first_if, open_txn}
+use Rattle.pc_world.specs.Known.Transactions.{Txn}
+use Rattle.pc_world.specs.Send.Put.{AsksFor}
+use Rattle.pc_world.specs.StageFate.{EachStage, OnStage, SentStage}
+use Rattle.pc_world.specs.Tell.Data.{sent_before}
+use Rattle.pc_world.specs.Tell.Refusal.{WasMoved}
+
+-- the first transaction is the open one
+pub open_is : (k : Known) (t : Txn) → IsOpenIn k t → open_txn k ≡ Some t
+open_is k t o = ap (λ b. first_if b k.txns) o.is_open ∙ ap (first_if true) o.first
+
+no_stage : (id : TxnId) (P : SentStage → Type 0) (begun : ℕ) (request : Request) → IsOwnWrite begun request → OnStage id P request
+no_stage id P begun (requests.Stage meta ts now writes locks) own = absurd own
+no_stage id P begun request own = tt
+
+-- no stage was sent
+pub none_staged : (id : TxnId) (P : SentStage → Type 0) (session latest count : ℕ) (k : Known) → IsCounted session latest count k → EachStage id k.sent P
+none_staged id P session latest count k c =
+    All-weaker (IsOwnSent session k.begun (length k.sent)) (λ m. OnStage id P m.request) (λ m own. no_stage id P k.begun m.request own.own.write) k.sent c.sent
+
+-- the numbers are within their count
+pub are_numbered : (session latest count : ℕ) (k : Known) → IsCounted session latest count k → AreNumbered k
+are_numbered session latest count k c = record {
+  sent = All-weaker (IsOwnSent session k.begun (length k.sent)) (λ m. m.number ≤ length k.sent) (λ m own. own.numbered) k.sent c.sent;
+  heard = All-weaker (IsOwnHeard session k.begun (length k.sent)) (λ h. h.number ≤ length k.sent) (λ h own. own.numbered) k.heard c.heard;
+}
+
+pub asks_for : (key : List ℕ) (value : Option (List ℕ)) → AsksFor (Some (write_call key value)) key value
+asks_for key None = refl
+asks_for key (Some value) = refl
+
+pub put_for : (key : List ℕ) (value : Option (List ℕ)) (meta : TxnMeta) (seq ts : ℕ) → IsFor (write_call key value) (requests.Put meta seq ts key value)
+put_for key None meta seq ts = refl
+put_for key (Some value) meta seq ts = refl
+
+-- a commit that was moved fewer times was not moved eight times
+pub unmoved : (k : Known) (n : ℕ) → CountsMoves k n → n + 1 ≤ MOST_REFUSALS → WasMovedEighth k → ⊥
+unmoved k n c low eight = c.no_more (at_least-fewer (WasMoved k) (n + 1) MOST_REFUSALS k.heard_now low eight)
+
+-- what was sent before the open call is what stands before it
+pub before_is : (k : Known) (s : IsSplit k) → sent_before k ≡ s.sent_first
+before_is k s =
+    let n : length k.sent - length k.sent_now ≡ length s.sent_first = omega (arith, ap length s.sent, length-append s.sent_first k.sent_now) in
+    ap (λ n. take n k.sent) n ∙ ap (take (length s.sent_first)) s.sent ∙ take-append_seam s.sent_first k.sent_now

@@ -1,0 +1,383 @@
+-- A reply to a message of an open call is heard, and the call goes on.
+use Rattle.std.proofs.Common.{◌≡◌, ℕ, ◌+◌, ◌≤◌, max, Bool, true, false, cond, ◌&&◌, ◌||◌, ◌==◌, ◌<◌, ◌⊎◌, inl, inr, List, [], ◌∷◌, ◌++◌, length, map, find, Option, Some, None, refl, sym, ap, ◌∙◌, subst, arith, All, Any, IsTrue, count_by, append_assoc}
+use Rattle.std.specs.Option.{option_to_list}
+use Rattle.std.proofs.lemmas.List.{append-nil}
+use Rattle.std.proofs.lemmas.List.Elements.{All-cons, All-map, All-nil, All-push, All-weaker}
+use Rattle.std.proofs.lemmas.Option.{same_Some}
+use Rattle.pc_base.specs.declared.limits.TheConstants.{MOST_CONFLICTS}
+use Rattle.pc_base.specs.declared.transaction.TxnId.{TxnId}
+use Rattle.pc_base.specs.Transaction.{same_txn}
+use Rattle.pc_call.proofs.Facts.{are_numbered}
+use Rattle.pc_call.proofs.Holders.{holders_heard, is_id, met_by}
+use Rattle.pc_call.proofs.Lists.{all_behind, all_unmapped, kept_by, only_found}
+use Rattle.pc_call.specs.declared.purpose.Purpose.{Purpose}
+use Rattle.pc_call.specs.declared.purpose.Purpose.TheVariants as purposes
+use Rattle.pc_call.specs.Learned.{known_heard}
+use Rattle.pc_call.specs.Opening.{GoesOn}
+use Rattle.pc_call.specs.Paced.{IsPaced, shows_resolve, was_met, was_pushed}
+use Rattle.pc_call.specs.Serving.{AreReadsOf, InCall, IsReadFor, IsRefusedBy, IsSplit, LaysLast, LaysNext, NoOtherMetEighth, Serves, ServesRead, ServesRefresh, ServesWrite, WasRefusedIfCommit, holders_met, out_of}
+use Rattle.pc_lists.proofs.Anywhere.{any_head, any_kept, any_later}
+use Rattle.pc_lists.proofs.Counts.{count-cons, count-push, one_if}
+use Rattle.pc_proto.specs.declared.call.Call.{Call}
+use Rattle.pc_proto.specs.declared.call.Call.TheVariants as calls
+use Rattle.pc_proto.specs.declared.meta.TxnMeta.{TxnMeta}
+use Rattle.pc_proto.specs.declared.reply.Reply.{Reply}
+use Rattle.pc_proto.specs.declared.reply.Reply.TheVariants as replies
+use Rattle.pc_proto.specs.declared.request.Request.{Request}
+use Rattle.pc_proto.specs.declared.request.Request.TheVariants as requests
+use Rattle.pc_proto.specs.Replies.{is_conflict, is_conflict_with, is_written}
+use Rattle.pc_proto.specs.Requests.{is_about, is_push_of, is_resolve_of}
+use Rattle.pc_reads.specs.ReadsStanding.{refresh_to}
+use Rattle.pc_refusals.proofs.Counted.{refusals_go}
+use Rattle.pc_refusals.specs.Moves.{IsNoMove}
+use Rattle.pc_txn.proofs.Keeping.{quiet_leaves, stands_on}
+use Rattle.pc_txn.proofs.Puts.{own_put, puts-one}
+use Rattle.pc_txn.specs.Counted.{IsCounted}
+use Rattle.pc_txn.specs.declared.txn.OpenTxn.{OpenTxn}
+use Rattle.pc_txn.specs.Opened.{last_put, opened_as, own_get, own_scan}
+use Rattle.pc_txn.specs.Standing.{HasMovedOn, LeavesAsIs, PutsUpTo, TxnStands, is_plain}
+use Rattle.pc_wave.proofs.Changed.{found_all, found_passes, found_some}
+use Rattle.pc_wave.proofs.Hearing.{awaits_as, came_request, wave_heard}
+use Rattle.pc_wave.proofs.Lists.{at_least-before}
+use Rattle.pc_wave.specs.declared.message.Message.{Message}
+use Rattle.pc_wave.specs.Messages.{awaits_at, back_with, first_changed, progress_awaits, wave_awaits}
+use Rattle.pc_wave.specs.Standing.{HasMore, IsAsFar, IsHeardTo, IsOnItsWay, MessageStands, WaveStands, goes_beside}
+use Rattle.pc_world.specs.Answering.{IsRefreshReply, MayAnswer}
+use Rattle.pc_world.specs.Known.{Known}
+use Rattle.pc_world.specs.Known.Traffic.{Heard, Sent}
+use Rattle.pc_world.specs.Known.Transactions.{Txn, meta_of, txn_heard}
+use Rattle.pc_world.specs.Known.Writes.{Write, last_seq_of}
+use Rattle.pc_world.specs.RangeOf.{pieces}
+use Rattle.pc_world.specs.SameRequest.{IsSameRequest}
+use Rattle.pc_world.specs.Tell.Data.{IsFirstPut}
+use Rattle.pc_world.specs.Tell.Refusal.{IsConflictOf, is_moved}
+
+every : {X : Type 0} (P : X → Type 0) → ((x : X) → P x) → (xs : List X) → All P xs
+every P all [] = All-nil P
+every P all (x ∷ xs) = All-cons P x xs (all x) (every P all xs)
+
+pub same_sym : (one other : Request) → IsSameRequest one other → IsSameRequest other one
+same_sym one other (inl e) = inl (sym e)
+same_sym (requests.Put meta seq ts key value) (requests.Put to at when place what) (inr (a, b, c)) = inr (sym a, sym b, sym c)
+same_sym one other (inr same) = absurd same
+
+-- A request that reads or refreshes.
+abbrev pub is_still : Request → Bool
+is_still (requests.Get id epoch seq ts key) = true
+is_still (requests.Scan id epoch seq ts span) = true
+is_still (requests.Refresh id from to span) = true
+is_still r = false
+
+max-zero : (n : ℕ) → max n 0 ≡ n
+max-zero n = omega arith
+
+-- the reply to such a request changes nothing of a transaction
+still_heard : (t : Txn) (sent : List Sent) (number step : ℕ) (reply : Reply) (r : Request) → is_still r ≡ true → txn_heard sent (Some (record { number = number; request = r; reply = reply; step = step })) t ≡ t
+still_heard t sent number step reply (requests.Get id epoch seq ts key) e = ap (λ n. record t { write_ts = n }) (max-zero t.write_ts)
+still_heard t sent number step reply (requests.Scan id epoch seq ts span) e = ap (λ n. record t { write_ts = n }) (max-zero t.write_ts)
+still_heard t sent number step reply (requests.Refresh id from to span) e = ap (λ n. record t { write_ts = n }) (max-zero t.write_ts)
+still_heard t sent number step reply r e = absurd cc
+
+still_quiet : (r : Request) → is_still r ≡ true → is_plain r ≡ true
+still_quiet (requests.Get id epoch seq ts key) e = refl
+still_quiet (requests.Scan id epoch seq ts span) e = refl
+still_quiet (requests.Refresh id from to span) e = refl
+still_quiet r e = absurd cc
+
+still_about : (id : TxnId) (r : Request) → is_still r ≡ true → is_about id r ≡ false
+still_about id (requests.Get other epoch seq ts key) e = refl
+still_about id (requests.Scan other epoch seq ts span) e = refl
+still_about id (requests.Refresh other from to span) e = refl
+still_about id r e = absurd cc
+
+cond_same : {A : Type 0} (b : Bool) (a : A) → cond b a a ≡ a
+cond_same true a = refl
+cond_same false a = refl
+
+-- nor does a conflict of a put
+conflict_heard : (t : Txn) (sent : List Sent) (number step : ℕ) (reply : Reply) (meta : TxnMeta) (seq ts : ℕ) (key : List ℕ) (value : Option (List ℕ)) → is_conflict reply ≡ true
+    → txn_heard sent (Some (record { number = number; request = requests.Put meta seq ts key value; reply = reply; step = step })) t ≡ t
+conflict_heard t sent number step (replies.Conflict holder at place) meta seq ts key value e =
+    let F : ℕ → List Write → Txn = λ n w. record t { write_ts = max t.write_ts n; writes = w } in
+    ap (λ n. F n (cond (same_txn meta.id t.id && meta.epoch == t.epoch) t.writes t.writes)) (cond_same (same_txn meta.id t.id) 0)
+    ∙ ap (F 0) (cond_same (same_txn meta.id t.id && meta.epoch == t.epoch) t.writes)
+    ∙ ap (λ n. record t { write_ts = n }) (max-zero t.write_ts)
+conflict_heard t sent number step reply meta seq ts key value e = absurd cc
+
+conflict_unwritten : (reply : Reply) → is_conflict reply ≡ true → is_written reply ≡ false
+conflict_unwritten (replies.Conflict holder ts key) e = refl
+conflict_unwritten reply e = absurd cc
+
+no_push : (id : TxnId) (r : Request) → goes_beside r ≡ false → is_push_of id r ≡ false
+no_push id (requests.Push holder by level now goal) e = absurd cc
+no_push id r e = refl
+
+no_resolve : (id : TxnId) (r : Request) → goes_beside r ≡ false → is_resolve_of id r ≡ false
+no_resolve id (requests.Resolve other key fate) e = absurd cc
+no_resolve id r e = refl
+
+-- a reply shows no more holders than it is a conflict with
+held_once : (id : TxnId) (reply : Reply) → count_by (is_id id) (option_to_list (met_by reply)) ≤ one_if (is_conflict_with id reply)
+held_once id (replies.Conflict holder ts key) = let e = count-cons (is_id id) holder.id [] in omega arith
+held_once id reply = omega arith
+
+reads_still : (splits : List (List ℕ)) (x : OpenTxn) (call : Call) (rs : List Request) → AreReadsOf splits x call rs → All (λ r. is_still r ≡ true) rs
+reads_still splits x (calls.Get key) rs e =
+    subst (λ rs. All (λ r. is_still r ≡ true) rs) (sym e) (All-cons (λ r. is_still r ≡ true) (own_get x key) [] refl (All-nil (λ r. is_still r ≡ true)))
+reads_still splits x (calls.Scan span) rs e =
+    subst (λ rs. All (λ r. is_still r ≡ true) rs) (sym e)
+    (All-map (λ r. is_still r ≡ true) (λ p. own_scan x p.1) (pieces splits span) (every (λ p. is_still (own_scan x p.1) ≡ true) (λ p. refl) (pieces splits span)))
+reads_still splits x call rs e = absurd e
+
+refreshes_still : (x : OpenTxn) (rs : List Request) → rs ≡ map (refresh_to x.id x.reads.ts x.write_ts) x.reads.spans → All (λ r. is_still r ≡ true) rs
+refreshes_still x rs e =
+    subst (λ rs. All (λ r. is_still r ≡ true) rs) (sym e)
+    (All-map (λ r. is_still r ≡ true) (refresh_to x.id x.reads.ts x.write_ts) x.reads.spans (every (λ span. is_still (refresh_to x.id x.reads.ts x.write_ts span) ≡ true) (λ span. refl) x.reads.spans))
+
+-- what refreshes is answered so
+pub refresh_kind : (r : Request) (reply : Reply) (x : OpenTxn) (rs : List Request) → rs ≡ map (refresh_to x.id x.reads.ts x.write_ts) x.reads.spans → All (λ r. (reply : Reply) → MayAnswer r reply → IsRefreshReply reply) rs
+refresh_kind r reply x rs e =
+    let P : Request → Type 0 = λ r. (reply : Reply) → MayAnswer r reply → IsRefreshReply reply in
+    subst (λ rs. All P rs) (sym e) (All-map P (refresh_to x.id x.reads.ts x.write_ts) x.reads.spans (every (λ span. P (refresh_to x.id x.reads.ts x.write_ts span)) (λ span reply may. may) x.reads.spans))
+
+refresh_no_conflict : (reply : Reply) → IsRefreshReply reply → is_conflict reply ≡ false
+refresh_no_conflict replies.Refreshed is = refl
+refresh_no_conflict (replies.Unrefreshed key ts) is = refl
+refresh_no_conflict reply is = absurd is
+
+still_moves : (r : Request) (reply : Reply) → is_still r ≡ true → is_moved r reply ≡ false
+still_moves (requests.Get id epoch seq ts key) reply e = refl
+still_moves (requests.Scan id epoch seq ts span) reply e = refl
+still_moves (requests.Refresh id from to span) reply e = refl
+still_moves r reply e = absurd cc
+
+module _ (session clock count : ℕ) (splits : List (List ℕ)) (k : Known) (x : OpenTxn) (p : Purpose) (ms : List Message) (counted : IsCounted session clock count k) (w : InCall splits k x p ms)
+    (number : ℕ) (reply : Reply) (h : Heard) (waited : wave_awaits number ms ≡ true) (is : IsHeardTo k number reply h) where
+  abbrev k2 : Known
+  k2 = known_heard h k
+
+  abbrev ms2 : List Message
+  ms2 = first_changed (awaits_at number) (back_with number reply) ms
+
+  abbrev t2 : Txn
+  t2 = txn_heard k.sent (Some h) w.t
+
+  found : (m : Message) × (find (awaits_at number) ms ≡ Some m)
+  found = found_some (awaits_at number) ms waited
+
+  stands_m : MessageStands k found.0
+  stands_m = found_all (awaits_at number) (MessageStands k) ms found.0 found.1 w.wave.stand
+
+  far : IsOnItsWay k number found.0.request × (found.0.conflicts < MOST_CONFLICTS)
+  far = subst (λ p. IsAsFar k found.0.request found.0.conflicts p) (awaits_as number found.0.progress (found_passes (awaits_at number) ms found.0 found.1)) stands_m.as_far
+
+  same_request : h.request ≡ found.0.request
+  same_request = same_Some h.request found.0.request (sym is.asked ∙ far.0.out.said)
+
+  more : HasMore k k2 [] (h ∷ [])
+  more = record { sent = sym (append-nil k.sent); sent_now = sym (append-nil k.sent_now); heard = refl; heard_now = refl }
+
+  gone : HasMovedOn k k2 [] (h ∷ [])
+  gone = record { sent = sym (append-nil k.sent); heard = refl; begun = omega arith; high = omega arith }
+
+  wave2 : WaveStands k2 ms2
+  wave2 = wave_heard k k2 ms number reply h w.wave waited is more
+
+  requests2 : map (λ m. m.request) ms2 ≡ map (λ m. m.request) ms
+  requests2 = kept_by (awaits_at number) (back_with number reply) (λ (m : Message). m.request) ms (came_request number reply)
+
+  -- what holds of each request holds of the one that was answered
+  of_request : (P : Request → Type 0) → All P (map (λ m. m.request) ms) → P h.request
+  of_request P a = subst P (sym same_request) (found_all (awaits_at number) (λ (m : Message). P m.request) ms found.0 found.1 (all_unmapped P (λ (m : Message). m.request) ms a))
+
+  not_beside : goes_beside h.request ≡ false
+  not_beside = ap goes_beside same_request ∙ stands_m.no_round
+
+  fewer2 : NoOtherMetEighth k2.heard_now ms2
+  fewer2 r beside none eight =
+      let P : Request → Type 0 = λ q. IsSameRequest q r → ⊥ in
+      let before : All (λ (m : Message). P m.request) ms = all_unmapped P (λ (m : Message). m.request) ms (subst (λ rs. All P rs) requests2 (All-map P (λ (m : Message). m.request) ms2 none)) in
+      let here : P h.request = subst P (sym same_request) (found_all (awaits_at number) (λ (m : Message). P m.request) ms found.0 found.1 before) in
+      let no : IsConflictOf r h → ⊥ = λ c. here (same_sym r h.request c.same) in
+      w.fewer r beside before (at_least-before (IsConflictOf r) MOST_CONFLICTS k.heard_now (h ∷ []) (All-cons (λ h. IsConflictOf r h → ⊥) h [] no (All-nil (λ h. IsConflictOf r h → ⊥))) eight)
+
+  paced2 : IsPaced (holders_met ms2) k2.heard_now
+  paced2 = record {
+    pushes = λ id.
+        let pushed : count_by (was_pushed id) k2.heard_now ≡ count_by (was_pushed id) k.heard_now + 0 =
+        count-push (was_pushed id) k.heard_now h ∙ ap (λ b. count_by (was_pushed id) k.heard_now + one_if b) (no_push id h.request not_beside) in
+        let met : count_by (was_met id) k2.heard_now ≡ count_by (was_met id) k.heard_now + one_if (is_conflict_with id reply) =
+        count-push (was_met id) k.heard_now h ∙ ap (λ r. count_by (was_met id) k.heard_now + one_if (is_conflict_with id r)) is.told in
+        let held = holders_heard id number reply ms found.0 found.1 in
+        let once = held_once id reply in
+        let old = w.paced.pushes id in
+        omega arith;
+    resolves = λ id.
+        let pushed : count_by (was_pushed id) k2.heard_now ≡ count_by (was_pushed id) k.heard_now + 0 =
+        count-push (was_pushed id) k.heard_now h ∙ ap (λ b. count_by (was_pushed id) k.heard_now + one_if b) (no_push id h.request not_beside) in
+        let resolved : count_by (shows_resolve id) k2.heard_now ≡ count_by (shows_resolve id) k.heard_now + 0 =
+        count-push (shows_resolve id) k.heard_now h ∙ ap (λ b. count_by (shows_resolve id) k.heard_now + one_if b) (no_resolve id h.request not_beside) in
+        let old = w.paced.resolves id in
+        omega arith;
+  }
+
+  split2 : IsSplit k2
+  split2 = record {
+    sent_first = w.split.sent_first;
+    sent = w.split.sent;
+    heard_first = w.split.heard_first;
+    heard = ap (λ hs. hs ++ h ∷ []) w.split.heard ∙ append_assoc w.split.heard_first k.heard_now (h ∷ []);
+  }
+
+  -- the call goes on where the reply leaves its transaction as it is
+  gone_on : t2 ≡ w.t → LeavesAsIs w.t h → out_of p ms2 ≡ out_of p ms → Serves splits k2 w.s w.t x p ms2 → InCall splits k2 x p ms2
+  gone_on same leaves out serves = record {
+    t = w.t;
+    open_in = record { others = map (txn_heard k.sent (Some h)) w.open_in.others; is_open = w.open_in.is_open; first = ap (map (txn_heard k.sent (Some h))) w.open_in.first ∙ ap (λ t. t ∷ map (txn_heard k.sent (Some h)) w.open_in.others) same };
+    stands =
+        subst (λ o. TxnStands k2 o w.t x) (sym out)
+        (stands_on k k2 (out_of p ms) w.t x [] (h ∷ []) w.stands gone (All-nil (λ (m : Sent). IsTrue (is_plain m.request))) (All-cons (LeavesAsIs w.t) h [] leaves (All-nil (LeavesAsIs w.t))));
+    cause = w.cause;
+    s = w.s;
+    opened = w.opened;
+    split = split2;
+    wave = wave2;
+    paced = paced2;
+    fewer = fewer2;
+    serves = serves;
+  }
+
+  module _ (still : is_still h.request ≡ true) where
+    still_same : t2 ≡ w.t
+    still_same = still_heard w.t k.sent h.number h.step h.reply h.request still
+
+    still_leaves : LeavesAsIs w.t h
+    still_leaves = quiet_leaves w.t h (still_quiet h.request still) (λ about. let e : is_about w.t.id h.request ≡ false = still_about w.t.id h.request still in absurd cc)
+
+  in_requests : Any (λ r. r ≡ h.request) (map (λ m. m.request) ms2)
+  in_requests = subst (λ rs. Any (λ r. r ≡ h.request) rs) (sym requests2) (there ms found.1)
+    where
+      there : (xs : List Message) → find (awaits_at number) xs ≡ Some found.0 → Any (λ r. r ≡ h.request) (map (λ m. m.request) xs)
+      there [] e = absurd cc
+      there (y ∷ ys) e = by (λ f. there ys f) (awaits_at number y) e
+        where
+          by : (find (awaits_at number) ys ≡ Some found.0 → Any (λ r. r ≡ h.request) (map (λ m. m.request) ys)) → (b : Bool) → cond b (Some y) (find (awaits_at number) ys) ≡ Some found.0 → Any (λ r. r ≡ h.request) (y.request ∷ map (λ m. m.request) ys)
+          by later true here = let same : y ≡ found.0 = cc in any_head (λ r. r ≡ h.request) y.request (map (λ (m : Message). m.request) ys) (ap (λ (m : Message). m.request) same ∙ sym same_request)
+          by later false f = any_later (λ r. r ≡ h.request) y.request (map (λ (m : Message). m.request) ys) (later f)
+
+  read_serves : ServesRead splits k w.s x ms → ServesRead splits k2 w.s x ms2
+  read_serves r = record {
+    asked = subst (λ rs. AreReadsOf splits x w.s.call rs) (sym requests2) r.asked;
+    none_in_flight = r.none_in_flight;
+    heard = All-push (IsReadFor (map (λ m. m.request) ms2)) k.heard_now h (subst (λ rs. All (IsReadFor rs) k.heard_now) (sym requests2) r.heard) (inr in_requests);
+  }
+
+  refused-more : (m : Sent) → WasRefusedIfCommit w.t.write_ts k.heard_now m → WasRefusedIfCommit w.t.write_ts k2.heard_now m
+  refused-more m r = λ commits. any_kept (IsRefusedBy w.t.write_ts m) k.heard_now (h ∷ []) (r commits)
+
+  numbered_now : All (λ h. h.number ≤ length k.sent) k.heard_now
+  numbered_now =
+      let P : Heard → Type 0 = λ h. h.number ≤ length k.sent in
+      all_behind P w.split.heard_first k.heard_now (subst (λ hs. All P hs) w.split.heard (are_numbered session clock count k counted).heard)
+
+  refresh_serves : (n : ℕ) → is_still h.request ≡ true → ServesRefresh n k w.s w.t x ms → ServesRefresh n k2 w.s w.t x ms2
+  refresh_serves n still r =
+      let kind : IsRefreshReply reply = of_request (λ r. (reply : Reply) → MayAnswer r reply → IsRefreshReply reply) (refresh_kind h.request reply x (map (λ m. m.request) ms) r.asked) reply is.kind in
+      record {
+        commits = record {
+          call = r.commits.call;
+          anchor = r.commits.anchor;
+          anchored = r.commits.anchored;
+          none_in_flight = r.commits.none_in_flight;
+          few = r.commits.few;
+          moves =
+              refusals_go n k k2 [] (h ∷ []) r.commits.moves more numbered_now (All-nil (λ (m : Sent). length k.sent + 1 ≤ m.number))
+              (All-cons IsNoMove h [] (still_moves h.request h.reply still) (All-nil IsNoMove));
+          unmet = All-push (λ h. is_conflict h.reply ≡ false) k.heard_now h r.commits.unmet (ap is_conflict is.told ∙ refresh_no_conflict reply kind);
+        };
+        refused = All-weaker (WasRefusedIfCommit w.t.write_ts k.heard_now) (WasRefusedIfCommit w.t.write_ts k2.heard_now) refused-more k.sent_now r.refused;
+        refreshes = r.refreshes;
+        behind = r.behind;
+        asked = requests2 ∙ r.asked;
+      }
+
+  first_back : (m : Sent) → IsFirstPut k2 w.s w.t m → IsFirstPut k w.s w.t m
+  first_back m f = record { seq = f.seq; key = f.key; value = f.value; asked = f.asked; put = f.put; first = f.first }
+
+  new_on : All (λ m. IsFirstPut k w.s w.t m → ⊥) k.sent_now → All (λ m. IsFirstPut k2 w.s w.t m → ⊥) k.sent_now
+  new_on a = All-weaker (λ m. IsFirstPut k w.s w.t m → ⊥) (λ m. IsFirstPut k2 w.s w.t m → ⊥) (λ m none f. none (first_back m f)) k.sent_now a
+
+  module _ (again : Bool) (e : p ≡ purposes.Write again) (r : ServesWrite again k w.s w.t x ms) (conflict : is_conflict reply ≡ true) where
+    out_is : out_of p ms ≡ None
+    out_is = ap (λ q. out_of q ms) e
+
+    st : TxnStands k None w.t x
+    st = subst (λ o. TxnStands k o w.t x) out_is w.stands
+
+    at_number : awaits_at number r.m ≡ true
+    at_number = one_waits (awaits_at number r.m) (sym (ap (wave_awaits number) r.one) ∙ waited)
+      where
+        one_waits : (b : Bool) → (b || false) ≡ true → b ≡ true
+        one_waits true h = refl
+        one_waits false h = absurd cc
+
+    is_m : r.m ≡ found.0
+    is_m =
+        let f : find (awaits_at number) (r.m ∷ []) ≡ Some found.0 = subst (λ ms. find (awaits_at number) ms ≡ Some found.0) r.one found.1 in
+        (only_found (awaits_at number) r.m found.0 f).0
+
+    ms2_is : ms2 ≡ back_with number reply r.m ∷ []
+    ms2_is = ap (first_changed (awaits_at number) (back_with number reply)) r.one ∙ ap (λ b. cond b (back_with number reply r.m ∷ []) (r.m ∷ [])) at_number
+
+    lays_on : LaysNext k w.s w.t x r.key r.value again r.m ⊎ LaysLast k w.s w.t x r.key r.value again r.m → InCall splits k2 x p ms2
+    lays_on (inl l) = let f : false ≡ true = ap (progress_awaits number) (sym l.to_send) ∙ at_number in absurd cc
+    lays_on (inr l) =
+        let said : h.request ≡ last_put x l.anchor r.key r.value = same_request ∙ sym (ap (λ (m : Message). m.request) is_m) ∙ l.said in
+        let meta : TxnMeta = record { id = x.id; epoch = x.epoch; priority = x.priority; born = x.born; anchor = l.anchor } in
+        let same : t2 ≡ w.t =
+        ap (λ q. txn_heard k.sent (Some (record { number = h.number; request = q; reply = h.reply; step = h.step })) w.t) said
+        ∙ ap (λ y. txn_heard k.sent (Some (record { number = h.number; request = last_put x l.anchor r.key r.value; reply = y; step = h.step })) w.t) is.told
+        ∙ conflict_heard w.t k.sent h.number h.step reply meta x.seq x.write_ts r.key r.value conflict in
+        let put_now : PutsUpTo w.t (last_seq_of w.t.writes) (last_put x l.anchor r.key r.value) =
+        subst (λ y. PutsUpTo w.t (last_seq_of w.t.writes) (last_put y l.anchor r.key r.value)) (sym st.same)
+        (puts-one w.t (last_seq_of w.t.writes) (last_seq_of w.t.writes) (last_put (opened_as x.cause x.reads.spans x.in_flight w.t) l.anchor r.key r.value)
+        (own_put (meta_of w.t l.anchor) (last_seq_of w.t.writes) w.t.write_ts r.key r.value) (omega arith)) in
+        let leaves : LeavesAsIs w.t h = record {
+          pending = λ about. let f : is_about w.t.id h.request ≡ false = ap (is_about w.t.id) said in absurd cc;
+          put = subst (PutsUpTo w.t (last_seq_of w.t.writes)) (sym said) put_now;
+          unwritten = λ put. ap is_written is.told ∙ conflict_unwritten reply conflict;
+        } in
+        gone_on same leaves (ap (λ q. out_of q ms2) e ∙ sym out_is)
+        (subst (λ q. Serves splits k2 w.s w.t x q ms2) (sym e) (record {
+          key = r.key;
+          value = r.value;
+          call = r.call;
+          m = back_with number reply r.m;
+          one = ms2_is;
+          lays = inr (record {
+            in_flight = l.in_flight;
+            anchor = l.anchor;
+            anchored = l.anchored;
+            said = came_request number reply r.m ∙ l.said;
+            first = l.first;
+            old = λ f. new_on (l.old f);
+            before = l.before;
+          });
+        }))
+
+    write_on : InCall splits k2 x p ms2
+    write_on = lays_on r.lays
+
+  heard_by : (q : Purpose) → p ≡ q → Serves splits k w.s w.t x q ms → GoesOn q reply → InCall splits k2 x p ms2
+  heard_by purposes.Read e r on =
+      let still : is_still h.request ≡ true = of_request (λ r. is_still r ≡ true) (reads_still splits x w.s.call (map (λ m. m.request) ms) r.asked) in
+      gone_on (still_same still) (still_leaves still) (ap (λ q. out_of q ms2) e ∙ sym (ap (λ q. out_of q ms) e)) (subst (λ q. Serves splits k2 w.s w.t x q ms2) (sym e) (read_serves r))
+  heard_by (purposes.Write again) e r on = write_on again e r on
+  heard_by (purposes.Refresh n) e r on =
+      let still : is_still h.request ≡ true = of_request (λ r. is_still r ≡ true) (refreshes_still x (map (λ m. m.request) ms) r.asked) in
+      gone_on (still_same still) (still_leaves still) (ap (λ q. out_of q ms2) e ∙ sym (ap (λ q. out_of q ms) e)) (subst (λ q. Serves splits k2 w.s w.t x q ms2) (sym e) (refresh_serves n still r))
+  heard_by (purposes.Commit n) e r on = absurd on
+  heard_by (purposes.Abort why) e r on = absurd on
+
+  pub call_heard : GoesOn p reply → InCall splits k2 x p ms2
+  call_heard on = heard_by p refl w.serves on

@@ -1,0 +1,11 @@
+pub mod Again
+pub mod Committing
+pub mod Facts
+pub mod Hearing
+pub mod Holders
+pub mod Lists
+pub mod Beginning
+pub mod Ready
+pub mod Rounding
+pub mod Sending
+pub mod Steps

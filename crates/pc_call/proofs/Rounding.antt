@@ -1,0 +1,234 @@
+-- A message of an open call that met an intent has its round, or its holder blocks the call.
+use Rattle.std.proofs.Common.{◌≡◌, ℕ, ◌≤◌, Bool, true, false, not, ◌&&◌, ◌⊎◌, inl, inr, List, [], ◌∷◌, map, find, Option, Some, None, IfSome, refl, sym, ap, ◌∙◌, subst, arith, All, Contains}
+use Rattle.std.specs.List.{list_all}
+use Rattle.std.specs.Bool.{MatchBool}
+use Rattle.std.proofs.lemmas.List.Elements.{All-cons, All-map, All-nil, Contains-append_right}
+use Rattle.pc_base.specs.declared.actor.ActorId.TheVariants as actors
+use Rattle.pc_base.specs.declared.span.Span.{Span}
+use Rattle.pc_base.specs.declared.transaction.TxnId.{TxnId}
+use Rattle.pc_call.proofs.Facts.{open_is}
+use Rattle.pc_call.proofs.Holders.{holder_counted}
+use Rattle.pc_call.proofs.Lists.{all_unmapped}
+use Rattle.pc_call.specs.declared.purpose.Purpose.{Purpose}
+use Rattle.pc_call.specs.declared.purpose.Purpose.TheVariants as purposes
+use Rattle.pc_call.specs.Opening.{reader_of}
+use Rattle.pc_call.specs.Sending.{IsConflictNow, read_at}
+use Rattle.pc_call.specs.Serving.{AreReadsOf, InCall, LaysLast, LaysNext, Serves, holder_met, write_call}
+use Rattle.pc_proto.specs.declared.answer.Answer.TheVariants as answers
+use Rattle.pc_proto.specs.declared.call.Call.{Call}
+use Rattle.pc_proto.specs.declared.call.Call.TheVariants as calls
+use Rattle.pc_proto.specs.declared.meta.TxnMeta.{TxnMeta}
+use Rattle.pc_proto.specs.declared.reply.Reply.{Reply}
+use Rattle.pc_proto.specs.declared.reply.Reply.TheVariants as replies
+use Rattle.pc_proto.specs.declared.request.Request.{Request}
+use Rattle.pc_proto.specs.Replies.{holder_in}
+use Rattle.pc_reads.specs.ReadsStanding.{refresh_to}
+use Rattle.pc_txn.specs.Counted.{IsCounted}
+use Rattle.pc_txn.specs.declared.txn.OpenTxn.{OpenTxn}
+use Rattle.pc_txn.specs.Opened.{last_put, next_put, own_get, own_scan}
+use Rattle.pc_wave.proofs.Changed.{found_all, found_passes}
+use Rattle.pc_wave.proofs.Dues.{may_be_due}
+use Rattle.pc_wave.proofs.Rounds.{due_round, first_found}
+use Rattle.pc_wave.specs.declared.message.Message.{Message}
+use Rattle.pc_wave.specs.declared.message.Progress.{Progress}
+use Rattle.pc_wave.specs.declared.message.Progress.TheVariants as progresses
+use Rattle.pc_wave.specs.declared.step.Step.TheVariants as steps
+use Rattle.pc_wave.specs.Due.{IsRoundDue, MayBeDue}
+use Rattle.pc_wave.specs.Messages.{conflict_by, first_in_conflict, has_answer, is_in_conflict, is_to_send, progress_in_conflict, step_by, step_of}
+use Rattle.pc_wave.specs.Standing.{IsAsFar, MessageStands, MetConflict}
+use Rattle.pc_world.specs.Answering.{MayAnswer}
+use Rattle.pc_world.specs.Known.{Known}
+use Rattle.pc_world.specs.Known.Statements.{Statement}
+use Rattle.pc_world.specs.Known.Transactions.{Txn}
+use Rattle.pc_world.specs.MayTell.{MayTell, is_past_range, needs_txn}
+use Rattle.pc_world.specs.RangeOf.{pieces}
+use Rattle.pc_world.specs.Tell.Refusal.{IsUncommittedIn, MayBlock, MetEight}
+
+-- The call may be told that it is blocked.
+pub record IsBlockable (k : Known) (s : Statement) : Type 0 where
+  pub may : MayBlock s.call
+  pub uncommitted : IsUncommittedIn k s.call
+  pub within : is_past_range s ≡ false
+
+-- Where the request may meet an intent, it is another's; it reads where its reader does; and it may block its call.
+pub record IsOurs (k : Known) (s : Statement) (t : Txn) (reader : Option ℕ) (r : Request) : Type 0 where
+  pub other : (holder : TxnMeta) (ts : ℕ) (key : List ℕ) → MayAnswer r (replies.Conflict holder ts key) → holder.id ≡ t.id → ⊥
+  pub reads : reader ≡ read_at r
+  pub blocks : (holder : TxnMeta) (ts : ℕ) (key : List ℕ) → MayAnswer r (replies.Conflict holder ts key) → IsBlockable k s
+
+module _ (splits : List (List ℕ)) (k : Known) (t : Txn) (x : OpenTxn) (s : Statement) (same : x.id ≡ t.id) where
+  -- The call of the statement is this one.
+  abbrev asks : Call → Statement
+  asks call = record { call = call; reading = s.reading }
+
+  blockable_as : (call : Call) → s.call ≡ call → IsBlockable k (asks call) → IsBlockable k s
+  blockable_as call is b = subst (λ c. IsBlockable k (asks c)) (sym is) b
+
+  get_ours : (key : List ℕ) → s.call ≡ calls.Get key → IsOurs k s t (Some x.reads.ts) (own_get x key)
+  get_ours key is = record {
+    other = λ holder ts at may e. may (e ∙ sym same);
+    reads = refl;
+    blocks = λ holder ts at may. blockable_as (calls.Get key) is (record { may = tt; uncommitted = tt; within = refl });
+  }
+
+  scan_ours : (whole span : Span) → s.call ≡ calls.Scan whole → IsOurs k s t (Some x.reads.ts) (own_scan x span)
+  scan_ours whole span is = record {
+    other = λ holder ts at may e. may (e ∙ sym same);
+    reads = refl;
+    blocks = λ holder ts at may. blockable_as (calls.Scan whole) is (record { may = tt; uncommitted = tt; within = refl });
+  }
+
+  every : {X : Type 0} (P : X → Type 0) → ((x : X) → P x) → (xs : List X) → All P xs
+  every P all [] = All-nil P
+  every P all (x ∷ xs) = All-cons P x xs (all x) (every P all xs)
+
+  reads_ours : (call : Call) (rs : List Request) → s.call ≡ call → AreReadsOf splits x call rs → All (IsOurs k s t (Some x.reads.ts)) rs
+  reads_ours (calls.Get key) rs is e =
+      subst (λ rs. All (IsOurs k s t (Some x.reads.ts)) rs) (sym e) (All-cons (IsOurs k s t (Some x.reads.ts)) (own_get x key) [] (get_ours key is) (All-nil (IsOurs k s t (Some x.reads.ts))))
+  reads_ours (calls.Scan span) rs is e =
+      subst (λ rs. All (IsOurs k s t (Some x.reads.ts)) rs) (sym e)
+      (All-map (IsOurs k s t (Some x.reads.ts)) (λ p. own_scan x p.1) (pieces splits span) (every (λ p. IsOurs k s t (Some x.reads.ts) (own_scan x p.1)) (λ p. scan_ours span p.1 is) (pieces splits span)))
+  reads_ours call rs is e = absurd e
+
+  write_blockable : (key : List ℕ) (value : Option (List ℕ)) → IsBlockable k (asks (write_call key value))
+  write_blockable key None = record { may = tt; uncommitted = tt; within = refl }
+  write_blockable key (Some value) = record { may = tt; uncommitted = tt; within = refl }
+
+  next_ours : (key : List ℕ) (value : Option (List ℕ)) → s.call ≡ write_call key value → IsOurs k s t None (next_put x key value)
+  next_ours key value is = record {
+    other = λ holder ts at may e. may (e ∙ sym same);
+    reads = refl;
+    blocks = λ holder ts at may. blockable_as (write_call key value) is (write_blockable key value);
+  }
+
+  last_ours : (anchor key : List ℕ) (value : Option (List ℕ)) → s.call ≡ write_call key value → IsOurs k s t None (last_put x anchor key value)
+  last_ours anchor key value is = record {
+    other = λ holder ts at may e. may (e ∙ sym same);
+    reads = refl;
+    blocks = λ holder ts at may. blockable_as (write_call key value) is (write_blockable key value);
+  }
+
+  write_ours : (key : List ℕ) (value : Option (List ℕ)) (again : Bool) (m : Message) → s.call ≡ write_call key value → LaysNext k s t x key value again m ⊎ LaysLast k s t x key value again m → IsOurs k s t None m.request
+  write_ours key value again m is (inl l) = subst (λ r. IsOurs k s t None r) (sym l.said) (next_ours key value is)
+  write_ours key value again m is (inr l) = subst (λ r. IsOurs k s t None r) (sym l.said) (last_ours l.anchor key value is)
+
+  one_ours : (r : Option ℕ) (ms : List Message) (m : Message) → ms ≡ m ∷ [] → IsOurs k s t r m.request → All (λ m. IsOurs k s t r m.request) ms
+  one_ours r ms m one ours =
+      let P : Message → Type 0 = λ m. IsOurs k s t r m.request in
+      subst (λ ms. All P ms) (sym one) (All-cons P m [] ours (All-nil P))
+
+  ours : (p : Purpose) (ms : List Message) → Serves splits k s t x p ms → All (λ m. IsOurs k s t (reader_of p x) m.request) ms
+  ours purposes.Read ms r = all_unmapped (IsOurs k s t (Some x.reads.ts)) (λ m. m.request) ms (reads_ours s.call (map (λ m. m.request) ms) refl r.asked)
+  ours (purposes.Write again) ms w = one_ours None ms w.m w.one (write_ours w.key w.value again w.m w.call w.lays)
+  ours (purposes.Refresh n) ms r =
+      all_unmapped (IsOurs k s t None) (λ m. m.request) ms
+      (subst (λ rs. All (IsOurs k s t None) rs) (sym r.asked)
+      (All-map (IsOurs k s t None) (refresh_to x.id x.reads.ts x.write_ts) x.reads.spans
+      (every (λ span. IsOurs k s t None (refresh_to x.id x.reads.ts x.write_ts span)) (λ span. record { other = λ holder ts at may e. may; reads = refl; blocks = λ holder ts at may. absurd may }) x.reads.spans)))
+  ours (purposes.Commit n) ms c =
+      one_ours None ms c.m c.one (subst (λ r. IsOurs k s t None r) (sym c.said) (record { other = λ holder ts at may e. may; reads = refl; blocks = λ holder ts at may. absurd may }))
+  ours (purposes.Abort why) ms a =
+      one_ours None ms a.m a.one (subst (λ r. IsOurs k s t None r) (sym a.said) (record { other = λ holder ts at may e. may; reads = refl; blocks = λ holder ts at may. absurd may }))
+
+blocked_conflict : (o : Option TxnId) (number : ℕ) (conflict : Reply) (holder : TxnId) → conflict_by o number conflict ≡ steps.Blocked holder → o ≡ Some holder
+blocked_conflict None number conflict holder e = absurd cc
+blocked_conflict (Some other) number conflict holder e = cc
+
+blocked_first : (first to_send : Option Message) (b : Bool) (holder : TxnId) → step_by first to_send b ≡ steps.Blocked holder → (m : Message) × (first ≡ Some m)
+blocked_first (Some m) to_send b holder e = (m, refl)
+blocked_first None (Some m) b holder e = absurd cc
+blocked_first None None true holder e = absurd cc
+blocked_first None None false holder e = absurd cc
+
+-- The message met a conflict.
+pub record HasMetOne (k : Known) (m : Message) : Type 0 where
+  pub number : ℕ
+  pub conflict : Reply
+  pub progress : m.progress ≡ progresses.Met number conflict
+  pub met : MetConflict k number m.request conflict
+
+met_as : (k : Known) (m : Message) (p : Progress) → m.progress ≡ p → progress_in_conflict p ≡ true → IsAsFar k m.request m.conflicts p → HasMetOne k m
+met_as k m progresses.ToSend e is far = absurd cc
+met_as k m (progresses.Sent number) e is far = absurd cc
+met_as k m (progresses.Met number conflict) e is far = record { number = number; conflict = conflict; progress = e; met = far }
+met_as k m (progresses.Answered number reply) e is far = absurd cc
+
+module _ (session clock count : ℕ) (splits : List (List ℕ)) (k : Known) (x : OpenTxn) (p : Purpose) (ms : List Message) (counted : IsCounted session clock count k) (w : InCall splits k x p ms) where
+  same_id : x.id ≡ w.t.id
+  same_id = ap (λ x. x.id) w.stands.same
+
+  all_ours : All (λ m. IsOurs k w.s w.t (reader_of p x) m.request) ms
+  all_ours = ours splits k w.t x w.s same_id p ms w.serves
+
+  read_low : IfSome (reader_of p x) (λ ts. ts ≤ k.top)
+  read_low = by p
+    where
+      low : x.reads.ts ≤ k.top
+      low = let e : x.reads.ts ≡ w.t.read_ts = ap (λ x. x.reads.ts) w.stands.same in omega (arith, w.stands.behind, w.stands.below, counted.below)
+
+      by : (p : Purpose) → IfSome (reader_of p x) (λ ts. ts ≤ k.top)
+      by purposes.Read = low
+      by (purposes.Write again) = tt
+      by (purposes.Refresh n) = tt
+      by (purposes.Commit n) = tt
+      by (purposes.Abort why) = tt
+
+  -- a conflict whose round is due was met now
+  pub round_due : (number : ℕ) (conflict : Reply) → step_of ms ≡ steps.Round number conflict → IsConflictNow k number conflict (reader_of p x)
+  round_due number conflict due =
+      let f = due_round ms number conflict due in
+      let m : Message = f.0 in
+      let found : find is_in_conflict ms ≡ Some m = (first_found ms m f.1).0 in
+      let stands_m : MessageStands k m = found_all is_in_conflict (MessageStands k) ms m found w.wave.stand in
+      let met : MetConflict k number m.request conflict = subst (λ p. IsAsFar k m.request m.conflicts p) f.2.progress stands_m.as_far in
+      let our : IsOurs k w.s w.t (reader_of p x) m.request = found_all is_in_conflict (λ m. IsOurs k w.s w.t (reader_of p x) m.request) ms m found all_ours in
+      let holder_is : holder_met m.progress ≡ Some met.holder.id = ap holder_met f.2.progress ∙ ap holder_in met.is in
+      let one = holder_counted met.holder.id is_in_conflict ms m found holder_is in
+      let is_due : IsRoundDue k number conflict = subst (MayBeDue k ms) due (may_be_due k ms w.wave) in
+      record {
+        s = w.s;
+        opened = w.opened;
+        t = w.t;
+        open_is = open_is k w.t w.open_in;
+        holder = met.holder;
+        ts = met.ts;
+        key = met.key;
+        is = met.is;
+        other = our.other met.holder met.ts met.key (subst (MayAnswer m.request) met.is met.kind);
+        h = met.h;
+        there = subst (λ hs. Contains hs met.h) (sym met.whole) (Contains-append_right met.before (met.h ∷ met.later) met.h (0, omega arith, refl));
+        numbered = met.reply.numbered;
+        told = met.reply.told;
+        reads = our.reads ∙ ap read_at (sym met.reply.asked);
+        low = read_low;
+        due = is_due;
+        pushes = omega (arith, one, w.paced.pushes met.holder.id);
+        resolves = w.paced.resolves met.holder.id;
+      }
+
+  -- a holder that blocks the call may be told
+  pub blocked_due : (holder : TxnId) → step_of ms ≡ steps.Blocked holder → MayTell splits (actors.Session session) k (answers.Blocked holder)
+  blocked_due holder due =
+      let f = blocked_first (first_in_conflict ms) (find is_to_send ms) (list_all has_answer ms) holder due in
+      let m : Message = f.0 in
+      let found : find is_in_conflict ms ≡ Some m = (first_found ms m f.1).0 in
+      let stands_m : MessageStands k m = found_all is_in_conflict (MessageStands k) ms m found w.wave.stand in
+      let has : HasMetOne k m = met_as k m m.progress refl (found_passes is_in_conflict ms m found) stands_m.as_far in
+      let our : IsOurs k w.s w.t (reader_of p x) m.request = found_all is_in_conflict (λ m. IsOurs k w.s w.t (reader_of p x) m.request) ms m found all_ours in
+      let b : IsBlockable k w.s = our.blocks has.met.holder has.met.ts has.met.key (subst (MayAnswer m.request) has.met.is has.met.kind) in
+      let eight : MetEight holder k.heard_now = subst (MayBeDue k ms) due (may_be_due k ms w.wave) in
+      let opened : (needs_txn w.s.call && not k.is_open) ≡ false = kept_open (needs_txn w.s.call) k.is_open w.open_in.is_open in
+      record {
+        s = w.s;
+        opened = w.opened;
+        told =
+            match_false (needs_txn w.s.call && not k.is_open) _ _ opened
+            (match_false (is_past_range w.s) _ _ b.within (record { asked = b.may; why = inr eight; uncommitted = b.uncommitted }));
+      }
+    where
+      kept_open : (needs is_open : Bool) → is_open ≡ true → (needs && not is_open) ≡ false
+      kept_open true is_open e = ap not e
+      kept_open false is_open e = refl
+
+      match_false : (b : Bool) (P Q : Type 0) → b ≡ false → Q → MatchBool b P Q
+      match_false b P Q e q = subst (λ b. MatchBool b P Q) (sym e) q

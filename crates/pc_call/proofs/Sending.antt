@@ -1,0 +1,60 @@
+-- What is due of an open call may be given.
+use Rattle.std.proofs.Common.{◌≡◌, ℕ, List, find, Result, Ok, Err, IfOk, refl, sym, subst, All}
+use Rattle.std.specs.List.{list_all}
+use Rattle.pc_call.proofs.Facts.{open_is}
+use Rattle.pc_call.proofs.Ready.{IsReady, IsReadyToSend, ready}
+use Rattle.pc_call.proofs.Rounding.{blocked_due, round_due}
+use Rattle.pc_call.specs.declared.purpose.Purpose.{Purpose}
+use Rattle.pc_call.specs.Giving.{MayBeGiven}
+use Rattle.pc_call.specs.Sending.{IsSendable}
+use Rattle.pc_call.specs.Serving.{InCall, out_of}
+use Rattle.pc_proto.specs.declared.request.Request.{Request}
+use Rattle.pc_txn.proofs.Rows.{undecided}
+use Rattle.pc_txn.specs.Counted.{IsCounted}
+use Rattle.pc_txn.specs.declared.txn.OpenTxn.{OpenTxn}
+use Rattle.pc_wave.proofs.Changed.{found_all, found_passes}
+use Rattle.pc_wave.proofs.Dues.{may_be_due}
+use Rattle.pc_wave.proofs.Sending.{sends_first}
+use Rattle.pc_wave.specs.declared.message.Message.{Message}
+use Rattle.pc_wave.specs.declared.step.Step.{Step}
+use Rattle.pc_wave.specs.declared.step.Step.TheVariants as steps
+use Rattle.pc_wave.specs.Due.{MayBeDue}
+use Rattle.pc_wave.specs.Messages.{first_in_conflict, has_answer, is_to_send, step_of}
+use Rattle.pc_wave.specs.Standing.{MayGoOut}
+use Rattle.pc_world.specs.Follows.Eighth.{MetEighth}
+use Rattle.pc_world.specs.Known.{Known}
+
+module _ (session clock count : ℕ) (splits : List (List ℕ)) (k : Known) (x : OpenTxn) (p : Purpose) (ms : List Message) (counted : IsCounted session clock count k) (w : InCall splits k x p ms) where
+  send_due : (request : Request) → step_of ms ≡ steps.Send request → IsSendable splits session k request
+  send_due request due =
+      let f = sends_first (first_in_conflict ms) (find is_to_send ms) (list_all has_answer ms) request due in
+      let all : All (IsReadyToSend splits session k) ms = ready session clock count splits k counted p w.t x w.s ms w.stands w.open_in w.opened w.serves in
+      let r : IsReady splits session k f.0.request = found_all is_to_send (IsReadyToSend splits session k) ms f.0 f.1 all (found_passes is_to_send ms f.0 f.1) in
+      let here : IsReady splits session k request = subst (IsReady splits session k) f.2 r in
+      let may : MayGoOut k request × (MetEighth k request → ⊥) = subst (MayBeDue k ms) due (may_be_due k ms w.wave) in
+      record {
+        row = here.row;
+        stamps = here.stamps;
+        kind = here.kind;
+        undecided = undecided k (out_of p ms) w.t x w.stands (open_is k w.t w.open_in);
+        answered = may.0.answered;
+        again = may.0.again;
+        below = may.1;
+        before = here.before;
+        own = here.own;
+      }
+
+  given : (step : Step) → step_of ms ≡ step → MayBeDue k ms step → MayBeGiven session splits k x p ms step
+  given (steps.Send request) due may = send_due request due
+  given steps.Deliver due may = may
+  given (steps.Round number conflict) due may = round_due session clock count splits k x p ms counted w number conflict due
+  given (steps.Blocked holder) due may = blocked_due session clock count splits k x p ms counted w holder due
+  given steps.Answered due may = may
+
+  may_be_given : MayBeGiven session splits k x p ms (step_of ms)
+  may_be_given = given (step_of ms) refl (may_be_due k ms w.wave)
+
+  -- so what a call gives that gives what is due
+  pub step_given : {E : Type 0} (r : Result Step E) → IfOk r (λ step. step ≡ step_of ms) → IfOk r (MayBeGiven session splits k x p ms)
+  step_given (Ok step) e = subst (MayBeGiven session splits k x p ms) (sym e) may_be_given
+  step_given (Err fault) e = e

@@ -1,0 +1,418 @@
+-- A message of an open call goes out.
+use Rattle.std.proofs.Common.{◌≡◌, ℕ, ◌+◌, ◌-◌, ◌≤◌, Bool, true, false, cond, not, ◌||◌, ◌⊎◌, inl, inr, List, [], ◌∷◌, ◌++◌, length, map, find, take, Option, Some, None, refl, sym, ap, ◌∙◌, subst, arith, All, IsTrue, unwrap_or, append_assoc, length-append}
+use Rattle.std.proofs.Math.Seq.{take-append_seam}
+use Rattle.std.specs.List.{list_all, list_any}
+use Rattle.std.proofs.lemmas.List.{append-nil}
+use Rattle.std.proofs.lemmas.List.Elements.{All-cons, All-map, All-nil, All-push, All-weaker}
+use Rattle.std.proofs.lemmas.Bool.{eq-eqb}
+use Rattle.pc_base.specs.declared.transaction.TxnId.{TxnId}
+use Rattle.pc_call.proofs.Facts.{are_numbered}
+use Rattle.pc_call.proofs.Holders.{holders_sent}
+use Rattle.pc_call.proofs.Lists.{all_behind, all_front, all_unmapped, kept_by, only_found}
+use Rattle.pc_call.specs.declared.purpose.Purpose.{Purpose}
+use Rattle.pc_call.specs.declared.purpose.Purpose.TheVariants as purposes
+use Rattle.pc_call.specs.Learned.{known_sent}
+use Rattle.pc_call.specs.Opening.{after_send, laid_first, laid_with}
+use Rattle.pc_call.specs.Paced.{IsPaced}
+use Rattle.pc_call.specs.Serving.{AreReadsOf, InCall, IsCommitCall, IsOpenIn, IsOutHere, IsReadFor, IsRefreshUpTo, IsSplit, LaysLast, LaysNext, NoOtherMetEighth, Serves, ServesAbort, ServesCommit, ServesRead, ServesRefresh, ServesWrite, WasRefusedIfCommit, commit_asked, holders_met, out_of, write_call}
+use Rattle.pc_proto.specs.declared.call.Call.{Call}
+use Rattle.pc_proto.specs.declared.call.Call.TheVariants as calls
+use Rattle.pc_proto.specs.declared.request.Request.{Request}
+use Rattle.pc_proto.specs.declared.request.Request.TheVariants as requests
+use Rattle.pc_proto.specs.declared.why.Why.{Why}
+use Rattle.pc_proto.specs.declared.why.Why.TheVariants as whys
+use Rattle.pc_proto.specs.Requests.{is_commit, is_put_of}
+use Rattle.pc_proto.specs.Stamps.{why_stamps}
+use Rattle.pc_reads.specs.ReadsStanding.{refresh_to}
+use Rattle.pc_refusals.proofs.Counted.{refusals_go}
+use Rattle.pc_refusals.specs.Moves.{CountsMoves, IsNoMove}
+use Rattle.pc_txn.proofs.Commits.{commit_now, commit_sent}
+use Rattle.pc_txn.proofs.Keeping.{quiet_sent, stands_on}
+use Rattle.pc_txn.proofs.Laying.{last_laid, next_laid}
+use Rattle.pc_txn.proofs.Puts.{no_put}
+use Rattle.pc_txn.specs.Counted.{IsCounted}
+use Rattle.pc_txn.specs.declared.flight.InFlight.{InFlight}
+use Rattle.pc_txn.specs.declared.txn.OpenTxn.{OpenTxn}
+use Rattle.pc_txn.specs.Opened.{last_put, next_put, own_commit, own_get, own_scan, reading_on, with_next_write}
+use Rattle.pc_txn.specs.Standing.{HasMovedOn, LeavesAsIs, PutsUpTo, TxnStands, is_plain}
+use Rattle.pc_wave.proofs.Changed.{found_all, found_passes}
+use Rattle.pc_wave.proofs.Sending.{sends_first, wave_sent}
+use Rattle.pc_wave.specs.declared.message.Message.{Message}
+use Rattle.pc_wave.specs.declared.message.Progress.{Progress}
+use Rattle.pc_wave.specs.declared.message.Progress.TheVariants as progresses
+use Rattle.pc_wave.specs.declared.step.Step.TheVariants as steps
+use Rattle.pc_wave.specs.Messages.{first_changed, first_in_conflict, has_answer, is_to_send, progress_awaits, progress_to_send, sent_under, step_of, wave_awaits}
+use Rattle.pc_wave.specs.Standing.{HasMore, WaveStands}
+use Rattle.pc_world.specs.Known.{Known, next_number}
+use Rattle.pc_world.specs.Known.Traffic.{Heard, Sent}
+use Rattle.pc_world.specs.Known.Transactions.{Txn, txn_sent}
+use Rattle.pc_world.specs.Known.Writes.{last_seq_of}
+use Rattle.pc_world.specs.RangeOf.{pieces}
+use Rattle.pc_world.specs.SameRequest.{IsSameRequest}
+use Rattle.pc_world.specs.Tell.Data.{IsFirstPut, IsPutFor, sent_before}
+
+-- The request is the put of this key, value and sequence by the transaction of this name and epoch.
+abbrev IsPutForAs : TxnId → ℕ → List ℕ → Option (List ℕ) → ℕ → Request → Type 0
+IsPutForAs id epoch key value seq (requests.Put meta at_seq ts at_key at_value) = (meta.id ≡ id) × (meta.epoch ≡ epoch) × (at_seq ≡ seq) × (at_key ≡ key) × (at_value ≡ value)
+IsPutForAs id epoch key value seq _ = ⊥
+
+-- which sequence a put has
+seq_of_put : (t : Txn) (key : List ℕ) (value : Option (List ℕ)) (seq : ℕ) (request : Request) (x : OpenTxn) (anchor own : List ℕ) (laid : Option (List ℕ)) → request ≡ last_put x anchor own laid → IsPutFor t key value seq request → x.seq ≡ seq
+seq_of_put t key value seq request x anchor own laid said put = (subst (IsPutFor t key value seq) said put).2
+
+every : {X : Type 0} (P : X → Type 0) → ((x : X) → P x) → (xs : List X) → All P xs
+every P all [] = All-nil P
+every P all (x ∷ xs) = All-cons P x xs (all x) (every P all xs)
+
+quiet_reads : (splits : List (List ℕ)) (x : OpenTxn) (call : Call) (rs : List Request) → AreReadsOf splits x call rs → All (λ r. is_plain r ≡ true) rs
+quiet_reads splits x (calls.Get key) rs e =
+    subst (λ rs. All (λ r. is_plain r ≡ true) rs) (sym e) (All-cons (λ r. is_plain r ≡ true) (own_get x key) [] refl (All-nil (λ r. is_plain r ≡ true)))
+quiet_reads splits x (calls.Scan span) rs e =
+    subst (λ rs. All (λ r. is_plain r ≡ true) rs) (sym e)
+    (All-map (λ r. is_plain r ≡ true) (λ p. own_scan x p.1) (pieces splits span) (every (λ p. is_plain (own_scan x p.1) ≡ true) (λ p. refl) (pieces splits span)))
+quiet_reads splits x call rs e = absurd e
+
+to_send_as : (p : Progress) → progress_to_send p ≡ true → p ≡ progresses.ToSend
+to_send_as progresses.ToSend is = refl
+to_send_as (progresses.Sent number) is = absurd cc
+to_send_as (progresses.Met number conflict) is = absurd cc
+to_send_as (progresses.Answered number reply) is = absurd cc
+
+-- of one message that is to be sent none is waited for
+none_waited : (n : ℕ) (m : Message) → is_to_send m ≡ true → wave_awaits n (m ∷ []) ≡ false
+none_waited n m is = ap (λ p. progress_awaits n p || false) (to_send_as m.progress is)
+
+-- the one message that is to be sent went out
+one_sent : (number : ℕ) (m : Message) → is_to_send m ≡ true → first_changed is_to_send (sent_under number) (m ∷ []) ≡ sent_under number m ∷ []
+one_sent number m is = ap (λ b. cond b (sent_under number m ∷ []) (m ∷ [])) is
+
+module _ (session clock count : ℕ) (splits : List (List ℕ)) (k : Known) (x : OpenTxn) (p : Purpose) (ms : List Message) (counted : IsCounted session clock count k) (w : InCall splits k x p ms)
+    (request : Request) (due : step_of ms ≡ steps.Send request) (number : ℕ) (next : number ≡ next_number k) (range : ℕ) where
+  abbrev m2 : Sent
+  m2 = record { number = number; range = range; request = request }
+
+  abbrev k2 : Known
+  k2 = known_sent number range request k
+
+  abbrev ms2 : List Message
+  ms2 = first_changed is_to_send (sent_under number) ms
+
+  abbrev t2 : Txn
+  t2 = txn_sent request w.t
+
+  more : HasMore k k2 (m2 ∷ []) []
+  more = record { sent = refl; sent_now = refl; heard = sym (append-nil k.heard); heard_now = sym (append-nil k.heard_now) }
+
+  gone : HasMovedOn k k2 (m2 ∷ []) []
+  gone = record { sent = refl; heard = sym (append-nil k.heard); begun = omega arith; high = omega arith }
+
+  first_one : (m : Message) × (find is_to_send ms ≡ Some m) × (m.request ≡ request)
+  first_one = sends_first (first_in_conflict ms) (find is_to_send ms) (list_all has_answer ms) request due
+
+  wave2 : WaveStands k2 ms2
+  wave2 = wave_sent k k2 ms number range request w.wave (are_numbered session clock count k counted) due next more
+
+  requests2 : map (λ m. m.request) ms2 ≡ map (λ m. m.request) ms
+  requests2 = kept_by is_to_send (sent_under number) (λ (m : Message). m.request) ms (λ m. refl)
+
+  -- what holds of each request holds of the one that goes out
+  of_request : (P : Request → Type 0) → All P (map (λ m. m.request) ms) → P request
+  of_request P a = subst P first_one.2 (found_all is_to_send (λ (m : Message). P m.request) ms first_one.0 first_one.1 (all_unmapped P (λ (m : Message). m.request) ms a))
+
+  paced2 : IsPaced (holders_met ms2) k2.heard_now
+  paced2 = subst (λ hs. IsPaced hs k.heard_now) (sym (holders_sent number ms)) w.paced
+
+  fewer2 : NoOtherMetEighth k2.heard_now ms2
+  fewer2 r beside none =
+      let P : Request → Type 0 = λ q. IsSameRequest q r → ⊥ in
+      w.fewer r beside (all_unmapped P (λ (m : Message). m.request) ms (subst (λ rs. All P rs) requests2 (All-map P (λ (m : Message). m.request) ms2 none)))
+
+  open2 : IsOpenIn k2 t2
+  open2 = record { others = map (txn_sent request) w.open_in.others; is_open = w.open_in.is_open; first = ap (map (txn_sent request)) w.open_in.first }
+
+  sent2 : k2.sent ≡ w.split.sent_first ++ k2.sent_now
+  sent2 = ap (λ ms. ms ++ m2 ∷ []) w.split.sent ∙ append_assoc w.split.sent_first k.sent_now (m2 ∷ [])
+
+  split2 : IsSplit k2
+  split2 = record {
+    sent_first = w.split.sent_first;
+    sent = sent2;
+    heard_first = w.split.heard_first;
+    heard = w.split.heard;
+  }
+
+  -- the call stands where its transaction and its purpose do
+  gone_out : (x2 : OpenTxn) → TxnStands k2 (out_of p ms2) t2 x2 → x2.cause ≡ whys.Client → Serves splits k2 w.s t2 x2 p ms2 → InCall splits k2 x2 p ms2
+  gone_out x2 st client serves = record {
+    t = t2;
+    open_in = open2;
+    stands = st;
+    cause = client;
+    s = w.s;
+    opened = w.opened;
+    split = split2;
+    wave = wave2;
+    paced = paced2;
+    fewer = fewer2;
+    serves = serves;
+  }
+
+  -- where the request neither writes nor decides, the transaction is as it was
+  module _ (quiet : is_plain request ≡ true) where
+    same2 : t2 ≡ w.t
+    same2 = quiet_sent request w.t quiet
+
+    quiet_stands : (out : _) → TxnStands k out w.t x → TxnStands k2 out t2 x
+    quiet_stands out st =
+        subst (λ t. TxnStands k2 out t x) (sym same2)
+        (stands_on k k2 out w.t x (m2 ∷ []) [] st gone (All-cons (λ m. IsTrue (is_plain m.request)) m2 [] quiet (All-nil (λ m. IsTrue (is_plain m.request)))) (All-nil (LeavesAsIs w.t)))
+
+  read_serves : ServesRead splits k w.s x ms → ServesRead splits k2 w.s x ms2
+  read_serves r = record {
+    asked = subst (λ rs. AreReadsOf splits x w.s.call rs) (sym requests2) r.asked;
+    none_in_flight = r.none_in_flight;
+    heard = subst (λ rs. All (IsReadFor rs) k.heard_now) (sym requests2) r.heard;
+  }
+
+  numbered_now : All (λ h. h.number ≤ length k.sent) k.heard_now
+  numbered_now =
+      let P : Heard → Type 0 = λ h. h.number ≤ length k.sent in
+      all_behind P w.split.heard_first k.heard_now (subst (λ hs. All P hs) w.split.heard (are_numbered session clock count k counted).heard)
+
+  moves2 : (n : ℕ) → CountsMoves k n → CountsMoves k2 n
+  moves2 n c =
+      refusals_go n k k2 (m2 ∷ []) [] c more numbered_now
+      (All-cons (λ m. length k.sent + 1 ≤ m.number) m2 [] (omega (arith, next)) (All-nil (λ m. length k.sent + 1 ≤ m.number))) (All-nil IsNoMove)
+
+  commit_call2 : (n : ℕ) (t : Txn) (x2 : OpenTxn) → t.anchor ≡ w.t.anchor → x2.in_flight ≡ x.in_flight → IsCommitCall n k w.s w.t x → IsCommitCall n k2 w.s t x2
+  commit_call2 n t x2 anchor flight c = record {
+    call = c.call;
+    anchor = c.anchor;
+    anchored = anchor ∙ c.anchored;
+    none_in_flight = flight ∙ c.none_in_flight;
+    few = c.few;
+    moves = moves2 n c.moves;
+    unmet = c.unmet;
+  }
+
+  refresh_serves : (n : ℕ) → ServesRefresh n k w.s w.t x ms → ServesRefresh n k2 w.s w.t x ms2
+  refresh_serves n r =
+      let refreshes : All (λ q. IsRefreshUpTo w.t.write_ts q) (map (λ m. m.request) ms) =
+      subst (λ rs. All (IsRefreshUpTo w.t.write_ts) rs) (sym r.asked)
+      (All-map (IsRefreshUpTo w.t.write_ts) (refresh_to x.id x.reads.ts x.write_ts) x.reads.spans
+      (every (λ span. x.write_ts ≤ w.t.write_ts) (λ span. let e : x.write_ts ≡ w.t.write_ts = ap (λ x. x.write_ts) w.stands.same in omega arith) x.reads.spans)) in
+      let no_commit : All (λ q. is_commit q ≡ false) (map (λ m. m.request) ms) =
+      subst (λ rs. All (λ q. is_commit q ≡ false) rs) (sym r.asked)
+      (All-map (λ q. is_commit q ≡ false) (refresh_to x.id x.reads.ts x.write_ts) x.reads.spans (every (λ span. is_commit (refresh_to x.id x.reads.ts x.write_ts span) ≡ false) (λ span. refl) x.reads.spans)) in
+      record {
+        commits = commit_call2 n w.t x refl refl r.commits;
+        refused =
+            All-push (WasRefusedIfCommit w.t.write_ts k.heard_now) k.sent_now m2 r.refused
+            (λ commits. let e : is_commit request ≡ false = of_request (λ q. is_commit q ≡ false) no_commit in absurd cc);
+        refreshes = All-push (λ m. IsRefreshUpTo w.t.write_ts m.request) k.sent_now m2 r.refreshes (of_request (IsRefreshUpTo w.t.write_ts) refreshes);
+        behind = r.behind;
+        asked = requests2 ∙ r.asked;
+      }
+
+  abort_serves : (why : Why) → ServesAbort why k w.s w.t x ms → is_to_send first_one.0 ≡ true → ServesAbort why k2 w.s w.t x ms2
+  abort_serves why a to_send =
+      let found : find is_to_send (a.m ∷ []) ≡ Some first_one.0 = subst (λ ms. find is_to_send ms ≡ Some first_one.0) a.one first_one.1 in
+      let is : is_to_send a.m ≡ true = (only_found is_to_send a.m first_one.0 found).1 in
+      record {
+        call = a.call;
+        anchor = a.anchor;
+        anchored = a.anchored;
+        m = sent_under number a.m;
+        one = ap (first_changed is_to_send (sent_under number)) a.one ∙ one_sent number a.m is;
+        said = a.said;
+        cause = a.cause;
+        low = All-weaker (λ ts. ts ≤ k.top + 1) (λ ts. ts ≤ k2.top + 1) (λ ts low. omega (arith, low)) (why_stamps why) a.low;
+      }
+
+  -- the sends before the open call are those that were
+  before_same : sent_before k2 ≡ sent_before k
+  before_same =
+      let n : length k.sent - length k.sent_now ≡ length w.split.sent_first = omega (arith, ap length w.split.sent, length-append w.split.sent_first k.sent_now) in
+      let n2 : length k2.sent - length k2.sent_now ≡ length w.split.sent_first = omega (arith, ap length sent2, length-append w.split.sent_first k2.sent_now) in
+      let a : sent_before k ≡ w.split.sent_first = ap (λ n. take n k.sent) n ∙ ap (take (length w.split.sent_first)) w.split.sent ∙ take-append_seam w.split.sent_first k.sent_now in
+      let b : sent_before k2 ≡ w.split.sent_first = ap (λ n. take n k2.sent) n2 ∙ ap (take (length w.split.sent_first)) sent2 ∙ take-append_seam w.split.sent_first k2.sent_now in
+      b ∙ sym a
+
+  before_is : sent_before k ≡ w.split.sent_first
+  before_is =
+      let n : length k.sent - length k.sent_now ≡ length w.split.sent_first = omega (arith, ap length w.split.sent, length-append w.split.sent_first k.sent_now) in
+      ap (λ n. take n k.sent) n ∙ ap (take (length w.split.sent_first)) w.split.sent ∙ take-append_seam w.split.sent_first k.sent_now
+
+  one_message : (m : Message) → ms ≡ m ∷ [] → (m.request ≡ request) × (is_to_send m ≡ true)
+  one_message m one =
+      let found : find is_to_send (m ∷ []) ≡ Some first_one.0 = subst (λ ms. find is_to_send ms ≡ Some first_one.0) one first_one.1 in
+      let o = only_found is_to_send m first_one.0 found in
+      (ap (λ (m : Message). m.request) o.0 ∙ first_one.2, o.1)
+
+  -- a write goes out
+  module _ (key : List ℕ) (value : Option (List ℕ)) (again : Bool) (m : Message) (call : w.s.call ≡ write_call key value) (one : ms ≡ m ∷ []) where
+    is_request : m.request ≡ request
+    is_request = (one_message m one).0
+
+    one2 : ms2 ≡ sent_under number m ∷ []
+    one2 = ap (first_changed is_to_send (sent_under number)) one ∙ one_sent number m (one_message m one).1
+
+    next_serves : (st : TxnStands k None w.t x) → (l : LaysNext k w.s w.t x key value again m) → (x2 : OpenTxn) → x2 ≡ with_next_write key value x → TxnStands k2 None t2 x2 → ServesWrite again k2 w.s t2 x2 ms2
+    next_serves st l x2 made st2 =
+        let anchor : x2.anchor ≡ t2.anchor = ap (λ x. x.anchor) st2.same in
+        let own_anchor : x2.anchor ≡ Some (unwrap_or x.anchor key) = ap (λ x. x.anchor) made in
+        let seq_is : x2.seq ≡ last_seq_of w.t.writes + 1 = ap (λ x. x.seq) made ∙ ap (λ n. n + 1) (ap (λ x. x.seq) st.same) in
+        let earlier : All (λ m. PutsUpTo w.t (last_seq_of w.t.writes) m.request) w.split.sent_first =
+        all_front (λ m. PutsUpTo w.t (last_seq_of w.t.writes) m.request) w.split.sent_first k.sent_now (subst (λ ms. All (λ m. PutsUpTo w.t (last_seq_of w.t.writes) m.request) ms) w.split.sent st.puts) in
+        record {
+          key = key;
+          value = value;
+          call = call;
+          m = sent_under number m;
+          one = one2;
+          lays = inr (record {
+            in_flight = ap (λ x. x.in_flight) made;
+            anchor = unwrap_or x.anchor key;
+            anchored = sym anchor ∙ own_anchor;
+            said = l.said ∙ sym (ap (λ x. last_put x (unwrap_or x.anchor key) key value) made) ∙ ap (λ a. last_put x2 a key value) (ap (λ o. unwrap_or o key) own_anchor);
+            first = λ e.
+                ap (λ ms. list_any (λ other. is_put_of w.t.id w.t.epoch x2.seq other.request) ms) (before_same ∙ before_is)
+                ∙ ap (λ n. list_any (λ other. is_put_of w.t.id w.t.epoch n other.request) w.split.sent_first) seq_is
+                ∙ no_put w.t (last_seq_of w.t.writes) (last_seq_of w.t.writes + 1) w.split.sent_first (omega arith) earlier;
+            old = λ e. let f : true ≡ false = sym e ∙ l.own in absurd cc;
+            before = λ e. let f : true ≡ false = sym e ∙ l.own in absurd cc;
+          });
+        }
+
+    -- what is first after it was first before, and the call's old write is none
+    first_back : (t : Txn) → t.id ≡ w.t.id → t.epoch ≡ w.t.epoch → (m : Sent) → IsFirstPut k2 w.s t m → IsFirstPut k w.s w.t m
+    first_back t id epoch m f = record {
+      seq = f.seq;
+      key = f.key;
+      value = f.value;
+      asked = f.asked;
+      put = subst (λ e. IsPutForAs w.t.id e f.key f.value f.seq m.request) epoch (subst (λ i. IsPutForAs i t.epoch f.key f.value f.seq m.request) id f.put);
+      first =
+          subst (λ ms. IsTrue (not (list_any (λ other. is_put_of w.t.id w.t.epoch f.seq other.request) ms))) before_same
+          (subst (λ e. IsTrue (not (list_any (λ other. is_put_of w.t.id e f.seq other.request) (sent_before k2)))) epoch
+          (subst (λ i. IsTrue (not (list_any (λ other. is_put_of i t.epoch f.seq other.request) (sent_before k2)))) id f.first));
+    }
+
+    last_serves : (st : TxnStands k None w.t x) → (l : LaysLast k w.s w.t x key value again m) → TxnStands k2 None t2 x → ServesWrite again k2 w.s t2 x ms2
+    last_serves st l st2 =
+        let a : x.anchor ≡ w.t.anchor = ap (λ x. x.anchor) st.same in
+        let b : x.anchor ≡ t2.anchor = ap (λ x. x.anchor) st2.same in
+        record {
+          key = key;
+          value = value;
+          call = call;
+          m = sent_under number m;
+          one = one2;
+          lays = inr (record {
+            in_flight = l.in_flight;
+            anchor = l.anchor;
+            anchored = sym b ∙ a ∙ l.anchored;
+            said = l.said;
+            first = λ e. ap (λ ms. list_any (λ other. is_put_of w.t.id w.t.epoch x.seq other.request) ms) before_same ∙ l.first e;
+            old = λ e. All-push (λ m. IsFirstPut k2 w.s t2 m → ⊥) k.sent_now m2 (All-weaker (λ m. IsFirstPut k w.s w.t m → ⊥) (λ m. IsFirstPut k2 w.s t2 m → ⊥) (λ m none f. none (first_back t2 refl refl m f)) k.sent_now (l.old e)) (old_one e);
+            before = λ e. ap (λ ms. list_any (λ other. is_put_of w.t.id w.t.epoch x.seq other.request) ms) before_same ∙ l.before e;
+          });
+        }
+      where
+        old_one : again ≡ true → IsFirstPut k2 w.s t2 m2 → ⊥
+        old_one e f =
+            let g : IsFirstPut k w.s w.t m2 = first_back t2 refl refl m2 f in
+            let said : request ≡ last_put x l.anchor key value = sym is_request ∙ l.said in
+            let seq : x.seq ≡ g.seq = seq_of_put w.t g.key g.value g.seq request x l.anchor key value said g.put in
+            let none : not (list_any (λ other. is_put_of w.t.id w.t.epoch x.seq other.request) (sent_before k)) ≡ true =
+            ap (λ n. not (list_any (λ other. is_put_of w.t.id w.t.epoch n other.request) (sent_before k))) seq ∙ g.first in
+            let some : not (list_any (λ other. is_put_of w.t.id w.t.epoch x.seq other.request) (sent_before k)) ≡ false = ap not (l.before e) in
+            let f : true ≡ false = sym none ∙ some in
+            absurd cc
+
+    write_out : (st : TxnStands k None w.t x) → LaysNext k w.s w.t x key value again m ⊎ LaysLast k w.s w.t x key value again m → p ≡ purposes.Write again → InCall splits k2 (laid_first ms x) p ms2
+    write_out st (inl l) is =
+        let said : request ≡ next_put x key value = sym is_request ∙ l.said in
+        let made : laid_first ms x ≡ with_next_write key value x =
+        ap (λ ms. laid_first ms x) one ∙ ap (λ f. laid_with f m.request x) l.none_in_flight ∙ ap (λ r. laid_with None r x) l.said in
+        let gone2 : HasMovedOn k k2 (record { number = number; range = range; request = next_put x key value } ∷ []) [] =
+        subst (λ r. HasMovedOn k k2 (record { number = number; range = range; request = r } ∷ []) []) said gone in
+        let st2 : TxnStands k2 None t2 (laid_first ms x) =
+        subst (λ y. TxnStands k2 None t2 y) (sym made)
+        (subst (λ r. TxnStands k2 None (txn_sent r w.t) (with_next_write key value x)) (sym said) (next_laid k k2 w.t x key value number range st l.none_in_flight gone2)) in
+        gone_out (laid_first ms x) (subst (λ q. TxnStands k2 (out_of q ms2) t2 (laid_first ms x)) (sym is) st2) (ap (λ x. x.cause) made ∙ w.cause)
+        (subst (λ q. Serves splits k2 w.s t2 (laid_first ms x) q ms2) (sym is) (next_serves st l (laid_first ms x) made st2))
+    write_out st (inr l) is =
+        let v : InFlight = record { key = key; value = value } in
+        let said : request ≡ last_put x l.anchor key value = sym is_request ∙ l.said in
+        let made : laid_first ms x ≡ x = ap (λ ms. laid_first ms x) one ∙ ap (λ f. laid_with f m.request x) l.in_flight in
+        let gone2 : HasMovedOn k k2 (record { number = number; range = range; request = last_put x l.anchor key value } ∷ []) [] =
+        subst (λ r. HasMovedOn k k2 (record { number = number; range = range; request = r } ∷ []) []) said gone in
+        let st2 : TxnStands k2 None t2 x = subst (λ r. TxnStands k2 None (txn_sent r w.t) x) (sym said) (last_laid k k2 w.t x v l.anchor st l.in_flight l.anchored number range gone2) in
+        subst (λ y. InCall splits k2 y p ms2) (sym made)
+        (gone_out x (subst (λ q. TxnStands k2 (out_of q ms2) t2 x) (sym is) st2) w.cause (subst (λ q. Serves splits k2 w.s t2 x q ms2) (sym is) (last_serves st l st2)))
+
+  -- a commit goes out
+  commit_out : (n : ℕ) → p ≡ purposes.Commit n → ServesCommit n k w.s w.t x ms → InCall splits k2 (reading_on x) p ms2
+  unfolding commit_call2
+  commit_out n is c =
+      let o = one_message c.m c.one in
+      let none : out_of (purposes.Commit n) ms ≡ None = ap (out_of (purposes.Commit n)) c.one ∙ ap (λ b. cond b None (commit_asked c.m.request)) o.1 in
+      let st : TxnStands k None w.t x = subst (λ o. TxnStands k o w.t x) none (subst (λ q. TxnStands k (out_of q ms) w.t x) is w.stands) in
+      let said : request ≡ own_commit x c.commits.anchor = sym o.0 ∙ c.said in
+      let one2 : ms2 ≡ sent_under number c.m ∷ [] = ap (first_changed is_to_send (sent_under number)) c.one ∙ one_sent number c.m o.1 in
+      let gone2 : HasMovedOn k k2 (record { number = number; range = range; request = own_commit x c.commits.anchor } ∷ []) [] =
+      subst (λ r. HasMovedOn k k2 (record { number = number; range = range; request = r } ∷ []) []) said gone in
+      let st2 : TxnStands k2 (Some (commit_now w.t c.commits.anchor)) t2 (reading_on x) =
+      subst (λ r. TxnStands k2 (Some (commit_now w.t c.commits.anchor)) (txn_sent r w.t) (reading_on x)) (sym said)
+      (commit_sent k k2 w.t x c.commits.anchor number range st c.commits.none_in_flight c.commits.anchored (c.good o.1) gone2) in
+      let out2 : out_of (purposes.Commit n) ms2 ≡ Some (commit_now w.t c.commits.anchor) =
+      ap (out_of (purposes.Commit n)) one2 ∙ ap commit_asked c.said ∙ ap (λ x. commit_asked (own_commit x c.commits.anchor)) st.same in
+      gone_out (reading_on x) (subst (λ q. TxnStands k2 (out_of q ms2) t2 (reading_on x)) (sym is) (subst (λ o. TxnStands k2 o t2 (reading_on x)) (sym out2) st2)) w.cause
+      (subst (λ q. Serves splits k2 w.s t2 (reading_on x) q ms2) (sym is) (record {
+        commits = commit_call2 n t2 (reading_on x) (ap (λ r. (txn_sent r w.t).anchor) said) refl c.commits;
+        refused =
+            let ts_is : t2.write_ts ≡ w.t.write_ts = ap (λ r. (txn_sent r w.t).write_ts) said in
+            subst (λ n. All (λ m. IsOutHere ms2 (own_commit x c.commits.anchor) m ⊎ WasRefusedIfCommit n k.heard_now m) k2.sent_now) (sym ts_is)
+            (All-push (λ m. IsOutHere ms2 (own_commit x c.commits.anchor) m ⊎ WasRefusedIfCommit w.t.write_ts k.heard_now m) k.sent_now m2
+            (All-weaker (λ m. IsOutHere ms (own_commit x c.commits.anchor) m ⊎ WasRefusedIfCommit w.t.write_ts k.heard_now m) (λ m. IsOutHere ms2 (own_commit x c.commits.anchor) m ⊎ WasRefusedIfCommit w.t.write_ts k.heard_now m)
+            (λ m r. earlier c.m c.one o.1 m r) k.sent_now c.refused)
+            (inl (record { waited = ap (wave_awaits number) one2 ∙ ap (λ b. b || false) (eq-eqb number number refl); asked = said })));
+        refreshes =
+            let ts_is : t2.write_ts ≡ w.t.write_ts = ap (λ r. (txn_sent r w.t).write_ts) said in
+            subst (λ n. All (λ m. IsRefreshUpTo n m.request) k2.sent_now) (sym ts_is)
+            (All-push (λ m. IsRefreshUpTo w.t.write_ts m.request) k.sent_now m2 c.refreshes (subst (IsRefreshUpTo w.t.write_ts) (sym said) tt));
+        m = sent_under number c.m;
+        one = one2;
+        said = c.said;
+        good = λ e. absurd cc;
+        there = λ e. sym (ap (λ x. x.reads.ts) st2.same) ∙ ap (λ x. x.write_ts) st2.same;
+      }))
+    where
+      earlier : (m : Message) → ms ≡ m ∷ [] → is_to_send m ≡ true → (s : Sent) → IsOutHere ms (own_commit x c.commits.anchor) s ⊎ WasRefusedIfCommit w.t.write_ts k.heard_now s → IsOutHere ms2 (own_commit x c.commits.anchor) s ⊎ WasRefusedIfCommit w.t.write_ts k.heard_now s
+      earlier m one to_send s (inl o) =
+          let f : false ≡ true = sym (none_waited s.number m to_send) ∙ ap (wave_awaits s.number) (sym one) ∙ o.waited in absurd cc
+      earlier m one to_send s (inr r) = inr r
+
+  sent_by : (q : Purpose) → p ≡ q → Serves splits k w.s w.t x q ms → TxnStands k (out_of q ms) w.t x → InCall splits k2 (after_send q ms x) p ms2
+  sent_by purposes.Read is r st =
+      let quiet : is_plain request ≡ true = of_request (λ q. is_plain q ≡ true) (quiet_reads splits x w.s.call (map (λ m. m.request) ms) r.asked) in
+      gone_out x (subst (λ q. TxnStands k2 (out_of q ms2) t2 x) (sym is) (quiet_stands quiet None st)) w.cause (subst (λ q. Serves splits k2 w.s t2 x q ms2) (sym is) (read_serves r))
+  sent_by (purposes.Write again) is r st = write_out r.key r.value again r.m r.call r.one st r.lays is
+  sent_by (purposes.Refresh n) is r st =
+      let quiet : is_plain request ≡ true =
+      of_request (λ q. is_plain q ≡ true)
+      (subst (λ rs. All (λ q. is_plain q ≡ true) rs) (sym r.asked)
+      (All-map (λ q. is_plain q ≡ true) (refresh_to x.id x.reads.ts x.write_ts) x.reads.spans (every (λ span. is_plain (refresh_to x.id x.reads.ts x.write_ts span) ≡ true) (λ span. refl) x.reads.spans))) in
+      gone_out x (subst (λ q. TxnStands k2 (out_of q ms2) t2 x) (sym is) (quiet_stands quiet None st)) w.cause
+      (subst (λ q. Serves splits k2 w.s t2 x q ms2) (sym is) (subst (λ t. ServesRefresh n k2 w.s t x ms2) (sym (same2 quiet)) (refresh_serves n r)))
+  sent_by (purposes.Commit n) is r st = commit_out n is r
+  sent_by (purposes.Abort why) is r st =
+      let o = one_message r.m r.one in
+      let quiet : is_plain request ≡ true = ap is_plain (sym o.0 ∙ r.said) in
+      gone_out x (subst (λ q. TxnStands k2 (out_of q ms2) t2 x) (sym is) (quiet_stands quiet None st)) w.cause
+      (subst (λ q. Serves splits k2 w.s t2 x q ms2) (sym is)
+      (subst (λ t. ServesAbort why k2 w.s t x ms2) (sym (same2 quiet)) (abort_serves why r (found_passes is_to_send ms first_one.0 first_one.1))))
+
+  pub call_sent : InCall splits k2 (after_send p ms x) p ms2
+  call_sent = sent_by p refl w.serves w.stands

@@ -1,0 +1,16 @@
+use Rattle.std.proofs.Common.{◌≡◌, [], ◌∷◌, sym, ap, ◌∙◌, subst}
+use Rattle.pc_call.proofs.Beginning.{abort_begins}
+use Rattle.pc_call.specs.declared.purpose.Purpose.TheVariants as purposes
+use Rattle.pc_call.specs.Serving.{InCall}
+use Rattle.pc_txn.specs.Opened.{own_abort}
+use Rattle.pc_wave.specs.Messages.{message_to_send}
+use Rattle.pc_call.proofs.call.OpenCall.abort.Goals as goal
+
+pub returns : goal.returns
+returns c = record {
+  stands = λ splits k s fresh call anchored.
+      let x = c.args.txn.now in
+      let e : c.in_ok-wave.wave ≡ message_to_send (own_abort x c.args.why c.args.anchor.now) ∷ [] = c.in_ok-wave.ensures ∙ ap (λ r. message_to_send r ∷ []) c.in_ok-abort.ensures in
+      subst (λ now. InCall splits k x (purposes.Abort c.args.why) now) (sym e)
+      (abort_begins k x s c.args.why fresh splits c.args.anchor.now call anchored);
+}

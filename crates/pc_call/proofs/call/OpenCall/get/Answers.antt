@@ -1,0 +1,16 @@
+use Rattle.std.proofs.Common.{◌≡◌, [], ◌∷◌, sym, ap, ◌∙◌, subst}
+use Rattle.pc_call.proofs.Beginning.{get_begins}
+use Rattle.pc_call.specs.declared.purpose.Purpose.TheVariants as purposes
+use Rattle.pc_call.specs.Serving.{InCall}
+use Rattle.pc_txn.specs.Opened.{own_get}
+use Rattle.pc_wave.specs.Messages.{message_to_send}
+use Rattle.pc_call.proofs.call.OpenCall.get.Goals as goal
+
+pub returns : goal.returns
+returns c = record {
+  stands = λ splits k s why fresh call none.
+      let x = c.args.txn.now in
+      let e : c.in_ok-wave.wave ≡ message_to_send (own_get x c.args.key.now) ∷ [] = c.in_ok-wave.ensures ∙ ap (λ r. message_to_send r ∷ []) c.in_ok-get.ensures in
+      subst (λ now. InCall splits k x purposes.Read now) (sym e)
+      (get_begins k x s why fresh splits c.args.key.now call none);
+}

@@ -1,0 +1,12 @@
+use Rattle.std.proofs.Common.{sym, subst}
+use Rattle.pc_call.proofs.Hearing.{call_heard}
+use Rattle.pc_call.specs.Learned.{known_heard}
+use Rattle.pc_call.specs.Serving.{InCall}
+use Rattle.pc_call.proofs.call.OpenCall.heard.Goals as goal
+
+pub returns : goal.returns
+returns c = record {
+  stands = λ session clock begun splits k x h counted w waited is on.
+      subst (λ now. InCall splits (known_heard h k) x c.args.self.now.purpose now) (sym c.heard.ensures.made)
+      (call_heard session clock begun splits k x c.args.self.now.purpose c.args.self.now.wave counted w c.args.number c.args.reply h waited is on);
+}

@@ -1,0 +1,11 @@
+-- An open call, and how its messages stand beside what its session knows.
+pub mod Committing
+pub mod Fresh
+pub mod Giving
+pub mod Learned
+pub mod Opening
+pub mod Paced
+pub mod Pieces
+pub mod Rounding
+pub mod Sending
+pub mod Serving

@@ -1,0 +1,39 @@
+-- The round of a conflict that an open call met was made.
+use Rattle.std.specs.Prelude.{◌≡◌, ◌+◌, ◌≤◌, false, if◌then◌else◌, Option, None, Some, List, All, IsTrue, count_by, ⊤}
+use Rattle.pc_base.specs.declared.transaction.TxnId.{TxnId}
+use Rattle.pc_base.specs.Transaction.{same_txn}
+use Rattle.pc_call.specs.Paced.{shows_resolve, was_met, was_pushed}
+use Rattle.pc_proto.specs.declared.reply.Reply.{Reply}
+use Rattle.pc_proto.specs.Replies.{holder_in}
+use Rattle.pc_proto.specs.Requests.{is_about}
+use Rattle.pc_wave.specs.Due.{FollowsConflict}
+use Rattle.pc_wave.specs.Standing.{HasMore, goes_beside}
+use Rattle.pc_world.specs.Known.{Known}
+use Rattle.pc_world.specs.Known.Traffic.{Heard, Sent}
+
+-- The transaction was pushed once more, no other was, and no fewer conflicts and no more resolves than pushes were heard.
+pub record IsPushedOnce (id : TxnId) (before now : List Heard) : Type 0 where
+  pub pushes : (other : TxnId) → count_by (was_pushed other) now ≡ count_by (was_pushed other) before + (if same_txn id other then 1 else 0)
+  pub met : (other : TxnId) → count_by (was_met other) before ≤ count_by (was_met other) now
+  pub resolves : (other : TxnId) → count_by (shows_resolve other) now ≤ count_by (was_pushed other) now
+
+abbrev pub KeepsPace : Option TxnId → List Heard → List Heard → Type 0
+KeepsPace None before now = ⊤
+KeepsPace (Some id) before now = IsPushedOnce id before now
+
+-- Since then the session has made the round of this conflict, and nothing that it sent or heard besides is of its call or speaks of the record
+-- of its open transaction, of this name.
+pub record MakesRound (start k : Known) (own : TxnId) (conflict : Reply) : Type 0 where
+  pub sent_more : List Sent
+  pub heard_more : List Heard
+  pub more : HasMore start k sent_more heard_more
+  pub sent_beside : All (λ m. IsTrue (goes_beside m.request)) sent_more
+  pub heard_beside : All (λ h. IsTrue (goes_beside h.request)) heard_more
+  pub other : All (λ h. is_about own h.request ≡ false) heard_more
+  pub followed : FollowsConflict conflict heard_more
+  pub pace : KeepsPace (holder_in conflict) start.heard_now k.heard_now
+  pub statement : k.statement ≡ start.statement
+  pub is_open : k.is_open ≡ start.is_open
+  pub txns : k.txns ≡ start.txns
+  pub begun : start.begun ≤ k.begun
+  pub high : start.high ≤ k.high

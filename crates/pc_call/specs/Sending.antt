@@ -1,0 +1,64 @@
+-- What lets a request of an open call go out, and what is known of a conflict that asks for a round.
+use Rattle.std.specs.Prelude.{◌≡◌, ℕ, ◌+◌, ◌≤◌, Option, None, Some, IfSome, List, All, Any, Contains, count_by}
+use Rattle.pc_base.specs.declared.actor.ActorId.TheVariants as actors
+use Rattle.pc_call.specs.Paced.{shows_resolve, was_met, was_pushed}
+use Rattle.pc_proto.specs.declared.meta.TxnMeta.{TxnMeta}
+use Rattle.pc_proto.specs.declared.reply.Reply.{Reply}
+use Rattle.pc_proto.specs.declared.reply.Reply.TheVariants as replies
+use Rattle.pc_proto.specs.declared.request.Request.{Request}
+use Rattle.pc_proto.specs.declared.request.Request.TheVariants as requests
+use Rattle.pc_proto.specs.Stamps.{request_stamps}
+use Rattle.pc_wave.specs.Due.{IsRoundDue}
+use Rattle.pc_world.specs.Follows.CallMessages.{IsForCall}
+use Rattle.pc_world.specs.Follows.EarlyTell.{IsCommitKnown}
+use Rattle.pc_world.specs.Follows.Eighth.{IsBeforeEighth, MetEighth}
+use Rattle.pc_world.specs.Follows.OneWrite.{IsItsPut}
+use Rattle.pc_world.specs.Follows.Resends.{AreAnsweredNow, MayGoAgain}
+use Rattle.pc_world.specs.Known.{Known, open_txn}
+use Rattle.pc_world.specs.Known.Statements.{Statement}
+use Rattle.pc_world.specs.Known.Traffic.{Heard}
+use Rattle.pc_world.specs.Known.Transactions.{Txn}
+use Rattle.pc_world.specs.MaySend.{MaySendRow}
+use Rattle.pc_world.specs.SameRequest.{IsSameRequest}
+
+-- The request may be sent: its row allows it, and none of its timestamps is past the one after the greatest that the session knows; it is
+-- for the open call, which is not decided; where it was sent in the call before, all such were answered, and there is a reason to send it
+-- again; neither it nor the commit has met its eighth; and a put is of the open transaction, and the call's only new write.
+pub record IsSendable (splits : List (List ℕ)) (session : ℕ) (k : Known) (request : Request) : Type 0 where
+  pub row : MaySendRow splits (actors.Session session) k request
+  pub stamps : All (λ ts. ts ≤ k.top + 1) (request_stamps request)
+  pub kind : IsForCall k request
+  pub undecided : (t : Txn) (ts : ℕ) → IsCommitKnown k t ts → ⊥
+  pub answered : AreAnsweredNow k request
+  pub again : Any (λ m. IsSameRequest request m.request) k.sent_now → MayGoAgain k request None
+  pub below : MetEighth k request → ⊥
+  pub before : IsBeforeEighth k request
+  pub own : IsItsPut k request
+
+-- The timestamp at which a request reads.
+abbrev pub read_at : Request → Option ℕ
+read_at (requests.Get id epoch seq ts key) = Some ts
+read_at (requests.Scan id epoch seq ts span) = Some ts
+read_at _ = None
+
+-- The message of this number met this conflict in the open call, and it was not the eighth of its request; a reader is at the timestamp at
+-- which it reads; and more conflicts with the holder were heard in the call than pushes of it.
+pub record IsConflictNow (k : Known) (number : ℕ) (conflict : Reply) (reader : Option ℕ) : Type 0 where
+  pub s : Statement
+  pub opened : k.statement ≡ Some s
+  pub t : Txn
+  pub open_is : open_txn k ≡ Some t
+  pub holder : TxnMeta
+  pub ts : ℕ
+  pub key : List ℕ
+  pub is : conflict ≡ replies.Conflict holder ts key
+  pub other : holder.id ≡ t.id → ⊥
+  pub h : Heard
+  pub there : Contains k.heard_now h
+  pub numbered : h.number ≡ number
+  pub told : h.reply ≡ conflict
+  pub reads : reader ≡ read_at h.request
+  pub low : IfSome reader (λ ts. ts ≤ k.top)
+  pub due : IsRoundDue k number conflict
+  pub pushes : count_by (was_pushed holder.id) k.heard_now + 1 ≤ count_by (was_met holder.id) k.heard_now
+  pub resolves : count_by (shows_resolve holder.id) k.heard_now ≤ count_by (was_pushed holder.id) k.heard_now

@@ -1,0 +1,220 @@
+-- How the messages of an open call stand beside what their session knows: what they are sent for.
+use Rattle.std.specs.Prelude.{◌≡◌, ℕ, ◌+◌, ◌<◌, ◌≤◌, Bool, true, false, ◌⊎◌, if◌then◌else◌, Option, None, Some, List, [], ◌∷◌, ◌++◌, map, All, Any, IsTrue, ⊤}
+use Rattle.std.specs.List.{flat_map, list_any}
+use Rattle.std.specs.Option.{option_to_list}
+use Rattle.pc_base.specs.declared.limits.TheConstants.{MOST_CONFLICTS, MOST_REFUSALS}
+use Rattle.pc_base.specs.declared.transaction.TxnId.{TxnId}
+use Rattle.pc_call.specs.declared.purpose.Purpose.{Purpose}
+use Rattle.pc_call.specs.declared.purpose.Purpose.TheVariants as purposes
+use Rattle.pc_call.specs.Paced.{IsPaced}
+use Rattle.pc_proto.specs.declared.call.Call.{Call}
+use Rattle.pc_proto.specs.declared.call.Call.TheVariants as calls
+use Rattle.pc_proto.specs.declared.request.Request.{Request}
+use Rattle.pc_proto.specs.declared.request.Request.TheVariants as requests
+use Rattle.pc_proto.specs.declared.why.Why.{Why}
+use Rattle.pc_proto.specs.declared.why.Why.TheVariants as whys
+use Rattle.pc_proto.specs.Replies.{holder_in, is_conflict, is_undecided_status}
+use Rattle.pc_proto.specs.Requests.{is_commit, is_put_of}
+use Rattle.pc_proto.specs.Stamps.{why_stamps}
+use Rattle.pc_reads.specs.ReadsStanding.{refresh_to}
+use Rattle.pc_refusals.specs.Moves.{CountsMoves}
+use Rattle.pc_txn.specs.declared.txn.OpenTxn.{OpenTxn}
+use Rattle.pc_txn.specs.Opened.{last_put, next_put, own_abort, own_commit, own_get, own_scan}
+use Rattle.pc_txn.specs.Standing.{TxnStands}
+use Rattle.pc_wave.specs.declared.message.Message.{Message}
+use Rattle.pc_wave.specs.declared.message.Progress.{Progress}
+use Rattle.pc_wave.specs.declared.message.Progress.TheVariants as progresses
+use Rattle.pc_wave.specs.Messages.{is_to_send, wave_awaits}
+use Rattle.pc_wave.specs.Standing.{WaveStands, goes_beside}
+use Rattle.pc_world.specs.Counting.{AtLeast}
+use Rattle.pc_world.specs.Follows.Resends.{ShowsLaterEpoch}
+use Rattle.pc_world.specs.Known.{Known}
+use Rattle.pc_world.specs.Known.Reads.{IsGoodAt, read_heard}
+use Rattle.pc_world.specs.Known.Statements.{Statement}
+use Rattle.pc_world.specs.Known.Traffic.{Heard, Sent}
+use Rattle.pc_world.specs.Known.Transactions.{Txn}
+use Rattle.pc_world.specs.RangeOf.{pieces}
+use Rattle.pc_world.specs.SameRequest.{IsSameRequest}
+use Rattle.pc_world.specs.Send.Abort.{own_cause}
+use Rattle.pc_world.specs.StageFate.{SentCommit}
+use Rattle.pc_world.specs.Tell.Data.{IsFirstPut, sent_before}
+use Rattle.pc_world.specs.Tell.Refusal.{IsConflictOf}
+
+-- The requests are those that the call asks for: a get of its key, or a scan of each part of its span.
+abbrev pub AreReadsOf : List (List ℕ) → OpenTxn → Call → List Request → Type 0
+AreReadsOf splits x (calls.Get key) asked = asked ≡ own_get x key ∷ []
+AreReadsOf splits x (calls.Scan span) asked = asked ≡ map (λ p. own_scan x p.1) (pieces splits span)
+AreReadsOf splits x _ asked = ⊥
+
+-- If the reply tells a read, it is to one of these requests.
+abbrev pub IsReadFor : List Request → Heard → Type 0
+IsReadFor asked h = (read_heard h.request h.reply ≡ []) ⊎ Any (λ r. r ≡ h.request) asked
+
+-- A call that reads.
+pub record ServesRead (splits : List (List ℕ)) (k : Known) (s : Statement) (x : OpenTxn) (messages : List Message) : Type 0 where
+  pub asked : AreReadsOf splits x s.call (map (λ m. m.request) messages)
+  pub none_in_flight : x.in_flight ≡ None
+  pub heard : All (IsReadFor (map (λ m. m.request) messages)) k.heard_now
+
+-- The call that asks for this write; no value is a deletion.
+abbrev pub write_call : List ℕ → Option (List ℕ) → Call
+write_call key None = calls.Delete key
+write_call key (Some value) = calls.Put key value
+
+-- No new write was sent in the open call.
+abbrev pub WroteNothingNew : Known → Statement → Txn → Type 0
+WroteNothingNew k s t = All (λ m. IsFirstPut k s t m → ⊥) k.sent_now
+
+-- The call's own write is to be sent.
+pub record LaysNext (k : Known) (s : Statement) (t : Txn) (x : OpenTxn) (key : List ℕ) (value : Option (List ℕ)) (again : Bool) (m : Message) : Type 0 where
+  pub none_in_flight : x.in_flight ≡ None
+  pub said : m.request ≡ next_put x key value
+  pub own : again ≡ false
+  pub to_send : m.progress ≡ progresses.ToSend
+  pub new : WroteNothingNew k s t
+
+-- The write is in flight: it is the call's own, or one of an earlier call.
+pub record LaysLast (k : Known) (s : Statement) (t : Txn) (x : OpenTxn) (key : List ℕ) (value : Option (List ℕ)) (again : Bool) (m : Message) : Type 0 where
+  pub in_flight : x.in_flight ≡ Some (record { key = key; value = value })
+  pub anchor : List ℕ
+  pub anchored : t.anchor ≡ Some anchor
+  pub said : m.request ≡ last_put x anchor key value
+  pub first : again ≡ false → list_any (λ other. is_put_of t.id t.epoch x.seq other.request) (sent_before k) ≡ false
+  pub old : again ≡ true → WroteNothingNew k s t
+  pub before : again ≡ true → list_any (λ other. is_put_of t.id t.epoch x.seq other.request) (sent_before k) ≡ true
+
+-- A call that writes.
+pub record ServesWrite (again : Bool) (k : Known) (s : Statement) (t : Txn) (x : OpenTxn) (messages : List Message) : Type 0 where
+  pub key : List ℕ
+  pub value : Option (List ℕ)
+  pub call : s.call ≡ write_call key value
+  pub m : Message
+  pub one : messages ≡ m ∷ []
+  pub lays : LaysNext k s t x key value again m ⊎ LaysLast k s t x key value again m
+
+-- If the request commits, it does so below this timestamp.
+abbrev pub IsCommitBelow : ℕ → Request → Type 0
+IsCommitBelow bound (requests.Commit meta ts locks) = ts < bound
+IsCommitBelow bound _ = ⊤
+
+-- The message was told that the record is not final, and past it: below this timestamp, or in a later epoch.
+pub record IsRefusedBy (bound : ℕ) (m : Sent) (h : Heard) : Type 0 where
+  pub numbered : h.number ≡ m.number
+  pub asked : h.request ≡ m.request
+  pub undecided : IsTrue (is_undecided_status h.reply)
+  pub past : IsCommitBelow bound m.request ⊎ ShowsLaterEpoch h.request h.reply
+
+-- If the message commits, it was refused in the open call.
+abbrev pub WasRefusedIfCommit : ℕ → List Heard → Sent → Type 0
+WasRefusedIfCommit bound heard_now m = IsTrue (is_commit m.request) → Any (IsRefusedBy bound m) heard_now
+
+-- If the request is a refresh, it is to no later timestamp.
+abbrev pub IsRefreshUpTo : ℕ → Request → Type 0
+IsRefreshUpTo ts (requests.Refresh id from to span) = to ≤ ts
+IsRefreshUpTo ts _ = ⊤
+
+-- A commit of a transaction that wrote, whose writes are proved, after it was moved so often.
+pub record IsCommitCall (refusals : ℕ) (k : Known) (s : Statement) (t : Txn) (x : OpenTxn) : Type 0 where
+  pub call : s.call ≡ calls.Commit
+  pub anchor : List ℕ
+  pub anchored : t.anchor ≡ Some anchor
+  pub none_in_flight : x.in_flight ≡ None
+  pub few : refusals < MOST_REFUSALS
+  pub moves : CountsMoves k refusals
+  pub unmet : All (λ h. is_conflict h.reply ≡ false) k.heard_now
+
+-- It refreshes what was read, from where it reads to where it writes.
+pub record ServesRefresh (refusals : ℕ) (k : Known) (s : Statement) (t : Txn) (x : OpenTxn) (messages : List Message) : Type 0 where
+  pub commits : IsCommitCall refusals k s t x
+  pub refused : All (WasRefusedIfCommit t.write_ts k.heard_now) k.sent_now
+  pub refreshes : All (λ m. IsRefreshUpTo t.write_ts m.request) k.sent_now
+  pub behind : x.reads.ts < x.write_ts
+  pub asked : map (λ m. m.request) messages ≡ map (refresh_to x.id x.reads.ts x.write_ts) x.reads.spans
+
+-- The message is a commit that is out, or one that was refused.
+pub record IsOutHere (messages : List Message) (request : Request) (m : Sent) : Type 0 where
+  pub waited : wave_awaits m.number messages ≡ true
+  pub asked : m.request ≡ request
+
+-- It commits where its reads are good.
+pub record ServesCommit (refusals : ℕ) (k : Known) (s : Statement) (t : Txn) (x : OpenTxn) (messages : List Message) : Type 0 where
+  pub commits : IsCommitCall refusals k s t x
+  pub refused : All (λ m. IsOutHere messages (own_commit x commits.anchor) m ⊎ WasRefusedIfCommit t.write_ts k.heard_now m) k.sent_now
+  pub refreshes : All (λ m. IsRefreshUpTo t.write_ts m.request) k.sent_now
+  pub m : Message
+  pub one : messages ≡ m ∷ []
+  pub said : m.request ≡ own_commit x commits.anchor
+  pub good : is_to_send m ≡ true → All (IsGoodAt t.id k.heard t.write_ts) t.reads
+  pub there : is_to_send m ≡ false → t.read_ts ≡ t.write_ts
+
+-- A rollback of a transaction that wrote.
+pub record ServesAbort (why : Why) (k : Known) (s : Statement) (t : Txn) (x : OpenTxn) (messages : List Message) : Type 0 where
+  pub call : s.call ≡ calls.Rollback
+  pub anchor : List ℕ
+  pub anchored : t.anchor ≡ Some anchor
+  pub m : Message
+  pub one : messages ≡ m ∷ []
+  pub said : m.request ≡ own_abort x why anchor
+  pub cause : why ≡ own_cause t.restart
+  pub low : All (λ ts. ts ≤ k.top + 1) (why_stamps why)
+
+-- The messages serve this purpose.
+abbrev pub Serves : List (List ℕ) → Known → Statement → Txn → OpenTxn → Purpose → List Message → Type 0
+Serves splits k s t x purposes.Read messages = ServesRead splits k s x messages
+Serves splits k s t x (purposes.Write again) messages = ServesWrite again k s t x messages
+Serves splits k s t x (purposes.Refresh refusals) messages = ServesRefresh refusals k s t x messages
+Serves splits k s t x (purposes.Commit refusals) messages = ServesCommit refusals k s t x messages
+Serves splits k s t x (purposes.Abort why) messages = ServesAbort why k s t x messages
+
+abbrev pub commit_asked : Request → Option SentCommit
+commit_asked (requests.Commit meta ts locks) = Some (record { meta = meta; ts = ts; locks = locks })
+commit_asked _ = None
+
+-- The commit that is out, where these messages commit.
+abbrev pub out_of : Purpose → List Message → Option SentCommit
+out_of (purposes.Commit refusals) (m ∷ messages) = if is_to_send m then None else commit_asked m.request
+out_of _ _ = None
+
+abbrev pub holder_met : Progress → Option TxnId
+holder_met progresses.ToSend = None
+holder_met (progresses.Sent number) = None
+holder_met (progresses.Met number conflict) = holder_in conflict
+holder_met (progresses.Answered number reply) = None
+
+-- The holders of the intents whose rounds are still to be made.
+abbrev pub holders_met : List Message → List TxnId
+holders_met messages = flat_map (λ m. option_to_list (holder_met m.progress)) messages
+
+-- No request of another kind than these messages met eight intents in the call.
+abbrev pub NoOtherMetEighth : List Heard → List Message → Type 0
+NoOtherMetEighth heard_now messages =
+    (request : Request) → goes_beside request ≡ false → All (λ m. IsSameRequest m.request request → ⊥) messages
+    → AtLeast (IsConflictOf request) MOST_CONFLICTS heard_now → ⊥
+
+-- What was sent and heard in the open call stands behind what was sent and heard before.
+pub record IsSplit (k : Known) : Type 0 where
+  pub sent_first : List Sent
+  pub sent : k.sent ≡ sent_first ++ k.sent_now
+  pub heard_first : List Heard
+  pub heard : k.heard ≡ heard_first ++ k.heard_now
+
+-- The open transaction is the first that the session knows.
+pub record IsOpenIn (k : Known) (t : Txn) : Type 0 where
+  pub others : List Txn
+  pub is_open : k.is_open ≡ true
+  pub first : k.txns ≡ t ∷ others
+
+-- The messages of an open call stand beside what its session knows: the open transaction stands; each message is as far as it is; the rounds
+-- keep pace; no other request went past its eighth conflict; and the messages are those that serve their purpose.
+pub record InCall (splits : List (List ℕ)) (k : Known) (x : OpenTxn) (purpose : Purpose) (messages : List Message) : Type 0 where
+  pub t : Txn
+  pub open_in : IsOpenIn k t
+  pub stands : TxnStands k (out_of purpose messages) t x
+  pub cause : x.cause ≡ whys.Client
+  pub s : Statement
+  pub opened : k.statement ≡ Some s
+  pub split : IsSplit k
+  pub wave : WaveStands k messages
+  pub paced : IsPaced (holders_met messages) k.heard_now
+  pub fewer : NoOtherMetEighth k.heard_now messages
+  pub serves : Serves splits k s t x purpose messages

@@ -1,0 +1,141 @@
+ghost use Rattle.std.specs.Prelude.{◌≡◌, ℕ, ◌<◌, List, [], ◌∷◌, map, Option, None, Some, IfOk};
+ghost use Rattle.pc_base.specs.Rising.{AreRising};
+ghost use Rattle.pc_call.specs.Committing.{CommitsNow, RefreshesNow};
+ghost use Rattle.pc_call.specs.Fresh.{IsFresh};
+ghost use Rattle.pc_call.specs.Serving.{InCall, write_call};
+ghost use Rattle.pc_proto.specs.declared.call.Call.TheVariants as calls;
+ghost use Rattle.pc_proto.specs.declared.why.Why.{Why};
+ghost use Rattle.pc_txn.specs.declared.flight.InFlight.{InFlight};
+ghost use Rattle.pc_txn.specs.declared.txn.OpenTxn.{OpenTxn};
+ghost use Rattle.pc_wave.specs.Messages.{message_to_send};
+ghost use Rattle.pc_world.specs.Known.{Known};
+ghost use Rattle.pc_world.specs.Known.Statements.{Statement};
+
+use crate::call::OpenCall;
+use crate::pieces::scan_wave;
+use crate::purpose::Purpose;
+use pc_base::{Key, NoMemory, Span, Value};
+use pc_proto::{Keys, Request, Why};
+use pc_refusals::Refusals;
+use pc_txn::OpenTxn;
+use pc_wave::Wave;
+use std::alloc::Global;
+
+impl OpenCall {
+    /// The open transaction reads a key.
+    pub fn get(alloc: Global, txn: &OpenTxn, key: &Key) -> Result<OpenCall, NoMemory>
+        ensures stands { (splits : List (List ℕ)) (k : Known) (s : Statement) (why : Why) → IsFresh k txn.now s why → s.call ≡ calls.Get key.now → txn.now.in_flight ≡ None → IfOk result (λ call. InCall splits k txn.now call.purpose call.wave) }
+    {
+        let wave = wave_of(alloc, txn.get(key)?)?;
+        Ok(OpenCall {
+            purpose: Purpose::Read,
+            wave,
+        })
+    }
+
+    /// The open transaction reads a span, by a message to each range that the span meets.
+    pub fn scan(
+        alloc: Global,
+        splits: &Keys,
+        txn: &OpenTxn,
+        span: &Span,
+    ) -> Result<OpenCall, NoMemory>
+        ensures stands { (k : Known) (s : Statement) (why : Why) → AreRising splits.now → IsFresh k txn.now s why → s.call ≡ calls.Scan span.now → txn.now.in_flight ≡ None → IfOk result (λ call. InCall splits.now k txn.now call.purpose call.wave) }
+    {
+        let wave = scan_wave(alloc, splits, txn, span)?;
+        Ok(OpenCall {
+            purpose: Purpose::Read,
+            wave,
+        })
+    }
+
+    /// The open transaction, of which no write is in flight, writes; no value is a deletion.
+    pub fn write(
+        alloc: Global,
+        txn: &OpenTxn,
+        key: &Key,
+        value: &Option<Value>,
+    ) -> Result<OpenCall, NoMemory>
+        ensures stands { (splits : List (List ℕ)) (k : Known) (s : Statement) (why : Why) → IsFresh k txn.now s why → s.call ≡ write_call key.now value.now → txn.now.in_flight ≡ None → IfOk result (λ call. InCall splits k txn.now call.purpose call.wave) }
+    {
+        let wave = wave_of(alloc, txn.next_put(key, value)?)?;
+        Ok(OpenCall {
+            purpose: Purpose::Write { again: false },
+            wave,
+        })
+    }
+
+    /// The open transaction's write that is in flight goes out again, for a call that asks for the same write.
+    pub fn write_again(
+        alloc: Global,
+        txn: &OpenTxn,
+        anchor: &Key,
+        key: &Key,
+        value: &Option<Value>,
+    ) -> Result<OpenCall, NoMemory>
+        ensures stands { (splits : List (List ℕ)) (k : Known) (s : Statement) (why : Why) → IsFresh k txn.now s why → s.call ≡ write_call key.now value.now → txn.now.in_flight ≡ Some (record { key = key.now; value = value.now }) → txn.now.anchor ≡ Some anchor.now → IfOk result (λ call. InCall splits k txn.now call.purpose call.wave) }
+    {
+        let wave = wave_of(alloc, txn.last_put(anchor, key, value)?)?;
+        Ok(OpenCall {
+            purpose: Purpose::Write { again: true },
+            wave,
+        })
+    }
+
+    /// The open transaction commits where its reads are good at its write timestamp, after its commit was moved so often.
+    pub fn commit(
+        alloc: Global,
+        txn: &OpenTxn,
+        anchor: &Key,
+        refusals: Refusals,
+    ) -> Result<OpenCall, NoMemory>
+        ensures stands { (splits : List (List ℕ)) (k : Known) (s : Statement) (c : CommitsNow refusals k txn.now s) → c.on.commits.anchor ≡ anchor.now → IfOk result (λ call. InCall splits k txn.now call.purpose call.wave) }
+    {
+        let wave = wave_of(alloc, txn.commit(anchor)?)?;
+        Ok(OpenCall {
+            purpose: Purpose::Commit { refusals },
+            wave,
+        })
+    }
+
+    /// What the open transaction read is refreshed first, from where it reads to where it writes.
+    pub fn refresh(alloc: Global, txn: &OpenTxn, refusals: Refusals) -> Result<OpenCall, NoMemory>
+        ensures stands { (splits : List (List ℕ)) (k : Known) (s : Statement) → RefreshesNow refusals k txn.now s → txn.now.reads.ts < txn.now.write_ts → IfOk result (λ call. InCall splits k txn.now call.purpose call.wave) }
+    {
+        let requests = txn.reads.refreshes(alloc, txn.id, txn.write_ts)?;
+        let wave = wave_of_all(alloc, requests)?;
+        Ok(OpenCall {
+            purpose: Purpose::Refresh { refusals },
+            wave,
+        })
+    }
+
+    /// The open transaction, which wrote, is rolled back for this cause.
+    pub fn abort(alloc: Global, txn: &OpenTxn, anchor: &Key, why: Why) -> Result<OpenCall, NoMemory>
+        ensures stands { (splits : List (List ℕ)) (k : Known) (s : Statement) → IsFresh k txn.now s why → s.call ≡ calls.Rollback → txn.now.anchor ≡ Some anchor.now → IfOk result (λ call. InCall splits k txn.now call.purpose call.wave) }
+    {
+        let wave = wave_of(alloc, txn.abort(anchor, &why)?)?;
+        Ok(OpenCall {
+            purpose: Purpose::Abort { why },
+            wave,
+        })
+    }
+}
+
+fn wave_of(alloc: Global, request: Request) -> Result<Wave, NoMemory>
+    ensures { IfOk result (λ wave. wave ≡ message_to_send request ∷ []) }
+{
+    let mut wave = Wave::new(alloc);
+    wave.add(request)?;
+    Ok(wave)
+}
+
+fn wave_of_all(alloc: Global, requests: Vec<Request>) -> Result<Wave, NoMemory>
+    ensures { IfOk result (λ wave. wave ≡ map message_to_send requests.items) }
+{
+    let mut wave = Wave::new(alloc);
+    for request in requests {
+        wave.add(request)?;
+    }
+    Ok(wave)
+}

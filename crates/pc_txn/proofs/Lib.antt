@@ -1,0 +1,10 @@
+pub mod Commits
+pub mod Keeping
+pub mod Laying
+pub mod Lists
+pub mod Places
+pub mod Puts
+pub mod Restarts
+pub mod Rows
+pub mod Same
+pub mod Writes

@@ -1,0 +1,6 @@
+-- The open transaction, what it sends, and how it stands beside what its session knows.
+pub mod Counted
+pub mod Laws
+pub mod Opened
+pub mod Place
+pub mod Standing

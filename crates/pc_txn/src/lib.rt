@@ -1,0 +1,12 @@
+//! The open transaction of a session, beside what its session knows: its name, timestamps and locks, what it has read, and its write in flight.
+#![tactic(auto)]
+
+mod flight;
+mod laws;
+mod locks;
+mod txn;
+
+pub use flight::InFlight;
+pub use laws::txn_stands_on;
+pub use locks::Locks;
+pub use txn::OpenTxn;
