@@ -11,12 +11,14 @@ use Rattle.pc_proto.specs.declared.event.Event.{Event}
 use Rattle.pc_report.specs.declared.rows.Report.{Report}
 use Rattle.pc_report.specs.ReportOf.{IsRunOver, report_of}
 use Rattle.pc_runner.specs.Follows.{Follows}
+use Rattle.pc_serial.proofs.AloneRunsPlainly.{one_session_runs_plainly}
 use Rattle.pc_serial.proofs.Legal.{is-legal, is-ordered}
 use Rattle.pc_spelling.proofs.TellsBare.{runs_tell_bare}
 use Rattle.pc_work.specs.Built.{IsBuilt}
 use Rattle.pc_work.specs.declared.workload.Workload.{Workload}
 use Rattle.pc_world.specs.Local.{Head}
 use Rattle.pc_world.specs.Run.{IsRun}
+use Rattle.pc_program.proofs.OneAlone.{is_alone}
 use Rattle.pc_program.specs.Output.{IsOutput, IsRunOf, head_in, output_text}
 
 -- A run of the workload.
@@ -29,6 +31,7 @@ is_run_of work rules entries run follows = record {
   outcomes = outcomes_are_true (head_in work) entries run;
   ordered = is-ordered (head_in work) entries run;
   legal = is-legal (head_in work) entries run;
+  plain = λ of. one_session_runs_plainly (head_in work) entries run (is_alone work rules (head_in work) entries run follows of);
 }
 
 -- A workload of the built form has few splits.

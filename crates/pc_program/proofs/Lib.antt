@@ -1,3 +1,4 @@
 pub mod OneWord
 pub mod Ends
 pub mod Headline
+pub mod OneAlone

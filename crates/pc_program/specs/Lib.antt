@@ -1,3 +1,4 @@
 pub mod Status
 pub mod Output
 pub mod Causes
+pub mod OfOne
