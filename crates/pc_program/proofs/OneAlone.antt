@@ -1,18 +1,17 @@
 -- Where one session alone follows a workload without turns, over a quiet wire, it hears each reply before it goes on, and finishes what is over before
 -- it asks again.
-use Rattle.std.proofs.Common.{◌≡◌, ◌≢◌, ℕ, ◌+◌, ◌-◌, ◌≤◌, Bool, true, false, ◌==◌, ◌&&◌, ◌||◌, cond, if◌then◌else◌, List, [], ◌∷◌, ◌++◌, count_by, filter, length, map, slice_get, ◌⊎◌, inl, inr, Option, None, Some, All, Any, Contains, IsTrue, refl, sym, ap, subst, ◌∙◌, arith, append-nil, append_assoc}
+use Rattle.std.proofs.Common.{◌≡◌, ◌≢◌, ℕ, ◌-◌, Bool, true, false, ◌==◌, ◌||◌, cond, List, [], ◌∷◌, ◌++◌, count_by, filter, length, map, slice_get, ◌⊎◌, inl, inr, Option, None, Some, Contains, IsTrue, refl, sym, ap, subst, ◌∙◌, arith, append-nil, append_assoc}
 use Rattle.std.proofs.lemmas.Bool.{and_from, eq-eqb, eqb-true}
-use Rattle.std.proofs.lemmas.List.Elements.{All-contains, All-from_recursion, Contains-append_left, Contains-append_right, Contains-push, Contains-push_cases, filter-append, recursion_from_All}
+use Rattle.std.proofs.lemmas.List.Elements.{All-contains, Contains-append_left, Contains-append_right, Contains-push, Contains-push_cases, filter-append}
 use Rattle.std.proofs.lemmas.List.{map-append}
 use Rattle.std.proofs.lemmas.List.Folds.{Any-from_list_any}
-use Rattle.std.specs.List.{AllByRecursion as Each, list_any}
+use Rattle.std.specs.List.{list_any}
 use Rattle.std.specs.Option.{option_to_list}
-use Rattle.std.specs.Prelude.{⊤}
 use Rattle.pc_base.specs.declared.actor.ActorId.{ActorId}
 use Rattle.pc_base.specs.declared.actor.ActorId.TheVariants as actors
 use Rattle.pc_base.specs.declared.entry.Entry.{Entry}
 use Rattle.pc_history.proofs.Histories.{named-one, own-push_other, own-push_same, pairs_after-append}
-use Rattle.pc_history.proofs.Ids.{same_id-differ, same_id-equal, same_id-true}
+use Rattle.pc_history.proofs.Ids.{same_id-equal, same_id-true}
 use Rattle.pc_history.specs.declared.pair.Pair.{Pair}
 use Rattle.pc_history.specs.History.{MayFollow}
 use Rattle.pc_history.specs.Own.{named_in, own, pair, pairs_after, same_id}
@@ -29,19 +28,19 @@ use Rattle.pc_proto.specs.declared.call.Call.{Call}
 use Rattle.pc_proto.specs.declared.event.Event.{Event}
 use Rattle.pc_proto.specs.declared.event.Event.TheVariants as events
 use Rattle.pc_proto.specs.declared.request.Request.{Request}
-use Rattle.pc_runner.specs.Follows.{EachAfter, Follows, FollowsAlone, KeepsStep, KeepsWork}
+use Rattle.pc_runner.specs.Follows.{EachAfter, Follows, FollowsAlone, KeepsWork}
 use Rattle.pc_runner.specs.Follows.Script.{next_call}
-use Rattle.pc_runner.specs.Follows.Turns.{AreTurns, CallsNext, CallsNextOf, FinishesNext, HasHeardAll, IsCall, IsJob, IsOpened, IsOver, IsTurn, IsWithin, Opens, RunOut, RunsUntil, deeds, jobs_in, own_turn, position_in, stated_turns}
+use Rattle.pc_runner.specs.Follows.Turns.{AreTurns, CallsNext, CallsNextOf, FinishesNext, HasHeardAll, IsCall, IsJob, IsOpened, IsOver, IsTurn, IsWithin, Opens, RunOut, RunsUntil, deeds, jobs_in, own_turn, position_in}
 use Rattle.pc_runner.specs.Follows.Turns.RunsUntil.{Over, Onward}
-use Rattle.pc_runner.specs.Follows.Wire.{AreEvaluatedOnce, HearsAll, MayStayUnheard, evaluates_message, evaluations}
+use Rattle.pc_runner.specs.Follows.Wire.{HearsAll, MayStayUnheard, evaluates_message, evaluations}
 use Rattle.pc_serial.proofs.AloneStanding.{contains_split, now_heard, sent-there}
 use Rattle.pc_program.specs.OfOne.{IsOfOne}
-use Rattle.pc_serial.specs.Alone.{AsksWhenDone, EvaluatesOnce, IsAlone, IsTidy, KeepsTidy, jobs_at, the_session}
+use Rattle.pc_serial.specs.Alone.{AsksWhenDone, EvaluatesOnce, IsAlone, jobs_at, the_session}
 use Rattle.pc_serial.specs.Laws.{IsQuiet, IsTalk}
 use Rattle.pc_work.specs.declared.session.SessionWork.{SessionWork}
 use Rattle.pc_work.specs.declared.workload.Workload.{Workload}
 use Rattle.pc_world.proofs.Knowing.{known_other, known_same}
-use Rattle.pc_world.proofs.Prefixes.{run_front, run_induction, run_may}
+use Rattle.pc_world.proofs.Prefixes.{run_front, run_may}
 use Rattle.pc_world.proofs.World.{names_one}
 use Rattle.pc_world.specs.After.{known_at}
 use Rattle.pc_world.specs.Caused.{Evaluates}
@@ -83,7 +82,7 @@ module _ {X : Type 0} where
       last [] [] e = inr (cc, cc)
       last [] (b ∷ bs) e = let same : b ≡ x = cc in inl (subst (λ y. Contains (b ∷ bs) y) same (contains_head b bs))
       last (d ∷ ds) [] e = let more : ds ++ x ∷ es ≡ [] = cc in absurd (none-split ds x es (sym more))
-      last (d ∷ ds) (b ∷ bs) e = let later : ds ++ x ∷ es ≡ bs ++ z ∷ [] = cc in elim (last ds bs later) [ | inl there ↦ inl (contains_tail b bs x there) | inr is ↦ inr is ]
+      last (d ∷ ds) (b ∷ bs) e = let later : ds ++ x ∷ es ≡ bs ++ z ∷ [] = cc in elim (last ds bs later) [ inl there ↦ inl (contains_tail b bs x there) | inr is ↦ inr is ]
 
 any-there : (number : ℕ) (heard : List Heard) (h : Heard) → Contains heard h → h.number ≡ number → list_any (λ (x : Heard). x.number == number) heard ≡ true
 any-there number [] h there is = absurd (contains_nil h there)
@@ -101,19 +100,21 @@ any-there number (x ∷ xs) h there is = elim (contains_cons x xs h there) [
 module _ (head : Head) where
   own-more : (front back : List (Entry Event)) → (more : List (Pair Event)) × (own (protocol head) the_session (front ++ back) ≡ own (protocol head) the_session front ++ more)
   own-more front back =
-      let mine = λ (p : Pair Event). same_id the_session p.entry.actor in
-      (filter mine (pairs_after (protocol head) front back),
-      ap (filter mine) (pairs_after-append (protocol head) [] front back) ∙ filter-append mine (pairs_after (protocol head) [] front) (pairs_after (protocol head) front back))
+      let mine = λ (p : Pair Event). same_id the_session p.entry.actor in (
+        filter mine (pairs_after (protocol head) front back),
+        ap (filter mine) (pairs_after-append (protocol head) [] front back) ∙ filter-append mine (pairs_after (protocol head) [] front) (pairs_after (protocol head) front back),
+      )
 
   pub own-at : (front : List (Entry Event)) (e : Entry Event) (back : List (Entry Event)) → e.actor ≡ the_session
       → (more : List (Pair Event)) × (own (protocol head) the_session (front ++ e ∷ back) ≡ own (protocol head) the_session front ++ pair e (named_in (protocol head) front e.event) ∷ more)
   own-at front e back me =
       let m = own-more (front ++ e ∷ []) back in
-      let p = pair e (named_in (protocol head) front e.event) in
-      (m.0,
-      ap (own (protocol head) the_session) (sym (append_assoc front (e ∷ []) back)) ∙ m.1
-      ∙ ap (λ l. l ++ m.0) (own-push_same (protocol head) the_session front e me)
-      ∙ append_assoc (own (protocol head) the_session front) (p ∷ []) m.0)
+      let p = pair e (named_in (protocol head) front e.event) in (
+        m.0,
+        ap (own (protocol head) the_session) (sym (append_assoc front (e ∷ []) back)) ∙ m.1
+            ∙ ap (λ l. l ++ m.0) (own-push_same (protocol head) the_session front e me)
+            ∙ append_assoc (own (protocol head) the_session front) (p ∷ []) m.0,
+      )
 
   each-at : (P : List (Pair Event) → Pair Event → Type 0) (before xs : List (Pair Event)) (p : Pair Event) (ys : List (Pair Event)) → EachAfter P before (xs ++ p ∷ ys) → P (before ++ xs) p
   each-at P before [] p ys each = subst (λ l. P l p) (sym (append-nil before)) each.0
@@ -151,7 +152,7 @@ module _ (head : Head) where
       by : (b : Bool) → same_id the_session x.actor ≡ b
           → map (λ (e : Entry Event). e.event) (cond b (x ∷ filter (λ (e : Entry Event). same_id the_session e.actor) part) (filter (λ (e : Entry Event). same_id the_session e.actor) part)) ≡ ds ++ z ∷ es
           → ((ds : List Event) (z : Event) (es : List Event) → deeds the_session part ≡ ds ++ z ∷ es
-              → (xs : List (Entry Event)) × (e : Entry Event) × (ys : List (Entry Event)) × (part ≡ xs ++ e ∷ ys) × (e.actor ≡ the_session) × (e.event ≡ z) × (deeds the_session ys ≡ es))
+          → (xs : List (Entry Event)) × (e : Entry Event) × (ys : List (Entry Event)) × (part ≡ xs ++ e ∷ ys) × (e.actor ≡ the_session) × (e.event ≡ z) × (deeds the_session ys ≡ es))
           → (xs : List (Entry Event)) × (e : Entry Event) × (ys : List (Entry Event)) × (x ∷ part ≡ xs ++ e ∷ ys) × (e.actor ≡ the_session) × (e.event ≡ z) × (deeds the_session ys ≡ es)
       by false differ is rest = let r = rest ds z es is in (x ∷ r.0, r.1, r.2, ap (λ l. x ∷ l) r.3, r.4, r.5, r.6)
       by true same is rest = here ds is
@@ -199,7 +200,7 @@ module _ (head : Head) where
       by (events.Send number range request) g top high all m there =
           let m0 : Sent = record { number = number; range = range; request = request } in
           elim (Contains-push_cases (K history).sent m0 m there) [
-            | inl old ↦ elim (aw m old) [ | inl heard ↦ inl (heard-more m (K history).heard (option_to_list g) heard) | inr now ↦ inr (Contains-append_left (K history).sent_now (m0 ∷ []) m now) ]
+            | inl old ↦ elim (aw m old) [ inl heard ↦ inl (heard-more m (K history).heard (option_to_list g) heard) | inr now ↦ inr (Contains-append_left (K history).sent_now (m0 ∷ []) m now) ]
             | inr new ↦ inr (subst (λ x. Contains ((K history).sent_now ++ m0 ∷ []) x) new (Contains-push (K history).sent_now m0))
           ]
       by (events.Eval sender sent told) g top high all m there = rests g m there
@@ -259,7 +260,7 @@ module _ (head : Head) where
             let aw : Awaits (before ++ xs) = awaits-along before xs
             (λ front back x inside me_x call reading asks. heard-there front x (back ++ e ∷ ys) (split ∙ ap (λ l. l ++ e ∷ ys) inside ∙ append_assoc front (x ∷ back) (e ∷ ys)) me_x call reading asks)
             (λ m there_m. inl (all-heard-at before all m there_m)) in
-            all-of (K (before ++ xs)) (λ m there_m. elim (aw m there_m) [ | inl done ↦ done | inr now ↦ heard (before ++ xs) e (ys ++ after) answer there me is m now ])
+            all-of (K (before ++ xs)) (λ m there_m. elim (aw m there_m) [ inl done ↦ done | inr now ↦ heard (before ++ xs) e (ys ++ after) answer there me is m now ])
 
         good : AllGood before part
         good xs e ys split me = record {
@@ -287,10 +288,13 @@ module _ (head : Head) where
                 heard-more m k.heard _ (All-contains (λ m. IsTrue (is_heard k.heard m)) k.sent m all_k (subst (λ l. Contains l m) sent there)))
 
     job-good : (before part : List (Entry Event)) → IsJob head 1 before part → AllGood before part × HasHeardAll (K (before ++ part))
-    job-good before part j = (λ xs e ys split me. record {
-      asks = λ call reading is. absurd (subst IsWithin is (within xs e ys split me));
-      tells = λ answer is. absurd (subst IsWithin is (within xs e ys split me));
-    }, j.heard)
+    job-good before part j = (
+      λ xs e ys split me. record {
+        asks = λ call reading is. absurd (subst IsWithin is (within xs e ys split me));
+        tells = λ answer is. absurd (subst IsWithin is (within xs e ys split me));
+      },
+      j.heard,
+    )
       where
         within : (xs : List (Entry Event)) (e : Entry Event) (ys : List (Entry Event)) → part ≡ xs ++ e ∷ ys → e.actor ≡ the_session → IsWithin e.event
         within xs e ys split me =
