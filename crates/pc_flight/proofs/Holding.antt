@@ -44,11 +44,6 @@ added seq ts key value flight writes are none =
     let put : with_put seq ts key value writes ≡ writes ++ new ∷ [] = ap (λ b. cond b (map (asked_again seq ts) writes) (writes ++ new ∷ [])) none in
     ap (λ l. l ++ in_flight_as new ∷ []) are ∙ sym (append_flight new refl writes) ∙ ap (λ l. map in_flight_as (unproved l)) (sym put)
 
-pub add_ok : (r : Result (Unit {0}) NoMemory) (seq : ℕ) (key : List ℕ) (value : Option (List ℕ)) (old new : List WriteInFlight) → OnOk r (new ≡ old ++ record { key = key; seq = seq; value = value } ∷ [])
-    → (writes : List Write) (ts : ℕ) → AreInFlight old writes → HasNoSeq seq writes → OnOk r (AreInFlight new (with_put seq ts key value writes))
-add_ok (Ok u) seq key value old new made writes ts are none = made ∙ added seq ts key value old writes are none
-add_ok (Err e) seq key value old new made writes ts are none = tt
-
 -- ---- a write that is proved leaves
 
 module _ (key : List ℕ) (seq ts : ℕ) where
