@@ -194,7 +194,7 @@ made_is_built version pipelining splits reruns opening turns sessions e cut few 
 only_built : (value : Data) → Only IsBuilt (workload_of value)
 unfolding workload_of
 only_built value =
-    let cut = only_read AreSplits [] splits_of (record { rising = tt; few = omega arith }) splits_only (get (codes "splits") value) in
+    let cut = only_read AreSplits [] splits_of (record { rising = refl; few = omega arith }) splits_only (get (codes "splits") value) in
     let asked = only_read (λ n. n ≤ MOST_RERUNS) 8 (whole_up_to MOST_RERUNS) (omega arith) (whole_only MOST_RERUNS) (get (codes "reruns") value) in
     only_when IsBuilt (has_only workload_names value) _ (λ named.
     only_behind IsBuilt (whole_in (codes "version") value) _ (λ version.
