@@ -19,7 +19,6 @@ use Rattle.pc_proto.specs.declared.reply.Reply.{Reply}
 use Rattle.pc_proto.specs.declared.reply.Reply.TheVariants as replies
 use Rattle.pc_proto.specs.declared.view.View.{View}
 use Rattle.pc_proto.specs.Replies.{view_in}
-use Rattle.pc_proto.specs.declared.request.Request.{Request}
 use Rattle.pc_proto.specs.declared.request.Request.TheVariants as requests
 use Rattle.pc_proto.specs.declared.fate.Fate.TheVariants as fates
 use Rattle.pc_proto.specs.Stamps.{greatest_of, reply_stamps, view_stamps}

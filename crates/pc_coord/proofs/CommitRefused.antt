@@ -1,5 +1,5 @@
 -- The reply to a commit shows that its record is pending: the commit is tried again, or given up.
-use Rattle.std.proofs.Common.{◌≡◌, ℕ, suc, ◌+◌, ◌<◌, ◌≤◌, max, nat_lt, Bool, true, false, cond, not, inl, inr, List, [], ◌∷◌, length, map, Option, Some, None, refl, sym, ap, ◌∙◌, subst, arith, All, IsTrue}
+use Rattle.std.proofs.Common.{◌≡◌, ℕ, suc, ◌+◌, ◌<◌, ◌≤◌, max, nat_lt, Bool, true, false, cond, not, inl, inr, List, [], ◌∷◌, length, map, Option, Some, None, refl, sym, ap, ◌∙◌, subst, arith, All}
 use Rattle.std.specs.Option.{option_map}
 use Rattle.std.proofs.lemmas.Bool.{and_from, ltb-false, ltb-true}
 use Rattle.std.proofs.lemmas.List.Elements.{All-push, All-weaker}
@@ -38,7 +38,7 @@ use Rattle.pc_proto.specs.declared.request.Request.{Request}
 use Rattle.pc_proto.specs.declared.request.Request.TheVariants as requests
 use Rattle.pc_proto.specs.declared.view.View.{View}
 use Rattle.pc_proto.specs.declared.view.View.TheVariants as views
-use Rattle.pc_proto.specs.Replies.{is_undecided_status, status_ts}
+use Rattle.pc_proto.specs.Replies.{status_ts}
 use Rattle.pc_proto.specs.Stamps.{greatest_of, view_stamps}
 use Rattle.pc_proto.specs.Views.{is_final_view}
 use Rattle.pc_world.specs.Answering.{IsPastWherePending}

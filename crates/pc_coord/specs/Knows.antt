@@ -1,5 +1,5 @@
 -- How a coordinator stands beside what its session knows.
-use Rattle.std.specs.Prelude.{◌≡◌, ℕ, Bool, false, Option, None, Some, IfSome, List, [], ◌∷◌, ◌++◌, map, ⊤}
+use Rattle.std.specs.Prelude.{◌≡◌, ℕ, Bool, false, Option, None, Some, IfSome, List, [], ⊤}
 use Rattle.pc_base.specs.declared.actor.ActorId.TheVariants as actors
 use Rattle.pc_base.specs.Rising.{AreRising}
 use Rattle.pc_coord.specs.Coordination.{Coordination}
@@ -22,7 +22,6 @@ use Rattle.pc_proto.specs.declared.answer.Answer.{Answer}
 use Rattle.pc_proto.specs.declared.event.Event.TheVariants as events
 use Rattle.pc_proto.specs.declared.reply.Reply.{Reply}
 use Rattle.pc_proto.specs.declared.request.Request.{Request}
-use Rattle.pc_proto.specs.declared.request.Request.TheVariants as requests
 use Rattle.pc_world.specs.Follows.FinishingJobs.{AbortsFirst, finishing_messages, left_by}
 use Rattle.pc_world.specs.Follows.PipelinedPuts.{TellsWritten}
 use Rattle.pc_world.specs.Known.{Known, next_number}

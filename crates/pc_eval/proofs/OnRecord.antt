@@ -1,5 +1,5 @@
 -- A request that speaks of no key is answered by the records alone, and changes nothing else.
-use Rattle.std.proofs.Common.{◌≡◌, ℕ, List, Option, IsTrue, refl}
+use Rattle.std.proofs.Common.{◌≡◌, ℕ, List, Option, refl}
 use Rattle.pc_base.specs.declared.span.Span.{Span}
 use Rattle.pc_base.specs.declared.transaction.TxnId.{TxnId}
 use Rattle.pc_base.specs.declared.transaction.Who.{Who}
@@ -8,13 +8,11 @@ use Rattle.pc_proto.specs.declared.meta.TxnMeta.{TxnMeta}
 use Rattle.pc_proto.specs.declared.request.Request.{Request}
 use Rattle.pc_proto.specs.declared.request.Request.TheVariants as requests
 use Rattle.pc_proto.specs.RecordRows.{record_reply, table_after}
-use Rattle.pc_record.specs.RecordRequest.{is_record_request}
 use Rattle.pc_world.specs.RangeState.{RangeState}
 use Rattle.pc_world.specs.Evaluation.{reply, state_after}
 
 -- The reply is that of the records, and only the records change.
 pub record IsOnRecord (request : Request) (s : RangeState) : Type 0 where
-  pub is_for_records : IsTrue (is_record_request request)
   pub same_reply : reply request s ≡ record_reply request s.table
   pub same_state : state_after request s ≡ record s { table = table_after request s.table }
 
@@ -25,4 +23,4 @@ on_record (requests.Put meta seq ts key value) s get scan put refresh query reso
 on_record (requests.Refresh id from to span) s get scan put refresh query resolve = absurd (refresh id from to span refl)
 on_record (requests.Query id epoch seq ts key by) s get scan put refresh query resolve = absurd (query id epoch seq ts key by refl)
 on_record (requests.Resolve id key fate) s get scan put refresh query resolve = absurd (resolve id key fate refl)
-on_record _ s get scan put refresh query resolve = record { is_for_records = refl; same_reply = refl; same_state = refl }
+on_record _ s get scan put refresh query resolve = record { same_reply = refl; same_state = refl }

@@ -1,5 +1,5 @@
 -- What is in flight stays what the session knows to be sent and not proved.
-use Rattle.std.proofs.Common.{◌≡◌, ℕ, ◌+◌, ◌<◌, ◌≤◌, max, fold, All, true, false, Bool, ◌&&◌, ◌||◌, ◌==◌, cond, not, List, [], ◌∷◌, ◌++◌, map, filter, Option, IsTrue, Contains, Result, Ok, Err, OnOk, IfOk, inl, inr, refl, sym, ap, ◌∙◌, subst, arith}
+use Rattle.std.proofs.Common.{◌≡◌, ℕ, ◌+◌, ◌<◌, ◌≤◌, max, fold, All, true, false, Bool, ◌&&◌, ◌||◌, ◌==◌, cond, not, List, [], ◌∷◌, ◌++◌, map, filter, IsTrue, Contains, Result, Ok, Err, IfOk, inl, inr, refl, sym, ap, ◌∙◌, subst, arith}
 use Rattle.std.proofs.lemmas.List.Elements.{All-cons, All-head, All-nil, All-tail, All-weaker}
 use Rattle.std.specs.List.{list_any}
 use Rattle.pc_base.specs.declared.memory.NoMemory.{NoMemory}
@@ -9,7 +9,7 @@ use Rattle.pc_lists.proofs.Lists.{contains_cons, contains_head, contains_nil, co
 use Rattle.pc_flight.specs.declared.write.WriteInFlight.{WriteInFlight}
 use Rattle.pc_flight.specs.InFlight.{AreInFlight, HasNoSeq, in_flight_as, is_another, listed_in_flight}
 use Rattle.pc_flight.specs.Laws.{FlightsHold, IsKnownUnproved}
-use Rattle.pc_world.specs.Known.Writes.{Write, asked_again, is_proved, last_seq_of, listed_as, proved_at, unproved, with_put}
+use Rattle.pc_world.specs.Known.Writes.{Write, asked_again, is_proved, last_seq_of, listed_as, proved_at, unproved}
 use Rattle.pc_world.specs.Send.Reading.{IsProvedIn}
 
 -- The write, where it is not proved, in front of the others.
@@ -23,31 +23,6 @@ map_cond false w ws = refl
 -- What is in flight, write by write.
 flight_cons : (w : Write) (ws : List Write) → map in_flight_as (unproved (w ∷ ws)) ≡ front_if (not (is_proved w)) (in_flight_as w) (map in_flight_as (unproved ws))
 flight_cons w ws = map_cond (not (is_proved w)) w (unproved ws)
-
--- ---- a new write stands last
-
-front_append : (b : Bool) (w f : WriteInFlight) (one two : List WriteInFlight) → two ≡ one ++ f ∷ [] → front_if b w two ≡ front_if b w one ++ f ∷ []
-front_append true w f one two h = ap (λ l. w ∷ l) h
-front_append false w f one two h = h
-
-append_flight : (new : Write) → is_proved new ≡ false → (ws : List Write) → map in_flight_as (unproved (ws ++ new ∷ [])) ≡ map in_flight_as (unproved ws) ++ in_flight_as new ∷ []
-append_flight new none [] = flight_cons new [] ∙ ap (λ b. front_if (not b) (in_flight_as new) []) none
-append_flight new none (w ∷ ws) =
-    flight_cons w (ws ++ new ∷ [])
-    ∙ front_append (not (is_proved w)) (in_flight_as w) (in_flight_as new) (map in_flight_as (unproved ws)) (map in_flight_as (unproved (ws ++ new ∷ []))) (append_flight new none ws)
-    ∙ ap (λ l. l ++ in_flight_as new ∷ []) (sym (flight_cons w ws))
-
-pub added : (seq ts : ℕ) (key : List ℕ) (value : Option (List ℕ)) (flight : List WriteInFlight) (writes : List Write) → AreInFlight flight writes → HasNoSeq seq writes
-    → AreInFlight (flight ++ record { key = key; seq = seq; value = value } ∷ []) (with_put seq ts key value writes)
-added seq ts key value flight writes are none =
-    let new : Write = record { key = key; seq = seq; value = value; asked = ts ∷ []; proofs = [] } in
-    let put : with_put seq ts key value writes ≡ writes ++ new ∷ [] = ap (λ b. cond b (map (asked_again seq ts) writes) (writes ++ new ∷ [])) none in
-    ap (λ l. l ++ in_flight_as new ∷ []) are ∙ sym (append_flight new refl writes) ∙ ap (λ l. map in_flight_as (unproved l)) (sym put)
-
-pub add_ok : (r : Result (Unit {0}) NoMemory) (seq : ℕ) (key : List ℕ) (value : Option (List ℕ)) (old new : List WriteInFlight) → OnOk r (new ≡ old ++ record { key = key; seq = seq; value = value } ∷ [])
-    → (writes : List Write) (ts : ℕ) → AreInFlight old writes → HasNoSeq seq writes → OnOk r (AreInFlight new (with_put seq ts key value writes))
-add_ok (Ok u) seq key value old new made writes ts are none = made ∙ added seq ts key value old writes are none
-add_ok (Err e) seq key value old new made writes ts are none = tt
 
 -- ---- a write that is proved leaves
 

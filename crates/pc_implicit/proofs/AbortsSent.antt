@@ -7,14 +7,13 @@ use Rattle.pc_base.specs.declared.entry.Entry.{Entry}
 use Rattle.pc_base.specs.declared.transaction.TxnId.{TxnId}
 use Rattle.pc_base.specs.Transaction.{same_txn}
 use Rattle.pc_history.specs.History.{MayFollow}
-use Rattle.pc_history.specs.Own.{named_in, own}
 use Rattle.pc_implicit.proofs.Agreed.{begun-grows, begun_next, open_there, owned}
 use Rattle.pc_implicit.proofs.CommitCalls.{is-begin, is-tell, open-before, same-told}
-use Rattle.pc_implicit.proofs.Commits.{act_of}
 use Rattle.pc_implicit.proofs.Did.{numbered-at, session_at}
 use Rattle.pc_implicit.proofs.Doing.{Does, same_or_not}
-use Rattle.pc_implicit.proofs.Moves.{first_after, is_first, open_is_first}
+use Rattle.pc_implicit.proofs.Moves.{is_first, open_is_first}
 use Rattle.pc_implicit.proofs.OpenReads.{within-statement}
+use Rattle.pc_implicit.proofs.OwnNext.{does_next, first_next, may_do_next, open_next}
 use Rattle.pc_implicit.proofs.StagesKnown.{HasSent, dead_more, heard_goes_on, none_sent, sent_cases, stage_of, stage_sent}
 use Rattle.pc_lists.proofs.Same.{same_txn-is}
 use Rattle.pc_proto.specs.declared.answer.Answer.{Answer}
@@ -28,11 +27,9 @@ use Rattle.pc_proto.specs.declared.request.Request.TheVariants as requests
 use Rattle.pc_proto.specs.declared.why.Why.{Why}
 use Rattle.pc_world.proofs.Knowing.{known_other, known_same}
 use Rattle.pc_world.proofs.Prefixes.{run_induction}
-use Rattle.pc_world.specs.After.{known_at}
 use Rattle.pc_world.specs.Known.{Known, call_in, call_of}
 use Rattle.pc_world.specs.Known.Statements.{Statement, begun_after, is_open_after, is_open_told}
-use Rattle.pc_world.specs.Known.Traffic.{heard_by}
-use Rattle.pc_world.specs.Local.{Head, MayComeNext, MayDo}
+use Rattle.pc_world.specs.Local.{Head, MayDo}
 use Rattle.pc_world.specs.MayTell.{IsLearnTold, MayTell, MayTellRow, is_past_range, needs_txn}
 use Rattle.pc_world.specs.Operations.{is_last_after}
 use Rattle.pc_world.specs.Run.{IsRun, protocol}
@@ -92,21 +89,6 @@ pub record IsGivenUp (k : Known) (id : TxnId) : Type 0 where
 module _ (head : Head) where
   -- One more entry of the transaction's session.
   module _ (history : List (Entry Event)) (e : Entry Event) (run : IsRun head history) (may : MayFollow (protocol head) history e) (id : TxnId) (same : e.actor ≡ actors.Session id.session) where
-    abort-act : MayDo head (actors.Session id.session) (session_at head id history) e.event
-    abort-act = subst (λ a. MayComeNext head a (own (protocol head) a history) e.event (named_in (protocol head) history e.event)) same may.local.next
-
-    abort-does : Does head (actors.Session id.session) (session_at head id history) e.event
-    abort-does = subst (λ a. Does head a (known_at head a history) e.event) same (act_of head history e may)
-
-    first-then : is_first id (session_at head id (history ++ e ∷ [])).txns ≡ is_last_after id e.event (is_first id (session_at head id history).txns)
-    first-then =
-        let k = session_at head id history in
-        ap (λ (x : Known). is_first id x.txns) (known_same head (actors.Session id.session) history e same)
-        ∙ sym (first_after id e.event (heard_by e.event (named_in (protocol head) history e.event) k.sent) k)
-
-    open-then : (session_at head id (history ++ e ∷ [])).is_open ≡ is_open_after e.event (session_at head id history).is_open
-    open-then = ap (λ (x : Known). x.is_open) (known_same head (actors.Session id.session) history e same)
-
     -- it stays open only in its rollback
     ends-then : id.number ≤ (session_at head id history).begun
         → (is_first id (session_at head id history).txns ≡ true → (session_at head id history).is_open ≡ true → call_of (session_at head id history) ≡ Some calls.Rollback)
@@ -115,22 +97,22 @@ module _ (head : Head) where
         let k = session_at head id history in
         elim (is-begin head id e.event) [
           | inl new ↦
-              let next = begun_next head (actors.Session id.session) k new.0 new.1 (subst (Does head (actors.Session id.session) k) new.2 abort-does) in
-              let it : same_txn new.0 id ≡ true = ap (λ event. is_last_after id event (is_first id k.txns)) (sym new.2) ∙ sym first-then ∙ first in
+              let next = begun_next head (actors.Session id.session) k new.0 new.1 (subst (Does head (actors.Session id.session) k) new.2 (does_next head history e id same may)) in
+              let it : same_txn new.0 id ≡ true = ap (λ event. is_last_after id event (is_first id k.txns)) (sym new.2) ∙ sym (first_next head history e id same) ∙ first in
               let eq : new.0.number ≡ id.number = ap (λ (i : TxnId). i.number) (same_txn-is new.0 id it) in
               let at : new.0.number ≡ k.begun + 1 = next.1 in
               absurd (let none : ⊥ = omega (arith, eq, at, begun) in none)
           | inr none ↦
-              let was_first : is_first id k.txns ≡ true = sym (same-told head id e.event (is_first id k.txns) none) ∙ sym first-then ∙ first in
-              let was_open : k.is_open ≡ true = open-before head id e.event k.is_open none (sym open-then ∙ is_open) in
+              let was_first : is_first id k.txns ≡ true = sym (same-told head id e.event (is_first id k.txns) none) ∙ sym (first_next head history e id same) ∙ first in
+              let was_open : k.is_open ≡ true = open-before head id e.event k.is_open none (sym (open_next head history e id same) ∙ is_open) in
               let call = ends was_first was_open in
               elim (is-tell head id e.event) [
                 | inl tells ↦
-                    absurd (rollback-ends head (actors.Session id.session) k was_open call tells.0 (subst (Does head (actors.Session id.session) k) tells.1 abort-does)
-                    (sym (ap (λ event. is_open_after event k.is_open) tells.1 ∙ ap (is_open_told tells.0) was_open) ∙ sym open-then ∙ is_open))
+                    absurd (rollback-ends head (actors.Session id.session) k was_open call tells.0 (subst (Does head (actors.Session id.session) k) tells.1 (does_next head history e id same may))
+                    (sym (ap (λ event. is_open_after event k.is_open) tells.1 ∙ ap (is_open_told tells.0) was_open) ∙ sym (open_next head history e id same) ∙ is_open))
                 | inr other ↦ elim other [
                   | inl asks ↦
-                      let may_ask = subst (MayDo head (actors.Session id.session) k) asks.2 abort-act in
+                      let may_ask = subst (MayDo head (actors.Session id.session) k) asks.2 (may_do_next head history e id same may) in
                       absurd (let both : ◌≡◌ {A = Option Call} None (Some calls.Rollback) = sym (ap call_in may_ask.none_open) ∙ call in cc both)
                   | inr within ↦
                       ap call_of (known_same head (actors.Session id.session) history e same) ∙ ap call_in (within-statement e.event k.statement within) ∙ call
@@ -169,7 +151,7 @@ module _ (head : Head) where
     given-up-now : (meta : TxnMeta) (why : Why) (locks : List (List ℕ)) → meta.id ≡ id → (number range : ℕ) → e.event ≡ events.Send number range (requests.Abort meta why locks) → IsGivenUp (session_at head id (history ++ e ∷ [])) id
     given-up-now meta why locks whose number range sends =
         let k = session_at head id history in
-        let act : Does head (actors.Session id.session) k (events.Send number range (requests.Abort meta why locks)) = subst (Does head (actors.Session id.session) k) sends abort-does in
+        let act : Does head (actors.Session id.session) k (events.Send number range (requests.Abort meta why locks)) = subst (Does head (actors.Session id.session) k) sends (does_next head history e id same may) in
         let row : MaySendAbort k meta why locks = act.row in
         let is : row.t.id ≡ id = sym (ap (λ (m : TxnMeta). m.id) row.whose.same) ∙ whose in
         let low = (owned (actors.Session id.session) (k.begun + 1) k.txns row.t (numbered-at head history run id) (open_there k row.t row.opened)).1 in

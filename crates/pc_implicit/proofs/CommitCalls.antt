@@ -8,14 +8,14 @@ use Rattle.pc_base.specs.declared.entry.Entry.{Entry}
 use Rattle.pc_base.specs.declared.transaction.TxnId.{TxnId}
 use Rattle.pc_base.specs.Transaction.{same_txn}
 use Rattle.pc_history.specs.History.{MayFollow}
-use Rattle.pc_history.specs.Own.{named_in, own}
+use Rattle.pc_history.specs.Own.{own}
 use Rattle.pc_implicit.proofs.Agreed.{begun_next, owned}
-use Rattle.pc_implicit.proofs.Commits.{act_of}
 use Rattle.pc_implicit.proofs.Did.{MovedOn, moved_on, numbered-at, session_at}
 use Rattle.pc_implicit.proofs.Doing.{Does, same_or_not}
 use Rattle.pc_implicit.proofs.Doings.{doing-other}
-use Rattle.pc_implicit.proofs.Moves.{Moves, Puts, Reads, Restarts, Stays, TellsRead, first_after, first_is_open, is_first, open_is_first}
+use Rattle.pc_implicit.proofs.Moves.{Moves, Puts, Reads, Restarts, Stays, TellsRead, first_is_open, is_first, open_is_first}
 use Rattle.pc_implicit.proofs.OpenReads.{AsksForNone, IsWithin, within-last, within-open, within-statement}
+use Rattle.pc_implicit.proofs.OwnNext.{does_next, first_next, may_do_next, open_next}
 use Rattle.pc_implicit.proofs.SessionCommits.{IsStill, written}
 use Rattle.pc_lists.proofs.Same.{same_txn-is}
 use Rattle.pc_proto.specs.declared.answer.Answer.{Answer}
@@ -26,12 +26,10 @@ use Rattle.pc_proto.specs.declared.event.Event.{Event}
 use Rattle.pc_proto.specs.declared.event.Event.TheVariants as events
 use Rattle.pc_world.proofs.Knowing.{known_other, known_same}
 use Rattle.pc_world.proofs.Prefixes.{run_front, run_may}
-use Rattle.pc_world.specs.After.{known_at}
 use Rattle.pc_world.specs.Known.{Known, call_in, call_of, open_txn}
 use Rattle.pc_world.specs.Known.Statements.{Statement, is_open_after, is_open_told}
-use Rattle.pc_world.specs.Known.Traffic.{heard_by}
 use Rattle.pc_world.specs.Known.Transactions.{Txn}
-use Rattle.pc_world.specs.Local.{Head, MayComeNext, MayDo}
+use Rattle.pc_world.specs.Local.{Head, MayDo}
 use Rattle.pc_world.specs.MayTell.{IsLearnTold, MayTell, MayTellRow, is_past_range, needs_txn}
 use Rattle.pc_world.specs.Operations.{Doing, Operation, Read, ReadAll, Write, is_last_after, operations_of}
 use Rattle.pc_world.specs.Run.{IsRun, protocol}
@@ -125,20 +123,8 @@ module _ (head : Head) (id : TxnId) where
 
   -- One more entry of the transaction's session.
   module _ (history : List (Entry Event)) (e : Entry Event) (run : IsRun head history) (may : MayFollow (protocol head) history e) (same : e.actor ≡ actors.Session id.session) (t : Txn) (mine : Contains (session_at head id history).txns t) (named : t.id ≡ id) where
-    own-act : MayDo head (actors.Session id.session) (session_at head id history) e.event
-    own-act = subst (λ a. MayComeNext head a (own (protocol head) a history) e.event (named_in (protocol head) history e.event)) same may.local.next
-
-    own-does : Does head (actors.Session id.session) (session_at head id history) e.event
-    own-does = subst (λ a. Does head a (known_at head a history) e.event) same (act_of head history e may)
-
     first-is : (b : Bool) → is_last_after id e.event (is_first id (session_at head id history).txns) ≡ b → is_first id (session_at head id (history ++ e ∷ [])).txns ≡ b
-    first-is b is =
-        let k = session_at head id history in
-        ap (λ (x : Known). is_first id x.txns) (known_same head (actors.Session id.session) history e same)
-        ∙ sym (first_after id e.event (heard_by e.event (named_in (protocol head) history e.event) k.sent) k) ∙ is
-
-    open-is : (session_at head id (history ++ e ∷ [])).is_open ≡ is_open_after e.event (session_at head id history).is_open
-    open-is = ap (λ (x : Known). x.is_open) (known_same head (actors.Session id.session) history e same)
+    first-is b is = first_next head history e id same ∙ is
 
     -- a transaction that is not open stays so
     stays-closed : IsClosed history → IsClosed (history ++ e ∷ [])
@@ -146,7 +132,7 @@ module _ (head : Head) (id : TxnId) where
         let k = session_at head id history in
         elim (is-begin e.event) [
           | inl begun ↦
-              let next = begun_next head (actors.Session id.session) k begun.0 begun.1 (subst (Does head (actors.Session id.session) k) begun.2 own-does) in
+              let next = begun_next head (actors.Session id.session) k begun.0 begun.1 (subst (Does head (actors.Session id.session) k) begun.2 (does_next head history e id same may)) in
               let it : same_txn begun.0 id ≡ true =
               ap (λ event. is_last_after id event (is_first id k.txns)) (sym begun.2) ∙ sym (first-is (is_last_after id e.event (is_first id k.txns)) refl) ∙ first in
               let eq : begun.0.number ≡ id.number = ap (λ (i : TxnId). i.number) (same_txn-is begun.0 id it) in
@@ -155,7 +141,7 @@ module _ (head : Head) (id : TxnId) where
               let at : begun.0.number ≡ k.begun + 1 = next.1 in
               let no : ⊥ = omega (arith, eq, low, own_number, at) in no
           | inr none ↦
-              closed (sym (first-is (is_first id k.txns) (same-told e.event (is_first id k.txns) none)) ∙ first) (open-before e.event k.is_open none (sym open-is ∙ is_open))
+              closed (sym (first-is (is_first id k.txns) (same-told e.event (is_first id k.txns) none)) ∙ first) (open-before e.event k.is_open none (sym (open_next head history e id same) ∙ is_open))
         ]
 
     module _ (c : InCommit history) (never : (answer : Answer) → e.event ≡ events.Tell answer → is_open_told answer true ≡ true → IsUncommitted t.id (session_at head id history).sent (session_at head id history).heard → ⊥) where
@@ -166,11 +152,11 @@ module _ (head : Head) (id : TxnId) where
       not-told : (answer : Answer) → e.event ≡ events.Tell answer → is_open_told answer true ≡ true → ⊥
       not-told answer is stays =
           told_open head (actors.Session id.session) (session_at head id history) t open-now c.is_open c.call ⊥ (never answer is stays) answer
-          (subst (Does head (actors.Session id.session) (session_at head id history)) is own-does) stays
+          (subst (Does head (actors.Session id.session) (session_at head id history)) is (does_next head history e id same may)) stays
 
       not-asked : (call : Call) (reading : ℕ) → e.event ≡ events.Ask call reading → ⊥
       not-asked call reading is =
-          let may_ask = subst (MayDo head (actors.Session id.session) (session_at head id history)) is own-act in
+          let may_ask = subst (MayDo head (actors.Session id.session) (session_at head id history)) is (may_do_next head history e id same may) in
           let both : ◌≡◌ {A = Option Call} None (Some calls.Commit) = sym (ap call_in may_ask.none_open) ∙ c.call in
           cc both
 
@@ -187,7 +173,7 @@ module _ (head : Head) (id : TxnId) where
                   inl (
                     record {
                       first = first-is true (within-last id e.event (is_first id k.txns) within ∙ c.first);
-                      is_open = open-is ∙ within-open e.event k.is_open within ∙ c.is_open;
+                      is_open = (open_next head history e id same) ∙ within-open e.event k.is_open within ∙ c.is_open;
                       call = ap call_of known ∙ ap call_in (within-statement e.event k.statement within) ∙ c.call;
                     },
                     p,
@@ -198,7 +184,7 @@ module _ (head : Head) (id : TxnId) where
           by : (answer : Answer) → e.event ≡ events.Tell answer → (b : Bool) → is_open_told answer true ≡ b → (InCommit (history ++ e ∷ []) × P) ⊎ IsClosed (history ++ e ∷ [])
           by answer is true stays = absurd (not-told answer is stays)
           by answer is false ends =
-              inr (λ first is_open. let both : true ≡ false = sym is_open ∙ open-is ∙ ap (λ event. is_open_after event (session_at head id history).is_open) is ∙ ap (is_open_told answer) c.is_open ∙ ends in cc both)
+              inr (λ first is_open. let both : true ≡ false = sym is_open ∙ (open_next head history e id same) ∙ ap (λ event. is_open_after event (session_at head id history).is_open) is ∙ ap (is_open_told answer) c.is_open ∙ ends in cc both)
 
       reads-not : (answer : Answer) (o : Operation) → TellsRead answer (call_of (session_at head id history)) o → ⊥
       reads-not (answers.Value value) (Read key found) tells = let both : ◌≡◌ {A = Option Call} (Some calls.Commit) (Some (calls.Get key)) = sym c.call ∙ tells.0 in cc both

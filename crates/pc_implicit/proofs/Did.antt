@@ -1,5 +1,5 @@
 -- What a transaction did agrees in every run with what its session knows of it, and grows until a restart.
-use Rattle.std.proofs.Common.{◌≡◌, ℕ, ◌+◌, ◌<◌, ◌≤◌, Bool, true, false, if◌then◌else◌, not, ◌&&◌, ◌⊎◌, inl, inr, List, [], ◌∷◌, ◌++◌, filter, fold, map, max, Option, None, Some, Contains, refl, sym, ap, subst, ◌∙◌, arith}
+use Rattle.std.proofs.Common.{◌≡◌, ℕ, ◌+◌, ◌<◌, ◌≤◌, Bool, true, false, if◌then◌else◌, not, ◌&&◌, ◌⊎◌, inl, inr, List, [], ◌∷◌, ◌++◌, filter, map, Option, None, Some, Contains, refl, sym, ap, subst, ◌∙◌, arith}
 use Rattle.std.proofs.lemmas.List.{append_assoc, append-nil}
 use Rattle.std.proofs.lemmas.List.Elements.{filter-append}
 use Rattle.std.specs.List.{list_any}
@@ -34,7 +34,7 @@ use Rattle.pc_world.specs.Known.{Known, txn_begun, txns_after}
 use Rattle.pc_world.specs.Known.Statements.{Statement, begun_after}
 use Rattle.pc_world.specs.Known.Traffic.{Heard, heard_by}
 use Rattle.pc_world.specs.Known.Transactions.{Txn}
-use Rattle.pc_world.specs.Known.Writes.{Write as WriteMade, last_seq_of}
+use Rattle.pc_world.specs.Known.Writes.{last_seq_of}
 use Rattle.pc_world.specs.Local.{Head}
 use Rattle.pc_world.specs.Operations.{Doing, Operation, Read, ReadAll, Write, call_after, done_after, done_told, is_last_after, is_write, operations_of}
 use Rattle.pc_world.specs.Run.{IsRun, protocol}
@@ -396,19 +396,11 @@ module _ (head : Head) where
             (grows-step (session_at head id front) e.event t m.u (operations_of front id) (operations_of (front ++ e ∷ []) id) m.moves) g.grows;
       })
 
--- The writes that a transaction did are those that its session knows, in order; their sequences rise strictly, and the greatest is
--- that of the last write.
+-- The writes that a transaction did are those that its session knows, in order; their sequences rise strictly.
 pub record WritesAreDone (t : Txn) (done : List Operation) : Type 0 where
   pub same : filter is_a_write done ≡ map written t.writes
   pub rise : RiseFrom 0 (map written t.writes)
   pub last : last_seq_of t.writes ≡ last_seq_done done
-  pub at_end : (front : List WriteMade) (w : WriteMade) → t.writes ≡ front ++ w ∷ [] → last_seq_of t.writes ≡ w.seq
-
-rise-end : (n : ℕ) (front : List WriteMade) (w : WriteMade) → RiseFrom n (map written (front ++ w ∷ [])) → fold (λ most (x : WriteMade). max most x.seq) n (front ++ w ∷ []) ≡ w.seq
-rise-end n [] w rise = let low : n < w.seq = rise.0 in omega (arith, low)
-rise-end n (x ∷ xs) w rise =
-    ap (λ m. fold (λ most (x : WriteMade). max most x.seq) m (xs ++ w ∷ [])) (let low : n < x.seq = rise.0 in let e : max n x.seq ≡ x.seq = omega (arith, low) in e)
-    ∙ rise-end x.seq xs w rise.1
 
 -- the writes done are the writes known
 pub writes_are_done : (head : Head) (history : List (Entry Event)) → IsRun head history → (id : TxnId) (t : Txn) → Contains (known_at head (actors.Session id.session) history).txns t → t.id ≡ id → WritesAreDone t (operations_of history id)
@@ -418,5 +410,4 @@ writes_are_done head history run id t mine named =
       same = l.same;
       rise = l.rise;
       last = last_written t.writes ∙ ap last_seq_done (sym l.same) ∙ last_filtered (operations_of history id);
-      at_end = λ front w is. ap last_seq_of is ∙ rise-end 0 front w (subst (λ ws. RiseFrom 0 (map written ws)) is l.rise);
     }

@@ -63,6 +63,7 @@ pub mod OpenReads
 pub mod Outcomes
 pub mod OwnKeys
 pub mod OwnLaid
+pub mod OwnNext
 pub mod OwnOver
 pub mod OwnSplit
 pub mod OwnStanding

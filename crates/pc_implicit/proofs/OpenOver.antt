@@ -6,10 +6,10 @@ use Rattle.pc_base.specs.declared.entry.Entry.{Entry}
 use Rattle.pc_base.specs.declared.transaction.TxnId.{TxnId}
 use Rattle.pc_base.specs.Transaction.{same_txn}
 use Rattle.pc_history.specs.History.{MayFollow}
-use Rattle.pc_history.specs.Own.{named_in, own}
+use Rattle.pc_history.specs.Own.{named_in}
 use Rattle.pc_implicit.proofs.Agreed.{agreed, begun_next, owned}
 use Rattle.pc_implicit.proofs.CommitCalls.{is-begin, is-tell, open-before, same-told, told_open}
-use Rattle.pc_implicit.proofs.Commits.{act_of, open_agrees}
+use Rattle.pc_implicit.proofs.Commits.{open_agrees}
 use Rattle.pc_implicit.proofs.Did.{numbered-at, session_at}
 use Rattle.pc_implicit.proofs.Doing.{Does, same_or_not}
 use Rattle.pc_implicit.proofs.Forward.{Has, commit_known}
@@ -18,6 +18,7 @@ use Rattle.pc_implicit.proofs.Hearing.{sent_is_so}
 use Rattle.pc_implicit.proofs.KnownOver.{IsKnownOver, over_of}
 use Rattle.pc_implicit.proofs.Moves.{first_after, is_first, open_is_first}
 use Rattle.pc_implicit.proofs.OpenReads.{within-statement}
+use Rattle.pc_implicit.proofs.OwnNext.{does_next, may_do_next}
 use Rattle.pc_implicit.proofs.Settled.{settled}
 use Rattle.pc_implicit.proofs.SettledOn.{settled_not_over}
 use Rattle.pc_implicit.proofs.StagesKnown.{HasSent, SendsNow, commit_sent, dead_more, heard_goes_on, refused_more, sent_cases, stage_sent}
@@ -36,13 +37,12 @@ use Rattle.pc_proto.specs.declared.meta.TxnMeta.{TxnMeta}
 use Rattle.pc_proto.specs.declared.request.Request.{Request}
 use Rattle.pc_world.proofs.Knowing.{known_other, known_same}
 use Rattle.pc_world.proofs.Prefixes.{run_induction}
-use Rattle.pc_world.specs.After.{known_at}
 use Rattle.pc_world.specs.Committed.{told_at}
 use Rattle.pc_world.specs.Known.{Known, call_in, call_of, first_if, open_txn}
 use Rattle.pc_world.specs.Known.Statements.{is_open_after, is_open_told}
 use Rattle.pc_world.specs.Known.Traffic.{heard_by}
 use Rattle.pc_world.specs.Known.Transactions.{Txn}
-use Rattle.pc_world.specs.Local.{Head, MayComeNext, MayDo}
+use Rattle.pc_world.specs.Local.{Head, MayDo}
 use Rattle.pc_world.specs.Operations.{is_last_after}
 use Rattle.pc_world.specs.Run.{IsRun, protocol}
 use Rattle.pc_world.specs.StageFate.{IsDead, IsUncommitted, SentCommit, SentStage, WasCommitRefused, commit_request, stage_request}
@@ -71,12 +71,6 @@ open_untold head history run id o =
 module _ (head : Head) where
   -- One more entry of the transaction's session.
   module _ (history : List (Entry Event)) (e : Entry Event) (run : IsRun head history) (may : MayFollow (protocol head) history e) (id : TxnId) (same : e.actor ≡ actors.Session id.session) where
-    over-act : MayDo head (actors.Session id.session) (session_at head id history) e.event
-    over-act = subst (λ a. MayComeNext head a (own (protocol head) a history) e.event (named_in (protocol head) history e.event)) same may.local.next
-
-    over-does : Does head (actors.Session id.session) (session_at head id history) e.event
-    over-does = subst (λ a. Does head a (known_at head a history) e.event) same (act_of head history e may)
-
     -- what was known stays so, where no new stage or commit of it is sent
     over-stays : IsKnownOver (session_at head id history) id
         → ((s : SentStage) → s.meta.id ≡ id → SendsNow head history e (actors.Session id.session) (stage_request s) → HasSent (session_at head id history).sent (stage_request s))
@@ -139,7 +133,7 @@ module _ (head : Head) where
         unknown : Has id (txns_of head id history) → ⊥
         unknown h =
             let k = session_at head id history in
-            let next = begun_next head (actors.Session id.session) k new ts (subst (Does head (actors.Session id.session) k) is over-does) in
+            let next = begun_next head (actors.Session id.session) k new ts (subst (Does head (actors.Session id.session) k) is (does_next head history e id same may)) in
             let low = (owned (actors.Session id.session) (k.begun + 1) k.txns h.0 (numbered-at head history run id) h.1).1 in
             let number : new.number ≡ k.begun + 1 = next.1 in
             let its : h.0.id.number ≡ new.number = ap (λ (i : TxnId). i.number) (h.2 ∙ sym eq) in
@@ -190,7 +184,7 @@ module _ (head : Head) where
     over-told o answer is stays call =
         let k = session_at head id history in
         told_open head (actors.Session id.session) k o.t o.opened (open_is_first k o.t o.opened).1 call (IsKnownOver k id)
-        (λ u. over_of k id (subst (λ i. IsUncommitted i k.sent k.heard) o.named u)) answer (subst (Does head (actors.Session id.session) k) is over-does) stays
+        (λ u. over_of k id (subst (λ i. IsUncommitted i k.sent k.heard) o.named u)) answer (subst (Does head (actors.Session id.session) k) is (does_next head history e id same may)) stays
 
     over-next : ((o : IsOpenHere (session_at head id history) id) → (call_of (session_at head id history) ≡ Some calls.Commit → ⊥) → IsKnownOver (session_at head id history) id)
         → IsOpenHere (session_at head id (history ++ e ∷ [])) id → (call_of (session_at head id (history ++ e ∷ [])) ≡ Some calls.Commit → ⊥) → IsKnownOver (session_at head id (history ++ e ∷ [])) id
@@ -208,7 +202,7 @@ module _ (head : Head) where
                 over-unsent over (λ number range request sends. let both : events.Tell tells.0 ≡ events.Send number range request = sym tells.1 ∙ sends in cc both)
             | inr other ↦ elim other [
               | inl asks ↦
-                  let may_ask = subst (MayDo head (actors.Session id.session) k) asks.2 over-act in
+                  let may_ask = subst (MayDo head (actors.Session id.session) k) asks.2 (may_do_next head history e id same may) in
                   let over : IsKnownOver k id = before was (λ call. let both : ◌≡◌ {A = Option Call} None (Some calls.Commit) = sym (ap call_in may_ask.none_open) ∙ call in cc both) in
                   over-unsent over (λ number range request sends. let both : events.Ask asks.0 asks.1 ≡ events.Send number range request = sym asks.2 ∙ sends in cc both)
               | inr within ↦

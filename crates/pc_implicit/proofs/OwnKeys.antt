@@ -10,7 +10,7 @@ use Rattle.pc_base.specs.declared.transaction.TxnId.{TxnId}
 use Rattle.pc_base.specs.Keyed.{at, without}
 use Rattle.pc_base.specs.Span.{same_key}
 use Rattle.pc_base.specs.Transaction.{same_txn}
-use Rattle.pc_lists.proofs.Same.{same_key-equal, same_key-is, same_txn-is, same_txn-self}
+use Rattle.pc_lists.proofs.Same.{same_key-equal, same_key-is, same_txn-differs, same_txn-is, same_txn-self}
 use Rattle.pc_proto.specs.declared.fate.Fate.{Fate}
 use Rattle.pc_proto.specs.declared.fate.Fate.TheVariants as fates
 use Rattle.pc_proto.specs.declared.meta.TxnMeta.{TxnMeta}
@@ -31,13 +31,10 @@ at-set key k i xs = at_inserted nat_list_cmp_total same_key (λ a b. refl) key k
 at-without : (key k : List ℕ) (xs : List (List ℕ × Intent)) → at same_key k (without same_key key xs) ≡ cond (same_key key k) None (at same_key k xs)
 at-without key k xs = at_left nat_list_cmp_total same_key (λ a b. refl) key k xs
 
-differ : (a one id : TxnId) → same_txn a one ≡ true → same_txn one id ≡ false → same_txn a id ≡ false
-differ a one id h k = grind arith
-
 -- what is another's is not the transaction's own
 not-own : (one id : TxnId) (o : Option Intent) (i : Intent) → same_txn one id ≡ false → kept_if (λ i. same_txn i.meta.id one) o ≡ Some i → kept_if (λ i. same_txn i.meta.id id) o ≡ None
 not-own one id None i apart h = refl
-not-own one id (Some j) i apart h = grind (arith, differ j.meta.id one id)
+not-own one id (Some j) i apart h = grind (arith, same_txn-differs j.meta.id one id)
 
 -- the own intent is the transaction's
 pub own_is : (one : TxnId) (o : Option Intent) (i : Intent) → kept_if (λ i. same_txn i.meta.id one) o ≡ Some i → same_txn i.meta.id one ≡ true
@@ -50,7 +47,7 @@ own_is one (Some j) i h = by (same_txn j.meta.id one) refl h
 
 not-own-free : (one id : TxnId) (o : Option Intent) → same_txn one id ≡ false → kept_if (λ i. not (same_txn i.meta.id one)) o ≡ None → kept_if (λ i. same_txn i.meta.id id) o ≡ None
 not-own-free one id None apart h = refl
-not-own-free one id (Some j) apart h = grind (arith, differ j.meta.id one id)
+not-own-free one id (Some j) apart h = grind (arith, same_txn-differs j.meta.id one id)
 
 module _ (id : TxnId) (k : List ℕ) (key : List ℕ) (xs : List (List ℕ × Intent)) where
   lays-other : (i : Intent) → same_key key k ≡ false → own_at id k (insert_entry (slice_cmp nat_cmp) xs key i) ≡ own_at id k xs
@@ -115,14 +112,15 @@ module _ (id : TxnId) (k : List ℕ) where
   laid-apart meta seq ts value None apart of = apart
   laid-apart meta seq ts value (Some i) apart of = grind (arith, of i refl)
 
-  put-stays : (meta : TxnMeta) (seq ts : ℕ) (key : List ℕ) (value : Option (List ℕ)) (s : RangeState) → same_txn meta.id id ≡ false → own_at id k (intents_with key (put_change (outcome_of_put meta seq ts key value s)) s.intents) ≡ own_at id k s.intents
+  -- a put of another transaction leaves it alone
+  pub put-stays : (meta : TxnMeta) (seq ts : ℕ) (key : List ℕ) (value : Option (List ℕ)) (s : RangeState) → same_txn meta.id id ≡ false → own_at id k (intents_with key (put_change (outcome_of_put meta seq ts key value s)) s.intents) ≡ own_at id k s.intents
   put-stays meta seq ts key value s apart = by-other (other_at meta.id key s.intents) refl
     where
       by-over : (own : Option Intent) → own_at meta.id key s.intents ≡ own → own_at id key s.intents ≡ None → (b : Bool) → own_at id k (intents_with key (put_change (cond b (Stands 0) (Lands (laid meta seq (write_ts meta ts key own s) value own)))) s.intents) ≡ own_at id k s.intents
       by-over own e none true = refl
       by-over own e none false =
           lays id k key s.intents (laid meta seq (write_ts meta ts key own s) value own)
-          (laid-apart meta seq (write_ts meta ts key own s) value own apart (λ i is. differ i.meta.id meta.id id (own_is meta.id (at same_key key s.intents) i (e ∙ is)) apart))
+          (laid-apart meta seq (write_ts meta ts key own s) value own apart (λ i is. same_txn-differs i.meta.id meta.id id (own_is meta.id (at same_key key s.intents) i (e ∙ is)) apart))
           none
 
       by-own : (own : Option Intent) → own_at meta.id key s.intents ≡ own → own_at id key s.intents ≡ None → (b : Bool) → overtaken meta seq own ≡ b → own_at id k (intents_with key (put_change (own_outcome meta seq ts key value own s)) s.intents) ≡ own_at id k s.intents
@@ -135,7 +133,8 @@ module _ (id : TxnId) (k : List ℕ) where
           by-own (own_at meta.id key s.intents) refl (not-own-free meta.id id (at same_key key s.intents) apart e)
           (overtaken meta seq (own_at meta.id key s.intents)) refl
 
-  resolve-stays : (one : TxnId) (key : List ℕ) (fate : Fate) (s : RangeState) → same_txn one id ≡ false → own_at id k (intents_with key (resolve_change one key fate s) s.intents) ≡ own_at id k s.intents
+  -- so does a resolve of another
+  pub resolve-stays : (one : TxnId) (key : List ℕ) (fate : Fate) (s : RangeState) → same_txn one id ≡ false → own_at id k (intents_with key (resolve_change one key fate s) s.intents) ≡ own_at id k s.intents
   resolve-stays one key fate s apart = by-own (own_at one key s.intents) refl fate
     where
       by-own : (own : Option Intent) → own_at one key s.intents ≡ own → (fate : Fate) → own_at id k (intents_with key (change_for fate own) s.intents) ≡ own_at id k s.intents
@@ -143,7 +142,7 @@ module _ (id : TxnId) (k : List ℕ) where
       by-own (Some i) e (fates.Committed epoch ts) = drops id k key s.intents (not-own one id (at same_key key s.intents) i apart e)
       by-own (Some i) e fates.Aborted = drops id k key s.intents (not-own one id (at same_key key s.intents) i apart e)
       by-own (Some i) e (fates.Pending ts) =
-          lays id k key s.intents _ (differ i.meta.id one id (own_is one (at same_key key s.intents) i e) apart) (not-own one id (at same_key key s.intents) i apart e)
+          lays id k key s.intents _ (same_txn-differs i.meta.id one id (own_is one (at same_key key s.intents) i e) apart) (not-own one id (at same_key key s.intents) i apart e)
 
   change-elsewhere : (key : List ℕ) (c : IntentChange) (xs : List (List ℕ × Intent)) → same_key key k ≡ false → own_at id k (intents_with key c xs) ≡ own_at id k xs
   change-elsewhere key Leave xs apart = refl

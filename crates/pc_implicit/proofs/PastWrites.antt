@@ -67,8 +67,8 @@ moved-past : (epoch seq ts at : ℕ) (i : Intent) → IsPastWrite epoch seq ts i
 moved-past epoch seq ts at i past = record { epoch_reached = past.epoch_reached; seq_reached = past.seq_reached; ts_reached = let low = past.ts_reached in omega (arith, low) }
 
 -- a put that was laid is past itself
-laid-itself : (id : TxnId) (key : List ℕ) (meta : TxnMeta) (seq at : ℕ) (value : Option (List ℕ)) (own : Option Intent) → IsPastWrite meta.epoch seq at (laid meta seq at value own)
-laid-itself id key meta seq at value own =
+laid-itself : (meta : TxnMeta) (seq at : ℕ) (value : Option (List ℕ)) (own : Option Intent) → IsPastWrite meta.epoch seq at (laid meta seq at value own)
+laid-itself meta seq at value own =
     elim (how_laid meta seq at value own) [
       | Grows i is same eq ↦
           let last : last_seq (grown seq at value i) ≡ max (last_seq i) seq = grown_last seq at value i in
@@ -115,7 +115,7 @@ module _ (head : Head) (history : List (Entry Event)) (run : IsRun head history)
         | StoodThere i own over at eq ↦ (i, state ∙ eq, subst (λ n. IsPastWrite n seq ts i) w.epoch_is (stood-past w.meta seq ts i over at))
         | LaidNow over eq ↦
             let own = own_at id key s.intents in
-            (laid w.meta seq ts w.value own, state ∙ eq, subst (λ n. IsPastWrite n seq ts (laid w.meta seq ts w.value own)) w.epoch_is (laid-itself id key w.meta seq ts w.value own))
+            (laid w.meta seq ts w.value own, state ∙ eq, subst (λ n. IsPastWrite n seq ts (laid w.meta seq ts w.value own)) w.epoch_is (laid-itself w.meta seq ts w.value own))
       ]
 
 module _ (head : Head) where

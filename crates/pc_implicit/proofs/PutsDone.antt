@@ -96,8 +96,8 @@ module _ (head : Head) where
       by (Restarts own at opened told epoch reads writes done_is) same there = (omega (arith, epoch, same), λ eq. there)
   sent-done history e run may id u c event is = tt
 
-  begun-done : (history : List (Entry Event)) (e : Entry Event) (id other : TxnId) (ts epoch : ℕ) (done : List Operation) (event : Event) → event ≡ events.Tell (answers.Begun other ts) → IsDone id epoch done event
-  begun-done history e id other ts epoch done event is = subst (IsDone id epoch done) (sym is) tt
+  begun-done : (id other : TxnId) (ts epoch : ℕ) (done : List Operation) (event : Event) → event ≡ events.Tell (answers.Begun other ts) → IsDone id epoch done event
+  begun-done id other ts epoch done event is = subst (IsDone id epoch done) (sym is) tt
 
   are-done : (history : List (Entry Event)) → IsRun head history → AreDone history
   unfolding AreDone
@@ -106,7 +106,7 @@ module _ (head : Head) where
         | inl new ↦
             elim (Contains-push_cases history e a there) [
               | inl before ↦ none-before history run id (newly_fresh head history e may id u named new.0 new.1) u.epoch (operations_of (history ++ e ∷ []) id) a before a.event refl
-              | inr now ↦ begun-done history e id new.1.id new.1.ts u.epoch (operations_of (history ++ e ∷ []) id) a.event (ap (λ (x : Entry Event). x.event) (sym now) ∙ new.1.told)
+              | inr now ↦ begun-done id new.1.id new.1.ts u.epoch (operations_of (history ++ e ∷ []) id) a.event (ap (λ (x : Entry Event). x.event) (sym now) ∙ new.1.told)
             ]
         | inr c ↦
             elim (Contains-push_cases history e a there) [

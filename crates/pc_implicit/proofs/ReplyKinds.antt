@@ -1,5 +1,5 @@
 -- A range answers each request by a reply of its kind, whatever has happened.
-use Rattle.std.proofs.Common.{◌≡◌, ℕ, Bool, true, false, ◌&&◌, not, nat_le, if◌then◌else◌, List, [], Option, None, Some, refl}
+use Rattle.std.proofs.Common.{◌≡◌, ℕ, Bool, true, false, ◌&&◌, not, nat_le, if◌then◌else◌, List, [], refl}
 use Rattle.std.specs.Option.{option_map_or}
 use Rattle.pc_base.specs.declared.entry.Entry.{Entry}
 use Rattle.pc_base.specs.declared.transaction.Priority.{Priority}

@@ -1,7 +1,7 @@
 -- What a machine stands by it stands by later.
-use Rattle.std.proofs.Common.{◌≡◌, ℕ, ◌+◌, ◌≤◌, true, false, Bool, List, [], ◌∷◌, map, inl, inr, All, Option, Some, IsTrue, ap, arith}
+use Rattle.std.proofs.Common.{ℕ, ◌+◌, ◌≤◌, List, inl, inr, All, Option, IsTrue, arith}
 use Rattle.std.proofs.lemmas.List.Elements.{All-weaker}
-use Rattle.std.specs.Option.{option_map, option_to_list}
+use Rattle.std.specs.Option.{option_to_list}
 use Rattle.pc_base.specs.declared.actor.ActorId.{ActorId}
 use Rattle.pc_base.specs.declared.actor.ActorId.TheVariants as actors
 use Rattle.pc_base.specs.declared.transaction.Priority.{Priority}
@@ -20,9 +20,9 @@ use Rattle.pc_push.specs.PushKnows.{HasMetStaging, IsSettledOrLeft, MayPush, Pus
 use Rattle.pc_push.specs.Pushing.{Pushing, holder_resolve, push_of}
 use Rattle.pc_world.proofs.Exchange.{ever_later, first_mapped, heard_later, kept_later, later-later, top_later}
 use Rattle.pc_world.specs.Exchange.{IsLater, is_message}
-use Rattle.pc_world.specs.Known.{Known, first_if, known_after}
+use Rattle.pc_world.specs.Known.{Known, known_after}
 use Rattle.pc_world.specs.Known.Traffic.{Heard}
-use Rattle.pc_world.specs.Known.Transactions.{Txn, txn_heard, txn_sent}
+use Rattle.pc_world.specs.Known.Transactions.{txn_heard, txn_sent}
 use Rattle.pc_world.specs.Send.Push.{ListsRecord, MaySendPush, RecovererPush, SessionPush, StoodInTheWay}
 use Rattle.pc_world.specs.Send.Settling.{ShowsFate}
 

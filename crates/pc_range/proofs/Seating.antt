@@ -77,9 +77,6 @@ pub not-handed : {A E : Type 0} (r : Result A E) (part : Part Event) (before aft
 not-handed (Ok a) part before after is = tt
 not-handed (Err e) part before after is = ap (λ (o : OpenerMeaning Head Event). o.whole) is ∙ whole-err before.whole
 
-pub hands-none : (before : OpenerMeaning Head Event) → HandsIn [] before before
-hands-none before = record { more = []; handed = ap (λ ps. record before { parts = ps }) (sym (append-nil before.parts)); whose = refl }
-
 -- first these, then those
 pub hands-both : (xs ys : List ActorId) (a b c : OpenerMeaning Head Event) → HandsIn xs a b → HandsIn ys b c → HandsIn (xs ++ ys) a c
 hands-both xs ys a b c first second =

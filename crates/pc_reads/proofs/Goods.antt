@@ -101,16 +101,6 @@ read_stands id heard reads spans ts span now is has keeps s =
       good = All-append (IsGoodAt id heard ts) reads (r ∷ []) s.good (All-cons (IsGoodAt id heard ts) r [] (record { not_below = omega arith; up_to = (ts, AtOnce, omega arith) }) (All-nil (IsGoodAt id heard ts)));
     }
 
--- where nothing was read, all is good anywhere
-pub none_read : (id : TxnId) (heard : List Heard) (reads : List Read) (spans : List Span) (ts to : ℕ) → spans ≡ [] → TxnReadsStand id heard reads (record { spans = spans; ts = ts }) → All (IsGoodAt id heard to) reads
-none_read id heard reads spans ts to none s =
-    all_from_contains (IsGoodAt id heard to) reads (λ r there.
-    let listed : Contains spans r.span = All-contains (λ r. Contains spans r.span) reads r s.kept there in
-    absurd (nothing r.span (subst (λ l. Contains l r.span) none listed)))
-  where
-    nothing : (span : Span) → Contains [] span → ⊥
-    nothing span there = absurd (omega (arith, there.1))
-
 -- where it is added, it stands among the spans
 pub read_ok : {E : Type 0} (result : Result (Unit {0}) E) (id : TxnId) (heard : List Heard) (reads : List Read) (spans : List Span) (ts : ℕ) (span : Span) (now : List Span)
     → OnOk result (now ≡ insert_key span_cmp spans span) → OnOk result (Contains now span) → ((other : Span) → Contains spans other → Contains now other)

@@ -1,8 +1,8 @@
 -- What a machine stands by it stands by later.
-use Rattle.std.proofs.Common.{◌≡◌, ℕ, ◌≤◌, true, false, Bool, List, [], ◌∷◌, map, find, take, Option, None, Some, IsTrue, sym, ap, ◌∙◌, subst, arith}
+use Rattle.std.proofs.Common.{◌≡◌, ℕ, ◌≤◌, List, find, take, Option, None, Some, IsTrue, sym, ap, ◌∙◌, subst, arith}
 use Rattle.std.proofs.lemmas.List.Elements.{All-nil, All-weaker}
 use Rattle.std.proofs.lemmas.List.Folds.{find-append}
-use Rattle.std.specs.Option.{option_and_then, option_map, option_or}
+use Rattle.std.specs.Option.{option_and_then, option_or}
 use Rattle.pc_base.specs.declared.actor.ActorId.{ActorId}
 use Rattle.pc_base.specs.declared.actor.ActorId.TheVariants as actors
 use Rattle.pc_base.specs.declared.transaction.TxnId.{TxnId}
@@ -19,9 +19,9 @@ use Rattle.pc_recover.specs.RecoverKnows.{AreFound, HasFound, IsMissing, MayReco
 use Rattle.pc_recover.specs.Recovering.{Recovering, query_of, recover_of}
 use Rattle.pc_world.proofs.Exchange.{ever_later, first_mapped, has_more, heard_later, kept_later, later-itself, later-later, top_later}
 use Rattle.pc_world.specs.Exchange.{HeardSince, IsLater, is_message}
-use Rattle.pc_world.specs.Known.{Known, first_if, known_after}
+use Rattle.pc_world.specs.Known.{Known, known_after}
 use Rattle.pc_world.specs.Known.Traffic.{Heard}
-use Rattle.pc_world.specs.Known.Transactions.{Txn, txn_heard, txn_sent}
+use Rattle.pc_world.specs.Known.Transactions.{txn_heard, txn_sent}
 use Rattle.pc_world.specs.Send.Recovery.{IsOwnName, MetStaging}
 use Rattle.pc_world.specs.Views.{anchor_heard, shows_view}
 

@@ -122,9 +122,6 @@ next_may m (Err e) is splits actor start k knows = tt
 
 -- the machine further on
 module _ (start k : Known) (m : Recovering) (on : Progress) where
-  refound : (writes : List (List ℕ × ℕ)) → AreFound start k m writes → AreFound start k (recovering_at on m) writes
-  refound writes found = found
-
   remissing : (key : List ℕ) → IsMissing start k m key → IsMissing start k (recovering_at on m) key
   remissing key missing = record { seq = missing.seq; listed = missing.listed; heard = missing.heard }
 

@@ -20,9 +20,10 @@ use Rattle.pc_implicit.proofs.Did.{session_at}
 use Rattle.pc_implicit.proofs.Doing.{Does, same_or_not, told_by_row}
 use Rattle.pc_implicit.proofs.Ended.{ended_never_commits}
 use Rattle.pc_implicit.proofs.Fronts.{split_there}
-use Rattle.pc_implicit.proofs.Moves.{first_after, is_first, open_is_first}
+use Rattle.pc_implicit.proofs.Moves.{is_first, open_is_first}
 use Rattle.pc_implicit.proofs.OpenOver.{IsOpenHere}
 use Rattle.pc_implicit.proofs.OpenReads.{IsWithin}
+use Rattle.pc_implicit.proofs.OwnNext.{does_next, first_next, open_next}
 use Rattle.pc_implicit.proofs.OwnSplit.{StandsBehind, own_split}
 use Rattle.pc_implicit.specs.Ends.{SaysOver}
 use Rattle.pc_lists.proofs.Lists.{contains_cons, contains_head, contains_nil, contains_tail}
@@ -41,7 +42,6 @@ use Rattle.pc_world.specs.CommitOrder.{all_begun, begun_in}
 use Rattle.pc_world.specs.Committed.{IsCommitted}
 use Rattle.pc_world.specs.Known.{Known, call_in, call_of, first_if, known_of, open_txn}
 use Rattle.pc_world.specs.Known.Statements.{begun_after, is_open_after, is_open_told, statement_after}
-use Rattle.pc_world.specs.Known.Traffic.{heard_by}
 use Rattle.pc_world.specs.Known.Transactions.{Txn}
 use Rattle.pc_world.specs.Legal.{BeganAfter, Learns, StandsBefore, TellsBegun, committed_in_order}
 use Rattle.pc_world.specs.Local.{Head, MayComeNext, MayDo}
@@ -134,21 +134,6 @@ module _ (head : Head) where
 
   -- One more entry of the session.
   module _ (history : List (Entry Event)) (e : Entry Event) (run : IsRun head history) (may : MayFollow (protocol head) history e) (id : TxnId) (same : e.actor ≡ actors.Session id.session) where
-    turn-act : MayDo head (actors.Session id.session) (session_at head id history) e.event
-    turn-act = subst (λ a. MayComeNext head a (own (protocol head) a history) e.event (named_in (protocol head) history e.event)) same may.local.next
-
-    turn-does : Does head (actors.Session id.session) (session_at head id history) e.event
-    turn-does = subst (λ a. Does head a (known_at head a history) e.event) same (act_of head history e may)
-
-    first-then : is_first id (session_at head id (history ++ e ∷ [])).txns ≡ is_last_after id e.event (is_first id (session_at head id history).txns)
-    first-then =
-        let k = session_at head id history in
-        ap (λ (x : Known). is_first id x.txns) (known_same head (actors.Session id.session) history e same)
-        ∙ sym (first_after id e.event (heard_by e.event (named_in (protocol head) history e.event) k.sent) k)
-
-    open-then : (session_at head id (history ++ e ∷ [])).is_open ≡ is_open_after e.event (session_at head id history).is_open
-    open-then = ap (λ (x : Known). x.is_open) (known_same head (actors.Session id.session) history e same)
-
     here-then : is_first id (session_at head id (history ++ e ∷ [])).txns ≡ true → (session_at head id (history ++ e ∷ [])).is_open ≡ true → IsOpenHere (session_at head id (history ++ e ∷ [])) id
     here-then first is_open =
         let k = session_at head id (history ++ e ∷ []) in
@@ -159,15 +144,15 @@ module _ (head : Head) where
     begun-open : (new : TxnId) (ts : ℕ) → e.event ≡ events.Tell (answers.Begun new ts) → new ≡ id → IsOpenHere (session_at head id (history ++ e ∷ [])) id
     begun-open new ts is eq =
         here-then
-        (first-then ∙ ap (λ event. is_last_after id event (is_first id (session_at head id history).txns)) is ∙ ap (λ i. same_txn i id) eq ∙ same_txn-self id)
-        (open-then ∙ ap (λ event. is_open_after event (session_at head id history).is_open) is)
+        ((first_next head history e id same) ∙ ap (λ event. is_last_after id event (is_first id (session_at head id history).txns)) is ∙ ap (λ i. same_txn i id) eq ∙ same_txn-self id)
+        ((open_next head history e id same) ∙ ap (λ event. is_open_after event (session_at head id history).is_open) is)
 
     -- where one begins, none was open
     begins-closed : (new : TxnId) (ts : ℕ) → e.event ≡ events.Tell (answers.Begun new ts) → IsOpenHere (session_at head id history) id → ⊥
     unfolding is-begin-call
     begins-closed new ts is here =
         let k = session_at head id history in
-        let does : Does head (actors.Session id.session) k (events.Tell (answers.Begun new ts)) = subst (Does head (actors.Session id.session) k) is turn-does in
+        let does : Does head (actors.Session id.session) k (events.Tell (answers.Begun new ts)) = subst (Does head (actors.Session id.session) k) is (does_next head history e id same may) in
         let row = told_by_row head (actors.Session id.session) k (answers.Begun new ts) does (λ h. cc h) (λ h. cc h) in
         let call : call_of k ≡ Some (calls.Begin row.priority) = ap call_in does.opened ∙ ap Some row.asked in
         let closed : k.is_open ≡ false = closed_in_begin history run id.session (ap is-begin-call call) in
@@ -181,12 +166,12 @@ module _ (head : Head) where
         let k = session_at head id history in
         let was = open_is_first k here.t here.opened in
         let first : is_first id (session_at head id (history ++ e ∷ [])).txns ≡ true =
-        first-then ∙ same-told head id e.event (is_first id k.txns) none ∙ ap (λ i. is_first i k.txns) (sym here.named) ∙ was.0 in
+        (first_next head history e id same) ∙ same-told head id e.event (is_first id k.txns) none ∙ ap (λ i. is_first i k.txns) (sym here.named) ∙ was.0 in
         elim (is-tell head id e.event) [
           | inl tells ↦ told tells.0 tells.1 (is_open_told tells.0 true) refl first was.1
           | inr other ↦ elim other [
-            | inl asks ↦ inl (here-then first (open-then ∙ ap (λ event. is_open_after event k.is_open) asks.2 ∙ was.1))
-            | inr within ↦ inl (here-then first (open-then ∙ within-open e.event k.is_open within ∙ was.1))
+            | inl asks ↦ inl (here-then first ((open_next head history e id same) ∙ ap (λ event. is_open_after event k.is_open) asks.2 ∙ was.1))
+            | inr within ↦ inl (here-then first ((open_next head history e id same) ∙ within-open e.event k.is_open within ∙ was.1))
           ]
         ]
       where
@@ -198,7 +183,7 @@ module _ (head : Head) where
         told : (answer : Answer) → e.event ≡ events.Tell answer → (b : Bool) → is_open_told answer true ≡ b → is_first id (session_at head id (history ++ e ∷ [])).txns ≡ true
             → (session_at head id history).is_open ≡ true → IsOpenHere (session_at head id (history ++ e ∷ [])) id ⊎ HasEnded head (history ++ e ∷ []) id
         told answer tells true stays first was_open =
-            inl (here-then first (open-then ∙ ap (λ event. is_open_after event (session_at head id history).is_open) tells ∙ ap (is_open_told answer) was_open ∙ stays))
+            inl (here-then first ((open_next head history e id same) ∙ ap (λ event. is_open_after event (session_at head id history).is_open) tells ∙ ap (is_open_told answer) was_open ∙ stays))
         told answer tells false closes first was_open =
             inr (record {
               before = own (protocol head) (actors.Session id.session) history;
@@ -218,7 +203,7 @@ module _ (head : Head) where
         let begun : (session_at head id (history ++ e ∷ [])).begun ≡ begun_after e.event k.begun = ap (λ (x : Known). x.begun) (known_same head (actors.Session id.session) history e same) in
         elim (is-begin head id e.event) [
           | inl new ↦
-              let next = begun_next head (actors.Session id.session) k new.0 new.1 (subst (Does head (actors.Session id.session) k) new.2 turn-does) in
+              let next = begun_next head (actors.Session id.session) k new.0 new.1 (subst (Does head (actors.Session id.session) k) new.2 (does_next head history e id same may)) in
               let grown : begun_after e.event k.begun ≡ k.begun + 1 = ap (λ event. begun_after event k.begun) new.2 in
               elim (cases_lt k.begun id.number) [
                 | inr old ↦ elim (before old) [

@@ -1,5 +1,5 @@
 -- The splits of a workload: the first key of each range but the first one, in key order.
-use Rattle.std.specs.Prelude.{ℕ, Bool, true, ◌&&◌, List, [], ◌∷◌, length, nat_le, Option, Some, None, if◌then◌else◌}
+use Rattle.std.specs.Prelude.{ℕ, ◌&&◌, List, length, nat_le, Option, Some, None, if◌then◌else◌}
 use Rattle.serde_json.specs.Data.{Data}
 use Rattle.pc_base.specs.declared.limits.TheConstants.{MOST_SPLITS}
 use Rattle.pc_base.specs.Rising.{keys_rise}

@@ -1,5 +1,5 @@
 -- A call that commits or rolls back, beside what its session knows.
-use Rattle.std.specs.Prelude.{◌≡◌, ℕ, ◌≤◌, ◌<◌, ◌⊎◌, ⊤, Option, None, Some, List, [], ◌∷◌, ◌++◌, length, All, Any, IsTrue}
+use Rattle.std.specs.Prelude.{◌≡◌, ℕ, ◌≤◌, ◌<◌, ◌⊎◌, ⊤, Option, None, Some, List, [], ◌∷◌, ◌++◌, length, All}
 use Rattle.pc_coord.specs.declared.transaction.Transaction.{Transaction}
 use Rattle.pc_coord.specs.Knows.Held.{IsOpenAs, IsPlain, PutsUpTo}
 use Rattle.pc_proto.specs.declared.call.Call.TheVariants as calls

@@ -1,0 +1,150 @@
+#!/usr/bin/env python3
+"""Says why a workload is refused: the first thing in it that docs/FORMATS.md does not allow, with its place.
+
+    tools/explain_workload.py FILE..   (or on standard input)
+
+It is a help and no judge: what `pcommit` answers decides. Status 0 where nothing is found, else 1.
+"""
+
+import json
+import re
+import sys
+
+MOST = 2**64 - 1
+KEY = re.compile(r"[A-Za-z0-9_/.]{1,64}")
+VALUE = re.compile(r"[!-+\--~]{0,1024}")
+READS, WRITES = ("get", "scan"), ("put", "delete")
+
+
+class Fault(Exception):
+    pass
+
+
+class NoWhole(str):
+    """A number with a point, an exponent or a minus, as it is written."""
+
+
+def no_number(name):
+    raise json.JSONDecodeError(f"{name} is no number", name, 0)
+
+
+def need(holds, place, says):
+    if not holds:
+        raise Fault(f"{place}: {says}")
+
+
+def members(value, place, names, needed):
+    need(isinstance(value, dict), place, "an object is wanted")
+    for name in value:
+        need(name in names, place, f"there is no member `{name}`; it may have {', '.join(names)}")
+    for name in needed:
+        need(name in value, place, f"the member `{name}` is missing")
+
+
+def number(value, place, most=MOST):
+    need(not isinstance(value, NoWhole), place, f"`{value}` has a point, an exponent or a minus")
+    need(isinstance(value, int) and not isinstance(value, bool), place, "a whole number is wanted")
+    need(value <= most, place, f"{value} is more than {most}")
+
+
+def listed(value, place):
+    need(isinstance(value, list), place, "a list is wanted")
+
+
+def key(value, place):
+    need(isinstance(value, str) and KEY.fullmatch(value), place, "a key is a string of 1 to 64 letters, digits, `_`, `/` or `.`")
+
+
+def two(value, place):
+    need(isinstance(value, list) and len(value) == 2, place, "a list of two strings is wanted")
+
+
+def statement(value, place):
+    need(isinstance(value, dict) and len(value) == 1, place, "a statement is an object with one member")
+    (kind, what), = value.items()
+    need(kind in READS + WRITES, place, f"there is no statement `{kind}`; it is get, scan, put or delete")
+    place = f"{place}.{kind}"
+    if kind == "put":
+        two(what, place)
+        key(what[0], f"{place}[0]")
+        need(isinstance(what[1], str) and VALUE.fullmatch(what[1]), f"{place}[1]",
+             "a value is a string of at most 1,024 printable ASCII characters other than space and comma")
+    elif kind == "scan":
+        two(what, place)
+        for end in what:
+            if end != "":
+                key(end, place)
+        need("" in what or what[0] < what[1], place, "the first end is not below the second")
+    else:
+        key(what, place)
+    return kind in READS
+
+
+def item(value, place):
+    members(value, place, ("do", "priority", "end"), ("do",))
+    need(value.get("priority", "normal") in ("low", "normal", "high"), f"{place}.priority", "it is low, normal or high")
+    need(value.get("end", "commit") in ("commit", "rollback"), f"{place}.end", "it is commit or rollback")
+    listed(value["do"], f"{place}.do")
+    reads = {statement(one, f"{place}.do[{at}]") for at, one in enumerate(value["do"])}
+    need(len(reads) < 2, f"{place}.do", "a transaction reads or writes, and does not do both so far")
+    return 2 + len(value["do"])
+
+
+def session(value, place):
+    members(value, place, ("clock", "script"), ("clock", "script"))
+    members(value["clock"], f"{place}.clock", ("start", "step"), ("start", "step"))
+    for name in ("start", "step"):
+        number(value["clock"][name], f"{place}.clock.{name}")
+    listed(value["script"], f"{place}.script")
+    return sum(item(one, f"{place}.script[{at}]") for at, one in enumerate(value["script"]))
+
+
+def workload(value):
+    names = ("version", "pipelining", "turns", "sessions", "splits", "reruns", "opening")
+    members(value, "workload", names, ("version", "pipelining", "turns", "sessions"))
+    number(value["version"], "version")
+    need(value["version"] == 1, "version", "it is 1")
+    need(value["pipelining"] is False, "pipelining", "it is false so far")
+    listed(value["sessions"], "sessions")
+    need(1 <= len(value["sessions"]) <= 64, "sessions", "there are 1 to 64")
+    counts = [session(one, f"sessions[{at}]") for at, one in enumerate(value["sessions"])]
+    need(sum(counts) <= 100_000, "sessions", "there are more than 100,000 statements")
+    splits = value.get("splits", [])
+    listed(splits, "splits")
+    for at, one in enumerate(splits):
+        key(one, f"splits[{at}]")
+    need(len(splits) <= 15, "splits", "there are at most 15")
+    need(all(one < other for one, other in zip(splits, splits[1:])), "splits", "each is above the one before")
+    number(value.get("reruns", 8), "reruns", 64)
+    number(value.get("opening", 0), "opening", len(value["sessions"][0]["script"]))
+    listed(value["turns"], "turns")
+    need(len(value["turns"]) <= 1_000_000, "turns", "there are at most 1,000,000")
+    for at, one in enumerate(value["turns"]):
+        named = isinstance(one, str) and re.fullmatch(r"[sb]([1-9][0-9]*)", one)
+        need(named and int(named[1]) <= len(value["sessions"]), f"turns[{at}]", f"`{one}` is no sN or bN of a session that is there")
+
+
+def explain(data):
+    try:
+        text = data.decode("utf-8")
+        whole = lambda digits: NoWhole(digits) if digits.startswith("-") else int(digits)
+        value = json.loads(text, parse_float=NoWhole, parse_int=whole, parse_constant=no_number)
+    except (UnicodeDecodeError, json.JSONDecodeError, RecursionError) as fault:
+        return f"W1: no JSON: {fault}"
+    try:
+        workload(value)
+    except Fault as fault:
+        return f"W10: {fault}"
+    return None
+
+
+def main():
+    inputs = [open(name, "rb").read() for name in sys.argv[1:]] or [sys.stdin.buffer.read()]
+    said = [explain(data) for data in inputs]
+    for line in said:
+        print(line or "nothing is wrong with it")
+    return int(any(said))
+
+
+if __name__ == "__main__":
+    sys.exit(main())
