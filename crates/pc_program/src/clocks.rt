@@ -3,7 +3,7 @@ ghost use Rattle.std.specs.Time.{system_time_nanos};
 ghost use Rattle.pc_base.specs.Counts.{saturating_next};
 
 use pc_base::ActorId;
-use pc_session::{Clock, Clocks};
+use pc_clock::{Clock, Clocks};
 use std::rt::Clock as TimeSource;
 use std::time::{SystemTime, UNIX_EPOCH};
 

@@ -11,7 +11,7 @@ use pc_proto::Event;
 use pc_range::Gate;
 use pc_report::{Report, print_report, report};
 use pc_runner::run_turns;
-use pc_session::Clocks;
+use pc_clock::Clocks;
 use pc_work::Workload;
 use std::alloc::Global;
 

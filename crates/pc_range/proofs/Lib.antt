@@ -1,3 +1,4 @@
 pub mod Evaluating
 pub mod Seating
 pub mod Serving
+pub mod Unstaged

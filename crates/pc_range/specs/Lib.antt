@@ -1,4 +1,6 @@
 -- One range behind its lock, and all of them.
 pub mod Cell
 pub mod Message
+pub mod Protocol
 pub mod Seats
+pub mod Unstaged

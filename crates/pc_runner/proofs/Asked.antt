@@ -14,7 +14,7 @@ use Rattle.pc_coord.specs.Knows.{Knows, KnowsAt, messages_of_job}
 use Rattle.pc_history.specs.declared.pair.Pair.{Pair}
 use Rattle.pc_proto.specs.declared.call.Call.{Call}
 use Rattle.pc_proto.specs.declared.event.Event.TheVariants as events
-use Rattle.pc_session.specs.Stepped.{SteppedState, stepped_rule}
+use Rattle.pc_clock.specs.Stepped.{SteppedState, stepped_rule}
 use Rattle.pc_work.specs.declared.session.SessionWork.{SessionWork}
 use Rattle.pc_work.specs.declared.workload.Workload.{Workload}
 use Rattle.pc_world.specs.Known.{Known, learn}

@@ -12,7 +12,7 @@ use Rattle.pc_coord.specs.declared.job.Job.{Job}
 use Rattle.pc_coord.specs.declared.transaction.Transaction.{Transaction}
 use Rattle.pc_coord.specs.Knows.Held.{IsHeld}
 use Rattle.pc_coord.specs.Knows.{AwaitsReply, Knows, KnowsAt, MayFinishJob}
-use Rattle.pc_session.specs.Stepped.{SteppedState}
+use Rattle.pc_clock.specs.Stepped.{SteppedState}
 use Rattle.pc_work.specs.Built.{IsBuilt}
 use Rattle.pc_work.specs.declared.session.SessionWork.{SessionWork}
 use Rattle.pc_work.specs.declared.workload.Workload.{Workload}

@@ -18,7 +18,7 @@ use Rattle.pc_proto.specs.declared.request.Request.TheVariants as requests
 use Rattle.pc_proto.specs.Requests.{is_put, is_put_by}
 use Rattle.pc_resolve.specs.Resolving.{Resolving}
 use Rattle.pc_resolve.specs.ResolveKnows.{WasAnsweredToIt, sends_put_by}
-use Rattle.pc_session.specs.Stepped.{SteppedState}
+use Rattle.pc_clock.specs.Stepped.{SteppedState}
 use Rattle.pc_work.specs.declared.session.SessionWork.{SessionWork}
 use Rattle.pc_work.specs.declared.workload.Workload.{Workload}
 use Rattle.pc_world.proofs.Exchange.{later-itself, later-push}

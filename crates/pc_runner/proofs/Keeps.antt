@@ -9,7 +9,7 @@ use Rattle.pc_history.specs.Own.{named_in}
 use Rattle.pc_lists.proofs.Counts.{one_if}
 use Rattle.pc_proto.specs.declared.event.Event.{Event}
 use Rattle.pc_proto.specs.declared.request.Request.{Request}
-use Rattle.pc_session.specs.Stepped.{SteppedState}
+use Rattle.pc_clock.specs.Stepped.{SteppedState}
 use Rattle.pc_work.specs.declared.session.SessionWork.{SessionWork}
 use Rattle.pc_work.specs.declared.workload.Workload.{Workload}
 use Rattle.pc_world.specs.Follows.FinishingJobs.{jobs_after, jobs_of}

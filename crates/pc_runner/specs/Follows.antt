@@ -1,10 +1,11 @@
 -- When a history follows its workload: its head is the workload's; calls and finishing jobs come in its turns; and in each session's own
 -- list the calls are the script's, the readings the clock's, the messages are those of its calls and go over a quiet wire, what is over is finished, and the list
 -- goes on to the script's end. Own profile.
-use Rattle.std.specs.Prelude.{◌≡◌, ℕ, ◌-◌, ◌≤◌, Bool, Option, Some, List, [], ◌∷◌, ◌++◌, length, slice_get}
+use Rattle.std.specs.Prelude.{◌≡◌, ℕ, ◌-◌, ◌≤◌, Bool, Option, Some, List, [], length, slice_get}
 use Rattle.pc_base.specs.declared.actor.ActorId.{ActorId}
 use Rattle.pc_base.specs.declared.actor.ActorId.TheVariants as actors
 use Rattle.pc_base.specs.declared.entry.Entry.{Entry}
+pub use Rattle.pc_desk.specs.Keeping.{EachAfter}
 use Rattle.pc_history.specs.declared.pair.Pair.{Pair}
 use Rattle.pc_history.specs.Own.{own}
 use Rattle.pc_proto.specs.declared.event.Event.{Event}
@@ -52,12 +53,6 @@ abbrev pub KeepsWork : Workload → SessionWork → (ℕ → ℕ → Bool) → L
 KeepsWork work session rule before p =
     KeepsStep work.pipelining (clock_rule session.clock rule) (asks_in before) (script_position work.reruns session.script before)
     (jobs_of before) (known_of before) p.entry.event (heard_by p.entry.event p.named (known_of before).sent)
-
-module _ (P : List (Pair Event) → Pair Event → Type 0) where
-  -- Each of the later pairs is so, after all that come before it.
-  abbrev pub EachAfter : List (Pair Event) → List (Pair Event) → Type 0
-  EachAfter before [] = Unit {0}
-  EachAfter before (p ∷ ps) = P before p × EachAfter (before ++ p ∷ []) ps
 
 -- A session's own list follows its work: at each step, on the wire, and at its end.
 pub record FollowsAlone (work : Workload) (session : SessionWork) (rule : ℕ → ℕ → Bool) (actor : ActorId) (list : List (Pair Event)) (history : List (Entry Event)) : Type 0 where

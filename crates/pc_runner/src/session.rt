@@ -16,7 +16,7 @@ use crate::script::ScriptRun;
 use pc_base::NoMemory;
 use pc_coord::{Coordinator, Job, Next};
 use pc_proto::{Answer, Call, Request};
-use pc_session::{Clock, Stepped};
+use pc_clock::{Clock, Stepped};
 use pc_work::{SessionWork, Workload};
 use std::alloc::Global;
 use std::collections::VecDeque;

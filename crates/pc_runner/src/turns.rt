@@ -14,7 +14,7 @@ use crate::session::SessionRun;
 use pc_base::{Entry, NoMemory};
 use pc_proto::Event;
 use pc_range::Gate;
-use pc_session::Clocks;
+use pc_clock::Clocks;
 use pc_work::{Turn, Workload};
 use std::alloc::Global;
 

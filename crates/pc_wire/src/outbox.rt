@@ -1,10 +1,10 @@
-ghost use Rattle.std.specs.Prelude.{◌≡◌, ◌+◌, [], find, length, None, OnErr, OnOk};
+ghost use Rattle.std.specs.Prelude.{◌≡◌, ◌+◌, [], find, length, None, IfNone, IfSome, OnErr, OnOk};
 ghost use Rattle.std.specs.BTreeMap.{insert_entry, is_at};
 ghost use Rattle.std.specs.List.Sorted.{IsStrictlySortedBy};
 ghost use Rattle.std.specs.Map.{keys_of, lookup, remove_entry};
 ghost use Rattle.std.specs.Option.{option_map};
 ghost use Rattle.std.specs.Ordering.{nat_cmp};
-ghost use Rattle.pc_wire.specs.Outbox.{after_due, is_due_by};
+ghost use Rattle.pc_wire.specs.Outbox.{IsFirstWaiting, after_due, is_due_by};
 
 use crate::verdict::Verdict;
 use pc_base::NoMemory;
@@ -76,6 +76,23 @@ impl<M: Drop> Outbox<M> {
     {
         let waiting = self.waiting.remove(&number)?;
         Some((waiting.verdict, waiting.message))
+    }
+
+    /// Takes the message of the least number from those not yet delivered.
+    pub fn take_first(&mut self) -> Option<(Verdict, M)>
+        ensures taken { IfSome result (λ r. IsFirstWaiting r.0 r.1 self.old.waiting self.new.waiting) }
+        ensures bag { self.new.bag ≡ self.old.bag }
+        ensures none { IfNone result (self.old.waiting ≡ []) }
+    {
+        let (_, waiting) = self.waiting.pop_first()?;
+        Some((waiting.verdict, waiting.message))
+    }
+
+    /// How many messages are not yet delivered.
+    pub fn waiting(&self) -> usize
+        ensures { result ≡ length self.now.waiting }
+    {
+        self.waiting.len()
     }
 
     /// Puts a message into the bag, due once its sender has sent so many. A number has one stray: a second one takes its place.

@@ -1,7 +1,7 @@
 ghost use Rattle.std.specs.Prelude.{◌≡◌, ◌+◌, ◌*◌, ◌-◌, ◌^◌, min};
 ghost use Rattle.std.specs.Prelude.{IsTrue};
 ghost use Rattle.pc_base.specs.Counts.{saturating_next};
-ghost use Rattle.pc_session.specs.Stepped.{stepped_reading, stepped_rule};
+ghost use Rattle.pc_clock.specs.Stepped.{stepped_reading, stepped_rule};
 
 use crate::clock::{Clock, Clocks};
 use pc_base::ActorId;
@@ -16,7 +16,7 @@ pub struct Stepped {
 }
 
 impl Model for Stepped {
-    ghost use Rattle.pc_session.specs.Stepped.{SteppedState};
+    ghost use Rattle.pc_clock.specs.Stepped.{SteppedState};
 
     ghost Value = { SteppedState };
 

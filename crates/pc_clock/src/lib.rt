@@ -1,4 +1,4 @@
-//! Sessions. So far the clocks alone, which they read once for each call.
+//! The clocks of sessions and recoverers.
 #![tactic(auto)]
 
 mod clock;

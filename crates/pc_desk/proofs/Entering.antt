@@ -1,0 +1,171 @@
+-- What one more entry of its own makes of an actor's list.
+use Rattle.std.proofs.Common.{◌≡◌, ℕ, ◌+◌, ◌<◌, ◌≤◌, ◌^◌, Bool, false, ◌==◌, All, List, [], ◌∷◌, ◌++◌, length, Option, None, Some, IfSome, refl, sym, ap, subst, ◌∙◌, arith, length-append}
+use Rattle.std.proofs.lemmas.Bool.Decides.{nat_tests}
+use Rattle.std.proofs.lemmas.List.{append-nil, append_assoc}
+use Rattle.std.proofs.lemmas.List.Elements.{All-nil, All-push}
+use Rattle.pc_base.specs.declared.actor.ActorId.{ActorId}
+use Rattle.pc_base.specs.declared.actor.ActorId.TheVariants as actors
+use Rattle.pc_base.specs.declared.entry.Entry.{Entry}
+use Rattle.pc_desk.specs.Asks.{ReadsClock, asks_in, is_ask}
+use Rattle.pc_desk.specs.Keeping.{EachAfter, KeepsAs, KeepsEach, KeepsNext, ReadsEach}
+use Rattle.pc_desk.specs.OwnLog.{IsClient, IsOwnLog, LogMeaning, is_last}
+use Rattle.pc_history.specs.declared.pair.Pair.{Pair}
+use Rattle.pc_history.specs.declared.view.Part.{Part}
+use Rattle.pc_history.specs.declared.view.Known.{Known as KnownEntry}
+use Rattle.pc_history.specs.Closed.{IsSound, StandsInHistory}
+use Rattle.pc_history.specs.Own.{pair}
+use Rattle.pc_history.specs.Parts.{acted, entry_of, knowledge, named_by, newcomer, told}
+use Rattle.pc_lists.proofs.Counts.{count-push, one_if}
+use Rattle.pc_lists.proofs.Lists.{contains_nil}
+use Rattle.pc_proto.specs.declared.call.Call.{Call}
+use Rattle.pc_proto.specs.declared.event.Event.{Event}
+use Rattle.pc_proto.specs.declared.event.Event.TheVariants as events
+use Rattle.pc_proto.specs.declared.request.Request.{Request}
+use Rattle.pc_range.specs.Protocol.{unstaged_protocol}
+use Rattle.pc_world.specs.Known.{Known, known_of}
+use Rattle.pc_world.specs.Local.{Head, IsActorOf, IsLocal, MayDo}
+
+-- one more pair that is so, after those before it
+pub each_after_push : (P : List (Pair Event) → Pair Event → Type 0) (before xs : List (Pair Event)) (p : Pair Event) → EachAfter P before xs → P (before ++ xs) p → EachAfter P before (xs ++ p ∷ [])
+each_after_push P before [] p h q = (subst (λ l. P l p) (append-nil before) q, tt)
+each_after_push P before (x ∷ xs) p h q =
+    (h.0, each_after_push P (before ++ x ∷ []) xs p h.1 (subst (λ l. P l p) (sym (append_assoc before (x ∷ []) xs)) q))
+
+pub asks_push : (own : List (Pair Event)) (p : Pair Event) → asks_in (own ++ p ∷ []) ≡ asks_in own + one_if (is_ask p.entry.event)
+asks_push own p = count-push (λ (p : Pair Event). is_ask p.entry.event) own p
+
+-- what an actor that is no range may do may come next in its list
+pub local_does : (head : Head) (id : ActorId) (own : List (Pair Event)) (event : Event) (named : Option (Entry Event)) → IsClient id → IsActorOf head id → MayDo head id (known_of own) event → IsLocal head id own event named
+local_does head (actors.Session number) own event named client there may = record { there = there; next = may }
+local_does head (actors.Recoverer number) own event named client there may = record { there = there; next = may }
+local_does head (actors.Range range) own event named client there may = absurd client
+
+-- a call that is asked keeps what is asked of it
+pub ask_keeps : (id : ActorId) (pipelining : Bool) (jobs : List (List Request)) (k : Known) (call : Call) (reading : ℕ) → KeepsAs id pipelining jobs k (events.Ask call reading) None
+ask_keeps (actors.Session number) pipelining jobs k call reading =
+    record { wire = tt; early_tell = tt; early_proof = λ asked staged. tt; written = tt; puts = tt; resends = tt; calls = tt; finishes = tt; aborts = tt }
+ask_keeps (actors.Recoverer number) pipelining jobs k call reading = tt
+ask_keeps (actors.Range range) pipelining jobs k call reading = tt
+
+-- what asks no call reads no clock
+pub no_ask_reads : (rule : ℕ → ℕ → Bool) (asks : ℕ) (event : Event) → is_ask event ≡ false → ReadsClock rule asks event
+no_ask_reads rule asks (events.Ask call reading) none = absurd cc
+no_ask_reads rule asks (events.Send number range request) none = tt
+no_ask_reads rule asks (events.Eval actor number reply) none = tt
+no_ask_reads rule asks (events.Hear number step) none = tt
+no_ask_reads rule asks (events.Tell answer) none = tt
+no_ask_reads rule asks (events.Meet id step) none = tt
+
+-- a list with no entry yet
+pub log_begun : {C : Type 0} (l : LogMeaning C) → IsActorOf l.head l.part.id → IsClient l.part.id → l.part ≡ newcomer l.part.id → l.limit < 2 ^ 32 → IfSome l.stop (λ n. 1 ≤ n) → IsOwnLog l
+log_begun l there client fresh short one =
+    let none : l.part.own ≡ [] = ap (λ (p : Part Event). p.own) fresh in
+    let told : l.part.known ≡ [] = ap (λ (p : Part Event). p.known) fresh in
+    let n : length l.part.own ≡ 0 = ap length none in
+    record {
+      there = there;
+      client = client;
+      whose = subst (λ own. All (λ (p : Pair Event). p.entry.actor ≡ l.part.id) own) (sym none) (All-nil _);
+      short = short;
+      within = omega arith;
+      keeps = subst (KeepsEach l.part.id l.pipelining) (sym none) tt;
+      before_stop = λ going. subst (λ m. IfSome l.stop (λ n. m < n)) (sym n) (stop-above l.stop one);
+      at_stop = subst (λ m. IfSome l.stop (λ n. m ≤ n)) (sym n) (stop-at l.stop one);
+      sound = subst (λ (p : Part Event). IsSound (unstaged_protocol l.head) (knowledge p)) (sym fresh)
+          (record { kept = All-nil _; differ = λ a b is_a is_b same. absurd (contains_nil a is_a); one = λ event a b is_a is_b na nb. absurd (contains_nil a is_a) });
+      stands = subst (StandsInHistory (unstaged_protocol l.head)) (sym fresh) (record { history = []; short = omega arith; fine = tt; list = refl; stand = All-nil _ });
+    }
+  where
+    stop-above : (stop : Option ℕ) → IfSome stop (λ n. 1 ≤ n) → IfSome stop (λ n. 0 < n)
+    stop-above None h = tt
+    stop-above (Some n) h = omega arith
+
+    stop-at : (stop : Option ℕ) → IfSome stop (λ n. 1 ≤ n) → IfSome stop (λ n. 0 ≤ n)
+    stop-at None h = tt
+    stop-at (Some n) h = omega arith
+
+last-at : (stop : Option ℕ) (long : ℕ) → IfSome stop (λ n. long < n) → IfSome stop (λ n. long + 1 ≤ n)
+last-at None long h = tt
+last-at (Some n) long h = omega arith
+
+not-last : (stop : Option ℕ) (long : ℕ) → IfSome stop (λ n. long < n) → is_last stop long ≡ false → IfSome stop (λ n. long + 1 < n)
+not-last None long h none = tt
+not-last (Some n) long h none =
+    let differ : (n == long + 1) ≡ false = none in
+    grind (arith, nat_tests)
+
+-- the list with one more entry, which may be its last
+abbrev pub grown : {C : Type 0} → ℕ → Event → Bool → ℕ → C → LogMeaning C → LogMeaning C
+grown step event last spare clock l = record l { part = acted (unstaged_protocol l.head) step event l.part; spare = spare; clock = clock; stopped = last }
+
+-- one more entry of the actor
+pub log_grown : {C : Type 0} (l : LogMeaning C) (step spare : ℕ) (clock : C) (event : Event) (last : Bool) → IsOwnLog l → l.stopped ≡ false → length l.part.own < l.limit → last ≡ is_last l.stop (length l.part.own)
+    → KeepsNext l.part.id l.pipelining l.part.own event (named_by (unstaged_protocol l.head) l.part event)
+    → IsSound (unstaged_protocol l.head) (knowledge (acted (unstaged_protocol l.head) step event l.part))
+    → StandsInHistory (unstaged_protocol l.head) (acted (unstaged_protocol l.head) step event l.part)
+    → IsOwnLog (grown step event last spare clock l)
+log_grown l step spare clock event last log going below is keeps sound stands =
+    let p : Pair Event = pair (entry_of step l.part.id event) (named_by (unstaged_protocol l.head) l.part event) in
+    let long : length (l.part.own ++ p ∷ []) ≡ length l.part.own + 1 = length-append l.part.own (p ∷ []) in
+    record {
+      there = log.there;
+      client = log.client;
+      whose = All-push (λ (q : Pair Event). q.entry.actor ≡ l.part.id) l.part.own p log.whose refl;
+      short = log.short;
+      within = omega arith;
+      keeps = each_after_push (λ before q. KeepsNext l.part.id l.pipelining before q.entry.event q.named) [] l.part.own p log.keeps keeps;
+      before_stop = λ goes_on. subst (λ n. IfSome l.stop (λ s. n < s)) (sym long) (not-last l.stop (length l.part.own) (log.before_stop going) (sym is ∙ goes_on));
+      at_stop = subst (λ n. IfSome l.stop (λ s. n ≤ s)) (sym long) (last-at l.stop (length l.part.own) (log.before_stop going));
+      sound = sound;
+      stands = stands;
+    }
+
+-- the list with these in place of its own
+abbrev made : {C : Type 0} → LogMeaning C → Head → ActorId → List (Pair Event) → List (KnownEntry Event) → Bool → ℕ → Option ℕ → LogMeaning C
+made m h i o k p n s = record m { head = h; part = record m.part { id = i; own = o; known = k }; pipelining = p; limit = n; stop = s }
+
+-- what neither makes an entry nor takes a note leaves the list as it was; it may stop it
+pub log_kept : {C : Type 0} (l m : LogMeaning C) → m.head ≡ l.head → m.part.id ≡ l.part.id → m.part.own ≡ l.part.own → m.part.known ≡ l.part.known → m.pipelining ≡ l.pipelining → m.limit ≡ l.limit → m.stop ≡ l.stop
+    → (m.stopped ≡ false → l.stopped ≡ false) → IsOwnLog l → IsOwnLog m
+log_kept l m eh ei eo ek ep en es going log =
+    subst (λ x. IsOwnLog (made m x m.part.id m.part.own m.part.known m.pipelining m.limit m.stop)) (sym eh)
+    (subst (λ x. IsOwnLog (made m l.head x m.part.own m.part.known m.pipelining m.limit m.stop)) (sym ei)
+    (subst (λ x. IsOwnLog (made m l.head l.part.id x m.part.known m.pipelining m.limit m.stop)) (sym eo)
+    (subst (λ x. IsOwnLog (made m l.head l.part.id l.part.own x m.pipelining m.limit m.stop)) (sym ek)
+    (subst (λ x. IsOwnLog (made m l.head l.part.id l.part.own l.part.known x m.limit m.stop)) (sym ep)
+    (subst (λ x. IsOwnLog (made m l.head l.part.id l.part.own l.part.known l.pipelining x m.stop)) (sym en)
+    (subst (λ x. IsOwnLog (made m l.head l.part.id l.part.own l.part.known l.pipelining l.limit x)) (sym es) start))))))
+  where
+    start : IsOwnLog (made m l.head l.part.id l.part.own l.part.known l.pipelining l.limit l.stop)
+    start = record {
+      there = log.there;
+      client = log.client;
+      whose = log.whose;
+      short = log.short;
+      within = log.within;
+      keeps = log.keeps;
+      before_stop = λ goes_on. log.before_stop (going goes_on);
+      at_stop = log.at_stop;
+      sound = log.sound;
+      stands = record { history = log.stands.history; short = log.stands.short; fine = log.stands.fine; list = log.stands.list; stand = log.stands.stand };
+    }
+
+-- a note that is taken
+pub log_told : {C : Type 0} (l : LogMeaning C) (note : List (KnownEntry Event)) → IsOwnLog l → IsSound (unstaged_protocol l.head) (knowledge (told note l.part)) → StandsInHistory (unstaged_protocol l.head) (told note l.part)
+    → IsOwnLog (record l { part = told note l.part })
+log_told l note log sound stands = record {
+  there = log.there;
+  client = log.client;
+  whose = log.whose;
+  short = log.short;
+  within = log.within;
+  keeps = log.keeps;
+  before_stop = log.before_stop;
+  at_stop = log.at_stop;
+  sound = sound;
+  stands = stands;
+}
+
+-- one more entry, which read the clock if it asked a call
+pub reads_grown : (rule : ℕ → ℕ → Bool) (own : List (Pair Event)) (p : Pair Event) → ReadsEach rule own → ReadsClock rule (asks_in own) p.entry.event → ReadsEach rule (own ++ p ∷ [])
+reads_grown rule own p each one = each_after_push (λ before q. ReadsClock rule (asks_in before) q.entry.event) [] own p each one

@@ -1,0 +1,9 @@
+pub mod Counting
+pub mod Entering
+pub mod Making
+pub mod Tracking
+pub mod Logging
+pub mod Halting
+pub mod Going
+pub mod Desking
+pub mod Leaving

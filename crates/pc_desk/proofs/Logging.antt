@@ -1,0 +1,96 @@
+-- What an actor's list is once an event was made, from what its parts say.
+use Rattle.std.proofs.Common.{◌≡◌, ℕ, ◌+◌, ◌-◌, ◌<◌, ◌≤◌, ◌^◌, Bool, true, false, min, All, [], ◌∷◌, ◌++◌, length, Option, sym, ap, subst, ◌∙◌, arith}
+use Rattle.std.proofs.lemmas.List.Sums.{count_by-le-length}
+use Rattle.pc_base.specs.Counts.{saturating_next}
+use Rattle.pc_desk.proofs.Entering.{asks_push, grown, log_grown, reads_grown}
+use Rattle.pc_desk.specs.Asks.{ReadsClock, asks_in, is_ask}
+use Rattle.pc_desk.specs.Keeping.{KeepsNext, ReadsEach}
+use Rattle.pc_desk.specs.OwnLog.{HasEntered, IsOwnLog, IsReady, LogMeaning, is_last, with_event}
+use Rattle.pc_history.specs.declared.pair.Pair.{Pair}
+use Rattle.pc_history.specs.declared.view.Part.{Part}
+use Rattle.pc_history.specs.Closed.{IsSound, StandsInHistory}
+use Rattle.pc_history.specs.Meanings.{ActorMeaning}
+use Rattle.pc_history.specs.Own.{pair}
+use Rattle.pc_history.specs.Parts.{acted, entry_of, knowledge, named_by}
+use Rattle.pc_lists.proofs.Counts.{one_if}
+use Rattle.pc_proto.specs.declared.event.Event.{Event}
+use Rattle.pc_range.specs.Protocol.{unstaged_protocol}
+use Rattle.pc_world.specs.Local.{Head}
+
+-- the actor once it made the event
+abbrev pub doing : ℕ → Event → ActorMeaning Head Event → ActorMeaning Head Event
+doing step event actor = record actor { part = acted (unstaged_protocol actor.world) step event actor.part; spare = actor.spare - 1 }
+
+module _ {C : Type 0} (old ready : LogMeaning C) (actor after : ActorMeaning Head Event) (was now : C) (pipelining : Bool) (limit : ℕ) (stop : Option ℕ) (stopped last : Bool) (step : ℕ) (event : Event) where
+  -- The list before.
+  abbrev pub before_it : LogMeaning C
+  before_it = record { head = actor.world; part = actor.part; spare = actor.spare; clock = was; pipelining = pipelining; limit = limit; stop = stop; stopped = stopped }
+
+  -- The list after.
+  abbrev pub after_it : ActorMeaning Head Event → LogMeaning C
+  after_it a = record { head = a.world; part = a.part; spare = a.spare; clock = now; pipelining = pipelining; limit = limit; stop = stop; stopped = last }
+
+  as-it-was : before_it ≡ ready → IsReady old ready last → record old { spare = ready.spare } ≡ before_it
+  as-it-was view is = sym (view ∙ is.same)
+
+  log-at : (v : LogMeaning C) (spare : ℕ) → record old { spare = spare } ≡ v → old.stopped ≡ false → length old.part.own < old.limit → last ≡ is_last old.stop (length old.part.own)
+      → KeepsNext old.part.id old.pipelining old.part.own event (named_by (unstaged_protocol old.head) old.part event)
+      → IsOwnLog v → (left : ℕ)
+      → IsSound (unstaged_protocol v.head) (knowledge (acted (unstaged_protocol v.head) step event v.part))
+      → StandsInHistory (unstaged_protocol v.head) (acted (unstaged_protocol v.head) step event v.part)
+      → IsOwnLog (grown step event last left now v)
+  log-at v spare same going below is keeps log left sound stands =
+      subst (λ (x : LogMeaning C). IsOwnLog x → IsSound (unstaged_protocol x.head) (knowledge (acted (unstaged_protocol x.head) step event x.part))
+      → StandsInHistory (unstaged_protocol x.head) (acted (unstaged_protocol x.head) step event x.part) → IsOwnLog (grown step event last left now x)) same
+      (λ l s t. log_grown (record old { spare = spare }) step left now event last l going below is keeps s t) log sound stands
+
+  pub made_log : before_it ≡ ready → IsReady old ready last → IsOwnLog before_it
+      → KeepsNext old.part.id old.pipelining old.part.own event (named_by (unstaged_protocol old.head) old.part event)
+      → after ≡ doing step event actor → IsSound (unstaged_protocol actor.world) (knowledge after.part) → StandsInHistory (unstaged_protocol actor.world) after.part
+      → IsOwnLog (after_it after)
+  made_log view is log keeps did sound stands =
+      subst (λ (a : ActorMeaning Head Event). IsOwnLog (after_it a)) (sym did)
+      (log-at before_it ready.spare (as-it-was view is) is.was is.below is.is keeps log (actor.spare - 1)
+      (subst (λ (a : ActorMeaning Head Event). IsSound (unstaged_protocol actor.world) (knowledge a.part)) did sound)
+      (subst (λ (a : ActorMeaning Head Event). StandsInHistory (unstaged_protocol actor.world) a.part) did stands))
+
+  stored-at : (v : LogMeaning C) (spare left : ℕ) → record old { spare = spare } ≡ v → old.stopped ≡ last
+      → ◌≡◌ {A = LogMeaning C} (grown step event last left now v) (record (with_event step event old) { spare = left; clock = now })
+  stored-at v spare left same going =
+      subst (λ (x : LogMeaning C). ◌≡◌ {A = LogMeaning C} (grown step event last left now x) (record (with_event step event old) { spare = left; clock = now })) same
+      (ap (λ b. record (with_event step event old) { spare = left; clock = now; stopped = b }) (sym going))
+
+  pub made_entry : before_it ≡ ready → IsReady old ready last → last ≡ false → after ≡ doing step event actor → All (λ e. e.step < step) (knowledge actor.part) → step < 2 ^ 48 → IsOwnLog (after_it after)
+      → HasEntered old (after_it after) event
+  made_entry view is none did above small log = record {
+    step = step;
+    stored = subst (λ (a : ActorMeaning Head Event). ◌≡◌ {A = LogMeaning C} (after_it a) (record (with_event step event old) { spare = a.spare; clock = now })) (sym did)
+        (stored-at before_it ready.spare (actor.spare - 1) (as-it-was view is) (is.was ∙ sym none));
+    above = subst (λ (p : Part Event). All (λ e. e.step < step) (knowledge p)) (sym (ap (λ (l : LogMeaning C). l.part) (as-it-was view is))) above;
+    small = small;
+    log = log;
+  }
+
+  own-grown : after ≡ doing step event actor → after.part.own ≡ actor.part.own ++ pair (entry_of step actor.part.id event) (named_by (unstaged_protocol actor.world) actor.part event) ∷ []
+  own-grown did = ap (λ (a : ActorMeaning Head Event). a.part.own) did
+
+  pub made_reads : (rule then : ℕ → ℕ → Bool) → then ≡ rule → after ≡ doing step event actor → ReadsEach rule actor.part.own → ReadsClock rule (asks_in actor.part.own) event → ReadsEach then after.part.own
+  made_reads rule then kept did reads one =
+      subst (λ r. ReadsEach r after.part.own) (sym kept)
+      (subst (ReadsEach rule) (sym (own-grown did)) (reads_grown rule actor.part.own (pair (entry_of step actor.part.id event) (named_by (unstaged_protocol actor.world) actor.part event)) reads one))
+
+  pub asks_made : after ≡ doing step event actor → asks_in after.part.own ≡ asks_in actor.part.own + one_if (is_ask event)
+  asks_made did = ap asks_in (own-grown did) ∙ asks_push actor.part.own (pair (entry_of step actor.part.id event) (named_by (unstaged_protocol actor.world) actor.part event))
+
+  -- a list that is not full counts its asks within the clock's count
+  pub counted_on : (reads more : ℕ) → IsOwnLog before_it → reads ≡ asks_in actor.part.own → more ≡ saturating_next reads → is_ask event ≡ true → after ≡ doing step event actor → more ≡ asks_in after.part.own
+  counted_on reads more log are next ask did =
+      let few : asks_in actor.part.own ≤ length actor.part.own = count_by-le-length (λ (p : Pair Event). is_ask p.entry.event) actor.part.own in
+      let within : length actor.part.own ≤ limit = log.within in
+      let short : limit < 2 ^ 32 = log.short in
+      let n : asks_in after.part.own ≡ asks_in actor.part.own + one_if (is_ask event) = asks_made did in
+      let one : one_if (is_ask event) ≡ 1 = ap one_if ask in
+      next ∙ (let m : min (reads + 1) (2 ^ 64 - 1) ≡ reads + 1 = omega arith in omega arith)
+
+  pub no_more_asks : (reads : ℕ) → reads ≡ asks_in actor.part.own → is_ask event ≡ false → after ≡ doing step event actor → reads ≡ asks_in after.part.own
+  no_more_asks reads are none did = let n = asks_made did in let o = ap one_if none in omega arith

@@ -1,0 +1,275 @@
+-- Each message stands at one stage still, once one more was sent, evaluated or heard.
+use Rattle.std.proofs.Common.{◌≡◌, ℕ, ◌+◌, ◌≤◌, nat_lt, Bool, true, false, ◌&&◌, ◌||◌, ◌==◌, not, All, Contains, List, [], ◌∷◌, ◌++◌, length, count_by, ◌⊎◌, inl, inr, Some, refl, sym, ap, subst, ◌∙◌, arith, length-append}
+use Rattle.std.proofs.lemmas.Bool.{eqb-true}
+use Rattle.std.proofs.lemmas.Bool.Decides.{nat_tests}
+use Rattle.std.proofs.lemmas.List.Elements.{All-contains, All-head, All-push, All-tail, All-weaker, Contains-append_left}
+use Rattle.std.specs.List.{list_any}
+use Rattle.pc_base.specs.declared.actor.ActorId.{ActorId}
+use Rattle.pc_desk.proofs.Counting.{any_counts, none_beyond, said_more, said_new}
+use Rattle.pc_desk.proofs.Making.{heard_more, heard_then, known_still, message_of, reply_of, sent_still, sent_then}
+use Rattle.pc_desk.specs.declared.answered.Answered.{Answered}
+use Rattle.pc_desk.specs.Desk.{DeskMeaning, IsAnsweredBy, KeepsTrack, Posted, answered_as, heard_as_number, is_on_way, posted_as, posting, times_sent}
+use Rattle.pc_desk.specs.OwnLog.{HasEntered, IsOwnLog, LogMeaning}
+use Rattle.pc_history.specs.declared.view.Known.{Known as KnownEntry}
+use Rattle.pc_lists.proofs.Counts.{count-cons, count-push, one_if}
+use Rattle.pc_lists.proofs.Lists.{all_from_contains}
+use Rattle.pc_proto.specs.declared.event.Event.{Event}
+use Rattle.pc_proto.specs.declared.event.Event.TheVariants as events
+use Rattle.pc_proto.specs.declared.request.Request.{Request}
+use Rattle.pc_range.specs.Message.{evaluation}
+use Rattle.pc_world.specs.Known.{Known, known_of}
+use Rattle.pc_world.specs.Known.Traffic.{Heard, Sent, request_sent}
+
+-- What the message of this number said, of these.
+abbrev Says : List Sent → Posted → Type 0
+Says sent m = request_sent m.number sent ≡ Some m.request
+
+-- the reply is that of an evaluation which the actor knows still
+pub answered_on : {C : Type 0} (l m : LogMeaning C) (a : Answered) → m.part.id ≡ l.part.id
+    → ((request : Request) → request_sent a.number (known_of l.part.own).sent ≡ Some request → request_sent a.number (known_of m.part.own).sent ≡ Some request)
+    → ((x : KnownEntry Event) → Contains l.part.known x → Contains m.part.known x) → IsAnsweredBy l a → IsAnsweredBy m a
+answered_on l m a id says has by = record {
+  range = by.range;
+  place = by.place;
+  request = by.request;
+  said = says by.request by.said;
+  knows = subst (λ (i : ActorId). Contains m.part.known (record { entry = evaluation a.step by.range i a.number a.reply; place = by.place; uses = 0 })) (sym id) (has _ by.knows);
+}
+
+-- ---- one more message is sent
+
+module _ {C : Type 0} (old new : DeskMeaning C) (sent : LogMeaning C) (number range uses : ℕ) (request : Request) (track : KeepsTrack old) (next : number ≡ old.sends + 1)
+    (entered : HasEntered old.log sent (events.Send number range request)) (id : new.log.part.id ≡ sent.part.id) (own : new.log.part.own ≡ sent.part.own) (known : new.log.part.known ≡ sent.part.known)
+    (posted : (n : ℕ) → posted_as n new.posted ≡ posted_as n old.posted + one_if (number == n)) (replies : new.replies ≡ old.replies) where
+  -- The message that is sent.
+  abbrev m : Sent
+  m = message_of old.log sent number range request entered
+
+  sent_is : (known_of new.log.part.own).sent ≡ (known_of old.log.part.own).sent ++ m ∷ []
+  sent_is = ap (λ o. (known_of o).sent) own ∙ sent_then old.log sent number range request entered
+
+  heard_is : (known_of new.log.part.own).heard ≡ (known_of old.log.part.own).heard
+  heard_is = ap (λ o. (known_of o).heard) own ∙ heard_then old.log sent number range request entered
+
+  longer : length (known_of new.log.part.own).sent ≡ length (known_of old.log.part.own).sent + 1
+  longer = ap length sent_is ∙ length-append (known_of old.log.part.own).sent (m ∷ [])
+
+  sent_count : (n : ℕ) → times_sent n (known_of new.log.part.own) ≡ times_sent n (known_of old.log.part.own) + one_if (number == n)
+  sent_count n = ap (count_by (λ (x : Sent). x.number == n)) sent_is ∙ count-push (λ (x : Sent). x.number == n) (known_of old.log.part.own).sent m
+
+  heard_count : (n : ℕ) → heard_as_number n (known_of new.log.part.own) ≡ heard_as_number n (known_of old.log.part.own)
+  heard_count n = ap (count_by (λ (x : Heard). x.number == n)) heard_is
+
+  fresh : count_by (λ (x : Sent). x.number == number) (known_of old.log.part.own).sent ≡ 0
+  fresh = none_beyond (λ (x : Sent). x.number) (length (known_of old.log.part.own).sent) number (known_of old.log.part.own).sent track.numbers (let c = track.counted in omega arith)
+
+  once-now : (n : ℕ) → times_sent n (known_of new.log.part.own) ≤ 1
+  once-now n = by (number == n) refl
+    where
+      by : (b : Bool) → (number == n) ≡ b → times_sent n (known_of new.log.part.own) ≤ 1
+      by true is =
+          let none : times_sent n (known_of old.log.part.own) ≡ 0 = subst (λ x. count_by (λ (y : Sent). y.number == x) (known_of old.log.part.own).sent ≡ 0) (eqb-true number n is) fresh in
+          omega (arith, sent_count n, ap one_if is)
+      by false is = omega (arith, sent_count n, ap one_if is, track.once n)
+
+  says-on : (n : ℕ) (r : Request) → request_sent n (known_of old.log.part.own).sent ≡ Some r → request_sent n (known_of new.log.part.own).sent ≡ Some r
+  says-on n r said = ap (request_sent n) sent_is ∙ said_more n (known_of old.log.part.own).sent (m ∷ []) r said
+
+  says-now : request_sent number (known_of new.log.part.own).sent ≡ Some request
+  says-now = ap (request_sent number) sent_is ∙ said_new (known_of old.log.part.own).sent m fresh
+
+  pub track_sent : IsOwnLog new.log → new.sends ≡ number
+      → ((x : Posted) → Contains new.posted x → Contains old.posted x ⊎ (posting number range request uses ≡ x))
+      → KeepsTrack new
+  track_sent log counted all = record {
+    log = log;
+    counted = counted ∙ (next ∙ (ap (λ n. n + 1) track.counted ∙ sym longer));
+    numbers = subst (λ (xs : List Sent). All (λ x. x.number ≤ length xs) xs) (sym sent_is)
+        (All-push (λ x. x.number ≤ length ((known_of old.log.part.own).sent ++ m ∷ [])) (known_of old.log.part.own).sent m
+        (All-weaker (λ x. x.number ≤ length (known_of old.log.part.own).sent) (λ x. x.number ≤ length ((known_of old.log.part.own).sent ++ m ∷ [])) (λ x h. omega (arith, length-append (known_of old.log.part.own).sent (m ∷ []))) (known_of old.log.part.own).sent track.numbers)
+        (let c = track.counted in omega (arith, length-append (known_of old.log.part.own).sent (m ∷ []))));
+    once = once-now;
+    stages = λ n.
+        let r : answered_as n new.replies ≡ answered_as n old.replies = ap (answered_as n) replies in
+        omega (arith, posted n, heard_count n, sent_count n, track.stages n);
+    posted = all_from_contains (Says (known_of new.log.part.own).sent) new.posted (λ x there. elim (all x there) [
+      | inl before ↦ says-on x.number x.request (All-contains (Says (known_of old.log.part.own).sent) old.posted x track.posted before)
+      | inr now ↦ subst (Says (known_of new.log.part.own).sent) now says-now
+    ]);
+    answered = subst (All (IsAnsweredBy new.log)) (sym replies)
+        (All-weaker (IsAnsweredBy old.log) (IsAnsweredBy new.log)
+        (λ a. answered_on old.log new.log a (id ∙ ap (λ (l : LogMeaning C). l.part.id) entered.stored) (says-on a.number)
+        (λ x there. subst (λ ks. Contains ks x) (sym (known ∙ ap (λ (l : LogMeaning C). l.part.known) entered.stored)) there)) old.replies track.answered);
+  }
+
+  pub way_sent : (other : ℕ) → is_on_way other new ≡ (number == other || is_on_way other old)
+  way_sent other = by (number == other) refl
+    where
+      p : list_any (λ (x : Posted). x.number == other) new.posted ≡ nat_lt 0 (posted_as other old.posted + one_if (number == other))
+      p = any_counts (λ (x : Posted). x.number == other) new.posted ∙ ap (nat_lt 0) (posted other)
+
+      q : list_any (λ (x : Posted). x.number == other) old.posted ≡ nat_lt 0 (posted_as other old.posted)
+      q = any_counts (λ (x : Posted). x.number == other) old.posted
+
+      r : list_any (λ (a : Answered). a.number == other) new.replies ≡ list_any (λ (a : Answered). a.number == other) old.replies
+      r = ap (list_any (λ (a : Answered). a.number == other)) replies
+
+      by : (b : Bool) → (number == other) ≡ b → is_on_way other new ≡ (number == other || is_on_way other old)
+      by true is =
+          let one : nat_lt 0 (posted_as other old.posted + one_if (number == other)) ≡ true = (let o = ap one_if is in grind (arith, nat_tests)) in
+          ap (λ x. x || list_any (λ (a : Answered). a.number == other) new.replies) (p ∙ one) ∙ sym (ap (λ b. b || is_on_way other old) is)
+      by false is =
+          let same : nat_lt 0 (posted_as other old.posted + one_if (number == other)) ≡ nat_lt 0 (posted_as other old.posted) = ap (nat_lt 0) (let o = ap one_if is in omega arith) in
+          ap (λ x. x || list_any (λ (a : Answered). a.number == other) new.replies) (p ∙ (same ∙ sym q))
+          ∙ (ap (λ x. list_any (λ (y : Posted). y.number == other) old.posted || x) r ∙ sym (ap (λ b. b || is_on_way other old) is))
+
+-- ---- a message is evaluated
+
+module _ {C : Type 0} (old new : DeskMeaning C) (m : Posted) (a : Answered) (track : KeepsTrack old) (first : old.posted ≡ m ∷ new.posted) (pushed : new.replies ≡ old.replies ++ a ∷ []) (to : a.number ≡ m.number) (own : new.log.part.own ≡ old.log.part.own) where
+  posted-count : (n : ℕ) → posted_as n old.posted ≡ one_if (m.number == n) + posted_as n new.posted
+  posted-count n = ap (posted_as n) first ∙ count-cons (λ (x : Posted). x.number == n) m new.posted
+
+  replies-count : (n : ℕ) → answered_as n new.replies ≡ answered_as n old.replies + one_if (m.number == n)
+  replies-count n = ap (answered_as n) pushed ∙ (count-push (λ (x : Answered). x.number == n) old.replies a ∙ ap (λ i. answered_as n old.replies + one_if (i == n)) to)
+
+  same-known : known_of new.log.part.own ≡ known_of old.log.part.own
+  same-known = ap known_of own
+
+  first-said : Says (known_of old.log.part.own).sent m
+  first-said = All-head (Says (known_of old.log.part.own).sent) m new.posted (subst (All (Says (known_of old.log.part.own).sent)) first track.posted)
+
+  pub track_delivered : (range place : ℕ) → IsOwnLog new.log → new.sends ≡ old.sends → new.log.part.id ≡ old.log.part.id
+      → new.log.part.known ≡ old.log.part.known ++ record { entry = evaluation a.step range old.log.part.id a.number a.reply; place = place; uses = 0 } ∷ []
+      → ((x : KnownEntry Event) → Contains (old.log.part.known ++ record { entry = evaluation a.step range old.log.part.id a.number a.reply; place = place; uses = 0 } ∷ []) x → Contains new.log.part.known x)
+      → Contains new.log.part.known (record { entry = evaluation a.step range old.log.part.id a.number a.reply; place = place; uses = 0 })
+      → KeepsTrack new
+  track_delivered range place log sends id known has there = record {
+    log = log;
+    counted = sends ∙ (track.counted ∙ ap (λ (k : Known). length k.sent) (sym same-known));
+    numbers = subst (λ (k : Known). All (λ x. x.number ≤ length k.sent) k.sent) (sym same-known) track.numbers;
+    once = λ n. subst (λ (k : Known). times_sent n k ≤ 1) (sym same-known) (track.once n);
+    stages = λ n.
+        subst (λ (k : Known). posted_as n new.posted + answered_as n new.replies + heard_as_number n k ≡ times_sent n k) (sym same-known)
+        (omega (arith, posted-count n, replies-count n, track.stages n));
+    posted = subst (λ (k : Known). All (Says k.sent) new.posted) (sym same-known) (All-tail (Says (known_of old.log.part.own).sent) m new.posted (subst (All (Says (known_of old.log.part.own).sent)) first track.posted));
+    answered = subst (All (IsAnsweredBy new.log)) (sym pushed)
+        (All-push (IsAnsweredBy new.log) old.replies a
+        (All-weaker (IsAnsweredBy old.log) (IsAnsweredBy new.log)
+        (λ x. answered_on old.log new.log x id (λ r said. subst (λ (k : Known). request_sent x.number k.sent ≡ Some r) (sym same-known) said)
+        (λ e knows. has e (Contains-append_left old.log.part.known _ e knows))) old.replies track.answered)
+        (record {
+          range = range;
+          place = place;
+          request = m.request;
+          said = subst (λ (k : Known). request_sent a.number k.sent ≡ Some m.request) (sym same-known) (subst (λ n. request_sent n (known_of old.log.part.own).sent ≡ Some m.request) (sym to) first-said);
+          knows = subst (λ (i : ActorId). Contains new.log.part.known (record { entry = evaluation a.step range i a.number a.reply; place = place; uses = 0 })) (sym id) there;
+        }));
+  }
+
+  pub way_delivered : (n : ℕ) → is_on_way n new ≡ is_on_way n old
+  way_delivered n =
+      ap (λ x. x || list_any (λ (y : Answered). y.number == n) new.replies) (any_counts (λ (y : Posted). y.number == n) new.posted)
+      ∙ (ap (λ x. nat_lt 0 (posted_as n new.posted) || x) (any_counts (λ (y : Answered). y.number == n) new.replies)
+      ∙ (by (m.number == n) refl
+      ∙ (ap (λ x. x || nat_lt 0 (answered_as n old.replies)) (sym (any_counts (λ (y : Posted). y.number == n) old.posted))
+      ∙ ap (λ x. list_any (λ (y : Posted). y.number == n) old.posted || x) (sym (any_counts (λ (y : Answered). y.number == n) old.replies)))))
+    where
+      by : (b : Bool) → (m.number == n) ≡ b → (nat_lt 0 (posted_as n new.posted) || nat_lt 0 (answered_as n new.replies)) ≡ (nat_lt 0 (posted_as n old.posted) || nat_lt 0 (answered_as n old.replies))
+      by true is =
+          let o : one_if (m.number == n) ≡ 1 = ap one_if is in
+          let p : nat_lt 0 (posted_as n old.posted) ≡ true = (let c = posted-count n in grind (arith, nat_tests)) in
+          let r : nat_lt 0 (answered_as n new.replies) ≡ true = (let c = replies-count n in grind (arith, nat_tests)) in
+          grind (arith, nat_tests)
+      by false is =
+          let o : one_if (m.number == n) ≡ 0 = ap one_if is in
+          let p : posted_as n old.posted ≡ posted_as n new.posted = (let c = posted-count n in omega arith) in
+          let r : answered_as n new.replies ≡ answered_as n old.replies = (let c = replies-count n in omega arith) in
+          ap (λ x. nat_lt 0 x || nat_lt 0 (answered_as n new.replies)) (sym p) ∙ ap (λ x. nat_lt 0 (posted_as n old.posted) || nat_lt 0 x) r
+
+-- ---- a reply is heard
+
+module _ {C : Type 0} (old new : DeskMeaning C) (a : Answered) (track : KeepsTrack old) (first : old.replies ≡ a ∷ new.replies) (posted : new.posted ≡ old.posted) (by : IsAnsweredBy old.log a) (entered : HasEntered old.log new.log (events.Hear a.number a.step)) where
+  sent-same : (known_of new.log.part.own).sent ≡ (known_of old.log.part.own).sent
+  sent-same = sent_still old.log new.log a track.log by entered
+
+  heard-count : (n : ℕ) → heard_as_number n (known_of new.log.part.own) ≡ heard_as_number n (known_of old.log.part.own) + one_if (a.number == n)
+  heard-count n =
+      ap (count_by (λ (x : Heard). x.number == n)) (heard_more old.log new.log a track.log by entered)
+      ∙ count-push (λ (x : Heard). x.number == n) (known_of old.log.part.own).heard (reply_of old.log new.log a track.log by entered)
+
+  replies-were : (n : ℕ) → answered_as n old.replies ≡ one_if (a.number == n) + answered_as n new.replies
+  replies-were n = ap (answered_as n) first ∙ count-cons (λ (x : Answered). x.number == n) a new.replies
+
+  pub track_heard : new.sends ≡ old.sends → KeepsTrack new
+  track_heard sends = record {
+    log = entered.log;
+    counted = sends ∙ (track.counted ∙ ap length (sym sent-same));
+    numbers = subst (λ (xs : List Sent). All (λ x. x.number ≤ length xs) xs) (sym sent-same) track.numbers;
+    once = λ n. subst (λ (xs : List Sent). count_by (λ (x : Sent). x.number == n) xs ≤ 1) (sym sent-same) (track.once n);
+    stages = λ n.
+        let p : posted_as n new.posted ≡ posted_as n old.posted = ap (posted_as n) posted in
+        let s : times_sent n (known_of new.log.part.own) ≡ times_sent n (known_of old.log.part.own) = ap (count_by (λ (x : Sent). x.number == n)) sent-same in
+        omega (arith, heard-count n, replies-were n, track.stages n);
+    posted = subst (All (Says (known_of new.log.part.own).sent)) (sym posted) (subst (λ (xs : List Sent). All (Says xs) old.posted) (sym sent-same) track.posted);
+    answered =
+        All-weaker (IsAnsweredBy old.log) (IsAnsweredBy new.log)
+        (λ x. answered_on old.log new.log x (ap (λ (l : LogMeaning C). l.part.id) entered.stored) (λ r said. subst (λ (xs : List Sent). request_sent x.number xs ≡ Some r) (sym sent-same) said)
+        (λ e there. subst (λ ks. Contains ks e) (sym (known_still old.log new.log a track.log by entered)) there)) new.replies
+        (All-tail (IsAnsweredBy old.log) a new.replies (subst (All (IsAnsweredBy old.log)) first track.answered));
+  }
+
+  pub way_heard : (n : ℕ) → is_on_way n new ≡ (is_on_way n old && not (a.number == n))
+  way_heard n =
+      ap (λ x. x || list_any (λ (y : Answered). y.number == n) new.replies) (any_counts (λ (y : Posted). y.number == n) new.posted ∙ ap (λ ps. nat_lt 0 (posted_as n ps)) posted)
+      ∙ (ap (λ x. nat_lt 0 (posted_as n old.posted) || x) (any_counts (λ (y : Answered). y.number == n) new.replies)
+      ∙ (cases (a.number == n) refl
+      ∙ ap (λ x. x && not (a.number == n)) (ap (λ x. x || nat_lt 0 (answered_as n old.replies)) (sym (any_counts (λ (y : Posted). y.number == n) old.posted))
+      ∙ ap (λ x. list_any (λ (y : Posted). y.number == n) old.posted || x) (sym (any_counts (λ (y : Answered). y.number == n) old.replies)))))
+    where
+      cases : (b : Bool) → (a.number == n) ≡ b → (nat_lt 0 (posted_as n old.posted) || nat_lt 0 (answered_as n new.replies)) ≡ ((nat_lt 0 (posted_as n old.posted) || nat_lt 0 (answered_as n old.replies)) && not (a.number == n))
+      cases true is =
+          let o : one_if (a.number == n) ≡ 1 = ap one_if is in
+          let p : posted_as n old.posted ≡ 0 = (let c = replies-were n in let s = track.stages n in let w = track.once n in omega arith) in
+          let r : answered_as n new.replies ≡ 0 = (let c = replies-were n in let s = track.stages n in let w = track.once n in omega arith) in
+          let x : nat_lt 0 (posted_as n old.posted) ≡ false = grind (arith, nat_tests) in
+          let y : nat_lt 0 (answered_as n new.replies) ≡ false = grind (arith, nat_tests) in
+          grind (arith, nat_tests)
+      cases false is =
+          let o : one_if (a.number == n) ≡ 0 = ap one_if is in
+          let r : answered_as n old.replies ≡ answered_as n new.replies = (let c = replies-were n in omega arith) in
+          let same : nat_lt 0 (answered_as n old.replies) ≡ nat_lt 0 (answered_as n new.replies) = ap (nat_lt 0) r in
+          grind (arith, nat_tests)
+
+-- no reply to a message whose reply waits to be heard was heard before
+pub unheard_yet : {C : Type 0} (d : DeskMeaning C) (a : Answered) (rest : List Answered) → KeepsTrack d → d.replies ≡ a ∷ rest → heard_as_number a.number (known_of d.log.part.own) ≡ 0
+unheard_yet d a rest track first =
+    let here : answered_as a.number d.replies ≡ one_if (a.number == a.number) + answered_as a.number rest = ap (answered_as a.number) first ∙ count-cons (λ (x : Answered). x.number == a.number) a rest in
+    let o : one_if (a.number == a.number) ≡ 1 = grind (arith, nat_tests) in
+    let s = track.stages a.number in
+    let w = track.once a.number in
+    omega arith
+
+-- an event that sends and hears nothing leaves each message at its stage
+pub track_done : {C : Type 0} (old new : DeskMeaning C) (event : Event) → KeepsTrack old → HasEntered old.log new.log event → new ≡ record old { log = new.log }
+    → (known_of new.log.part.own).sent ≡ (known_of old.log.part.own).sent → (known_of new.log.part.own).heard ≡ (known_of old.log.part.own).heard → new.log.part.known ≡ old.log.part.known
+    → KeepsTrack new
+track_done old new event track entered rest sent heard known =
+    let posted : new.posted ≡ old.posted = ap (λ d. d.posted) rest in
+    let replies : new.replies ≡ old.replies = ap (λ d. d.replies) rest in
+    record {
+      log = entered.log;
+      counted = ap (λ d. d.sends) rest ∙ (track.counted ∙ ap length (sym sent));
+      numbers = subst (λ (xs : List Sent). All (λ x. x.number ≤ length xs) xs) (sym sent) track.numbers;
+      once = λ n. subst (λ (xs : List Sent). count_by (λ (x : Sent). x.number == n) xs ≤ 1) (sym sent) (track.once n);
+      stages = λ n.
+          let p : posted_as n new.posted ≡ posted_as n old.posted = ap (posted_as n) posted in
+          let r : answered_as n new.replies ≡ answered_as n old.replies = ap (answered_as n) replies in
+          let h : heard_as_number n (known_of new.log.part.own) ≡ heard_as_number n (known_of old.log.part.own) = ap (count_by (λ (x : Heard). x.number == n)) heard in
+          let s : times_sent n (known_of new.log.part.own) ≡ times_sent n (known_of old.log.part.own) = ap (count_by (λ (x : Sent). x.number == n)) sent in
+          omega (arith, track.stages n);
+      posted = subst (All (Says (known_of new.log.part.own).sent)) (sym posted) (subst (λ (xs : List Sent). All (Says xs) old.posted) (sym sent) track.posted);
+      answered = subst (All (IsAnsweredBy new.log)) (sym replies)
+          (All-weaker (IsAnsweredBy old.log) (IsAnsweredBy new.log)
+          (λ x. answered_on old.log new.log x (ap (λ l. l.part.id) entered.stored) (λ r said. subst (λ (xs : List Sent). request_sent x.number xs ≡ Some r) (sym sent) said)
+          (λ e there. subst (λ ks. Contains ks e) (sym known) there)) old.replies track.answered);
+    }

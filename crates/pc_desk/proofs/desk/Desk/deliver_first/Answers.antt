@@ -1,0 +1,29 @@
+use Rattle.std.proofs.Common.{map, ap}
+use Rattle.std.proofs.lemmas.Result.{on_ok_weaker}
+use Rattle.pc_desk.proofs.Desking.{desk_first, desk_rest, has_delivered}
+use Rattle.pc_desk.specs.Desk.{posting}
+use Rattle.pc_history.specs.Parts.{uses_left}
+use Rattle.pc_desk.proofs.desk.Desk.deliver_first.Goals as goal
+
+pub serve-requires-clause-there : goal.serve-requires-clause-there
+serve-requires-clause-there g c = (desk_first _ _ _ _ _ _ c.in-Some.ensures.taken.whole c.self.invariant.0).there
+
+pub serve-requires-clause-use_left : goal.serve-requires-clause-use_left
+serve-requires-clause-use_left g c = (desk_first _ _ _ _ _ _ c.in-Some.ensures.taken.whole c.self.invariant.0).use_left
+
+pub serve-requires-clause-below : goal.serve-requires-clause-below
+serve-requires-clause-below g c = (desk_first _ _ _ _ _ _ c.in-Some.ensures.taken.whole c.self.invariant.0).below
+
+pub invariant_of-self : goal.invariant_of-self
+invariant_of-self g c = (desk_rest _ _ _ _ _ _ c.in-Some.ensures.taken.whole c.self.invariant.0, c.self.invariant.1)
+
+pub invariant_of-self-in-Err : goal.invariant_of-self-in-Err
+invariant_of-self-in-Err g c = (desk_rest _ _ _ _ _ _ c.in-Some.ensures.taken.whole c.self.invariant.0, c.self.invariant.1)
+
+pub returns-in-Ok-clause-ok : goal.returns-in-Ok-clause-ok
+returns-in-Ok-clause-ok g c =
+    let m = c.in-Some.message in
+    let r = c.in-Ok.reply in
+    on_ok_weaker c.keep.result
+    (λ kept. has_delivered _ c.args.self.now c.keep.new.self _ (posting m.number m.range m.request (uses_left m.note.known)) (record { number = r.number; step = r.step; reply = r.reply }) r.note.known m.sender m.range
+    c.self.view_is c.requires.track (ap (map _) c.in-Some.ensures.taken.whole) (desk_first _ _ _ _ _ _ c.in-Some.ensures.taken.whole c.self.invariant.0).whose c.in-Ok.ensures.told.0 c.in-Ok.ensures.told.1 kept) c.keep.ensures.ok

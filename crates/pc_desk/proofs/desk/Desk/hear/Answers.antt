@@ -1,0 +1,15 @@
+use Rattle.std.proofs.Common.{sym, ap, subst, ◌∙◌}
+use Rattle.pc_desk.proofs.Desking.{has_heard, hear_may}
+use Rattle.pc_desk.specs.OwnLog.{MayEnter}
+use Rattle.pc_proto.specs.declared.event.Event.TheVariants as events
+use Rattle.pc_desk.proofs.desk.Desk.hear.Goals as goal
+
+pub enter-requires : goal.enter-requires
+enter-requires g c =
+    let a = c.in-Some.answered in
+    subst (λ l. MayEnter l (events.Hear a.number a.step)) (sym (ap (λ d. d.log) c.self.view_is))
+    (hear_may c.args.self.now a c.pop_front.new.self.items c.requires.track c.requires.may (sym (ap (λ d. d.replies) c.self.view_is) ∙ c.in-Some.ensures.items))
+
+pub returns-clause-ok : goal.returns-clause-ok
+returns-clause-ok g c =
+    has_heard _ c.args.self.now c.enter.new.self c.in-Some.answered c.pop_front.new.self.items c.self.view_is c.requires.track c.in-Some.ensures.items c.in_ok-enter.ensures.ok

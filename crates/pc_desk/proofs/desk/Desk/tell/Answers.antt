@@ -1,0 +1,9 @@
+use Rattle.std.proofs.Common.{refl}
+use Rattle.std.proofs.lemmas.Result.{on_ok_weaker}
+use Rattle.pc_desk.proofs.Desking.{has_done}
+use Rattle.pc_proto.specs.declared.event.Event.TheVariants as events
+use Rattle.pc_desk.proofs.desk.Desk.tell.Goals as goal
+
+pub returns-clause-ok : goal.returns-clause-ok
+returns-clause-ok g c =
+    on_ok_weaker c.enter.result (λ entered. has_done _ c.args.self.now c.enter.new.self (events.Tell c.args.answer) c.self.view_is refl (λ named sent. refl) refl c.requires.track entered) c.enter.ensures.ok

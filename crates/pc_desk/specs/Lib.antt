@@ -1,0 +1,7 @@
+-- The own list of an actor that is no range, and its messages on their way.
+pub mod Asks
+pub mod Hearing
+pub mod Keeping
+pub mod OwnLog
+pub mod Desk
+pub mod Rest

@@ -1,0 +1,30 @@
+-- What an actor leaves in its outbox, and what it knows once that was evaluated.
+use Rattle.std.specs.Prelude.{◌≡◌, ℕ, List, ◌∷◌, Contains}
+use Rattle.pc_base.specs.declared.actor.ActorId.{ActorId}
+use Rattle.pc_desk.specs.Desk.{Posted, WaitingMessage, waiting_as}
+use Rattle.pc_history.specs.declared.view.Known.{Known as KnownEntry}
+use Rattle.pc_history.specs.declared.view.Part.{Part}
+use Rattle.pc_history.specs.Meanings.{ActorMeaning}
+use Rattle.pc_proto.specs.declared.event.Event.{Event}
+use Rattle.pc_proto.specs.declared.reply.Reply.{Reply}
+use Rattle.pc_range.specs.Message.{evaluation}
+use Rattle.pc_wire.specs.declared.verdict.Verdict.{Verdict}
+use Rattle.pc_world.specs.Local.{Head}
+
+-- The message was the first of those that are left.
+pub record IsFirstOf (before after : List WaitingMessage) (sender : ActorId) (posted : Posted) : Type 0 where
+  pub key : ℕ
+  pub verdict : Verdict
+  pub whole : before ≡ waiting_as key sender verdict posted ∷ after
+
+-- The actor took notes, and did nothing else.
+pub record HasOnlyLearnt (before after : ActorMeaning Head Event) : Type 0 where
+  pub rest : after ≡ record before { part = record before.part { known = after.part.known } }
+  pub more : (k : KnownEntry Event) → Contains before.part.known k → Contains after.part.known k
+
+-- The actor knows an evaluation of its message.
+pub record IsEvaluatedIn (part : Part Event) (w : WaitingMessage) : Type 0 where
+  pub step : ℕ
+  pub reply : Reply
+  pub place : ℕ
+  pub knows : Contains part.known (record { entry = evaluation step w.posted.range part.id w.posted.number reply; place = place; uses = 0 })

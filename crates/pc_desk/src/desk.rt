@@ -1,0 +1,329 @@
+ghost use Rattle.std.specs.Prelude.{◌≡◌, ℕ, ◌+◌, ◌-◌, ◌<◌, ◌≤◌, ◌^◌, [], length, map, All, IfErr, IfOk, IfNone, IfSome, OnErr, OnOk};
+ghost use Rattle.pc_base.specs.Rising.{AreRising};
+ghost use Rattle.pc_desk.specs.declared.halt.Halt.TheVariants as halts;
+ghost use Rattle.pc_desk.specs.Desk.{EndsWithSend, HasDelivered, HasDone, HasHalted, HasHeardFirst, HasKept, HasPosted, HasSentNext, IsReadyToGo, KeepsTrack, MayHearNow, MaySendNow, new_desk, posted_as, uses_by};
+ghost use Rattle.pc_desk.specs.Keeping.{ReadsEach};
+ghost use Rattle.pc_desk.specs.OwnLog.{HasEntered, IsClient, IsOwnLog, MayEnter};
+ghost use Rattle.pc_history.specs.Parts.{newcomer, noted, told};
+ghost use Rattle.pc_proto.specs.declared.event.Event.TheVariants as events;
+ghost use Rattle.pc_proto.specs.Stamps.{request_stamps};
+ghost use Rattle.pc_range.specs.Cell.{IsFullAt};
+ghost use Rattle.pc_world.specs.Known.{known_of};
+ghost use Rattle.pc_wire.specs.declared.verdict.Verdict.TheVariants as verdicts;
+ghost use Rattle.pc_world.specs.Local.{IsActorOf, MayAsk};
+ghost use Rattle.pc_world.specs.RangeOf.{GoesTo};
+ghost use Rattle.pc_world.specs.Stamps.{AllBelowGreatest};
+
+use crate::answered::Answered;
+use crate::halt::Halt;
+use crate::own_log::OwnLog;
+use crate::rest::Rest;
+use pc_base::{ActorId, NoMemory, TryCopy};
+use pc_clock::Clock;
+use pc_history::{Actor, Named, Note};
+use pc_proto::{Answer, Call, Event, Request};
+use pc_range::{CommitWorld, Gate, Message, Ranges, ReplyMsg, ServeFault};
+use pc_wire::{Outbox, Verdict, Wire};
+use pc_world::range_for;
+use std::alloc::Global;
+use std::collections::VecDeque;
+use std::marker::Model;
+use std::sync::Wait;
+
+/// The own list of a session or recoverer, and its messages on their way to the ranges and back. So far over a quiet wire alone.
+///
+/// After a refusal it makes no more entries.
+#[derive(Drop)]
+pub struct Desk<'a, N: Named<CommitWorld>, C: Clock, V: Wire, G> {
+    log: OwnLog<N, C>,
+    ranges: &'a Ranges<'a, N, G>,
+    wire: V,
+    /// How many messages were sent.
+    sends: u64,
+    outbox: Outbox<Message<N>>,
+    replies: VecDeque<Answered>,
+}
+
+impl<'a, N: Named<CommitWorld>, C: Clock, V: Wire, G> Model for Desk<'a, N, C, V, G> {
+    ghost use Rattle.std.specs.Prelude.{◌≡◌, ℕ, map};
+    ghost use Rattle.pc_desk.specs.Desk.{DeskMeaning, IsDesk, posting, waiting_as};
+    ghost use Rattle.pc_history.specs.Parts.{uses_left};
+    ghost use Rattle.pc_wire.specs.declared.verdict.Verdict.TheVariants.{Deliver};
+
+    ghost Value = { DeskMeaning C };
+
+    ghost view = { λ d. record {
+      log = d.log;
+      sends = d.sends;
+      posted = map (λ e. posting e.1.message.number e.1.message.range e.1.message.request (uses_left e.1.message.note.known)) d.outbox.waiting;
+      replies = d.replies.items;
+      range_limit = d.ranges.now.limit;
+    } };
+
+    ghost invariant = { λ d.
+        IsDesk d.ranges.now.splits d.log (map (λ e. waiting_as e.0 e.1.message.sender e.1.verdict (posting e.1.message.number e.1.message.range e.1.message.request (uses_left e.1.message.note.known))) d.outbox.waiting)
+        × ((number : ℕ) → V.rule d.wire number ≡ Deliver) };
+}
+
+impl<'a, N: Named<CommitWorld>, C: Clock, V: Wire, G: Gate> Desk<'a, N, C, V, G> {
+    /// The desk of an actor that has no entry yet. Its list may have at most `limit` entries, and stops at entry number `stop`, if one is
+    /// stated.
+    pub fn new(
+        alloc: Global,
+        actor: Actor<CommitWorld, N>,
+        ranges: &'a Ranges<'a, N, G>,
+        clock: C,
+        wire: V,
+        pipelining: bool,
+        limit: u64,
+        stop: Option<u64>,
+    ) -> Desk<'a, N, C, V, G>
+        requires there { IsActorOf actor.world actor.part.id }
+        requires client { IsClient actor.part.id }
+        requires fresh { actor.part ≡ newcomer actor.part.id }
+        requires unread { C.reads clock ≡ 0 }
+        requires limit { limit < 2 ^ 32 }
+        requires stop { IfSome stop (λ n. 1 ≤ n) }
+        requires splits { ranges.now.splits ≡ actor.world.splits }
+        requires rising { AreRising actor.world.splits }
+        requires few { length actor.world.splits ≤ 31 }
+        requires quiet { (number : ℕ) → V.rule wire number ≡ verdicts.Deliver }
+        ensures track { KeepsTrack result }
+        ensures made { result ≡ new_desk actor.world actor.part actor.spare clock pipelining limit stop ranges.now.limit }
+    {
+        Desk {
+            log: OwnLog::new(actor, clock, pipelining, limit, stop),
+            ranges,
+            wire,
+            sends: 0,
+            outbox: Outbox::new(alloc),
+            replies: VecDeque::new(alloc),
+        }
+    }
+
+    /// A note of the actor's last entry, without uses. None where it has no entry.
+    pub fn mark(&mut self) -> Result<Option<Note<CommitWorld, N>>, NoMemory>
+        ensures note { IfOk result (λ mark. IfSome mark (λ n. n.known ≡ noted (length self.old.log.part.own - 1) 0 self.old.log.part)) }
+        ensures none { IfOk result (λ mark. IfNone mark (self.old.log.part.own ≡ [])) }
+        ensures same { self.new ≡ self.old }
+    {
+        if self.log.len() == 0 {
+            return Ok(None);
+        }
+        Ok(Some(self.log.note(0)?))
+    }
+
+    /// Knows the entry of a mark from now on, so that its later entries stand after that one.
+    pub fn follow(&mut self, mark: Note<CommitWorld, N>)
+        ensures took { self.new ≡ record self.old { log = record self.old.log { part = told mark.known self.old.log.part } } }
+        ensures track { KeepsTrack self.old → KeepsTrack self.new }
+    {
+        self.log.take(mark);
+    }
+
+    /// Asks a call, at the next reading of the clock, which it gives.
+    pub fn ask(&mut self, call: Call) -> Result<u64, Halt>
+        requires track { KeepsTrack self.old }
+        requires may { MayAsk self.old.log.part.id (known_of self.old.log.part.own) call }
+        ensures ok { IfOk result (λ reading. HasDone self.old self.new (events.Ask call reading)) }
+        ensures err { IfErr result (HasHalted self.old self.new) }
+    {
+        self.log.ask(call)
+    }
+
+    /// Tells the open call its answer.
+    pub fn tell(&mut self, answer: Answer) -> Result<(), Halt>
+        requires track { KeepsTrack self.old }
+        requires may { MayEnter self.old.log (events.Tell answer) }
+        ensures ok { OnOk result (HasDone self.old self.new (events.Tell answer)) }
+        ensures err { IfErr result (HasHalted self.old self.new) }
+    {
+        self.log.enter(Event::Tell(answer))
+    }
+
+    /// Sends a message under the next number, which it gives.
+    pub fn send(&mut self, request: Request) -> Result<u64, Halt>
+        requires track { KeepsTrack self.old }
+        requires may { MaySendNow self.old.log request }
+        ensures ok { IfOk result (λ number. HasSentNext self.old self.new number request) }
+        ensures err { IfErr result (HasHalted self.old self.new) }
+    {
+        let number = self.sends + 1;
+        let range = range_for(self.ranges.splits(), &request);
+        match request.copy() {
+            Ok(copy) => self.enter_send(number, range, copy)?,
+            Err(NoMemory) => return Err(self.want_memory()),
+        }
+        match self.post(number, range, request) {
+            Ok(()) => Ok(number),
+            Err(NoMemory) => Err(self.want_memory()),
+        }
+    }
+
+    /// Makes the entry of a message that is sent.
+    fn enter_send(&mut self, number: u64, range: u32, request: Request) -> Result<(), Halt>
+        requires may { MayEnter self.old.log (events.Send number range request) }
+        ensures ok { OnOk result (HasEntered self.old.log self.new.log (events.Send number range request)) }
+        ensures rest { OnOk result (self.new ≡ record self.old { log = self.new.log; sends = number }) }
+        ensures err { IfErr result (HasHalted self.old self.new) }
+    {
+        self.log.enter(Event::Send {
+            number,
+            range,
+            request,
+        })?;
+        self.sends = number;
+        Ok(())
+    }
+
+    /// Puts the message that was sent last into the outbox.
+    fn post(&mut self, number: u64, range: u32, request: Request) -> Result<(), NoMemory>
+        requires last { EndsWithSend self.old.log number range request }
+        requires fresh { posted_as number self.old.posted ≡ 0 }
+        requires there { range ≤ length self.old.log.head.splits }
+        requires below { AllBelowGreatest (request_stamps request) }
+        ensures ok { OnOk result (HasPosted self.old self.new number range request) }
+        ensures same { (self.new.log.head ≡ self.old.log.head) × (self.new.log.part.id ≡ self.old.log.part.id) }
+    {
+        let verdict = self.wire.verdict(number);
+        let note = self.log.note(uses_of(verdict))?;
+        let message = Message {
+            sender: self.log.id(),
+            number,
+            range,
+            request,
+            note,
+        };
+        self.outbox.add(number, verdict, message)
+    }
+
+    /// Stops for want of memory.
+    fn want_memory(&mut self) -> Halt
+        ensures memory { result ≡ halts.NoMemory }
+        ensures halted { HasHalted self.old self.new result }
+    {
+        self.log.halt();
+        Halt::NoMemory
+    }
+
+    /// How many messages wait to be evaluated.
+    fn waiting(&self) -> usize
+        ensures { result ≡ length self.now.posted }
+    {
+        self.outbox.waiting()
+    }
+
+    /// Has each message's range evaluate it, in the order of their numbers.
+    pub fn deliver<R: Wait>(&mut self, rt: &R) -> Result<(), Halt>
+        requires { KeepsTrack self.old }
+        ensures ok { OnOk result (HasDelivered self.old self.new) }
+        ensures all { OnOk result (self.new.posted ≡ []) }
+        ensures err { IfErr result (HasHalted self.old self.new) }
+    {
+        while self.waiting() > 0 {
+            self.deliver_first(rt)?;
+        }
+        Ok(())
+    }
+
+    /// Has the range of the message with the least number evaluate it.
+    fn deliver_first<R: Wait>(&mut self, rt: &R) -> Result<(), Halt>
+        requires track { KeepsTrack self.old }
+        requires some { 1 ≤ length self.old.posted }
+        ensures ok { OnOk result (HasDelivered self.old self.new) }
+        ensures one { OnOk result (length self.old.posted ≡ length self.new.posted + 1) }
+        ensures err { IfErr result (HasHalted self.old self.new) }
+    {
+        let message = match self.outbox.take_first() {
+            Some((_, message)) => message,
+            None => unreachable!(),
+        };
+        match self.ranges.serve(rt, message) {
+            Ok(reply) => self.keep(reply),
+            Err(fault) => Err(self.refused(fault)),
+        }
+    }
+
+    /// Knows the evaluation, and keeps its reply until it is heard.
+    fn keep(&mut self, msg: ReplyMsg<N>) -> Result<(), Halt>
+        ensures ok { OnOk result (HasKept self.old self.new (record { number = msg.number; step = msg.step; reply = msg.reply }) msg.note.known) }
+        ensures err { IfErr result (HasHalted self.old self.new) }
+    {
+        let ReplyMsg {
+            number,
+            step,
+            reply,
+            note,
+        } = msg;
+        self.log.take(note);
+        let answered = Answered {
+            number,
+            step,
+            reply,
+        };
+        match self.replies.push_back(answered) {
+            Ok(()) => Ok(()),
+            Err(_) => Err(self.want_memory()),
+        }
+    }
+
+    /// Stops where a range refused a message.
+    fn refused(&mut self, fault: ServeFault<N>) -> Halt
+        requires { (range : ℕ) × IsFullAt range self.old.range_limit fault }
+        ensures { HasHalted self.old self.new result }
+    {
+        match fault {
+            ServeFault::Full { range, last } => {
+                self.log.take(last);
+                self.log.halt();
+                Halt::Full {
+                    actor: ActorId::Range(range),
+                }
+            }
+            ServeFault::NoMemory => self.want_memory(),
+        }
+    }
+
+    /// Hears the reply that has waited longest, if there is one.
+    pub fn hear(&mut self) -> Result<Option<Answered>, Halt>
+        requires track { KeepsTrack self.old }
+        requires may { MayHearNow self.old }
+        ensures ok { IfOk result (λ heard. IfSome heard (HasHeardFirst self.old self.new)) }
+        ensures none { IfOk result (λ heard. IfNone heard ((self.old.replies ≡ []) × (self.new ≡ self.old))) }
+        ensures err { IfErr result (HasHalted self.old self.new) }
+    {
+        let answered = match self.replies.pop_front() {
+            Some(answered) => answered,
+            None => return Ok(None),
+        };
+        self.log.enter(Event::Hear {
+            number: answered.number,
+            step: answered.step,
+        })?;
+        Ok(Some(answered))
+    }
+}
+
+impl<'a, N: Named<CommitWorld>, C: Clock + Drop, V: Wire + Drop, G> Desk<'a, N, C, V, G> {
+    /// Its actor, to be handed in, and what is still in its outbox.
+    pub fn finish(self) -> (Actor<CommitWorld, N>, Rest<N>)
+        ensures actor { (result.0.world ≡ self.entry.log.head) × (result.0.part ≡ self.entry.log.part) }
+        ensures log { IsOwnLog self.entry.log }
+        ensures reads { ReadsEach (C.rule self.entry.log.clock) self.entry.log.part.own }
+        ensures rest { map (λ w. w.posted) result.1 ≡ self.entry.posted }
+        ensures ready { All (IsReadyToGo self.entry.log.part.id self.entry.log.head.splits) result.1 }
+    {
+        (self.log.into_actor(), Rest::of(self.outbox))
+    }
+}
+
+/// How often a message of this verdict may be evaluated.
+fn uses_of(verdict: Verdict) -> u32
+    ensures { result ≡ uses_by verdict }
+{
+    match verdict {
+        Verdict::LoseRequest => 0,
+        Verdict::Repeat(_) => 2,
+        Verdict::Deliver | Verdict::LoseReply | Verdict::Hold(_) => 1,
+    }
+}

@@ -1,0 +1,14 @@
+//! What an actor works with that is no range: its own list, its clock, its wire, and the messages on their way to the ranges.
+#![tactic(auto)]
+
+mod answered;
+mod desk;
+mod halt;
+mod own_log;
+mod rest;
+
+pub use answered::Answered;
+pub use desk::Desk;
+pub use halt::Halt;
+pub use own_log::OwnLog;
+pub use rest::{Rest, deliver_rest};

@@ -1,0 +1,72 @@
+ghost use Rattle.std.specs.Prelude.{◌≡◌, ℕ, ◌∷◌, [], map, All, IfErr, IfNone, IfSome, OnOk};
+ghost use Rattle.pc_desk.specs.Desk.{IsReadyToGo, posting, waiting_as};
+ghost use Rattle.pc_desk.specs.Rest.{HasOnlyLearnt, IsEvaluatedIn, IsFirstOf};
+ghost use Rattle.pc_history.specs.Parts.{told, uses_left};
+ghost use Rattle.pc_range.specs.Cell.{IsFullAt};
+
+use pc_history::{Actor, Named};
+use pc_range::{CommitWorld, Gate, Message, Ranges, ReplyMsg, ServeFault};
+use pc_wire::Outbox;
+use std::marker::Model;
+use std::sync::Wait;
+
+/// What an actor that makes no more entries leaves in its outbox.
+#[derive(Drop)]
+pub struct Rest<N: Named<CommitWorld>> {
+    outbox: Outbox<Message<N>>,
+}
+
+impl<N: Named<CommitWorld>> Model for Rest<N> {
+    ghost use Rattle.std.specs.Prelude.{List, map};
+    ghost use Rattle.pc_desk.specs.Desk.{WaitingMessage, posting, waiting_as};
+    ghost use Rattle.pc_history.specs.Parts.{uses_left};
+
+    ghost Value = { List WaitingMessage };
+
+    ghost view = { λ r. map (λ e. waiting_as e.0 e.1.message.sender e.1.verdict (posting e.1.message.number e.1.message.range e.1.message.request (uses_left e.1.message.note.known))) r.outbox.waiting };
+}
+
+impl<N: Named<CommitWorld>> Rest<N> {
+    pub(crate) fn of(outbox: Outbox<Message<N>>) -> Rest<N>
+        ensures { result ≡ map (λ e. waiting_as e.0 e.1.message.sender e.1.verdict (posting e.1.message.number e.1.message.range e.1.message.request (uses_left e.1.message.note.known))) outbox.waiting }
+    {
+        Rest { outbox }
+    }
+
+    /// Takes the message of the least number.
+    fn take_first(&mut self) -> Option<Message<N>>
+        ensures first { IfSome result (λ m. IsFirstOf self.old self.new m.sender (posting m.number m.range m.request (uses_left m.note.known))) }
+        ensures none { IfNone result (self.old ≡ []) }
+    {
+        let (_, message) = self.outbox.take_first()?;
+        Some(message)
+    }
+}
+
+/// Evaluates what is left of an actor's messages, in the order of their numbers, and stops at the first refusal. The actor takes the note of
+/// each evaluation.
+pub fn deliver_rest<N: Named<CommitWorld>, G: Gate, R: Wait>(
+    rt: &R,
+    rest: Rest<N>,
+    actor: &mut Actor<CommitWorld, N>,
+    ranges: &Ranges<'_, N, G>,
+) -> Result<(), ServeFault<N>>
+    requires { All (IsReadyToGo actor.old.part.id ranges.now.splits) rest }
+    ensures same { HasOnlyLearnt actor.old actor.new }
+    ensures all { OnOk result (All (IsEvaluatedIn actor.new.part) rest) }
+    ensures full { IfErr result (λ fault. (range : ℕ) × IsFullAt range ranges.now.limit fault) }
+{
+    let mut rest = rest;
+    while let Some(message) = rest.take_first() {
+        let reply = ranges.serve(rt, message)?;
+        learn(actor, reply);
+    }
+    Ok(())
+}
+
+/// Takes the note of an evaluation.
+fn learn<N: Named<CommitWorld>>(actor: &mut Actor<CommitWorld, N>, msg: ReplyMsg<N>)
+    ensures { actor.new ≡ record actor.old { part = told msg.note.known actor.old.part } }
+{
+    actor.take(msg.note);
+}
