@@ -1,16 +1,17 @@
--- A workload that is read is of the form that is built.
-use Rattle.std.proofs.Common.{◌≡◌, ℕ, ◌≤◌, ◌==◌, ◌&&◌, not, nat_le, Bool, true, false, cond, All, List, [], ◌∷◌, length, sum_by, Option, Some, None, ◌⊎◌, inl, inr, codes, refl, subst, arith}
+-- A workload that is read is of the form that is accepted, and is run where it passes the test.
+use Rattle.std.proofs.Common.{◌≡◌, ℕ, ◌≤◌, ◌==◌, ◌&&◌, not, is_some, nat_le, IfSome, IsSomeAnd, Bool, true, false, cond, All, List, [], ◌∷◌, length, sum_by, Option, Some, None, ◌⊎◌, inl, inr, codes, refl, subst, arith}
 use Rattle.std.specs.List.{list_all, AllByRecursion}
 use Rattle.std.proofs.lemmas.Bool.{and_parts, or_cases, leb-true, false≢true}
-use Rattle.std.proofs.lemmas.List.Elements.{All-cons, All-from_recursion, All-nil}
+use Rattle.std.proofs.lemmas.List.Elements.{All-cons, All-from_recursion, All-head, All-nil, All-tail}
 use Rattle.std.proofs.lemmas.Option.{none-some}
 use Rattle.serde_json.specs.Data.{Data, null, boolean, number, string, array, object, Items, no_items, item}
 use Rattle.serde_json.specs.Find.{get, as_bool}
-use Rattle.pc_base.specs.declared.limits.TheConstants.{MOST_RERUNS, MOST_SESSIONS, MOST_SPLITS, MOST_STATEMENTS, MOST_TURNS}
+use Rattle.pc_base.specs.declared.limits.TheConstants.{LEAST_ENTRIES, MOST_ENTRIES, MOST_RERUNS, MOST_SESSIONS, MOST_SPLITS, MOST_STATEMENTS, MOST_TURNS}
 use Rattle.pc_base.specs.Rising.{AreRising, keys_rise}
+use Rattle.pc_base.specs.Span.{key_below}
 use Rattle.pc_base.specs.declared.transaction.Priority.TheVariants.{Normal}
 use Rattle.pc_work.specs.Reading.{◌>>=◌}
-use Rattle.pc_work.specs.Members.{has_only, member_or, read_or, whole_in, whole_of, whole_up_to}
+use Rattle.pc_work.specs.Members.{has_only, member_if, member_or, read_or, whole_between, whole_in, whole_of, whole_up_to}
 use Rattle.pc_work.specs.Lists.{items_by, list_by}
 use Rattle.pc_work.specs.Count.{session_count}
 use Rattle.pc_work.specs.Item.{only_reads, only_writes, are_alike, item_names, item_of}
@@ -22,7 +23,8 @@ use Rattle.pc_work.specs.Texts.{key_of}
 use Rattle.pc_work.specs.Session.{session_names, session_of}
 use Rattle.pc_work.specs.Splits.{splits_of}
 use Rattle.pc_work.specs.Turn.{is_turn_there, turn_of}
-use Rattle.pc_work.specs.Workload.{are_stated_turns, is_within_limits, first_items, are_sessions, workload_names, workload_of}
+use Rattle.pc_work.specs.Workload.{are_stated_turns, are_turns_within, is_within_limits, first_items, are_sessions, workload_names, workload_of, has_built_form, states_clock}
+use Rattle.pc_work.specs.Accepted.{HasBuiltItems, IsAccepted}
 use Rattle.pc_work.specs.Built.{IsReadStatement, IsWriteStatement, IsBuiltItem, IsBuiltSession, IsTurnOf, AreTurnsOf, IsBuilt}
 use Rattle.pc_work.specs.declared.item.Item.TheVariants.{Txn}
 use Rattle.pc_work.specs.declared.session.SessionWork.{SessionWork}
@@ -118,15 +120,14 @@ item_is_built value =
     only_when IsBuiltItem (are_alike statements) _ (λ alike.
     only_some IsBuiltItem (Txn priority statements commits) (unmixed statements alike)))))))
 
-session_is_built : (value : Data) → Only IsBuiltSession (session_of value)
+session_is_built : (value : Data) → Only HasBuiltItems (session_of value)
 unfolding session_of
 session_is_built value =
-    only_when IsBuiltSession (has_only session_names value) _ (λ named.
-    only_behind IsBuiltSession (get (codes "clock") value) _ (λ stated.
-    only_behind IsBuiltSession (clock_of stated) _ (λ clock.
-    only_behind IsBuiltSession (get (codes "script") value) _ (λ found.
-    only_known (All IsBuiltItem) IsBuiltSession (list_by item_of found) _ (list_only IsBuiltItem item_of item_is_built found) (λ script items.
-    only_some IsBuiltSession (record { script = script; clock = Some clock }) (record { clock = refl; items = items }))))))
+    only_when HasBuiltItems (has_only session_names value) _ (λ named.
+    only_behind HasBuiltItems (member_if clock_of (codes "clock") value) _ (λ clock.
+    only_behind HasBuiltItems (get (codes "script") value) _ (λ found.
+    only_known (All IsBuiltItem) HasBuiltItems (list_by item_of found) _ (list_only IsBuiltItem item_of item_is_built found) (λ script items.
+    only_some HasBuiltItems (record { script = script; clock = clock }) items))))
 
 -- The splits rise, and are no more than the limit.
 record AreSplits (splits : List (List ℕ)) : Type 0 where
@@ -147,6 +148,17 @@ whole_only most value =
     only_when (λ n. n ≤ most) (nat_le n most) (Some n) (λ within.
     only_some (λ n. n ≤ most) n (leb-true n most within)))
 
+-- A whole number from the least to the most.
+abbrev IsBetween : ℕ → ℕ → ℕ → Type 0
+IsBetween least most n = (least ≤ n) × (n ≤ most)
+
+between_only : (least most : ℕ) (value : Data) → Only (IsBetween least most) (whole_between least most value)
+between_only least most value =
+    only_behind (IsBetween least most) (whole_of value) (λ n. cond (nat_le least n && nat_le n most) (Some n) None) (λ n.
+    only_when (IsBetween least most) (nat_le least n && nat_le n most) (Some n) (λ within.
+    let both = and_parts (nat_le least n) (nat_le n most) within in
+    only_some (IsBetween least most) n (leb-true least n both.0, leb-true n most both.1)))
+
 turn_is_there : (sessions : ℕ) (turn : Turn) → is_turn_there sessions turn ≡ true → IsTurnOf sessions turn
 turn_is_there sessions (Session n) e =
     let both = and_parts (nat_le 1 n) (nat_le n sessions) e in
@@ -164,14 +176,18 @@ turns_are_there sessions turns e =
       each = all_by (is_turn_there (length sessions)) (IsTurnOf (length sessions)) (turn_is_there (length sessions)) turns both.1;
     }
 
-abbrev made : List (List ℕ) → ℕ → ℕ → List Turn → List SessionWork → Workload
-made splits reruns opening turns sessions = record { version = 1; pipelining = false; splits = splits; limit = 1000000; tries = 4; reruns = reruns; opening = opening; sessions = sessions; turns = Some turns }
+stated_turns_are_there : (sessions : List SessionWork) (turns : Option (List Turn)) → are_turns_within sessions turns ≡ true → IfSome turns (AreTurnsOf (length sessions))
+stated_turns_are_there sessions None e = tt
+stated_turns_are_there sessions (Some turns) e = turns_are_there sessions turns e
 
-made_is_built : (version : ℕ) (pipelining : Bool) (splits : List (List ℕ)) (reruns opening : ℕ) (turns : List Turn) (sessions : List SessionWork) → is_within_limits version pipelining opening sessions turns ≡ true
-    → AreSplits splits → reruns ≤ MOST_RERUNS → All IsBuiltSession sessions → IsBuilt (made splits reruns opening turns sessions)
-made_is_built version pipelining splits reruns opening turns sessions e cut few each =
-    let all_but_opening = and_parts (version == 1 && not pipelining && are_sessions sessions && are_stated_turns sessions turns) (nat_le opening (first_items sessions)) e in
-    let all_but_turns = and_parts (version == 1 && not pipelining && are_sessions sessions) (are_stated_turns sessions turns) all_but_opening.0 in
+abbrev made : List (List ℕ) → ℕ → ℕ → ℕ → Option (List Turn) → List SessionWork → Workload
+made splits limit reruns opening turns sessions = record { version = 1; pipelining = false; splits = splits; limit = limit; tries = 4; reruns = reruns; opening = opening; sessions = sessions; turns = turns }
+
+made_is_accepted : (version : ℕ) (pipelining : Bool) (splits : List (List ℕ)) (limit reruns opening : ℕ) (turns : Option (List Turn)) (sessions : List SessionWork) → is_within_limits version pipelining opening sessions turns ≡ true
+    → AreSplits splits → IsBetween LEAST_ENTRIES MOST_ENTRIES limit → reruns ≤ MOST_RERUNS → All HasBuiltItems sessions → IsAccepted (made splits limit reruns opening turns sessions)
+made_is_accepted version pipelining splits limit reruns opening turns sessions e cut bounds few each =
+    let all_but_opening = and_parts (version == 1 && not pipelining && are_sessions sessions && are_turns_within sessions turns) (nat_le opening (first_items sessions)) e in
+    let all_but_turns = and_parts (version == 1 && not pipelining && are_sessions sessions) (are_turns_within sessions turns) all_but_opening.0 in
     let all_but_sessions = and_parts (version == 1 && not pipelining) (are_sessions sessions) all_but_turns.0 in
     let counted = and_parts (nat_le 1 (length sessions) && nat_le (length sessions) MOST_SESSIONS) (nat_le (sum_by session_count sessions) MOST_STATEMENTS) all_but_sessions.1 in
     let bounded = and_parts (nat_le 1 (length sessions)) (nat_le (length sessions) MOST_SESSIONS) counted.0 in
@@ -180,7 +196,7 @@ made_is_built version pipelining splits reruns opening turns sessions e cut few 
       pipelining = refl;
       splits = cut.rising;
       few_splits = cut.few;
-      limit = refl;
+      limit = bounds;
       tries = refl;
       reruns = few;
       opening = leb-true opening (first_items sessions) all_but_opening.1;
@@ -188,28 +204,64 @@ made_is_built version pipelining splits reruns opening turns sessions e cut few 
       few_sessions = leb-true (length sessions) MOST_SESSIONS bounded.1;
       sessions = each;
       few_statements = leb-true (sum_by session_count sessions) MOST_STATEMENTS counted.1;
-      turns = turns_are_there sessions turns all_but_turns.1;
+      turns = stated_turns_are_there sessions turns all_but_turns.1;
     }
 
-only_built : (value : Data) → Only IsBuilt (workload_of value)
+only_accepted : (value : Data) → Only IsAccepted (workload_of value)
 unfolding workload_of
-only_built value =
+only_accepted value =
     let cut = only_read AreSplits [] splits_of (record { rising = refl; few = omega arith }) splits_only (get (codes "splits") value) in
+    let bounds = only_read (IsBetween LEAST_ENTRIES MOST_ENTRIES) 1000000 (whole_between LEAST_ENTRIES MOST_ENTRIES) (omega arith, omega arith) (between_only LEAST_ENTRIES MOST_ENTRIES) (get (codes "limit") value) in
     let asked = only_read (λ n. n ≤ MOST_RERUNS) 8 (whole_up_to MOST_RERUNS) (omega arith) (whole_only MOST_RERUNS) (get (codes "reruns") value) in
-    only_when IsBuilt (has_only workload_names value) _ (λ named.
-    only_behind IsBuilt (whole_in (codes "version") value) _ (λ version.
-    only_behind IsBuilt (get (codes "pipelining") value) _ (λ stated.
-    only_behind IsBuilt (as_bool stated) _ (λ pipelining.
-    only_known AreSplits IsBuilt (member_or [] splits_of (codes "splits") value) _ cut (λ splits rising.
-    only_known (λ n. n ≤ MOST_RERUNS) IsBuilt (member_or 8 (whole_up_to MOST_RERUNS) (codes "reruns") value) _ asked (λ reruns few.
-    only_behind IsBuilt (member_or 0 whole_of (codes "opening") value) _ (λ opening.
-    only_behind IsBuilt (get (codes "turns") value) _ (λ listed.
-    only_behind IsBuilt (list_by turn_of listed) _ (λ turns.
-    only_behind IsBuilt (get (codes "sessions") value) _ (λ found.
-    only_known (All IsBuiltSession) IsBuilt (list_by session_of found) _ (list_only IsBuiltSession session_of session_is_built found) (λ sessions each.
-    only_when IsBuilt (is_within_limits version pipelining opening sessions turns) _ (λ within.
-    only_some IsBuilt (made splits reruns opening turns sessions) (made_is_built version pipelining splits reruns opening turns sessions within rising few each)))))))))))))
+    only_when IsAccepted (has_only workload_names value) _ (λ named.
+    only_behind IsAccepted (whole_in (codes "version") value) _ (λ version.
+    only_behind IsAccepted (get (codes "pipelining") value) _ (λ stated.
+    only_behind IsAccepted (as_bool stated) _ (λ pipelining.
+    only_known AreSplits IsAccepted (member_or [] splits_of (codes "splits") value) _ cut (λ splits rising.
+    only_known (IsBetween LEAST_ENTRIES MOST_ENTRIES) IsAccepted (member_or 1000000 (whole_between LEAST_ENTRIES MOST_ENTRIES) (codes "limit") value) _ bounds (λ limit between.
+    only_known (λ n. n ≤ MOST_RERUNS) IsAccepted (member_or 8 (whole_up_to MOST_RERUNS) (codes "reruns") value) _ asked (λ reruns few.
+    only_behind IsAccepted (member_or 0 whole_of (codes "opening") value) _ (λ opening.
+    only_behind IsAccepted (member_if (list_by turn_of) (codes "turns") value) _ (λ turns.
+    only_behind IsAccepted (get (codes "sessions") value) _ (λ found.
+    only_known (All HasBuiltItems) IsAccepted (list_by session_of found) _ (list_only HasBuiltItems session_of session_is_built found) (λ sessions each.
+    only_when IsAccepted (is_within_limits version pipelining opening sessions turns) _ (λ within.
+    only_some IsAccepted (made splits limit reruns opening turns sessions) (made_is_accepted version pipelining splits limit reruns opening turns sessions within rising between few each)))))))))))))
 
--- The workload that a JSON value states is of the form that is built.
-pub value_is_built : (value : Data) (work : Workload) → workload_of value ≡ Some work → IsBuilt work
-value_is_built value work e = (only_built value).each work e
+-- The workload that a JSON value states is of the form that is accepted.
+pub value_is_accepted : (value : Data) (work : Workload) → workload_of value ≡ Some work → IsAccepted work
+value_is_accepted value work e = (only_accepted value).each work e
+
+some_turns : (sessions : ℕ) (turns : Option (List Turn)) → is_some turns ≡ true → IfSome turns (AreTurnsOf sessions) → IsSomeAnd turns (AreTurnsOf sessions)
+some_turns sessions None e each = absurd (false≢true e)
+some_turns sessions (Some turns) e each = each
+
+with_clocks : (sessions : List SessionWork) → list_all states_clock sessions ≡ true → All HasBuiltItems sessions → All IsBuiltSession sessions
+with_clocks [] e each = All-nil IsBuiltSession
+with_clocks (session ∷ sessions) e each =
+    let both = and_parts (states_clock session) (list_all states_clock sessions) e in
+    let first : IsBuiltSession session = record { clock = both.0; items = All-head HasBuiltItems session sessions each } in
+    All-cons IsBuiltSession session sessions first (with_clocks sessions both.1 (All-tail HasBuiltItems session sessions each))
+
+same_number : (n m : ℕ) → (n == m) ≡ true → n ≡ m
+same_number n m e = grind arith
+
+-- A workload of the accepted form that passes the test is of the form that is run so far.
+pub passes : (work : Workload) → IsAccepted work → has_built_form work ≡ true → IsBuilt work
+passes work accepted e =
+    let both = and_parts (work.limit == 1000000 && is_some work.turns) (list_all states_clock work.sessions) e in
+    let first = and_parts (work.limit == 1000000) (is_some work.turns) both.0 in
+    record {
+      version = accepted.version;
+      pipelining = accepted.pipelining;
+      splits = accepted.splits;
+      few_splits = accepted.few_splits;
+      limit = same_number work.limit 1000000 first.0;
+      tries = accepted.tries;
+      reruns = accepted.reruns;
+      opening = accepted.opening;
+      some_session = accepted.some_session;
+      few_sessions = accepted.few_sessions;
+      sessions = with_clocks work.sessions both.1 accepted.sessions;
+      few_statements = accepted.few_statements;
+      turns = some_turns (length work.sessions) work.turns first.1 accepted.turns;
+    }

@@ -1,4 +1,5 @@
 -- What bytes are as a workload, and how large a workload is.
+pub mod Accepted
 pub mod Built
 pub mod Clock
 pub mod Count

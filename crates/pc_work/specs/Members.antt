@@ -37,6 +37,10 @@ whole_in name value = option_and_then whole_of (get name value)
 abbrev pub whole_up_to : ℕ → Data → Option ℕ
 whole_up_to most value = whole_of value >>= λ number. if nat_le number most then Some number else None
 
+-- A whole number from the one to the other.
+abbrev pub whole_between : ℕ → ℕ → Data → Option ℕ
+whole_between least most value = whole_of value >>= λ number. if nat_le least number && nat_le number most then Some number else None
+
 -- What was found as it is read, and the default where nothing was found.
 abbrev pub read_or : {X : Type 0} → X → (Data → Option X) → Option Data → Option X
 read_or default read None = Some default
@@ -45,3 +49,12 @@ read_or default read (Some value) = read value
 -- The member of this name as it is read, and the default where the member is absent.
 abbrev pub member_or : {X : Type 0} → X → (Data → Option X) → List ℕ → Data → Option X
 member_or default read name value = read_or default read (get name value)
+
+-- What was found as it is read, if anything was.
+abbrev pub read_if : {X : Type 0} → (Data → Option X) → Option Data → Option (Option X)
+read_if read None = Some None
+read_if read (Some value) = read value >>= λ found. Some (Some found)
+
+-- The member of this name as it is read, where it is there.
+abbrev pub member_if : {X : Type 0} → (Data → Option X) → List ℕ → Data → Option (Option X)
+member_if read name value = read_if read (get name value)

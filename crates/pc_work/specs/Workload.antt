@@ -1,13 +1,13 @@
--- What bytes are as a workload, and where they are none. A workload is in stated turns without pipelining, of sessions that
--- state their clocks.
-use Rattle.std.specs.Prelude.{ℕ, Bool, false, ◌&&◌, ◌==◌, not, List, [], ◌∷◌, length, sum_by, nat_le, Option, Some, None, IsSome, Result, Ok, Err, codes, option_and_then, IsUtf8, if◌then◌else◌}
+-- What bytes are as a workload, and where they are none. A workload is without pipelining; where it states no turns, its sessions run on
+-- threads, and a session that states no clock reads the one that is handed in.
+use Rattle.std.specs.Prelude.{ℕ, ◌==◌, Bool, true, false, ◌&&◌, not, List, [], ◌∷◌, length, sum_by, nat_le, Option, Some, None, is_some, IsSome, Result, Ok, Err, codes, option_and_then, IsUtf8, if◌then◌else◌}
 use Rattle.std.specs.List.{list_all}
 use Rattle.serde_json.specs.Data.{Data}
 use Rattle.serde_json.specs.Find.{get, as_bool}
 use Rattle.serde_json.specs.Read.{read}
-use Rattle.pc_base.specs.declared.limits.TheConstants.{DEFAULT_ENTRIES, DEFAULT_RERUNS, DEFAULT_TRIES, MOST_RERUNS, MOST_SESSIONS, MOST_STATEMENTS, MOST_TURNS}
+use Rattle.pc_base.specs.declared.limits.TheConstants.{DEFAULT_ENTRIES, DEFAULT_RERUNS, DEFAULT_TRIES, LEAST_ENTRIES, MOST_ENTRIES, MOST_RERUNS, MOST_SESSIONS, MOST_STATEMENTS, MOST_TURNS}
 use Rattle.pc_work.specs.Reading.{◌>>=◌}
-use Rattle.pc_work.specs.Members.{has_only, whole_of, whole_up_to, whole_in, member_or}
+use Rattle.pc_work.specs.Members.{has_only, whole_between, whole_of, whole_up_to, whole_in, member_if, member_or}
 use Rattle.pc_work.specs.Lists.{list_by}
 use Rattle.pc_work.specs.Count.{session_count}
 use Rattle.pc_work.specs.Session.{session_of}
@@ -21,7 +21,7 @@ use Rattle.pc_work.specs.declared.workload.Workload.{Workload}
 
 -- The names of a workload's members.
 abbrev pub workload_names : List (List ℕ)
-workload_names = codes "version" ∷ codes "pipelining" ∷ codes "splits" ∷ codes "reruns" ∷ codes "opening" ∷ codes "turns" ∷ codes "sessions" ∷ []
+workload_names = codes "version" ∷ codes "pipelining" ∷ codes "splits" ∷ codes "limit" ∷ codes "reruns" ∷ codes "opening" ∷ codes "turns" ∷ codes "sessions" ∷ []
 
 -- How many items the first session has.
 abbrev pub first_items : List SessionWork → ℕ
@@ -37,10 +37,15 @@ are_sessions sessions =
 abbrev pub are_stated_turns : List SessionWork → List Turn → Bool
 are_stated_turns sessions turns = nat_le (length turns) MOST_TURNS && list_all (is_turn_there (length sessions)) turns
 
+-- Where turns are stated, they are within their limits.
+abbrev pub are_turns_within : List SessionWork → Option (List Turn) → Bool
+are_turns_within sessions None = true
+are_turns_within sessions (Some turns) = are_stated_turns sessions turns
+
 -- Version 1 without pipelining, and sessions, turns and an opening within their limits.
-abbrev pub is_within_limits : ℕ → Bool → ℕ → List SessionWork → List Turn → Bool
+abbrev pub is_within_limits : ℕ → Bool → ℕ → List SessionWork → Option (List Turn) → Bool
 is_within_limits version pipelining opening sessions turns =
-    version == 1 && not pipelining && are_sessions sessions && are_stated_turns sessions turns && nat_le opening (first_items sessions)
+    version == 1 && not pipelining && are_sessions sessions && are_turns_within sessions turns && nat_le opening (first_items sessions)
 
 -- The workload that a JSON value states: what is absent is at its default.
 unfoldable pub workload_of : Data → Option Workload
@@ -49,22 +54,22 @@ workload_of value = if has_only workload_names value then (do
   asked ← get (codes "pipelining") value
   pipelining ← as_bool asked
   splits ← member_or [] splits_of (codes "splits") value
+  limit ← member_or DEFAULT_ENTRIES (whole_between LEAST_ENTRIES MOST_ENTRIES) (codes "limit") value
   reruns ← member_or DEFAULT_RERUNS (whole_up_to MOST_RERUNS) (codes "reruns") value
   opening ← member_or 0 whole_of (codes "opening") value
-  listed ← get (codes "turns") value
-  turns ← list_by turn_of listed
+  turns ← member_if (list_by turn_of) (codes "turns") value
   found ← get (codes "sessions") value
   sessions ← list_by session_of found
   if is_within_limits version pipelining opening sessions turns then Some (record {
     version = 1;
     pipelining = false;
     splits = splits;
-    limit = DEFAULT_ENTRIES;
+    limit = limit;
     tries = DEFAULT_TRIES;
     reruns = reruns;
     opening = opening;
     sessions = sessions;
-    turns = Some turns;
+    turns = turns;
   }) else None) else None
 
 -- The bytes have a reading as JSON: they are text, and the text has a value, nested at most 127 deep.
@@ -73,8 +78,24 @@ pub record IsJson (bytes : List ℕ) : Type 0 where
   pub value : IsSome (read bytes)
 
 -- The workload that a JSON text states.
+abbrev pub accepted_in : List ℕ → Option Workload
+accepted_in bytes = option_and_then workload_of (read bytes)
+
+-- The session states its clock.
+abbrev pub states_clock : SessionWork → Bool
+states_clock session = is_some session.clock
+
+-- Turns and all clocks are stated, and the limit of entries is the default one: such a workload is run so far.
+abbrev pub has_built_form : Workload → Bool
+has_built_form work = work.limit == DEFAULT_ENTRIES && is_some work.turns && list_all states_clock work.sessions
+
+-- The workload, where it is one that is run so far.
+abbrev pub when_built : Workload → Option Workload
+when_built work = if has_built_form work then Some work else None
+
+-- The workload that a JSON text states, where it is one that is run so far.
 abbrev pub workload_in : List ℕ → Option Workload
-workload_in bytes = option_and_then workload_of (read bytes)
+workload_in bytes = option_and_then when_built (accepted_in bytes)
 
 -- The fact holds, unless memory ran out.
 abbrev pub UnlessMemory : {X : Type 0} → Result X WorkFault → Type 0 → Type 0

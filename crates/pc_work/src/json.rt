@@ -6,7 +6,7 @@ ghost use Rattle.serde_json.specs.Find.{get, as_bool};
 ghost use Rattle.serde_json.specs.View.{view, items_view};
 ghost use Rattle.pc_work.specs.Reading.{Gives, GivesBy};
 ghost use Rattle.pc_work.specs.Lists.{items_by, list_by, two_of, pair_of};
-ghost use Rattle.pc_work.specs.Members.{is_among, has_only, whole_of, whole_up_to, whole_in};
+ghost use Rattle.pc_work.specs.Members.{is_among, has_only, whole_between, whole_of, whole_up_to, whole_in};
 
 use crate::fault::Misfit;
 use pc_base::Items;
@@ -59,6 +59,17 @@ pub(crate) fn whole_up_to(json: &Json, most: u32) -> Result<u32, Misfit>
         return Err(Misfit::OtherForm);
     }
     Ok(number as u32)
+}
+
+/// The whole number that this is, where it is from `least` to `most`.
+pub(crate) fn whole_between(json: &Json, least: u64, most: u64) -> Result<u64, Misfit>
+    ensures { Gives result (whole_between least most (view json.now)) }
+{
+    let number = whole(json)?;
+    if number < least || number > most {
+        return Err(Misfit::OtherForm);
+    }
+    Ok(number)
 }
 
 /// The whole number in the member of this name.

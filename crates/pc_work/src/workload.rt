@@ -1,22 +1,24 @@
-ghost use Rattle.std.specs.Prelude.{◌≡◌, ◌↔◌, ◌⊎◌, ℕ, IsOk, IsSome, IfOk, IsErrOf, Some};
+ghost use Rattle.std.specs.Prelude.{◌≡◌, ◌↔◌, ◌⊎◌, ℕ, IsOk, IsSome, IsTrue, IfOk, IsErrOf, Some};
 ghost use Rattle.std.specs.List.{list_all};
 ghost use Rattle.serde_json.specs.View.{view};
 ghost use Rattle.pc_base.specs.declared.limits.TheConstants.{MOST_RERUNS};
 ghost use Rattle.pc_work.specs.Reading.{Gives};
+ghost use Rattle.pc_work.specs.Accepted.{IsAccepted};
 ghost use Rattle.pc_work.specs.Built.{IsBuilt};
-ghost use Rattle.pc_work.specs.Members.{has_only, member_or, whole_of, whole_up_to};
-ghost use Rattle.pc_work.specs.Turn.{is_turn_there};
-ghost use Rattle.pc_work.specs.Workload.{are_stated_turns, is_within_limits, workload_names, first_items, are_sessions, workload_of, IsJson, workload_in, UnlessMemory};
+ghost use Rattle.pc_work.specs.Lists.{list_by};
+ghost use Rattle.pc_work.specs.Members.{has_only, member_if, member_or, whole_between, whole_of, whole_up_to};
+ghost use Rattle.pc_work.specs.Turn.{is_turn_there, turn_of};
+ghost use Rattle.pc_work.specs.Workload.{are_stated_turns, are_turns_within, is_within_limits, workload_names, first_items, are_sessions, workload_of, IsJson, workload_in, UnlessMemory, accepted_in, has_built_form, states_clock};
 
 use crate::count::Counted;
 use crate::fault::{Misfit, WorkFault};
-use crate::json::{flag, has_only, list, member, whole, whole_member, whole_up_to};
-use crate::session::Sessions;
+use crate::json::{flag, has_only, list, member, whole, whole_between, whole_member, whole_up_to};
+use crate::session::{SessionWork, Sessions};
 use crate::splits::splits_or_none;
 use crate::turn::{Turn, Turns};
 use pc_base::limits::{
-    DEFAULT_ENTRIES, DEFAULT_RERUNS, DEFAULT_TRIES, MOST_RERUNS, MOST_SESSIONS, MOST_STATEMENTS,
-    MOST_TURNS,
+    DEFAULT_ENTRIES, DEFAULT_RERUNS, DEFAULT_TRIES, LEAST_ENTRIES, MOST_ENTRIES, MOST_RERUNS,
+    MOST_SESSIONS, MOST_STATEMENTS, MOST_TURNS,
 };
 use pc_proto::Keys;
 use serde_json::Value as Json;
@@ -50,16 +52,32 @@ pub struct Workload {
 }
 
 impl Workload {
-    /// Reads a workload from JSON. Want of memory may come at any point, and says nothing of the bytes.
+    /// Reads a workload of the form that is run so far. One of another form has the number of a value that is none.
     pub fn read(alloc: Global, bytes: &[u8]) -> Result<Workload, WorkFault>
-        // What is accepted, and its value.
         ensures accepted { UnlessMemory result (IsOk result ↔ (IsJson bytes.now × IsSome (workload_in bytes.now))) }
         ensures value { IfOk result (λ work. workload_in bytes.now ≡ Some work) }
         ensures built { IfOk result IsBuilt }
+        ensures no_json { UnlessMemory result (IsErrOf result (WorkFault.Refused 1) ↔ ¬ (IsJson bytes.now)) }
+        ensures other_form { UnlessMemory result (IsErrOf result (WorkFault.Refused 10) ↔ (IsJson bytes.now × (workload_in bytes.now ≡ None))) }
+        ensures numbers { (number : ℕ) → result ≡ Err (WorkFault.Refused number) → (number ≡ 1) ⊎ (number ≡ 10) }
+    {
+        let work = Workload::read_accepted(alloc, bytes)?;
+        if !work.has_built_form() {
+            return Err(WorkFault::Refused { number: OTHER_FORM });
+        }
+        Ok(work)
+    }
+
+    /// Reads a workload from JSON. Want of memory may come at any point, and says nothing of the bytes.
+    pub fn read_accepted(alloc: Global, bytes: &[u8]) -> Result<Workload, WorkFault>
+        // What is accepted, and its value.
+        ensures accepted { UnlessMemory result (IsOk result ↔ (IsJson bytes.now × IsSome (accepted_in bytes.now))) }
+        ensures value { IfOk result (λ work. accepted_in bytes.now ≡ Some work) }
+        ensures form { IfOk result IsAccepted }
 
         // Which number a refusal has: these two, and no other.
         ensures no_json { UnlessMemory result (IsErrOf result (WorkFault.Refused 1) ↔ ¬ (IsJson bytes.now)) }
-        ensures other_form { UnlessMemory result (IsErrOf result (WorkFault.Refused 10) ↔ (IsJson bytes.now × (workload_in bytes.now ≡ None))) }
+        ensures other_form { UnlessMemory result (IsErrOf result (WorkFault.Refused 10) ↔ (IsJson bytes.now × (accepted_in bytes.now ≡ None))) }
         ensures numbers { (number : ℕ) → result ≡ Err (WorkFault.Refused number) → (number ≡ 1) ⊎ (number ≡ 10) }
     {
         let json = match Json::from_slice(alloc, bytes) {
@@ -73,6 +91,23 @@ impl Workload {
             Err(Misfit::NoMemory) => Err(WorkFault::NoMemory),
         }
     }
+
+    /// Whether it is of the form that is run so far: turns and all clocks are stated, and the limit of entries is the default one.
+    #[tactic(auto, using(crate::proofs::Built::passes))]
+    pub fn has_built_form(&self) -> bool
+        ensures value { result ≡ has_built_form self.now }
+        ensures form { IsAccepted self.now → IsTrue result → IsBuilt self.now }
+    {
+        self.limit == DEFAULT_ENTRIES
+            && self.turns.is_some()
+            && all_state_clocks(self.sessions.as_slice())
+    }
+}
+
+fn all_state_clocks(sessions: &[SessionWork]) -> bool
+    ensures { result ≡ list_all states_clock sessions.now }
+{
+    sessions.iter().all(|session| session.clock.is_some())
 }
 
 /// The workload that a value states.
@@ -86,9 +121,10 @@ fn workload_of(alloc: Global, json: &Json) -> Result<Workload, Misfit>
     let version = whole_member(json, "version")?;
     let pipelining = flag(member(json, "pipelining")?)?;
     let splits = splits_or_none(alloc, json, "splits")?;
+    let limit = limit_or_default(json, "limit")?;
     let reruns = reruns_or_default(json, "reruns")?;
     let opening = opening_or_default(json, "opening")?;
-    let turns: Turns = list(alloc, member(json, "turns")?)?;
+    let turns = turns_if(alloc, json, "turns")?;
     let sessions: Sessions = list(alloc, member(json, "sessions")?)?;
     if !is_within(version, pipelining, opening, &sessions, &turns) {
         return Err(Misfit::OtherForm);
@@ -97,12 +133,12 @@ fn workload_of(alloc: Global, json: &Json) -> Result<Workload, Misfit>
         version: 1,
         pipelining: false,
         splits,
-        limit: DEFAULT_ENTRIES,
+        limit,
         tries: DEFAULT_TRIES,
         reruns,
         opening: opening as u32,
         sessions,
-        turns: Some(turns),
+        turns,
     })
 }
 
@@ -116,12 +152,33 @@ fn has_known_members(json: &Json) -> bool
             "version",
             "pipelining",
             "splits",
+            "limit",
             "reruns",
             "opening",
             "turns",
             "sessions",
         ],
     )
+}
+
+/// The most entries of one actor, by default as the limits say.
+fn limit_or_default(json: &Json, name: &str) -> Result<u64, Misfit>
+    ensures { Gives result (member_or DEFAULT_ENTRIES (whole_between LEAST_ENTRIES MOST_ENTRIES) name.now (view json.now)) }
+{
+    match json.get(name) {
+        Some(stated) => whole_between(stated, LEAST_ENTRIES, MOST_ENTRIES),
+        None => Ok(DEFAULT_ENTRIES),
+    }
+}
+
+/// The turns in the member of this name, where it is there.
+fn turns_if(alloc: Global, json: &Json, name: &str) -> Result<Option<Turns>, Misfit>
+    ensures { Gives result (member_if (list_by turn_of) name.now (view json.now)) }
+{
+    match json.get(name) {
+        Some(stated) => Ok(Some(list(alloc, stated)?)),
+        None => Ok(None),
+    }
 }
 
 /// How often a transaction may be asked again, by default as the limits say.
@@ -150,14 +207,14 @@ fn is_within(
     pipelining: bool,
     opening: u64,
     sessions: &Sessions,
-    turns: &Turns,
+    turns: &Option<Turns>,
 ) -> bool
     ensures { result ≡ is_within_limits version pipelining opening sessions.now turns.now }
 {
     version == 1
         && !pipelining
         && are_sessions(sessions)
-        && are_turns(sessions, turns)
+        && are_turns_within(sessions, turns)
         && opening <= first_items(sessions)
 }
 
@@ -177,7 +234,16 @@ fn are_sessions(sessions: &Sessions) -> bool
     sessions.len() >= 1 && sessions.len() <= MOST_SESSIONS && sessions.count() <= MOST_STATEMENTS
 }
 
-fn are_turns(sessions: &Sessions, turns: &Turns) -> bool
+fn are_turns_within(sessions: &Sessions, turns: &Option<Turns>) -> bool
+    ensures { result ≡ are_turns_within sessions.now turns.now }
+{
+    match turns {
+        Some(turns) => are_stated_turns(sessions, turns),
+        None => true,
+    }
+}
+
+fn are_stated_turns(sessions: &Sessions, turns: &Turns) -> bool
     ensures { result ≡ are_stated_turns sessions.now turns.now }
 {
     turns.len() <= MOST_TURNS && are_there(turns.as_slice(), sessions.len())

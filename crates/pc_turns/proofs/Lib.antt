@@ -1,0 +1,5 @@
+pub mod Evaluated
+pub mod Moves
+pub mod Order
+pub mod Rising
+pub mod Shares

@@ -1,0 +1,115 @@
+-- In which order sessions ask their calls and do their finishing jobs: each by itself, in stated turns, or on threads behind an opening.
+-- Read from the clients' entries alone. Own profile.
+use Rattle.std.specs.Prelude.{◌≡◌, ℕ, zero, suc, ◌+◌, ◌≤◌, Bool, true, is_some, not, Option, None, Some, List, [], ◌∷◌, ◌++◌, drop, map, All, IsTrue, ⊤}
+use Rattle.pc_base.specs.declared.actor.ActorId.TheVariants as actors
+use Rattle.pc_history.specs.declared.pair.Pair.{Pair}
+use Rattle.pc_proto.specs.declared.answer.Answer.{Answer}
+use Rattle.pc_proto.specs.declared.call.Call.{Call}
+use Rattle.pc_proto.specs.declared.event.Event.{Event}
+use Rattle.pc_proto.specs.declared.event.Event.TheVariants as events
+use Rattle.pc_proto.specs.declared.request.Request.{Request}
+use Rattle.pc_turns.specs.Clients.{share_of}
+use Rattle.pc_work.specs.declared.turn.Turn.{Turn}
+use Rattle.pc_work.specs.declared.turn.Turn.TheVariants as turns
+use Rattle.pc_world.specs.Follows.FinishingJobs.{jobs_of}
+use Rattle.pc_world.specs.Known.{known_of}
+use Rattle.pc_world.specs.Tell.Refusal.{is_heard}
+
+-- The event is within a call or a job: it neither asks a call nor tells an answer.
+abbrev pub IsInBetween : Event → Type 0
+IsInBetween (events.Ask call reading) = ⊥
+IsInBetween (events.Tell answer) = ⊥
+IsInBetween _ = ⊤
+
+-- The events of these entries.
+abbrev pub events_of : List (Pair Event) → List Event
+events_of pairs = map (λ p. p.entry.event) pairs
+
+-- The part is this call of the session, whole: from its asking to its telling.
+pub record AsksWhole (number : ℕ) (call : Call) (part : List (Pair Event)) : Type 0 where
+  pub whose : All (λ p. p.entry.actor ≡ actors.Session number) part
+  pub reading : ℕ
+  pub between : List Event
+  pub answer : Answer
+  pub whole : events_of part ≡ events.Ask call reading ∷ (between ++ events.Tell answer ∷ [])
+  pub within : All IsInBetween between
+
+-- The part is the session's oldest job, whole: no call is asked in it, the job waits no more behind it, and each message that the session
+-- sent was heard.
+pub record FinishesWhole (number : ℕ) (before part : List (Pair Event)) : Type 0 where
+  pub whose : All (λ p. p.entry.actor ≡ actors.Session number) part
+  pub within : All IsInBetween (events_of part)
+  pub done : jobs_of (before ++ part) ≡ drop 1 (jobs_of before)
+  pub heard : All (λ m. IsTrue (is_heard (known_of (before ++ part)).heard m)) (known_of (before ++ part)).sent
+
+-- The part is the session's next call, or nothing where none is next.
+abbrev pub AsksIfNext : ℕ → Option Call → List (Pair Event) → Type 0
+AsksIfNext number None part = part ≡ []
+AsksIfNext number (Some call) part = AsksWhole number call part
+
+-- The part is the oldest of these jobs of the session, or nothing where none waits.
+abbrev pub FinishesIfLeft : ℕ → List (List Request) → List (Pair Event) → List (Pair Event) → Type 0
+FinishesIfLeft number [] before part = part ≡ []
+FinishesIfLeft number (job ∷ jobs) before part = FinishesWhole number before part
+
+-- What the session takes next by itself: its oldest job where one waits, else its next call.
+abbrev pub turn_by_itself : ℕ → List (List Request) → Turn
+turn_by_itself number [] = turns.Session number
+turn_by_itself number (job ∷ jobs) = turns.Job number
+
+-- The session's own entries among the clients'.
+abbrev pub entries_by : ℕ → List (Pair Event) → List (Pair Event)
+entries_by number order = share_of (actors.Session number) order
+
+-- The scripts say which call each session asks next, after its own entries.
+module _ (next : ℕ → List (Pair Event) → Option Call) where
+  -- The part is what the turn takes after these entries.
+  abbrev pub IsTakenIn : Turn → List (Pair Event) → List (Pair Event) → Type 0
+  IsTakenIn (turns.Session number) before part = AsksIfNext number (next number (entries_by number before)) part
+  IsTakenIn (turns.Job number) before part = FinishesIfLeft number (jobs_of (entries_by number before)) (entries_by number before) part
+  IsTakenIn (turns.Recoverer number) before part = part ≡ []
+
+  -- The part is what these turns take, one after another.
+  abbrev pub AreTakenIn : List Turn → List (Pair Event) → List (Pair Event) → Type 0
+  AreTakenIn [] before part = part ≡ []
+  AreTakenIn (turn ∷ turns) before part =
+      (first : List (Pair Event)) × (rest : List (Pair Event)) × (part ≡ first ++ rest) × IsTakenIn turn before first × AreTakenIn turns (before ++ first) rest
+
+  -- The part is what the session does by itself, its jobs before each further call, until the test is passed.
+  pub data GoesByItself (number : ℕ) (test : List (Pair Event) → Bool) : List (Pair Event) → List (Pair Event) → Type 0 where
+    Ended : (before : List (Pair Event)) → jobs_of (entries_by number before) ≡ [] → test before ≡ true → GoesByItself number test before []
+    Onwards : (before first rest : List (Pair Event))
+        → ((jobs_of (entries_by number before) ≡ []) → test before ≡ true → ⊥)
+        → IsTakenIn (turn_by_itself number (jobs_of (entries_by number before))) before first
+        → GoesByItself number test (before ++ first) rest
+        → GoesByItself number test before (first ++ rest)
+
+  -- No call of the session's script is next.
+  abbrev pub is_at_end : ℕ → List (Pair Event) → Bool
+  is_at_end number before = not (is_some (next number (entries_by number before)))
+
+  -- The part is what is left: so many sessions, from this number on, go to their ends, one after another.
+  abbrev pub GoToEnds : ℕ → ℕ → List (Pair Event) → List (Pair Event) → Type 0
+  GoToEnds number zero before part = part ≡ []
+  GoToEnds number (suc count) before part =
+      (first : List (Pair Event)) × (rest : List (Pair Event)) × (part ≡ first ++ rest)
+      × GoesByItself number (is_at_end number) before first × GoToEnds (number + 1) count (before ++ first) rest
+
+  -- The clients' entries go in stated turns: the first session's opening, up to where this test is passed; the turns; and then each session
+  -- in order to its end.
+  pub record GoInTurns (opened : List (Pair Event) → Bool) (stated : List Turn) (sessions : ℕ) (order : List (Pair Event)) : Type 0 where
+    pub opening : List (Pair Event)
+    pub taken : List (Pair Event)
+    pub left : List (Pair Event)
+    pub whole : order ≡ opening ++ (taken ++ left)
+    pub opens : GoesByItself 1 opened [] opening
+    pub takes : AreTakenIn stated opening taken
+    pub ends : GoToEnds 1 sessions (opening ++ taken) left
+
+  -- The clients' entries go on threads: the first session's opening before all else, and each session by itself to its end.
+  pub record GoOnThreads (opened : List (Pair Event) → Bool) (sessions : ℕ) (order : List (Pair Event)) : Type 0 where
+    pub opening : List (Pair Event)
+    pub rest : List (Pair Event)
+    pub whole : order ≡ opening ++ rest
+    pub opens : GoesByItself 1 opened [] opening
+    pub each : (number : ℕ) → 1 ≤ number → number ≤ sessions → GoesByItself number (is_at_end number) [] (entries_by number order)

@@ -1,0 +1,43 @@
+-- The form of a workload that is accepted, as a fact about the workload itself: what runs it may rest on it, once all such workloads are run.
+use Rattle.std.specs.Prelude.{◌≡◌, ◌≤◌, false, length, sum_by, IfSome, All}
+use Rattle.pc_base.specs.declared.limits.TheConstants.{DEFAULT_TRIES, LEAST_ENTRIES, MOST_ENTRIES, MOST_RERUNS, MOST_SESSIONS, MOST_SPLITS, MOST_STATEMENTS}
+use Rattle.pc_base.specs.Rising.{AreRising}
+use Rattle.pc_work.specs.Built.{AreTurnsOf, IsBuiltItem}
+use Rattle.pc_work.specs.Count.{session_count}
+use Rattle.pc_work.specs.Workload.{first_items}
+use Rattle.pc_work.specs.declared.session.SessionWork.{SessionWork}
+use Rattle.pc_work.specs.declared.workload.Workload.{Workload}
+
+-- Each item of the session's script is a transaction that only reads or only writes.
+abbrev pub HasBuiltItems : SessionWork → Type 0
+HasBuiltItems session = All IsBuiltItem session.script
+
+-- A workload that is read is without pipelining, its numbers, sessions and turns are within their limits, and what it cannot state is at its
+-- default.
+pub record IsAccepted (work : Workload) : Type 0 where
+  -- The version is the one that is known.
+  pub version : work.version ≡ 1
+  -- No put goes on before its range has answered.
+  pub pipelining : work.pipelining ≡ false
+  -- The splits rise strictly, in key order.
+  pub splits : AreRising work.splits
+  -- The splits are no more than their limit.
+  pub few_splits : length work.splits ≤ MOST_SPLITS
+  -- The limit of an actor's entries is between its own limits.
+  pub limit : (LEAST_ENTRIES ≤ work.limit) × (work.limit ≤ MOST_ENTRIES)
+  -- The tries of a request are the default ones.
+  pub tries : work.tries ≡ DEFAULT_TRIES
+  -- The reruns are no more than their limit.
+  pub reruns : work.reruns ≤ MOST_RERUNS
+  -- No more items run ahead than the first session has.
+  pub opening : work.opening ≤ first_items work.sessions
+  -- There is a session.
+  pub some_session : 1 ≤ length work.sessions
+  -- The sessions are no more than their limit.
+  pub few_sessions : length work.sessions ≤ MOST_SESSIONS
+  -- Each session states transactions that only read or only write.
+  pub sessions : All HasBuiltItems work.sessions
+  -- The statements of all sessions are no more than their limit.
+  pub few_statements : sum_by session_count work.sessions ≤ MOST_STATEMENTS
+  -- Where turns are stated, each is that of a session that is there, or of its finishing job.
+  pub turns : IfSome work.turns (AreTurnsOf (length work.sessions))
