@@ -79,11 +79,7 @@ impl<'a> Sends<'a> {
     }
 
     /// The reply that the event brings, where it is a hearing.
-    pub(crate) fn heard_by(
-        &self,
-        event: &Event,
-        named: Option<&'a Entry<Event>>,
-    ) -> Option<Hearing<'a>>
+    pub fn heard_by(&self, event: &Event, named: Option<&'a Entry<Event>>) -> Option<Hearing<'a>>
         ensures { (k : Known) → KeepsSends k self.now → result ≡ heard_by event.now (option_copied named.entry) k.sent }
     {
         match event {
@@ -95,11 +91,7 @@ impl<'a> Sends<'a> {
     }
 
     /// Takes one more entry, and the reply that it brings. After a refusal nothing is known.
-    pub(crate) fn learn(
-        &mut self,
-        event: &'a Event,
-        heard: Option<&Hearing<'a>>,
-    ) -> Result<(), NoMemory>
+    pub fn learn(&mut self, event: &'a Event, heard: Option<&Hearing<'a>>) -> Result<(), NoMemory>
         ensures { (k : Known) (named : Option (Entry Event)) (top high : ℕ) → KeepsSends k self.old → option_copied heard.entry ≡ heard_by event.now named k.sent → SendsNext (next_number k) event.now → OnOk result (KeepsSends (known_after event.now (heard_by event.now named k.sent) top high k) self.new) }
     {
         match event {
