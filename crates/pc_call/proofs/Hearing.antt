@@ -1,5 +1,6 @@
 -- A reply to a message of an open call is heard, and the call goes on.
-use Rattle.std.proofs.Common.{◌≡◌, ℕ, ◌+◌, ◌≤◌, max, Bool, true, false, cond, ◌&&◌, ◌||◌, ◌==◌, ◌<◌, ◌⊎◌, inl, inr, List, [], ◌∷◌, ◌++◌, length, map, find, Option, Some, None, refl, sym, ap, ◌∙◌, subst, arith, All, Any, IsTrue, count_by, append_assoc}
+use Rattle.std.proofs.Common.{◌≡◌, ℕ, ◌+◌, ◌≤◌, max, not, Bool, true, false, cond, ◌&&◌, ◌||◌, ◌==◌, ◌<◌, ◌⊎◌, inl, inr, List, [], ◌∷◌, ◌++◌, length, map, find, Option, Some, None, refl, sym, ap, ◌∙◌, subst, arith, All, Any, IsTrue, count_by, append_assoc}
+use Rattle.std.specs.List.{list_any}
 use Rattle.std.specs.Option.{option_to_list}
 use Rattle.std.proofs.lemmas.List.{append-nil}
 use Rattle.std.proofs.lemmas.List.Elements.{All-cons, All-map, All-nil, All-push, All-weaker}
@@ -7,15 +8,16 @@ use Rattle.std.proofs.lemmas.Option.{same_Some}
 use Rattle.pc_base.specs.declared.limits.TheConstants.{MOST_CONFLICTS}
 use Rattle.pc_base.specs.declared.transaction.TxnId.{TxnId}
 use Rattle.pc_base.specs.Transaction.{same_txn}
-use Rattle.pc_call.proofs.Facts.{are_numbered}
+use Rattle.pc_call.proofs.Facts.{are_numbered, open_is}
 use Rattle.pc_call.proofs.Holders.{holders_heard, is_id, met_by}
 use Rattle.pc_call.proofs.Lists.{all_behind, all_unmapped, kept_by, only_found}
 use Rattle.pc_call.specs.declared.purpose.Purpose.{Purpose}
 use Rattle.pc_call.specs.declared.purpose.Purpose.TheVariants as purposes
+use Rattle.pc_call.specs.Ended.{HasLanded}
 use Rattle.pc_call.specs.Learned.{known_heard}
 use Rattle.pc_call.specs.Opening.{GoesOn}
 use Rattle.pc_call.specs.Paced.{IsPaced, shows_resolve, was_met, was_pushed}
-use Rattle.pc_call.specs.Serving.{AreReadsOf, InCall, IsReadFor, IsRefusedBy, IsSplit, LaysLast, LaysNext, NoOtherMetEighth, Serves, ServesRead, ServesRefresh, ServesWrite, WasRefusedIfCommit, holders_met, out_of}
+use Rattle.pc_call.specs.Serving.{AreReadsOf, InCall, IsOpenIn, IsReadFor, IsRefusedBy, IsSplit, LaysLast, LaysNext, NoOtherMetEighth, Serves, ServesRead, ServesRefresh, ServesWrite, WasRefusedIfCommit, holders_met, out_of, write_call}
 use Rattle.pc_lists.proofs.Anywhere.{any_head, any_kept, any_later}
 use Rattle.pc_lists.proofs.Counts.{count-cons, count-push, one_if}
 use Rattle.pc_proto.specs.declared.call.Call.{Call}
@@ -26,30 +28,34 @@ use Rattle.pc_proto.specs.declared.reply.Reply.TheVariants as replies
 use Rattle.pc_proto.specs.declared.request.Request.{Request}
 use Rattle.pc_proto.specs.declared.request.Request.TheVariants as requests
 use Rattle.pc_proto.specs.Replies.{is_conflict, is_conflict_with, is_written}
-use Rattle.pc_proto.specs.Requests.{is_about, is_push_of, is_resolve_of}
+use Rattle.pc_proto.specs.Requests.{is_put_of, is_about, is_push_of, is_resolve_of}
+use Rattle.pc_proto.specs.Stamps.{greatest_of, reply_stamps}
 use Rattle.pc_reads.specs.ReadsStanding.{refresh_to}
 use Rattle.pc_refusals.proofs.Counted.{refusals_go}
 use Rattle.pc_refusals.specs.Moves.{IsNoMove}
 use Rattle.pc_txn.proofs.Keeping.{quiet_leaves, stands_on}
+use Rattle.pc_txn.proofs.Laying.{last_landed}
 use Rattle.pc_txn.proofs.Puts.{own_put, puts-one}
 use Rattle.pc_txn.specs.Counted.{IsCounted}
 use Rattle.pc_txn.specs.declared.txn.OpenTxn.{OpenTxn}
-use Rattle.pc_txn.specs.Opened.{last_put, opened_as, own_get, own_scan}
+use Rattle.pc_txn.specs.Opened.{landed_at, last_put, opened_as, own_get, own_scan}
 use Rattle.pc_txn.specs.Standing.{HasMovedOn, LeavesAsIs, PutsUpTo, TxnStands, is_plain}
 use Rattle.pc_wave.proofs.Changed.{found_all, found_passes, found_some}
 use Rattle.pc_wave.proofs.Hearing.{awaits_as, came_request, wave_heard}
 use Rattle.pc_wave.proofs.Lists.{at_least-before}
 use Rattle.pc_wave.specs.declared.message.Message.{Message}
 use Rattle.pc_wave.specs.Messages.{awaits_at, back_with, first_changed, progress_awaits, wave_awaits}
-use Rattle.pc_wave.specs.Standing.{HasMore, IsAsFar, IsHeardTo, IsOnItsWay, MessageStands, WaveStands, goes_beside}
+use Rattle.pc_wave.specs.Standing.{HasMore, IsAsFar, IsHeardTo, IsMessageAt, IsOnItsWay, MessageStands, WaveStands, goes_beside}
 use Rattle.pc_world.specs.Answering.{IsRefreshReply, MayAnswer}
 use Rattle.pc_world.specs.Known.{Known}
+use Rattle.pc_world.specs.Known.Statements.{Statement}
 use Rattle.pc_world.specs.Known.Traffic.{Heard, Sent}
 use Rattle.pc_world.specs.Known.Transactions.{Txn, meta_of, txn_heard}
 use Rattle.pc_world.specs.Known.Writes.{Write, last_seq_of}
 use Rattle.pc_world.specs.RangeOf.{pieces}
+use Rattle.pc_world.specs.Send.Put.{AsksFor}
 use Rattle.pc_world.specs.SameRequest.{IsSameRequest}
-use Rattle.pc_world.specs.Tell.Data.{IsFirstPut}
+use Rattle.pc_world.specs.Tell.Data.{IsFirstPut, IsPutFor, sent_before}
 use Rattle.pc_world.specs.Tell.Refusal.{IsConflictOf, is_moved}
 
 every : {X : Type 0} (P : X → Type 0) → ((x : X) → P x) → (xs : List X) → All P xs
@@ -150,6 +156,26 @@ still_moves (requests.Get id epoch seq ts key) reply e = refl
 still_moves (requests.Scan id epoch seq ts span) reply e = refl
 still_moves (requests.Refresh id from to span) reply e = refl
 still_moves r reply e = absurd cc
+
+asks_for : (s : Statement) (key : List ℕ) (value : Option (List ℕ)) → s.call ≡ write_call key value → AsksFor (Some s.call) key value
+asks_for s key None e = ap (λ c. Some c) e
+asks_for s key (Some value) e = ap (λ c. Some c) e
+
+put_back : (one other : Txn) → one.id ≡ other.id → one.epoch ≡ other.epoch → (key : List ℕ) (value : Option (List ℕ)) (seq : ℕ) (r : Request) → IsPutFor one key value seq r → IsPutFor other key value seq r
+put_back one other id epoch key value seq (requests.Put meta at_seq ts at_key at_value) p = (p.0 ∙ id, p.1 ∙ epoch, p.2, p.3, p.4)
+put_back one other id epoch key value seq r p = absurd p
+
+first_same : (one other : Txn) (seq : ℕ) (before : List Sent) → one.id ≡ other.id → one.epoch ≡ other.epoch
+    → list_any (λ m. is_put_of one.id one.epoch seq m.request) before ≡ list_any (λ m. is_put_of other.id other.epoch seq m.request) before
+first_same one other seq before id epoch =
+    ap (λ i. list_any (λ m. is_put_of i one.epoch seq m.request) before) id ∙ ap (λ e. list_any (λ m. is_put_of other.id e seq m.request) before) epoch
+
+first_by : (one other : Txn) (seq : ℕ) (before : List Sent) → one.id ≡ other.id → one.epoch ≡ other.epoch → list_any (λ m. is_put_of other.id other.epoch seq m.request) before ≡ false
+    → list_any (λ m. is_put_of one.id one.epoch seq m.request) before ≡ false
+first_by one other seq before id epoch none = first_same one other seq before id epoch ∙ none
+
+not_false : {b : Bool} → b ≡ false → IsTrue (not b)
+not_false {b = b} e = subst (λ b. IsTrue (not b)) (sym e) refl
 
 module _ (session clock count : ℕ) (splits : List (List ℕ)) (k : Known) (x : OpenTxn) (p : Purpose) (ms : List Message) (counted : IsCounted session clock count k) (w : InCall splits k x p ms)
     (number : ℕ) (reply : Reply) (h : Heard) (waited : wave_awaits number ms ≡ true) (is : IsHeardTo k number reply h) where
@@ -307,7 +333,7 @@ module _ (session clock count : ℕ) (splits : List (List ℕ)) (k : Known) (x :
   new_on : All (λ m. IsFirstPut k w.s w.t m → ⊥) k.sent_now → All (λ m. IsFirstPut k2 w.s w.t m → ⊥) k.sent_now
   new_on a = All-weaker (λ m. IsFirstPut k w.s w.t m → ⊥) (λ m. IsFirstPut k2 w.s w.t m → ⊥) (λ m none f. none (first_back m f)) k.sent_now a
 
-  module _ (again : Bool) (e : p ≡ purposes.Write again) (r : ServesWrite again k w.s w.t x ms) (conflict : is_conflict reply ≡ true) where
+  module _ (again : Bool) (e : p ≡ purposes.Write again) (r : ServesWrite again k w.s w.t x ms) where
     out_is : out_of p ms ≡ None
     out_is = ap (λ q. out_of q ms) e
 
@@ -329,44 +355,102 @@ module _ (session clock count : ℕ) (splits : List (List ℕ)) (k : Known) (x :
     ms2_is : ms2 ≡ back_with number reply r.m ∷ []
     ms2_is = ap (first_changed (awaits_at number) (back_with number reply)) r.one ∙ ap (λ b. cond b (back_with number reply r.m ∷ []) (r.m ∷ [])) at_number
 
-    lays_on : LaysNext k w.s w.t x r.key r.value again r.m ⊎ LaysLast k w.s w.t x r.key r.value again r.m → InCall splits k2 x p ms2
-    lays_on (inl l) = let f : false ≡ true = ap (progress_awaits number) (sym l.to_send) ∙ at_number in absurd cc
-    lays_on (inr l) =
-        let said : h.request ≡ last_put x l.anchor r.key r.value = same_request ∙ sym (ap (λ (m : Message). m.request) is_m) ∙ l.said in
-        let meta : TxnMeta = record { id = x.id; epoch = x.epoch; priority = x.priority; born = x.born; anchor = l.anchor } in
-        let same : t2 ≡ w.t =
-        ap (λ q. txn_heard k.sent (Some (record { number = h.number; request = q; reply = h.reply; step = h.step })) w.t) said
-        ∙ ap (λ y. txn_heard k.sent (Some (record { number = h.number; request = last_put x l.anchor r.key r.value; reply = y; step = h.step })) w.t) is.told
-        ∙ conflict_heard w.t k.sent h.number h.step reply meta x.seq x.write_ts r.key r.value conflict in
-        let put_now : PutsUpTo w.t (last_seq_of w.t.writes) (last_put x l.anchor r.key r.value) =
-        subst (λ y. PutsUpTo w.t (last_seq_of w.t.writes) (last_put y l.anchor r.key r.value)) (sym st.same)
-        (puts-one w.t (last_seq_of w.t.writes) (last_seq_of w.t.writes) (last_put (opened_as x.cause x.reads.spans x.in_flight w.t) l.anchor r.key r.value)
-        (own_put (meta_of w.t l.anchor) (last_seq_of w.t.writes) w.t.write_ts r.key r.value) (omega arith)) in
-        let leaves : LeavesAsIs w.t h = record {
-          pending = λ about. let f : is_about w.t.id h.request ≡ false = ap (is_about w.t.id) said in absurd cc;
-          put = subst (PutsUpTo w.t (last_seq_of w.t.writes)) (sym said) put_now;
-          unwritten = λ put. ap is_written is.told ∙ conflict_unwritten reply conflict;
-        } in
-        gone_on same leaves (ap (λ q. out_of q ms2) e ∙ sym out_is)
-        (subst (λ q. Serves splits k2 w.s w.t x q ms2) (sym e) (record {
-          key = r.key;
-          value = r.value;
-          call = r.call;
-          m = back_with number reply r.m;
-          one = ms2_is;
-          lays = inr (record {
-            in_flight = l.in_flight;
-            anchor = l.anchor;
-            anchored = l.anchored;
-            said = came_request number reply r.m ∙ l.said;
-            first = l.first;
-            old = λ f. new_on (l.old f);
-            before = l.before;
-          });
-        }))
+    module _ (conflict : is_conflict reply ≡ true) where
+      lays_on : LaysNext k w.s w.t x r.key r.value again r.m ⊎ LaysLast k w.s w.t x r.key r.value again r.m → InCall splits k2 x p ms2
+      lays_on (inl l) = let f : false ≡ true = ap (progress_awaits number) (sym l.to_send) ∙ at_number in absurd cc
+      lays_on (inr l) =
+          let said : h.request ≡ last_put x l.anchor r.key r.value = same_request ∙ sym (ap (λ (m : Message). m.request) is_m) ∙ l.said in
+          let meta : TxnMeta = record { id = x.id; epoch = x.epoch; priority = x.priority; born = x.born; anchor = l.anchor } in
+          let same : t2 ≡ w.t =
+          ap (λ q. txn_heard k.sent (Some (record { number = h.number; request = q; reply = h.reply; step = h.step })) w.t) said
+          ∙ ap (λ y. txn_heard k.sent (Some (record { number = h.number; request = last_put x l.anchor r.key r.value; reply = y; step = h.step })) w.t) is.told
+          ∙ conflict_heard w.t k.sent h.number h.step reply meta x.seq x.write_ts r.key r.value conflict in
+          let put_now : PutsUpTo w.t (last_seq_of w.t.writes) (last_put x l.anchor r.key r.value) =
+          subst (λ y. PutsUpTo w.t (last_seq_of w.t.writes) (last_put y l.anchor r.key r.value)) (sym st.same)
+          (puts-one w.t (last_seq_of w.t.writes) (last_seq_of w.t.writes) (last_put (opened_as x.cause x.reads.spans x.in_flight w.t) l.anchor r.key r.value)
+          (own_put (meta_of w.t l.anchor) (last_seq_of w.t.writes) w.t.write_ts r.key r.value) (omega arith)) in
+          let leaves : LeavesAsIs w.t h = record {
+            pending = λ about. let f : is_about w.t.id h.request ≡ false = ap (is_about w.t.id) said in absurd cc;
+            put = subst (PutsUpTo w.t (last_seq_of w.t.writes)) (sym said) put_now;
+            unwritten = λ put. ap is_written is.told ∙ conflict_unwritten reply conflict;
+          } in
+          gone_on same leaves (ap (λ q. out_of q ms2) e ∙ sym out_is)
+          (subst (λ q. Serves splits k2 w.s w.t x q ms2) (sym e) (record {
+            key = r.key;
+            value = r.value;
+            call = r.call;
+            m = back_with number reply r.m;
+            one = ms2_is;
+            lays = inr (record {
+              in_flight = l.in_flight;
+              anchor = l.anchor;
+              anchored = l.anchored;
+              said = came_request number reply r.m ∙ l.said;
+              first = l.first;
+              old = λ f. new_on (l.old f);
+              before = l.before;
+            });
+          }))
 
-    write_on : InCall splits k2 x p ms2
-    write_on = lays_on r.lays
+      write_on : InCall splits k2 x p ms2
+      write_on = lays_on r.lays
+
+    module _ (at : ℕ) (written : reply ≡ replies.Written at) where
+      low : at ≤ k2.high
+      low = let f : greatest_of (reply_stamps h.reply) ≡ max 0 at = ap (λ y. greatest_of (reply_stamps y)) (is.told ∙ written) in omega (arith, f)
+
+      landed : LaysNext k w.s w.t x r.key r.value again r.m ⊎ LaysLast k w.s w.t x r.key r.value again r.m → HasLanded again k2 (landed_at at x)
+      landed (inl l) = let f : false ≡ true = ap (progress_awaits number) (sym l.to_send) ∙ at_number in absurd cc
+      landed (inr l) =
+          let said : h.request ≡ last_put x l.anchor r.key r.value = same_request ∙ sym (ap (λ (m : Message). m.request) is_m) ∙ l.said in
+          let same : t2 ≡ txn_heard k.sent (Some (record { number = h.number; request = last_put x l.anchor r.key r.value; reply = replies.Written at; step = h.step })) w.t =
+          ap (λ q. txn_heard k.sent (Some (record { number = h.number; request = q; reply = h.reply; step = h.step })) w.t) said
+          ∙ ap (λ y. txn_heard k.sent (Some (record { number = h.number; request = last_put x l.anchor r.key r.value; reply = y; step = h.step })) w.t) (is.told ∙ written) in
+          let id : t2.id ≡ w.t.id = ap (λ t. t.id) same in
+          let epoch : t2.epoch ≡ w.t.epoch = ap (λ t. t.epoch) same in
+          let own_id : x.id ≡ w.t.id = ap (λ x. x.id) st.same in
+          let own_epoch : x.epoch ≡ w.t.epoch = ap (λ x. x.epoch) st.same in
+          let opened2 : IsOpenIn k2 t2 = record { others = map (txn_heard k.sent (Some h)) w.open_in.others; is_open = w.open_in.is_open; first = ap (map (txn_heard k.sent (Some h))) w.open_in.first } in
+          let out : Any (IsMessageAt number found.0.request) k.sent_now = far.0.out.now in
+          record {
+            t = t2;
+            open_in = opened2;
+            stands = last_landed k k2 w.t x (record { key = r.key; value = r.value }) l.anchor st l.in_flight l.anchored h at said (is.told ∙ written) gone low;
+            cause = w.cause;
+            s = w.s;
+            opened = w.opened;
+            none_in_flight = refl;
+            told = λ own. record {
+              t = t2;
+              opened = open_is k2 t2 opened2;
+              sent = (
+                out.0,
+                out.1,
+                out.2,
+                out.3,
+                record {
+                  seq = x.seq;
+                  key = r.key;
+                  value = r.value;
+                  asked = asks_for w.s r.key r.value r.call;
+                  put = subst (λ q. IsPutFor t2 r.key r.value x.seq q) (sym (out.4.asked ∙ sym same_request ∙ said)) (own_id ∙ sym id, own_epoch ∙ sym epoch, refl, refl, refl);
+                  first = not_false (first_by t2 w.t x.seq (sent_before k) id epoch (l.first own));
+                },
+              );
+            };
+            next = λ old. All-weaker (λ m. IsFirstPut k w.s w.t m → ⊥) (λ m. IsFirstPut k2 w.s t2 m → ⊥)
+                (λ m none f. none (record {
+                  seq = f.seq;
+                  key = f.key;
+                  value = f.value;
+                  asked = f.asked;
+                  put = put_back t2 w.t id epoch f.key f.value f.seq m.request f.put;
+                  first = subst (λ b. IsTrue (not b)) (first_same t2 w.t f.seq (sent_before k) id epoch) f.first;
+                })) k.sent_now (l.old old);
+          }
+
+      write_landed : HasLanded again k2 (landed_at at x)
+      write_landed = landed r.lays
 
   heard_by : (q : Purpose) → p ≡ q → Serves splits k w.s w.t x q ms → GoesOn q reply → InCall splits k2 x p ms2
   heard_by purposes.Read e r on =
@@ -381,3 +465,7 @@ module _ (session clock count : ℕ) (splits : List (List ℕ)) (k : Known) (x :
 
   pub call_heard : GoesOn p reply → InCall splits k2 x p ms2
   call_heard on = heard_by p refl w.serves on
+
+  -- its write was written
+  pub call_written : (again : Bool) (at : ℕ) → p ≡ purposes.Write again → reply ≡ replies.Written at → HasLanded again k2 (landed_at at x)
+  call_written again at e written = write_landed again e (subst (λ q. Serves splits k w.s w.t x q ms) e w.serves) at written

@@ -1,5 +1,6 @@
 -- An open call, and how its messages stand beside what its session knows.
 pub mod Committing
+pub mod Ended
 pub mod Fresh
 pub mod Giving
 pub mod Learned

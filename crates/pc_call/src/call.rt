@@ -1,11 +1,14 @@
-ghost use Rattle.std.specs.Prelude.{◌≡◌, ℕ, true, List, Option, None, Some, IfOk, OnOk};
+ghost use Rattle.std.specs.Prelude.{◌≡◌, ℕ, Bool, true, List, Option, None, Some, IfOk, OnOk};
 ghost use Rattle.std.specs.Option.{option_map};
+ghost use Rattle.pc_call.specs.declared.purpose.Purpose.TheVariants as purposes;
+ghost use Rattle.pc_call.specs.Ended.{HasLanded};
 ghost use Rattle.pc_call.specs.Giving.{MayBeGiven};
 ghost use Rattle.pc_call.specs.Learned.{known_heard, known_sent};
 ghost use Rattle.pc_call.specs.Opening.{GoesOn, after_send, laid_first, laid_with, reader_of};
 ghost use Rattle.pc_call.specs.Rounding.{MakesRound};
 ghost use Rattle.pc_call.specs.Serving.{InCall};
 ghost use Rattle.pc_proto.specs.declared.reply.Reply.{Reply};
+ghost use Rattle.pc_proto.specs.declared.reply.Reply.TheVariants as replies;
 ghost use Rattle.pc_proto.specs.declared.request.Request.{Request};
 ghost use Rattle.pc_txn.specs.Counted.{IsCounted};
 ghost use Rattle.pc_txn.specs.declared.txn.OpenTxn.{OpenTxn};
@@ -68,6 +71,13 @@ impl OpenCall {
         ensures stands { (session clock begun : ℕ) (splits : List (List ℕ)) (k : Known) (x : OpenTxn) (h : Heard) → IsCounted session clock begun k → InCall splits k x self.old.purpose self.old.wave → wave_awaits number self.old.wave ≡ true → IsHeardTo k number reply h → GoesOn self.old.purpose reply → InCall splits (known_heard h k) x self.new.purpose self.new.wave }
     {
         self.wave.heard(number, reply);
+    }
+
+    /// Its write was heard to be written at this timestamp, and it ends; where the write was of an earlier call, its own begins.
+    pub fn written(self, txn: &mut OpenTxn, ts: Timestamp)
+        ensures stands { (session clock begun number : ℕ) (splits : List (List ℕ)) (k : Known) (again : Bool) (h : Heard) → IsCounted session clock begun k → InCall splits k txn.old self.purpose self.wave → self.purpose ≡ purposes.Write again → wave_awaits number self.wave ≡ true → IsHeardTo k number (replies.Written ts) h → HasLanded again (known_heard h k) txn.new }
+    {
+        txn.land(ts);
     }
 
     /// The round of the conflict that the message of this number met was made: the message is to be sent again.
