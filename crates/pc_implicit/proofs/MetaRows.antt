@@ -33,7 +33,7 @@ use Rattle.pc_proto.specs.Requests.{subject}
 use Rattle.pc_proto.specs.Table.{Table, place_of, record_or_mark, records_after}
 use Rattle.pc_world.specs.Evaluation.{reply, state_after}
 use Rattle.pc_world.specs.Evaluation.Query.{write_stands}
-use Rattle.pc_world.specs.Evaluation.Refresh.{refresh_reply, refuter_in}
+use Rattle.pc_world.specs.Evaluation.Refresh.{refuter_in}
 use Rattle.pc_world.specs.RangeState.{RangeState}
 use Rattle.pc_implicit.proofs.IntentMetas.{AreInReply, get-names, intents-have, meta_named, push-has, put-names, refresh-has, reply-either, scan-names}
 

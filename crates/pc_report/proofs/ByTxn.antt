@@ -1,5 +1,5 @@
 -- What tables under transactions have after a value was kept.
-use Rattle.std.proofs.Common.{◌≡◌, ◌&&◌, ◌==◌, cond, Option, ap, ◌∙◌}
+use Rattle.std.proofs.Common.{◌≡◌, cond, Option, ap, ◌∙◌}
 use Rattle.std.specs.BTreeMap.{BTreeMap, Updates}
 use Rattle.pc_base.proofs.TxnOrder.{txn_equal}
 use Rattle.pc_base.specs.declared.transaction.TxnId.{TxnId}
