@@ -8,7 +8,7 @@ use Rattle.pc_base.specs.declared.actor.ActorId.TheVariants as actors
 use Rattle.pc_base.specs.declared.entry.Entry.{Entry}
 use Rattle.pc_desk.specs.Asks.{ReadsClock, asks_in, is_ask}
 use Rattle.pc_desk.specs.Keeping.{EachAfter, KeepsAs, KeepsEach, KeepsNext, ReadsEach}
-use Rattle.pc_desk.specs.OwnLog.{IsClient, IsOwnLog, LogMeaning, is_last}
+use Rattle.pc_desk.specs.OwnLog.{IsNoRange, IsOwnLog, LogMeaning, is_last}
 use Rattle.pc_history.specs.declared.pair.Pair.{Pair}
 use Rattle.pc_history.specs.declared.view.Part.{Part}
 use Rattle.pc_history.specs.declared.view.Known.{Known as KnownEntry}
@@ -35,7 +35,7 @@ pub asks_push : (own : List (Pair Event)) (p : Pair Event) → asks_in (own ++ p
 asks_push own p = count-push (λ (p : Pair Event). is_ask p.entry.event) own p
 
 -- what an actor that is no range may do may come next in its list
-pub local_does : (head : Head) (id : ActorId) (own : List (Pair Event)) (event : Event) (named : Option (Entry Event)) → IsClient id → IsActorOf head id → MayDo head id (known_of own) event → IsLocal head id own event named
+pub local_does : (head : Head) (id : ActorId) (own : List (Pair Event)) (event : Event) (named : Option (Entry Event)) → IsNoRange id → IsActorOf head id → MayDo head id (known_of own) event → IsLocal head id own event named
 local_does head (actors.Session number) own event named client there may = record { there = there; next = may }
 local_does head (actors.Recoverer number) own event named client there may = record { there = there; next = may }
 local_does head (actors.Range range) own event named client there may = absurd client
@@ -57,7 +57,7 @@ no_ask_reads rule asks (events.Tell answer) none = tt
 no_ask_reads rule asks (events.Meet id step) none = tt
 
 -- a list with no entry yet
-pub log_begun : {C : Type 0} (l : LogMeaning C) → IsActorOf l.head l.part.id → IsClient l.part.id → l.part ≡ newcomer l.part.id → l.limit < 2 ^ 32 → IfSome l.stop (λ n. 1 ≤ n) → IsOwnLog l
+pub log_begun : {C : Type 0} (l : LogMeaning C) → IsActorOf l.head l.part.id → IsNoRange l.part.id → l.part ≡ newcomer l.part.id → l.limit < 2 ^ 32 → IfSome l.stop (λ n. 1 ≤ n) → IsOwnLog l
 log_begun l there client fresh short one =
     let none : l.part.own ≡ [] = ap (λ (p : Part Event). p.own) fresh in
     let told : l.part.known ≡ [] = ap (λ (p : Part Event). p.known) fresh in

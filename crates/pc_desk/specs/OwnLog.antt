@@ -28,10 +28,10 @@ pub record LogMeaning (C : Type 0) : Type 0 where
   pub stopped : Bool
 
 -- The actor is a session or a recoverer.
-abbrev pub IsClient : ActorId → Type 0
-IsClient (actors.Session number) = ⊤
-IsClient (actors.Recoverer number) = ⊤
-IsClient (actors.Range range) = ⊥
+abbrev pub IsNoRange : ActorId → Type 0
+IsNoRange (actors.Session number) = ⊤
+IsNoRange (actors.Recoverer number) = ⊤
+IsNoRange (actors.Range range) = ⊥
 
 -- The next entry, after so many, is the one at which it stops.
 abbrev pub is_last : Option ℕ → ℕ → Bool
@@ -42,7 +42,7 @@ is_last (Some stop) long = stop == long + 1
 -- stops; it is sound, and stands in a fine history.
 pub record IsOwnLog {C : Type 0} (l : LogMeaning C) : Type 0 where
   pub there : IsActorOf l.head l.part.id
-  pub client : IsClient l.part.id
+  pub client : IsNoRange l.part.id
   pub whose : All (λ p. p.entry.actor ≡ l.part.id) l.part.own
   pub short : l.limit < 2 ^ 32
   pub within : length l.part.own ≤ l.limit

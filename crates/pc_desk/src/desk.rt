@@ -3,7 +3,7 @@ ghost use Rattle.pc_base.specs.Rising.{AreRising};
 ghost use Rattle.pc_desk.specs.declared.halt.Halt.TheVariants as halts;
 ghost use Rattle.pc_desk.specs.Desk.{EndsWithSend, HasDelivered, HasDone, HasHalted, HasHeardFirst, HasKept, HasPosted, HasSentNext, IsReadyToGo, KeepsTrack, MayHearNow, MaySendNow, new_desk, posted_as, uses_by};
 ghost use Rattle.pc_desk.specs.Keeping.{ReadsEach};
-ghost use Rattle.pc_desk.specs.OwnLog.{HasEntered, IsClient, IsOwnLog, MayEnter};
+ghost use Rattle.pc_desk.specs.OwnLog.{HasEntered, IsNoRange, IsOwnLog, MayEnter};
 ghost use Rattle.pc_history.specs.Parts.{newcomer, noted, told};
 ghost use Rattle.pc_proto.specs.declared.event.Event.TheVariants as events;
 ghost use Rattle.pc_proto.specs.Stamps.{request_stamps};
@@ -79,7 +79,7 @@ impl<'a, N: Named<CommitWorld>, C: Clock, V: Wire, G: Gate> Desk<'a, N, C, V, G>
         stop: Option<u64>,
     ) -> Desk<'a, N, C, V, G>
         requires there { IsActorOf actor.world actor.part.id }
-        requires client { IsClient actor.part.id }
+        requires client { IsNoRange actor.part.id }
         requires fresh { actor.part ≡ newcomer actor.part.id }
         requires unread { C.reads clock ≡ 0 }
         requires limit { limit < 2 ^ 32 }

@@ -1,6 +1,6 @@
 ghost use Rattle.std.specs.Prelude.{◌≡◌, ℕ, ◌+◌, ◌-◌, ◌<◌, ◌≤◌, ◌^◌, true, false, length, IfErr, IfOk, IfSome, OnErr, OnOk, Some};
 ghost use Rattle.pc_desk.specs.Keeping.{ReadsEach};
-ghost use Rattle.pc_desk.specs.OwnLog.{HasEntered, IsClient, IsHalt, IsOwnLog, IsReady, LogMeaning, MayEnter, Took};
+ghost use Rattle.pc_desk.specs.OwnLog.{HasEntered, IsNoRange, IsHalt, IsOwnLog, IsReady, LogMeaning, MayEnter, Took};
 ghost use Rattle.pc_history.specs.Parts.{gave, newcomer, noted};
 ghost use Rattle.pc_proto.specs.declared.event.Event.TheVariants as events;
 ghost use Rattle.pc_world.specs.Known.{known_of};
@@ -69,7 +69,7 @@ impl<N: Named<CommitWorld>, C: Clock> OwnLog<N, C> {
         stop: Option<u64>,
     ) -> OwnLog<N, C>
         requires there { IsActorOf actor.world actor.part.id }
-        requires client { IsClient actor.part.id }
+        requires client { IsNoRange actor.part.id }
         requires fresh { actor.part ≡ newcomer actor.part.id }
         requires unread { C.reads clock ≡ 0 }
         requires limit { limit < 2 ^ 32 }
