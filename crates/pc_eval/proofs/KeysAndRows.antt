@@ -1,5 +1,5 @@
 -- The keys and the rows of a scan, one element further; and the keys of versions and intents taken together.
-use Rattle.std.proofs.Common.{◌≡◌, List, [], ◌∷◌, ◌++◌, filter, fold, map, Option, refl, ap, ◌∙◌, arith}
+use Rattle.std.proofs.Common.{◌≡◌, ℕ, ◌+◌, ◌<◌, List, [], ◌∷◌, ◌++◌, length, take, filter, fold, map, slice_index_or, Option, refl, ap, ◌∙◌, arith}
 use Rattle.std.specs.declared.cmp.Ordering.{Ordering}
 use Rattle.std.specs.BTreeMap.{insert_entry}
 use Rattle.std.specs.BTreeSet.{insert_key}
@@ -26,6 +26,9 @@ module _ {K : Type 0} (cmp : K → K → Ordering) where
 
 pub rows_more : {A B : Type 0} (row : A → Option B) (xs : List A) (x : A) → filter_map row (xs ++ x ∷ []) ≡ filter_map row xs ++ option_to_list (row x)
 rows_more row xs x = grind (arith, common_steps, filter_map-append)
+
+pub mapped_more : {X A B : Type 0} (row : A → Option B) (now : X → A) (xs : List X) (i : ℕ) (x : X) → i < length xs → x ≡ slice_index_or xs i x → filter_map row (map now (take (i + 1) xs)) ≡ filter_map row (map now (take i xs)) ++ option_to_list (row (now x))
+mapped_more row now xs i x h e = grind (arith, common_steps, filter_map-append)
 
 pub keys_of_both : (span : Span) (s : RangeState) → keys_in span s ≡ fold (insert_key (slice_cmp nat_cmp)) (fold (insert_key (slice_cmp nat_cmp)) [] (filter (contains span) (map (λ v. v.key) s.versions))) (filter (contains span) (map (λ e. e.0) s.intents))
 keys_of_both span s =

@@ -1,3 +1,4 @@
 pub mod KeysAndRows
 pub mod OnRecord
 pub mod Room
+pub mod Seen

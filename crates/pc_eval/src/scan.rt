@@ -2,13 +2,16 @@
 //! written yet: the read bound keeps later writes above the read's timestamp.
 
 ghost use Rattle.std.specs.Prelude.{◌≡◌, IfOk, OnOk, OnErr, ◌++◌};
+ghost use Rattle.std.specs.List.{filter_map};
 ghost use Rattle.std.specs.Option.{option_to_list};
+ghost use Rattle.pc_eval.specs.RowOf.{row_of};
+ghost use Rattle.pc_mvcc.specs.VisibleIn.{visible_in};
 ghost use Rattle.pc_world.specs.Evaluation.{reply, state_after};
 ghost use Rattle.pc_world.specs.Evaluation.Scan.{keys_in, row_found, rows_in};
 
 use crate::put::conflict;
 use crate::state::RangeState;
-use pc_base::{Items, Key, NoMemory, Span, Timestamp, TxnId, Value};
+use pc_base::{Items, Key, NoMemory, Span, Timestamp, TryCopy, TxnId, Value, Version};
 use pc_proto::{Origin, Reply, Request, Rows};
 use std::collections::BTreeSet;
 
@@ -34,8 +37,38 @@ impl RangeState {
     }
 
     /// The rows that the scan finds.
-    #[tactic(auto, using(crate::proofs::KeysAndRows::rows_more))]
     fn rows_in(
+        &self,
+        id: TxnId,
+        epoch: u32,
+        seq: u32,
+        ts: Timestamp,
+        span: &Span,
+    ) -> Result<Rows, NoMemory>
+        ensures { IfOk result (λ made. made ≡ rows_in id epoch seq ts span.now self.now) }
+    {
+        if self.intents.any_in(span) {
+            self.rows_at_keys(id, epoch, seq, ts, span)
+        } else {
+            self.rows_of_versions(ts, span)
+        }
+    }
+
+    /// The rows of the versions that the scan sees.
+    fn rows_of_versions(&self, ts: Timestamp, span: &Span) -> Result<Rows, NoMemory>
+        ensures { IfOk result (λ made. made ≡ filter_map row_of (visible_in span.now ts self.now.versions)) }
+    {
+        let seen = self.versions.visible_in(span, ts)?;
+        let mut rows = Items::new(self.alloc);
+        for version in &seen {
+            add_version(&mut rows, version)?;
+        }
+        Ok(rows)
+    }
+
+    /// The rows that a get would find at each key, its own writes among them.
+    #[tactic(auto, using(crate::proofs::KeysAndRows::rows_more))]
+    fn rows_at_keys(
         &self,
         id: TxnId,
         epoch: u32,
@@ -71,6 +104,17 @@ fn add_row(rows: &mut Rows, key: Key, found: (Origin, Option<Value>)) -> Result<
     let (origin, value) = found;
     if let Some(value) = value {
         rows.add((key, origin, value))?;
+    }
+    Ok(())
+}
+
+/// Adds the row of a version, where it has a value.
+fn add_version(rows: &mut Rows, version: &Version) -> Result<(), NoMemory>
+    ensures { OnOk result (rows.new ≡ rows.old ++ option_to_list (row_of version.now)) }
+{
+    if let Some(value) = &version.value {
+        let key = version.key.copy()?;
+        rows.add((key, Origin::At(version.ts), value.copy()?))?;
     }
     Ok(())
 }
