@@ -6,12 +6,12 @@ ghost use Rattle.pc_work.specs.Built.{IsBuilt};
 ghost use Rattle.pc_program.specs.Output.{IsOutput, output_text};
 
 use pc_base::{Entry, NoMemory};
+use pc_clock::Clocks;
 use pc_journal::print_journal;
 use pc_proto::Event;
 use pc_range::Gate;
 use pc_report::{Report, print_report, report};
 use pc_runner::run_turns;
-use pc_clock::Clocks;
 use pc_work::Workload;
 use std::alloc::Global;
 

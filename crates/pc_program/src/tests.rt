@@ -1,6 +1,6 @@
 use super::*;
-use pc_io::{MemSink, MemSource};
 use pc_clock::Stepped;
+use pc_io::{MemSink, MemSource};
 use pc_vectors::{ROWS, Row};
 use std::alloc::Global;
 use std::test::Fail;

@@ -10,9 +10,9 @@ use crate::output::output;
 use crate::status::Status;
 use pc_base::NoMemory;
 use pc_base::limits::INPUT_BYTES;
+use pc_clock::Clocks;
 use pc_io::{ReadFault, Sink, Source, read_all, write_all};
 use pc_range::Gate;
-use pc_clock::Clocks;
 use pc_work::{WorkFault, Workload};
 use std::alloc::Global;
 

@@ -17,7 +17,8 @@ use std::marker::Model;
 /// Pushes the holder of an intent that stood in the way, and settles the intent as the push came out.
 ///
 /// A reader moves the holder past its read, a writer aborts it. Where the push met a staging record, `next` gives it as settled;
-/// the caller runs a recovery then, and tells the machine the reply to its `Recover`.
+/// the caller runs a recovery then, and tells the machine the reply to its `Recover`. What it was answered stays true: the laws
+/// `views_stay_true` and `final_views_stay` of `pc_implicit`.
 #[derive(Drop)]
 pub struct PushMachine {
     holder: TxnMeta,

@@ -15,7 +15,8 @@ use std::marker::Model;
 /// Recovers a transaction whose record a push met staging: each write that the record lists is asked for in order, up to the first
 /// that is missing; then the record is decided by what was found.
 ///
-/// At the end `next` gives the view that the recovery was answered with: as settled where it is final, else as changed.
+/// At the end `next` gives the view that the recovery was answered with: as settled where it is final, else as changed. Recoveries of one
+/// transaction agree, and a write that was missing stays so: the laws `recoveries_agree` and `missing_stays` of `pc_implicit`.
 #[derive(Drop)]
 pub struct RecoverMachine {
     holder: TxnMeta,

@@ -12,6 +12,9 @@ use pc_proto::{Fate, Keys, MachineNext, Reply, Request};
 use std::marker::Model;
 
 /// Finishes a transaction: each of its locks is settled with its fate, in key order, and then its record is removed.
+///
+/// Versions come of committed transactions alone, and nothing that was committed is lost by it: the laws `versions_are_committed` and
+/// `writes_of_committed` of `pc_implicit`.
 #[derive(Drop)]
 pub struct ResolveMachine {
     id: TxnId,

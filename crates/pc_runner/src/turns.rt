@@ -12,13 +12,16 @@ ghost use Rattle.pc_world.specs.Unstaged.{NothingIsStaged};
 use crate::database::Database;
 use crate::session::SessionRun;
 use pc_base::{Entry, NoMemory};
+use pc_clock::Clocks;
 use pc_proto::Event;
 use pc_range::Gate;
-use pc_clock::Clocks;
 use pc_work::{Turn, Workload};
 use std::alloc::Global;
 
 /// Runs a workload in turns, and gives its history: a run of the protocol, which follows the workload.
+///
+/// What every run keeps, this one keeps: the laws `decisions_do_not_differ` and `outcomes_are_true` of `pc_implicit`, `commits_are_ordered`,
+/// `histories_are_legal` and `one_session_runs_plainly` of `pc_serial`.
 ///
 /// A workload that was read is of the form that is required. Readings are those of the sessions' clocks, in nanoseconds; an entry's
 /// step is its place in the list. The clocks and the gate that are handed in are not called: each session's clock is the workload's.

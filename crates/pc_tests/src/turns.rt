@@ -1,8 +1,8 @@
 use pc_base::{ActorId, Entry};
+use pc_clock::Stepped;
 use pc_proto::Event;
 use pc_range::NoGate;
 use pc_runner::run_turns;
-use pc_clock::Stepped;
 use pc_work::Workload;
 use std::alloc::Global;
 use std::test::Fail;
