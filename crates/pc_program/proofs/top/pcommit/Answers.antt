@@ -2,7 +2,7 @@ use Rattle.std.proofs.Common.{◌≡◌, ◌↔◌, None, IsSome, map, string_by
 use Rattle.pc_io.specs.Reading.{IsAllOf, TakesExactly}
 use Rattle.pc_program.specs.declared.status.Status.TheVariants as statuses
 use Rattle.pc_program.specs.Causes.{AskForRun, HasBegunWriting}
-use Rattle.pc_program.proofs.Ends.{carried, done_carried, not_long, unless}
+use Rattle.pc_program.proofs.Ends.{carried, done_carried, not_long, part_carried, unless}
 use Rattle.pc_work.specs.Workload.{IsJson, workload_in}
 use Rattle.pc_program.proofs.top.pcommit.Goals as goal
 
@@ -36,3 +36,9 @@ returns-in-Ok-clause-done g c =
     done_carried (g.M.Clocks.rules c.args.clocks.now) (g.K.Sink.taken c.args.sink.now) (g.K.Sink.taken c.run.new.sink)
     (g.S.Source.left c.args.source.now) c.deref.result.now (subst (IsAllOf (g.S.Source.left c.args.source.now)) (sym c.deref.ensures.value) c.in-Ok.ensures.ok)
     c.run.result c.run.ensures.done
+
+pub returns-in-Ok-clause-part : goal.returns-in-Ok-clause-part
+returns-in-Ok-clause-part g c =
+    part_carried (g.M.Clocks.rules c.args.clocks.now) (g.K.Sink.taken c.args.sink.now) (g.K.Sink.taken c.run.new.sink)
+    (g.S.Source.left c.args.source.now) c.deref.result.now (subst (IsAllOf (g.S.Source.left c.args.source.now)) (sym c.deref.ensures.value) c.in-Ok.ensures.ok)
+    c.run.result c.run.ensures.part
