@@ -1,4 +1,4 @@
-ghost use Rattle.std.specs.Prelude.{◌≡◌, ℕ, true, false, ◌==◌, ◌||◌, ◌&&◌, not, ◌++◌, [], ◌∷◌, find, IfOk, OnOk, position};
+ghost use Rattle.std.specs.Prelude.{◌≡◌, ℕ, true, false, ◌==◌, ◌||◌, ◌&&◌, not, ◌++◌, [], ◌∷◌, find, IfOk, OnErr, OnOk, position};
 ghost use Rattle.std.specs.Option.{option_copied};
 ghost use Rattle.std.specs.List.{list_all, list_any};
 ghost use Rattle.pc_wave.specs.Messages.{awaits_at, back_with, conflicts_at, first_changed, first_in_conflict, goes_again, has_answer, is_out, is_in_conflict, is_to_send, message_to_send, step_of, step_without, wave_awaits, sent_under};
@@ -47,6 +47,7 @@ impl Wave {
     pub fn add(&mut self, request: Request) -> Result<(), NoMemory>
         ensures made { OnOk result (self.new ≡ self.old ++ message_to_send request ∷ []) }
         ensures stands { (k : Known) → WaveStands k self.old → MayJoin k self.old request → OnOk result (WaveStands k self.new) }
+        ensures refused { OnErr result (self.new ≡ self.old) }
     {
         self.messages.push(Message::to_send(request))?;
         Ok(())
