@@ -2,9 +2,8 @@ ghost use Rattle.std.specs.Prelude.{◌≡◌, true, IfOk};
 ghost use Rattle.pc_proto.specs.Replies.{is_conflict};
 
 use pc_base::{Items, Key, Priority, Timestamp, TxnId, Who};
-use pc_proto::{Fate, Goal, Keys, Reply, Request, TxnMeta, View, Why, Writes};
+use pc_proto::{Fate, Goal, Keys, MachineNext, Reply, Request, TxnMeta, View, Why, Writes};
 use pc_push::PushMachine;
-use pc_world::MachineNext;
 use std::alloc::Global;
 use std::test::Fail;
 

@@ -1,7 +1,6 @@
 use pc_base::{Items, Key, Timestamp, TxnId};
-use pc_proto::{Fate, Keys, Reply, Request};
+use pc_proto::{Fate, Keys, MachineNext, Reply, Request};
 use pc_resolve::ResolveMachine;
-use pc_world::MachineNext;
 use std::alloc::Global;
 use std::test::Fail;
 
