@@ -1,8 +1,8 @@
 -- Transactions by number.
-use Rattle.std.specs.Prelude.{◌≡◌, ℕ, ◌+◌, List, [], ◌∷◌, ⊤}
+use Rattle.std.specs.Prelude.{◌≡◌, ℕ, ◌+◌, List, [], ◌∷◌, length, ⊤}
 use Rattle.pc_world.specs.Known.Transactions.{Txn}
 
--- The transactions are numbered one by one, from the one after this.
-abbrev pub AreBegunInOrder : ℕ → List Txn → Type 0
-AreBegunInOrder last [] = ⊤
-AreBegunInOrder last (t ∷ txns) = (t.id.number ≡ last + 1) × AreBegunInOrder (last + 1) txns
+-- The transactions, the last one begun standing first, are numbered by their begins from 1.
+abbrev pub AreNumbered : List Txn → Type 0
+AreNumbered [] = ⊤
+AreNumbered (t ∷ txns) = (t.id.number ≡ length txns + 1) × AreNumbered txns

@@ -10,9 +10,9 @@ mod write;
 mod writes;
 
 pub use locks::{Lock, Locks};
-pub use read::OwnRead;
+pub use read::{OwnRead, contains, holds, part_of};
 pub use reads::Reads;
-pub use txn::OwnTxn;
+pub use txn::{OwnTxn, Restart, has_staged, status_ts};
 pub use txns::Txns;
 pub use write::OwnWrite;
 pub use writes::Writes;

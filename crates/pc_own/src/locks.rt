@@ -6,7 +6,6 @@ ghost use Rattle.pc_own.specs.Place.{lock_place};
 ghost use Rattle.pc_world.specs.Known.Transactions.{with_lock};
 
 use pc_base::{Key, NoMemory};
-use pc_known::is_key;
 use pc_proto::Keys;
 use std::alloc::Global;
 use std::marker::Model;
@@ -81,7 +80,7 @@ fn are_same(keys: &[Key], locks: &[Lock<'_>]) -> bool
         return false;
     }
     for (place, key) in keys.iter().enumerate() {
-        if !is_key(key, locks[place].key) {
+        if !is_at(locks, place, key) {
             return false;
         }
     }

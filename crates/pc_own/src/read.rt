@@ -1,6 +1,6 @@
 ghost use Rattle.std.specs.Prelude.{◌≡◌, IsTrue};
 ghost use Rattle.std.specs.Option.{option_copied, option_to_list};
-ghost use Rattle.pc_base.specs.Span.{is_before, is_from};
+ghost use Rattle.pc_base.specs.Span.{contains, is_before, is_from};
 ghost use Rattle.pc_known.specs.Parts.{part_span};
 ghost use Rattle.pc_world.specs.Known.Reads.{ends_after, holds_span, read_heard, starts_by};
 
@@ -110,5 +110,15 @@ fn ends_after(one: Option<&Key>, other: Option<&Key>) -> bool
         (None, _) => true,
         (Some(_), None) => false,
         (Some(one), Some(other)) => other <= one,
+    }
+}
+
+/// Whether the span has the key.
+pub fn contains(span: Part<'_>, key: &Key) -> bool
+    ensures { result ≡ contains (part_span span.entry) key.now }
+{
+    match span {
+        Part::One(one) => key == one,
+        Part::Between { from, to } => is_from(from, key) && is_before(to, key),
     }
 }

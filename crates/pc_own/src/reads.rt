@@ -63,11 +63,24 @@ fn add_reads<'a>(
     ensures { (k : Known) → KeepsSends k sends.now → OnOk result (reads.new.items ≡ reads.old.items ++ reads_heard (replies_to k.sent_now heard.now)) }
 {
     for hearing in heard {
-        if sends.was_sent_now(hearing.number) {
-            add_read(reads, hearing)?;
-        }
+        tell_one(reads, sends, hearing)?;
     }
     Ok(())
+}
+
+/// What this reply read, where it is to a message of the open call, was told.
+fn tell_one<'a>(
+    reads: &mut Vec<OwnRead<'a>>,
+    sends: &Sends<'a>,
+    hearing: &Hearing<'a>,
+) -> Result<(), NoMemory>
+    ensures { (k : Known) → KeepsSends k sends.now → OnOk result (reads.new.items ≡ reads.old.items ++ reads_heard (replies_to k.sent_now (hearing.now ∷ []))) }
+{
+    if sends.was_sent_now(hearing.number) {
+        add_read(reads, hearing)
+    } else {
+        Ok(())
+    }
 }
 
 fn add_read<'a>(reads: &mut Vec<OwnRead<'a>>, hearing: &Hearing<'a>) -> Result<(), NoMemory>

@@ -1,9 +1,11 @@
-ghost use Rattle.std.specs.Prelude.{◌≡◌, ◌+◌, ◌∷◌, ◌↔◌, [], Some, Contains, OnOk, length, map};
+ghost use Rattle.std.specs.Prelude.{◌≡◌, ◌∷◌, ◌↔◌, [], Some, Contains, OnOk, length, map, slice_get};
 ghost use Rattle.std.specs.Option.{option_copied};
 ghost use Rattle.pc_known.specs.Sends.{KeepsSends};
+ghost use Rattle.pc_own.specs.Changes.{ChangesAt, raised_by, writer_of};
+ghost use Rattle.pc_own.specs.Numbered.{AreNumbered};
 ghost use Rattle.pc_world.specs.Known.{Known, first_if, told_first};
 ghost use Rattle.pc_world.specs.Known.Traffic.{replies_to};
-ghost use Rattle.pc_world.specs.Known.Transactions.{Txn, txn_heard, txn_sent};
+ghost use Rattle.pc_world.specs.Known.Transactions.{Txn, txn_heard, txn_sent, txn_told};
 
 use crate::txn::OwnTxn;
 use pc_base::{NoMemory, TxnId};
@@ -21,14 +23,11 @@ pub struct Txns<'a> {
 
 impl<'a> Model for Txns<'a> {
     ghost use Rattle.std.specs.Prelude.{List, reverse};
-    ghost use Rattle.pc_own.specs.Numbered.{AreBegunInOrder};
     ghost use Rattle.pc_world.specs.Known.Transactions.{Txn};
 
     ghost Value = { List Txn };
 
     ghost view = { λ x. reverse x.txns.items };
-
-    ghost invariant = { λ x. AreBegunInOrder 0 x.txns.items };
 }
 
 impl<'a> Txns<'a> {
@@ -51,17 +50,17 @@ impl<'a> Txns<'a> {
 
     /// The one of this id.
     pub fn own(&self, id: TxnId) -> Option<&OwnTxn<'a>>
-        ensures { (t : Txn) → (option_copied result ≡ Some t) ↔ (Contains self.now t × (t.id ≡ id)) }
+        ensures { AreNumbered self.now → (t : Txn) → (option_copied result ≡ Some t) ↔ (Contains self.now t × (t.id ≡ id)) }
     {
-        let place = id.number.checked_sub(1)?;
-        let txn = self.txns.get(place as usize)?;
-        if txn.id() == id { Some(txn) } else { None }
+        match id.number.checked_sub(1) {
+            Some(place) => one_of(at(&self.txns, place as usize), id),
+            None => None,
+        }
     }
 
     /// The next one was begun.
     pub fn begin(&mut self, txn: OwnTxn<'a>) -> Result<(), NoMemory>
-        requires { txn.id.number ≡ length self.old + 1 }
-        ensures { OnOk result (self.new ≡ txn ∷ self.old) }
+        ensures { OnOk result (self.new ≡ txn.entry ∷ self.old) }
     {
         self.txns.push(txn)?;
         Ok(())
@@ -69,20 +68,12 @@ impl<'a> Txns<'a> {
 
     /// The transactions after their session sent a message. After a refusal nothing is known.
     pub fn send(&mut self, request: &'a Request) -> Result<(), NoMemory>
-        ensures { OnOk result (self.new ≡ map (txn_sent request.now) self.old) }
+        ensures { AreNumbered self.old → OnOk result (self.new ≡ map (txn_sent request.now) self.old) }
     {
-        let id = match request {
-            Request::Put { meta, .. }
-            | Request::Stage { meta, .. }
-            | Request::Commit { meta, .. } => meta.id,
-            _ => return Ok(()),
-        };
-        if let Some(place) = id.number.checked_sub(1)
-            && let Some(txn) = self.txns.get_mut(place as usize)
-        {
-            txn.send(self.alloc, request)?;
+        match writer_of(request) {
+            None => Ok(()),
+            Some(number) => send_at(&mut self.txns, self.alloc, number, request),
         }
-        Ok(())
     }
 
     /// The transactions after their session heard a reply. After a refusal nothing is known.
@@ -91,22 +82,12 @@ impl<'a> Txns<'a> {
         sent: &[Message<'_>],
         hearing: &Hearing<'_>,
     ) -> Result<(), NoMemory>
-        ensures { OnOk result (self.new ≡ map (txn_heard sent.now (Some hearing.now)) self.old) }
+        ensures { AreNumbered self.old → OnOk result (self.new ≡ map (txn_heard sent.now (Some hearing.now)) self.old) }
     {
-        let id = match hearing.request {
-            Request::Put { meta, .. }
-            | Request::Beat { meta, .. }
-            | Request::Stage { meta, .. }
-            | Request::Commit { meta, .. } => meta.id,
-            Request::Query { id, .. } => *id,
-            _ => return Ok(()),
-        };
-        if let Some(place) = id.number.checked_sub(1)
-            && let Some(txn) = self.txns.get_mut(place as usize)
-        {
-            txn.hear(sent, hearing)?;
+        match raised_by(hearing.request) {
+            None => Ok(()),
+            Some(number) => hear_at(&mut self.txns, number, sent, hearing),
         }
-        Ok(())
     }
 
     /// The transactions after the last one, which is open, was told an answer. After a refusal nothing is known.
@@ -118,9 +99,97 @@ impl<'a> Txns<'a> {
     ) -> Result<(), NoMemory>
         ensures { (k : Known) → KeepsSends k sends.now → OnOk result (self.new ≡ told_first answer.now (replies_to k.sent_now heard_now.now) self.old) }
     {
-        if let Some(txn) = self.txns.last_mut() {
-            txn.tell(answer, sends, heard_now)?;
-        }
-        Ok(())
+        tell_last(&mut self.txns, answer, sends, heard_now)
     }
+}
+
+/// The transaction at a place.
+fn at<'b, 'a>(txns: &'b [OwnTxn<'a>], place: usize) -> Option<&'b OwnTxn<'a>>
+    ensures { option_copied result ≡ slice_get txns.now place }
+{
+    txns.get(place)
+}
+
+/// The transaction, where it has this id.
+fn one_of<'b, 'a>(txn: Option<&'b OwnTxn<'a>>, id: TxnId) -> Option<&'b OwnTxn<'a>>
+    ensures { (t : Txn) → (option_copied result ≡ Some t) ↔ ((option_copied txn.entry ≡ Some t) × (t.id ≡ id)) }
+{
+    match txn {
+        Some(txn) if txn.id() == id => Some(txn),
+        _ => None,
+    }
+}
+
+/// The number of the transaction that sending the request may change.
+fn writer_of(request: &Request) -> Option<u32>
+    ensures { result ≡ writer_of request.now }
+{
+    match request {
+        Request::Put { meta, .. }
+        | Request::Stage { meta, .. }
+        | Request::Commit { meta, .. } => Some(meta.id.number),
+        _ => None,
+    }
+}
+
+/// The number of the transaction that a reply to the request may change.
+fn raised_by(request: &Request) -> Option<u32>
+    ensures { result ≡ raised_by request.now }
+{
+    match request {
+        Request::Put { meta, .. }
+        | Request::Beat { meta, .. }
+        | Request::Stage { meta, .. }
+        | Request::Commit { meta, .. } => Some(meta.id.number),
+        Request::Query { id, .. } => Some(id.number),
+        _ => None,
+    }
+}
+
+fn send_at<'a>(
+    txns: &mut Vec<OwnTxn<'a>>,
+    alloc: Global,
+    number: u32,
+    request: &'a Request,
+) -> Result<(), NoMemory>
+    ensures { OnOk result (ChangesAt number (txn_sent request.now) txns.old.items txns.new.items) }
+{
+    if let Some(place) = number.checked_sub(1)
+        && let Some(txn) = txns.get_mut(place as usize)
+    {
+        txn.send(alloc, request)?;
+    }
+    Ok(())
+}
+
+fn hear_at<'a>(
+    txns: &mut Vec<OwnTxn<'a>>,
+    number: u32,
+    sent: &[Message<'_>],
+    hearing: &Hearing<'_>,
+) -> Result<(), NoMemory>
+    ensures { OnOk result (ChangesAt number (txn_heard sent.now (Some hearing.now)) txns.old.items txns.new.items) }
+{
+    if let Some(place) = number.checked_sub(1)
+        && let Some(txn) = txns.get_mut(place as usize)
+    {
+        txn.hear(sent, hearing)?;
+    }
+    Ok(())
+}
+
+fn tell_last<'a>(
+    txns: &mut Vec<OwnTxn<'a>>,
+    answer: &'a Answer,
+    sends: &Sends<'a>,
+    heard_now: &[Hearing<'a>],
+) -> Result<(), NoMemory>
+    ensures { (k : Known) → KeepsSends k sends.now → OnOk result (ChangesAt (length txns.old.items) (txn_told answer.now (replies_to k.sent_now heard_now.now)) txns.old.items txns.new.items) }
+{
+    if let Some(place) = txns.as_slice().len().checked_sub(1)
+        && let Some(txn) = txns.get_mut(place)
+    {
+        txn.tell(answer, sends, heard_now)?;
+    }
+    Ok(())
 }

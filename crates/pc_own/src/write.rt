@@ -58,7 +58,7 @@ impl<'a> OwnWrite<'a> {
     pub fn is_proved_by(&self, ts: Timestamp) -> bool
         ensures { IsTrue result ↔ IsProvedBy ts self.now }
     {
-        self.proofs.iter().any(|proof| *proof <= ts)
+        is_some_by(&self.proofs, ts)
     }
 
     /// Whether it was sent at this timestamp.
@@ -92,4 +92,17 @@ impl<'a> OwnWrite<'a> {
         }
         Ok(())
     }
+}
+
+/// Whether some proof is at or below this timestamp.
+fn is_some_by(proofs: &[Timestamp], ts: Timestamp) -> bool
+    ensures { IsTrue result ↔ Any (λ proof. proof ≤ ts) proofs.now }
+{
+    proofs.iter().any(|proof| is_by(*proof, ts))
+}
+
+fn is_by(proof: Timestamp, ts: Timestamp) -> bool
+    ensures { IsTrue result ↔ (proof ≤ ts) }
+{
+    proof <= ts
 }

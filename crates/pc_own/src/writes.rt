@@ -1,7 +1,7 @@
-ghost use Rattle.std.specs.Prelude.{◌≡◌, ◌==◌, ◌↔◌, [], IsTrue, OnOk, map};
+ghost use Rattle.std.specs.Prelude.{◌≡◌, ◌==◌, ◌<◌, [], OnOk, length, map, slice_index_or, slice_set};
 ghost use Rattle.std.specs.List.{list_any};
 ghost use Rattle.std.specs.Option.{option_copied};
-ghost use Rattle.pc_world.specs.Known.Writes.{asked_again, last_seq_of, proved_at, with_put};
+ghost use Rattle.pc_world.specs.Known.Writes.{Write, asked_again, last_seq_of, proved_at, with_put};
 
 use crate::write::OwnWrite;
 use pc_base::{Key, NoMemory, Timestamp, Value};
@@ -99,10 +99,23 @@ fn has(writes: &[OwnWrite<'_>], seq: u32) -> bool
 fn ask_again(writes: &mut Vec<OwnWrite<'_>>, seq: u32, ts: Timestamp) -> Result<(), NoMemory>
     ensures { OnOk result (writes.new.items ≡ map (asked_again seq ts) writes.old.items) }
 {
-    for place in 0..writes.len() {
-        if let Some(write) = writes.get_mut(place) {
-            write.ask_again(seq, ts)?;
-        }
+    let count = writes.as_slice().len();
+    for place in 0..count {
+        ask_at(writes, place, seq, ts)?;
+    }
+    Ok(())
+}
+
+fn ask_at(
+    writes: &mut Vec<OwnWrite<'_>>,
+    place: usize,
+    seq: u32,
+    ts: Timestamp,
+) -> Result<(), NoMemory>
+    ensures { (d : Write) → place < length writes.old.items → OnOk result (writes.new.items ≡ slice_set writes.old.items place (asked_again seq ts (slice_index_or writes.old.items place d))) }
+{
+    if let Some(write) = writes.get_mut(place) {
+        write.ask_again(seq, ts)?;
     }
     Ok(())
 }
@@ -115,10 +128,24 @@ fn prove(
 ) -> Result<(), NoMemory>
     ensures { OnOk result (writes.new.items ≡ map (proved_at key.now seq ts) writes.old.items) }
 {
-    for place in 0..writes.len() {
-        if let Some(write) = writes.get_mut(place) {
-            write.prove_at(key, seq, ts)?;
-        }
+    let count = writes.as_slice().len();
+    for place in 0..count {
+        prove_at(writes, place, key, seq, ts)?;
+    }
+    Ok(())
+}
+
+fn prove_at(
+    writes: &mut Vec<OwnWrite<'_>>,
+    place: usize,
+    key: &Key,
+    seq: u32,
+    ts: Timestamp,
+) -> Result<(), NoMemory>
+    ensures { (d : Write) → place < length writes.old.items → OnOk result (writes.new.items ≡ slice_set writes.old.items place (proved_at key.now seq ts (slice_index_or writes.old.items place d))) }
+{
+    if let Some(write) = writes.get_mut(place) {
+        write.prove_at(key, seq, ts)?;
     }
     Ok(())
 }

@@ -1,0 +1,4 @@
+-- What one actor may do next, by what is kept of its entries.
+pub mod Again
+pub mod Furthest
+pub mod Keeping
