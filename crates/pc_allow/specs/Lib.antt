@@ -2,3 +2,7 @@
 pub mod Again
 pub mod Furthest
 pub mod Keeping
+pub mod Reading
+pub mod Settled
+pub mod Taking
+pub mod Telling

@@ -72,7 +72,12 @@ fn is_good_at(read: &OwnRead<'_>, id: TxnId, heard: &[Hearing<'_>], ts: u128) ->
 fn are_good_at(reads: &[OwnRead<'_>], id: TxnId, heard: &[Hearing<'_>], ts: u128) -> bool
     ensures { IsTrue result ↔ All (IsGoodAt id heard.now ts) reads.now }
 {
-    reads.iter().all(|read| is_good_at(read, id, heard, ts))
+    for read in reads {
+        if !is_good_at(read, id, heard, ts) {
+            return false;
+        }
+    }
+    true
 }
 
 /// Whether each read of the transaction's epoch is good at this timestamp, which is not below its begin.

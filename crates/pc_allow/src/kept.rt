@@ -6,14 +6,13 @@ ghost use Rattle.pc_world.specs.Known.Transactions.{Txn};
 ghost use Rattle.pc_world.specs.Send.Put.{AsksFor};
 ghost use Rattle.pc_world.specs.StageFate.{IsUncommitted};
 
+use crate::writing::is_value;
 use pc_base::{Key, TxnId, Value};
 use pc_known::fate::is_uncommitted;
-use pc_known::{Calls, Hearing, Heards, Message, Sends, is_key};
+use pc_known::{Calls, Heards, Hearing, Message, Sends, is_key};
 use pc_own::{OwnTxn, Txns};
 use pc_proto::Call;
 use std::alloc::Global;
-
-use crate::writing::is_value;
 
 /// What is kept of one actor: its open call, its messages, the replies that it heard and its transactions.
 #[derive(Drop)]

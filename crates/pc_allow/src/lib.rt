@@ -3,6 +3,14 @@
 
 mod good;
 mod kept;
+mod pushing;
+mod reading;
+mod refusing;
+mod same;
+mod settling;
+mod stages;
+mod taking;
+mod telling;
 mod views;
 mod writing;
 

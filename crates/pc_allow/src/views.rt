@@ -1,6 +1,6 @@
 //! The views of a transaction that were heard.
 
-ghost use Rattle.std.specs.Prelude.{◌≡◌, ◌↔◌, ℕ, false, Any, IsTrue, List, Some};
+ghost use Rattle.std.specs.Prelude.{◌≡◌, ◌↔◌, ℕ, false, find, Any, IsTrue, List, Some};
 ghost use Rattle.std.specs.Option.{option_copied, option_map_or};
 ghost use Rattle.pc_proto.specs.Replies.{view_in};
 ghost use Rattle.pc_proto.specs.Requests.{subject_anchor};
@@ -79,12 +79,7 @@ fn shows_staging(id: TxnId, epoch: u64, ts: Timestamp, hearing: &Hearing<'_>) ->
 }
 
 /// Whether the transaction was heard to stage at this epoch and timestamp.
-pub(crate) fn was_staging(
-    id: TxnId,
-    epoch: u64,
-    ts: Timestamp,
-    heard: &[Hearing<'_>],
-) -> bool
+pub(crate) fn was_staging(id: TxnId, epoch: u64, ts: Timestamp, heard: &[Hearing<'_>]) -> bool
     ensures { IsTrue result ↔ Any (λ h. IsTrue (shows_staging id epoch ts h)) heard.now }
 {
     heard
@@ -97,13 +92,8 @@ pub(crate) fn is_why(one: &Why, other: &Why) -> bool
     ensures { IsTrue result ↔ (one.now ≡ other.now) }
 {
     match (one, other) {
-        (
-            Why::Refresh { key, ts },
-            Why::Refresh {
-                key: other,
-                ts: at,
-            },
-        ) => is_key(key, other) && *ts == *at,
+        (Why::Refresh { key, ts }, Why::Refresh { key: other, ts: at }) => is_key(key, other)
+            && *ts == *at,
         (Why::Pushed { by }, Why::Pushed { by: other }) => *by == *other,
         (
             Why::Missing { key, by },
@@ -145,18 +135,32 @@ pub(crate) fn was_aborted(id: TxnId, why: &Why, heard: &[Hearing<'_>]) -> bool
 fn is_fate_of(view: &View, fate: Fate) -> bool
     ensures { IsTrue result ↔ IsFateOf view.now fate }
 {
-    match (view, fate) {
-        (
-            View::Committed { epoch, ts, .. },
-            Fate::Committed {
-                epoch: at_epoch,
-                ts: at,
-            },
-        ) => at_epoch == *epoch && at == *ts,
-        (View::Aborted { .. }, Fate::Aborted) => true,
-        (View::Pending { ts, .. } | View::Staging { ts, .. }, Fate::Pending { ts: at }) => {
-            at <= *ts
-        }
+    match fate {
+        Fate::Committed { epoch, ts } => is_committed_so(view, epoch, ts),
+        Fate::Aborted => matches!(view, View::Aborted { .. }),
+        Fate::Pending { ts } => reaches(view, ts),
+    }
+}
+
+fn is_committed_so(view: &View, epoch: u32, ts: Timestamp) -> bool
+    ensures { IsTrue result ↔ IsFateOf view.now (Fate.Committed epoch ts) }
+{
+    match view {
+        View::Committed {
+            epoch: at_epoch,
+            ts: at,
+            ..
+        } => epoch == *at_epoch && ts == *at,
+        _ => false,
+    }
+}
+
+/// Whether the record is not final and stands at this timestamp or above it.
+fn reaches(view: &View, at: Timestamp) -> bool
+    ensures { IsTrue result ↔ IsFateOf view.now (Fate.Pending at) }
+{
+    match view {
+        View::Pending { ts, .. } | View::Staging { ts, .. } => at <= *ts,
         _ => false,
     }
 }
@@ -202,10 +206,17 @@ fn subject_anchor(request: &Request) -> Option<&Key>
 pub(crate) fn anchor_heard<'a>(id: TxnId, heard: &[Hearing<'a>]) -> Option<&'a Key>
     ensures { option_copied result ≡ anchor_heard id heard.now }
 {
-    match heard.iter().find(|hearing| shows_view(id, hearing)) {
+    match first_view(id, heard) {
         Some(hearing) => subject_anchor(hearing.request),
         None => None,
     }
+}
+
+/// The first reply that shows a view of the transaction.
+fn first_view<'b, 'a>(id: TxnId, heard: &'b [Hearing<'a>]) -> Option<&'b Hearing<'a>>
+    ensures { option_copied result ≡ find (shows_view id) heard.now }
+{
+    heard.iter().find(|hearing| shows_view(id, hearing))
 }
 
 /// The locks of a final view.

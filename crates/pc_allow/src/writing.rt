@@ -24,7 +24,7 @@ pub(crate) fn is_value(one: &Value, other: &Value) -> bool
     one == other
 }
 
-fn is_value_or_none(one: Option<&Value>, other: Option<&Value>) -> bool
+pub(crate) fn is_value_or_none(one: Option<&Value>, other: Option<&Value>) -> bool
     ensures { IsTrue result ↔ (option_copied one.entry ≡ option_copied other.entry) }
 {
     match (one, other) {
@@ -51,7 +51,12 @@ fn is_proved_if_in(span: Part<'_>, write: &OwnWrite<'_>) -> bool
 pub(crate) fn are_proved_by(writes: &[OwnWrite<'_>], ts: Timestamp) -> bool
     ensures { IsTrue result ↔ All (IsProvedBy ts) writes.now }
 {
-    writes.iter().all(|write| write.is_proved_by(ts))
+    for write in writes {
+        if !write.is_proved_by(ts) {
+            return false;
+        }
+    }
+    true
 }
 
 /// Whether each earlier write of the key is proved.
@@ -95,9 +100,7 @@ fn is_some_sent_again(
 ) -> bool
     ensures { IsTrue result ↔ Any (IsSentAgain write_ts seq ts key.now (option_copied value.entry)) writes.now }
 {
-    writes
-        .iter()
-        .any(|write| is_sent_again(write, write_ts, seq, ts, key, value))
+    writes.iter().any(|write| is_sent_again(write, write_ts, seq, ts, key, value))
 }
 
 impl<'a> Kept<'a> {
@@ -112,7 +115,8 @@ impl<'a> Kept<'a> {
     ) -> bool
         ensures { (k : Known) → Keeps k self.now → IsTrue result ↔ MaySendPut k meta.now seq ts key.now (option_copied value.entry) }
     {
-        self.may_put_first(meta, seq, ts, key, value) || self.may_put_again(meta, seq, ts, key, value)
+        self.may_put_first(meta, seq, ts, key, value)
+            || self.may_put_again(meta, seq, ts, key, value)
     }
 
     fn may_put_first(

@@ -1,13 +1,13 @@
 -- Which messages were heard, and which were sent in the open call, by their numbers.
-use Rattle.std.proofs.Common.{◌≡◌, ◌≢◌, ◌↔◌, ℕ, zero, suc, ◌+◌, ◌<◌, ◌≤◌, ◌==◌, ◌||◌, All, drop, Bool, true, false, List, [], ◌∷◌, Option, None, Some, IsTrue, slice_get, length, refl, ap, sym, subst, ◌∙◌, arith}
-use Rattle.std.proofs.lemmas.Bool.{eqb-false, ne_eqb}
+use Rattle.std.proofs.Common.{◌≡◌, ◌≢◌, ◌↔◌, ℕ, zero, suc, ◌+◌, ◌<◌, ◌≤◌, ◌==◌, ◌||◌, nat_le, nat_lt, All, drop, Bool, true, false, List, [], ◌∷◌, Option, None, Some, IsTrue, slice_get, length, refl, ap, sym, subst, inl, inr, ◌∙◌, arith}
+use Rattle.std.proofs.lemmas.Bool.{and_from, and_left, and_right, cases_lt, eqb-false, le-leb, le-ltb, lt-leb, lt-ltb, ne_eqb}
 use Rattle.std.proofs.lemmas.List.Elements.{All-weaker}
 use Rattle.std.proofs.lemmas.List.Folds.{list_any_none}
 use Rattle.std.specs.List.{list_any}
 use Rattle.std.specs.Option.{option_map}
 use Rattle.pc_known.proofs.Numbered.{mark-at}
 use Rattle.pc_known.specs.declared.sends.Sends.{Sends}
-use Rattle.pc_known.specs.Sends.{KeepsSends, StandByNumber}
+use Rattle.pc_known.specs.Sends.{KeepsSends, StandByNumber, is_number_now}
 use Rattle.pc_world.specs.Known.{Known}
 use Rattle.pc_world.specs.Known.Traffic.{Heard, Sent}
 
@@ -105,3 +105,17 @@ module _ (k : Known) (x : Sends) (n : ℕ) (keeps : KeepsSends k x) where
 
   pub sent_now_out : n ≤ x.before → list_any (λ m. m.number == n) k.sent_now ≡ false
   sent_now_out low = rw (← keeps.now) (any-out x.before (drop x.before k.sent) n since low)
+
+-- a message of the open call, by its number
+pub number_now : (k : Known) (x : Sends) (n : ℕ) → KeepsSends k x → is_number_now x n ≡ list_any (λ m. m.number == n) k.sent_now
+number_now k x n keeps =
+    elim (cases_lt x.before n) [
+      | inl low ↦ elim (cases_lt (length k.sent) n) [
+        | inl past ↦ and_right (nat_lt x.before n) (nat_le n (length x.messages.items)) (lt-leb n (length x.messages.items) (omega (arith, long))) ∙ sym (sent_now_past k x n keeps past)
+        | inr high ↦ and_from (nat_lt x.before n) (nat_le n (length x.messages.items)) (lt-ltb x.before n low) (le-leb n (length x.messages.items) (omega (arith, long))) ∙ sym (sent_now_in k x n keeps low high)
+      ]
+      | inr below ↦ and_left (nat_lt x.before n) (nat_le n (length x.messages.items)) (le-ltb x.before n below) ∙ sym (sent_now_out k x n keeps below)
+    ]
+  where
+    long : length x.messages.items ≡ length k.sent
+    long = ap length keeps.sent

@@ -1,5 +1,5 @@
 -- How the messages that are kept stand to what the actor knows: by number, with a mark for each that was heard.
-use Rattle.std.specs.Prelude.{◌≡◌, ℕ, ◌+◌, ◌-◌, ◌==◌, ◌≤◌, Bool, false, true, Option, None, Some, List, [], ◌∷◌, ◌++◌, All, drop, length, slice_set, ⊤}
+use Rattle.std.specs.Prelude.{◌≡◌, ℕ, ◌+◌, ◌-◌, ◌==◌, ◌≤◌, nat_le, nat_lt, Bool, ◌&&◌, false, true, Option, None, Some, List, [], ◌∷◌, ◌++◌, All, drop, length, slice_set, ⊤}
 use Rattle.std.specs.List.{list_any}
 use Rattle.pc_known.specs.declared.sends.Sends.{Sends}
 use Rattle.pc_proto.specs.declared.event.Event.{Event}
@@ -28,6 +28,10 @@ pub record KeepsSends (k : Known) (x : Sends) : Type 0 where
   pub numbered : StandByNumber 0 k.sent
   pub marks : MarkHeard k.heard 0 k.sent x.heard.items
   pub only_sent : All (λ h. (1 ≤ h.number) × (h.number ≤ length k.sent)) k.heard
+
+-- The message of this number was sent since the last call was asked, as is kept.
+abbrev pub is_number_now : Sends → ℕ → Bool
+is_number_now x number = nat_lt x.before number && nat_le number (length x.messages.items)
 
 -- If the event sends a message, that has this number, as in any entry that may come next.
 abbrev pub SendsNext : ℕ → Event → Type 0

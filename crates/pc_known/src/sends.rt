@@ -1,7 +1,7 @@
 ghost use Rattle.std.specs.Prelude.{◌≡◌, ◌==◌, ◌↔◌, ℕ, false, true, Some, IsTrue, Option, OnOk, length, slice_get};
 ghost use Rattle.std.specs.List.{list_any};
 ghost use Rattle.std.specs.Option.{option_copied, option_map};
-ghost use Rattle.pc_known.specs.Sends.{MarksHeard, HasOneMoreSent, IsMarked, KeepsSends, SendsNext};
+ghost use Rattle.pc_known.specs.Sends.{MarksHeard, HasOneMoreSent, IsMarked, KeepsSends, SendsNext, is_number_now};
 ghost use Rattle.pc_base.specs.declared.entry.Entry.{Entry};
 ghost use Rattle.pc_proto.specs.declared.event.Event.{Event};
 ghost use Rattle.pc_world.specs.Known.{Known, known_after, next_number, nothing_known};
@@ -61,9 +61,10 @@ impl<'a> Sends<'a> {
 
     /// Whether the message of this number was sent since the last call was asked.
     pub fn was_sent_now(&self, number: u64) -> bool
-        ensures { (k : Known) → KeepsSends k self.now → result ≡ list_any (λ m. m.number == number) k.sent_now }
+        ensures now { result ≡ is_number_now self.now number }
+        ensures known { (k : Known) → KeepsSends k self.now → result ≡ list_any (λ m. m.number == number) k.sent_now }
     {
-        (self.before as u64) < number && number <= self.messages().len() as u64
+        (self.before as u64) < number && number <= self.messages.as_slice().len() as u64
     }
 
     /// Whether a reply to the message of this number was heard.

@@ -7,7 +7,7 @@ use Rattle.pc_base.specs.declared.transaction.TxnId.{TxnId}
 use Rattle.pc_base.specs.Transaction.{same_txn}
 use Rattle.pc_lists.proofs.Lists.{contains_cons, contains_head, contains_nil, contains_tail, get_append, get_push, get_push_cases}
 use Rattle.pc_own.specs.Changes.{ChangesAt}
-use Rattle.pc_own.specs.Numbered.{AreNumbered}
+use Rattle.pc_own.specs.Numbered.{AreBegunInOrder}
 use Rattle.pc_proto.specs.declared.answer.Answer.{Answer}
 use Rattle.pc_world.specs.Known.{told_first}
 use Rattle.pc_world.specs.Known.Traffic.{Heard}
@@ -15,7 +15,7 @@ use Rattle.pc_world.specs.Known.Transactions.{Txn, txn_told}
 
 -- ---- what stands at a number
 
-at-most : (txns : List Txn) (t : Txn) → AreNumbered txns → Contains txns t → (1 ≤ t.id.number) × (t.id.number ≤ length txns)
+at-most : (txns : List Txn) (t : Txn) → AreBegunInOrder txns → Contains txns t → (1 ≤ t.id.number) × (t.id.number ≤ length txns)
 at-most [] t numbered c = absurd (contains_nil t c)
 at-most (u ∷ txns) t numbered c =
     elim (contains_cons u txns t c) [
@@ -32,7 +32,7 @@ last-place u t txns place same last is =
     omega arith
 
 -- each stands at its number
-pub stands_at : (txns : List Txn) (t : Txn) (place : ℕ) → AreNumbered txns → Contains txns t → t.id.number ≡ place + 1 → slice_get (reverse txns) place ≡ Some t
+pub stands_at : (txns : List Txn) (t : Txn) (place : ℕ) → AreBegunInOrder txns → Contains txns t → t.id.number ≡ place + 1 → slice_get (reverse txns) place ≡ Some t
 stands_at [] t place numbered c is = absurd (contains_nil t c)
 stands_at (u ∷ txns) t place numbered c is =
     rw (reverse-push txns u)
@@ -54,7 +54,7 @@ is_there (u ∷ txns) t place at =
     ]
 
 -- the one of an id stands at its number
-pub own_at : (txns : List Txn) (id : TxnId) (place : ℕ) (t : Txn) → AreNumbered txns → id.number ≡ place + 1
+pub own_at : (txns : List Txn) (id : TxnId) (place : ℕ) (t : Txn) → AreBegunInOrder txns → id.number ≡ place + 1
     → ((slice_get (reverse txns) place ≡ Some t) × (t.id ≡ id)) ↔ (Contains txns t × (t.id ≡ id))
 own_at txns id place t numbered is = (
   λ h. (is_there txns t place h.0, h.1),
@@ -62,7 +62,7 @@ own_at txns id place t numbered is = (
 )
 
 -- none has the number 0
-pub none_at_zero : (txns : List Txn) (id : TxnId) (t : Txn) → AreNumbered txns → id.number ≡ 0 → Contains txns t × (t.id ≡ id) → ⊥
+pub none_at_zero : (txns : List Txn) (id : TxnId) (t : Txn) → AreBegunInOrder txns → id.number ≡ 0 → Contains txns t × (t.id ≡ id) → ⊥
 none_at_zero txns id t numbered is h =
     let low = (at-most txns t numbered h.0).0 in
     let number : t.id.number ≡ 0 = ap (λ (x : TxnId). x.number) h.1 ∙ is in
@@ -93,13 +93,13 @@ unchanged f same [] = refl
 unchanged f same (t ∷ txns) = ap (λ (u : Txn). u ∷ map f txns) (same t) ∙ ap (λ (us : List Txn). t ∷ us) (unchanged f same txns)
 
 module _ (f : Txn → Txn) (n : ℕ) (others : (t : Txn) → t.id.number ≢ n → f t ≡ t) where
-  none-changed : (txns : List Txn) → AreNumbered txns → length txns < n → map f txns ≡ txns
+  none-changed : (txns : List Txn) → AreBegunInOrder txns → length txns < n → map f txns ≡ txns
   none-changed [] numbered high = refl
   none-changed (t ∷ txns) numbered high =
       let one : f t ≡ t = others t (λ e. omega (arith, numbered.0)) in
       ap (λ (u : Txn). u ∷ map f txns) one ∙ ap (λ (us : List Txn). t ∷ us) (none-changed txns numbered.1 (omega arith))
 
-  zero-changed : (txns : List Txn) → AreNumbered txns → n ≡ 0 → map f txns ≡ txns
+  zero-changed : (txns : List Txn) → AreBegunInOrder txns → n ≡ 0 → map f txns ≡ txns
   zero-changed [] numbered is = refl
   zero-changed (t ∷ txns) numbered is =
       let one : f t ≡ t = others t (λ e. omega (arith, numbered.0)) in
@@ -116,7 +116,7 @@ module _ (f : Txn → Txn) (n : ℕ) (others : (t : Txn) → t.id.number ≢ n �
       ∙ ap (λ (us : List Txn). t ∷ us) earlier
       ∙ ap (λ (u : Txn). u ∷ map f txns) (sym one)
 
-  last-changed : (t : Txn) (txns : List Txn) (place : ℕ) (d : Txn) → AreNumbered txns → n ≡ suc place → place ≡ length txns
+  last-changed : (t : Txn) (txns : List Txn) (place : ℕ) (d : Txn) → AreBegunInOrder txns → n ≡ suc place → place ≡ length txns
       → reverse (slice_set (reverse txns ++ t ∷ []) place (f (slice_index_or (reverse txns ++ t ∷ []) place d))) ≡ f t ∷ map f txns
   last-changed t txns place d numbered is at =
       let there : place ≡ length (reverse txns) = omega (arith, length-reverse txns) in
@@ -124,7 +124,7 @@ module _ (f : Txn → Txn) (n : ℕ) (others : (t : Txn) → t.id.number ≢ n �
       ∙ reverse-last (reverse txns) (f t)
       ∙ ap (λ (us : List Txn). f t ∷ us) (reverse-reverse txns ∙ sym (none-changed txns numbered (omega arith)))
 
-  one-changed : (txns : List Txn) (place : ℕ) (d : Txn) → AreNumbered txns → n ≡ suc place → place < length txns
+  one-changed : (txns : List Txn) (place : ℕ) (d : Txn) → AreBegunInOrder txns → n ≡ suc place → place < length txns
       → reverse (slice_set (reverse txns) place (f (slice_index_or (reverse txns) place d))) ≡ map f txns
   one-changed [] place d numbered is low = absurd (omega arith)
   one-changed (t ∷ txns) place d numbered is low =
@@ -134,7 +134,7 @@ module _ (f : Txn → Txn) (n : ℕ) (others : (t : Txn) → t.id.number ≢ n �
         | inr above ↦ last-changed t txns place d numbered.1 is (omega arith)
       ])
 
-  change-by : (number : ℕ) (txns items after : List Txn) (d : Txn) → number ≡ n → AreNumbered txns → items ≡ reverse txns → ChangesAt n f items after → reverse after ≡ map f txns
+  change-by : (number : ℕ) (txns items after : List Txn) (d : Txn) → number ≡ n → AreBegunInOrder txns → items ≡ reverse txns → ChangesAt n f items after → reverse after ≡ map f txns
   change-by zero txns items after d same numbered is c =
       ap reverse (c.absent (sym same) ∙ is) ∙ reverse-reverse txns ∙ sym (zero-changed txns numbered (sym same))
   change-by (suc place) txns items after d same numbered is c =
@@ -155,7 +155,7 @@ none-left f n items after none c = elim (cases_eq n 0) [
 ]
 
 -- of transactions by number one is changed
-pub one_changed : (f : Txn → Txn) (n : ℕ) (txns items after : List Txn) → ((t : Txn) → t.id.number ≢ n → f t ≡ t) → AreNumbered txns → reverse items ≡ txns → ChangesAt n f items after → reverse after ≡ map f txns
+pub one_changed : (f : Txn → Txn) (n : ℕ) (txns items after : List Txn) → ((t : Txn) → t.id.number ≢ n → f t ≡ t) → AreBegunInOrder txns → reverse items ≡ txns → ChangesAt n f items after → reverse after ≡ map f txns
 one_changed f n [] items after others numbered is c =
     let none : items ≡ [] = sym (reverse-reverse items) ∙ ap reverse is in
     ap reverse (none-left f n items after none c)

@@ -159,6 +159,13 @@ impl<'a> OwnTxn<'a> {
         self.committed
     }
 
+    /// How often it was told to restart.
+    pub fn epoch(&self) -> u64
+        ensures { result ≡ self.now.epoch }
+    {
+        self.over.len() as u64
+    }
+
     pub fn is_epoch(&self, epoch: u32) -> bool
         ensures { result ≡ (epoch == self.now.epoch) }
     {
@@ -360,18 +367,10 @@ pub fn has_staged(
 ) -> bool
     ensures { result ≡ has_staged sent.now id epoch ts key.now seq }
 {
-    sent.iter()
-        .any(|message| is_stage_of(message.request, id, epoch, ts, key, seq))
+    sent.iter().any(|message| is_stage_of(message.request, id, epoch, ts, key, seq))
 }
 
-fn is_stage_of(
-    request: &Request,
-    id: TxnId,
-    epoch: u32,
-    ts: Timestamp,
-    key: &Key,
-    seq: u32,
-) -> bool
+fn is_stage_of(request: &Request, id: TxnId, epoch: u32, ts: Timestamp, key: &Key, seq: u32) -> bool
     ensures { result ≡ is_stage_of id epoch ts key.now seq request.now }
 {
     match request {

@@ -2,7 +2,7 @@ ghost use Rattle.std.specs.Prelude.{◌≡◌, ◌∷◌, ◌↔◌, [], Some, C
 ghost use Rattle.std.specs.Option.{option_copied};
 ghost use Rattle.pc_known.specs.Sends.{KeepsSends};
 ghost use Rattle.pc_own.specs.Changes.{ChangesAt, raised_by, writer_of};
-ghost use Rattle.pc_own.specs.Numbered.{AreNumbered};
+ghost use Rattle.pc_own.specs.Numbered.{AreBegunInOrder};
 ghost use Rattle.pc_world.specs.Known.{Known, first_if, told_first};
 ghost use Rattle.pc_world.specs.Known.Traffic.{replies_to};
 ghost use Rattle.pc_world.specs.Known.Transactions.{Txn, txn_heard, txn_sent, txn_told};
@@ -50,7 +50,7 @@ impl<'a> Txns<'a> {
 
     /// The one of this id.
     pub fn own(&self, id: TxnId) -> Option<&OwnTxn<'a>>
-        ensures { AreNumbered self.now → (t : Txn) → (option_copied result ≡ Some t) ↔ (Contains self.now t × (t.id ≡ id)) }
+        ensures { AreBegunInOrder self.now → (t : Txn) → (option_copied result ≡ Some t) ↔ (Contains self.now t × (t.id ≡ id)) }
     {
         match id.number.checked_sub(1) {
             Some(place) => one_of(at(&self.txns, place as usize), id),
@@ -68,7 +68,7 @@ impl<'a> Txns<'a> {
 
     /// The transactions after their session sent a message. After a refusal nothing is known.
     pub fn send(&mut self, request: &'a Request) -> Result<(), NoMemory>
-        ensures { AreNumbered self.old → OnOk result (self.new ≡ map (txn_sent request.now) self.old) }
+        ensures { AreBegunInOrder self.old → OnOk result (self.new ≡ map (txn_sent request.now) self.old) }
     {
         match writer_of(request) {
             None => Ok(()),
@@ -77,12 +77,8 @@ impl<'a> Txns<'a> {
     }
 
     /// The transactions after their session heard a reply. After a refusal nothing is known.
-    pub fn hear(
-        &mut self,
-        sent: &[Message<'_>],
-        hearing: &Hearing<'_>,
-    ) -> Result<(), NoMemory>
-        ensures { AreNumbered self.old → OnOk result (self.new ≡ map (txn_heard sent.now (Some hearing.now)) self.old) }
+    pub fn hear(&mut self, sent: &[Message<'_>], hearing: &Hearing<'_>) -> Result<(), NoMemory>
+        ensures { AreBegunInOrder self.old → OnOk result (self.new ≡ map (txn_heard sent.now (Some hearing.now)) self.old) }
     {
         match raised_by(hearing.request) {
             None => Ok(()),
@@ -125,9 +121,8 @@ fn writer_of(request: &Request) -> Option<u32>
     ensures { result ≡ writer_of request.now }
 {
     match request {
-        Request::Put { meta, .. }
-        | Request::Stage { meta, .. }
-        | Request::Commit { meta, .. } => Some(meta.id.number),
+        Request::Put { meta, .. } | Request::Stage { meta, .. } | Request::Commit { meta, .. } =>
+            Some(meta.id.number),
         _ => None,
     }
 }

@@ -79,12 +79,7 @@ impl<'a> OwnWrite<'a> {
     }
 
     /// The write after one of this key and sequence was proved.
-    pub(crate) fn prove_at(
-        &mut self,
-        key: &Key,
-        seq: u32,
-        ts: Timestamp,
-    ) -> Result<(), NoMemory>
+    pub(crate) fn prove_at(&mut self, key: &Key, seq: u32, ts: Timestamp) -> Result<(), NoMemory>
         ensures { OnOk result (self.new ≡ proved_at key.now seq ts self.old) }
     {
         if self.seq == seq && self.key == key {

@@ -120,12 +120,7 @@ fn ask_at(
     Ok(())
 }
 
-fn prove(
-    writes: &mut Vec<OwnWrite<'_>>,
-    key: &Key,
-    seq: u32,
-    ts: Timestamp,
-) -> Result<(), NoMemory>
+fn prove(writes: &mut Vec<OwnWrite<'_>>, key: &Key, seq: u32, ts: Timestamp) -> Result<(), NoMemory>
     ensures { OnOk result (writes.new.items ≡ map (proved_at key.now seq ts) writes.old.items) }
 {
     let count = writes.as_slice().len();
