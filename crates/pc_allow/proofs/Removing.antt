@@ -36,8 +36,8 @@ shown-locks id heard (views.Pending epoch ts) all = absurd all
 shown-locks id heard (views.Staging epoch ts writes) all = absurd all
 
 are-shown : (id : TxnId) (heard : List Heard) (view : View) (locks : List (List ℕ)) → HasLocks view locks → AllResolved heard id locks → AreShownResolved id view heard
-are-shown id heard (views.Committed epoch ts held) locks has all = subst (AllResolved heard id) (sym has) all
-are-shown id heard (views.Aborted epoch why held) locks has all = subst (AllResolved heard id) (sym has) all
+are-shown id heard (views.Committed epoch ts held) locks has all = subst (AllResolved heard id) has all
+are-shown id heard (views.Aborted epoch why held) locks has all = subst (AllResolved heard id) has all
 are-shown id heard views.Nothing locks has all = absurd has
 are-shown id heard (views.Pending epoch ts) locks has all = absurd has
 are-shown id heard (views.Staging epoch ts writes) locks has all = absurd has

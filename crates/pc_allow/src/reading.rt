@@ -146,9 +146,8 @@ fn is_refresh_of(
     ensures { IsTrue result ↔ IsRefreshOf heard.now txn.now id from to span.now }
 {
     let reads = txn.reads().as_slice();
-    is_forward(txn, id, from, to)
-        && holds_some(span, reads)
-        && reach_to(reads, id, heard, number(from))
+    let held = holds_some(span, reads);
+    is_forward(txn, id, from, to) && held && reach_to(reads, id, heard, number(from))
 }
 
 /// Whether the refresh leads on from the transaction's read timestamp to its write timestamp.

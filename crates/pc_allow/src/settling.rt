@@ -165,7 +165,7 @@ fn is_final_and_resolved(id: TxnId, hearing: &Hearing<'_>, heard: &[Hearing<'_>]
     }
 }
 
-fn was_final_and_resolved(id: TxnId, replies: &[Hearing<'_>], heard: &[Hearing<'_>]) -> bool
+fn was_final_and_resolved<'b>(id: TxnId, replies: &[Hearing<'b>], heard: &[Hearing<'b>]) -> bool
     ensures { IsTrue result ↔ Any (IsFinalResolved id heard.now) replies.now }
 {
     replies

@@ -1,4 +1,4 @@
-use Rattle.std.proofs.Common.{◌≡◌, Some, ap, sym, ◌∙◌}
+use Rattle.std.proofs.Common.{◌≡◌, None, Some, ap, sym, ◌∙◌}
 use Rattle.std.specs.Option.{option_copied}
 use Rattle.pc_allow.proofs.OwnOnes.{scan_not}
 use Rattle.pc_allow.proofs.kept.Kept.may_scan.Goals as goal
@@ -20,3 +20,13 @@ returns-else-cut c k keeps =
       λ may. absurd
           (scan_not c.args.splits.now k c.args.id c.args.epoch c.args.seq c.args.ts c.args.span.now c.in-Some.whole.now asked (λ inside. let on = c.in_ok-cut.ensures.1 inside in let off = c.if-cut.false in absurd cc) may),
     )
+
+pub returns-in_default : goal.returns-in_default
+returns-in_default c k keeps = (
+  λ hit. absurd cc,
+  λ may.
+      let some : option_copied c.scans.result ≡ Some may.whole = (c.scans.ensures k keeps may.whole).1 may.asked in
+      let none : option_copied c.scans.result ≡ None = ap option_copied c.in_default.is in
+      let no : None ≡ Some may.whole = sym none ∙ some in
+      absurd cc,
+)
