@@ -20,7 +20,8 @@ use Rattle.pc_proto.specs.declared.event.Event.{Event}
 use Rattle.pc_proto.specs.declared.event.Event.TheVariants as events
 use Rattle.pc_serial.proofs.AlonePlain.{tells_plainly}
 use Rattle.pc_serial.proofs.AloneRun.{acts, stands_at, who}
-use Rattle.pc_serial.specs.Alone.{IsAlone, the_session}
+use Rattle.pc_serial.specs.Alone.{IsAlone}
+use Rattle.pc_serial.specs.QuietWire.{the_session}
 use Rattle.pc_serial.specs.Plain.{IsOpenInCommit, IsPlainAnswer, IsPlainTo}
 use Rattle.pc_world.proofs.Knowing.{known_other, known_same}
 use Rattle.pc_world.proofs.Prefixes.{run_may}

@@ -1,5 +1,5 @@
 -- One session alone is told plain answers.
-use Rattle.std.proofs.Common.{◌≡◌, ℕ, Bool, true, false, ◌&&◌, not, List, ◌∷◌, ◌++◌, Option, None, Some, Contains, sym, ap, subst, ◌∙◌}
+use Rattle.std.proofs.Common.{◌≡◌, ℕ, Bool, true, false, ◌&&◌, not, List, ◌∷◌, ◌++◌, Option, None, Some, sym, ap, subst, ◌∙◌}
 use Rattle.std.specs.Bool.{MatchBool}
 use Rattle.pc_base.specs.declared.entry.Entry.{Entry}
 use Rattle.pc_history.specs.History.{MayFollow}
@@ -10,11 +10,11 @@ use Rattle.pc_proto.specs.declared.call.Call.TheVariants as calls
 use Rattle.pc_proto.specs.declared.event.Event.{Event}
 use Rattle.pc_proto.specs.declared.event.Event.TheVariants as events
 use Rattle.pc_serial.proofs.AloneMoved.{not_moved}
-use Rattle.pc_serial.proofs.AloneStanding.{contains_split}
 use Rattle.pc_serial.proofs.AloneTimesRun.{low_at, never-restart}
 use Rattle.pc_serial.proofs.AloneTold.{abort_is_own, not_blocked}
-use Rattle.pc_serial.proofs.Quiet.{one_quiet_session}
-use Rattle.pc_serial.specs.Alone.{IsAlone, the_session}
+use Rattle.pc_serial.proofs.Quiet.{nothing_lost}
+use Rattle.pc_serial.specs.Alone.{IsAlone}
+use Rattle.pc_serial.specs.QuietWire.{the_session}
 use Rattle.pc_serial.specs.Plain.{IsPlainTo, TellsPlainly}
 use Rattle.pc_world.proofs.Prefixes.{run_front, run_may}
 use Rattle.pc_world.specs.After.{known_at}
@@ -59,9 +59,9 @@ module _ (head : Head) (whole : List (Entry Event)) (run : IsRun head whole) (al
     plain-row s answers.Done opened tells row = plain-as s.call calls.Round answers.Done row tt
     plain-row s (answers.Blocked holder) opened tells row = absurd (not_blocked head whole run alone before run_before (e ∷ later) split the_session s holder row)
     plain-row s (answers.Unavailable faults) opened tells row =
-        absurd ((one_quiet_session head whole run alone.one alone.quiet).1 e (answers.Unavailable faults) (subst (λ h. Contains h e) (sym split) (contains_split before e later)) tells tt)
+        absurd (nothing_lost head whole run alone.wire.none_lost before e later split me (answers.Unavailable faults) tells tt)
     plain-row s (answers.Unknown id) opened tells row =
-        absurd ((one_quiet_session head whole run alone.one alone.quiet).1 e (answers.Unknown id) (subst (λ h. Contains h e) (sym split) (contains_split before e later)) tells tt)
+        absurd (nothing_lost head whole run alone.wire.none_lost before e later split me (answers.Unknown id) tells tt)
     plain-row s (answers.Aborted why) opened tells row =
         let call = abort_is_own head whole run alone before e later split row.t why row.opened me tells in
         let same : s.call ≡ calls.Rollback = let both : ◌≡◌ {A = Option Call} (Some s.call) (Some calls.Rollback) = sym (ap call_in opened) ∙ call in cc both in

@@ -47,7 +47,8 @@ use Rattle.pc_proto.specs.Views.{is_committed_at}
 use Rattle.pc_serial.proofs.AloneRun.{meets_nothing, who}
 use Rattle.pc_serial.proofs.AloneStanding.{MeetsNone, contains_split}
 use Rattle.pc_serial.proofs.AloneTimes.{viewed-low}
-use Rattle.pc_serial.specs.Alone.{IsAlone, the_session}
+use Rattle.pc_serial.specs.Alone.{IsAlone}
+use Rattle.pc_serial.specs.QuietWire.{the_session}
 use Rattle.pc_world.proofs.Knowing.{known_other, known_same}
 use Rattle.pc_world.proofs.Stamps.Within.{AtMost}
 use Rattle.pc_world.proofs.Prefixes.{run_front, run_induction, run_may}

@@ -3,3 +3,5 @@ pub mod FirstRow
 pub mod FirstRun
 pub mod Laws
 pub mod Plain
+pub mod QuietWire
+pub mod Tidy

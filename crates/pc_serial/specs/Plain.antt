@@ -10,7 +10,8 @@ use Rattle.pc_proto.specs.declared.call.Call.{Call}
 use Rattle.pc_proto.specs.declared.call.Call.TheVariants as calls
 use Rattle.pc_proto.specs.declared.event.Event.{Event}
 use Rattle.pc_proto.specs.declared.event.Event.TheVariants as events
-use Rattle.pc_serial.specs.Alone.{IsAlone, the_session}
+use Rattle.pc_serial.specs.Alone.{IsAlone}
+use Rattle.pc_serial.specs.QuietWire.{the_session}
 use Rattle.pc_serial.specs.Laws.{RunsInTurn}
 use Rattle.pc_world.specs.After.{known_at}
 use Rattle.pc_world.specs.Committed.{IsCommitted}
