@@ -8,9 +8,9 @@ use Rattle.std.specs.Option.{option_map, option_map_or}
 use Rattle.std.specs.Ordering.{nat_cmp}
 use Rattle.std.specs.Prelude.{⊤}
 use Rattle.pc_base.specs.Bound.{ReadBound, free_from, raised}
-use Rattle.pc_base.specs.Keyed.{at}
 use Rattle.pc_base.specs.declared.transaction.TxnId.{TxnId}
 use Rattle.pc_base.specs.declared.version.Version.{Version}
+use Rattle.pc_base.specs.Keyed.{at}
 use Rattle.pc_base.specs.Span.{same_key}
 use Rattle.pc_base.specs.Versions.{above_newest}
 use Rattle.pc_implicit.proofs.OwnKeys.{laid_time, own_is}
@@ -25,8 +25,8 @@ use Rattle.pc_proto.specs.declared.record.Intent.{Intent}
 use Rattle.pc_proto.specs.declared.request.Request.{Request}
 use Rattle.pc_proto.specs.declared.request.Request.TheVariants as requests
 use Rattle.pc_proto.specs.Intents.{first_other, other_at, own_at}
-use Rattle.pc_serial.proofs.AloneIntents.{own_of_one}
 use Rattle.pc_proto.specs.Stamps.{fate_stamps, reply_stamps, request_stamps}
+use Rattle.pc_serial.proofs.AloneIntents.{own_of_one}
 use Rattle.pc_world.proofs.Stamps.Reads.{get-bound, get-within, scan-bound, scan-within}
 use Rattle.pc_world.proofs.Stamps.Rows.{record-reply, table-within}
 use Rattle.pc_world.proofs.Stamps.Searches.{above-newest-within, other-within, own-within}

@@ -19,8 +19,8 @@ use Rattle.pc_implicit.proofs.Deciders.{told-there}
 use Rattle.pc_implicit.proofs.Did.{session_at}
 use Rattle.pc_implicit.proofs.Doing.{same_or_not}
 use Rattle.pc_implicit.proofs.EvaluatedAt.{one_sent}
-use Rattle.pc_implicit.proofs.FirstStages.{first_staged}
 use Rattle.pc_implicit.proofs.Firsts.{first_push}
+use Rattle.pc_implicit.proofs.FirstStages.{first_staged}
 use Rattle.pc_implicit.proofs.Hearing.{now_is_so, sent_is_so}
 use Rattle.pc_implicit.proofs.Metas.{subject_anchored}
 use Rattle.pc_implicit.proofs.OneDecision.{told_committed}
@@ -50,8 +50,8 @@ use Rattle.pc_serial.proofs.AloneTimesOver.{RepliesLow, open-first}
 use Rattle.pc_serial.proofs.AloneTimesRun.{low_at}
 use Rattle.pc_serial.proofs.AloneTold.{last-is}
 use Rattle.pc_serial.specs.Alone.{IsAlone, jobs_at}
-use Rattle.pc_serial.specs.Tidy.{IsOfOpenTxn, IsTidy}
 use Rattle.pc_serial.specs.QuietWire.{the_session}
+use Rattle.pc_serial.specs.Tidy.{IsOfOpenTxn, IsTidy}
 use Rattle.pc_world.proofs.Knowing.{known_other, known_same}
 use Rattle.pc_world.proofs.Prefixes.{run_front, run_induction}
 use Rattle.pc_world.specs.After.{known_at, place_at}

@@ -1,21 +1,9 @@
 -- One session alone: what stands along a run. No request ever meets an intent of another transaction.
-use Rattle.std.proofs.Common.{◌≡◌, ◌≢◌, ℕ, ◌+◌, Bool, None, true, false, ◌==◌, List, [], ◌∷◌, ◌++◌, length, ◌⊎◌, inl, inr, Option, Some, All, Any, Contains, IsTrue, refl, sym, ap, subst, ◌∙◌, arith, append_assoc, append-nil, cond, not, IfSome}
-use Rattle.std.proofs.lemmas.Bool.{and_from, eq-eqb, eqb-true}
+use Rattle.std.proofs.Common.{◌≡◌, ◌≢◌, ℕ, ◌+◌, Bool, None, true, false, List, [], ◌∷◌, ◌++◌, length, ◌⊎◌, inl, inr, Option, Some, Any, Contains, IsTrue, refl, sym, ap, subst, ◌∙◌, arith, append_assoc, append-nil, cond, not, IfSome}
+use Rattle.std.proofs.lemmas.Bool.{and_from, eq-eqb}
 use Rattle.std.proofs.lemmas.List.Elements.{All-contains, Contains-append_left, Contains-push_cases}
-use Rattle.std.proofs.lemmas.List.Folds.{Any-from_list_any}
 use Rattle.std.specs.List.{AllByRecursion as Each}
 use Rattle.std.specs.Option.{option_to_list}
-use Rattle.pc_implicit.proofs.Agreed.{open_is}
-use Rattle.pc_proto.specs.declared.answer.Answer.{Answer}
-use Rattle.pc_serial.proofs.AloneWrites.{AreAwaited, IsAwaited, IsPutOfWrite, Lays, awaited_heard, awaited_sent}
-use Rattle.pc_lists.proofs.Lists.{contains_cons, contains_head, contains_nil, contains_tail}
-use Rattle.pc_world.specs.Caused.{Evaluates, IsCaused}
-use Rattle.pc_world.specs.Known.{Known, known_after, learn, told_first, txn_begun, txns_told}
-use Rattle.pc_world.specs.Known.Statements.{Statement}
-use Rattle.pc_world.specs.Known.Traffic.{Heard, Sent, heard_by, replies_to, request_sent}
-use Rattle.pc_world.specs.Known.Transactions.{Txn, epoch_told, txn_told}
-use Rattle.pc_world.specs.Known.Writes.{Write, is_proved, writes_told}
-use Rattle.pc_world.specs.MaySend.{MaySend}
 use Rattle.pc_base.specs.declared.actor.ActorId.{ActorId}
 use Rattle.pc_base.specs.declared.actor.ActorId.TheVariants as actors
 use Rattle.pc_base.specs.declared.entry.Entry.{Entry}
@@ -24,12 +12,13 @@ use Rattle.pc_history.proofs.Histories.{named-one, own-push_other, own-push_same
 use Rattle.pc_history.proofs.Ids.{same_id-equal}
 use Rattle.pc_history.specs.History.{MayFollow}
 use Rattle.pc_history.specs.Own.{named_in, own, pair, same_id}
+use Rattle.pc_implicit.proofs.Agreed.{open_is}
 use Rattle.pc_implicit.proofs.Asked.{asked_is_named}
 use Rattle.pc_implicit.proofs.Doing.{same_or_not}
 use Rattle.pc_implicit.proofs.Evals.{NamedMessage, of_entry, range_evaluates}
 use Rattle.pc_implicit.proofs.EvaluatedAt.{goes_to, one_sent}
 use Rattle.pc_implicit.proofs.Fronts.{split_there}
-use Rattle.pc_implicit.proofs.Hearing.{heard-event, heard_is_so, now_is_so, sent_is_so}
+use Rattle.pc_implicit.proofs.Hearing.{heard-event, now_is_so, sent_is_so}
 use Rattle.pc_implicit.proofs.OwnKeys.{Ends}
 use Rattle.pc_implicit.proofs.Recorded.{evaluated_state}
 use Rattle.pc_implicit.proofs.ReplyKinds.{replies_have_kinds}
@@ -37,6 +26,8 @@ use Rattle.pc_implicit.proofs.Runs.{reply_is}
 use Rattle.pc_implicit.proofs.Shown.{WasAnswered, shown}
 use Rattle.pc_implicit.specs.ReplyKinds.{IsOfKind}
 use Rattle.pc_lists.proofs.Each.{each-contains, each-weaker}
+use Rattle.pc_lists.proofs.Lists.{contains_cons, contains_head, contains_nil, contains_tail}
+use Rattle.pc_proto.specs.declared.answer.Answer.{Answer}
 use Rattle.pc_proto.specs.declared.answer.Answer.TheVariants as answers
 use Rattle.pc_proto.specs.declared.event.Event.{Event}
 use Rattle.pc_proto.specs.declared.event.Event.TheVariants as events
@@ -50,21 +41,29 @@ use Rattle.pc_proto.specs.Replies.{is_conflict}
 use Rattle.pc_proto.specs.Requests.{is_abort_of}
 use Rattle.pc_serial.proofs.AloneIntents.{IsOne, intents_step, meets_none}
 use Rattle.pc_serial.proofs.AloneJobs.{fate_there, finishing_first, jobs_push}
-use Rattle.pc_serial.specs.QuietWire.{IsEvaluated, stays_open, the_session}
-use Rattle.pc_serial.proofs.AloneStanding.{IsKept, IsOfLast, IsWaiting, MeetsNone, StandsAs, abort-shows, aborted-shows, contains_split, for_it, heard_evaluated, last_of, now_heard, sent-there}
+use Rattle.pc_serial.proofs.AloneStanding.{IsKept, IsOfLast, IsWaiting, MeetsNone, StandsAs, abort-shows, aborted-shows, for_it, heard_evaluated, last_of, now_heard, sent-there}
 use Rattle.pc_serial.proofs.AloneSteps.{Goes, evaluates_nothing, session_step}
+use Rattle.pc_serial.proofs.AloneWrites.{AreAwaited, IsAwaited, IsPutOfWrite, Lays, awaited_heard, awaited_sent}
 use Rattle.pc_serial.proofs.Quiet.{nothing_lost}
 use Rattle.pc_serial.specs.Alone.{IsAlone, jobs_at}
-use Rattle.pc_serial.specs.Tidy.{IsTidy}
 use Rattle.pc_serial.specs.Laws.{IsTalk}
+use Rattle.pc_serial.specs.QuietWire.{IsEvaluated, stays_open, the_session}
+use Rattle.pc_serial.specs.Tidy.{IsTidy}
 use Rattle.pc_world.proofs.Knowing.{known_other, known_same, state_other}
 use Rattle.pc_world.proofs.Prefixes.{run_induction, run_may}
 use Rattle.pc_world.proofs.World.{names_one}
 use Rattle.pc_world.specs.After.{known_at, state_at}
+use Rattle.pc_world.specs.Caused.{Evaluates, IsCaused}
 use Rattle.pc_world.specs.Evaluation.{reply as reply_of, state_after}
 use Rattle.pc_world.specs.Follows.FinishingJobs.{jobs_after, jobs_of}
+use Rattle.pc_world.specs.Known.{Known, known_after, learn, told_first, txn_begun, txns_told}
 use Rattle.pc_world.specs.Known.Clock.{high_after, top_after}
+use Rattle.pc_world.specs.Known.Statements.{Statement}
+use Rattle.pc_world.specs.Known.Traffic.{Heard, Sent, heard_by, replies_to, request_sent}
+use Rattle.pc_world.specs.Known.Transactions.{Txn, epoch_told, txn_told}
+use Rattle.pc_world.specs.Known.Writes.{Write, is_proved, writes_told}
 use Rattle.pc_world.specs.Local.{Head, IsActorOf, MayComeNext, MayDo}
+use Rattle.pc_world.specs.MaySend.{MaySend}
 use Rattle.pc_world.specs.Named.{is_send_of, request_in}
 use Rattle.pc_world.specs.RangeOf.{GoesTo, range_of}
 use Rattle.pc_world.specs.RangeState.{RangeState}

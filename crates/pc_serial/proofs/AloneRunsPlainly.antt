@@ -15,8 +15,8 @@ use Rattle.pc_serial.proofs.AloneRun.{who}
 use Rattle.pc_serial.proofs.OneSession.{one_session_runs_in_turn}
 use Rattle.pc_serial.proofs.Quiet.{nothing_lost}
 use Rattle.pc_serial.specs.Alone.{IsAlone}
-use Rattle.pc_serial.specs.QuietWire.{the_session}
 use Rattle.pc_serial.specs.Plain.{RunsPlainly}
+use Rattle.pc_serial.specs.QuietWire.{the_session}
 use Rattle.pc_world.proofs.Prefixes.{run_may}
 use Rattle.pc_world.specs.After.{known_at}
 use Rattle.pc_world.specs.Local.{Head}

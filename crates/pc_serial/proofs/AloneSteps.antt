@@ -19,10 +19,10 @@ use Rattle.pc_proto.specs.declared.request.Request.TheVariants as requests
 use Rattle.pc_proto.specs.declared.why.Why.{Why}
 use Rattle.pc_proto.specs.Requests.{is_abort_of}
 use Rattle.pc_serial.proofs.AloneJobs.{HasLock, HasMessage, IsFinishing, IsLocked, LeavesSettling, finishing_left, finishing_with, finishing_without, leaves_committed, leaves_if, locked_heard, locked_put, locked_sent, locked_told, message_left, message_new, message_none}
-use Rattle.pc_serial.specs.QuietWire.{IsEvaluated, stays_open, the_session}
 use Rattle.pc_serial.proofs.AloneStanding.{IsKept, IsOfLast, IsWaiting, StandsAs, WillSettle, begun-id, first-mapped, first-told, last_of}
-use Rattle.pc_serial.specs.Tidy.{IsTidy}
 use Rattle.pc_serial.specs.Laws.{IsTalk}
+use Rattle.pc_serial.specs.QuietWire.{IsEvaluated, stays_open, the_session}
+use Rattle.pc_serial.specs.Tidy.{IsTidy}
 use Rattle.pc_world.specs.Caused.{Evaluates}
 use Rattle.pc_world.specs.Follows.FinishingJobs.{jobs_after, left_by, without_first}
 use Rattle.pc_world.specs.Known.{Known, known_after, open_txn, txn_begun}

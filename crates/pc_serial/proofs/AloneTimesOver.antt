@@ -24,10 +24,10 @@ use Rattle.pc_proto.specs.declared.why.Why.{Why}
 use Rattle.pc_proto.specs.Replies.{is_conflict}
 use Rattle.pc_proto.specs.Stamps.{reply_stamps, why_stamps}
 use Rattle.pc_serial.proofs.AloneLow.{SettlesOver}
-use Rattle.pc_serial.specs.QuietWire.{IsEvaluated, the_session}
 use Rattle.pc_serial.proofs.AloneStanding.{last_of}
 use Rattle.pc_serial.proofs.AloneTimes.{HasBegun, IsFirstHigh, IsLowSent, IsLowTxn, blocked_none, clock_rises, fate-low, first_heard-high, first_sent-high, first_told-high, first_told-low, has_begun, has_begun-map, has_begun-told, level, level_map, level_told, low_sent-more, txn_heard-low, txn_sent-low, viewed-low}
 use Rattle.pc_serial.proofs.AloneTold.{committed-shown}
+use Rattle.pc_serial.specs.QuietWire.{IsEvaluated, the_session}
 use Rattle.pc_serial.specs.Tidy.{IsTidy}
 use Rattle.pc_world.proofs.Stamps.Within.{AtMost, at_most-more}
 use Rattle.pc_world.specs.Known.{Known, known_after, open_txn, told_first, txn_begun, txns_told}

@@ -13,10 +13,10 @@ use Rattle.pc_base.specs.declared.version.Version.{Version}
 use Rattle.pc_history.specs.History.{MayFollow}
 use Rattle.pc_history.specs.Own.{named_in, own, pair}
 use Rattle.pc_implicit.proofs.Clocks.{known_low}
+use Rattle.pc_implicit.proofs.Commits.{decided_is_committed, heard_decided}
 use Rattle.pc_implicit.proofs.Doing.{same_or_not, told_by_row}
 use Rattle.pc_implicit.proofs.Ended.{over_uncommitted}
 use Rattle.pc_implicit.proofs.Hearing.{heard-event, heard_is_so, now_is_so}
-use Rattle.pc_implicit.proofs.Commits.{decided_is_committed, heard_decided}
 use Rattle.pc_implicit.proofs.OpenOver.{IsOpenHere, is-commit, open_over, open_untold}
 use Rattle.pc_implicit.proofs.ReplyKinds.{replies_have_kinds}
 use Rattle.pc_implicit.proofs.Shown.{WasAnswered}
@@ -39,19 +39,19 @@ use Rattle.pc_proto.specs.declared.view.View.{View}
 use Rattle.pc_proto.specs.declared.view.View.TheVariants as views
 use Rattle.pc_proto.specs.Replies.{is_conflict, view_in}
 use Rattle.pc_proto.specs.Requests.{is_about}
-use Rattle.pc_proto.specs.Views.{IsFateOf, is_committed_at}
 use Rattle.pc_proto.specs.Stamps.{reply_stamps}
+use Rattle.pc_proto.specs.Views.{IsFateOf, is_committed_at}
 use Rattle.pc_serial.proofs.AloneIntents.{IsOne}
 use Rattle.pc_serial.proofs.AloneLow.{IsLow, IsLowRequest, SettlesOver, low_after, low_reply}
 use Rattle.pc_serial.proofs.AloneRun.{EvaluatesWaiting, StandsAll, acts, all-done, evaluated-more, evaluates_waiting, stands_at, tidy, who}
-use Rattle.pc_serial.specs.QuietWire.{IsEvaluated, stays_open, the_session}
 use Rattle.pc_serial.proofs.AloneStanding.{IsKept, IsOfLast, last_of}
 use Rattle.pc_serial.proofs.AloneTimes.{HasBegun, IsLowSent, level, level_map, level_told}
 use Rattle.pc_serial.proofs.AloneTimesOver.{LowAs, MayWait, RepliesLow, begins-low, hears-low, rests-low, sends-low, tells-low}
 use Rattle.pc_serial.proofs.AloneTold.{conflict-is, heard-clear, pushed-none, sent_known}
 use Rattle.pc_serial.specs.Alone.{IsAlone, jobs_at}
-use Rattle.pc_serial.specs.Tidy.{IsTidy}
 use Rattle.pc_serial.specs.Laws.{IsTalk}
+use Rattle.pc_serial.specs.QuietWire.{IsEvaluated, stays_open, the_session}
+use Rattle.pc_serial.specs.Tidy.{IsTidy}
 use Rattle.pc_world.proofs.Knowing.{known_other, known_same, state_other}
 use Rattle.pc_world.proofs.Prefixes.{run_induction}
 use Rattle.pc_world.proofs.Stamps.Within.{AtMost, StateWithin, at_most-more, state-more}
@@ -60,6 +60,7 @@ use Rattle.pc_world.specs.Caused.{IsCaused}
 use Rattle.pc_world.specs.Committed.{IsCommitted}
 use Rattle.pc_world.specs.Known.{Known, call_of, first_if, known_after, learn, told_first, txns_told}
 use Rattle.pc_world.specs.Known.Clock.{high_after, top_after}
+use Rattle.pc_world.specs.Known.Statements.{is_open_told}
 use Rattle.pc_world.specs.Known.Traffic.{Heard, Sent, heard_by, replies_to}
 use Rattle.pc_world.specs.Known.Transactions.{Txn, txn_heard, txn_sent}
 use Rattle.pc_world.specs.Local.{Head, MayDo, is_outside}
@@ -68,7 +69,6 @@ use Rattle.pc_world.specs.RangeState.{RangeState}
 use Rattle.pc_world.specs.Run.{IsRun, protocol}
 use Rattle.pc_world.specs.Send.Push.{StoodInTheWay}
 use Rattle.pc_world.specs.Send.Recovery.{WasStaging}
-use Rattle.pc_world.specs.Known.Statements.{is_open_told}
 use Rattle.pc_world.specs.Tell.End.{IsUnrefreshed}
 use Rattle.pc_world.specs.Views.{WasCommitted, shows_committed}
 

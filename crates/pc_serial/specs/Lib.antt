@@ -4,4 +4,5 @@ pub mod FirstRun
 pub mod Laws
 pub mod Plain
 pub mod QuietWire
+pub mod StagedRow
 pub mod Tidy
