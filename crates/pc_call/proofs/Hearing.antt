@@ -188,29 +188,35 @@ module _ (session clock count : ℕ) (splits : List (List ℕ)) (k : Known) (x :
   abbrev t2 : Txn
   t2 = txn_heard k.sent (Some h) w.t
 
-  found : (m : Message) × (find (awaits_at number) ms ≡ Some m)
+  pub found : (m : Message) × (find (awaits_at number) ms ≡ Some m)
   found = found_some (awaits_at number) ms waited
 
   stands_m : MessageStands k found.0
   stands_m = found_all (awaits_at number) (MessageStands k) ms found.0 found.1 w.wave.stand
 
-  far : IsOnItsWay k number found.0.request × (found.0.conflicts < MOST_CONFLICTS)
+  pub far : IsOnItsWay k number found.0.request × (found.0.conflicts < MOST_CONFLICTS)
   far = subst (λ p. IsAsFar k found.0.request found.0.conflicts p) (awaits_as number found.0.progress (found_passes (awaits_at number) ms found.0 found.1)) stands_m.as_far
 
-  same_request : h.request ≡ found.0.request
+  pub same_request : h.request ≡ found.0.request
   same_request = same_Some h.request found.0.request (sym is.asked ∙ far.0.out.said)
 
-  more : HasMore k k2 [] (h ∷ [])
+  pub more : HasMore k k2 [] (h ∷ [])
   more = record { sent = sym (append-nil k.sent); sent_now = sym (append-nil k.sent_now); heard = refl; heard_now = refl }
 
-  gone : HasMovedOn k k2 [] (h ∷ [])
+  pub gone : HasMovedOn k k2 [] (h ∷ [])
   gone = record { sent = sym (append-nil k.sent); heard = refl; begun = omega arith; high = omega arith }
 
-  wave2 : WaveStands k2 ms2
+  pub wave2 : WaveStands k2 ms2
   wave2 = wave_heard k k2 ms number reply h w.wave waited is more
 
   requests2 : map (λ m. m.request) ms2 ≡ map (λ m. m.request) ms
   requests2 = kept_by (awaits_at number) (back_with number reply) (λ (m : Message). m.request) ms (came_request number reply)
+
+  -- one message of one that is waited for is what was asked
+  pub one_asked : (m : Message) → ms ≡ m ∷ [] → h.request ≡ m.request
+  one_asked m one =
+      let f : find (awaits_at number) (m ∷ []) ≡ Some found.0 = subst (λ ms. find (awaits_at number) ms ≡ Some found.0) one found.1 in
+      same_request ∙ sym (ap (λ (m : Message). m.request) (only_found (awaits_at number) m found.0 f).0)
 
   -- what holds of each request holds of the one that was answered
   of_request : (P : Request → Type 0) → All P (map (λ m. m.request) ms) → P h.request
@@ -219,15 +225,15 @@ module _ (session clock count : ℕ) (splits : List (List ℕ)) (k : Known) (x :
   not_beside : goes_beside h.request ≡ false
   not_beside = ap goes_beside same_request ∙ stands_m.no_round
 
-  fewer2 : NoOtherMetEighth k2.heard_now ms2
-  fewer2 r beside none eight =
+  pub fewer2 : NoOtherMetEighth k2.heard_now ms2
+  fewer2 r none eight =
       let P : Request → Type 0 = λ q. IsSameRequest q r → ⊥ in
       let before : All (λ (m : Message). P m.request) ms = all_unmapped P (λ (m : Message). m.request) ms (subst (λ rs. All P rs) requests2 (All-map P (λ (m : Message). m.request) ms2 none)) in
       let here : P h.request = subst P (sym same_request) (found_all (awaits_at number) (λ (m : Message). P m.request) ms found.0 found.1 before) in
       let no : IsConflictOf r h → ⊥ = λ c. here (same_sym r h.request c.same) in
-      w.fewer r beside before (at_least-before (IsConflictOf r) MOST_CONFLICTS k.heard_now (h ∷ []) (All-cons (λ h. IsConflictOf r h → ⊥) h [] no (All-nil (λ h. IsConflictOf r h → ⊥))) eight)
+      w.fewer r before (at_least-before (IsConflictOf r) MOST_CONFLICTS k.heard_now (h ∷ []) (All-cons (λ h. IsConflictOf r h → ⊥) h [] no (All-nil (λ h. IsConflictOf r h → ⊥))) eight)
 
-  paced2 : IsPaced (holders_met ms2) k2.heard_now
+  pub paced2 : IsPaced (holders_met ms2) k2.heard_now
   paced2 = record {
     pushes = λ id.
         let pushed : count_by (was_pushed id) k2.heard_now ≡ count_by (was_pushed id) k.heard_now + 0 =
@@ -247,7 +253,7 @@ module _ (session clock count : ℕ) (splits : List (List ℕ)) (k : Known) (x :
         omega arith;
   }
 
-  split2 : IsSplit k2
+  pub split2 : IsSplit k2
   split2 = record {
     sent_first = w.split.sent_first;
     sent = w.split.sent;
@@ -301,7 +307,7 @@ module _ (session clock count : ℕ) (splits : List (List ℕ)) (k : Known) (x :
   refused-more : (m : Sent) → WasRefusedIfCommit w.t.write_ts k.heard_now m → WasRefusedIfCommit w.t.write_ts k2.heard_now m
   refused-more m r = λ commits. any_kept (IsRefusedBy w.t.write_ts m) k.heard_now (h ∷ []) (r commits)
 
-  numbered_now : All (λ h. h.number ≤ length k.sent) k.heard_now
+  pub numbered_now : All (λ h. h.number ≤ length k.sent) k.heard_now
   numbered_now =
       let P : Heard → Type 0 = λ h. h.number ≤ length k.sent in
       all_behind P w.split.heard_first k.heard_now (subst (λ hs. All P hs) w.split.heard (are_numbered session clock count k counted).heard)

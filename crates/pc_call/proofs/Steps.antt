@@ -123,9 +123,9 @@ module _ (session clock count : ℕ) (splits : List (List ℕ)) (k : Known) (x :
   paced2 = subst (λ hs. IsPaced hs k.heard_now) (sym (holders_sent number ms)) w.paced
 
   fewer2 : NoOtherMetEighth k2.heard_now ms2
-  fewer2 r beside none =
+  fewer2 r none =
       let P : Request → Type 0 = λ q. IsSameRequest q r → ⊥ in
-      w.fewer r beside (all_unmapped P (λ (m : Message). m.request) ms (subst (λ rs. All P rs) requests2 (All-map P (λ (m : Message). m.request) ms2 none)))
+      w.fewer r (all_unmapped P (λ (m : Message). m.request) ms (subst (λ rs. All P rs) requests2 (All-map P (λ (m : Message). m.request) ms2 none)))
 
   open2 : IsOpenIn k2 t2
   open2 = record { others = map (txn_sent request) w.open_in.others; is_open = w.open_in.is_open; first = ap (map (txn_sent request)) w.open_in.first }

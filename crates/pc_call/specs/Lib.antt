@@ -1,6 +1,7 @@
 -- An open call, and how its messages stand beside what its session knows.
 pub mod Committing
 pub mod Ended
+pub mod Finished
 pub mod Fresh
 pub mod Giving
 pub mod Learned
@@ -10,3 +11,4 @@ pub mod Pieces
 pub mod Rounding
 pub mod Sending
 pub mod Serving
+pub mod Telling

@@ -4,7 +4,7 @@ use Rattle.pc_base.specs.declared.transaction.TxnId.{TxnId}
 use Rattle.pc_base.specs.Transaction.{same_txn}
 use Rattle.pc_call.specs.Paced.{shows_resolve, was_met, was_pushed}
 use Rattle.pc_proto.specs.declared.reply.Reply.{Reply}
-use Rattle.pc_proto.specs.Replies.{holder_in}
+use Rattle.pc_proto.specs.Replies.{holder_in, is_conflict}
 use Rattle.pc_proto.specs.Requests.{is_about}
 use Rattle.pc_wave.specs.Due.{FollowsConflict}
 use Rattle.pc_wave.specs.Standing.{HasMore, goes_beside}
@@ -21,8 +21,8 @@ abbrev pub KeepsPace : Option TxnId → List Heard → List Heard → Type 0
 KeepsPace None before now = ⊤
 KeepsPace (Some id) before now = IsPushedOnce id before now
 
--- Since then the session has made the round of this conflict, and nothing that it sent or heard besides is of its call or speaks of the record
--- of its open transaction, of this name.
+-- Since then the session has made the round of this conflict, and nothing that it sent or heard besides is of its call, speaks of the record
+-- of its open transaction, of this name, or met an intent.
 pub record MakesRound (start k : Known) (own : TxnId) (conflict : Reply) : Type 0 where
   pub sent_more : List Sent
   pub heard_more : List Heard
@@ -30,6 +30,7 @@ pub record MakesRound (start k : Known) (own : TxnId) (conflict : Reply) : Type 
   pub sent_beside : All (λ m. IsTrue (goes_beside m.request)) sent_more
   pub heard_beside : All (λ h. IsTrue (goes_beside h.request)) heard_more
   pub other : All (λ h. is_about own h.request ≡ false) heard_more
+  pub unmet : All (λ h. is_conflict h.reply ≡ false) heard_more
   pub followed : FollowsConflict conflict heard_more
   pub pace : KeepsPace (holder_in conflict) start.heard_now k.heard_now
   pub statement : k.statement ≡ start.statement

@@ -25,7 +25,7 @@ use Rattle.pc_wave.specs.declared.message.Message.{Message}
 use Rattle.pc_wave.specs.declared.message.Progress.{Progress}
 use Rattle.pc_wave.specs.declared.message.Progress.TheVariants as progresses
 use Rattle.pc_wave.specs.Messages.{is_to_send, wave_awaits}
-use Rattle.pc_wave.specs.Standing.{WaveStands, goes_beside}
+use Rattle.pc_wave.specs.Standing.{WaveStands}
 use Rattle.pc_world.specs.Counting.{AtLeast}
 use Rattle.pc_world.specs.Follows.Resends.{ShowsLaterEpoch}
 use Rattle.pc_world.specs.Known.{Known}
@@ -185,11 +185,10 @@ holder_met (progresses.Answered number reply) = None
 abbrev pub holders_met : List Message → List TxnId
 holders_met messages = flat_map (λ m. option_to_list (holder_met m.progress)) messages
 
--- No request of another kind than these messages met eight intents in the call.
+-- No other request than those of these messages met eight intents in the call.
 abbrev pub NoOtherMetEighth : List Heard → List Message → Type 0
 NoOtherMetEighth heard_now messages =
-    (request : Request) → goes_beside request ≡ false → All (λ m. IsSameRequest m.request request → ⊥) messages
-    → AtLeast (IsConflictOf request) MOST_CONFLICTS heard_now → ⊥
+    (request : Request) → All (λ m. IsSameRequest m.request request → ⊥) messages → AtLeast (IsConflictOf request) MOST_CONFLICTS heard_now → ⊥
 
 -- What was sent and heard in the open call stands behind what was sent and heard before.
 pub record IsSplit (k : Known) : Type 0 where

@@ -2,9 +2,12 @@
 #![tactic(auto)]
 
 mod call;
+mod committing;
 mod opening;
+mod over;
 mod pieces;
 mod purpose;
 
 pub use call::OpenCall;
+pub use over::{Left, Over};
 pub use purpose::Purpose;

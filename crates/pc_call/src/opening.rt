@@ -1,6 +1,6 @@
 ghost use Rattle.std.specs.Prelude.{◌≡◌, ℕ, ◌<◌, List, [], ◌∷◌, map, Option, None, Some, IfOk};
 ghost use Rattle.pc_base.specs.Rising.{AreRising};
-ghost use Rattle.pc_call.specs.Committing.{CommitsNow, RefreshesNow};
+ghost use Rattle.pc_call.specs.Committing.{CommitsNow, CommitsOn};
 ghost use Rattle.pc_call.specs.Fresh.{IsFresh};
 ghost use Rattle.pc_call.specs.Serving.{InCall, write_call};
 ghost use Rattle.pc_proto.specs.declared.call.Call.TheVariants as calls;
@@ -100,7 +100,7 @@ impl OpenCall {
 
     /// What the open transaction read is refreshed first, from where it reads to where it writes.
     pub fn refresh(alloc: Global, txn: &OpenTxn, refusals: Refusals) -> Result<OpenCall, NoMemory>
-        ensures stands { (splits : List (List ℕ)) (k : Known) (s : Statement) → RefreshesNow refusals k txn.now s → txn.now.reads.ts < txn.now.write_ts → IfOk result (λ call. InCall splits k txn.now call.purpose call.wave) }
+        ensures stands { (splits : List (List ℕ)) (k : Known) → CommitsOn refusals k txn.now → txn.now.reads.ts < txn.now.write_ts → IfOk result (λ call. InCall splits k txn.now call.purpose call.wave) }
     {
         let requests = txn.reads.refreshes(alloc, txn.id, txn.write_ts)?;
         let wave = wave_of_all(alloc, requests)?;
