@@ -9,6 +9,7 @@ pub mod Facts
 pub mod Hearing
 pub mod Holders
 pub mod Lists
+pub mod Reading
 pub mod Ready
 pub mod Refused
 pub mod Rounding

@@ -8,6 +8,7 @@ pub mod Learned
 pub mod Opening
 pub mod Paced
 pub mod Pieces
+pub mod Reading
 pub mod Rounding
 pub mod Sending
 pub mod Serving

@@ -7,6 +7,7 @@ mod opening;
 mod over;
 mod pieces;
 mod purpose;
+mod reading;
 
 pub use call::OpenCall;
 pub use over::{Left, Over};
