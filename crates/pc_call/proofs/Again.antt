@@ -41,7 +41,7 @@ use Rattle.pc_world.specs.SameRequest.{IsSameRequest}
 use Rattle.pc_world.specs.Tell.Data.{IsFirstPut, IsPutFor, sent_before}
 use Rattle.pc_world.specs.Tell.Refusal.{IsConflictOf}
 
-beside_quiet : (r : Request) → goes_beside r ≡ true → is_plain r ≡ true
+pub beside_quiet : (r : Request) → goes_beside r ≡ true → is_plain r ≡ true
 beside_quiet (requests.Put meta seq ts key value) e = absurd cc
 beside_quiet (requests.Stage meta ts now writes locks) e = absurd cc
 beside_quiet (requests.Commit meta ts locks) e = absurd cc

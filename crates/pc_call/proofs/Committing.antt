@@ -1,16 +1,18 @@
 -- A commit's refreshes, and the commit itself, are to be sent.
-use Rattle.std.proofs.Common.{◌≡◌, ℕ, ◌≤◌, ◌<◌, true, false, ◌==◌, ◌⊎◌, inl, inr, List, [], ◌∷◌, map, None, Some, refl, sym, ap, ◌∙◌, subst, arith, All, Any, IsTrue, lit<}
-use Rattle.std.proofs.lemmas.Bool.{eq-eqb}
+use Rattle.std.proofs.Common.{◌≡◌, ℕ, ◌≤◌, ◌<◌, nat_lt, Bool, ◌&&◌, true, false, ◌==◌, ◌⊎◌, inl, inr, List, [], ◌∷◌, map, None, Some, refl, sym, ap, ◌∙◌, subst, arith, All, Any, IsTrue, lit<}
+use Rattle.std.proofs.lemmas.Bool.{and_parts, eq-eqb, ltb-true}
+use Rattle.std.proofs.lemmas.Option.{same_Some}
 use Rattle.std.proofs.lemmas.List.Elements.{All-cons, All-head, All-map, All-nil, All-tail, All-weaker}
 use Rattle.pc_base.specs.declared.limits.TheConstants.{MOST_CONFLICTS}
 use Rattle.pc_base.specs.declared.span.Span.{Span}
 use Rattle.pc_call.proofs.Beginning.{AreTwo, any_true, fresh_split, none_held, none_paced, requests_are}
+use Rattle.pc_call.proofs.Meeting.{none_low}
 use Rattle.pc_call.specs.Committing.{CommitsNow, CommitsOn, CommitsUpTo}
 use Rattle.pc_call.specs.declared.purpose.Purpose.{Purpose}
 use Rattle.pc_call.specs.declared.purpose.Purpose.TheVariants as purposes
 use Rattle.pc_call.specs.Fresh.{IsFresh}
 use Rattle.pc_call.specs.Paced.{IsPaced}
-use Rattle.pc_call.specs.Serving.{InCall, IsCommitBelow, IsOutHere, IsRefreshUpTo, IsRefusedBy, Serves, WasRefusedIfCommit, out_of}
+use Rattle.pc_call.specs.Serving.{InCall, IsCommitBelow, IsMetUpTo, IsOutHere, IsRefreshUpTo, IsRefusedBy, MetNoOtherWrite, MetNoWrite, Serves, WasRefusedIfCommit, out_of}
 use Rattle.pc_lists.proofs.Anywhere.{any_of}
 use Rattle.pc_proto.specs.declared.call.Call.TheVariants as calls
 use Rattle.pc_proto.specs.declared.request.Request.{Request}
@@ -24,7 +26,7 @@ use Rattle.pc_txn.specs.declared.txn.OpenTxn.{OpenTxn}
 use Rattle.pc_txn.specs.Opened.{own_commit}
 use Rattle.pc_txn.specs.Standing.{TxnStands}
 use Rattle.pc_wave.proofs.Lists.{at_least-before, at_least-fewer}
-use Rattle.pc_wave.specs.Messages.{message_to_send}
+use Rattle.pc_wave.specs.Messages.{is_to_send, message_to_send}
 use Rattle.pc_wave.specs.Standing.{AreOfTwo, MayGoOut, MessageStands, Pairwise, WaveStands, goes_beside}
 use Rattle.pc_world.specs.Counting.{AtLeast}
 use Rattle.pc_world.specs.Follows.Resends.{ShowsLaterEpoch}
@@ -136,6 +138,7 @@ module _ (n : ℕ) (k : Known) (x : OpenTxn) (s : Statement) (c : CommitsNow n k
         refused =
             All-weaker (WasRefusedIfCommit c.t.write_ts k.heard_now) (λ m. IsOutHere (message_to_send said ∷ []) said m ⊎ WasRefusedIfCommit c.t.write_ts k.heard_now m) (λ m r. inr r) k.sent_now c.on.refused;
         refreshes = c.on.refreshes;
+        held = c.on.held;
         m = message_to_send said;
         one = refl;
         said = refl;
@@ -201,6 +204,8 @@ module _ (n : ℕ) (k : Known) (x : OpenTxn) (c : CommitsOn n k x) (behind : x.r
             (λ m up. refresh-more c.t.read_ts c.t.write_ts m.request (omega (arith, c.on.stands.behind)) up) k.sent_now c.on.refreshes;
         behind = behind;
         asked = requests_are (map asks x.reads.spans);
+        held = All-weaker MetNoWrite (MetNoOtherWrite (map message_to_send (map asks x.reads.spans))) (λ h none. inl none) k.heard_now c.on.held;
+        low = All-weaker MetNoWrite (IsMetUpTo k.top) (none_low k.top) k.heard_now c.on.held;
       })
 
 -- a commit that goes on commits at once, where its reads are good at its write timestamp
@@ -219,6 +224,7 @@ commits_at_once n k x c good = record {
     refreshes =
         All-weaker (λ m. IsRefreshUpTo c.t.read_ts m.request) (λ m. IsRefreshUpTo c.t.write_ts m.request)
         (λ m up. refresh-more c.t.read_ts c.t.write_ts m.request (omega (arith, c.on.stands.behind)) up) k.sent_now c.on.refreshes;
+    held = c.on.held;
   };
   good = subst (λ ts. All (IsGoodAt c.t.id k.heard ts) c.t.reads) (ap (λ x. x.write_ts) c.on.stands.same) good;
 }
@@ -246,5 +252,30 @@ commit_asked_now k x s why anchor f call anchored none = record {
     };
     refused = subst (λ ms. All (WasRefusedIfCommit f.t.write_ts k.heard_now) ms) (sym f.none_sent) (All-nil (WasRefusedIfCommit f.t.write_ts k.heard_now));
     refreshes = subst (λ ms. All (λ m. IsRefreshUpTo f.t.read_ts m.request) ms) (sym f.none_sent) (All-nil (λ (m : Sent). IsRefreshUpTo f.t.read_ts m.request));
+    held = subst (λ hs. All MetNoWrite hs) (sym f.none_heard) (All-nil MetNoWrite);
   };
 }
+
+-- where a commit goes on, it writes no earlier than it reads
+pub goes_at_once : (n : ℕ) (k : Known) (x : OpenTxn) (c : CommitsOn n k x) → x.reads.ts ≤ x.write_ts
+goes_at_once n k x c =
+    let reads : x.reads.ts ≡ c.t.read_ts = ap (λ x. x.reads.ts) c.on.stands.same in
+    let writes : x.write_ts ≡ c.t.write_ts = ap (λ x. x.write_ts) c.on.stands.same in
+    omega (arith, c.on.stands.behind)
+
+-- and its anchor is the transaction's
+pub anchor_of : (n : ℕ) (k : Known) (x : OpenTxn) (c : CommitsOn n k x) (anchor : List ℕ) → x.anchor ≡ Some anchor → c.on.commits.anchor ≡ anchor
+anchor_of n k x c anchor is = same_Some c.on.commits.anchor anchor (sym c.on.commits.anchored ∙ sym (ap (λ x. x.anchor) c.on.stands.same) ∙ is)
+
+-- what is to be refreshed lies behind
+pub behind_of : (a b : ℕ) (r other : Bool) → r ≡ (nat_lt a b && other) → r ≡ true → a < b
+behind_of a b r other made is = ltb-true a b (and_parts (nat_lt a b) other (sym made ∙ is)).0
+
+-- the anchor of a commit that goes out is the transaction's
+pub anchor_now : (n : ℕ) (k : Known) (x : OpenTxn) (s : Statement) (c : CommitsNow n k x s) (anchor : List ℕ) → x.anchor ≡ Some anchor → c.on.commits.anchor ≡ anchor
+anchor_now n k x s c anchor is = same_Some c.on.commits.anchor anchor (sym c.on.commits.anchored ∙ sym (ap (λ x. x.anchor) c.on.stands.same) ∙ is)
+
+-- messages that are to be sent
+pub all_to_send : (rs : List Request) → All (λ m. is_to_send m ≡ true) (map message_to_send rs)
+all_to_send [] = All-nil (λ m. is_to_send m ≡ true)
+all_to_send (r ∷ rs) = All-cons (λ m. is_to_send m ≡ true) (message_to_send r) (map message_to_send rs) refl (all_to_send rs)

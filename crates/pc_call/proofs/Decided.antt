@@ -1,11 +1,11 @@
 -- The reply to the commit of an open call shows that its transaction is decided.
-use Rattle.std.proofs.Common.{◌≡◌, ℕ, ◌+◌, ◌≤◌, Bool, true, false, cond, not, ◌&&◌, ◌||◌, inl, inr, List, [], ◌∷◌, map, None, Some, refl, sym, ap, ◌∙◌, subst, arith, All, Any, IsTrue}
+use Rattle.std.proofs.Common.{◌≡◌, ℕ, ◌+◌, ◌≤◌, nat_lt, Bool, true, false, cond, not, ◌&&◌, ◌||◌, inl, inr, List, [], ◌∷◌, length, map, None, Some, refl, sym, ap, ◌∙◌, subst, arith, All, Any, IsTrue}
 use Rattle.std.specs.Option.{option_map_or}
 use Rattle.std.proofs.lemmas.Bool.{and_from, eq-eqb}
 use Rattle.std.proofs.lemmas.List.Elements.{All-cons, All-nil}
 use Rattle.pc_base.specs.declared.limits.TheConstants.{MOST_REFUSALS}
 use Rattle.pc_base.specs.Transaction.{same_txn}
-use Rattle.pc_call.proofs.Closing.{closing-committed, closing-left, closing-may, open3, opened3}
+use Rattle.pc_call.proofs.Closing.{closing-committed, closing-left, closing-may, opened3}
 use Rattle.pc_call.proofs.Eighths.{no_eighth_move}
 use Rattle.pc_call.proofs.Ending.{EndsWith, IsFinalAs, final_aborted, final_committed}
 use Rattle.pc_call.proofs.Facts.{unmoved}
@@ -65,8 +65,8 @@ one_out number m waited = awaits_as number m.progress (by (awaits_at number m) w
 
 -- what shows no record that is not final moves nothing
 pub decided_moves : (r : Request) (reply : Reply) → is_undecided_status reply ≡ false → is_moved r reply ≡ false
-decided_moves (requests.Stage meta ts now writes locks) reply e = ap (λ b. b && _) e
-decided_moves (requests.Commit meta ts locks) reply e = ap (λ b. b && _) e
+decided_moves (requests.Stage meta ts now writes locks) reply e = ap (λ b. b && nat_lt ts (status_ts reply)) e
+decided_moves (requests.Commit meta ts locks) reply e = ap (λ b. b && nat_lt ts (status_ts reply)) e
 decided_moves r reply e = refl
 
 module _ (session clock count : ℕ) (splits : List (List ℕ)) (k : Known) (x : OpenTxn) (p : Purpose) (ms : List Message) (counted : IsCounted session clock count k) (w : InCall splits k x p ms)
@@ -105,7 +105,7 @@ module _ (session clock count : ℕ) (splits : List (List ℕ)) (k : Known) (x :
     unmoved2 =
         unmoved k2 n
         (refusals_go n k k2 [] (h ∷ []) commits.commits.moves (more session clock count splits k x p ms counted w number (replies.Status view) h waited is)
-        (numbered_now session clock count splits k x p ms counted w number (replies.Status view) h waited is) (All-nil (λ (m : Sent). _))
+        (numbered_now session clock count splits k x p ms counted w number (replies.Status view) h waited is) (All-nil (λ (m : Sent). length k.sent + 1 ≤ m.number))
         (All-cons IsNoMove h [] (decided_moves h.request h.reply decided) (All-nil IsNoMove)))
         (omega (arith, commits.commits.few))
 
@@ -125,7 +125,6 @@ module _ (session clock count : ℕ) (splits : List (List ℕ)) (k : Known) (x :
       }
 
   pub committed_over : (epoch ts : ℕ) (locks : List (List ℕ)) → view ≡ views.Committed epoch ts locks → MayTellOver splits session k2 (record { answer = answers.Committed x.id ts; left = left_at x.anchor (fates.Committed epoch ts) x })
-  unfolding open3
   committed_over epoch ts locks v =
       let answer = answers.Committed x.id ts in
       let fate = fates.Committed epoch ts in
@@ -135,7 +134,6 @@ module _ (session clock count : ℕ) (splits : List (List ℕ)) (k : Known) (x :
       and_from (is_about w.t.id h.request) (option_map_or (is_committed_at ts) (view_in h.reply) false) over.about
       (ap (λ r. option_map_or (is_committed_at ts) (view_in r) false) is.told ∙ ap (is_committed_at ts) v ∙ eq-eqb ts ts refl) in
       let told : IsTrue (is_commit_told w.t.id ts h) = and_from (is_commit h.request) (shows_committed w.t.id ts h) (ap is_commit commit_known) shown in
-      let open2 = open3 k x w.t commits.commits.anchor fate h w.open_in w.stands.same over in
       record {
         may = record {
           may = may_tell splits session k2 w.s answer w.opened w.open_in.is_open within (record {
@@ -152,22 +150,20 @@ module _ (session clock count : ℕ) (splits : List (List ℕ)) (k : Known) (x :
         };
         left = closing-committed k x w.t commits.commits.anchor fate h w.open_in w.stands.same over ts told;
         closed = refl;
-        settles = closing-may k x w.t commits.commits.anchor fate h w.open_in w.stands.same over answer (still_open k2 answer t2 open2.others open2.is_open open2.first);
+        settles = closing-may k x w.t commits.commits.anchor fate h w.open_in w.stands.same over answer (still_open k2 answer t2 (map (txn_heard k.sent (Some h)) w.open_in.others) w.open_in.is_open (ap (map (txn_heard k.sent (Some h))) w.open_in.first));
       }
 
   pub aborted_over : (epoch : ℕ) (why : Why) (locks : List (List ℕ)) → view ≡ views.Aborted epoch why locks → MayTellOver splits session k2 (record { answer = answers.Aborted why; left = left_at x.anchor fates.Aborted x })
-  unfolding open3
   aborted_over epoch why locks v =
       let answer = answers.Aborted why in
       let decided : is_undecided_status h.reply ≡ false = ap is_undecided_status is.told ∙ ap (λ v. is_undecided_status (replies.Status v)) v in
       let over : EndsWith w.t commits.commits.anchor fates.Aborted k.heard h = ends decided fates.Aborted (subst (λ v. IsFinalAs v fates.Aborted) (sym v) (final_aborted epoch why locks)) in
-      let open2 = open3 k x w.t commits.commits.anchor fates.Aborted h w.open_in w.stands.same over in
       record {
         may = record {
           may = may_tell splits session k2 w.s answer w.opened w.open_in.is_open within (record {
             t = t2;
             opened = opened3 k x w.t commits.commits.anchor fates.Aborted h w.open_in w.stands.same over;
-            heard = any_last (ShowsAborted w.t.id why) k.heard h (record { about = over.about; view = view; told = over.told; cause = subst (AbortsWith why) (sym v) refl });
+            heard = any_last (ShowsAborted w.t.id why) k.heard h (record { about = over.about; view = view; told = ap view_in is.told; cause = subst (AbortsWith why) (sym v) refl });
           });
           written = tt;
           aborts = tt;
@@ -176,5 +172,5 @@ module _ (session clock count : ℕ) (splits : List (List ℕ)) (k : Known) (x :
         };
         left = closing-left k x w.t commits.commits.anchor fates.Aborted h w.open_in w.stands.same over;
         closed = refl;
-        settles = closing-may k x w.t commits.commits.anchor fates.Aborted h w.open_in w.stands.same over answer (still_open k2 answer t2 open2.others open2.is_open open2.first);
+        settles = closing-may k x w.t commits.commits.anchor fates.Aborted h w.open_in w.stands.same over answer (still_open k2 answer t2 (map (txn_heard k.sent (Some h)) w.open_in.others) w.open_in.is_open (ap (map (txn_heard k.sent (Some h))) w.open_in.first));
       }

@@ -16,15 +16,19 @@ use Rattle.pc_world.specs.Follows.Eighth.{IsBlockedAnswer, IsMovedAnswer, MetEig
 use Rattle.pc_world.specs.Known.{Known}
 use Rattle.pc_world.specs.Known.Statements.{Statement}
 use Rattle.pc_world.specs.Known.Traffic.{Heard}
-use Rattle.pc_world.specs.SameRequest.{IsSameRequest}
+use Rattle.pc_world.specs.SameRequest.{IsSamePut, IsSameRequest}
 use Rattle.pc_world.specs.Tell.Refusal.{IsConflictOf}
+
+put_trans : (one two three : Request) → IsSamePut one two → IsSamePut two three → IsSamePut one three
+put_trans (requests.Put a b c d e) (requests.Put f g h i j) (requests.Put l m n o p) x y = (x.0 ∙ y.0, x.1 ∙ y.1, x.2 ∙ y.2)
+put_trans (requests.Put a b c d e) (requests.Put f g h i j) three x y = absurd y
+put_trans (requests.Put a b c d e) two three x y = absurd x
+put_trans one two three x y = absurd x
 
 pub same_trans : (one two three : Request) → IsSameRequest one two → IsSameRequest two three → IsSameRequest one three
 same_trans one two three (inl e) h = subst (λ r. IsSameRequest r three) (sym e) h
 same_trans one two three (inr put) (inl e) = subst (λ r. IsSameRequest one r) e (inr put)
-same_trans (requests.Put a b c d e) (requests.Put f g h i j) (requests.Put l m n o p) (inr (x, y, z)) (inr (u, v, w)) = inr (x ∙ u, y ∙ v, z ∙ w)
-same_trans one (requests.Put f g h i j) three (inr put) (inr other) = absurd cc
-same_trans one two three (inr put) (inr other) = absurd cc
+same_trans one two three (inr put) (inr other) = inr (put_trans one two three put other)
 
 module _ {X : Type 0} (P Q : X → Type 0) (all : (x : X) → P x → Q x) where
   pub at_least-weaker : (n : ℕ) (xs : List X) → AtLeast P n xs → AtLeast Q n xs

@@ -1,5 +1,6 @@
 pub mod Again
 pub mod Beginning
+pub mod Blocking
 pub mod Closing
 pub mod Committing
 pub mod Decided
@@ -8,10 +9,14 @@ pub mod Ending
 pub mod Facts
 pub mod Hearing
 pub mod Holders
+pub mod Landing
 pub mod Lists
+pub mod Meeting
 pub mod Reading
 pub mod Ready
 pub mod Refused
+pub mod Restarting
+pub mod RolledBack
 pub mod Rounding
 pub mod Sending
 pub mod Steps

@@ -1,5 +1,5 @@
 -- All messages of a call that reads were answered: the call may be told so, and its transaction stands with what it read.
-use Rattle.std.proofs.Common.{◌≡◌, ℕ, ◌<◌, ◌≤◌, Bool, true, false, cond, ◌==◌, ◌⊎◌, inl, inr, List, [], ◌∷◌, ◌++◌, map, filter, Option, None, Some, zero, suc, refl, sym, ap, ◌∙◌, subst, arith, All, Any, IsTrue, Contains}
+use Rattle.std.proofs.Common.{◌≡◌, ℕ, ◌<◌, ◌≤◌, Bool, true, false, cond, ◌==◌, ◌⊎◌, inl, inr, List, [], ◌∷◌, ◌++◌, map, filter, Option, None, Some, Result, Ok, Err, IfOk, zero, suc, refl, sym, ap, ◌∙◌, subst, arith, All, Any, IsTrue, Contains}
 use Rattle.std.specs.List.{flat_map, list_any}
 use Rattle.std.specs.List.Sorted.{IsStrictlySortedBy}
 use Rattle.std.proofs.lemmas.Bool.{eq-eqb}
@@ -81,16 +81,16 @@ TellsRead q reply = All (λ span. Any (λ r. r.span ≡ span) (read_heard q repl
 
 plain_tells : (q : Request) (reply : Reply) → MayAnswer q reply → is_conflict reply ≡ false → TellsRead q reply
 plain_tells (requests.Get id epoch seq at key) (replies.Value origin value) may plain =
-    All-cons (λ span. Any (λ r. r.span ≡ span) (record { span = One key; ts = at } ∷ [])) (One key) [] (any_head (λ (r : Read). r.span ≡ One key) (record { span = One key; ts = at }) [] refl)
-    (All-nil (λ span. Any (λ r. r.span ≡ span) (record { span = One key; ts = at } ∷ [])))
+    All-cons (λ span. Any (λ (r : Read). r.span ≡ span) (record { span = One key; ts = at } ∷ [])) (One key) [] (any_head (λ (r : Read). r.span ≡ One key) (record { span = One key; ts = at }) [] refl)
+    (All-nil (λ span. Any (λ (r : Read). r.span ≡ span) (record { span = One key; ts = at } ∷ [])))
 plain_tells (requests.Get id epoch seq at key) (replies.Conflict holder ts place) may plain = absurd cc
 plain_tells (requests.Get id epoch seq at key) reply may plain = absurd may
 plain_tells (requests.Scan id epoch seq at span) (replies.Rows rows) may plain =
-    All-cons (λ span. Any (λ r. r.span ≡ span) (record { span = span; ts = at } ∷ [])) span [] (any_head (λ (r : Read). r.span ≡ span) (record { span = span; ts = at }) [] refl)
-    (All-nil (λ s. Any (λ r. r.span ≡ s) (record { span = span; ts = at } ∷ [])))
+    All-cons (λ s. Any (λ (r : Read). r.span ≡ s) (record { span = span; ts = at } ∷ [])) span [] (any_head (λ (r : Read). r.span ≡ span) (record { span = span; ts = at }) [] refl)
+    (All-nil (λ s. Any (λ (r : Read). r.span ≡ s) (record { span = span; ts = at } ∷ [])))
 plain_tells (requests.Scan id epoch seq at span) (replies.Conflict holder ts place) may plain = absurd cc
 plain_tells (requests.Scan id epoch seq at span) reply may plain = absurd may
-plain_tells q reply may plain = All-nil (λ span. Any (λ r. r.span ≡ span) (read_heard q reply))
+plain_tells q reply may plain = All-nil (λ span. Any (λ (r : Read). r.span ≡ span) (read_heard q reply))
 
 -- where each message was answered, none met its eighth
 pub all_few : (k : Known) (ms : List Message) → All (MessageStands k) ms → All (WasAnsweredWith k) ms → All (λ m. m.conflicts < MOST_CONFLICTS) ms
@@ -193,21 +193,20 @@ module _ (session clock count : ℕ) (splits : List (List ℕ)) (k : Known) (x :
   abbrev spans2 : List Span
   spans2 = with_spans x.reads.spans (spans_read ms)
 
+  -- What replies to the request read is in these spans.
+  abbrev InSpans : Request → Type 0
+  InSpans q = (reply : Reply) → All (IsReadIn spans2 x.reads.ts) (read_heard q reply)
+
+  all_spans : All InSpans (map (λ m. m.request) ms)
+  all_spans = all_in x.reads.ts spans2 ms (λ span there. more_has x.reads.spans (spans_read ms) span there) (reads_at splits x w.s.call (map (λ m. m.request) ms) r.asked)
+
+  one_in : (h : Heard) → IsReadFor (map (λ m. m.request) ms) h → All (IsReadIn spans2 x.reads.ts) (read_heard h.request h.reply)
+  one_in h (inl none) = subst (λ rs. All (IsReadIn spans2 x.reads.ts) rs) (sym none) (All-nil (IsReadIn spans2 x.reads.ts))
+  one_in h (inr some) = let f = any_of InSpans (λ q. q ≡ h.request) (map (λ (m : Message). m.request) ms) all_spans some in subst InSpans f.2 f.1 h.reply
+
   -- every read that was heard in the call is in its spans
   heard_in : All (λ h. All (IsReadIn spans2 x.reads.ts) (read_heard h.request h.reply)) k.heard_now
-  heard_in = All-weaker (IsReadFor (map (λ m. m.request) ms)) (λ h. All (IsReadIn spans2 x.reads.ts) (read_heard h.request h.reply)) one k.heard_now r.heard
-    where
-      Q : Request → Type 0
-      Q q = (reply : Reply) → All (IsReadIn spans2 x.reads.ts) (read_heard q reply)
-
-      all : All Q (map (λ m. m.request) ms)
-      unfolding Q
-      all = all_in x.reads.ts spans2 ms (λ span there. more_has x.reads.spans (spans_read ms) span there) (reads_at splits x w.s.call (map (λ m. m.request) ms) r.asked)
-
-      one : (h : Heard) → IsReadFor (map (λ m. m.request) ms) h → All (IsReadIn spans2 x.reads.ts) (read_heard h.request h.reply)
-      unfolding Q
-      one h (inl none) = subst (λ rs. All (IsReadIn spans2 x.reads.ts) rs) (sym none) (All-nil (IsReadIn spans2 x.reads.ts))
-      one h (inr some) = let f = any_of Q (λ q. q ≡ h.request) (map (λ (m : Message). m.request) ms) all some in subst Q f.2 f.1 h.reply
+  heard_in = All-weaker (IsReadFor (map (λ m. m.request) ms)) (λ h. All (IsReadIn spans2 x.reads.ts) (read_heard h.request h.reply)) one_in k.heard_now r.heard
 
   own_in : All (IsReadIn spans2 x.reads.ts) own
   own_in = own_reads k (IsReadIn spans2 x.reads.ts) k.sent_now k.heard_now heard_in
@@ -240,11 +239,13 @@ module _ (session clock count : ℕ) (splits : List (List ℕ)) (k : Known) (x :
   value_heard : (key : List ℕ) (m : Message) → m.request ≡ own_get x key → WasAnsweredWith k m → Any (λ h. IsTrue (was_sent_now k h) × IsValueOf (value_answered m.progress) h.request h.reply) k.heard_now
   value_heard key m asked a =
       any_weaker (IsReplyAt a.number m.request a.reply) (λ h. IsTrue (was_sent_now k h) × IsValueOf (value_answered m.progress) h.request h.reply)
-      (λ h at. (sent_in k a.number m.request h a.back.out at.numbered,
-      subst (λ pr. IsValueOf (value_answered pr) h.request h.reply) (sym a.progress)
-      (subst (λ y. IsValueOf (value_answered (progresses.Answered a.number a.reply)) h.request y) (sym at.told)
-      (subst (λ q. IsValueOf (value_answered (progresses.Answered a.number a.reply)) q a.reply) (sym (at.asked ∙ asked))
-      (is_value a.reply (subst (λ q. MayAnswer q a.reply) asked a.back.kind) a.back.plain)))))
+      (λ h at. (
+        sent_in k a.number m.request h a.back.out at.numbered,
+        subst (λ pr. IsValueOf (value_answered pr) h.request h.reply) (sym a.progress)
+            (subst (λ y. IsValueOf (value_answered (progresses.Answered a.number a.reply)) h.request y) (sym at.told)
+            (subst (λ q. IsValueOf (value_answered (progresses.Answered a.number a.reply)) q a.reply) (sym (at.asked ∙ asked))
+            (is_value a.reply (subst (λ q. MayAnswer q a.reply) asked a.back.kind) a.back.plain))),
+      ))
       k.heard_now a.back.heard
     where
       is_value : (reply : Reply) → MayAnswer (own_get x key) reply → is_conflict reply ≡ false → IsValueOf (value_answered (progresses.Answered a.number reply)) (own_get x key) reply
@@ -255,11 +256,13 @@ module _ (session clock count : ℕ) (splits : List (List ℕ)) (k : Known) (x :
   rows_heard : (span : Span) (m : Message) → m.request ≡ own_scan x span → WasAnsweredWith k m → Any (λ h. IsTrue (was_sent_now k h) × AreRowsOf span (rows_answered m.progress) h.request h.reply) k.heard_now
   rows_heard span m asked a =
       any_weaker (IsReplyAt a.number m.request a.reply) (λ h. IsTrue (was_sent_now k h) × AreRowsOf span (rows_answered m.progress) h.request h.reply)
-      (λ h at. (sent_in k a.number m.request h a.back.out at.numbered,
-      subst (λ pr. AreRowsOf span (rows_answered pr) h.request h.reply) (sym a.progress)
-      (subst (λ y. AreRowsOf span (rows_answered (progresses.Answered a.number a.reply)) h.request y) (sym at.told)
-      (subst (λ q. AreRowsOf span (rows_answered (progresses.Answered a.number a.reply)) q a.reply) (sym (at.asked ∙ asked))
-      (are_rows a.reply (subst (λ q. MayAnswer q a.reply) asked a.back.kind) a.back.plain)))))
+      (λ h at. (
+        sent_in k a.number m.request h a.back.out at.numbered,
+        subst (λ pr. AreRowsOf span (rows_answered pr) h.request h.reply) (sym a.progress)
+            (subst (λ y. AreRowsOf span (rows_answered (progresses.Answered a.number a.reply)) h.request y) (sym at.told)
+            (subst (λ q. AreRowsOf span (rows_answered (progresses.Answered a.number a.reply)) q a.reply) (sym (at.asked ∙ asked))
+            (are_rows a.reply (subst (λ q. MayAnswer q a.reply) asked a.back.kind) a.back.plain))),
+      ))
       k.heard_now a.back.heard
     where
       are_rows : (reply : Reply) → MayAnswer (own_scan x span) reply → is_conflict reply ≡ false → AreRowsOf span (rows_answered (progresses.Answered a.number reply)) (own_scan x span) reply
@@ -298,6 +301,7 @@ module _ (session clock count : ℕ) (splits : List (List ℕ)) (k : Known) (x :
     };
     left = refl;
     after = stays_open k w.t x w.open_in st w.cause (answers.Value value) (value_keeps value) spans2 read_stands;
+    suits = λ s is. r.none_in_flight;
   }
 
   tells_rows : (rows : List (List ℕ × Origin × List ℕ)) → (w.s.call ≡ calls.Commit → ⊥) → is_past_range w.s ≡ false → MayTellRow splits (actors.Session session) k w.s (answers.Rows rows) → MayTellOpen splits session k (answers.Rows rows) x2
@@ -311,6 +315,7 @@ module _ (session clock count : ℕ) (splits : List (List ℕ)) (k : Known) (x :
     };
     left = refl;
     after = stays_open k w.t x w.open_in st w.cause (answers.Rows rows) (rows_keep rows) spans2 read_stands;
+    suits = λ s is. r.none_in_flight;
   }
 
   read_key : (key : List ℕ) (xs : List Message) → ms ≡ xs → w.s.call ≡ calls.Get key → map (λ m. m.request) xs ≡ own_get x key ∷ [] → All (WasAnsweredWith k) xs → MayTellOpen splits session k (answer_read xs) x2
@@ -339,3 +344,9 @@ module _ (session clock count : ℕ) (splits : List (List ℕ)) (k : Known) (x :
   -- the call may be told what it read
   pub read_told : MayTellOpen splits session k (answer_read ms) x2
   read_told = read_all w.s.call refl r.asked
+
+-- so what a call gives that gives what was read
+pub told_ok : {E : Type 0} (splits : List (List ℕ)) (session : ℕ) (k : Known) (x now : OpenTxn) (answer : Answer) (r : Result Answer E) → IfOk r (λ a. a ≡ answer) → now ≡ x → MayTellOpen splits session k answer x
+    → IfOk r (λ a. MayTellOpen splits session k a now)
+told_ok splits session k x now answer (Ok a) is same told = subst (λ x. MayTellOpen splits session k a x) (sym same) (subst (λ a. MayTellOpen splits session k a x) (sym is) told)
+told_ok splits session k x now answer (Err e) is same told = is

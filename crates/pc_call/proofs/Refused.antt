@@ -5,18 +5,19 @@ use Rattle.std.proofs.lemmas.Bool.{eq-eqb, ltb-false, ltb-true}
 use Rattle.std.proofs.lemmas.List.Elements.{All-push, All-weaker}
 use Rattle.pc_base.specs.declared.limits.TheConstants.{MOST_REFUSALS}
 use Rattle.pc_base.specs.declared.transaction.TxnId.{TxnId}
-use Rattle.pc_call.proofs.Beginning.{any_true}
 use Rattle.pc_call.proofs.Decided.{commit_known, commit_out, commit_said, commit_stands, commits, one_out, within}
 use Rattle.pc_call.proofs.Eighths.{told_moved}
 use Rattle.pc_call.proofs.Facts.{none_staged, open_is, unmoved}
 use Rattle.pc_call.proofs.Hearing.{far, gone, paced2, split2}
+use Rattle.pc_call.proofs.Reading.{sent_in}
 use Rattle.pc_call.proofs.Told.{may_tell, moved_keeps, stays_as_is}
 use Rattle.pc_call.specs.Committing.{AreRefusals, CommitsOn, IsRefusalOf, IsUsedUp}
 use Rattle.pc_call.specs.declared.purpose.Purpose.{Purpose}
 use Rattle.pc_call.specs.declared.purpose.Purpose.TheVariants as purposes
 use Rattle.pc_call.specs.Learned.{known_heard}
 use Rattle.pc_call.specs.Paced.{IsPaced}
-use Rattle.pc_call.specs.Serving.{InCall, IsCommitBelow, IsCommitCall, IsOpenIn, IsOutHere, IsRefreshUpTo, IsRefusedBy, ServesCommit, WasRefusedIfCommit}
+use Rattle.pc_call.specs.Serving.{InCall, IsCommitBelow, IsCommitCall, IsOpenIn, IsOutHere, IsRefreshUpTo, IsRefusedBy, MetNoWrite, ServesCommit, WasRefusedIfCommit}
+use Rattle.pc_call.specs.Suiting.{SuitsFlight}
 use Rattle.pc_call.specs.Telling.{MayTellOpen}
 use Rattle.pc_lists.proofs.Anywhere.{any_kept, any_last, any_weaker}
 use Rattle.pc_proto.specs.declared.answer.Answer.TheVariants as answers
@@ -29,6 +30,7 @@ use Rattle.pc_proto.specs.declared.view.View.TheVariants as views
 use Rattle.pc_proto.specs.Replies.{is_conflict, is_undecided_status, status_ts}
 use Rattle.pc_proto.specs.Requests.{is_commit}
 use Rattle.pc_proto.specs.Stamps.{greatest_of, reply_stamps}
+use Rattle.pc_reads.specs.Replies.{unrefreshed_by}
 use Rattle.pc_refusals.specs.Moves.{CountsMoves, DecidesAt, ShowsRecord, moves_with}
 use Rattle.pc_txn.proofs.Commits.{commit_now, commit_refused}
 use Rattle.pc_txn.proofs.Keeping.{each_commit-more}
@@ -101,10 +103,7 @@ module _ (session clock count : ℕ) (splits : List (List ℕ)) (k : Known) (x :
   past = (subst (λ r. MayAnswer r (replies.Status view)) said is.kind).1
 
   was_now : was_sent_now k h ≡ true
-  was_now =
-      let out = (far session clock count splits k x p ms counted w number (replies.Status view) h waited is).0.out.now in
-      any_true (λ m. m.number == h.number) k.sent_now
-      (any_weaker (IsMessageAt number _) (λ m. IsTrue (m.number == h.number)) (λ m at. eq-eqb m.number h.number (at.numbered ∙ sym is.numbered)) k.sent_now out)
+  was_now = sent_in k number _ h (far session clock count splits k x p ms counted w number (replies.Status view) h waited is).0.out is.numbered
 
   -- the reply shows where the record stands
   pub shows : ShowsRecord k x.write_ts recorded h
@@ -184,6 +183,7 @@ module _ (session clock count : ℕ) (splits : List (List ℕ)) (k : Known) (x :
       };
       refused = refused2;
       refreshes = subst (λ ts. All (λ m. IsRefreshUpTo ts m.request) k.sent_now) (sym reads_there) c.refreshes;
+      held = All-push MetNoWrite k.heard_now h c.held (ap unrefreshed_by is.told);
     };
   }
     where
@@ -213,6 +213,7 @@ module _ (session clock count : ℕ) (splits : List (List ℕ)) (k : Known) (x :
     };
     left = refl;
     after = stays_as_is k2 t2 x2 open2 stands2 w.cause (answers.Moved recorded) (moved_keeps recorded) refl;
+    suits = λ s is. subst (λ f. SuitsFlight s.call f) (sym c.commits.none_in_flight) tt;
   }
     where
       refused_by : (commit : SentCommit) → IsOutOrRefused None k2.heard commit → WasCommitRefused k2.heard commit
@@ -222,3 +223,17 @@ module _ (session clock count : ℕ) (splits : List (List ℕ)) (k : Known) (x :
   pub refusal : (r : Option ℕ) → AreRefusals k2 recorded r → IsRefusalOf splits session k2 recorded x2 r
   refusal None used = refused_given_up used
   refusal (Some n2) counts = refused_goes_on n2 counts.0 counts.1
+
+-- so often was the commit moved that it is given up
+pub used_up : (k now : Known) (h : Heard) (ts recorded n n2 : ℕ) → n2 ≡ moves_with ts recorded n → n < MOST_REFUSALS → CountsMoves now n2 → (ts < recorded → LastIs (WasMoved now) (λ h. status_ts h.reply ≡ recorded) now.heard_now) → WasMovedEighth now → IsUsedUp now recorded
+used_up k now h ts recorded n n2 made few counts last eight = record { eight = eight; last = last (above (nat_lt ts recorded) refl) }
+  where
+    above : (b : Bool) → nat_lt ts recorded ≡ b → ts < recorded
+    above true is = ltb-true ts recorded is
+    above false is =
+        let same : n2 ≡ n = made ∙ ap (λ b. cond (b && nat_lt n MOST_REFUSALS) (n + 1) n) is in
+        absurd (unmoved now n (subst (CountsMoves now) same counts) (omega (arith, few)) eight)
+
+pub used_otherwise : (b : Bool) → b ≡ false → IsTrue b → ⊥
+used_otherwise true e is = cc
+used_otherwise false e is = cc

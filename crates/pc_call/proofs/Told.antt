@@ -22,7 +22,7 @@ use Rattle.pc_txn.specs.Standing.{HasMovedOn, TxnStands}
 use Rattle.pc_world.specs.Follows.FinishingJobs.{left_by}
 use Rattle.pc_world.specs.Known.{Known, told_first, txns_told}
 use Rattle.pc_world.specs.Known.Clock.{high_told}
-use Rattle.pc_world.specs.Known.Reads.{reads_told}
+use Rattle.pc_world.specs.Known.Reads.{Read, reads_told}
 use Rattle.pc_world.specs.Known.Statements.{Statement, begun_told, is_open_told}
 use Rattle.pc_world.specs.Known.Traffic.{Heard, replies_to}
 use Rattle.pc_world.specs.Known.Transactions.{Txn, txn_told}
@@ -72,11 +72,14 @@ written_keeps = record { opens = λ was. refl; high = λ n. refl; begun = λ n. 
 pub blocked_keeps : (holder : TxnId) → IsKept (answers.Blocked holder)
 blocked_keeps holder = record { opens = λ was. refl; high = λ n. refl; begun = λ n. refl; txns = λ k. refl; txn = λ replied t. refl; left = λ k. refl }
 
+pub unavailable_keeps : (faults : ℕ) → IsKept (answers.Unavailable faults)
+unavailable_keeps faults = record { opens = λ was. refl; high = λ n. refl; begun = λ n. refl; txns = λ k. refl; txn = λ replied t. refl; left = λ k. refl }
+
 pub moved_keeps : (ts : ℕ) → IsKept (answers.Moved ts)
 moved_keeps ts = record { opens = λ was. refl; high = λ n. refl; begun = λ n. refl; txns = λ k. refl; txn = λ replied t. refl; left = λ k. refl }
 
 module _ (k : Known) (t : Txn) (x : OpenTxn) (open_in : IsOpenIn k t) (st : TxnStands k None t x) (client : x.cause ≡ whys.Client) (answer : Answer) (keeps : IsKept answer) where
-  abbrev told_reads : _
+  abbrev told_reads : List Read
   told_reads = reads_told answer (replies_to k.sent_now k.heard_now) t.reads
 
   abbrev t4 : Txn

@@ -1,7 +1,7 @@
 -- A commit goes on: none of its messages is waited for, and it refreshes or commits next.
 use Rattle.std.specs.Prelude.{◌≡◌, ℕ, Option, None, Some, List, [], All}
 use Rattle.pc_call.specs.Paced.{IsPaced}
-use Rattle.pc_call.specs.Serving.{IsCommitCall, IsOpenIn, IsRefreshUpTo, IsSplit, WasRefusedIfCommit}
+use Rattle.pc_call.specs.Serving.{IsCommitCall, MetNoWrite, IsOpenIn, IsRefreshUpTo, IsSplit, WasRefusedIfCommit}
 use Rattle.pc_call.specs.Telling.{MayTellOpen}
 use Rattle.pc_proto.specs.declared.answer.Answer.TheVariants as answers
 use Rattle.pc_proto.specs.declared.why.Why.TheVariants as whys
@@ -18,7 +18,7 @@ use Rattle.pc_world.specs.Known.Transactions.{Txn}
 use Rattle.pc_world.specs.Tell.Refusal.{WasMoved}
 
 -- The open transaction commits, after its commit was moved so often: every commit that was sent in the call was refused, and each refresh was to
--- a timestamp that is no later than this one.
+-- a timestamp that is no later than this one, and held.
 pub record CommitsUpTo (bound refusals : ℕ) (k : Known) (t : Txn) (x : OpenTxn) (s : Statement) : Type 0 where
   pub open_in : IsOpenIn k t
   pub stands : TxnStands k None t x
@@ -29,6 +29,7 @@ pub record CommitsUpTo (bound refusals : ℕ) (k : Known) (t : Txn) (x : OpenTxn
   pub commits : IsCommitCall refusals k s t x
   pub refused : All (WasRefusedIfCommit t.write_ts k.heard_now) k.sent_now
   pub refreshes : All (λ m. IsRefreshUpTo bound m.request) k.sent_now
+  pub held : All MetNoWrite k.heard_now
 
 -- It commits where its reads are good at its write timestamp.
 pub record CommitsNow (refusals : ℕ) (k : Known) (x : OpenTxn) (s : Statement) : Type 0 where

@@ -4,8 +4,13 @@ use Rattle.pc_call.specs.declared.over.Left.{Left}
 use Rattle.pc_call.specs.declared.over.Over.{Over}
 use Rattle.pc_call.specs.Learned.{known_told}
 use Rattle.pc_call.specs.Telling.{MayBeTold}
+use Rattle.pc_proto.specs.declared.answer.Answer.TheVariants as answers
 use Rattle.pc_proto.specs.declared.fate.Fate.{Fate}
+use Rattle.pc_proto.specs.declared.fate.Fate.TheVariants as fates
 use Rattle.pc_proto.specs.declared.request.Request.{Request}
+use Rattle.pc_proto.specs.declared.view.View.{View}
+use Rattle.pc_proto.specs.declared.view.View.TheVariants as views
+use Rattle.pc_proto.specs.declared.why.Why.{Why}
 use Rattle.pc_txn.specs.declared.txn.OpenTxn.{OpenTxn}
 use Rattle.pc_txn.specs.Opened.{meta_now}
 use Rattle.pc_world.specs.Follows.FinishingJobs.{finishing_messages, left_by}
@@ -32,3 +37,9 @@ pub record MayTellOver (splits : List (List ℕ)) (session : ℕ) (k : Known) (o
   pub left : left_messages over.left ≡ left_by over.answer k
   pub closed : (known_told over.answer k).is_open ≡ false
   pub settles : IfSome over.left (MayBeSettled (known_told over.answer k))
+
+-- How a transaction ends whose rollback aborts it for this cause, where its abort was told this view: an aborted record's own cause is told.
+abbrev pub rolled_back_by : View → Why → OpenTxn → Over
+rolled_back_by (views.Committed epoch ts locks) why x = record { answer = answers.RolledBack x.id why; left = left_at x.anchor (fates.Committed epoch ts) x }
+rolled_back_by (views.Aborted epoch cause locks) why x = record { answer = answers.RolledBack x.id cause; left = left_at x.anchor fates.Aborted x }
+rolled_back_by view why x = record { answer = answers.RolledBack x.id why; left = None }

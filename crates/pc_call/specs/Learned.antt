@@ -1,6 +1,7 @@
 -- What a session knows after each of its events, in short.
 use Rattle.std.specs.Prelude.{ℕ, max, None, Some, [], ◌∷◌, ◌++◌, map}
 use Rattle.pc_proto.specs.declared.answer.Answer.{Answer}
+use Rattle.pc_proto.specs.declared.call.Call.{Call}
 use Rattle.pc_proto.specs.declared.request.Request.{Request}
 use Rattle.pc_proto.specs.Stamps.{answer_stamps, greatest_of, reply_stamps, request_stamps}
 use Rattle.pc_world.specs.Known.{Known, txns_told}
@@ -26,6 +27,16 @@ known_heard h k = record k {
   top = max k.top (max 0 (greatest_of (reply_stamps h.reply)));
   high = max k.high (greatest_of (reply_stamps h.reply));
   txns = map (txn_heard k.sent (Some h)) k.txns;
+}
+
+-- What it knows once it was asked this.
+abbrev pub known_asked : Call → ℕ → Known → Known
+known_asked call reading k = record k {
+  statement = Some (record { call = call; reading = reading });
+  sent_now = [];
+  heard_now = [];
+  met_now = [];
+  top = max k.top 0;
 }
 
 -- What it knows once it was told this.

@@ -9,7 +9,9 @@ pub mod Opening
 pub mod Paced
 pub mod Pieces
 pub mod Reading
+pub mod Refreshing
 pub mod Rounding
 pub mod Sending
 pub mod Serving
+pub mod Suiting
 pub mod Telling

@@ -1,4 +1,4 @@
-ghost use Rattle.std.specs.Prelude.{◌≡◌, ℕ, ◌<◌, true, List, [], ◌∷◌, None, Some, IfOk};
+ghost use Rattle.std.specs.Prelude.{◌≡◌, ℕ, ◌<◌, true, List, [], ◌∷◌, None, Some, All, IfOk};
 ghost use Rattle.pc_base.specs.declared.limits.TheConstants.{MOST_REFUSALS};
 ghost use Rattle.pc_call.specs.Committing.{AreRefusals, CommitsOn, IsRefusalOf};
 ghost use Rattle.pc_call.specs.declared.purpose.Purpose.TheVariants as purposes;
@@ -15,7 +15,7 @@ ghost use Rattle.pc_proto.specs.declared.why.Why.{Why};
 ghost use Rattle.pc_refusals.specs.Moves.{CountsMoves, ShowsRecord};
 ghost use Rattle.pc_txn.specs.Counted.{IsCounted};
 ghost use Rattle.pc_txn.specs.Opened.{risen_above};
-ghost use Rattle.pc_wave.specs.Messages.{wave_awaits};
+ghost use Rattle.pc_wave.specs.Messages.{is_to_send, wave_awaits};
 ghost use Rattle.pc_wave.specs.Standing.{HasMore, IsHeardTo};
 ghost use Rattle.pc_world.specs.Known.{Known};
 ghost use Rattle.pc_world.specs.Known.Statements.{Statement};
@@ -34,6 +34,7 @@ impl OpenCall {
     /// The open transaction, which wrote, goes on to commit after its commit was moved so often: what it read is refreshed first, where it
     /// writes above where it reads. Refused for want of memory alone.
     pub fn commits(alloc: Global, txn: &OpenTxn, refusals: Refusals) -> Result<OpenCall, NoMemory>
+        ensures unsent { IfOk result (λ call. All (λ m. is_to_send m ≡ true) call.wave) }
         ensures goes_on { (splits : List (List ℕ)) (k : Known) → CommitsOn refusals k txn.now → IfOk result (λ call. InCall splits k txn.now call.purpose call.wave) }
         ensures begins { (splits : List (List ℕ)) (k : Known) (s : Statement) (why : Why) (anchor : List ℕ) → IsFresh k txn.now s why → s.call ≡ calls.Commit → refusals ≡ 0 → txn.now.anchor ≡ Some anchor → txn.now.in_flight ≡ None → IfOk result (λ call. InCall splits k txn.now call.purpose call.wave) }
     {
@@ -76,8 +77,8 @@ impl OpenCall {
     {
         let ts = txn.write_ts;
         txn.raise(recorded);
-        match self.purpose {
-            Purpose::Commit { refusals } => with_refusal(refusals, ts, recorded),
+        match &self.purpose {
+            Purpose::Commit { refusals } => with_refusal(refusals.copied(), ts, recorded),
             _ => None,
         }
     }
