@@ -263,10 +263,6 @@ goes_at_once n k x c =
     let writes : x.write_ts ≡ c.t.write_ts = ap (λ x. x.write_ts) c.on.stands.same in
     omega (arith, c.on.stands.behind)
 
--- and its anchor is the transaction's
-pub anchor_of : (n : ℕ) (k : Known) (x : OpenTxn) (c : CommitsOn n k x) (anchor : List ℕ) → x.anchor ≡ Some anchor → c.on.commits.anchor ≡ anchor
-anchor_of n k x c anchor is = same_Some c.on.commits.anchor anchor (sym c.on.commits.anchored ∙ sym (ap (λ x. x.anchor) c.on.stands.same) ∙ is)
-
 -- what is to be refreshed lies behind
 pub behind_of : (a b : ℕ) (r other : Bool) → r ≡ (nat_lt a b && other) → r ≡ true → a < b
 behind_of a b r other made is = ltb-true a b (and_parts (nat_lt a b) other (sym made ∙ is)).0

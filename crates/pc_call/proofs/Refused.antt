@@ -237,3 +237,6 @@ used_up k now h ts recorded n n2 made few counts last eight = record { eight = e
 pub used_otherwise : (b : Bool) → b ≡ false → IsTrue b → ⊥
 used_otherwise true e is = cc
 used_otherwise false e is = cc
+
+pub same_count : (p : Purpose) (n m : ℕ) → p ≡ purposes.Commit n → p ≡ purposes.Commit m → n ≡ m
+same_count p n m one other = let e : purposes.Commit n ≡ purposes.Commit m = sym one ∙ other in cc

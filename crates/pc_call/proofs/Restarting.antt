@@ -1,5 +1,5 @@
 -- All refreshes of a commit were answered: the commit goes out, or its transaction restarts.
-use Rattle.std.proofs.Common.{◌≡◌, ℕ, ◌+◌, ◌<◌, ◌≤◌, max, Bool, true, false, cond, ◌⊎◌, inl, inr, List, [], ◌∷◌, ◌++◌, map, find, Option, None, Some, IfSome, is_some, refl, sym, ap, ◌∙◌, subst, arith, All, Any, Contains, IsTrue, zero, suc}
+use Rattle.std.proofs.Common.{◌≡◌, ℕ, ◌+◌, ◌<◌, ◌≤◌, max, Bool, true, false, cond, ◌⊎◌, inl, inr, List, [], ◌∷◌, ◌++◌, map, find, Option, None, Some, Result, Ok, Err, IfOk, OnOk, IfSome, is_some, refl, sym, ap, ◌∙◌, subst, arith, All, Any, Contains, IsTrue, zero, suc}
 use Rattle.std.specs.List.Sorted.{IsStrictlySortedBy}
 use Rattle.std.specs.Option.{option_and_then}
 use Rattle.std.specs.List.{AllByRecursion as Each}
@@ -19,10 +19,14 @@ use Rattle.pc_call.proofs.Told.{may_tell, still_open}
 use Rattle.pc_call.specs.Committing.{CommitsNow}
 use Rattle.pc_call.specs.declared.purpose.Purpose.{Purpose}
 use Rattle.pc_call.specs.declared.purpose.Purpose.TheVariants as purposes
+use Rattle.pc_call.specs.declared.refreshes.Refreshed.{Refreshed}
+use Rattle.pc_call.specs.declared.refreshes.Refreshed.TheVariants as refreshes
 use Rattle.pc_call.specs.Learned.{known_told}
+use Rattle.pc_call.specs.Refreshing.{IsRefreshed}
 use Rattle.pc_call.specs.Serving.{InCall, IsAnswerTo, IsMetUpTo, IsOpenIn, MetNoOtherWrite, MetNoWrite, Serves, ServesRefresh, out_of}
 use Rattle.pc_call.specs.Telling.{MayTellOpen, StandsOpen}
 use Rattle.pc_lists.proofs.Anywhere.{any_head, any_later, any_of, any_weaker}
+use Rattle.pc_proto.specs.declared.answer.Answer.{Answer}
 use Rattle.pc_proto.specs.declared.answer.Answer.TheVariants as answers
 use Rattle.pc_proto.specs.declared.call.Call.TheVariants as calls
 use Rattle.pc_proto.specs.declared.reply.Reply.{Reply}
@@ -328,3 +332,12 @@ first_none ms e = by (find shows_unrefreshed ms) refl e
     by : (o : Option Message) → find shows_unrefreshed ms ≡ o → option_and_then (λ (m : Message). unrefreshed_in m.progress) o ≡ None → find shows_unrefreshed ms ≡ None
     by None is e = is
     by (Some m) is e = let shown : is_some (unrefreshed_in m.progress) ≡ true = found_passes shows_unrefreshed ms m is in let f : is_some (unrefreshed_in m.progress) ≡ false = ap is_some e in absurd cc
+
+pub same_count : (p : Purpose) (n m : ℕ) → p ≡ purposes.Refresh n → p ≡ purposes.Refresh m → n ≡ m
+same_count p n m one other = let e : purposes.Refresh n ≡ purposes.Refresh m = sym one ∙ other in cc
+
+-- so what a call gives that tells of a restart
+pub restart_ok : {E : Type 0} (splits : List (List ℕ)) (session : ℕ) (k : Known) (x now : OpenTxn) (answer : Answer) (r : Result Refreshed E) → IfOk r (λ made. made ≡ refreshes.Restart answer) → OnOk r (now ≡ x) → MayTellOpen splits session k answer x
+    → IfOk r (IsRefreshed splits session k now)
+restart_ok splits session k x now answer (Ok made) is same told = subst (IsRefreshed splits session k now) (sym is) (subst (MayTellOpen splits session k answer) (sym same) told)
+restart_ok splits session k x now answer (Err e) is same told = is

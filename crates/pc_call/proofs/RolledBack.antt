@@ -1,5 +1,5 @@
 -- The abort of an open call was answered: its transaction is rolled back.
-use Rattle.std.proofs.Common.{◌≡◌, ℕ, ◌<◌, ◌≤◌, Bool, true, false, ◌⊎◌, inl, inr, List, [], ◌∷◌, ◌++◌, map, Option, None, Some, zero, suc, refl, sym, ap, ◌∙◌, subst, arith, All, Any, IsTrue}
+use Rattle.std.proofs.Common.{◌≡◌, ℕ, ◌<◌, ◌≤◌, Bool, true, false, ◌⊎◌, inl, inr, List, [], ◌∷◌, ◌++◌, map, Option, None, Some, Result, Ok, Err, IfOk, refl, sym, ap, ◌∙◌, subst, arith, All, Any, IsTrue}
 use Rattle.std.proofs.lemmas.List.Elements.{All-cons, All-head, All-nil, All-push, All-weaker}
 use Rattle.std.proofs.lemmas.Option.{same_Some}
 use Rattle.pc_base.specs.declared.limits.TheConstants.{MOST_CONFLICTS}
@@ -174,3 +174,12 @@ module _ (session clock count : ℕ) (splits : List (List ℕ)) (k : Known) (x :
       by views.Nothing v final = absurd cc
       by (views.Pending epoch ts) v final = absurd cc
       by (views.Staging epoch ts writes) v final = absurd cc
+
+-- so what a call gives that gives how it ends
+pub over_ok : {E : Type 0} (splits : List (List ℕ)) (session : ℕ) (k : Known) (view : View) (one other : Why) (x : OpenTxn) (r : Result Over E) → IfOk r (λ over. over ≡ rolled_back_by view one x) → one ≡ other → MayTellOver splits session k (rolled_back_by view other x)
+    → IfOk r (MayTellOver splits session k)
+over_ok splits session k view one other x (Ok over) is same told = subst (MayTellOver splits session k) (sym (is ∙ ap (λ why. rolled_back_by view why x) same)) told
+over_ok splits session k view one other x (Err e) is same told = is
+
+pub same_why : (p : Purpose) (one other : Why) → p ≡ purposes.Abort one → p ≡ purposes.Abort other → one ≡ other
+same_why p one other a b = let e : purposes.Abort one ≡ purposes.Abort other = sym a ∙ b in cc
