@@ -126,6 +126,7 @@ module _ {C : Type 0} (old new : DeskMeaning C) (rest : List Posted) (m : Posted
     track = track_delivered old new m a track posted-is replies-are to own-is range tells.place kept.log (ap (λ (d : DeskMeaning C). d.sends) kept.kept) (ap (λ (d : DeskMeaning C). d.log.part.id) kept.kept) knows-more
         (λ x there. subst (λ l. Contains l x) (sym knows-more) there) (subst (λ l. Contains l told_of) (sym knows-more) (Contains-push old.log.part.known told_of));
     way = way_delivered old new m a track posted-is replies-are to own-is;
+    more = λ x there. subst (λ l. Contains l x) (sym knows-more) (Contains-append_left old.log.part.known (told_of ∷ []) x there);
   }
 
 pub has_delivered : {C : Type 0} (v old new : DeskMeaning C) (rest : List Posted) (m : Posted) (a : Answered) (note : List (KnownEntry Event)) (sender : ActorId) (range : ℕ) → v ≡ old → KeepsTrack old → v.posted ≡ m ∷ rest → sender ≡ v.log.part.id → a.number ≡ m.number
@@ -136,7 +137,7 @@ has_delivered v old new rest m a note sender range same track first whose to tel
 
 -- nothing was delivered yet
 pub delivers_none : {C : Type 0} (d : DeskMeaning C) → KeepsTrack d → HasDelivered d d
-delivers_none d track = record { own = refl; sends = refl; track = track; way = λ n. refl }
+delivers_none d track = record { own = refl; sends = refl; track = track; way = λ n. refl; more = λ k there. there }
 
 -- first this was delivered, then that
 pub delivers_both : {C : Type 0} (a b d : DeskMeaning C) → HasDelivered a b → HasDelivered b d → HasDelivered a d
@@ -145,6 +146,7 @@ delivers_both {C} a b d x y = record {
   sends = y.sends ∙ x.sends;
   track = y.track;
   way = λ n. y.way n ∙ x.way n;
+  more = λ k there. y.more k (x.more k there);
 }
 
 -- ---- a message is posted

@@ -176,12 +176,13 @@ pub record HasKept {C : Type 0} (old new : DeskMeaning C) (a : Answered) (note :
   pub kept : new ≡ record old { log = record old.log { part = told note old.log.part }; replies = old.replies ++ a ∷ [] }
   pub log : IsOwnLog new.log
 
--- What was posted was evaluated, and the actor made no entry.
+-- What was posted was evaluated, and the actor made no entry; what it knew it knows still.
 pub record HasDelivered {C : Type 0} (old new : DeskMeaning C) : Type 0 where
   pub own : new.log ≡ record old.log { part = record old.log.part { known = new.log.part.known } }
   pub sends : new.sends ≡ old.sends
   pub track : KeepsTrack new
   pub way : (number : ℕ) → is_on_way number new ≡ is_on_way number old
+  pub more : (k : KnownEntry Event) → Contains old.log.part.known k → Contains new.log.part.known k
 
 -- The reply that has waited longest may be heard now as the actor's work has it.
 pub record MayHearNow {C : Type 0} (d : DeskMeaning C) : Type 0 where

@@ -126,6 +126,7 @@ impl<'a, N: Named<CommitWorld>, C: Clock, V: Wire, G: Gate> Desk<'a, N, C, V, G>
         requires track { KeepsTrack self.old }
         requires may { MayAsk self.old.log.part.id (known_of self.old.log.part.own) call }
         ensures ok { IfOk result (λ reading. HasDone self.old self.new (events.Ask call reading)) }
+        ensures rule { C.rule self.new.log.clock ≡ C.rule self.old.log.clock }
         ensures err { IfErr result (HasHalted self.old self.new) }
     {
         self.log.ask(call)
@@ -136,6 +137,7 @@ impl<'a, N: Named<CommitWorld>, C: Clock, V: Wire, G: Gate> Desk<'a, N, C, V, G>
         requires track { KeepsTrack self.old }
         requires may { MayEnter self.old.log (events.Tell answer) }
         ensures ok { OnOk result (HasDone self.old self.new (events.Tell answer)) }
+        ensures clock { self.new.log.clock ≡ self.old.log.clock }
         ensures err { IfErr result (HasHalted self.old self.new) }
     {
         self.log.enter(Event::Tell(answer))
@@ -146,6 +148,7 @@ impl<'a, N: Named<CommitWorld>, C: Clock, V: Wire, G: Gate> Desk<'a, N, C, V, G>
         requires track { KeepsTrack self.old }
         requires may { MaySendNow self.old.log request }
         ensures ok { IfOk result (λ number. HasSentNext self.old self.new number request) }
+        ensures clock { self.new.log.clock ≡ self.old.log.clock }
         ensures err { IfErr result (HasHalted self.old self.new) }
     {
         let number = self.sends + 1;
@@ -165,6 +168,7 @@ impl<'a, N: Named<CommitWorld>, C: Clock, V: Wire, G: Gate> Desk<'a, N, C, V, G>
         requires may { MayEnter self.old.log (events.Send number range request) }
         ensures ok { OnOk result (HasEntered self.old.log self.new.log (events.Send number range request)) }
         ensures rest { OnOk result (self.new ≡ record self.old { log = self.new.log; sends = number }) }
+        ensures clock { self.new.log.clock ≡ self.old.log.clock }
         ensures err { IfErr result (HasHalted self.old self.new) }
     {
         self.log.enter(Event::Send {
@@ -184,6 +188,7 @@ impl<'a, N: Named<CommitWorld>, C: Clock, V: Wire, G: Gate> Desk<'a, N, C, V, G>
         requires below { AllBelowGreatest (request_stamps request) }
         ensures ok { OnOk result (HasPosted self.old self.new number range request) }
         ensures same { (self.new.log.head ≡ self.old.log.head) × (self.new.log.part.id ≡ self.old.log.part.id) }
+        ensures clock { self.new.log.clock ≡ self.old.log.clock }
     {
         let verdict = self.wire.verdict(number);
         let note = self.log.note(uses_of(verdict))?;
@@ -200,6 +205,7 @@ impl<'a, N: Named<CommitWorld>, C: Clock, V: Wire, G: Gate> Desk<'a, N, C, V, G>
     /// Stops for want of memory.
     fn want_memory(&mut self) -> Halt
         ensures memory { result ≡ halts.NoMemory }
+        ensures clock { self.new.log.clock ≡ self.old.log.clock }
         ensures halted { HasHalted self.old self.new result }
     {
         self.log.halt();
@@ -218,6 +224,7 @@ impl<'a, N: Named<CommitWorld>, C: Clock, V: Wire, G: Gate> Desk<'a, N, C, V, G>
         requires { KeepsTrack self.old }
         ensures ok { OnOk result (HasDelivered self.old self.new) }
         ensures all { OnOk result (self.new.posted ≡ []) }
+        ensures clock { self.new.log.clock ≡ self.old.log.clock }
         ensures err { IfErr result (HasHalted self.old self.new) }
     {
         while self.waiting() > 0 {
@@ -232,6 +239,7 @@ impl<'a, N: Named<CommitWorld>, C: Clock, V: Wire, G: Gate> Desk<'a, N, C, V, G>
         requires some { 1 ≤ length self.old.posted }
         ensures ok { OnOk result (HasDelivered self.old self.new) }
         ensures one { OnOk result (length self.old.posted ≡ length self.new.posted + 1) }
+        ensures clock { self.new.log.clock ≡ self.old.log.clock }
         ensures err { IfErr result (HasHalted self.old self.new) }
     {
         let message = match self.outbox.take_first() {
@@ -247,6 +255,7 @@ impl<'a, N: Named<CommitWorld>, C: Clock, V: Wire, G: Gate> Desk<'a, N, C, V, G>
     /// Knows the evaluation, and keeps its reply until it is heard.
     fn keep(&mut self, msg: ReplyMsg<N>) -> Result<(), Halt>
         ensures ok { OnOk result (HasKept self.old self.new (record { number = msg.number; step = msg.step; reply = msg.reply }) msg.note.known) }
+        ensures clock { self.new.log.clock ≡ self.old.log.clock }
         ensures err { IfErr result (HasHalted self.old self.new) }
     {
         let ReplyMsg {
@@ -270,7 +279,8 @@ impl<'a, N: Named<CommitWorld>, C: Clock, V: Wire, G: Gate> Desk<'a, N, C, V, G>
     /// Stops where a range refused a message.
     fn refused(&mut self, fault: ServeFault<N>) -> Halt
         requires { (range : ℕ) × IsFullAt range self.old.range_limit fault }
-        ensures { HasHalted self.old self.new result }
+        ensures halted { HasHalted self.old self.new result }
+        ensures clock { self.new.log.clock ≡ self.old.log.clock }
     {
         match fault {
             ServeFault::Full { range, last } => {
@@ -290,6 +300,7 @@ impl<'a, N: Named<CommitWorld>, C: Clock, V: Wire, G: Gate> Desk<'a, N, C, V, G>
         requires may { MayHearNow self.old }
         ensures ok { IfOk result (λ heard. IfSome heard (HasHeardFirst self.old self.new)) }
         ensures none { IfOk result (λ heard. IfNone heard ((self.old.replies ≡ []) × (self.new ≡ self.old))) }
+        ensures clock { self.new.log.clock ≡ self.old.log.clock }
         ensures err { IfErr result (HasHalted self.old self.new) }
     {
         let answered = match self.replies.pop_front() {
