@@ -116,8 +116,13 @@ pub record IsAnsweredBy {C : Type 0} (log : LogMeaning C) (a : Answered) : Type 
   pub said : request_sent a.number (known_of log.part.own).sent ≡ Some request
   pub knows : Contains log.part.known (record { entry = evaluation a.step range log.part.id a.number a.reply; place = place; uses = 0 })
 
+-- The actor counts the uses that it gave of each of its entries: of none more than one.
+pub record GivesOnce (part : Part Event) : Type 0 where
+  pub each : length part.given ≡ length part.own
+  pub once : All (λ uses. uses ≤ 1) part.given
+
 -- Each message that the actor sent stands at one stage, and no other does at any: it waits to be evaluated, or its reply to be heard, or
--- that was heard. What waits says what was sent.
+-- that was heard. What waits says what was sent; and of no entry more than one use was given.
 pub record KeepsTrack {C : Type 0} (d : DeskMeaning C) : Type 0 where
   pub log : IsOwnLog d.log
   pub counted : d.sends ≡ length (known_of d.log.part.own).sent
@@ -126,6 +131,7 @@ pub record KeepsTrack {C : Type 0} (d : DeskMeaning C) : Type 0 where
   pub stages : (number : ℕ) → posted_as number d.posted + answered_as number d.replies + heard_as_number number (known_of d.log.part.own) ≡ times_sent number (known_of d.log.part.own)
   pub posted : All (λ m. request_sent m.number (known_of d.log.part.own).sent ≡ Some m.request) d.posted
   pub answered : All (IsAnsweredBy d.log) d.replies
+  pub given : GivesOnce d.log.part
 
 -- The message of this number is on its way: it waits to be evaluated, or its reply to be heard.
 abbrev pub is_on_way : {C : Type 0} → ℕ → DeskMeaning C → Bool

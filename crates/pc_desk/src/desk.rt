@@ -101,6 +101,13 @@ impl<'a, N: Named<CommitWorld>, C: Clock, V: Wire, G: Gate> Desk<'a, N, C, V, G>
         }
     }
 
+    /// Whether it makes no more entries.
+    pub fn has_stopped(&self) -> bool
+        ensures { result ≡ self.now.log.stopped }
+    {
+        self.log.has_stopped()
+    }
+
     /// A note of the actor's last entry, without uses. None where it has no entry.
     pub fn mark(&mut self) -> Result<Option<Note<CommitWorld, N>>, NoMemory>
         ensures note { IfOk result (λ mark. IfSome mark (λ n. n.known ≡ noted (length self.old.log.part.own - 1) 0 self.old.log.part)) }
@@ -202,8 +209,8 @@ impl<'a, N: Named<CommitWorld>, C: Clock, V: Wire, G: Gate> Desk<'a, N, C, V, G>
         self.outbox.add(number, verdict, message)
     }
 
-    /// Stops for want of memory.
-    fn want_memory(&mut self) -> Halt
+    /// Stops for want of memory, of its user's too.
+    pub fn want_memory(&mut self) -> Halt
         ensures memory { result ≡ halts.NoMemory }
         ensures clock { self.new.log.clock ≡ self.old.log.clock }
         ensures halted { HasHalted self.old self.new result }
