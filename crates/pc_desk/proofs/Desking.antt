@@ -76,6 +76,7 @@ heard-at old after a rest track first entered =
       named = hear_names_it old.log a track.log by;
       track = track_heard old new a track first refl by entered refl;
       way = way_heard old new a track first refl by entered;
+      limit = refl;
     }
 
 pub has_heard : {C : Type 0} (v old : DeskMeaning C) (after : LogMeaning C) (a : Answered) (rest : List Answered) → v ≡ old → KeepsTrack old → v.replies ≡ a ∷ rest → HasEntered v.log after (events.Hear a.number a.step)
@@ -127,6 +128,7 @@ module _ {C : Type 0} (old new : DeskMeaning C) (rest : List Posted) (m : Posted
         (λ x there. subst (λ l. Contains l x) (sym knows-more) there) (subst (λ l. Contains l told_of) (sym knows-more) (Contains-push old.log.part.known told_of)) (ap (λ (d : DeskMeaning C). d.log.part.given) kept.kept);
     way = way_delivered old new m a track posted-is replies-are to own-is;
     more = λ x there. subst (λ l. Contains l x) (sym knows-more) (Contains-append_left old.log.part.known (told_of ∷ []) x there);
+    limit = ap (λ (d : DeskMeaning C). d.range_limit) kept.kept;
   }
 
 pub has_delivered : {C : Type 0} (v old new : DeskMeaning C) (rest : List Posted) (m : Posted) (a : Answered) (note : List (KnownEntry Event)) (sender : ActorId) (range : ℕ) → v ≡ old → KeepsTrack old → v.posted ≡ m ∷ rest → sender ≡ v.log.part.id → a.number ≡ m.number
@@ -137,7 +139,7 @@ has_delivered v old new rest m a note sender range same track first whose to tel
 
 -- nothing was delivered yet
 pub delivers_none : {C : Type 0} (d : DeskMeaning C) → KeepsTrack d → HasDelivered d d
-delivers_none d track = record { own = refl; sends = refl; track = track; way = λ n. refl; more = λ k there. there }
+delivers_none d track = record { own = refl; sends = refl; track = track; way = λ n. refl; more = λ k there. there; limit = refl }
 
 -- first this was delivered, then that
 pub delivers_both : {C : Type 0} (a b d : DeskMeaning C) → HasDelivered a b → HasDelivered b d → HasDelivered a d
@@ -147,6 +149,7 @@ delivers_both {C} a b d x y = record {
   track = y.track;
   way = λ n. y.way n ∙ x.way n;
   more = λ k there. y.more k (x.more k there);
+  limit = y.limit ∙ x.limit;
 }
 
 -- ---- a message is posted
@@ -305,6 +308,7 @@ has_sent old mid new number range request track goes next entered rest posted =
           (λ x there. elim (posted.all x there) [ inl before ↦ inl (subst (λ l. Contains l x) were before) | inr now ↦ inr now ]) (ap (λ l. l.part) posted.log);
       way = way_sent old new mid.log number range 1 request track next entered id own known counts replies;
       replies = replies;
+      limit = ap (λ d. d.range_limit) posted.rest ∙ ap (λ d. d.range_limit) rest;
     }
 
 -- the range of a message that was sent is there

@@ -155,6 +155,7 @@ pub record HasSentNext {C : Type 0} (old new : DeskMeaning C) (number : ℕ) (re
   pub track : KeepsTrack new
   pub way : (other : ℕ) → is_on_way other new ≡ (number == other || is_on_way other old)
   pub replies : new.replies ≡ old.replies
+  pub limit : new.range_limit ≡ old.range_limit
 
 -- The actor's last entry sends this message.
 pub record EndsWithSend {C : Type 0} (l : LogMeaning C) (number range : ℕ) (request : Request) : Type 0 where
@@ -189,6 +190,7 @@ pub record HasDelivered {C : Type 0} (old new : DeskMeaning C) : Type 0 where
   pub track : KeepsTrack new
   pub way : (number : ℕ) → is_on_way number new ≡ is_on_way number old
   pub more : (k : KnownEntry Event) → Contains old.log.part.known k → Contains new.log.part.known k
+  pub limit : new.range_limit ≡ old.range_limit
 
 -- The reply that has waited longest may be heard now as the actor's work has it.
 pub record MayHearNow {C : Type 0} (d : DeskMeaning C) : Type 0 where
@@ -205,6 +207,7 @@ pub record HasHeardFirst {C : Type 0} (old new : DeskMeaning C) (a : Answered) :
   pub named : named_by (unstaged_protocol old.log.head) old.log.part (events.Hear a.number a.step) ≡ Some (evaluation a.step range old.log.part.id a.number a.reply)
   pub track : KeepsTrack new
   pub way : (number : ℕ) → is_on_way number new ≡ (is_on_way number old && not (a.number == number))
+  pub limit : new.range_limit ≡ old.range_limit
 
 -- The actor knows an entry of the range, which has at least so many entries up to it.
 pub record KnowsFull (range limit : ℕ) (known : List (KnownEntry Event)) : Type 0 where
