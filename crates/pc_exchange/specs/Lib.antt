@@ -1,0 +1,6 @@
+-- What a session does beside its coordinator, one message after another.
+pub mod Aside
+pub mod Exchange
+pub mod Growing
+pub mod Jobs
+pub mod Rounds
