@@ -88,7 +88,7 @@ module _ {C : Type 0} (d : DeskMeaning C) (track : KeepsTrack d) where
   -- where the coordinator waits for none, all that was sent in the call was heard in it
   pub all_heard_now : IsApartNow k → ((number : ℕ) → is_on_way number d ≡ false) → All (λ m. IsTrue (is_heard k.heard_now m)) k.sent_now
   all_heard_now apart away = all_from_contains (λ (m : Sent). IsTrue (is_heard k.heard_now m)) k.sent_now (λ m there.
-  heard_now_if_back apart m (All-contains (λ (m : Sent). request_sent m.number k.sent ≡ Some m.request) k.sent_now m apart.said there) (All-contains (λ (m : Sent). is_heard apart.before m ≡ false) k.sent_now m apart.apart there) (away m.number))
+      heard_now_if_back apart m (All-contains (λ (m : Sent). request_sent m.number k.sent ≡ Some m.request) k.sent_now m apart.said there) (All-contains (λ (m : Sent). is_heard apart.before m ≡ false) k.sent_now m apart.apart there) (away m.number))
 
   -- where it waits for none of a request, each of that in the call was answered there
   pub answered_now : (c : Coordination) (request : Request) → IsApartNow k → ((number : ℕ) → awaits_number number c.due ≡ is_on_way number d) → AwaitsNone c k request → AreAnsweredNow k request

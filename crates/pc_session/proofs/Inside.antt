@@ -16,8 +16,9 @@ use Rattle.pc_proto.specs.declared.answer.Answer.{Answer}
 use Rattle.pc_proto.specs.declared.call.Call.{Call}
 use Rattle.pc_proto.specs.declared.event.Event.{Event}
 use Rattle.pc_proto.specs.declared.event.Event.TheVariants as events
-use Rattle.pc_session.specs.InCall.{HasAsked, HasGoneInside}
+use Rattle.pc_session.specs.InCall.{HasAsked, HasGoneInside, HasTold}
 use Rattle.pc_session.specs.Session.{AreOfOneSession, SessionMeaning}
+use Rattle.pc_session.specs.Steps.{HasMadeStep}
 use Rattle.pc_turns.specs.Order.{IsInBetween, events_of}
 use Rattle.pc_world.specs.Known.{known_of}
 use Rattle.pc_world.specs.Local.{Head}
@@ -76,6 +77,24 @@ asked_on a b d call reading x y = record {
   session = y.session ∙ x.session;
   opened = y.statement ∙ x.opened;
 }
+
+-- ---- from the session as its code has it
+
+module _ {C : Type 0} (v old new : SessionMeaning C) (same : v ≡ old) where
+  pub inside_from : HasGoneInside v new → HasGoneInside old new
+  inside_from x = subst (λ (s : SessionMeaning C). HasGoneInside s new) same x
+
+  pub asked_from : (call : Call) (reading : ℕ) → HasAsked v new call reading → HasAsked old new call reading
+  asked_from call reading x = subst (λ (s : SessionMeaning C). HasAsked s new call reading) same x
+
+  pub told_from : (answer : Answer) → HasTold v new answer → HasTold old new answer
+  told_from answer x = subst (λ (s : SessionMeaning C). HasTold s new answer) same x
+
+  pub step_from : HasMadeStep v new → HasMadeStep old new
+  step_from x = subst (λ (s : SessionMeaning C). HasMadeStep s new) same x
+
+  pub halted_from_it : (halt : Halt) → HasHalted v.desk new.desk halt → HasHalted old.desk new.desk halt
+  halted_from_it halt x = subst (λ (s : SessionMeaning C). HasHalted s.desk new.desk halt) same x
 
 -- ---- why no more entries are made
 

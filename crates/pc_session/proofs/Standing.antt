@@ -44,7 +44,7 @@ begun_rests s session fresh track made knows unpiped posted replies jobs =
       handed = ap (λ (c : Coordination). c.job) made;
       holds = ap (λ (c : Coordination). is_some c.txn) made ∙ sym (ap (λ (k : Known). k.is_open) known);
       waiting = subst (λ js. HasLeft s.desk.log.part.own js) (sym jobs) (subst (λ own. HasLeft own []) (sym own)
-      (record { left = refl; numbers = All-nil (λ (t : Txn). t.id.number ≤ 0); each = All-nil (IsFinishable nothing_known) }));
+          (record { left = refl; numbers = All-nil (λ (t : Txn). t.id.number ≤ 0); each = All-nil (IsFinishable nothing_known) }));
     }
 
 stopped_not : {C : Type 0} (s : SessionMeaning C) → s.desk.log.stopped ≡ true → RestsOrStopped s

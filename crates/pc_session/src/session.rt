@@ -1,4 +1,4 @@
-ghost use Rattle.std.specs.Prelude.{◌≡◌, ℕ, ◌-◌, ◌≤◌, ◌<◌, ◌^◌, ◌↔◌, [], false, length, map, not, All, IfErr, IfNone, IfOk, IfSome, IsTrue};
+ghost use Rattle.std.specs.Prelude.{◌≡◌, ℕ, ◌-◌, ◌≤◌, ◌<◌, ◌^◌, ◌↔◌, [], false, length, map, not, All, IfErr, IfNone, IfOk, IfSome, IsTrue, OnOk};
 ghost use Rattle.pc_base.specs.declared.actor.ActorId.TheVariants as actors;
 ghost use Rattle.pc_base.specs.Rising.{AreRising};
 ghost use Rattle.pc_desk.specs.Desk.{HasHalted, IsReadyToGo, new_desk};
@@ -11,9 +11,9 @@ ghost use Rattle.pc_session.specs.Steps.{HasStepped};
 ghost use Rattle.pc_wire.specs.declared.verdict.Verdict.TheVariants as verdicts;
 ghost use Rattle.pc_world.specs.Local.{IsActorOf};
 
+use crate::office::Office;
 use pc_base::NoMemory;
 use pc_clock::Clock;
-use crate::office::Office;
 use pc_coord::Coordinator;
 use pc_desk::{Desk, Halt, Rest};
 use pc_history::{Actor, Named, Note};
@@ -125,10 +125,19 @@ impl<'a, N: Named<CommitWorld>, C: Clock, V: Wire, G: Gate> Session<'a, N, C, V,
         ensures err { IfErr result (HasHalted self.old.desk self.new.desk) }
         ensures rule { C.rule self.new.desk.log.clock ≡ C.rule self.old.desk.log.clock }
     {
+        self.going()?;
+        self.office.call(rt, call)
+    }
+
+    /// Refused where it has stopped.
+    fn going(&self) -> Result<(), Halt>
+        ensures ok { OnOk result (self.now.desk.log.stopped ≡ false) }
+        ensures err { IfErr result (HasHalted self.now.desk self.now.desk) }
+    {
         if self.office.desk.has_stopped() {
             return Err(Halt::Stopped);
         }
-        self.office.call(rt, call)
+        Ok(())
     }
 
     /// Does the oldest job: settles each lock of a transaction that is over, and then removes its record. False where no job waits.
@@ -137,9 +146,7 @@ impl<'a, N: Named<CommitWorld>, C: Clock, V: Wire, G: Gate> Session<'a, N, C, V,
         ensures err { IfErr result (HasHalted self.old.desk self.new.desk) }
         ensures clock { self.new.desk.log.clock ≡ self.old.desk.log.clock }
     {
-        if self.office.desk.has_stopped() {
-            return Err(Halt::Stopped);
-        }
+        self.going()?;
         self.office.step(rt)
     }
 }
