@@ -76,7 +76,7 @@ module _ (own : List (Pair Event)) (id : ActorId) (sent_at heard_at number range
   heard_then = subst (λ (k : Known). Contains k.heard what_heard) (sym known_then) (Contains-push (known_of own).heard what_heard)
 
   -- the reply was heard to the message that was sent since
-  pub answered_then : number ≡ next_number (known_of own) → WasAnswered (known_of own) (known_of (own ++ both_entries)) request reply
+  abbrev pub answered_then : number ≡ next_number (known_of own) → WasAnswered (known_of own) (known_of (own ++ both_entries)) request reply
   answered_then next =
       let k = known_of own in
       let m : Sent = record { number = number; range = range; request = request } in

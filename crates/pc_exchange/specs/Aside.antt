@@ -33,6 +33,7 @@ pub record IsLaterAside (session : ℕ) (start k : Known) (ts : ℕ) : Type 0 wh
   pub heard_numbers : All (λ h. h.number ≤ length k.sent) heard_more
   pub high : k.high ≡ max start.high ts
   pub top : start.top ≤ k.top
+  pub below : ts ≤ k.top
 
 -- The coordinator, whose session knew `start`, may go on beside it: it has to hear of no greater timestamp than this.
 pub record MayGoOnBeside (c : Coordination) (start k : Known) (ts : ℕ) : Type 0 where

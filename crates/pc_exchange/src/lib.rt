@@ -2,10 +2,10 @@
 //! next.
 #![tactic(auto)]
 
-mod exchange;
 mod finish;
+mod message;
 mod round;
 
-pub use exchange::exchange;
 pub use finish::finish_job;
+pub use message::exchange;
 pub use round::make_round;

@@ -15,7 +15,7 @@ use Rattle.pc_desk.specs.Desk.{DeskMeaning, HasDelivered, HasHeardFirst, IsAnswe
 use Rattle.pc_desk.specs.Keeping.{KeepsSessionStep}
 use Rattle.pc_desk.specs.OwnLog.{IsOwnLog, LogMeaning}
 use Rattle.pc_exchange.proofs.Growing.{grows_else, grows_entered}
-use Rattle.pc_exchange.proofs.Kinds.{heard_kind}
+use Rattle.pc_exchange.proofs.HeardKinds.{heard_kind}
 use Rattle.pc_exchange.specs.Growing.{HasGrownBy}
 use Rattle.pc_history.specs.declared.pair.Pair.{Pair}
 use Rattle.pc_lists.proofs.Lists.{contains_head}
