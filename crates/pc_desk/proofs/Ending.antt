@@ -24,12 +24,12 @@ use Rattle.pc_world.specs.Tell.Refusal.{is_heard}
 -- one that passes the test is there
 any_gives : {X : Type 0} (p : X → Bool) (xs : List X) → list_any p xs ≡ true → (x : X) × Contains xs x × (p x ≡ true)
 any_gives p [] e = absurd cc
-any_gives p (x ∷ xs) e = by (p x) refl
+any_gives {X} p (x ∷ xs) e = by (p x) refl (any_gives p xs)
   where
-    by : (b : Bool) → p x ≡ b → (y : _) × Contains (x ∷ xs) y × (p y ≡ true)
-    by true is = (x, contains_head x xs, is)
-    by false is =
-        let later = any_gives p xs (sym (ap (λ b. b || list_any p xs) is) ∙ e) in
+    by : (b : Bool) → p x ≡ b → (list_any p xs ≡ true → (y : X) × Contains xs y × (p y ≡ true)) → (y : X) × Contains (x ∷ xs) y × (p y ≡ true)
+    by true is on = (x, contains_head x xs, is)
+    by false is on =
+        let later = on (sym (ap (λ b. b || list_any p xs) is) ∙ e) in
         (later.0, contains_tail x xs later.0 later.1, later.2)
 
 or_right : (a b : Bool) → b ≡ true → (a || b) ≡ true
@@ -46,12 +46,12 @@ any_there test (y ∷ ys) x is there = elim (contains_cons y ys x there) [
 -- the message that says something under a number is there
 said_there : (n : ℕ) (xs : List Sent) (r : Request) → request_sent n xs ≡ Some r → (x : Sent) × Contains xs x × (x.number ≡ n)
 said_there n [] r e = absurd cc
-said_there n (x ∷ xs) r e = by (x.number == n) refl
+said_there n (x ∷ xs) r e = by (x.number == n) refl (said_there n xs r)
   where
-    by : (b : Bool) → (x.number == n) ≡ b → (y : Sent) × Contains (x ∷ xs) y × (y.number ≡ n)
-    by true is = (x, contains_head x xs, eqb-true x.number n is)
-    by false is =
-        let later = said_there n xs r (sym (ap (λ b. option_map (λ (m : Sent). m.request) (cond b (Some x) (find (λ (m : Sent). m.number == n) xs))) is) ∙ e) in
+    by : (b : Bool) → (x.number == n) ≡ b → (request_sent n xs ≡ Some r → (y : Sent) × Contains xs y × (y.number ≡ n)) → (y : Sent) × Contains (x ∷ xs) y × (y.number ≡ n)
+    by true is on = (x, contains_head x xs, eqb-true x.number n is)
+    by false is on =
+        let later = on (sym (ap (λ b. option_map (λ (m : Sent). m.request) (cond b (Some x) (find (λ (m : Sent). m.number == n) xs))) is) ∙ e) in
         (later.0, contains_tail x xs later.0 later.1, later.2)
 
 module _ {C : Type 0} (d : DeskMeaning C) (track : KeepsTrack d) where
