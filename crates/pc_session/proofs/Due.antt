@@ -64,11 +64,11 @@ no_wait number (progresses.Heard reply) none = refl
 
 none_awaits : (number : ℕ) (messages : List Message) → list_any is_awaited messages ≡ false → list_any (waits_at number) messages ≡ false
 none_awaits number [] none = refl
-none_awaits number (m ∷ messages) none = by (is_awaited m) refl none
+none_awaits number (m ∷ messages) none = by (is_awaited m) refl none (none_awaits number messages)
   where
-    by : (b : Bool) → is_awaited m ≡ b → (b || list_any is_awaited messages) ≡ false → list_any (waits_at number) (m ∷ messages) ≡ false
-    by true is none = absurd cc
-    by false is none = ap (λ b. b || list_any (waits_at number) messages) (no_wait number m.progress is) ∙ none_awaits number messages none
+    by : (b : Bool) → is_awaited m ≡ b → (b || list_any is_awaited messages) ≡ false → (list_any is_awaited messages ≡ false → list_any (waits_at number) messages ≡ false) → list_any (waits_at number) (m ∷ messages) ≡ false
+    by true is none on = absurd cc
+    by false is none on = ap (λ b. b || list_any (waits_at number) messages) (no_wait number m.progress is) ∙ on none
 
 unmet_gives : (unsent : Option Message) (number : ℕ) (conflict : Reply) (reader : Option ℕ) → next_unmet unsent ≡ nexts.Conflict number conflict reader → ⊥
 unmet_gives None number conflict reader e = cc
