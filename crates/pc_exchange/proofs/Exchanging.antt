@@ -1,6 +1,7 @@
 -- One message that is sent, evaluated and heard: what each of the three asks for, and what they come to.
 use Rattle.std.proofs.Common.{◌≡◌, ℕ, ◌+◌, ◌==◌, Bool, true, false, ◌&&◌, ◌||◌, not, ◌⊎◌, inl, inr, All, Contains, List, [], ◌∷◌, ◌++◌, length, Option, None, Some, refl, sym, ap, subst, ◌∙◌, arith}
 use Rattle.std.proofs.lemmas.Bool.{eq-eqb, eqb-true}
+use Rattle.std.proofs.lemmas.List.Elements.{All-cons, All-nil}
 use Rattle.std.specs.List.{list_any}
 use Rattle.pc_base.specs.declared.actor.ActorId.{ActorId}
 use Rattle.pc_base.specs.declared.actor.ActorId.TheVariants as actors
@@ -33,6 +34,7 @@ use Rattle.pc_proto.specs.Requests.{is_put}
 use Rattle.pc_range.specs.Message.{evaluation}
 use Rattle.pc_range.specs.Protocol.{unstaged_protocol}
 use Rattle.pc_world.specs.Follows.PipelinedPuts.{IsPutWaitedFor}
+use Rattle.pc_turns.specs.Order.{IsInBetween}
 use Rattle.pc_world.specs.Follows.FinishingJobs.{jobs_of}
 use Rattle.pc_world.specs.Known.{Known, known_of, next_number}
 use Rattle.pc_world.specs.Known.Traffic.{Heard, Sent, heard_as, request_sent}
@@ -49,22 +51,22 @@ hears-as (actors.Session session) pipelining jobs k number step h none =
 hears-as (actors.Recoverer recoverer) pipelining jobs k number step h none = tt
 hears-as (actors.Range range) pipelining jobs k number step h none = tt
 
--- where a message of this number is among these, and no other
-only-this : (number : ℕ) (a : Answered) (replies : List Answered) → Contains replies a → list_any (λ (x : Answered). x.number == a.number) replies ≡ true
-only-this number a [] there = absurd (contains_nil a there)
-only-this number a (x ∷ replies) there = by (contains_cons x replies a there)
-  where
-    later : (b c : Bool) → c ≡ true → (b || c) ≡ true
-    later true c is = refl
-    later false c is = is
-
-    by : (x ≡ a) ⊎ Contains replies a → list_any (λ (x : Answered). x.number == a.number) (x ∷ replies) ≡ true
-    by (inl same) = ap (λ b. b || list_any (λ (x : Answered). x.number == a.number) replies) (eq-eqb x.number a.number (ap (λ (y : Answered). y.number) same))
-    by (inr behind) = later (x.number == a.number) (list_any (λ (x : Answered). x.number == a.number) replies) (only-this number a replies behind)
-
 or-right : (b c : Bool) → c ≡ true → (b || c) ≡ true
 or-right true c is = refl
 or-right false c is = is
+
+-- a reply that is among these is found by its number
+found-there : (a : Answered) (replies : List Answered) → Contains replies a → list_any (λ (x : Answered). x.number == a.number) replies ≡ true
+found-there a [] there = absurd (contains_nil a there)
+found-there a (x ∷ replies) there =
+    elim (contains_cons x replies a there) [
+      | inl same ↦ ap (λ b. b || list_any (λ (x : Answered). x.number == a.number) replies) (eq-eqb x.number a.number (ap (λ (y : Answered). y.number) same))
+      | inr behind ↦ or-right (x.number == a.number) (list_any (λ (x : Answered). x.number == a.number) replies) (found-there a replies behind)
+    ]
+
+and-false : (b : Bool) → (b && false) ≡ false
+and-false true = refl
+and-false false = refl
 
 or-false : (b : Bool) → (b || false) ≡ b
 or-false true = refl
@@ -83,7 +85,7 @@ module _ {C : Type 0} (old mid late : DeskMeaning C) (request : Request) (number
 
   -- each reply that waits is to this message
   pub replies_to_it : (a : Answered) → Contains late.replies a → a.number ≡ number
-  replies_to_it a there = sym (eqb-true number a.number (sym (way-late a.number) ∙ only-this number a late.replies there))
+  replies_to_it a there = sym (eqb-true number a.number (sym (way-late a.number) ∙ found-there a late.replies there))
 
   -- and there is one
   pub has_reply : late.replies ≡ [] → ⊥
@@ -135,10 +137,6 @@ module _ {C : Type 0} (old mid late : DeskMeaning C) (request : Request) (number
             let gone : is_on_way b.number new ≡ false = heard.way b.number ∙ (ap (λ e. is_on_way b.number late && not e) (eq-eqb a.number b.number (number-is ∙ sym also)) ∙ and-false (is_on_way b.number late)) in
             absurd (let bad : true ≡ false = sym here ∙ gone in cc bad)
 
-        and-false : (b : Bool) → (b && false) ≡ false
-        and-false true = refl
-        and-false false = refl
-
     -- the two entries, as they stand in the actor's list
     first-is : added old.log sent.sent (events.Send number sent.range request) sent.entered ≡ sent_pair old.log.part.id sent.entered.step (next_number (known_of old.log.part.own)) sent.range request
     first-is =
@@ -181,7 +179,9 @@ module _ {C : Type 0} (old mid late : DeskMeaning C) (request : Request) (number
           heard_at = heard.entered.step;
           goes = record {
             grown = grown;
-            within = _;
+            within =
+                All-cons IsInBetween (events.Send next sent.range request) (events.Hear next a.step ∷ []) tt
+                (All-cons IsInBetween (events.Hear next a.step) [] tt (All-nil IsInBetween));
             back = record { track = heard.track; posted = heard.posted ∙ none; replies = none-left };
             limit = heard.limit ∙ (delivered.limit ∙ sent.limit);
           };

@@ -40,7 +40,7 @@ pub record WasExchanged {C : Type 0} (old new : DeskMeaning C) (request : Reques
   pub heard_at : ℕ
   pub goes :
       GoesOnBeside old new (
-        sent_pair old.log.part.id sent_at (next_number (known_of old.log.part.own)) range request
-        ∷ heard_pair old.log.part.id heard_at (next_number (known_of old.log.part.own)) evaluated_by evaluated_at reply ∷ [])
+      sent_pair old.log.part.id sent_at (next_number (known_of old.log.part.own)) range request
+      ∷ heard_pair old.log.part.id heard_at (next_number (known_of old.log.part.own)) evaluated_by evaluated_at reply ∷ [])
   pub kind : MayAnswer request reply
   pub possible : IsPossibleReply request reply

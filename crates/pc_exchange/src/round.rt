@@ -36,8 +36,13 @@ pub fn make_round<N: Named<CommitWorld>, C: Clock, V: Wire, G: Gate, R: Wait>(
     ensures clock { desk.new.log.clock ≡ desk.old.log.clock }
     ensures err { IfErr result (HasHalted desk.old desk.new) }
 {
-    let mut machine =
-        PushMachine::new(conflict, Who::Txn(pusher.id), pusher.level, reading, reader);
+    let mut machine = PushMachine::new(
+        conflict,
+        Who::Txn(pusher.id),
+        pusher.level,
+        reading,
+        reader,
+    );
     let mut heard = Timestamp::ZERO;
     for _ in 0..u64::MAX {
         let next = match machine.next() {
