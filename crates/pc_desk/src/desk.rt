@@ -1,7 +1,8 @@
-ghost use Rattle.std.specs.Prelude.{◌≡◌, ℕ, ◌+◌, ◌-◌, ◌<◌, ◌≤◌, ◌^◌, [], length, map, All, IfErr, IfOk, IfNone, IfSome, OnErr, OnOk};
+ghost use Rattle.std.specs.Prelude.{◌≡◌, ℕ, ◌+◌, ◌-◌, ◌<◌, ◌≤◌, ◌^◌, [], ◌∷◌, length, map, All, IfErr, IfOk, IfNone, IfSome, OnErr, OnOk};
 ghost use Rattle.pc_base.specs.Rising.{AreRising};
 ghost use Rattle.pc_desk.specs.declared.halt.Halt.TheVariants as halts;
-ghost use Rattle.pc_desk.specs.Desk.{EndsWithSend, HasDelivered, HasDone, HasHalted, HasHeardFirst, HasKept, HasPosted, HasSentNext, IsReadyToGo, KeepsTrack, MayHearNow, MaySendNow, new_desk, posted_as, uses_by};
+ghost use Rattle.pc_desk.specs.Desk.{DeskMeaning, EndsWithSend, HasDelivered, HasDone, HasHalted, HasHeardFirst, HasKept, HasPosted, HasSentNext, IsReadyToGo, KeepsTrack, MayHearNow, MaySendNow, Posted, new_desk, posted_as, uses_by};
+ghost use Rattle.pc_desk.specs.Ending.{EndsOnly};
 ghost use Rattle.pc_desk.specs.Keeping.{ReadsEach};
 ghost use Rattle.pc_desk.specs.OwnLog.{HasEntered, IsNoRange, IsOwnLog, MayEnter};
 ghost use Rattle.pc_history.specs.Parts.{newcomer, noted, told};
@@ -135,6 +136,7 @@ impl<'a, N: Named<CommitWorld>, C: Clock, V: Wire, G: Gate> Desk<'a, N, C, V, G>
         ensures ok { IfOk result (λ reading. HasDone self.old self.new (events.Ask call reading)) }
         ensures rule { C.rule self.new.log.clock ≡ C.rule self.old.log.clock }
         ensures err { IfErr result (HasHalted self.old self.new) }
+        ensures ended { IfErr result (EndsOnly self.old self.new) }
     {
         self.log.ask(call)
     }
@@ -146,6 +148,7 @@ impl<'a, N: Named<CommitWorld>, C: Clock, V: Wire, G: Gate> Desk<'a, N, C, V, G>
         ensures ok { OnOk result (HasDone self.old self.new (events.Tell answer)) }
         ensures clock { self.new.log.clock ≡ self.old.log.clock }
         ensures err { IfErr result (HasHalted self.old self.new) }
+        ensures ended { IfErr result (EndsOnly self.old self.new) }
     {
         self.log.enter(Event::Tell(answer))
     }
@@ -157,6 +160,7 @@ impl<'a, N: Named<CommitWorld>, C: Clock, V: Wire, G: Gate> Desk<'a, N, C, V, G>
         ensures ok { IfOk result (λ number. HasSentNext self.old self.new number request) }
         ensures clock { self.new.log.clock ≡ self.old.log.clock }
         ensures err { IfErr result (HasHalted self.old self.new) }
+        ensures ended { IfErr result (EndsOnly self.old self.new) }
     {
         let number = self.sends + 1;
         let range = range_for(self.ranges.splits(), &request);
@@ -177,6 +181,7 @@ impl<'a, N: Named<CommitWorld>, C: Clock, V: Wire, G: Gate> Desk<'a, N, C, V, G>
         ensures rest { OnOk result (self.new ≡ record self.old { log = self.new.log; sends = number }) }
         ensures clock { self.new.log.clock ≡ self.old.log.clock }
         ensures err { IfErr result (HasHalted self.old self.new) }
+        ensures ended { IfErr result (λ halt. KeepsTrack self.old → EndsOnly self.old self.new halt) }
     {
         self.log.enter(Event::Send {
             number,
@@ -233,6 +238,7 @@ impl<'a, N: Named<CommitWorld>, C: Clock, V: Wire, G: Gate> Desk<'a, N, C, V, G>
         ensures all { OnOk result (self.new.posted ≡ []) }
         ensures clock { self.new.log.clock ≡ self.old.log.clock }
         ensures err { IfErr result (HasHalted self.old self.new) }
+        ensures ended { IfErr result (EndsOnly self.old self.new) }
     {
         while self.waiting() > 0 {
             self.deliver_first(rt)?;
@@ -248,6 +254,7 @@ impl<'a, N: Named<CommitWorld>, C: Clock, V: Wire, G: Gate> Desk<'a, N, C, V, G>
         ensures one { OnOk result (length self.old.posted ≡ length self.new.posted + 1) }
         ensures clock { self.new.log.clock ≡ self.old.log.clock }
         ensures err { IfErr result (HasHalted self.old self.new) }
+        ensures ended { IfErr result (EndsOnly self.old self.new) }
     {
         let message = match self.outbox.take_first() {
             Some((_, message)) => message,
@@ -264,6 +271,7 @@ impl<'a, N: Named<CommitWorld>, C: Clock, V: Wire, G: Gate> Desk<'a, N, C, V, G>
         ensures ok { OnOk result (HasKept self.old self.new (record { number = msg.number; step = msg.step; reply = msg.reply }) msg.note.known) }
         ensures clock { self.new.log.clock ≡ self.old.log.clock }
         ensures err { IfErr result (HasHalted self.old self.new) }
+        ensures memory { IfErr result (λ halt. halt ≡ halts.NoMemory) }
     {
         let ReplyMsg {
             number,
@@ -288,6 +296,7 @@ impl<'a, N: Named<CommitWorld>, C: Clock, V: Wire, G: Gate> Desk<'a, N, C, V, G>
         requires { (range : ℕ) × IsFullAt range self.old.range_limit fault }
         ensures halted { HasHalted self.old self.new result }
         ensures clock { self.new.log.clock ≡ self.old.log.clock }
+        ensures ended { (old : DeskMeaning C) (m : Posted) → KeepsTrack old → old.posted ≡ m ∷ self.old.posted → self.old ≡ record old { posted = self.old.posted } → EndsOnly old self.new result }
     {
         match fault {
             ServeFault::Full { range, last } => {
@@ -309,6 +318,7 @@ impl<'a, N: Named<CommitWorld>, C: Clock, V: Wire, G: Gate> Desk<'a, N, C, V, G>
         ensures none { IfOk result (λ heard. IfNone heard ((self.old.replies ≡ []) × (self.new ≡ self.old))) }
         ensures clock { self.new.log.clock ≡ self.old.log.clock }
         ensures err { IfErr result (HasHalted self.old self.new) }
+        ensures ended { IfErr result (EndsOnly self.old self.new) }
     {
         let answered = match self.replies.pop_front() {
             Some(answered) => answered,

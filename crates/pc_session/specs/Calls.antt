@@ -2,11 +2,11 @@
 use Rattle.std.specs.Prelude.{◌≡◌, true, false, List}
 use Rattle.pc_coord.specs.Events.{Suits}
 use Rattle.pc_coord.specs.Suiting.{SuitsNext}
+use Rattle.pc_exchange.specs.Growing.{HasGrownBy}
 use Rattle.pc_history.specs.declared.pair.Pair.{Pair}
 use Rattle.pc_proto.specs.declared.answer.Answer.{Answer}
 use Rattle.pc_proto.specs.declared.call.Call.{Call}
 use Rattle.pc_proto.specs.declared.event.Event.{Event}
-use Rattle.pc_session.specs.Growing.{HasGrownBy}
 use Rattle.pc_session.specs.Session.{IsAtRest, SessionMeaning, session_knows}
 use Rattle.pc_turns.specs.Order.{AsksWhole}
 use Rattle.pc_world.specs.Local.{is_outside, is_round}

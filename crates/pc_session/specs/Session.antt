@@ -3,13 +3,13 @@ use Rattle.std.specs.Prelude.{◌≡◌, ◌≤◌, false, is_some, None, Some, 
 use Rattle.pc_base.specs.declared.actor.ActorId.TheVariants as actors
 use Rattle.pc_coord.specs.Coordination.{Coordination}
 use Rattle.pc_coord.specs.declared.job.Job.{Job}
-use Rattle.pc_coord.specs.Knows.{Knows, MayFinishJob, messages_of_job}
+use Rattle.pc_coord.specs.Knows.{Knows, messages_of_job}
 use Rattle.pc_desk.specs.Desk.{DeskMeaning, KeepsTrack}
+use Rattle.pc_exchange.specs.Jobs.{IsFinishable}
 use Rattle.pc_history.specs.declared.pair.Pair.{Pair}
 use Rattle.pc_proto.specs.declared.event.Event.{Event}
 use Rattle.pc_world.specs.Follows.FinishingJobs.{jobs_of}
-use Rattle.pc_world.specs.Known.{Known, known_of, open_txn}
-use Rattle.pc_world.specs.Known.Transactions.{Txn}
+use Rattle.pc_world.specs.Known.{Known, known_of}
 use Rattle.pc_world.specs.Tell.Refusal.{is_heard}
 
 -- A session: its own list and its messages on their way; its coordinator; and the jobs that its transactions left, the oldest first.
@@ -29,17 +29,11 @@ pub record AreOfOneSession {C : Type 0} (d : DeskMeaning C) (c : Coordination) :
   pub unpiped : d.log.pipelining ≡ false
   pub knows : Knows c (known_of d.log.part.own)
 
--- The job may be done, and its transaction was begun and is not the open one.
-pub record MayBeDone (k : Known) (job : Job) : Type 0 where
-  pub may : MayFinishJob k job
-  pub begun : job.meta.id.number ≤ k.begun
-  pub other : (t : Txn) → open_txn k ≡ Some t → job.meta.id ≡ t.id → ⊥
-
 -- These jobs wait after the own list, and each may be done; its transactions are numbered up to how many were begun.
 pub record HasLeft (own : List (Pair Event)) (jobs : List Job) : Type 0 where
   pub left : jobs_of own ≡ map messages_of_job jobs
   pub numbers : All (λ t. t.id.number ≤ (known_of own).begun) (known_of own).txns
-  pub each : All (MayBeDone (known_of own)) jobs
+  pub each : All (IsFinishable (known_of own)) jobs
 
 -- The session is between its calls: no call is open, all that it sent was heard, its last transaction's job was taken over, and its jobs
 -- may be done. It has a transaction open exactly where its coordinator has one.

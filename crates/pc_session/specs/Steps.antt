@@ -1,15 +1,15 @@
 -- What a step of a session makes: its oldest job, whole.
 use Rattle.std.specs.Prelude.{◌≡◌, Bool, true, false, List, [], ◌∷◌}
 use Rattle.pc_coord.specs.declared.job.Job.{Job}
+use Rattle.pc_exchange.specs.Growing.{HasGrownBy}
 use Rattle.pc_history.specs.declared.pair.Pair.{Pair}
 use Rattle.pc_proto.specs.declared.event.Event.{Event}
-use Rattle.pc_session.specs.Growing.{HasGrownBy}
 use Rattle.pc_session.specs.Session.{IsAtRest, SessionMeaning}
 use Rattle.pc_turns.specs.Order.{FinishesWhole}
 
 -- The session did its oldest job whole, and nothing else: it sent the job's messages and heard their replies. It rests again, with the
 -- same transaction.
-pub record HasFinishedJob {C : Type 0} (old new : SessionMeaning C) : Type 0 where
+pub record HasMadeStep {C : Type 0} (old new : SessionMeaning C) : Type 0 where
   pub part : List (Pair Event)
   pub grown : HasGrownBy old.desk.log new.desk.log part
   pub whole : FinishesWhole old.coordinator.session old.desk.log.part.own part
@@ -22,5 +22,5 @@ pub record HasFinishedJob {C : Type 0} (old new : SessionMeaning C) : Type 0 whe
 
 -- A step was made, or no job waited and nothing changed.
 abbrev pub HasStepped : {C : Type 0} → SessionMeaning C → SessionMeaning C → Bool → Type 0
-HasStepped old new true = HasFinishedJob old new
+HasStepped old new true = HasMadeStep old new
 HasStepped old new false = (old.jobs ≡ []) × (new ≡ old)

@@ -1,4 +1,4 @@
-ghost use Rattle.std.specs.Prelude.{◌≡◌, ℕ, ◌-◌, ◌≤◌, ◌<◌, ◌^◌, ◌↔◌, [], false, length, map, not, All, IfErr, IfNone, IfOk, IfSome, IsTrue};
+ghost use Rattle.std.specs.Prelude.{◌≡◌, ℕ, ◌-◌, ◌≤◌, ◌<◌, ◌^◌, ◌↔◌, [], false, length, map, not, All, IfErr, IfNone, IfOk, IfSome, IsTrue, OnOk};
 ghost use Rattle.pc_base.specs.declared.actor.ActorId.TheVariants as actors;
 ghost use Rattle.pc_base.specs.Rising.{AreRising};
 ghost use Rattle.pc_desk.specs.Desk.{HasHalted, IsReadyToGo, new_desk};
@@ -11,16 +11,16 @@ ghost use Rattle.pc_session.specs.Steps.{HasStepped};
 ghost use Rattle.pc_wire.specs.declared.verdict.Verdict.TheVariants as verdicts;
 ghost use Rattle.pc_world.specs.Local.{IsActorOf};
 
+use crate::office::Office;
 use pc_base::NoMemory;
 use pc_clock::Clock;
-use pc_coord::{Coordinator, Job};
+use pc_coord::Coordinator;
 use pc_desk::{Desk, Halt, Rest};
 use pc_history::{Actor, Named, Note};
 use pc_proto::{Answer, Call};
 use pc_range::{CommitWorld, Gate, Ranges};
 use pc_wire::Wire;
 use std::alloc::Global;
-use std::collections::VecDeque;
 use std::marker::Model;
 use std::sync::Wait;
 
@@ -29,10 +29,7 @@ use std::sync::Wait;
 /// It makes its own list of entries, and knows what that says. Once it has halted it makes no more: each later call is refused as stopped.
 #[derive(Drop)]
 pub struct Session<'a, N: Named<CommitWorld>, C: Clock, V: Wire, G> {
-    desk: Desk<'a, N, C, V, G>,
-    coordinator: Coordinator<'a>,
-    /// What the transactions that are over left to be done, the oldest first.
-    jobs: VecDeque<Job>,
+    office: Office<'a, N, C, V, G>,
 }
 
 impl<'a, N: Named<CommitWorld>, C: Clock, V: Wire, G> Model for Session<'a, N, C, V, G> {
@@ -40,9 +37,9 @@ impl<'a, N: Named<CommitWorld>, C: Clock, V: Wire, G> Model for Session<'a, N, C
 
     ghost Value = { SessionMeaning C };
 
-    ghost view = { λ s. record { desk = s.desk; coordinator = s.coordinator; jobs = s.jobs.items } };
+    ghost view = { λ s. s.office };
 
-    ghost invariant = { λ s. RestsOrStopped (record { desk = s.desk; coordinator = s.coordinator; jobs = s.jobs.items }) };
+    ghost invariant = { λ s. RestsOrStopped s.office };
 }
 
 impl<'a, N: Named<CommitWorld>, C: Clock, V: Wire, G: Gate> Session<'a, N, C, V, G> {
@@ -75,10 +72,10 @@ impl<'a, N: Named<CommitWorld>, C: Clock, V: Wire, G: Gate> Session<'a, N, C, V,
         ensures jobs { result.jobs ≡ [] }
         ensures rests { IsAtRest result }
     {
+        let desk = Desk::new(alloc, actor, ranges, clock, wire, pipelining, limit, stop);
+        let coordinator = Coordinator::new(alloc, number, tries, pipelining, ranges.splits());
         Session {
-            desk: Desk::new(alloc, actor, ranges, clock, wire, pipelining, limit, stop),
-            coordinator: Coordinator::new(alloc, number, tries, pipelining, ranges.splits()),
-            jobs: VecDeque::new(alloc),
+            office: Office::new(alloc, desk, coordinator),
         }
     }
 
@@ -87,21 +84,21 @@ impl<'a, N: Named<CommitWorld>, C: Clock, V: Wire, G: Gate> Session<'a, N, C, V,
         ensures stopped { result ≡ self.now.desk.log.stopped }
         ensures rests { RestsOrStopped self.now }
     {
-        self.desk.has_stopped()
+        self.office.desk.has_stopped()
     }
 
     /// Whether a transaction is open.
     pub fn has_txn(&self) -> bool
         ensures { self.now.desk.log.stopped ≡ false → result ≡ (session_knows self.now).is_open }
     {
-        self.coordinator.has_txn()
+        self.office.coordinator.has_txn()
     }
 
     /// Whether a job waits.
     pub fn has_job(&self) -> bool
         ensures { IsTrue (not result) ↔ (self.now.jobs ≡ []) }
     {
-        !self.jobs.is_empty()
+        !self.office.jobs.is_empty()
     }
 
     /// A note of its last entry, without uses. None where it has no entry.
@@ -110,33 +107,47 @@ impl<'a, N: Named<CommitWorld>, C: Clock, V: Wire, G: Gate> Session<'a, N, C, V,
         ensures none { IfOk result (λ mark. IfNone mark (self.old.desk.log.part.own ≡ [])) }
         ensures same { self.new ≡ self.old }
     {
-        self.desk.mark()
+        self.office.desk.mark()
     }
 
     /// Knows the entry of a mark from now on, so that its later entries stand after that one.
     pub fn follow(&mut self, mark: Note<CommitWorld, N>)
         ensures took { self.new ≡ record self.old { desk = record self.old.desk { log = record self.old.desk.log { part = told mark.known self.old.desk.log.part } } } }
+        ensures rests { RestsOrStopped self.new }
     {
-        self.desk.follow(mark);
+        self.office.desk.follow(mark);
     }
 
     /// Asks the call, makes its messages and the rounds of its conflicts, and is told its answer.
-    pub fn call<R: Wait>(&mut self, _rt: &R, _call: Call) -> Result<Answer, Halt>
+    pub fn call<R: Wait>(&mut self, rt: &R, call: Call) -> Result<Answer, Halt>
         requires { self.old.desk.log.stopped ≡ false → MayBeCalled self.old call }
         ensures ok { IfOk result (HasCalled self.old self.new call) }
         ensures err { IfErr result (HasHalted self.old.desk self.new.desk) }
         ensures rule { C.rule self.new.desk.log.clock ≡ C.rule self.old.desk.log.clock }
     {
-        Err(self.desk.want_memory())
+        self.going()?;
+        self.office.call(rt, call)
+    }
+
+    /// Refused where it has stopped.
+    fn going(&self) -> Result<(), Halt>
+        ensures ok { OnOk result (self.now.desk.log.stopped ≡ false) }
+        ensures err { IfErr result (HasHalted self.now.desk self.now.desk) }
+    {
+        if self.office.desk.has_stopped() {
+            return Err(Halt::Stopped);
+        }
+        Ok(())
     }
 
     /// Does the oldest job: settles each lock of a transaction that is over, and then removes its record. False where no job waits.
-    pub fn step<R: Wait>(&mut self, _rt: &R) -> Result<bool, Halt>
+    pub fn step<R: Wait>(&mut self, rt: &R) -> Result<bool, Halt>
         ensures ok { IfOk result (HasStepped self.old self.new) }
         ensures err { IfErr result (HasHalted self.old.desk self.new.desk) }
         ensures clock { self.new.desk.log.clock ≡ self.old.desk.log.clock }
     {
-        Err(self.desk.want_memory())
+        self.going()?;
+        self.office.step(rt)
     }
 }
 
@@ -150,6 +161,6 @@ impl<'a, N: Named<CommitWorld>, C: Clock + Drop, V: Wire + Drop, G> Session<'a, 
         ensures ready { All (IsReadyToGo self.entry.desk.log.part.id self.entry.desk.log.head.splits) result.1 }
         ensures rests { RestsOrStopped self.entry }
     {
-        self.desk.finish()
+        self.office.desk.finish()
     }
 }
