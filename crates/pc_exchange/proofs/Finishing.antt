@@ -18,7 +18,7 @@ use Rattle.pc_exchange.proofs.Timely.{IsTimely, may_exchange}
 use Rattle.pc_exchange.specs.Aside.{IsAside, IsLaterAside}
 use Rattle.pc_exchange.specs.Exchange.{MayExchangeNow, WasExchanged}
 use Rattle.pc_exchange.specs.Finishing.{IsJobUnderWay, messages_due, with_rest}
-use Rattle.pc_exchange.specs.Growing.{GoesOnBeside}
+use Rattle.pc_exchange.specs.Growing.{HasGoneBeside}
 use Rattle.pc_exchange.specs.Jobs.{HasFinishedJob, MayFinishNow}
 use Rattle.pc_history.specs.declared.pair.Pair.{Pair}
 use Rattle.pc_lists.proofs.Same.{same_txn-is}

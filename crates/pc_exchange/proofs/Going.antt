@@ -13,7 +13,7 @@ use Rattle.pc_exchange.proofs.Knowing.{answered_then, exchange_is, known_then, w
 use Rattle.pc_exchange.proofs.Messages.{jobs_then, left_by_exchange}
 use Rattle.pc_exchange.specs.Aside.{IsAside, IsLaterAside}
 use Rattle.pc_exchange.specs.Exchange.{WasExchanged, heard_pair, sent_pair}
-use Rattle.pc_exchange.specs.Growing.{GoesOnBeside, HasAllBack}
+use Rattle.pc_exchange.specs.Growing.{HasGoneBeside, HasAllBack}
 use Rattle.pc_history.specs.declared.pair.Pair.{Pair}
 use Rattle.pc_lists.proofs.Same.{same_txn-is}
 use Rattle.pc_proto.specs.declared.event.Event.{Event}
@@ -31,11 +31,11 @@ use Rattle.pc_world.specs.Known.{Known, known_of, next_number}
 use Rattle.pc_world.specs.Known.Traffic.{Heard}
 
 -- by nothing
-pub goes_none : {C : Type 0} (d : DeskMeaning C) → HasAllBack d → GoesOnBeside d d []
+pub goes_none : {C : Type 0} (d : DeskMeaning C) → HasAllBack d → HasGoneBeside d d []
 goes_none d back = record { grown = grows_none d.log; within = All-nil IsInBetween; back = back; limit = refl }
 
 -- by these entries and then by those
-pub goes_both : {C : Type 0} (a b d : DeskMeaning C) (p q : List (Pair Event)) → GoesOnBeside a b p → GoesOnBeside b d q → GoesOnBeside a d (p ++ q)
+pub goes_both : {C : Type 0} (a b d : DeskMeaning C) (p q : List (Pair Event)) → HasGoneBeside a b p → HasGoneBeside b d q → HasGoneBeside a d (p ++ q)
 goes_both a b d p q x y = record {
   grown = grows_both a.log b.log d.log p q x.grown y.grown;
   within = subst (All IsInBetween) (sym (map-append (λ (r : Pair Event). r.entry.event) p q)) (All-append IsInBetween (map (λ r. r.entry.event) p) (map (λ r. r.entry.event) q) x.within y.within);

@@ -20,7 +20,7 @@ use Rattle.pc_exchange.proofs.Rounding.{IsMade, at_changed, at_finished, at_refu
 use Rattle.pc_exchange.proofs.Timely.{IsTimely, may_exchange}
 use Rattle.pc_exchange.specs.Aside.{IsAside, IsLaterAside}
 use Rattle.pc_exchange.specs.Exchange.{MayExchangeNow, WasExchanged}
-use Rattle.pc_exchange.specs.Growing.{GoesOnBeside}
+use Rattle.pc_exchange.specs.Growing.{HasGoneBeside}
 use Rattle.pc_exchange.specs.Rounding.{HasComeTo, IsRoundUnderWay}
 use Rattle.pc_exchange.specs.Rounds.{HasMadeRoundOf, MayMakeRound}
 use Rattle.pc_history.specs.declared.pair.Pair.{Pair}
