@@ -29,7 +29,7 @@ use Rattle.pc_session.proofs.Inside.{one_on}
 use Rattle.pc_session.proofs.Jobs.{HasJobs, jobs_sent}
 use Rattle.pc_session.proofs.Keeping.{keeps_as, keeps_sent, plain_for}
 use Rattle.pc_session.proofs.Knowing.{jobs_then, known_sent, of_send, with_sent}
-use Rattle.pc_session.specs.InCall.{GoesOn, HasGoneInside, HasOpenCall, IsApartNow}
+use Rattle.pc_session.specs.InCall.{GoesOnOrTold, HasGoneInside, HasOpenCall, IsApartNow}
 use Rattle.pc_session.specs.Session.{HasLeft, SessionMeaning, session_knows}
 use Rattle.pc_turns.specs.Order.{IsInBetween}
 use Rattle.pc_world.proofs.Pieces.{pieces-lie}
