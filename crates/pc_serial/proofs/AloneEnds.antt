@@ -20,8 +20,9 @@ use Rattle.pc_proto.specs.declared.event.Event.{Event}
 use Rattle.pc_proto.specs.declared.event.Event.TheVariants as events
 use Rattle.pc_serial.proofs.AlonePlain.{tells_plainly}
 use Rattle.pc_serial.proofs.AloneRun.{acts, stands_at, who}
-use Rattle.pc_serial.specs.Alone.{IsAlone, the_session}
+use Rattle.pc_serial.specs.Alone.{IsAlone}
 use Rattle.pc_serial.specs.Plain.{IsOpenInCommit, IsPlainAnswer, IsPlainTo}
+use Rattle.pc_serial.specs.QuietWire.{the_session}
 use Rattle.pc_world.proofs.Knowing.{known_other, known_same}
 use Rattle.pc_world.proofs.Prefixes.{run_may}
 use Rattle.pc_world.specs.After.{known_at}
@@ -29,8 +30,8 @@ use Rattle.pc_world.specs.Committed.{IsCommitted}
 use Rattle.pc_world.specs.Decisions.{TellsCommit}
 use Rattle.pc_world.specs.Known.{Known, call_in, call_of, first_if, known_after, open_txn}
 use Rattle.pc_world.specs.Known.Clock.{high_after, top_after}
-use Rattle.pc_world.specs.Known.Traffic.{Heard, heard_by}
 use Rattle.pc_world.specs.Known.Statements.{Statement}
+use Rattle.pc_world.specs.Known.Traffic.{Heard, heard_by}
 use Rattle.pc_world.specs.Known.Transactions.{Txn, txn_heard, txn_sent}
 use Rattle.pc_world.specs.Local.{Head, MayDo}
 use Rattle.pc_world.specs.MayTell.{MayTell, is_past_range, needs_txn}

@@ -22,6 +22,7 @@ pub mod InTurn
 pub mod Legal
 pub mod Laid
 pub mod Maps
+pub mod OneEntry
 pub mod OneSession
 pub mod Order
 pub mod OwnDone
@@ -35,5 +36,7 @@ pub mod SeenWrites
 pub mod SolePieces
 pub mod SpanPieces
 pub mod SpanRows
+pub mod StagedAlone
+pub mod StagedRun
 pub mod Undecided
 pub mod Written

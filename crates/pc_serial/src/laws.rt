@@ -1,4 +1,5 @@
 ghost use Rattle.pc_serial.specs.Laws.{CommitsAreOrdered, CommittedOnce, HistoriesAreLegal, OneQuietSession, OneSessionRunsInTurn, SessionsGoInTurn};
+ghost use Rattle.pc_serial.specs.Making.{OneEntryCommits};
 ghost use Rattle.pc_serial.specs.Plain.{OneSessionRunsPlainly};
 
 /// A law: the committed transactions are one legal history of a map.
@@ -16,6 +17,11 @@ pub fn committed_once()
     ensures { CommittedOnce }
 {}
 
+/// A law: what makes a transaction committed is one entry, of one of four kinds.
+pub fn one_entry_commits()
+    ensures { OneEntryCommits }
+{}
+
 /// A law: of two committed transactions of one session the one that was begun first stands first.
 pub fn sessions_go_in_turn()
     ensures { SessionsGoInTurn }
@@ -31,7 +37,8 @@ pub fn one_quiet_session()
     ensures { OneQuietSession }
 {}
 
-/// A law: one session alone, whose messages go over a quiet wire and which finishes what is over, is told plain answers alone, and runs on the plain map.
+/// A law: one session alone, whose messages go over a quiet wire and which finishes what is over, is told plain answers alone, and runs on the plain map. Its
+/// writes may be on their way while it asks further calls, and its commits may stage them.
 pub fn one_session_runs_plainly()
     ensures { OneSessionRunsPlainly }
 {}
