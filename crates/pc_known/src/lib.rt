@@ -4,10 +4,10 @@
 
 mod call;
 mod calls;
+mod cutting;
 pub mod fate;
 mod heards;
 mod order;
-mod cutting;
 mod range;
 mod same;
 mod sends;
@@ -16,10 +16,10 @@ mod statement;
 mod traffic;
 
 pub use calls::Calls;
+pub use cutting::{Part, Piece, is_key, is_span, pieces};
 pub use fate::{is_about, is_final, is_undecided, lists_write};
 pub use heards::Heards;
 pub use order::{is_in_order, may_list_records};
-pub use cutting::{Part, Piece, is_key, is_span, pieces};
 pub use same::{same_keys, same_meta, same_writes};
 pub use sends::Sends;
 pub use stamp::number;
