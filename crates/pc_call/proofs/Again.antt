@@ -17,7 +17,7 @@ use Rattle.pc_proto.specs.declared.reply.Reply.{Reply}
 use Rattle.pc_proto.specs.declared.reply.Reply.TheVariants as replies
 use Rattle.pc_proto.specs.declared.request.Request.{Request}
 use Rattle.pc_proto.specs.declared.request.Request.TheVariants as requests
-use Rattle.pc_proto.specs.Replies.{holder_in}
+use Rattle.pc_proto.specs.Replies.{holder_in, is_conflict}
 use Rattle.pc_proto.specs.Requests.{is_about, is_put_of}
 use Rattle.pc_txn.proofs.Keeping.{quiet_leaves, stands_on}
 use Rattle.pc_txn.specs.declared.txn.OpenTxn.{OpenTxn}
@@ -41,7 +41,7 @@ use Rattle.pc_world.specs.SameRequest.{IsSameRequest}
 use Rattle.pc_world.specs.Tell.Data.{IsFirstPut, IsPutFor, sent_before}
 use Rattle.pc_world.specs.Tell.Refusal.{IsConflictOf}
 
-beside_quiet : (r : Request) → goes_beside r ≡ true → is_plain r ≡ true
+pub beside_quiet : (r : Request) → goes_beside r ≡ true → is_plain r ≡ true
 beside_quiet (requests.Put meta seq ts key value) e = absurd cc
 beside_quiet (requests.Stage meta ts now writes locks) e = absurd cc
 beside_quiet (requests.Commit meta ts locks) e = absurd cc
@@ -55,11 +55,6 @@ beside_no_read r reply e = refl
 beside_no_put : (t : Txn) (key : List ℕ) (value : Option (List ℕ)) (seq : ℕ) (r : Request) → goes_beside r ≡ true → IsPutFor t key value seq r → ⊥
 beside_no_put t key value seq (requests.Put meta at ts place what) e put = cc
 beside_no_put t key value seq r e put = put
-
-same_beside : (one other : Request) → IsSameRequest one other → goes_beside one ≡ goes_beside other
-same_beside one other (inl same) = ap goes_beside same
-same_beside (requests.Put meta seq ts key value) (requests.Put holder at now lock laid) (inr put) = refl
-same_beside one other (inr put) = absurd put
 
 module _ (splits : List (List ℕ)) (start k : Known) (x : OpenTxn) (p : Purpose) (ms : List Message) (w : InCall splits start x p ms) (number : ℕ) (conflict : Reply)
     (due : step_of ms ≡ steps.Round number conflict) (made : MakesRound start k x.id conflict) where
@@ -105,13 +100,13 @@ module _ (splits : List (List ℕ)) (start k : Known) (x : OpenTxn) (p : Purpose
     }
 
     fewer2 : NoOtherMetEighth k.heard_now ms2
-    fewer2 r beside none eight =
+    fewer2 r none eight =
         let P : Request → Type 0 = λ q. IsSameRequest q r → ⊥ in
         let before : All (λ (m : Message). P m.request) ms = all_unmapped P (λ (m : Message). m.request) ms (subst (λ rs. All P rs) requests2 (All-map P (λ (m : Message). m.request) ms2 none)) in
-        w.fewer r beside before
+        w.fewer r before
         (at_least-before (IsConflictOf r) MOST_CONFLICTS start.heard_now made.heard_more
-        (All-weaker (λ h. IsTrue (goes_beside h.request)) (λ h. IsConflictOf r h → ⊥)
-        (λ h of c. let e : false ≡ true = sym beside ∙ same_beside r h.request c.same ∙ of in absurd cc) made.heard_more made.heard_beside)
+        (All-weaker (λ h. is_conflict h.reply ≡ false) (λ h. IsConflictOf r h → ⊥)
+        (λ h none c. let e : false ≡ true = sym none ∙ c.conflict in absurd cc) made.heard_more made.unmet)
         (subst (λ hs. AtLeast (IsConflictOf r) MOST_CONFLICTS hs) made.more.heard_now eight))
 
     same_id : x.id ≡ w.t.id

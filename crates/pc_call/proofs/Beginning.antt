@@ -92,7 +92,7 @@ module _ (k : Known) (x : OpenTxn) (s : Statement) (why : Why) (f : IsFresh k x 
   fresh_wave : (rs : List Request) → All (λ r. goes_beside r ≡ false) rs → Pairwise AreTwo rs → WaveStands k (map message_to_send rs)
   fresh_wave rs own two = record { stand = all_stand rs own; differ = each_two rs two }
 
-  fresh_split : IsSplit k
+  pub fresh_split : IsSplit k
   fresh_split = record {
     sent_first = k.sent;
     sent = sym (append-nil k.sent) ∙ ap (λ ms. k.sent ++ ms) (sym f.none_sent);
@@ -104,7 +104,7 @@ module _ (k : Known) (x : OpenTxn) (s : Statement) (why : Why) (f : IsFresh k x 
   unfolding fresh_split
   before_all = before_is k fresh_split
 
-  none_paced : IsPaced [] k.heard_now
+  pub none_paced : IsPaced [] k.heard_now
   none_paced = record {
     pushes = λ id. let e : count_by (was_pushed id) k.heard_now ≡ 0 = ap (count_by (was_pushed id)) f.none_heard in omega arith;
     resolves = λ id. let e : count_by (shows_resolve id) k.heard_now ≡ 0 = ap (count_by (shows_resolve id)) f.none_heard in omega arith;
@@ -123,7 +123,7 @@ module _ (k : Known) (x : OpenTxn) (s : Statement) (why : Why) (f : IsFresh k x 
     split = fresh_split;
     wave = fresh_wave rs own two;
     paced = subst (λ hs. IsPaced hs k.heard_now) (sym (none_held rs)) none_paced;
-    fewer = λ r beside none eight. subst (λ hs. AtLeast (IsConflictOf r) 8 hs) f.none_heard eight;
+    fewer = λ r none eight. subst (λ hs. AtLeast (IsConflictOf r) 8 hs) f.none_heard eight;
     serves = serves;
   }
 

@@ -1,35 +1,42 @@
 -- A commit's refreshes, and the commit itself, are to be sent.
-use Rattle.std.proofs.Common.{◌≡◌, ℕ, ◌≤◌, ◌<◌, true, false, ◌==◌, ◌⊎◌, inl, inr, List, [], ◌∷◌, map, None, refl, sym, ap, ◌∙◌, subst, arith, All, Any, IsTrue, lit<}
-use Rattle.std.proofs.lemmas.Bool.{eq-eqb}
+use Rattle.std.proofs.Common.{◌≡◌, ℕ, ◌≤◌, ◌<◌, nat_lt, Bool, ◌&&◌, true, false, ◌==◌, ◌⊎◌, inl, inr, List, [], ◌∷◌, map, None, Some, refl, sym, ap, ◌∙◌, subst, arith, All, Any, IsTrue, lit<}
+use Rattle.std.proofs.lemmas.Bool.{and_parts, eq-eqb, ltb-true}
+use Rattle.std.proofs.lemmas.Option.{same_Some}
 use Rattle.std.proofs.lemmas.List.Elements.{All-cons, All-head, All-map, All-nil, All-tail, All-weaker}
 use Rattle.pc_base.specs.declared.limits.TheConstants.{MOST_CONFLICTS}
 use Rattle.pc_base.specs.declared.span.Span.{Span}
-use Rattle.pc_call.proofs.Beginning.{AreTwo, any_true, none_held, requests_are}
-use Rattle.pc_call.specs.Committing.{CommitsNow, CommitsUpTo, RefreshesNow}
+use Rattle.pc_call.proofs.Beginning.{AreTwo, any_true, fresh_split, none_held, none_paced, requests_are}
+use Rattle.pc_call.proofs.Meeting.{none_low}
+use Rattle.pc_call.specs.Committing.{CommitsNow, CommitsOn, CommitsUpTo}
 use Rattle.pc_call.specs.declared.purpose.Purpose.{Purpose}
 use Rattle.pc_call.specs.declared.purpose.Purpose.TheVariants as purposes
+use Rattle.pc_call.specs.Fresh.{IsFresh}
 use Rattle.pc_call.specs.Paced.{IsPaced}
-use Rattle.pc_call.specs.Serving.{InCall, IsCommitBelow, IsOutHere, IsRefreshUpTo, IsRefusedBy, Serves, WasRefusedIfCommit, out_of}
+use Rattle.pc_call.specs.Serving.{InCall, IsCommitBelow, IsMetUpTo, IsOutHere, IsRefreshUpTo, IsRefusedBy, MetNoOtherWrite, MetNoWrite, Serves, WasRefusedIfCommit, out_of}
 use Rattle.pc_lists.proofs.Anywhere.{any_of}
+use Rattle.pc_proto.specs.declared.call.Call.TheVariants as calls
 use Rattle.pc_proto.specs.declared.request.Request.{Request}
 use Rattle.pc_proto.specs.declared.request.Request.TheVariants as requests
+use Rattle.pc_proto.specs.declared.why.Why.{Why}
 use Rattle.pc_proto.specs.Replies.{is_conflict}
 use Rattle.pc_proto.specs.Requests.{is_commit}
+use Rattle.pc_reads.proofs.Ordered.{sorted_apart}
 use Rattle.pc_reads.specs.ReadsStanding.{refresh_to}
 use Rattle.pc_txn.specs.declared.txn.OpenTxn.{OpenTxn}
 use Rattle.pc_txn.specs.Opened.{own_commit}
 use Rattle.pc_txn.specs.Standing.{TxnStands}
 use Rattle.pc_wave.proofs.Lists.{at_least-before, at_least-fewer}
-use Rattle.pc_wave.specs.Messages.{message_to_send}
+use Rattle.pc_wave.specs.Messages.{is_to_send, message_to_send}
 use Rattle.pc_wave.specs.Standing.{AreOfTwo, MayGoOut, MessageStands, Pairwise, WaveStands, goes_beside}
 use Rattle.pc_world.specs.Counting.{AtLeast}
 use Rattle.pc_world.specs.Follows.Resends.{ShowsLaterEpoch}
 use Rattle.pc_world.specs.Known.{Known}
+use Rattle.pc_world.specs.Known.Reads.{IsGoodAt}
 use Rattle.pc_world.specs.Known.Statements.{Statement}
 use Rattle.pc_world.specs.Known.Traffic.{Heard, Sent}
 use Rattle.pc_world.specs.Known.Transactions.{Txn}
 use Rattle.pc_world.specs.SameRequest.{IsSameRequest}
-use Rattle.pc_world.specs.Tell.Refusal.{IsConflictOf, is_heard}
+use Rattle.pc_world.specs.Tell.Refusal.{IsConflictOf, WasMoved, is_heard}
 
 module _ (k : Known) (unmet : All (λ h. is_conflict h.reply ≡ false) k.heard_now) where
   no_conflict : (r : Request) → All (λ h. IsConflictOf r h → ⊥) k.heard_now
@@ -74,7 +81,7 @@ module _ (splits : List (List ℕ)) (bound n : ℕ) (k : Known) (t : Txn) (x : O
     split = c.split;
     wave = wave_goes k c.commits.unmet rs own goes two;
     paced = subst (λ hs. IsPaced hs k.heard_now) (sym (none_held rs)) c.paced;
-    fewer = λ r beside none eight. none_met k c.commits.unmet r (at_least-fewer (IsConflictOf r) 1 MOST_CONFLICTS k.heard_now (omega arith) eight);
+    fewer = λ r none eight. none_met k c.commits.unmet r (at_least-fewer (IsConflictOf r) 1 MOST_CONFLICTS k.heard_now (omega arith) eight);
     serves = serves;
   }
 
@@ -131,6 +138,7 @@ module _ (n : ℕ) (k : Known) (x : OpenTxn) (s : Statement) (c : CommitsNow n k
         refused =
             All-weaker (WasRefusedIfCommit c.t.write_ts k.heard_now) (λ m. IsOutHere (message_to_send said ∷ []) said m ⊎ WasRefusedIfCommit c.t.write_ts k.heard_now m) (λ m r. inr r) k.sent_now c.on.refused;
         refreshes = c.on.refreshes;
+        held = c.on.held;
         m = message_to_send said;
         one = refl;
         said = refl;
@@ -138,7 +146,11 @@ module _ (n : ℕ) (k : Known) (x : OpenTxn) (s : Statement) (c : CommitsNow n k
         there = λ e. absurd cc;
       })
 
-module _ (n : ℕ) (k : Known) (x : OpenTxn) (s : Statement) (c : RefreshesNow n k x s) (behind : x.reads.ts < x.write_ts) where
+refresh-more : (low high : ℕ) (r : Request) → low ≤ high → IsRefreshUpTo low r → IsRefreshUpTo high r
+refresh-more low high (requests.Refresh id from to span) h up = omega arith
+refresh-more low high r h up = tt
+
+module _ (n : ℕ) (k : Known) (x : OpenTxn) (c : CommitsOn n k x) (behind : x.reads.ts < x.write_ts) where
   abbrev asks : Span → Request
   asks span = refresh_to x.id x.reads.ts x.write_ts span
 
@@ -182,18 +194,84 @@ module _ (n : ℕ) (k : Known) (x : OpenTxn) (s : Statement) (c : RefreshesNow n
 
   pub refresh_begins : (splits : List (List ℕ)) → InCall splits k x (purposes.Refresh n) (map message_to_send (map asks x.reads.spans))
   refresh_begins splits =
-      goes_on splits c.t.read_ts n k c.t x s c.on (purposes.Refresh n) (map asks x.reads.spans) (all_asked (λ r. goes_beside r ≡ false) (λ span. refl) x.reads.spans)
-      (all_asked (MayGoOut k) refresh_goes x.reads.spans) (are_two x.reads.spans c.once) refl
+      goes_on splits c.t.read_ts n k c.t x c.s c.on (purposes.Refresh n) (map asks x.reads.spans) (all_asked (λ r. goes_beside r ≡ false) (λ span. refl) x.reads.spans)
+      (all_asked (MayGoOut k) refresh_goes x.reads.spans) (are_two x.reads.spans (sorted_apart x.reads.spans c.on.stands.reads.ordered)) refl
       (record {
         commits = c.on.commits;
         refused = c.on.refused;
         refreshes =
             All-weaker (λ m. IsRefreshUpTo c.t.read_ts m.request) (λ m. IsRefreshUpTo c.t.write_ts m.request)
-            (λ m up. up_more c.t.read_ts c.t.write_ts m.request (omega (arith, c.on.stands.behind)) up) k.sent_now c.on.refreshes;
+            (λ m up. refresh-more c.t.read_ts c.t.write_ts m.request (omega (arith, c.on.stands.behind)) up) k.sent_now c.on.refreshes;
         behind = behind;
         asked = requests_are (map asks x.reads.spans);
+        held = All-weaker MetNoWrite (MetNoOtherWrite (map message_to_send (map asks x.reads.spans))) (λ h none. inl none) k.heard_now c.on.held;
+        low = All-weaker MetNoWrite (IsMetUpTo k.top) (none_low k.top) k.heard_now c.on.held;
       })
-    where
-      up_more : (low high : ℕ) (r : Request) → low ≤ high → IsRefreshUpTo low r → IsRefreshUpTo high r
-      up_more low high (requests.Refresh id from to span) h up = omega arith
-      up_more low high r h up = tt
+
+-- a commit that goes on commits at once, where its reads are good at its write timestamp
+pub commits_at_once : (n : ℕ) (k : Known) (x : OpenTxn) (c : CommitsOn n k x) → All (IsGoodAt c.t.id k.heard x.write_ts) c.t.reads → CommitsNow n k x c.s
+commits_at_once n k x c good = record {
+  t = c.t;
+  on = record {
+    open_in = c.on.open_in;
+    stands = c.on.stands;
+    client = c.on.client;
+    opened = c.on.opened;
+    split = c.on.split;
+    paced = c.on.paced;
+    commits = c.on.commits;
+    refused = c.on.refused;
+    refreshes =
+        All-weaker (λ m. IsRefreshUpTo c.t.read_ts m.request) (λ m. IsRefreshUpTo c.t.write_ts m.request)
+        (λ m up. refresh-more c.t.read_ts c.t.write_ts m.request (omega (arith, c.on.stands.behind)) up) k.sent_now c.on.refreshes;
+    held = c.on.held;
+  };
+  good = subst (λ ts. All (IsGoodAt c.t.id k.heard ts) c.t.reads) (ap (λ x. x.write_ts) c.on.stands.same) good;
+}
+
+-- a commit that was just asked goes on
+pub commit_asked_now : (k : Known) (x : OpenTxn) (s : Statement) (why : Why) (anchor : List ℕ) → IsFresh k x s why → s.call ≡ calls.Commit → x.anchor ≡ Some anchor → x.in_flight ≡ None → CommitsOn 0 k x
+commit_asked_now k x s why anchor f call anchored none = record {
+  t = f.t;
+  s = s;
+  on = record {
+    open_in = f.open_in;
+    stands = f.stands;
+    client = f.client;
+    opened = f.opened;
+    split = fresh_split k x s why f;
+    paced = none_paced k x s why f;
+    commits = record {
+      call = call;
+      anchor = anchor;
+      anchored = sym (ap (λ x. x.anchor) f.stands.same) ∙ anchored;
+      none_in_flight = none;
+      few = lit< tt;
+      moves = record { moved = tt; no_more = λ one. subst (λ hs. AtLeast (WasMoved k) 1 hs) f.none_heard one };
+      unmet = subst (λ hs. All (λ h. is_conflict h.reply ≡ false) hs) (sym f.none_heard) (All-nil (λ (h : Heard). is_conflict h.reply ≡ false));
+    };
+    refused = subst (λ ms. All (WasRefusedIfCommit f.t.write_ts k.heard_now) ms) (sym f.none_sent) (All-nil (WasRefusedIfCommit f.t.write_ts k.heard_now));
+    refreshes = subst (λ ms. All (λ m. IsRefreshUpTo f.t.read_ts m.request) ms) (sym f.none_sent) (All-nil (λ (m : Sent). IsRefreshUpTo f.t.read_ts m.request));
+    held = subst (λ hs. All MetNoWrite hs) (sym f.none_heard) (All-nil MetNoWrite);
+  };
+}
+
+-- where a commit goes on, it writes no earlier than it reads
+pub goes_at_once : (n : ℕ) (k : Known) (x : OpenTxn) (c : CommitsOn n k x) → x.reads.ts ≤ x.write_ts
+goes_at_once n k x c =
+    let reads : x.reads.ts ≡ c.t.read_ts = ap (λ x. x.reads.ts) c.on.stands.same in
+    let writes : x.write_ts ≡ c.t.write_ts = ap (λ x. x.write_ts) c.on.stands.same in
+    omega (arith, c.on.stands.behind)
+
+-- what is to be refreshed lies behind
+pub behind_of : (a b : ℕ) (r other : Bool) → r ≡ (nat_lt a b && other) → r ≡ true → a < b
+behind_of a b r other made is = ltb-true a b (and_parts (nat_lt a b) other (sym made ∙ is)).0
+
+-- the anchor of a commit that goes out is the transaction's
+pub anchor_now : (n : ℕ) (k : Known) (x : OpenTxn) (s : Statement) (c : CommitsNow n k x s) (anchor : List ℕ) → x.anchor ≡ Some anchor → c.on.commits.anchor ≡ anchor
+anchor_now n k x s c anchor is = same_Some c.on.commits.anchor anchor (sym c.on.commits.anchored ∙ sym (ap (λ x. x.anchor) c.on.stands.same) ∙ is)
+
+-- messages that are to be sent
+pub all_to_send : (rs : List Request) → All (λ m. is_to_send m ≡ true) (map message_to_send rs)
+all_to_send [] = All-nil (λ m. is_to_send m ≡ true)
+all_to_send (r ∷ rs) = All-cons (λ m. is_to_send m ≡ true) (message_to_send r) (map message_to_send rs) refl (all_to_send rs)

@@ -8,22 +8,24 @@ use Rattle.std.proofs.lemmas.Option.{same_Some}
 use Rattle.pc_base.specs.declared.limits.TheConstants.{MOST_CONFLICTS}
 use Rattle.pc_base.specs.declared.transaction.TxnId.{TxnId}
 use Rattle.pc_base.specs.Transaction.{same_txn}
+use Rattle.pc_call.proofs.Eighths.{none_eighth}
 use Rattle.pc_call.proofs.Facts.{are_numbered, open_is}
 use Rattle.pc_call.proofs.Holders.{holders_heard, is_id, met_by}
 use Rattle.pc_call.proofs.Lists.{all_behind, all_unmapped, kept_by, only_found}
+use Rattle.pc_call.proofs.Meeting.{any_changed, low-more, low_now, met-more}
 use Rattle.pc_call.specs.declared.purpose.Purpose.{Purpose}
 use Rattle.pc_call.specs.declared.purpose.Purpose.TheVariants as purposes
-use Rattle.pc_call.specs.Ended.{HasLanded}
 use Rattle.pc_call.specs.Learned.{known_heard}
 use Rattle.pc_call.specs.Opening.{GoesOn}
 use Rattle.pc_call.specs.Paced.{IsPaced, shows_resolve, was_met, was_pushed}
-use Rattle.pc_call.specs.Serving.{AreReadsOf, InCall, IsOpenIn, IsReadFor, IsRefusedBy, IsSplit, LaysLast, LaysNext, NoOtherMetEighth, Serves, ServesRead, ServesRefresh, ServesWrite, WasRefusedIfCommit, holders_met, out_of, write_call}
-use Rattle.pc_lists.proofs.Anywhere.{any_head, any_kept, any_later}
+use Rattle.pc_call.specs.Serving.{AreReadsOf, InCall, IsAnswerTo, IsMetUpTo, IsOpenIn, IsReadFor, IsRefusedBy, IsSplit, LaysLast, LaysNext, MetNoOtherWrite, NoOtherMetEighth, Serves, ServesRead, ServesRefresh, ServesWrite, WasRefusedIfCommit, WroteNothingNew, holders_met, out_of, write_call}
+use Rattle.pc_lists.proofs.Anywhere.{any_head, any_kept, any_last, any_later}
 use Rattle.pc_lists.proofs.Counts.{count-cons, count-push, one_if}
 use Rattle.pc_proto.specs.declared.call.Call.{Call}
 use Rattle.pc_proto.specs.declared.call.Call.TheVariants as calls
 use Rattle.pc_proto.specs.declared.meta.TxnMeta.{TxnMeta}
 use Rattle.pc_proto.specs.declared.reply.Reply.{Reply}
+use Rattle.pc_proto.specs.declared.why.Why.TheVariants as whys
 use Rattle.pc_proto.specs.declared.reply.Reply.TheVariants as replies
 use Rattle.pc_proto.specs.declared.request.Request.{Request}
 use Rattle.pc_proto.specs.declared.request.Request.TheVariants as requests
@@ -31,12 +33,14 @@ use Rattle.pc_proto.specs.Replies.{is_conflict, is_conflict_with, is_written}
 use Rattle.pc_proto.specs.Requests.{is_put_of, is_about, is_push_of, is_resolve_of}
 use Rattle.pc_proto.specs.Stamps.{greatest_of, reply_stamps}
 use Rattle.pc_reads.specs.ReadsStanding.{refresh_to}
+use Rattle.pc_reads.specs.Replies.{unrefreshed_by, unrefreshed_in}
 use Rattle.pc_refusals.proofs.Counted.{refusals_go}
 use Rattle.pc_refusals.specs.Moves.{IsNoMove}
 use Rattle.pc_txn.proofs.Keeping.{quiet_leaves, stands_on}
 use Rattle.pc_txn.proofs.Laying.{last_landed}
 use Rattle.pc_txn.proofs.Puts.{own_put, puts-one}
 use Rattle.pc_txn.specs.Counted.{IsCounted}
+use Rattle.pc_txn.specs.declared.flight.InFlight.{InFlight}
 use Rattle.pc_txn.specs.declared.txn.OpenTxn.{OpenTxn}
 use Rattle.pc_txn.specs.Opened.{landed_at, last_put, opened_as, own_get, own_scan}
 use Rattle.pc_txn.specs.Standing.{HasMovedOn, LeavesAsIs, PutsUpTo, TxnStands, is_plain}
@@ -44,9 +48,11 @@ use Rattle.pc_wave.proofs.Changed.{found_all, found_passes, found_some}
 use Rattle.pc_wave.proofs.Hearing.{awaits_as, came_request, wave_heard}
 use Rattle.pc_wave.proofs.Lists.{at_least-before}
 use Rattle.pc_wave.specs.declared.message.Message.{Message}
-use Rattle.pc_wave.specs.Messages.{awaits_at, back_with, first_changed, progress_awaits, wave_awaits}
+use Rattle.pc_wave.specs.Messages.{awaits_at, back_with, back_with_by, first_changed, progress_awaits, wave_awaits}
 use Rattle.pc_wave.specs.Standing.{HasMore, IsAsFar, IsHeardTo, IsMessageAt, IsOnItsWay, MessageStands, WaveStands, goes_beside}
 use Rattle.pc_world.specs.Answering.{IsRefreshReply, MayAnswer}
+use Rattle.pc_world.specs.Follows.Eighth.{MetEighth}
+use Rattle.pc_world.specs.Follows.PipelinedPuts.{IsHeardOf, IsToOwnPut}
 use Rattle.pc_world.specs.Known.{Known}
 use Rattle.pc_world.specs.Known.Statements.{Statement}
 use Rattle.pc_world.specs.Known.Traffic.{Heard, Sent}
@@ -55,7 +61,7 @@ use Rattle.pc_world.specs.Known.Writes.{Write, last_seq_of}
 use Rattle.pc_world.specs.RangeOf.{pieces}
 use Rattle.pc_world.specs.Send.Put.{AsksFor}
 use Rattle.pc_world.specs.SameRequest.{IsSameRequest}
-use Rattle.pc_world.specs.Tell.Data.{IsFirstPut, IsPutFor, sent_before}
+use Rattle.pc_world.specs.Tell.Data.{IsFirstPut, IsPutFor, MayTellWritten, sent_before}
 use Rattle.pc_world.specs.Tell.Refusal.{IsConflictOf, is_moved}
 
 every : {X : Type 0} (P : X → Type 0) → ((x : X) → P x) → (xs : List X) → All P xs
@@ -177,6 +183,27 @@ first_by one other seq before id epoch none = first_same one other seq before id
 not_false : {b : Bool} → b ≡ false → IsTrue (not b)
 not_false {b = b} e = subst (λ b. IsTrue (not b)) (sym e) refl
 
+-- The write of an open call was heard to be written: none is in flight, and the call may be told so; or, where the write was of an earlier call, the
+-- call has sent no write of its own yet. No request met its eighth.
+pub record IsLanded (flight : Option InFlight) (again : Bool) (k : Known) (x : OpenTxn) : Type 0 where
+  pub t : Txn
+  pub open_in : IsOpenIn k t
+  pub stands : TxnStands k None t x
+  pub cause : x.cause ≡ whys.Client
+  pub s : Statement
+  pub opened : k.statement ≡ Some s
+  pub key : List ℕ
+  pub value : Option (List ℕ)
+  pub call : s.call ≡ write_call key value
+  pub was : flight ≡ Some (record { key = key; value = value })
+  pub none_in_flight : x.in_flight ≡ None
+  pub split : IsSplit k
+  pub paced : IsPaced [] k.heard_now
+  pub unmet : (r : Request) → MetEighth k r → ⊥
+  pub told : again ≡ false → MayTellWritten k s
+  pub heard : again ≡ false → IsHeardOf false k s t
+  pub next : again ≡ true → WroteNothingNew k s t
+
 module _ (session clock count : ℕ) (splits : List (List ℕ)) (k : Known) (x : OpenTxn) (p : Purpose) (ms : List Message) (counted : IsCounted session clock count k) (w : InCall splits k x p ms)
     (number : ℕ) (reply : Reply) (h : Heard) (waited : wave_awaits number ms ≡ true) (is : IsHeardTo k number reply h) where
   abbrev k2 : Known
@@ -188,29 +215,35 @@ module _ (session clock count : ℕ) (splits : List (List ℕ)) (k : Known) (x :
   abbrev t2 : Txn
   t2 = txn_heard k.sent (Some h) w.t
 
-  found : (m : Message) × (find (awaits_at number) ms ≡ Some m)
+  pub found : (m : Message) × (find (awaits_at number) ms ≡ Some m)
   found = found_some (awaits_at number) ms waited
 
   stands_m : MessageStands k found.0
   stands_m = found_all (awaits_at number) (MessageStands k) ms found.0 found.1 w.wave.stand
 
-  far : IsOnItsWay k number found.0.request × (found.0.conflicts < MOST_CONFLICTS)
+  pub far : IsOnItsWay k number found.0.request × (found.0.conflicts < MOST_CONFLICTS)
   far = subst (λ p. IsAsFar k found.0.request found.0.conflicts p) (awaits_as number found.0.progress (found_passes (awaits_at number) ms found.0 found.1)) stands_m.as_far
 
-  same_request : h.request ≡ found.0.request
+  pub same_request : h.request ≡ found.0.request
   same_request = same_Some h.request found.0.request (sym is.asked ∙ far.0.out.said)
 
-  more : HasMore k k2 [] (h ∷ [])
+  pub more : HasMore k k2 [] (h ∷ [])
   more = record { sent = sym (append-nil k.sent); sent_now = sym (append-nil k.sent_now); heard = refl; heard_now = refl }
 
-  gone : HasMovedOn k k2 [] (h ∷ [])
+  pub gone : HasMovedOn k k2 [] (h ∷ [])
   gone = record { sent = sym (append-nil k.sent); heard = refl; begun = omega arith; high = omega arith }
 
-  wave2 : WaveStands k2 ms2
+  pub wave2 : WaveStands k2 ms2
   wave2 = wave_heard k k2 ms number reply h w.wave waited is more
 
   requests2 : map (λ m. m.request) ms2 ≡ map (λ m. m.request) ms
   requests2 = kept_by (awaits_at number) (back_with number reply) (λ (m : Message). m.request) ms (came_request number reply)
+
+  -- one message of one that is waited for is what was asked
+  pub one_asked : (m : Message) → ms ≡ m ∷ [] → h.request ≡ m.request
+  one_asked m one =
+      let f : find (awaits_at number) (m ∷ []) ≡ Some found.0 = subst (λ ms. find (awaits_at number) ms ≡ Some found.0) one found.1 in
+      same_request ∙ sym (ap (λ (m : Message). m.request) (only_found (awaits_at number) m found.0 f).0)
 
   -- what holds of each request holds of the one that was answered
   of_request : (P : Request → Type 0) → All P (map (λ m. m.request) ms) → P h.request
@@ -219,15 +252,15 @@ module _ (session clock count : ℕ) (splits : List (List ℕ)) (k : Known) (x :
   not_beside : goes_beside h.request ≡ false
   not_beside = ap goes_beside same_request ∙ stands_m.no_round
 
-  fewer2 : NoOtherMetEighth k2.heard_now ms2
-  fewer2 r beside none eight =
+  pub fewer2 : NoOtherMetEighth k2.heard_now ms2
+  fewer2 r none eight =
       let P : Request → Type 0 = λ q. IsSameRequest q r → ⊥ in
       let before : All (λ (m : Message). P m.request) ms = all_unmapped P (λ (m : Message). m.request) ms (subst (λ rs. All P rs) requests2 (All-map P (λ (m : Message). m.request) ms2 none)) in
       let here : P h.request = subst P (sym same_request) (found_all (awaits_at number) (λ (m : Message). P m.request) ms found.0 found.1 before) in
       let no : IsConflictOf r h → ⊥ = λ c. here (same_sym r h.request c.same) in
-      w.fewer r beside before (at_least-before (IsConflictOf r) MOST_CONFLICTS k.heard_now (h ∷ []) (All-cons (λ h. IsConflictOf r h → ⊥) h [] no (All-nil (λ h. IsConflictOf r h → ⊥))) eight)
+      w.fewer r before (at_least-before (IsConflictOf r) MOST_CONFLICTS k.heard_now (h ∷ []) (All-cons (λ h. IsConflictOf r h → ⊥) h [] no (All-nil (λ h. IsConflictOf r h → ⊥))) eight)
 
-  paced2 : IsPaced (holders_met ms2) k2.heard_now
+  pub paced2 : IsPaced (holders_met ms2) k2.heard_now
   paced2 = record {
     pushes = λ id.
         let pushed : count_by (was_pushed id) k2.heard_now ≡ count_by (was_pushed id) k.heard_now + 0 =
@@ -247,7 +280,7 @@ module _ (session clock count : ℕ) (splits : List (List ℕ)) (k : Known) (x :
         omega arith;
   }
 
-  split2 : IsSplit k2
+  pub split2 : IsSplit k2
   split2 = record {
     sent_first = w.split.sent_first;
     sent = w.split.sent;
@@ -301,7 +334,7 @@ module _ (session clock count : ℕ) (splits : List (List ℕ)) (k : Known) (x :
   refused-more : (m : Sent) → WasRefusedIfCommit w.t.write_ts k.heard_now m → WasRefusedIfCommit w.t.write_ts k2.heard_now m
   refused-more m r = λ commits. any_kept (IsRefusedBy w.t.write_ts m) k.heard_now (h ∷ []) (r commits)
 
-  numbered_now : All (λ h. h.number ≤ length k.sent) k.heard_now
+  pub numbered_now : All (λ h. h.number ≤ length k.sent) k.heard_now
   numbered_now =
       let P : Heard → Type 0 = λ h. h.number ≤ length k.sent in
       all_behind P w.split.heard_first k.heard_now (subst (λ hs. All P hs) w.split.heard (are_numbered session clock count k counted).heard)
@@ -325,7 +358,19 @@ module _ (session clock count : ℕ) (splits : List (List ℕ)) (k : Known) (x :
         refreshes = r.refreshes;
         behind = r.behind;
         asked = requests2 ∙ r.asked;
+        held =
+            All-push (MetNoOtherWrite ms2) k.heard_now h
+            (All-weaker (MetNoOtherWrite ms) (MetNoOtherWrite ms2) (met-more (awaits_at number) (back_with number reply) awaited_met ms) k.heard_now r.held)
+            (inr (any_changed (awaits_at number) (back_with number reply) (IsAnswerTo h) ms found.0 found.1 (answered_by (is_conflict reply) (refresh_no_conflict reply kind))));
+        low = All-push (IsMetUpTo k2.top) k.heard_now h (All-weaker (IsMetUpTo k.top) (IsMetUpTo k2.top) (low-more k.top k2.top (omega arith)) k.heard_now r.low) (low_now k2.top h (omega arith));
       }
+    where
+      awaited_met : (m : Message) → awaits_at number m ≡ true → unrefreshed_in m.progress ≡ None
+      awaited_met m at = ap unrefreshed_in (awaits_as number m.progress at)
+
+      answered_by : (b : Bool) → b ≡ false → IsAnswerTo h (back_with_by b number reply found.0)
+      answered_by true e = absurd cc
+      answered_by false e = record { asked = sym same_request; met = ap unrefreshed_by (sym is.told) }
 
   first_back : (m : Sent) → IsFirstPut k2 w.s w.t m → IsFirstPut k w.s w.t m
   first_back m f = record { seq = f.seq; key = f.key; value = f.value; asked = f.asked; put = f.put; first = f.first }
@@ -395,11 +440,26 @@ module _ (session clock count : ℕ) (splits : List (List ℕ)) (k : Known) (x :
       write_on : InCall splits k2 x p ms2
       write_on = lays_on r.lays
 
+    few_m : found.0.conflicts < MOST_CONFLICTS
+    few_m = far.1
+
+    unmet1 : (q : Request) → MetEighth k q → ⊥
+    unmet1 =
+        none_eighth k ms w.fewer w.wave.stand
+        (subst (λ ms. All (λ (m : Message). m.conflicts < MOST_CONFLICTS) ms) (sym r.one)
+        (All-cons (λ (m : Message). m.conflicts < MOST_CONFLICTS) r.m [] (subst (λ (m : Message). m.conflicts < MOST_CONFLICTS) (sym is_m) few_m) (All-nil (λ (m : Message). m.conflicts < MOST_CONFLICTS))))
+
+    unmet2 : is_conflict h.reply ≡ false → (q : Request) → MetEighth k2 q → ⊥
+    unmet2 plain q eight =
+        unmet1 q
+        (at_least-before (IsConflictOf q) MOST_CONFLICTS k.heard_now (h ∷ [])
+        (All-cons (λ h. IsConflictOf q h → ⊥) h [] (λ c. let e : false ≡ true = sym plain ∙ c.conflict in absurd cc) (All-nil (λ h. IsConflictOf q h → ⊥))) eight)
+
     module _ (at : ℕ) (written : reply ≡ replies.Written at) where
       low : at ≤ k2.high
       low = let f : greatest_of (reply_stamps h.reply) ≡ max 0 at = ap (λ y. greatest_of (reply_stamps y)) (is.told ∙ written) in omega (arith, f)
 
-      landed : LaysNext k w.s w.t x r.key r.value again r.m ⊎ LaysLast k w.s w.t x r.key r.value again r.m → HasLanded again k2 (landed_at at x)
+      landed : LaysNext k w.s w.t x r.key r.value again r.m ⊎ LaysLast k w.s w.t x r.key r.value again r.m → IsLanded x.in_flight again k2 (landed_at at x)
       landed (inl l) = let f : false ≡ true = ap (progress_awaits number) (sym l.to_send) ∙ at_number in absurd cc
       landed (inr l) =
           let said : h.request ≡ last_put x l.anchor r.key r.value = same_request ∙ sym (ap (λ (m : Message). m.request) is_m) ∙ l.said in
@@ -412,6 +472,14 @@ module _ (session clock count : ℕ) (splits : List (List ℕ)) (k : Known) (x :
           let own_epoch : x.epoch ≡ w.t.epoch = ap (λ x. x.epoch) st.same in
           let opened2 : IsOpenIn k2 t2 = record { others = map (txn_heard k.sent (Some h)) w.open_in.others; is_open = w.open_in.is_open; first = ap (map (txn_heard k.sent (Some h))) w.open_in.first } in
           let out : Any (IsMessageAt number found.0.request) k.sent_now = far.0.out.now in
+          let first : again ≡ false → IsFirstPut k2 w.s t2 out.1 = λ own. record {
+            seq = x.seq;
+            key = r.key;
+            value = r.value;
+            asked = asks_for w.s r.key r.value r.call;
+            put = subst (λ q. IsPutFor t2 r.key r.value x.seq q) (sym (out.4.asked ∙ sym same_request ∙ said)) (own_id ∙ sym id, own_epoch ∙ sym epoch, refl, refl, refl);
+            first = not_false (first_by t2 w.t x.seq (sent_before k) id epoch (l.first own));
+          } in
           record {
             t = t2;
             open_in = opened2;
@@ -419,25 +487,18 @@ module _ (session clock count : ℕ) (splits : List (List ℕ)) (k : Known) (x :
             cause = w.cause;
             s = w.s;
             opened = w.opened;
+            key = r.key;
+            value = r.value;
+            call = r.call;
+            was = l.in_flight;
             none_in_flight = refl;
-            told = λ own. record {
-              t = t2;
-              opened = open_is k2 t2 opened2;
-              sent = (
-                out.0,
-                out.1,
-                out.2,
-                out.3,
-                record {
-                  seq = x.seq;
-                  key = r.key;
-                  value = r.value;
-                  asked = asks_for w.s r.key r.value r.call;
-                  put = subst (λ q. IsPutFor t2 r.key r.value x.seq q) (sym (out.4.asked ∙ sym same_request ∙ said)) (own_id ∙ sym id, own_epoch ∙ sym epoch, refl, refl, refl);
-                  first = not_false (first_by t2 w.t x.seq (sent_before k) id epoch (l.first own));
-                },
-              );
-            };
+            split = split2;
+            paced = record { pushes = λ id. let a = paced2.pushes id in omega arith; resolves = paced2.resolves };
+            unmet = unmet2 (ap is_conflict (is.told ∙ written));
+            told = λ own. record { t = t2; opened = open_is k2 t2 opened2; sent = (out.0, out.1, out.2, out.3, first own) };
+            heard = λ own.
+                any_last (λ h. IsToOwnPut k2 w.s t2 h × IsTrue (is_written h.reply)) k.heard_now h
+                (record { m = out.1; sent = (out.0, out.2, out.3); own = first own; to = is.numbered ∙ sym out.4.numbered }, ap is_written (is.told ∙ written));
             next = λ old. All-weaker (λ m. IsFirstPut k w.s w.t m → ⊥) (λ m. IsFirstPut k2 w.s t2 m → ⊥)
                 (λ m none f. none (record {
                   seq = f.seq;
@@ -449,7 +510,7 @@ module _ (session clock count : ℕ) (splits : List (List ℕ)) (k : Known) (x :
                 })) k.sent_now (l.old old);
           }
 
-      write_landed : HasLanded again k2 (landed_at at x)
+      write_landed : IsLanded x.in_flight again k2 (landed_at at x)
       write_landed = landed r.lays
 
   heard_by : (q : Purpose) → p ≡ q → Serves splits k w.s w.t x q ms → GoesOn q reply → InCall splits k2 x p ms2
@@ -467,5 +528,5 @@ module _ (session clock count : ℕ) (splits : List (List ℕ)) (k : Known) (x :
   call_heard on = heard_by p refl w.serves on
 
   -- its write was written
-  pub call_written : (again : Bool) (at : ℕ) → p ≡ purposes.Write again → reply ≡ replies.Written at → HasLanded again k2 (landed_at at x)
+  pub call_written : (again : Bool) (at : ℕ) → p ≡ purposes.Write again → reply ≡ replies.Written at → IsLanded x.in_flight again k2 (landed_at at x)
   call_written again at e written = write_landed again e (subst (λ q. Serves splits k w.s w.t x q ms) e w.serves) at written

@@ -1,9 +1,7 @@
 -- A message of an open call that met an intent has its round, or its holder blocks the call.
 use Rattle.std.proofs.Common.{◌≡◌, ℕ, ◌≤◌, Bool, true, false, not, ◌&&◌, ◌⊎◌, inl, inr, List, [], ◌∷◌, map, find, Option, Some, None, IfSome, refl, sym, ap, ◌∙◌, subst, arith, All, Contains}
 use Rattle.std.specs.List.{list_all}
-use Rattle.std.specs.Bool.{MatchBool}
 use Rattle.std.proofs.lemmas.List.Elements.{All-cons, All-map, All-nil, Contains-append_right}
-use Rattle.pc_base.specs.declared.actor.ActorId.TheVariants as actors
 use Rattle.pc_base.specs.declared.span.Span.{Span}
 use Rattle.pc_base.specs.declared.transaction.TxnId.{TxnId}
 use Rattle.pc_call.proofs.Facts.{open_is}
@@ -13,8 +11,8 @@ use Rattle.pc_call.specs.declared.purpose.Purpose.{Purpose}
 use Rattle.pc_call.specs.declared.purpose.Purpose.TheVariants as purposes
 use Rattle.pc_call.specs.Opening.{reader_of}
 use Rattle.pc_call.specs.Sending.{IsConflictNow, read_at}
-use Rattle.pc_call.specs.Serving.{AreReadsOf, InCall, LaysLast, LaysNext, Serves, holder_met, write_call}
-use Rattle.pc_proto.specs.declared.answer.Answer.TheVariants as answers
+use Rattle.pc_call.specs.Serving.{AreReadsOf, InCall, LaysLast, LaysNext, Serves, ServesWrite, holder_met, out_of, write_call}
+use Rattle.pc_call.specs.Suiting.{SuitsFlight}
 use Rattle.pc_proto.specs.declared.call.Call.{Call}
 use Rattle.pc_proto.specs.declared.call.Call.TheVariants as calls
 use Rattle.pc_proto.specs.declared.meta.TxnMeta.{TxnMeta}
@@ -23,7 +21,9 @@ use Rattle.pc_proto.specs.declared.reply.Reply.TheVariants as replies
 use Rattle.pc_proto.specs.declared.request.Request.{Request}
 use Rattle.pc_proto.specs.Replies.{holder_in}
 use Rattle.pc_reads.specs.ReadsStanding.{refresh_to}
+use Rattle.pc_txn.proofs.Rows.{undecided}
 use Rattle.pc_txn.specs.Counted.{IsCounted}
+use Rattle.pc_txn.specs.declared.flight.InFlight.{InFlight}
 use Rattle.pc_txn.specs.declared.txn.OpenTxn.{OpenTxn}
 use Rattle.pc_txn.specs.Opened.{last_put, next_put, own_get, own_scan}
 use Rattle.pc_wave.proofs.Changed.{found_all, found_passes}
@@ -40,42 +40,42 @@ use Rattle.pc_world.specs.Answering.{MayAnswer}
 use Rattle.pc_world.specs.Known.{Known}
 use Rattle.pc_world.specs.Known.Statements.{Statement}
 use Rattle.pc_world.specs.Known.Transactions.{Txn}
-use Rattle.pc_world.specs.MayTell.{MayTell, is_past_range, needs_txn}
+use Rattle.pc_world.specs.MayTell.{is_past_range}
 use Rattle.pc_world.specs.RangeOf.{pieces}
-use Rattle.pc_world.specs.Tell.Refusal.{IsUncommittedIn, MayBlock, MetEight}
+use Rattle.pc_world.specs.Tell.Refusal.{MayBlock, MetEight}
 
--- The call may be told that it is blocked.
-pub record IsBlockable (k : Known) (s : Statement) : Type 0 where
+-- The call may be told that it is blocked: it reads or writes.
+pub record IsBlockable (s : Statement) : Type 0 where
   pub may : MayBlock s.call
-  pub uncommitted : IsUncommittedIn k s.call
+  pub other : s.call ≡ calls.Commit → ⊥
   pub within : is_past_range s ≡ false
 
 -- Where the request may meet an intent, it is another's; it reads where its reader does; and it may block its call.
 pub record IsOurs (k : Known) (s : Statement) (t : Txn) (reader : Option ℕ) (r : Request) : Type 0 where
   pub other : (holder : TxnMeta) (ts : ℕ) (key : List ℕ) → MayAnswer r (replies.Conflict holder ts key) → holder.id ≡ t.id → ⊥
   pub reads : reader ≡ read_at r
-  pub blocks : (holder : TxnMeta) (ts : ℕ) (key : List ℕ) → MayAnswer r (replies.Conflict holder ts key) → IsBlockable k s
+  pub blocks : (holder : TxnMeta) (ts : ℕ) (key : List ℕ) → MayAnswer r (replies.Conflict holder ts key) → IsBlockable s
 
 module _ (splits : List (List ℕ)) (k : Known) (t : Txn) (x : OpenTxn) (s : Statement) (same : x.id ≡ t.id) where
   -- The call of the statement is this one.
   abbrev asks : Call → Statement
   asks call = record { call = call; reading = s.reading }
 
-  blockable_as : (call : Call) → s.call ≡ call → IsBlockable k (asks call) → IsBlockable k s
-  blockable_as call is b = subst (λ c. IsBlockable k (asks c)) (sym is) b
+  blockable_as : (call : Call) → s.call ≡ call → IsBlockable (asks call) → IsBlockable s
+  blockable_as call is b = subst (λ c. IsBlockable (asks c)) (sym is) b
 
   get_ours : (key : List ℕ) → s.call ≡ calls.Get key → IsOurs k s t (Some x.reads.ts) (own_get x key)
   get_ours key is = record {
     other = λ holder ts at may e. may (e ∙ sym same);
     reads = refl;
-    blocks = λ holder ts at may. blockable_as (calls.Get key) is (record { may = tt; uncommitted = tt; within = refl });
+    blocks = λ holder ts at may. blockable_as (calls.Get key) is (record { may = tt; other = λ e. cc; within = refl });
   }
 
   scan_ours : (whole span : Span) → s.call ≡ calls.Scan whole → IsOurs k s t (Some x.reads.ts) (own_scan x span)
   scan_ours whole span is = record {
     other = λ holder ts at may e. may (e ∙ sym same);
     reads = refl;
-    blocks = λ holder ts at may. blockable_as (calls.Scan whole) is (record { may = tt; uncommitted = tt; within = refl });
+    blocks = λ holder ts at may. blockable_as (calls.Scan whole) is (record { may = tt; other = λ e. cc; within = refl });
   }
 
   every : {X : Type 0} (P : X → Type 0) → ((x : X) → P x) → (xs : List X) → All P xs
@@ -90,9 +90,9 @@ module _ (splits : List (List ℕ)) (k : Known) (t : Txn) (x : OpenTxn) (s : Sta
       (All-map (IsOurs k s t (Some x.reads.ts)) (λ p. own_scan x p.1) (pieces splits span) (every (λ p. IsOurs k s t (Some x.reads.ts) (own_scan x p.1)) (λ p. scan_ours span p.1 is) (pieces splits span)))
   reads_ours call rs is e = absurd e
 
-  write_blockable : (key : List ℕ) (value : Option (List ℕ)) → IsBlockable k (asks (write_call key value))
-  write_blockable key None = record { may = tt; uncommitted = tt; within = refl }
-  write_blockable key (Some value) = record { may = tt; uncommitted = tt; within = refl }
+  write_blockable : (key : List ℕ) (value : Option (List ℕ)) → IsBlockable (asks (write_call key value))
+  write_blockable key None = record { may = tt; other = λ e. cc; within = refl }
+  write_blockable key (Some value) = record { may = tt; other = λ e. cc; within = refl }
 
   next_ours : (key : List ℕ) (value : Option (List ℕ)) → s.call ≡ write_call key value → IsOurs k s t None (next_put x key value)
   next_ours key value is = record {
@@ -190,6 +190,7 @@ module _ (session clock count : ℕ) (splits : List (List ℕ)) (k : Known) (x :
         opened = w.opened;
         t = w.t;
         open_is = open_is k w.t w.open_in;
+        undecided = undecided k (out_of p ms) w.t x w.stands (open_is k w.t w.open_in);
         holder = met.holder;
         ts = met.ts;
         key = met.key;
@@ -206,29 +207,62 @@ module _ (session clock count : ℕ) (splits : List (List ℕ)) (k : Known) (x :
         resolves = w.paced.resolves met.holder.id;
       }
 
-  -- a holder that blocks the call may be told
-  pub blocked_due : (holder : TxnId) → step_of ms ≡ steps.Blocked holder → MayTell splits (actors.Session session) k (answers.Blocked holder)
+  -- a message that met an intent may block the call
+  blocks_with : (m : Message) → find is_in_conflict ms ≡ Some m → (number : ℕ) (conflict : Reply) → MetConflict k number m.request conflict → IsBlockable w.s
+  blocks_with m found number conflict met =
+      let our : IsOurs k w.s w.t (reader_of p x) m.request = found_all is_in_conflict (λ m. IsOurs k w.s w.t (reader_of p x) m.request) ms m found all_ours in
+      our.blocks met.holder met.ts met.key (subst (MayAnswer m.request) met.is met.kind)
+
+  -- what blocks the call may, by its eighth
+  pub blocked_due : (holder : TxnId) → step_of ms ≡ steps.Blocked holder → IsBlockable w.s × MetEight holder k.heard_now
   blocked_due holder due =
       let f = blocked_first (first_in_conflict ms) (find is_to_send ms) (list_all has_answer ms) holder due in
       let m : Message = f.0 in
       let found : find is_in_conflict ms ≡ Some m = (first_found ms m f.1).0 in
       let stands_m : MessageStands k m = found_all is_in_conflict (MessageStands k) ms m found w.wave.stand in
       let has : HasMetOne k m = met_as k m m.progress refl (found_passes is_in_conflict ms m found) stands_m.as_far in
-      let our : IsOurs k w.s w.t (reader_of p x) m.request = found_all is_in_conflict (λ m. IsOurs k w.s w.t (reader_of p x) m.request) ms m found all_ours in
-      let b : IsBlockable k w.s = our.blocks has.met.holder has.met.ts has.met.key (subst (MayAnswer m.request) has.met.is has.met.kind) in
       let eight : MetEight holder k.heard_now = subst (MayBeDue k ms) due (may_be_due k ms w.wave) in
-      let opened : (needs_txn w.s.call && not k.is_open) ≡ false = kept_open (needs_txn w.s.call) k.is_open w.open_in.is_open in
-      record {
-        s = w.s;
-        opened = w.opened;
-        told =
-            match_false (needs_txn w.s.call && not k.is_open) _ _ opened
-            (match_false (is_past_range w.s) _ _ b.within (record { asked = b.may; why = inr eight; uncommitted = b.uncommitted }));
-      }
-    where
-      kept_open : (needs is_open : Bool) → is_open ≡ true → (needs && not is_open) ≡ false
-      kept_open true is_open e = ap not e
-      kept_open false is_open e = refl
+      (blocks_with m found has.number has.conflict has.met, eight)
 
-      match_false : (b : Bool) (P Q : Type 0) → b ≡ false → Q → MatchBool b P Q
-      match_false b P Q e q = subst (λ b. MatchBool b P Q) (sym e) q
+  -- or by a round that it waits for
+  pub round_blocks : (number : ℕ) (conflict : Reply) → step_of ms ≡ steps.Round number conflict → IsBlockable w.s
+  round_blocks number conflict due =
+      let f = due_round ms number conflict due in
+      let m : Message = f.0 in
+      let found : find is_in_conflict ms ≡ Some m = (first_found ms m f.1).0 in
+      let stands_m : MessageStands k m = found_all is_in_conflict (MessageStands k) ms m found w.wave.stand in
+      blocks_with m found number conflict (subst (λ p. IsAsFar k m.request m.conflicts p) f.2.progress stands_m.as_far)
+
+  -- no commit of it is out
+  pub none_out : IsBlockable w.s → out_of p ms ≡ None
+  none_out b = by p refl w.serves
+    where
+      by : (q : Purpose) → p ≡ q → Serves splits k w.s w.t x q ms → out_of p ms ≡ None
+      by purposes.Read e r = ap (λ q. out_of q ms) e
+      by (purposes.Write again) e r = ap (λ q. out_of q ms) e
+      by (purposes.Refresh n) e r = ap (λ q. out_of q ms) e
+      by (purposes.Commit n) e r = absurd (b.other r.commits.call)
+      by (purposes.Abort why) e r = ap (λ q. out_of q ms) e
+
+  -- and where a write of it is in flight, the same call may be asked again
+  pub flight_suits : IsBlockable w.s → SuitsFlight w.s.call x.in_flight
+  flight_suits b = by p refl w.serves
+    where
+      write_suits : (again : Bool) (r : ServesWrite again k w.s w.t x ms) → LaysNext k w.s w.t x r.key r.value again r.m ⊎ LaysLast k w.s w.t x r.key r.value again r.m → SuitsFlight w.s.call x.in_flight
+      write_suits again r (inl l) = subst (λ f. SuitsFlight w.s.call f) (sym l.none_in_flight) tt
+      write_suits again r (inr l) = subst (λ f. SuitsFlight w.s.call f) (sym l.in_flight) (subst (λ c. SuitsFlight c (Some (record { key = r.key; value = r.value }))) (sym r.call) (same_write r.key r.value))
+        where
+          same_write : (key : List ℕ) (value : Option (List ℕ)) → SuitsFlight (write_call key value) (Some (record { key = key; value = value }))
+          same_write key None = refl
+          same_write key (Some value) = refl
+
+      by : (q : Purpose) → p ≡ q → Serves splits k w.s w.t x q ms → SuitsFlight w.s.call x.in_flight
+      by purposes.Read e r = subst (λ f. SuitsFlight w.s.call f) (sym r.none_in_flight) tt
+      by (purposes.Write again) e r = write_suits again r r.lays
+      by (purposes.Refresh n) e r = subst (λ f. SuitsFlight w.s.call f) (sym r.commits.none_in_flight) tt
+      by (purposes.Commit n) e r = subst (λ f. SuitsFlight w.s.call f) (sym r.commits.none_in_flight) tt
+      by (purposes.Abort why) e r = suits_abort x.in_flight
+        where
+          suits_abort : (f : Option InFlight) → SuitsFlight w.s.call f
+          suits_abort None = tt
+          suits_abort (Some v) = subst (λ c. SuitsFlight c (Some v)) (sym r.call) tt

@@ -1,28 +1,55 @@
 -- What is due of an open call may be given.
-use Rattle.std.proofs.Common.{◌≡◌, ℕ, List, find, Result, Ok, Err, IfOk, refl, sym, subst, All}
+use Rattle.std.proofs.Common.{◌≡◌, ℕ, nat_le, Bool, true, false, cond, List, find, Option, None, Some, Result, Ok, Err, IfOk, refl, sym, subst, All}
+use Rattle.pc_base.specs.declared.limits.TheConstants.{MOST_CONFLICTS}
+use Rattle.pc_base.specs.declared.transaction.TxnId.{TxnId}
 use Rattle.std.specs.List.{list_all}
+use Rattle.pc_call.proofs.Blocking.{blocked_by_eighth}
 use Rattle.pc_call.proofs.Facts.{open_is}
 use Rattle.pc_call.proofs.Ready.{IsReady, IsReadyToSend, ready}
-use Rattle.pc_call.proofs.Rounding.{blocked_due, round_due}
+use Rattle.pc_call.proofs.Rounding.{round_due}
 use Rattle.pc_call.specs.declared.purpose.Purpose.{Purpose}
 use Rattle.pc_call.specs.Giving.{MayBeGiven}
 use Rattle.pc_call.specs.Sending.{IsSendable}
 use Rattle.pc_call.specs.Serving.{InCall, out_of}
+use Rattle.pc_proto.specs.declared.reply.Reply.{Reply}
 use Rattle.pc_proto.specs.declared.request.Request.{Request}
+use Rattle.pc_proto.specs.Replies.{holder_in}
 use Rattle.pc_txn.proofs.Rows.{undecided}
 use Rattle.pc_txn.specs.Counted.{IsCounted}
 use Rattle.pc_txn.specs.declared.txn.OpenTxn.{OpenTxn}
-use Rattle.pc_wave.proofs.Changed.{found_all, found_passes}
+use Rattle.pc_wave.proofs.Changed.{found_all, found_none, found_passes}
 use Rattle.pc_wave.proofs.Dues.{may_be_due}
+use Rattle.pc_wave.proofs.Rounds.{first_found}
 use Rattle.pc_wave.proofs.Sending.{sends_first}
 use Rattle.pc_wave.specs.declared.message.Message.{Message}
+use Rattle.pc_wave.specs.declared.message.Progress.{Progress}
+use Rattle.pc_wave.specs.declared.message.Progress.TheVariants as progresses
 use Rattle.pc_wave.specs.declared.step.Step.{Step}
 use Rattle.pc_wave.specs.declared.step.Step.TheVariants as steps
 use Rattle.pc_wave.specs.Due.{MayBeDue}
-use Rattle.pc_wave.specs.Messages.{first_in_conflict, has_answer, is_to_send, step_of}
+use Rattle.pc_wave.specs.Messages.{conflict_by, first_in_conflict, has_answer, is_in_conflict, is_to_send, progress_in_conflict, step_by, step_in, step_of}
 use Rattle.pc_wave.specs.Standing.{MayGoOut}
 use Rattle.pc_world.specs.Follows.Eighth.{MetEighth}
 use Rattle.pc_world.specs.Known.{Known}
+
+no_delivery : (o : Option TxnId) (number : ℕ) (conflict : Reply) → conflict_by o number conflict ≡ steps.Deliver → ⊥
+no_delivery None number conflict e = cc
+no_delivery (Some holder) number conflict e = cc
+
+met_first : (conflicts : ℕ) (pr : Progress) → progress_in_conflict pr ≡ true → step_in conflicts pr ≡ steps.Deliver → ⊥
+met_first conflicts progresses.ToSend is e = cc
+met_first conflicts (progresses.Sent number) is e = cc
+met_first conflicts (progresses.Met number conflict) is e = no_delivery (cond (nat_le MOST_CONFLICTS conflicts) (holder_in conflict) None) number conflict e
+met_first conflicts (progresses.Answered number reply) is e = cc
+
+-- where the messages are delivered, all were sent
+all_sent : (ms : List Message) → step_of ms ≡ steps.Deliver → All (λ m. is_to_send m ≡ false) ms
+all_sent ms due = by (first_in_conflict ms) (find is_to_send ms) (list_all has_answer ms) refl refl due
+  where
+    by : (first next : Option Message) (b : Bool) → first_in_conflict ms ≡ first → find is_to_send ms ≡ next → step_by first next b ≡ steps.Deliver → All (λ m. is_to_send m ≡ false) ms
+    by (Some m) next b first none e = absurd (met_first m.conflicts m.progress (found_passes is_in_conflict ms m (first_found ms m first).0) e)
+    by None (Some m) b first none e = absurd cc
+    by None None b first none e = found_none is_to_send ms none
 
 module _ (session clock count : ℕ) (splits : List (List ℕ)) (k : Known) (x : OpenTxn) (p : Purpose) (ms : List Message) (counted : IsCounted session clock count k) (w : InCall splits k x p ms) where
   send_due : (request : Request) → step_of ms ≡ steps.Send request → IsSendable splits session k request
@@ -46,9 +73,9 @@ module _ (session clock count : ℕ) (splits : List (List ℕ)) (k : Known) (x :
 
   given : (step : Step) → step_of ms ≡ step → MayBeDue k ms step → MayBeGiven session splits k x p ms step
   given (steps.Send request) due may = send_due request due
-  given steps.Deliver due may = may
+  given steps.Deliver due may = record { some = may; sent = all_sent ms due }
   given (steps.Round number conflict) due may = round_due session clock count splits k x p ms counted w number conflict due
-  given (steps.Blocked holder) due may = blocked_due session clock count splits k x p ms counted w holder due
+  given (steps.Blocked holder) due may = blocked_by_eighth session clock count splits k x p ms counted w holder due
   given steps.Answered due may = may
 
   may_be_given : MayBeGiven session splits k x p ms (step_of ms)

@@ -9,12 +9,13 @@ use Rattle.pc_base.specs.declared.transaction.TxnId.{TxnId}
 use Rattle.pc_call.proofs.Facts.{are_numbered}
 use Rattle.pc_call.proofs.Holders.{holders_sent}
 use Rattle.pc_call.proofs.Lists.{all_behind, all_front, all_unmapped, kept_by, only_found}
+use Rattle.pc_call.proofs.Meeting.{low-more, met-more}
 use Rattle.pc_call.specs.declared.purpose.Purpose.{Purpose}
 use Rattle.pc_call.specs.declared.purpose.Purpose.TheVariants as purposes
 use Rattle.pc_call.specs.Learned.{known_sent}
 use Rattle.pc_call.specs.Opening.{after_send, laid_first, laid_with}
 use Rattle.pc_call.specs.Paced.{IsPaced}
-use Rattle.pc_call.specs.Serving.{AreReadsOf, InCall, IsCommitCall, IsOpenIn, IsOutHere, IsReadFor, IsRefreshUpTo, IsSplit, LaysLast, LaysNext, NoOtherMetEighth, Serves, ServesAbort, ServesCommit, ServesRead, ServesRefresh, ServesWrite, WasRefusedIfCommit, commit_asked, holders_met, out_of, write_call}
+use Rattle.pc_call.specs.Serving.{AreReadsOf, InCall, IsCommitCall, IsMetUpTo, IsOpenIn, IsOutHere, IsReadFor, IsRefreshUpTo, IsSplit, LaysLast, LaysNext, MetNoOtherWrite, NoOtherMetEighth, Serves, ServesAbort, ServesCommit, ServesRead, ServesRefresh, ServesWrite, WasRefusedIfCommit, commit_asked, holders_met, out_of, write_call}
 use Rattle.pc_proto.specs.declared.call.Call.{Call}
 use Rattle.pc_proto.specs.declared.call.Call.TheVariants as calls
 use Rattle.pc_proto.specs.declared.request.Request.{Request}
@@ -24,6 +25,7 @@ use Rattle.pc_proto.specs.declared.why.Why.TheVariants as whys
 use Rattle.pc_proto.specs.Requests.{is_commit, is_put_of}
 use Rattle.pc_proto.specs.Stamps.{why_stamps}
 use Rattle.pc_reads.specs.ReadsStanding.{refresh_to}
+use Rattle.pc_reads.specs.Replies.{unrefreshed_in}
 use Rattle.pc_refusals.proofs.Counted.{refusals_go}
 use Rattle.pc_refusals.specs.Moves.{CountsMoves, IsNoMove}
 use Rattle.pc_txn.proofs.Commits.{commit_now, commit_sent}
@@ -123,9 +125,9 @@ module _ (session clock count : ℕ) (splits : List (List ℕ)) (k : Known) (x :
   paced2 = subst (λ hs. IsPaced hs k.heard_now) (sym (holders_sent number ms)) w.paced
 
   fewer2 : NoOtherMetEighth k2.heard_now ms2
-  fewer2 r beside none =
+  fewer2 r none =
       let P : Request → Type 0 = λ q. IsSameRequest q r → ⊥ in
-      w.fewer r beside (all_unmapped P (λ (m : Message). m.request) ms (subst (λ rs. All P rs) requests2 (All-map P (λ (m : Message). m.request) ms2 none)))
+      w.fewer r (all_unmapped P (λ (m : Message). m.request) ms (subst (λ rs. All P rs) requests2 (All-map P (λ (m : Message). m.request) ms2 none)))
 
   open2 : IsOpenIn k2 t2
   open2 = record { others = map (txn_sent request) w.open_in.others; is_open = w.open_in.is_open; first = ap (map (txn_sent request)) w.open_in.first }
@@ -212,6 +214,8 @@ module _ (session clock count : ℕ) (splits : List (List ℕ)) (k : Known) (x :
         refreshes = All-push (λ m. IsRefreshUpTo w.t.write_ts m.request) k.sent_now m2 r.refreshes (of_request (IsRefreshUpTo w.t.write_ts) refreshes);
         behind = r.behind;
         asked = requests2 ∙ r.asked;
+        held = All-weaker (MetNoOtherWrite ms) (MetNoOtherWrite ms2) (met-more is_to_send (sent_under number) (λ m is. ap unrefreshed_in (to_send_as m.progress is)) ms) k.heard_now r.held;
+        low = All-weaker (IsMetUpTo k.top) (IsMetUpTo k2.top) (low-more k.top k2.top (omega arith)) k.heard_now r.low;
       }
 
   abort_serves : (why : Why) → ServesAbort why k w.s w.t x ms → is_to_send first_one.0 ≡ true → ServesAbort why k2 w.s w.t x ms2
@@ -382,6 +386,7 @@ module _ (session clock count : ℕ) (splits : List (List ℕ)) (k : Known) (x :
             let ts_is : t2.write_ts ≡ w.t.write_ts = ap (λ r. (txn_sent r w.t).write_ts) said in
             subst (λ n. All (λ m. IsRefreshUpTo n m.request) k2.sent_now) (sym ts_is)
             (All-push (λ m. IsRefreshUpTo w.t.write_ts m.request) k.sent_now m2 c.refreshes (subst (IsRefreshUpTo w.t.write_ts) (sym said) tt));
+        held = c.held;
         m = sent_under number c.m;
         one = one2;
         said = c.said;

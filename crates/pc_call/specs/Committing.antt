@@ -1,18 +1,24 @@
 -- A commit goes on: none of its messages is waited for, and it refreshes or commits next.
-use Rattle.std.specs.Prelude.{◌≡◌, ℕ, None, Some, [], All}
+use Rattle.std.specs.Prelude.{◌≡◌, ℕ, Option, None, Some, List, [], All}
 use Rattle.pc_call.specs.Paced.{IsPaced}
-use Rattle.pc_call.specs.Serving.{IsCommitCall, IsOpenIn, IsRefreshUpTo, IsSplit, WasRefusedIfCommit}
+use Rattle.pc_call.specs.Serving.{IsCommitCall, MetNoWrite, IsOpenIn, IsRefreshUpTo, IsSplit, WasRefusedIfCommit}
+use Rattle.pc_call.specs.Telling.{MayTellOpen}
+use Rattle.pc_proto.specs.declared.answer.Answer.TheVariants as answers
 use Rattle.pc_proto.specs.declared.why.Why.TheVariants as whys
+use Rattle.pc_proto.specs.Replies.{status_ts}
+use Rattle.pc_refusals.specs.Moves.{CountsMoves}
 use Rattle.pc_txn.specs.declared.txn.OpenTxn.{OpenTxn}
 use Rattle.pc_txn.specs.Standing.{TxnStands}
-use Rattle.pc_wave.specs.Standing.{Pairwise}
+use Rattle.pc_world.specs.Counting.{LastIs}
+use Rattle.pc_world.specs.Follows.Eighth.{WasMovedEighth}
 use Rattle.pc_world.specs.Known.{Known}
 use Rattle.pc_world.specs.Known.Reads.{IsGoodAt}
 use Rattle.pc_world.specs.Known.Statements.{Statement}
 use Rattle.pc_world.specs.Known.Transactions.{Txn}
+use Rattle.pc_world.specs.Tell.Refusal.{WasMoved}
 
 -- The open transaction commits, after its commit was moved so often: every commit that was sent in the call was refused, and each refresh was to
--- a timestamp that is no later than this one.
+-- a timestamp that is no later than this one, and held.
 pub record CommitsUpTo (bound refusals : ℕ) (k : Known) (t : Txn) (x : OpenTxn) (s : Statement) : Type 0 where
   pub open_in : IsOpenIn k t
   pub stands : TxnStands k None t x
@@ -23,6 +29,7 @@ pub record CommitsUpTo (bound refusals : ℕ) (k : Known) (t : Txn) (x : OpenTxn
   pub commits : IsCommitCall refusals k s t x
   pub refused : All (WasRefusedIfCommit t.write_ts k.heard_now) k.sent_now
   pub refreshes : All (λ m. IsRefreshUpTo bound m.request) k.sent_now
+  pub held : All MetNoWrite k.heard_now
 
 -- It commits where its reads are good at its write timestamp.
 pub record CommitsNow (refusals : ℕ) (k : Known) (x : OpenTxn) (s : Statement) : Type 0 where
@@ -30,8 +37,23 @@ pub record CommitsNow (refusals : ℕ) (k : Known) (x : OpenTxn) (s : Statement)
   pub on : CommitsUpTo t.write_ts refusals k t x s
   pub good : All (IsGoodAt t.id k.heard t.write_ts) t.reads
 
--- It refreshes what it read, each span once.
-pub record RefreshesNow (refusals : ℕ) (k : Known) (x : OpenTxn) (s : Statement) : Type 0 where
+-- The commit goes on: it refreshes what it read, or commits.
+pub record CommitsOn (refusals : ℕ) (k : Known) (x : OpenTxn) : Type 0 where
   pub t : Txn
+  pub s : Statement
   pub on : CommitsUpTo t.read_ts refusals k t x s
-  pub once : Pairwise (λ one other. one ≡ other → ⊥) x.reads.spans
+
+-- What follows a commit that was refused where its record stands: it goes on after so many refusals, or is told that it was moved there.
+abbrev pub IsRefusalOf : List (List ℕ) → ℕ → Known → ℕ → OpenTxn → Option ℕ → Type 0
+IsRefusalOf splits session k recorded x None = MayTellOpen splits session k (answers.Moved recorded) x
+IsRefusalOf splits session k recorded x (Some refusals) = CommitsOn refusals k x
+
+-- The commit was moved as often as it may be, there the last time.
+pub record IsUsedUp (now : Known) (recorded : ℕ) : Type 0 where
+  pub eight : WasMovedEighth now
+  pub last : LastIs (WasMoved now) (λ h. status_ts h.reply ≡ recorded) now.heard_now
+
+-- So often was it moved, which is not as often as it may be; or it was moved as often.
+abbrev pub AreRefusals : Known → ℕ → Option ℕ → Type 0
+AreRefusals now recorded None = IsUsedUp now recorded
+AreRefusals now recorded (Some refusals) = CountsMoves now refusals × (WasMovedEighth now → ⊥)

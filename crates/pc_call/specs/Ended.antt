@@ -1,23 +1,26 @@
--- How a call that wrote ends.
-use Rattle.std.specs.Prelude.{◌≡◌, Bool, true, false, None, Some}
-use Rattle.pc_call.specs.Serving.{IsOpenIn, WroteNothingNew}
-use Rattle.pc_proto.specs.declared.why.Why.TheVariants as whys
+-- How a call that wrote ends, or goes on.
+use Rattle.std.specs.Prelude.{ℕ, Bool, false, Option, None, Some, List, [], ◌∷◌}
+use Rattle.pc_call.specs.declared.call.OpenCall.{OpenCall}
+use Rattle.pc_call.specs.declared.purpose.Purpose.{Purpose}
+use Rattle.pc_call.specs.declared.purpose.Purpose.TheVariants as purposes
+use Rattle.pc_call.specs.Serving.{InCall}
+use Rattle.pc_call.specs.Telling.{MayTellOpen}
+use Rattle.pc_proto.specs.declared.answer.Answer.TheVariants as answers
 use Rattle.pc_txn.specs.declared.txn.OpenTxn.{OpenTxn}
-use Rattle.pc_txn.specs.Standing.{TxnStands}
+use Rattle.pc_txn.specs.Opened.{next_put}
+use Rattle.pc_wave.specs.Messages.{message_to_send}
 use Rattle.pc_world.specs.Known.{Known}
-use Rattle.pc_world.specs.Known.Statements.{Statement}
-use Rattle.pc_world.specs.Known.Transactions.{Txn}
-use Rattle.pc_world.specs.Tell.Data.{MayTellWritten}
 
--- The write was heard to be written: none is in flight, and the call may be told so; or, where the write was of an earlier call, the call has
--- sent no write of its own yet.
-pub record HasLanded (again : Bool) (k : Known) (x : OpenTxn) : Type 0 where
-  pub t : Txn
-  pub open_in : IsOpenIn k t
-  pub stands : TxnStands k None t x
-  pub cause : x.cause ≡ whys.Client
-  pub s : Statement
-  pub opened : k.statement ≡ Some s
-  pub none_in_flight : x.in_flight ≡ None
-  pub told : again ≡ false → MayTellWritten k s
-  pub next : again ≡ true → WroteNothingNew k s t
+-- The call sends a write of an earlier call first.
+abbrev pub is_again : Purpose → Bool
+is_again (purposes.Write again) = again
+is_again _ = false
+
+-- A call whose own write of this key and value is to be sent.
+abbrev pub laying : OpenTxn → List ℕ → Option (List ℕ) → OpenCall
+laying x key value = record { purpose = purposes.Write false; wave = message_to_send (next_put x key value) ∷ [] }
+
+-- The write was heard to be written: the call may be told so; or it goes on as an open call, where the write was of an earlier one.
+abbrev pub HasLanded : List (List ℕ) → ℕ → Known → OpenTxn → Option OpenCall → Type 0
+HasLanded splits session k x None = MayTellOpen splits session k answers.Written x
+HasLanded splits session k x (Some call) = InCall splits k x call.purpose call.wave

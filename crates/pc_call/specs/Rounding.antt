@@ -1,15 +1,17 @@
 -- The round of a conflict that an open call met was made.
-use Rattle.std.specs.Prelude.{◌≡◌, ◌+◌, ◌≤◌, false, if◌then◌else◌, Option, None, Some, List, All, IsTrue, count_by, ⊤}
+use Rattle.std.specs.Prelude.{◌≡◌, ◌+◌, ◌≤◌, false, if◌then◌else◌, Option, None, Some, List, All, Any, IsTrue, count_by, ⊤}
 use Rattle.pc_base.specs.declared.transaction.TxnId.{TxnId}
 use Rattle.pc_base.specs.Transaction.{same_txn}
 use Rattle.pc_call.specs.Paced.{shows_resolve, was_met, was_pushed}
 use Rattle.pc_proto.specs.declared.reply.Reply.{Reply}
-use Rattle.pc_proto.specs.Replies.{holder_in}
+use Rattle.pc_proto.specs.declared.reply.Reply.TheVariants as replies
+use Rattle.pc_proto.specs.Replies.{holder_in, is_conflict}
 use Rattle.pc_proto.specs.Requests.{is_about}
 use Rattle.pc_wave.specs.Due.{FollowsConflict}
 use Rattle.pc_wave.specs.Standing.{HasMore, goes_beside}
 use Rattle.pc_world.specs.Known.{Known}
 use Rattle.pc_world.specs.Known.Traffic.{Heard, Sent}
+use Rattle.pc_world.specs.Send.Recovery.{was_refused}
 
 -- The transaction was pushed once more, no other was, and no fewer conflicts and no more resolves than pushes were heard.
 pub record IsPushedOnce (id : TxnId) (before now : List Heard) : Type 0 where
@@ -21,8 +23,8 @@ abbrev pub KeepsPace : Option TxnId → List Heard → List Heard → Type 0
 KeepsPace None before now = ⊤
 KeepsPace (Some id) before now = IsPushedOnce id before now
 
--- Since then the session has made the round of this conflict, and nothing that it sent or heard besides is of its call or speaks of the record
--- of its open transaction, of this name.
+-- Since then the session has made the round of this conflict, and nothing that it sent or heard besides is of its call, speaks of the record
+-- of its open transaction, of this name, or met an intent.
 pub record MakesRound (start k : Known) (own : TxnId) (conflict : Reply) : Type 0 where
   pub sent_more : List Sent
   pub heard_more : List Heard
@@ -30,6 +32,7 @@ pub record MakesRound (start k : Known) (own : TxnId) (conflict : Reply) : Type 
   pub sent_beside : All (λ m. IsTrue (goes_beside m.request)) sent_more
   pub heard_beside : All (λ h. IsTrue (goes_beside h.request)) heard_more
   pub other : All (λ h. is_about own h.request ≡ false) heard_more
+  pub unmet : All (λ h. is_conflict h.reply ≡ false) heard_more
   pub followed : FollowsConflict conflict heard_more
   pub pace : KeepsPace (holder_in conflict) start.heard_now k.heard_now
   pub statement : k.statement ≡ start.statement
@@ -37,3 +40,27 @@ pub record MakesRound (start k : Known) (own : TxnId) (conflict : Reply) : Type 
   pub txns : k.txns ≡ start.txns
   pub begun : start.begun ≤ k.begun
   pub high : start.high ≤ k.high
+
+-- Since then the session sent and heard only what is of no call, and speaks of no record of its open transaction, of this name.
+pub record GoesOnBeside (start k : Known) (own : TxnId) : Type 0 where
+  pub sent_more : List Sent
+  pub heard_more : List Heard
+  pub more : HasMore start k sent_more heard_more
+  pub sent_beside : All (λ m. IsTrue (goes_beside m.request)) sent_more
+  pub heard_beside : All (λ h. IsTrue (goes_beside h.request)) heard_more
+  pub other : All (λ h. is_about own h.request ≡ false) heard_more
+  pub statement : k.statement ≡ start.statement
+  pub is_open : k.is_open ≡ start.is_open
+  pub txns : k.txns ≡ start.txns
+  pub begun : start.begun ≤ k.begun
+  pub high : start.high ≤ k.high
+
+-- A push of the holder of this conflict was refused.
+abbrev pub RefusesPush : Reply → List Heard → Type 0
+RefusesPush (replies.Conflict holder ts key) heard = Any (λ h. IsTrue (was_refused holder.id h)) heard
+RefusesPush _ heard = ⊥
+
+-- Since then the round of this conflict was made, and its push was refused.
+pub record RefusesRound (start k : Known) (own : TxnId) (conflict : Reply) : Type 0 where
+  pub beside : GoesOnBeside start k own
+  pub refused : RefusesPush conflict k.heard_now

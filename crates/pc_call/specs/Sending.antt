@@ -41,13 +41,14 @@ read_at (requests.Get id epoch seq ts key) = Some ts
 read_at (requests.Scan id epoch seq ts span) = Some ts
 read_at _ = None
 
--- The message of this number met this conflict in the open call, and it was not the eighth of its request; a reader is at the timestamp at
--- which it reads; and more conflicts with the holder were heard in the call than pushes of it.
+-- The message of this number met this conflict in the open call, which is not decided, and it was not the eighth of its request; a reader is
+-- at the timestamp at which it reads; and more conflicts with the holder were heard in the call than pushes of it.
 pub record IsConflictNow (k : Known) (number : ℕ) (conflict : Reply) (reader : Option ℕ) : Type 0 where
   pub s : Statement
   pub opened : k.statement ≡ Some s
   pub t : Txn
   pub open_is : open_txn k ≡ Some t
+  pub undecided : (t : Txn) (ts : ℕ) → IsCommitKnown k t ts → ⊥
   pub holder : TxnMeta
   pub ts : ℕ
   pub key : List ℕ

@@ -1,5 +1,5 @@
 -- How the messages of an open call stand beside what their session knows: what they are sent for.
-use Rattle.std.specs.Prelude.{◌≡◌, ℕ, ◌+◌, ◌<◌, ◌≤◌, Bool, true, false, ◌⊎◌, if◌then◌else◌, Option, None, Some, List, [], ◌∷◌, ◌++◌, map, All, Any, IsTrue, ⊤}
+use Rattle.std.specs.Prelude.{◌≡◌, ℕ, ◌+◌, ◌<◌, ◌≤◌, Bool, true, false, ◌⊎◌, if◌then◌else◌, Option, None, Some, List, [], ◌∷◌, ◌++◌, map, All, Any, IfSome, IsTrue, ⊤}
 use Rattle.std.specs.List.{flat_map, list_any}
 use Rattle.std.specs.Option.{option_to_list}
 use Rattle.pc_base.specs.declared.limits.TheConstants.{MOST_CONFLICTS, MOST_REFUSALS}
@@ -17,6 +17,7 @@ use Rattle.pc_proto.specs.Replies.{holder_in, is_conflict, is_undecided_status}
 use Rattle.pc_proto.specs.Requests.{is_commit, is_put_of}
 use Rattle.pc_proto.specs.Stamps.{why_stamps}
 use Rattle.pc_reads.specs.ReadsStanding.{refresh_to}
+use Rattle.pc_reads.specs.Replies.{unrefreshed_by, unrefreshed_in}
 use Rattle.pc_refusals.specs.Moves.{CountsMoves}
 use Rattle.pc_txn.specs.declared.txn.OpenTxn.{OpenTxn}
 use Rattle.pc_txn.specs.Opened.{last_put, next_put, own_abort, own_commit, own_get, own_scan}
@@ -25,7 +26,7 @@ use Rattle.pc_wave.specs.declared.message.Message.{Message}
 use Rattle.pc_wave.specs.declared.message.Progress.{Progress}
 use Rattle.pc_wave.specs.declared.message.Progress.TheVariants as progresses
 use Rattle.pc_wave.specs.Messages.{is_to_send, wave_awaits}
-use Rattle.pc_wave.specs.Standing.{WaveStands, goes_beside}
+use Rattle.pc_wave.specs.Standing.{WaveStands}
 use Rattle.pc_world.specs.Counting.{AtLeast}
 use Rattle.pc_world.specs.Follows.Resends.{ShowsLaterEpoch}
 use Rattle.pc_world.specs.Known.{Known}
@@ -113,6 +114,23 @@ abbrev pub IsRefreshUpTo : ℕ → Request → Type 0
 IsRefreshUpTo ts (requests.Refresh id from to span) = to ≤ ts
 IsRefreshUpTo ts _ = ⊤
 
+-- The reply shows no write that a refresh met.
+abbrev pub MetNoWrite : Heard → Type 0
+MetNoWrite h = unrefreshed_by h.reply ≡ None
+
+-- The message was answered by this refusal of its refresh.
+pub record IsAnswerTo (h : Heard) (m : Message) : Type 0 where
+  pub asked : m.request ≡ h.request
+  pub met : unrefreshed_in m.progress ≡ unrefreshed_by h.reply
+
+-- If the reply is to a refresh that did not hold, its write lies at or below this timestamp.
+abbrev pub IsMetUpTo : ℕ → Heard → Type 0
+IsMetUpTo top h = IfSome (unrefreshed_by h.reply) (λ w. w.1 ≤ top)
+
+-- A write that a refresh met was met by one of these messages.
+abbrev pub MetNoOtherWrite : List Message → Heard → Type 0
+MetNoOtherWrite messages h = MetNoWrite h ⊎ Any (IsAnswerTo h) messages
+
 -- A commit of a transaction that wrote, whose writes are proved, after it was moved so often.
 pub record IsCommitCall (refusals : ℕ) (k : Known) (s : Statement) (t : Txn) (x : OpenTxn) : Type 0 where
   pub call : s.call ≡ calls.Commit
@@ -130,6 +148,8 @@ pub record ServesRefresh (refusals : ℕ) (k : Known) (s : Statement) (t : Txn) 
   pub refreshes : All (λ m. IsRefreshUpTo t.write_ts m.request) k.sent_now
   pub behind : x.reads.ts < x.write_ts
   pub asked : map (λ m. m.request) messages ≡ map (refresh_to x.id x.reads.ts x.write_ts) x.reads.spans
+  pub held : All (MetNoOtherWrite messages) k.heard_now
+  pub low : All (IsMetUpTo k.top) k.heard_now
 
 -- The message is a commit that is out, or one that was refused.
 pub record IsOutHere (messages : List Message) (request : Request) (m : Sent) : Type 0 where
@@ -141,6 +161,7 @@ pub record ServesCommit (refusals : ℕ) (k : Known) (s : Statement) (t : Txn) (
   pub commits : IsCommitCall refusals k s t x
   pub refused : All (λ m. IsOutHere messages (own_commit x commits.anchor) m ⊎ WasRefusedIfCommit t.write_ts k.heard_now m) k.sent_now
   pub refreshes : All (λ m. IsRefreshUpTo t.write_ts m.request) k.sent_now
+  pub held : All MetNoWrite k.heard_now
   pub m : Message
   pub one : messages ≡ m ∷ []
   pub said : m.request ≡ own_commit x commits.anchor
@@ -185,11 +206,10 @@ holder_met (progresses.Answered number reply) = None
 abbrev pub holders_met : List Message → List TxnId
 holders_met messages = flat_map (λ m. option_to_list (holder_met m.progress)) messages
 
--- No request of another kind than these messages met eight intents in the call.
+-- No other request than those of these messages met eight intents in the call.
 abbrev pub NoOtherMetEighth : List Heard → List Message → Type 0
 NoOtherMetEighth heard_now messages =
-    (request : Request) → goes_beside request ≡ false → All (λ m. IsSameRequest m.request request → ⊥) messages
-    → AtLeast (IsConflictOf request) MOST_CONFLICTS heard_now → ⊥
+    (request : Request) → All (λ m. IsSameRequest m.request request → ⊥) messages → AtLeast (IsConflictOf request) MOST_CONFLICTS heard_now → ⊥
 
 -- What was sent and heard in the open call stands behind what was sent and heard before.
 pub record IsSplit (k : Known) : Type 0 where

@@ -1,7 +1,7 @@
-ghost use Rattle.std.specs.Prelude.{◌≡◌, ℕ, Bool, true, List, Option, None, Some, IfOk, OnOk};
+ghost use Rattle.std.specs.Prelude.{◌≡◌, ℕ, ◌==◌, ◌||◌, ◌&&◌, not, Bool, true, false, List, [], ◌∷◌, None, IfOk, IfSome, OnOk};
 ghost use Rattle.std.specs.Option.{option_map};
 ghost use Rattle.pc_call.specs.declared.purpose.Purpose.TheVariants as purposes;
-ghost use Rattle.pc_call.specs.Ended.{HasLanded};
+ghost use Rattle.pc_call.specs.Ended.{HasLanded, is_again, laying};
 ghost use Rattle.pc_call.specs.Giving.{MayBeGiven};
 ghost use Rattle.pc_call.specs.Learned.{known_heard, known_sent};
 ghost use Rattle.pc_call.specs.Opening.{GoesOn, after_send, laid_first, laid_with, reader_of};
@@ -11,18 +11,20 @@ ghost use Rattle.pc_proto.specs.declared.reply.Reply.{Reply};
 ghost use Rattle.pc_proto.specs.declared.reply.Reply.TheVariants as replies;
 ghost use Rattle.pc_proto.specs.declared.request.Request.{Request};
 ghost use Rattle.pc_txn.specs.Counted.{IsCounted};
+ghost use Rattle.pc_txn.specs.Opened.{landed_at};
 ghost use Rattle.pc_txn.specs.declared.txn.OpenTxn.{OpenTxn};
 ghost use Rattle.pc_wave.specs.Standing.{IsHeardTo};
 ghost use Rattle.pc_wave.specs.declared.step.Step.TheVariants as steps;
-ghost use Rattle.pc_wave.specs.Messages.{first_changed, is_to_send, sent_under, step_of, wave_awaits};
+ghost use Rattle.pc_wave.specs.Messages.{awaits_at, back_with, conflicts_at, first_changed, goes_again, message_to_send, step_of, wave_awaits};
 ghost use Rattle.pc_world.specs.Known.{Known, next_number};
 ghost use Rattle.pc_world.specs.Known.Traffic.{Heard};
 
 use crate::purpose::Purpose;
 use pc_base::{NoMemory, Timestamp};
 use pc_proto::{Reply, Request};
-use pc_txn::OpenTxn;
+use pc_txn::{InFlight, OpenTxn};
 use pc_wave::{Message, Step, Wave};
+use std::alloc::Global;
 
 /// The messages of an open call, and what they are sent for.
 #[derive(Drop)]
@@ -60,6 +62,7 @@ impl OpenCall {
     /// The message that was due went out under this number, the session's next one.
     pub fn sent(&mut self, txn: &mut OpenTxn, number: u64) -> Result<(), NoMemory>
         ensures stands { (session clock begun range : ℕ) (splits : List (List ℕ)) (k : Known) (request : Request) → IsCounted session clock begun k → InCall splits k txn.old self.old.purpose self.old.wave → step_of self.old.wave ≡ steps.Send request → number ≡ next_number k → OnOk result (InCall splits (known_sent number range request k) txn.new self.new.purpose self.new.wave) }
+        ensures awaited { (request : Request) (other : ℕ) → step_of self.old.wave ≡ steps.Send request → OnOk result (wave_awaits other self.new.wave ≡ (number == other || wave_awaits other self.old.wave)) }
     {
         self.note(txn)?;
         self.wave.sent(number);
@@ -68,21 +71,47 @@ impl OpenCall {
 
     /// This was replied to the message of this number, and the call goes on.
     pub fn heard(&mut self, number: u64, reply: Reply)
+        ensures made { self.new ≡ record self.old { wave = first_changed (awaits_at number) (back_with number reply) self.old.wave } }
         ensures stands { (session clock begun : ℕ) (splits : List (List ℕ)) (k : Known) (x : OpenTxn) (h : Heard) → IsCounted session clock begun k → InCall splits k x self.old.purpose self.old.wave → wave_awaits number self.old.wave ≡ true → IsHeardTo k number reply h → GoesOn self.old.purpose reply → InCall splits (known_heard h k) x self.new.purpose self.new.wave }
+        ensures awaited { (splits : List (List ℕ)) (k : Known) (x : OpenTxn) (other : ℕ) → InCall splits k x self.old.purpose self.old.wave → wave_awaits number self.old.wave ≡ true → wave_awaits other self.new.wave ≡ (wave_awaits other self.old.wave && not (number == other)) }
     {
         self.wave.heard(number, reply);
     }
 
-    /// Its write was heard to be written at this timestamp, and it ends; where the write was of an earlier call, its own begins.
-    pub fn written(self, txn: &mut OpenTxn, ts: Timestamp)
-        ensures stands { (session clock begun number : ℕ) (splits : List (List ℕ)) (k : Known) (again : Bool) (h : Heard) → IsCounted session clock begun k → InCall splits k txn.old self.purpose self.wave → self.purpose ≡ purposes.Write again → wave_awaits number self.wave ≡ true → IsHeardTo k number (replies.Written ts) h → HasLanded again (known_heard h k) txn.new }
+    /// Its write was heard to be written at this timestamp: its call is told so; or, where the write was of an earlier call, it goes on with the call's
+    /// own.
+    pub fn written(
+        self,
+        alloc: Global,
+        txn: &mut OpenTxn,
+        ts: Timestamp,
+    ) -> Result<Option<OpenCall>, NoMemory>
+        ensures stands { (session clock begun number : ℕ) (splits : List (List ℕ)) (k : Known) (again : Bool) (h : Heard) → IsCounted session clock begun k → InCall splits k txn.old self.purpose self.wave → self.purpose ≡ purposes.Write again → wave_awaits number self.wave ≡ true → IsHeardTo k number (replies.Written ts) h → IfOk result (HasLanded splits session (known_heard h k) txn.new) }
+        ensures landed { OnOk result (txn.new ≡ landed_at ts txn.old) }
+        ensures goes_on { IfOk result (λ next. IfSome next (λ call. (request : Request) × (call.wave ≡ message_to_send request ∷ []))) }
     {
+        let write = txn.in_flight.take();
         txn.land(ts);
+        if self.is_again() {
+            return own_write(alloc, txn, &write);
+        }
+        Ok(None)
+    }
+
+    fn is_again(&self) -> bool
+        ensures { result ≡ is_again self.now.purpose }
+    {
+        match &self.purpose {
+            Purpose::Write { again } => *again,
+            _ => false,
+        }
     }
 
     /// The round of the conflict that the message of this number met was made: the message is to be sent again.
     pub fn again(&mut self, number: u64)
+        ensures made { self.new ≡ record self.old { wave = first_changed (conflicts_at number) goes_again self.old.wave } }
         ensures stands { (splits : List (List ℕ)) (start k : Known) (x : OpenTxn) (conflict : Reply) → InCall splits start x self.old.purpose self.old.wave → step_of self.old.wave ≡ steps.Round number conflict → MakesRound start k x.id conflict → InCall splits k x self.new.purpose self.new.wave }
+        ensures awaited { (conflict : Reply) (other : ℕ) → step_of self.old.wave ≡ steps.Round number conflict → wave_awaits other self.new.wave ≡ false }
     {
         self.wave.again(number);
     }
@@ -121,5 +150,22 @@ fn lay(request: &Request, txn: &mut OpenTxn) -> Result<(), NoMemory>
     match request {
         Request::Put { key, value, .. } => txn.lay(key, value),
         _ => Ok(()),
+    }
+}
+
+/// The transaction, of which no write is in flight, makes this write, if there is one.
+fn own_write(
+    alloc: Global,
+    txn: &OpenTxn,
+    write: &Option<InFlight>,
+) -> Result<Option<OpenCall>, NoMemory>
+    ensures { IfOk result (λ next. next ≡ option_map (λ write. laying txn.now write.key write.value) write.now) }
+{
+    match write {
+        None => Ok(None),
+        Some(write) => {
+            let call = OpenCall::write(alloc, txn, &write.key, &write.value)?;
+            Ok(Some(call))
+        }
     }
 }

@@ -1,10 +1,18 @@
 //! An open call: its messages, what they are sent for, and how they stand beside what its session knows.
 #![tactic(auto)]
 
+mod aborts;
+mod blocks;
 mod call;
+mod commits;
 mod opening;
+mod over;
 mod pieces;
 mod purpose;
+mod reads;
+mod refreshes;
 
 pub use call::OpenCall;
+pub use over::{Left, Over};
 pub use purpose::Purpose;
+pub use refreshes::Refreshed;

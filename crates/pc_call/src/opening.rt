@@ -1,13 +1,14 @@
-ghost use Rattle.std.specs.Prelude.{◌≡◌, ℕ, ◌<◌, List, [], ◌∷◌, map, Option, None, Some, IfOk};
+ghost use Rattle.std.specs.Prelude.{◌≡◌, ℕ, ◌<◌, true, List, [], ◌∷◌, map, None, Some, All, IfOk};
 ghost use Rattle.pc_base.specs.Rising.{AreRising};
-ghost use Rattle.pc_call.specs.Committing.{CommitsNow, RefreshesNow};
+ghost use Rattle.pc_call.specs.Committing.{CommitsNow, CommitsOn};
+ghost use Rattle.pc_call.specs.Ended.{laying};
 ghost use Rattle.pc_call.specs.Fresh.{IsFresh};
 ghost use Rattle.pc_call.specs.Serving.{InCall, write_call};
 ghost use Rattle.pc_proto.specs.declared.call.Call.TheVariants as calls;
 ghost use Rattle.pc_proto.specs.declared.why.Why.{Why};
 ghost use Rattle.pc_txn.specs.declared.flight.InFlight.{InFlight};
-ghost use Rattle.pc_txn.specs.declared.txn.OpenTxn.{OpenTxn};
-ghost use Rattle.pc_wave.specs.Messages.{message_to_send};
+ghost use Rattle.pc_txn.specs.Opened.{own_commit};
+ghost use Rattle.pc_wave.specs.Messages.{is_to_send, message_to_send};
 ghost use Rattle.pc_world.specs.Known.{Known};
 ghost use Rattle.pc_world.specs.Known.Statements.{Statement};
 
@@ -56,6 +57,7 @@ impl OpenCall {
         key: &Key,
         value: &Option<Value>,
     ) -> Result<OpenCall, NoMemory>
+        ensures made { IfOk result (λ call. call ≡ laying txn.now key.now value.now) }
         ensures stands { (splits : List (List ℕ)) (k : Known) (s : Statement) (why : Why) → IsFresh k txn.now s why → s.call ≡ write_call key.now value.now → txn.now.in_flight ≡ None → IfOk result (λ call. InCall splits k txn.now call.purpose call.wave) }
     {
         let wave = wave_of(alloc, txn.next_put(key, value)?)?;
@@ -89,6 +91,7 @@ impl OpenCall {
         anchor: &Key,
         refusals: Refusals,
     ) -> Result<OpenCall, NoMemory>
+        ensures made { IfOk result (λ call. call.wave ≡ message_to_send (own_commit txn.now anchor.now) ∷ []) }
         ensures stands { (splits : List (List ℕ)) (k : Known) (s : Statement) (c : CommitsNow refusals k txn.now s) → c.on.commits.anchor ≡ anchor.now → IfOk result (λ call. InCall splits k txn.now call.purpose call.wave) }
     {
         let wave = wave_of(alloc, txn.commit(anchor)?)?;
@@ -100,7 +103,8 @@ impl OpenCall {
 
     /// What the open transaction read is refreshed first, from where it reads to where it writes.
     pub fn refresh(alloc: Global, txn: &OpenTxn, refusals: Refusals) -> Result<OpenCall, NoMemory>
-        ensures stands { (splits : List (List ℕ)) (k : Known) (s : Statement) → RefreshesNow refusals k txn.now s → txn.now.reads.ts < txn.now.write_ts → IfOk result (λ call. InCall splits k txn.now call.purpose call.wave) }
+        ensures unsent { IfOk result (λ call. All (λ m. is_to_send m ≡ true) call.wave) }
+        ensures stands { (splits : List (List ℕ)) (k : Known) → CommitsOn refusals k txn.now → txn.now.reads.ts < txn.now.write_ts → IfOk result (λ call. InCall splits k txn.now call.purpose call.wave) }
     {
         let requests = txn.reads.refreshes(alloc, txn.id, txn.write_ts)?;
         let wave = wave_of_all(alloc, requests)?;

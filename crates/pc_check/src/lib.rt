@@ -3,12 +3,14 @@
 
 mod actors;
 mod causes;
+mod client;
 mod first;
 mod judge;
 mod rule;
 
 pub use actors::has_actor;
 pub use causes::{is_caused, named};
+pub use client::Client;
 pub use first::first_broken;
 pub use judge::Judge;
 pub use rule::{Rule, rule_of};

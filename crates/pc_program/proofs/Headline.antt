@@ -13,26 +13,32 @@ use Rattle.pc_report.specs.ReportOf.{IsRunOver, report_of}
 use Rattle.pc_runner.specs.Follows.{Follows}
 use Rattle.pc_serial.proofs.AloneRunsPlainly.{one_session_runs_plainly}
 use Rattle.pc_serial.proofs.Legal.{is-legal, is-ordered}
+use Rattle.pc_serial.specs.Plain.{RunsPlainly}
 use Rattle.pc_spelling.proofs.TellsBare.{runs_tell_bare}
 use Rattle.pc_work.specs.Built.{IsBuilt}
 use Rattle.pc_work.specs.declared.workload.Workload.{Workload}
 use Rattle.pc_world.specs.Local.{Head}
 use Rattle.pc_world.specs.Run.{IsRun}
 use Rattle.pc_program.proofs.OneAlone.{is_alone}
+use Rattle.pc_program.proofs.PlainReport.{reports_plainly}
+use Rattle.pc_program.specs.OfOne.{IsOfOne}
 use Rattle.pc_program.specs.Output.{IsOutput, IsRunOf, head_in, output_text}
 
 -- A run of the workload.
 pub is_run_of : (work : Workload) (rules : ActorId → ℕ → ℕ → Bool) (entries : List (Entry Event)) → IsRun (head_in work) entries → Follows work rules (head_in work) entries
     → IsRunOf work rules entries
-is_run_of work rules entries run follows = record {
-  run = run;
-  follows = follows;
-  decisions = decisions_do_not_differ (head_in work) entries run;
-  outcomes = outcomes_are_true (head_in work) entries run;
-  ordered = is-ordered (head_in work) entries run;
-  legal = is-legal (head_in work) entries run;
-  plain = λ of. one_session_runs_plainly (head_in work) entries run (is_alone work rules (head_in work) entries run follows of);
-}
+is_run_of work rules entries run follows =
+    let plain : IsOfOne work → RunsPlainly (head_in work) entries = λ of. one_session_runs_plainly (head_in work) entries run (is_alone work rules (head_in work) entries run follows of) in
+    record {
+      run = run;
+      follows = follows;
+      decisions = decisions_do_not_differ (head_in work) entries run;
+      outcomes = outcomes_are_true (head_in work) entries run;
+      ordered = is-ordered (head_in work) entries run;
+      legal = is-legal (head_in work) entries run;
+      plain = plain;
+      reported = λ of. reports_plainly (head_in work) entries (plain of).in_turn;
+    }
 
 -- A workload of the built form has few splits.
 pub few_over : (work : Workload) → IsBuilt work → length work.splits + 1 < 2 ^ 32

@@ -2,3 +2,4 @@ pub mod OneWord
 pub mod Ends
 pub mod Headline
 pub mod OneAlone
+pub mod PlainReport

@@ -28,15 +28,18 @@ use Rattle.pc_proto.specs.declared.call.Call.{Call}
 use Rattle.pc_proto.specs.declared.event.Event.{Event}
 use Rattle.pc_proto.specs.declared.event.Event.TheVariants as events
 use Rattle.pc_proto.specs.declared.request.Request.{Request}
+use Rattle.pc_proto.specs.declared.request.Request.TheVariants as requests
 use Rattle.pc_runner.specs.Follows.{EachAfter, Follows, FollowsAlone, KeepsWork}
 use Rattle.pc_runner.specs.Follows.Script.{next_call}
 use Rattle.pc_runner.specs.Follows.Turns.{AreTurns, CallsNext, CallsNextOf, FinishesNext, HasHeardAll, IsCall, IsJob, IsOpened, IsOver, IsTurn, IsWithin, Opens, RunOut, RunsUntil, deeds, jobs_in, own_turn, position_in}
 use Rattle.pc_runner.specs.Follows.Turns.RunsUntil.{Over, Onward}
 use Rattle.pc_runner.specs.Follows.Wire.{HearsAll, MayStayUnheard, evaluates_message, evaluations}
-use Rattle.pc_serial.proofs.AloneStanding.{contains_split, now_heard, sent-there}
+use Rattle.pc_serial.proofs.AloneStanding.{contains_split, heard_evaluated, now_heard, sent-there}
 use Rattle.pc_program.specs.OfOne.{IsOfOne}
-use Rattle.pc_serial.specs.Alone.{AsksWhenDone, EvaluatesOnce, IsAlone, jobs_at, the_session}
-use Rattle.pc_serial.specs.Laws.{IsQuiet, IsTalk}
+use Rattle.pc_serial.specs.Alone.{IsAlone, jobs_at}
+use Rattle.pc_serial.specs.Laws.{IsTalk}
+use Rattle.pc_serial.specs.QuietWire.{EvaluatesOnce, IsEvaluated, the_session}
+use Rattle.pc_serial.specs.Tidy.{AsksWhenDone, HasHeardBefore, PutsForOpenTxn, SendsForCallOrRecord, SendsJobs}
 use Rattle.pc_work.specs.declared.session.SessionWork.{SessionWork}
 use Rattle.pc_work.specs.declared.workload.Workload.{Workload}
 use Rattle.pc_world.proofs.Knowing.{known_other, known_same}
@@ -44,7 +47,8 @@ use Rattle.pc_world.proofs.Prefixes.{run_front, run_may}
 use Rattle.pc_world.proofs.World.{names_one}
 use Rattle.pc_world.specs.After.{known_at}
 use Rattle.pc_world.specs.Caused.{Evaluates}
-use Rattle.pc_world.specs.Follows.FinishingJobs.{jobs_of}
+use Rattle.pc_world.specs.Follows.CallMessages.{SendsForCall}
+use Rattle.pc_world.specs.Follows.FinishingJobs.{DoesJobs, jobs_of}
 use Rattle.pc_world.specs.Known.{Known, known_after, known_of, learn}
 use Rattle.pc_world.specs.Known.Clock.{high_after, top_after}
 use Rattle.pc_world.specs.Known.Traffic.{Heard, Sent, heard_by, request_sent, sent_by}
@@ -347,6 +351,19 @@ first-of [] is = absurd cc
 first-of (x ∷ []) is = (x, refl)
 first-of (x ∷ y ∷ ys) is = absurd (let none : ⊥ = omega (arith, is) in none)
 
+-- what Follows asks of an event is what is asked of one session alone
+calls-as : (k : Known) (event : Event) → SendsForCall k event → SendsForCallOrRecord k event
+calls-as k (events.Send number range request) is = inl is
+calls-as k event is = tt
+
+jobs-as : (k : Known) (jobs : List (List Request)) (event : Event) → DoesJobs k jobs event → SendsJobs k jobs event
+jobs-as k jobs (events.Send number range request) is = λ none. (is none).next
+jobs-as k jobs event is = tt
+
+puts-as : (k : Known) (event : Event) → HasHeardBefore k → PutsForOpenTxn k event
+puts-as k (events.Send number range (requests.Put meta seq ts key value)) heard = inr heard
+puts-as k event heard = tt
+
 asks-when : (jobs : List (List Request)) (event : Event) → ((call : Call) (reading : ℕ) → event ≡ events.Ask call reading → jobs ≡ []) → AsksWhenDone jobs event
 asks-when jobs (events.Ask call reading) none = none call reading refl
 asks-when jobs event none = tt
@@ -415,15 +432,9 @@ module _ (work : Workload) (rules : ActorId → ℕ → ℕ → Bool) (head : He
   may-at : (before : List (Entry Event)) (e : Entry Event) (later : List (Entry Event)) → history ≡ before ++ e ∷ later → MayFollow (protocol head) before e
   may-at before e later split = run_may head before e later (subst (IsRun head) split run)
 
-  quiet : IsQuiet head history
-  quiet before e later split talks = elim (doer e.actor (may-at before e later split).local.there) [
-    | inl me ↦
-        let g = good before e later split me in
-        subst (λ a. HasHeardAll (known_at head a before)) (sym me) (by e.event g.asks g.tells talks)
-    | inr at ↦
-        let what = range_evaluates head before e at.0 (may-at before e later split) at.1 in
-        absurd (subst IsTalk what.3 talks)
-  ]
+  -- where it asks or tells, it has heard all
+  talks-heard : (before : List (Entry Event)) (e : Entry Event) (later : List (Entry Event)) → history ≡ before ++ e ∷ later → e.actor ≡ the_session → IsTalk e.event → HasHeardAll (known_at head the_session before)
+  talks-heard before e later split me talks = let g = good before e later split me in by e.event g.asks g.tells talks
     where
       by : (event : Event) → ((call : Call) (reading : ℕ) → event ≡ events.Ask call reading → (jobs_at head before ≡ []) × HasHeardAll (known_at head the_session before))
           → ((answer : Answer) → event ≡ events.Tell answer → HasHeardAll (known_at head the_session before)) → IsTalk event → HasHeardAll (known_at head the_session before)
@@ -481,20 +492,36 @@ module _ (work : Workload) (rules : ActorId → ℕ → ℕ → Bool) (head : He
       let same : count_by p history ≡ count_by p (before ++ e ∷ (between ++ other ∷ later)) = ap (count_by p) split in
       let nothing : ⊥ = omega (arith, total, same, a, b, c, d, one_e, one_other) in nothing
 
+  -- what it sent before the open call it has heard
+  heard-before : (before : List (Entry Event)) (e : Entry Event) (later : List (Entry Event)) → history ≡ before ++ e ∷ later → HasHeardBefore (known_at head the_session before)
+  heard-before before e later split =
+      awaits-along head [] before
+      (λ front back x inside me call reading is.
+          ((good front x (back ++ e ∷ later) (split ∙ ap (λ l. l ++ e ∷ later) inside ∙ append_assoc front (x ∷ back) (e ∷ later)) me).asks call reading is).1)
+      (λ m there. absurd (contains_nil m there))
+
   -- that session is alone
   alone-so : IsAlone head history
   alone-so = record {
     one = one;
     unaided = follows.recoverers;
-    quiet = quiet;
-    once = once;
+    wire = record {
+      once = once;
+      in_time = λ before e later split me talks ends.
+          all_from_contains (λ m. IsEvaluated m.number before) (known_at head the_session before).sent (λ m there.
+          heard_evaluated head before (run_front head before (e ∷ later) (subst (IsRun head) split run)) m
+          (All-contains (λ m. IsTrue (is_heard (known_at head the_session before).heard m)) (known_at head the_session before).sent m (talks-heard before e later split me talks) there));
+      none_lost = λ before e later answer split me tells says. talks-heard before e later split me (subst IsTalk (sym tells) tt);
+    };
     tidy = λ before e later split me.
         let k = keeps before e later split me in
         record {
-          finishes = k.finishes;
-          asks = asks-when (jobs_at head before) e.event (λ call reading is. ((good before e later split me).asks call reading is).0);
+          calls = calls-as (known_at head the_session before) e.event k.calls;
+          puts = puts-as (known_at head the_session before) e.event (heard-before before e later split);
+          early = k.early_tell;
           aborts = k.aborts;
-          calls = k.calls;
+          finishes = jobs-as (known_at head the_session before) (jobs_at head before) e.event k.finishes;
+          asks = asks-when (jobs_at head before) e.event (λ call reading is. ((good before e later split me).asks call reading is).0);
         };
   }
 

@@ -2,3 +2,4 @@ pub mod Status
 pub mod Output
 pub mod Causes
 pub mod OfOne
+pub mod PlainReport

@@ -19,6 +19,7 @@ use Rattle.pc_world.specs.Legal.{IsLegal}
 use Rattle.pc_world.specs.Local.{Head}
 use Rattle.pc_world.specs.Run.{IsRun}
 use Rattle.pc_program.specs.OfOne.{IsOfOne}
+use Rattle.pc_program.specs.PlainReport.{ReportsPlainly}
 
 -- The journal of a history under the head of this workload, and below it a report.
 abbrev pub output_text : Workload → List (Entry Event) → Report → List ℕ
@@ -31,7 +32,7 @@ head_in work = head_of work.splits (length work.sessions)
 -- The history is the run that the workload asks for, where these are the rules of the clocks that were handed in: a run of the protocol
 -- that follows the workload. In it no two decisions differ, what is aborted or told to be over commits nowhere, each committed transaction
 -- stands in the commit order once, and in that order they are one legal history of a map. One session without turns and pipelining is told plain
--- answers alone, and the plain map runs what it committed.
+-- answers alone, the plain map runs what it committed, and the report is what the plain map holds after that.
 pub record IsRunOf (work : Workload) (rules : ActorId → ℕ → ℕ → Bool) (entries : List (Entry Event)) : Type 0 where
   pub run : IsRun (head_in work) entries
   pub follows : Follows work rules (head_in work) entries
@@ -40,6 +41,7 @@ pub record IsRunOf (work : Workload) (rules : ActorId → ℕ → ℕ → Bool) 
   pub ordered : OrdersCommits (head_in work) entries
   pub legal : IsLegal (head_in work) entries
   pub plain : IsOfOne work → RunsPlainly (head_in work) entries
+  pub reported : IsOfOne work → ReportsPlainly (head_in work) entries
 
 -- The text is the journal and the report of one such history. Its head and the history have a spelling, so that it is the journal of no other.
 pub record IsOutput (work : Workload) (rules : ActorId → ℕ → ℕ → Bool) (text : List ℕ) : Type 0 where

@@ -5,6 +5,7 @@ use Rattle.std.proofs.lemmas.Cmp.{nat_list_cmp_total, tied_itself}
 use Rattle.std.proofs.lemmas.List.Elements.{All-append, All-contains, All-cons, All-head, All-nil, All-tail, All-weaker, Contains-append_left, Contains-push}
 use Rattle.std.proofs.lemmas.Map.Views.{All-insert_key}
 use Rattle.std.specs.BTreeSet.{insert_key}
+use Rattle.std.specs.List.Sorted.{IsStrictlySortedBy}
 use Rattle.std.specs.Ordering.{is_le}
 use Rattle.std.specs.Prelude.{All, Any}
 use Rattle.pc_base.specs.declared.span.Span.{Span}
@@ -14,6 +15,7 @@ use Rattle.pc_base.specs.Span.{key_at_most}
 use Rattle.pc_base.specs.SpanOrder.{span_cmp}
 use Rattle.pc_lists.proofs.Lists.{all_from_contains}
 use Rattle.pc_lists.proofs.Same.{same_key-self}
+use Rattle.pc_reads.proofs.Ordered.{inserted_sorted, none_sorted, span_total}
 use Rattle.pc_reads.specs.declared.reads.TxnReads.{TxnReads}
 use Rattle.pc_reads.specs.ReadsStanding.{IsCommitting, MayRefresh, TxnReadsStand, refresh_to}
 use Rattle.pc_world.specs.Known.{Known}
@@ -52,7 +54,7 @@ module _ (id : TxnId) (heard more : List Heard) where
 
   -- it stands so after whatever else is heard
   pub stand_on : (reads : List Read) (x : TxnReads) → TxnReadsStand id heard reads x → TxnReadsStand id (heard ++ more) reads x
-  stand_on reads x s = record { kept = s.kept; of_reads = s.of_reads; good = All-weaker (IsGoodAt id heard x.ts) (IsGoodAt id (heard ++ more) x.ts) (good-at-more x.ts) reads s.good }
+  stand_on reads x s = record { kept = s.kept; of_reads = s.of_reads; good = All-weaker (IsGoodAt id heard x.ts) (IsGoodAt id (heard ++ more) x.ts) (good-at-more x.ts) reads s.good; ordered = s.ordered }
 
 -- a read that is good, and whose span was refreshed, is good there
 refreshed-good : (id : TxnId) (heard : List Heard) (from to : ℕ) (r : Read) → from ≤ to → IsGoodAt id heard from r → WasRefreshed id heard r.span from to → IsGoodAt id heard to r
@@ -74,6 +76,7 @@ module _ (id : TxnId) (heard : List Heard) (reads : List Read) (spans : List Spa
         all_from_contains (IsGoodAt id heard to) reads (λ r there.
         let listed : Contains spans r.span = All-contains (λ r. Contains spans r.span) reads r s.kept there in
         refreshed-good id heard ts to r rises (All-contains (IsGoodAt id heard ts) reads r s.good there) (All-contains (λ span. WasRefreshed id heard span ts to) spans r.span each listed));
+    ordered = s.ordered;
   }
 
 -- what is so of some element is so of some element of a longer list
@@ -99,6 +102,7 @@ read_stands id heard reads spans ts span now is has keeps s =
           (All-cons (λ r. Contains now r.span) r [] has (All-nil (λ r. Contains now r.span)));
       of_reads = subst (All P) (sym is) (All-insert_key span_cmp span P spans old new);
       good = All-append (IsGoodAt id heard ts) reads (r ∷ []) s.good (All-cons (IsGoodAt id heard ts) r [] (record { not_below = omega arith; up_to = (ts, AtOnce, omega arith) }) (All-nil (IsGoodAt id heard ts)));
+      ordered = subst (IsStrictlySortedBy span_cmp) (sym is) (inserted_sorted span_total spans span s.ordered);
     }
 
 -- where it is added, it stands among the spans
@@ -135,3 +139,12 @@ may_refresh k t id spans ts to s c = mapped spans s.of_reads
     mapped (x ∷ xs) each =
         All-cons (MayRefresh k) (refresh_to id ts to x) (map (refresh_to id ts to) xs) (may x (All-head (λ span. Any (λ r. r.span ≡ span) t.reads) x xs each))
         (mapped xs (All-tail (λ span. Any (λ r. r.span ≡ span) t.reads) x xs each))
+
+-- what was read is nothing, and stands so
+pub none_read : (id : TxnId) (heard : List Heard) (ts : ℕ) → TxnReadsStand id heard [] (record { spans = []; ts = ts })
+none_read id heard ts = record {
+  kept = All-nil (λ (r : Read). Contains [] r.span);
+  of_reads = All-nil (λ span. Any (λ (r : Read). r.span ≡ span) []);
+  good = All-nil (IsGoodAt id heard ts);
+  ordered = none_sorted;
+}

@@ -1,6 +1,8 @@
 -- How what a transaction read stands beside what its session knows, and when its refreshes may be sent. SIGMOD 2020 paper, section 3.4.
 use Rattle.std.specs.Prelude.{◌≡◌, ℕ, ◌<◌, ◌≤◌, Some, List, ◌++◌, All, Any, Contains}
+use Rattle.std.specs.List.Sorted.{IsStrictlySortedBy}
 use Rattle.pc_base.specs.declared.span.Span.{Span}
+use Rattle.pc_base.specs.SpanOrder.{span_cmp}
 use Rattle.pc_base.specs.declared.transaction.TxnId.{TxnId}
 use Rattle.pc_proto.specs.declared.call.Call.TheVariants as calls
 use Rattle.pc_proto.specs.declared.request.Request.{Request}
@@ -12,11 +14,12 @@ use Rattle.pc_world.specs.Known.Traffic.{Heard}
 use Rattle.pc_world.specs.Known.Transactions.{IsGood, Txn}
 use Rattle.pc_world.specs.Send.Refresh.{MaySendRefresh}
 
--- The spans are those of the reads, and each read is good at the timestamp at which the transaction reads.
+-- The spans are those of the reads, in order and each once, and each read is good at the timestamp at which the transaction reads.
 pub record TxnReadsStand (id : TxnId) (heard : List Heard) (reads : List Read) (x : TxnReads) : Type 0 where
   pub kept : All (λ r. Contains x.spans r.span) reads
   pub of_reads : All (λ span. Any (λ r. r.span ≡ span) reads) x.spans
   pub good : All (IsGoodAt id heard x.ts) reads
+  pub ordered : IsStrictlySortedBy span_cmp x.spans
 
 -- The refresh of a span.
 abbrev pub refresh_to : TxnId → ℕ → ℕ → Span → Request

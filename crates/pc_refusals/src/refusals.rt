@@ -45,6 +45,13 @@ impl Refusals {
         self.count = with_move(self.count, ts, recorded);
     }
 
+    /// The same count.
+    pub fn copied(&self) -> Refusals
+        ensures { result ≡ self.now }
+    {
+        Refusals { count: self.count }
+    }
+
     /// Whether it was moved as often as it may be.
     pub fn are_used_up(&self) -> bool
         ensures exactly { (k : Known) → CountsMoves k self.now → IsTrue result ↔ WasMovedEighth k }

@@ -1,4 +1,5 @@
 pub mod Report
+pub mod Spelled
 pub mod ReportOf
 pub mod Replaying
 pub mod Ordering

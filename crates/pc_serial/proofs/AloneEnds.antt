@@ -20,8 +20,9 @@ use Rattle.pc_proto.specs.declared.event.Event.{Event}
 use Rattle.pc_proto.specs.declared.event.Event.TheVariants as events
 use Rattle.pc_serial.proofs.AlonePlain.{tells_plainly}
 use Rattle.pc_serial.proofs.AloneRun.{acts, stands_at, who}
-use Rattle.pc_serial.specs.Alone.{IsAlone, the_session}
+use Rattle.pc_serial.specs.Alone.{IsAlone}
 use Rattle.pc_serial.specs.Plain.{IsOpenInCommit, IsPlainAnswer, IsPlainTo}
+use Rattle.pc_serial.specs.QuietWire.{the_session}
 use Rattle.pc_world.proofs.Knowing.{known_other, known_same}
 use Rattle.pc_world.proofs.Prefixes.{run_may}
 use Rattle.pc_world.specs.After.{known_at}
@@ -29,8 +30,8 @@ use Rattle.pc_world.specs.Committed.{IsCommitted}
 use Rattle.pc_world.specs.Decisions.{TellsCommit}
 use Rattle.pc_world.specs.Known.{Known, call_in, call_of, first_if, known_after, open_txn}
 use Rattle.pc_world.specs.Known.Clock.{high_after, top_after}
-use Rattle.pc_world.specs.Known.Traffic.{Heard, heard_by}
 use Rattle.pc_world.specs.Known.Statements.{Statement}
+use Rattle.pc_world.specs.Known.Traffic.{Heard, heard_by}
 use Rattle.pc_world.specs.Known.Transactions.{Txn, txn_heard, txn_sent}
 use Rattle.pc_world.specs.Local.{Head, MayDo}
 use Rattle.pc_world.specs.MayTell.{MayTell, is_past_range, needs_txn}
@@ -87,7 +88,7 @@ module _ (head : Head) (whole : List (Entry Event)) (run : IsRun head whole) (al
         let opens : k.is_open ≡ true = (open_is k.is_open k.txns c.t c.opened).0 in
         let told = commit-answered k p.s answer commits opens p.plain in
         let row = told_by_row head the_session k (answers.Committed told.0 told.1) (subst (MayTell head.splits the_session k) told.2 may) (λ h. cc h) (λ h. cc h) in
-        let one : row.t ≡ c.t = let both = sym row.opened ∙ c.opened in cc both in
+        let one : row.t ≡ c.t = let both = sym {b = Some row.t} row.opened ∙ c.opened in cc both in
         let named : told.0 ≡ id = row.whose ∙ ap (λ (y : Txn). y.id) one ∙ c.whose in
         inl (told.1, any_last (λ (x : Entry Event). TellsCommit id told.1 x.event) history e (subst (TellsCommit id told.1) (sym (is ∙ ap events.Tell told.2)) (named, refl)))
 

@@ -8,9 +8,9 @@ use Rattle.std.specs.Option.{option_map, option_map_or}
 use Rattle.std.specs.Ordering.{nat_cmp}
 use Rattle.std.specs.Prelude.{⊤}
 use Rattle.pc_base.specs.Bound.{ReadBound, free_from, raised}
-use Rattle.pc_base.specs.Keyed.{at}
 use Rattle.pc_base.specs.declared.transaction.TxnId.{TxnId}
 use Rattle.pc_base.specs.declared.version.Version.{Version}
+use Rattle.pc_base.specs.Keyed.{at}
 use Rattle.pc_base.specs.Span.{same_key}
 use Rattle.pc_base.specs.Versions.{above_newest}
 use Rattle.pc_implicit.proofs.OwnKeys.{laid_time, own_is}
@@ -25,8 +25,8 @@ use Rattle.pc_proto.specs.declared.record.Intent.{Intent}
 use Rattle.pc_proto.specs.declared.request.Request.{Request}
 use Rattle.pc_proto.specs.declared.request.Request.TheVariants as requests
 use Rattle.pc_proto.specs.Intents.{first_other, other_at, own_at}
-use Rattle.pc_serial.proofs.AloneIntents.{own_of_one}
 use Rattle.pc_proto.specs.Stamps.{fate_stamps, reply_stamps, request_stamps}
+use Rattle.pc_serial.proofs.AloneIntents.{own_of_one}
 use Rattle.pc_world.proofs.Stamps.Reads.{get-bound, get-within, scan-bound, scan-within}
 use Rattle.pc_world.proofs.Stamps.Rows.{record-reply, table-within}
 use Rattle.pc_world.proofs.Stamps.Searches.{above-newest-within, other-within, own-within}
@@ -39,21 +39,28 @@ use Rattle.pc_world.specs.Evaluation.Put.{PutOutcome, Meets, Stands, Lands, firs
 use Rattle.pc_world.specs.Evaluation.Resolve.{change_for}
 use Rattle.pc_world.specs.RangeState.{RangeState}
 
--- The range is at or below the timestamp, and leaves it to the transaction; each version there is the transaction's own or lower.
-pub record IsLow (n : ℕ) (last : TxnId) (s : RangeState) : Type 0 where
+-- The range is at or below the timestamp, and leaves it to the transaction; each version there is lower, or the transaction's own, which is over
+-- then.
+pub record IsLow (n : ℕ) (last : TxnId) (Over : Type 0) (s : RangeState) : Type 0 where
   pub within : StateWithin n s
   pub free : free_from last s.bound ≤ n
-  pub versions : (v : Version) → Contains s.versions v → (v.ts < n) ⊎ (v.id ≡ last)
+  pub versions : (v : Version) → Contains s.versions v → (v.ts < n) ⊎ ((v.id ≡ last) × Over)
+
+-- A fate of the transaction that commits is that of one that is over.
+abbrev pub SettlesOver : TxnId → Type 0 → TxnId → Fate → Type 0
+SettlesOver last Over id (fates.Committed epoch ts) = id ≡ last → Over
+SettlesOver last Over id fate = ⊤
 
 -- The request is one that a session alone sends: its timestamps are as low, and it reads at just this one.
-abbrev pub IsLowRequest : ℕ → TxnId → RangeState → Request → Type 0
-IsLowRequest n last s (requests.Get id epoch seq ts key) = (id ≡ last) × (ts ≡ n)
-IsLowRequest n last s (requests.Scan id epoch seq ts span) = (id ≡ last) × (ts ≡ n)
-IsLowRequest n last s (requests.Put meta seq ts key value) =
+abbrev pub IsLowRequest : ℕ → TxnId → Type 0 → RangeState → Request → Type 0
+IsLowRequest n last Over s (requests.Get id epoch seq ts key) = (id ≡ last) × (ts ≡ n)
+IsLowRequest n last Over s (requests.Scan id epoch seq ts span) = (id ≡ last) × (ts ≡ n)
+IsLowRequest n last Over s (requests.Put meta seq ts key value) =
     (meta.id ≡ last) × (ts ≤ n) × ((v : Version) → Contains s.versions v → v.ts < n)
-IsLowRequest n last s (requests.Refresh id from to span) = ⊥
-IsLowRequest n last s (requests.Query id epoch seq ts key by) = ⊥
-IsLowRequest n last s request = AtMost n (request_stamps request)
+IsLowRequest n last Over s (requests.Refresh id from to span) = ⊥
+IsLowRequest n last Over s (requests.Query id epoch seq ts key by) = ⊥
+IsLowRequest n last Over s (requests.Resolve id key fate) = AtMost n (fate_stamps fate) × SettlesOver last Over id fate
+IsLowRequest n last Over s request = AtMost n (request_stamps request)
 
 -- a read by the transaction at the timestamp leaves it to the transaction
 raised-own : (last : TxnId) (n : ℕ) (b : ReadBound) → free_from last b ≤ n → free_from last (raised n (Some last) b) ≤ n
@@ -123,7 +130,7 @@ module _ (n : ℕ) where
       let above = above-newest-within (n - 1) key (v ∷ vs) each in
       omega (arith, above, first)
 
-  module _ (last : TxnId) (s : RangeState) (low : IsLow n last s) where
+  module _ (last : TxnId) (Over : Type 0) (s : RangeState) (low : IsLow n last Over s) where
     outcome-low : (meta : TxnMeta) (seq ts : ℕ) (key : List ℕ) (value : Option (List ℕ)) → meta.id ≡ last → ts ≤ n → ((v : Version) → Contains s.versions v → v.ts < n) → OutcomeLow (outcome_of_put meta seq ts key value s)
     outcome-low meta seq ts key value whose at below =
         let own = own_at meta.id key s.intents in
@@ -137,10 +144,13 @@ module _ (n : ℕ) where
         (either-low (overtaken meta seq own) (option_map_or (λ i. i.ts) own 0) (laid meta seq (write_ts meta ts key own s) value own) stood lands)
 
     -- what is so of the versions stays so where the request has no commit of another's intent
-    versions-low : (request : Request) → Each (λ e. e.1.meta.id ≡ last) s.intents → (v : Version) → Contains (versions_after request s) v → (v.ts < n) ⊎ (v.id ≡ last)
-    versions-low request a v there = elim (version_cases request s v there) [
+    versions-low : (request : Request) → IsLowRequest n last Over s request → Each (λ e. e.1.meta.id ≡ last) s.intents → (v : Version) → Contains (versions_after request s) v → (v.ts < n) ⊎ ((v.id ≡ last) × Over)
+    versions-low request h a v there = elim (version_cases request s v there) [
       | inl old ↦ low.versions v old
-      | inr made ↦ inr (by made.i (own-of v.id v.key made.i made.own) (own-is v.id v.key made.i made.own))
+      | inr made ↦
+          let mine : v.id ≡ last = by made.i (own-of v.id v.key made.i made.own) (own-is v.id v.key made.i made.own) in
+          let settles : IsLowRequest n last Over s (requests.Resolve v.id v.key (fates.Committed made.epoch v.ts)) = subst (IsLowRequest n last Over s) made.asks h in
+          inr (mine, settles.1 mine)
     ]
       where
         own-of : (id : TxnId) (key : List ℕ) (i : Intent) → own_at id key s.intents ≡ Some i → i.meta.id ≡ last
@@ -153,7 +163,7 @@ module _ (n : ℕ) where
         by i one two = sym two ∙ one
 
     -- over each request of the session
-    pub low_after : (request : Request) → IsLowRequest n last s request → Each (λ e. e.1.meta.id ≡ last) s.intents → IsLow n last (state_after request s)
+    pub low_after : (request : Request) → IsLowRequest n last Over s request → Each (λ e. e.1.meta.id ≡ last) s.intents → IsLow n last Over (state_after request s)
     low_after (requests.Get id epoch seq ts key) h a = record {
       within = record {
         bound = get-bound n id ts key s (omega (arith, h.1)) low.within;
@@ -194,12 +204,12 @@ module _ (n : ℕ) where
     low_after (requests.Resolve id key fate) h a = record {
       within = record {
         bound = low.within.bound;
-        versions = resolve-versions n id key fate s h low.within;
-        intents = changed key (change_for fate (own_at id key s.intents)) s.intents (resolved-low fate (own_at id key s.intents) h (own-within n id key s.intents low.within.intents)) low.within.intents;
+        versions = resolve-versions n id key fate s h.0 low.within;
+        intents = changed key (change_for fate (own_at id key s.intents)) s.intents (resolved-low fate (own_at id key s.intents) h.0 (own-within n id key s.intents low.within.intents)) low.within.intents;
         table = low.within.table;
       };
       free = low.free;
-      versions = versions-low (requests.Resolve id key fate) a;
+      versions = versions-low (requests.Resolve id key fate) h a;
     }
     low_after request h a = record {
       within = record {
@@ -213,7 +223,7 @@ module _ (n : ℕ) where
     }
 
     -- and so is each reply
-    pub low_reply : (request : Request) → IsLowRequest n last s request → AtMost n (reply_stamps (reply request s))
+    pub low_reply : (request : Request) → IsLowRequest n last Over s request → AtMost n (reply_stamps (reply request s))
     low_reply (requests.Get id epoch seq ts key) h = get-within n id epoch seq ts key s low.within
     low_reply (requests.Scan id epoch seq ts span) h = scan-within n id epoch seq ts span s low.within
     low_reply (requests.Put meta seq ts key value) h = put-reply-low key (outcome_of_put meta seq ts key value s) (outcome-low meta seq ts key value h.0 h.1 h.2)

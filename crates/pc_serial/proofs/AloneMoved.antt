@@ -4,23 +4,29 @@ use Rattle.std.proofs.lemmas.Bool.{and_parts, eqb-true, ltb-true}
 use Rattle.std.proofs.lemmas.List.Elements.{Contains-append_left, Contains-push, Contains-push_cases}
 use Rattle.std.proofs.lemmas.List.Folds.{Any-from_list_any}
 use Rattle.std.specs.List.{AllByRecursion as Each, list_all}
+use Rattle.std.specs.Option.{option_or}
 use Rattle.std.specs.Prelude.{⊤}
 use Rattle.pc_base.specs.declared.actor.ActorId.{ActorId}
+use Rattle.pc_base.specs.declared.actor.ActorId.TheVariants as actors
 use Rattle.pc_base.specs.declared.entry.Entry.{Entry}
 use Rattle.pc_base.specs.declared.transaction.TxnId.{TxnId}
 use Rattle.pc_history.specs.History.{MayFollow}
 use Rattle.pc_history.specs.Own.{named_in}
-use Rattle.pc_implicit.proofs.Agreed.{Agrees, agreed}
+use Rattle.pc_implicit.proofs.Agreed.{Agrees, agreed, begun_at, begun_told_in, open_there}
 use Rattle.pc_implicit.proofs.Commits.{decided_is_committed, heard_decided}
 use Rattle.pc_implicit.proofs.CommitsStay.{committed_push}
 use Rattle.pc_implicit.proofs.Deciders.{told-there}
+use Rattle.pc_implicit.proofs.Did.{session_at}
 use Rattle.pc_implicit.proofs.Doing.{same_or_not}
 use Rattle.pc_implicit.proofs.EvaluatedAt.{one_sent}
+use Rattle.pc_implicit.proofs.Firsts.{first_push}
+use Rattle.pc_implicit.proofs.FirstStages.{first_staged}
 use Rattle.pc_implicit.proofs.Hearing.{now_is_so, sent_is_so}
 use Rattle.pc_implicit.proofs.Metas.{subject_anchored}
 use Rattle.pc_implicit.proofs.OneDecision.{told_committed}
 use Rattle.pc_implicit.proofs.Shown.{WasAnswered}
 use Rattle.pc_implicit.specs.Decided.{StaysTrue, time_of}
+use Rattle.pc_implicit.specs.Stages.{WasStaged}
 use Rattle.pc_lists.proofs.Each.{each-append, each-contains, each-weaker}
 use Rattle.pc_lists.proofs.Lists.{contains_nil}
 use Rattle.pc_proto.specs.declared.call.Call.{Call}
@@ -43,9 +49,11 @@ use Rattle.pc_serial.proofs.AloneTimes.{level, level_map, status-low}
 use Rattle.pc_serial.proofs.AloneTimesOver.{RepliesLow, open-first}
 use Rattle.pc_serial.proofs.AloneTimesRun.{low_at}
 use Rattle.pc_serial.proofs.AloneTold.{last-is}
-use Rattle.pc_serial.specs.Alone.{IsAlone, IsTidy, jobs_at, the_session}
+use Rattle.pc_serial.specs.Alone.{IsAlone, jobs_at}
+use Rattle.pc_serial.specs.QuietWire.{the_session}
+use Rattle.pc_serial.specs.Tidy.{IsOfOpenTxn, IsTidy}
 use Rattle.pc_world.proofs.Knowing.{known_other, known_same}
-use Rattle.pc_world.proofs.Prefixes.{run_induction}
+use Rattle.pc_world.proofs.Prefixes.{run_front, run_induction}
 use Rattle.pc_world.specs.After.{known_at, place_at}
 use Rattle.pc_world.specs.Committed.{IsCommitted, commit_at, commit_by, commit_in, is_present}
 use Rattle.pc_world.specs.Follows.CallMessages.{IsFor}
@@ -58,6 +66,7 @@ use Rattle.pc_world.specs.Local.{Head, MayDo}
 use Rattle.pc_world.specs.MaySend.{MaySend}
 use Rattle.pc_world.specs.RangeOf.{range_of}
 use Rattle.pc_world.specs.Run.{IsRun, protocol}
+use Rattle.pc_world.specs.StageFate.{SentStage}
 use Rattle.pc_world.specs.Tell.Data.{was_sent_now}
 use Rattle.pc_world.specs.Tell.Refusal.{MayTellMoved, WasMoved, is_moved}
 
@@ -80,9 +89,16 @@ now_sent head = run_induction head (λ history. (actor : ActorId) → Each (λ m
         each-append (λ x. Contains (sent ++ m ∷ []) x) now (m ∷ []) (grown sent (m ∷ []) now a) (Contains-push sent m, tt)
     by event sent now a = each-append (λ x. Contains (sent ++ []) x) now [] (grown sent [] now a) tt
 
--- A commit goes out no lower than the last begin, or where its transaction is committed at its timestamp.
+-- where a transaction began stands
+begun-along : (front back : List (Entry Event)) (id : TxnId) (begin : ℕ) → begun_at id front ≡ Some begin → begun_at id (front ++ back) ≡ Some begin
+begun-along front [] id begin is = ap (begun_at id) (append-nil front) ∙ is
+begun-along front (e ∷ es) id begin is =
+    ap (begun_at id) (sym (append_assoc front (e ∷ []) es))
+    ∙ begun-along (front ++ e ∷ []) es id begin (first_push (λ x. begun_told_in id x.event) front e ∙ ap (λ o. option_or o (begun_told_in id e.event)) is)
+
+-- A stage goes out no lower than the last begin; so does a commit, or where its transaction is committed at its timestamp.
 abbrev Passes : Head → List (Entry Event) → ℕ → Request → Type 0
-Passes head history n (requests.Stage meta ts now writes locks) = ⊥
+Passes head history n (requests.Stage meta ts now writes locks) = n ≤ ts
 Passes head history n (requests.Commit meta ts locks) = (n ≤ ts) ⊎ IsCommitted head history meta.id ts
 Passes head history n request = ⊤
 
@@ -121,7 +137,7 @@ module _ (head : Head) (whole : List (Entry Event)) (run : IsRun head whole) (al
   PassNow history k = (s : Statement) → k.statement ≡ Some s → (m : Sent) → Contains k.sent_now m → Passes head history (level k.txns) m.request
 
   passes-more : (history : List (Entry Event)) (e : Entry Event) → IsRun head history → MayFollow (protocol head) history e → (n m : ℕ) → m ≡ n → (request : Request) → Passes head history n request → Passes head (history ++ e ∷ []) m request
-  passes-more history e before may n m same (requests.Stage meta ts now writes locks) is = is
+  passes-more history e before may n m same (requests.Stage meta ts now writes locks) is = omega (arith, same, is)
   passes-more history e before may n m same (requests.Commit meta ts locks) is = elim is [
     | inl high ↦ inl (omega (arith, same, high))
     | inr committed ↦ inr (committed_push head history e before may meta.id ts committed)
@@ -132,11 +148,45 @@ module _ (head : Head) (whole : List (Entry Event)) (run : IsRun head whole) (al
     abbrev k : Known
     k = known_at head the_session history
 
+    -- a stage of the open transaction is no lower than its begin, also where it was sent before
+    stage-high : (number range : ℕ) (meta : TxnMeta) (ts now : ℕ) (writes : List (List ℕ × ℕ)) (locks : List (List ℕ)) → MaySend head.splits the_session k number range (requests.Stage meta ts now writes locks) → IsOfOpenTxn k meta
+        → level k.txns ≤ ts
+    stage-high number range meta ts now writes locks sends of =
+        let first = (low_at head whole run alone history before (e ∷ later) split).low.first in
+        elim sends.row [
+          | inl new ↦
+              let f = open-first k new.t first new.opened in
+              let lvl = f.0 in
+              let write = f.1 in
+              let at = new.at_write_ts in
+              omega (arith, lvl, write, at)
+          | inr again ↦
+              let s : SentStage = record { meta = meta; ts = ts; now = now; writes = writes; locks = locks } in
+              let (i, m, inside, there, asks) = again.before in
+              let w = each-contains _ k.sent m (sent_is_so head history before the_session) (i, inside, there) in
+              let staged : WasStaged history s = record { send = w.send; listed = w.listed; number = m.number; range = m.range; sends = w.sends ∙ ap (events.Send m.number m.range) asks } in
+              let f = first_staged head history before s staged in
+              let front = run_front head f.before (f.a ∷ f.later) (subst (IsRun head) f.whole before) in
+              let there_then = open_there (session_at head meta.id f.before) f.new.t f.new.opened in
+              let then = each-contains (Agrees f.before) (session_at head meta.id f.before).txns f.new.t (agreed head f.before front (actors.Session meta.id.session)).agrees there_then in
+              let now_agrees = each-contains (Agrees history) k.txns of.t (agreed head history before the_session).agrees (open_there k of.t of.opened) in
+              let named : f.new.t.id ≡ of.t.id = sym (ap (λ (x : TxnMeta). x.id) f.new.whose.same) ∙ of.whose in
+              let along : begun_at of.t.id history ≡ Some f.new.t.begin =
+              ap (begun_at of.t.id) f.whole ∙ begun-along f.before (f.a ∷ f.later) of.t.id f.new.t.begin (ap (λ i. begun_at i f.before) (sym named) ∙ then.begin) in
+              let same : f.new.t.begin ≡ of.t.begin = let both : Some f.new.t.begin ≡ Some of.t.begin = sym along ∙ now_agrees.begin in cc both in
+              let lvl = (open-first k of.t first of.opened).0 in
+              let high = f.new.good.begun in
+              omega (arith, lvl, same, high)
+        ]
+
     new-passes : (number range : ℕ) (request : Request) → MaySend head.splits the_session k number range request → IsTidy k (jobs_at head history) (events.Send number range request) → (s : Statement) → k.statement ≡ Some s
         → Passes head history (level k.txns) request
-    new-passes number range (requests.Stage meta ts now writes locks) sends tidy s is = elim (tidy.calls s is) [
-      | inl for ↦ no-stage for.s.call (requests.Stage meta ts now writes locks) for.kind meta ts now writes locks refl
-      | inr round ↦ let none = round.1 in cc none
+    new-passes number range (requests.Stage meta ts now writes locks) sends tidy s is = elim tidy.calls [
+      | inl calls_now ↦ absurd (elim (calls_now s is) [
+        | inl for ↦ no-stage for.s.call (requests.Stage meta ts now writes locks) for.kind meta ts now writes locks refl
+        | inr round ↦ let none = round.1 in cc none
+      ])
+      | inr record_now ↦ stage-high number range meta ts now writes locks sends record_now.1
     ]
     new-passes number range (requests.Commit meta ts locks) sends tidy s is =
         let row = sends.row in
@@ -258,7 +308,9 @@ module _ (head : Head) (whole : List (Entry Event)) (run : IsRun head whole) (al
         now-passing m there = passing s opened m there
 
         by : (request : Request) (told : Reply) (number : ℕ) → is_moved request told ≡ true → WasAnswered head history the_session number request told → status_ts told ≤ level kn.txns → Passes head history (level kn.txns) request → ⊥
-        by (requests.Stage meta at now writes locks) told number moved w low passes = passes
+        by (requests.Stage meta at now writes locks) told number moved w low passes =
+            let past : at < status_ts told = ltb-true at (status_ts told) (and_parts (is_undecided_status told) (nat_lt at (status_ts told)) moved).1 in
+            let nothing : ⊥ = omega (arith, low, passes, past) in nothing
         by (requests.Commit meta at locks) told number moved w low passes =
             let parts = and_parts (is_undecided_status told) (nat_lt at (status_ts told)) moved in
             let past : at < status_ts told = ltb-true at (status_ts told) parts.1 in

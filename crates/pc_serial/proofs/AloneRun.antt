@@ -1,21 +1,9 @@
 -- One session alone: what stands along a run. No request ever meets an intent of another transaction.
-use Rattle.std.proofs.Common.{◌≡◌, ◌≢◌, ℕ, ◌+◌, Bool, None, true, false, ◌==◌, List, [], ◌∷◌, ◌++◌, length, ◌⊎◌, inl, inr, Option, Some, All, Any, Contains, IsTrue, refl, sym, ap, subst, ◌∙◌, arith, append_assoc, append-nil, cond, not, IfSome}
-use Rattle.std.proofs.lemmas.Bool.{and_from, eq-eqb, eqb-true}
+use Rattle.std.proofs.Common.{◌≡◌, ◌≢◌, ℕ, ◌+◌, Bool, None, true, false, List, [], ◌∷◌, ◌++◌, length, ◌⊎◌, inl, inr, Option, Some, Any, Contains, IsTrue, refl, sym, ap, subst, ◌∙◌, arith, append_assoc, append-nil, cond, not, IfSome}
+use Rattle.std.proofs.lemmas.Bool.{and_from, eq-eqb}
 use Rattle.std.proofs.lemmas.List.Elements.{All-contains, Contains-append_left, Contains-push_cases}
-use Rattle.std.proofs.lemmas.List.Folds.{Any-from_list_any}
 use Rattle.std.specs.List.{AllByRecursion as Each}
 use Rattle.std.specs.Option.{option_to_list}
-use Rattle.pc_implicit.proofs.Agreed.{open_is}
-use Rattle.pc_proto.specs.declared.answer.Answer.{Answer}
-use Rattle.pc_serial.proofs.AloneWrites.{AreAwaited, IsPutOfWrite, Lays, awaited_heard, awaited_sent, none_awaited}
-use Rattle.pc_lists.proofs.Lists.{contains_cons, contains_head, contains_nil, contains_tail}
-use Rattle.pc_world.specs.Caused.{Evaluates, IsCaused}
-use Rattle.pc_world.specs.Known.{Known, known_after, learn, told_first, txn_begun, txns_told}
-use Rattle.pc_world.specs.Known.Statements.{Statement}
-use Rattle.pc_world.specs.Known.Traffic.{Heard, Sent, heard_by, replies_to, request_sent}
-use Rattle.pc_world.specs.Known.Transactions.{Txn, txn_told}
-use Rattle.pc_world.specs.Known.Writes.{Write, is_proved, writes_told}
-use Rattle.pc_world.specs.MaySend.{MaySend}
 use Rattle.pc_base.specs.declared.actor.ActorId.{ActorId}
 use Rattle.pc_base.specs.declared.actor.ActorId.TheVariants as actors
 use Rattle.pc_base.specs.declared.entry.Entry.{Entry}
@@ -24,12 +12,13 @@ use Rattle.pc_history.proofs.Histories.{named-one, own-push_other, own-push_same
 use Rattle.pc_history.proofs.Ids.{same_id-equal}
 use Rattle.pc_history.specs.History.{MayFollow}
 use Rattle.pc_history.specs.Own.{named_in, own, pair, same_id}
+use Rattle.pc_implicit.proofs.Agreed.{open_is}
 use Rattle.pc_implicit.proofs.Asked.{asked_is_named}
 use Rattle.pc_implicit.proofs.Doing.{same_or_not}
 use Rattle.pc_implicit.proofs.Evals.{NamedMessage, of_entry, range_evaluates}
 use Rattle.pc_implicit.proofs.EvaluatedAt.{goes_to, one_sent}
 use Rattle.pc_implicit.proofs.Fronts.{split_there}
-use Rattle.pc_implicit.proofs.Hearing.{heard-event, heard_is_so, now_is_so, sent_is_so}
+use Rattle.pc_implicit.proofs.Hearing.{heard-event, now_is_so, sent_is_so}
 use Rattle.pc_implicit.proofs.OwnKeys.{Ends}
 use Rattle.pc_implicit.proofs.Recorded.{evaluated_state}
 use Rattle.pc_implicit.proofs.ReplyKinds.{replies_have_kinds}
@@ -37,6 +26,8 @@ use Rattle.pc_implicit.proofs.Runs.{reply_is}
 use Rattle.pc_implicit.proofs.Shown.{WasAnswered, shown}
 use Rattle.pc_implicit.specs.ReplyKinds.{IsOfKind}
 use Rattle.pc_lists.proofs.Each.{each-contains, each-weaker}
+use Rattle.pc_lists.proofs.Lists.{contains_cons, contains_head, contains_nil, contains_tail}
+use Rattle.pc_proto.specs.declared.answer.Answer.{Answer}
 use Rattle.pc_proto.specs.declared.answer.Answer.TheVariants as answers
 use Rattle.pc_proto.specs.declared.event.Event.{Event}
 use Rattle.pc_proto.specs.declared.event.Event.TheVariants as events
@@ -49,20 +40,30 @@ use Rattle.pc_proto.specs.declared.why.Why.{Why}
 use Rattle.pc_proto.specs.Replies.{is_conflict}
 use Rattle.pc_proto.specs.Requests.{is_abort_of}
 use Rattle.pc_serial.proofs.AloneIntents.{IsOne, intents_step, meets_none}
-use Rattle.pc_serial.proofs.AloneJobs.{fate_there, jobs_push}
-use Rattle.pc_serial.proofs.AloneStanding.{IsEvaluated, IsKept, IsOfLast, IsWaiting, MeetsNone, StandsAs, abort-shows, aborted-shows, contains_split, for_it, last_of, now_heard, sent-there}
+use Rattle.pc_serial.proofs.AloneJobs.{fate_there, finishing_first, jobs_push}
+use Rattle.pc_serial.proofs.AloneStanding.{IsKept, IsOfLast, IsWaiting, MeetsNone, StandsAs, abort-shows, aborted-shows, for_it, heard_evaluated, last_of, now_heard, sent-there}
 use Rattle.pc_serial.proofs.AloneSteps.{Goes, evaluates_nothing, session_step}
-use Rattle.pc_serial.proofs.Quiet.{one_quiet_session}
-use Rattle.pc_serial.specs.Alone.{IsAlone, IsTidy, jobs_at, the_session}
+use Rattle.pc_serial.proofs.AloneWrites.{AreAwaited, IsAwaited, IsPutOfWrite, Lays, awaited_heard, awaited_sent}
+use Rattle.pc_serial.proofs.Quiet.{nothing_lost}
+use Rattle.pc_serial.specs.Alone.{IsAlone, jobs_at}
 use Rattle.pc_serial.specs.Laws.{IsTalk}
+use Rattle.pc_serial.specs.QuietWire.{IsEvaluated, stays_open, the_session}
+use Rattle.pc_serial.specs.Tidy.{IsTidy}
 use Rattle.pc_world.proofs.Knowing.{known_other, known_same, state_other}
 use Rattle.pc_world.proofs.Prefixes.{run_induction, run_may}
 use Rattle.pc_world.proofs.World.{names_one}
 use Rattle.pc_world.specs.After.{known_at, state_at}
+use Rattle.pc_world.specs.Caused.{Evaluates, IsCaused}
 use Rattle.pc_world.specs.Evaluation.{reply as reply_of, state_after}
 use Rattle.pc_world.specs.Follows.FinishingJobs.{jobs_after, jobs_of}
+use Rattle.pc_world.specs.Known.{Known, known_after, learn, told_first, txn_begun, txns_told}
 use Rattle.pc_world.specs.Known.Clock.{high_after, top_after}
+use Rattle.pc_world.specs.Known.Statements.{Statement}
+use Rattle.pc_world.specs.Known.Traffic.{Heard, Sent, heard_by, replies_to, request_sent}
+use Rattle.pc_world.specs.Known.Transactions.{Txn, epoch_told, txn_told}
+use Rattle.pc_world.specs.Known.Writes.{Write, is_proved, writes_told}
 use Rattle.pc_world.specs.Local.{Head, IsActorOf, MayComeNext, MayDo}
+use Rattle.pc_world.specs.MaySend.{MaySend}
 use Rattle.pc_world.specs.Named.{is_send_of, request_in}
 use Rattle.pc_world.specs.RangeOf.{GoesTo, range_of}
 use Rattle.pc_world.specs.RangeState.{RangeState}
@@ -90,7 +91,7 @@ pub record StandsAll (head : Head) (history : List (Entry Event)) : Type 0 where
   pub awaited : AreAwaited (known_at head the_session history) (known_at head the_session history).txns
 
 -- what an answer leaves of the writes was there
-told-writes : (answer : Answer) (k : Known) (u : Txn) → Contains (txns_told answer k) u → (w : Write) → Contains u.writes w → (t : Txn) × Contains k.txns t × Contains t.writes w
+told-writes : (answer : Answer) (k : Known) (u : Txn) → Contains (txns_told answer k) u → (w : Write) → Contains u.writes w → (t : Txn) × Contains k.txns t × Contains t.writes w × (t.id ≡ u.id) × (t.epoch ≡ u.epoch)
 told-writes answer k u there w written = by answer there
   where
     begun : (s : Option Statement) (id : TxnId) (ts : ℕ) → (txn_begun s id ts).writes ≡ []
@@ -101,21 +102,28 @@ told-writes answer k u there w written = by answer there
     of-told (answers.Restart key ts) ws inside = absurd (contains_nil w inside)
     of-told answer ws inside = inside
 
-    first : (answer : Answer) (replied : List Heard) (txns : List Txn) → Contains (told_first answer replied txns) u → (t : Txn) × Contains txns t × Contains t.writes w
+    -- an answer that leaves writes leaves the epoch
+    epoch-told : (answer : Answer) (ws : List Write) (epoch : ℕ) → Contains (writes_told answer ws) w → epoch ≡ epoch_told answer epoch
+    epoch-told (answers.Restart key ts) ws epoch inside = absurd (contains_nil w inside)
+    epoch-told answer ws epoch inside = refl
+
+    first : (answer : Answer) (replied : List Heard) (txns : List Txn) → Contains (told_first answer replied txns) u → (t : Txn) × Contains txns t × Contains t.writes w × (t.id ≡ u.id) × (t.epoch ≡ u.epoch)
     first answer replied [] inside = absurd (contains_nil u inside)
     first answer replied (t ∷ ts) inside = elim (contains_cons (txn_told answer replied t) ts u inside) [
-      | inl same ↦ (t, contains_head t ts, of-told answer t.writes (subst (λ (x : Txn). Contains x.writes w) (sym same) written))
-      | inr later ↦ (u, contains_tail t ts u later, written)
+      | inl same ↦
+          let left : Contains (writes_told answer t.writes) w = subst (λ (x : Txn). Contains x.writes w) (sym same) written in
+          (t, contains_head t ts, of-told answer t.writes left, ap (λ (x : Txn). x.id) same, epoch-told answer t.writes t.epoch left ∙ ap (λ (x : Txn). x.epoch) same)
+      | inr later ↦ (u, contains_tail t ts u later, written, refl, refl)
     ]
 
-    when : (answer : Answer) (replied : List Heard) (b : Bool) (txns : List Txn) → Contains (cond b (told_first answer replied txns) txns) u → (t : Txn) × Contains txns t × Contains t.writes w
+    when : (answer : Answer) (replied : List Heard) (b : Bool) (txns : List Txn) → Contains (cond b (told_first answer replied txns) txns) u → (t : Txn) × Contains txns t × Contains t.writes w × (t.id ≡ u.id) × (t.epoch ≡ u.epoch)
     when answer replied true txns inside = first answer replied txns inside
-    when answer replied false txns inside = (u, inside, written)
+    when answer replied false txns inside = (u, inside, written, refl, refl)
 
-    by : (answer : Answer) → Contains (txns_told answer k) u → (t : Txn) × Contains k.txns t × Contains t.writes w
+    by : (answer : Answer) → Contains (txns_told answer k) u → (t : Txn) × Contains k.txns t × Contains t.writes w × (t.id ≡ u.id) × (t.epoch ≡ u.epoch)
     by (answers.Begun id ts) inside = elim (contains_cons (txn_begun k.statement id ts) k.txns u inside) [
       | inl same ↦ absurd (contains_nil w (subst (λ ws. Contains ws w) (sym (ap (λ (x : Txn). x.writes) same) ∙ begun k.statement id ts) written))
-      | inr later ↦ (u, later, written)
+      | inr later ↦ (u, later, written, refl, refl)
     ]
     by answer inside = when answer (replies_to k.sent_now k.heard_now) k.is_open k.txns inside
 
@@ -170,15 +178,6 @@ module _ (head : Head) (whole : List (Entry Event)) (run : IsRun head whole) (al
             let m = sent-there number k.sent so.0 asks in
             (m.0, m.1, m.2)
         by event is evaluates = absurd evaluates
-
-    -- what was heard was evaluated
-    heard-evaluated : (m : Sent) → IsTrue (is_heard k.heard m) → IsEvaluated m.number history
-    heard-evaluated m is =
-        let a = Any-from_list_any (λ (h : Heard). h.number == m.number) k.heard is in
-        let h = a.1 in
-        let same : h.number ≡ m.number = eqb-true h.number m.number a.4 in
-        let w = each-contains _ k.heard h (heard_is_so head history before the_session) (a.0, a.2, a.3) in
-        (w.eval, w.evaluated, subst (Evaluates the_session m.number) (sym w.told) (refl, same))
 
     aborts-known : (t : Txn) → Any (λ h. IsTrue (is_abort_of t.id h.request)) k.heard_now → (fate : Fate) × (fate_heard t.id k.heard ≡ Some fate)
     aborts-known t (n, h, inside, at, is) =
@@ -236,7 +235,7 @@ module _ (head : Head) (whole : List (Entry Event)) (run : IsRun head whole) (al
         first-time (x, there, is) =
             let s = split_there history x there in
             let two : whole ≡ s.before ++ x ∷ (s.later ++ e ∷ later) = split ∙ ap (λ l. l ++ e ∷ later) s.whole ∙ append_assoc s.before (x ∷ s.later) (e ∷ later) in
-            alone.once s.before s.later later x e the_session number two is (subst (Evaluates the_session number) (sym mine) (refl, refl))
+            alone.wire.once s.before s.later later x e the_session number two is (subst (Evaluates the_session number) (sym mine) (refl, refl))
 
         -- what was sent under the number is what is evaluated
         asks : request_sent number k.sent ≡ Some ev.request
@@ -382,10 +381,8 @@ module _ (head : Head) (whole : List (Entry Event)) (run : IsRun head whole) (al
         pub tidy : IsTidy k (jobs_at head history) e.event
         tidy = alone.tidy history e later split me
 
-        pub all-done : IsTalk e.event → (m : Sent) → Contains k.sent m → IsEvaluated m.number history
-        all-done talks m there =
-            let quiet = subst (λ a. All (λ m. IsTrue (is_heard (known_at head a history).heard m)) (known_at head a history).sent) me (alone.quiet history e later split talks) in
-            heard-evaluated m (All-contains (λ m. IsTrue (is_heard k.heard m)) k.sent m quiet there)
+        pub all-done : IsTalk e.event → stays_open k e.event ≡ false → (m : Sent) → Contains k.sent m → IsEvaluated m.number history
+        all-done talks ends m there = All-contains (λ m. IsEvaluated m.number history) k.sent m (alone.wire.in_time history e later split me talks ends) there
 
         unsent : (number : ℕ) → length k.sent + 1 ≡ number → IsEvaluated number history → ⊥
         unsent number next done =
@@ -394,22 +391,31 @@ module _ (head : Head) (whole : List (Entry Event)) (run : IsRun head whole) (al
             let is = m.2 in
             absurd (let no : ⊥ = omega (arith, low, is, next) in no)
 
-        puts : (number range : ℕ) (meta : TxnMeta) (seq ts : ℕ) (key : List ℕ) (value : Option (List ℕ)) → MaySend head.splits the_session k number range (requests.Put meta seq ts key value) → (meta.id ≡ last_of k) × (k.is_open ≡ true)
-        puts number range meta seq ts key value sends = elim sends.row [
+        puts : (number range : ℕ) (meta : TxnMeta) (seq ts : ℕ) (key : List ℕ) (value : Option (List ℕ)) → MaySend head.splits the_session k number range (requests.Put meta seq ts key value)
+            → IsTidy k (jobs_at head history) (events.Send number range (requests.Put meta seq ts key value)) → (meta.id ≡ last_of k) × (k.is_open ≡ true)
+        puts number range meta seq ts key value sends tidy_now = elim sends.row [
           | inl f ↦ (ap (λ (m : TxnMeta). m.id) f.whose ∙ st.stands.first f.t f.opened, (open_is k.is_open k.txns f.t f.opened).0)
-          | inr a ↦ let w = st.awaited a.t a.mine a.w a.written (not-proved (is_proved a.w) a.unproved) in (ap (λ (m : TxnMeta). m.id) a.whose.same ∙ w.0, w.1)
+          | inr a ↦ elim tidy_now.puts [
+            | inl of ↦ (of.whose ∙ st.stands.first of.t of.opened, (open_is k.is_open k.txns of.t of.opened).0)
+            | inr heard ↦
+                let w = st.awaited a.t a.mine a.w a.written (not-proved (is_proved a.w) a.unproved) in
+                elim w.1 [
+                  | inl is ↦ (ap (λ (m : TxnMeta). m.id) a.whose.same ∙ is.0, is.1)
+                  | inr earlier ↦ absurd (by k.statement refl w.0.m w.0.listed w.0.unheard earlier (heard w.0.m w.0.listed))
+                ]
+          ]
         ]
-
-        all-heard : IsTalk e.event → (m : Sent) → Contains k.sent m → is_heard k.heard m ≡ true
-        all-heard talks m there =
-            let quiet = subst (λ a. All (λ m. IsTrue (is_heard (known_at head a history).heard m)) (known_at head a history).sent) me (alone.quiet history e later split talks) in
-            All-contains (λ m. IsTrue (is_heard k.heard m)) k.sent m quiet there
+          where
+            by : (o : Option Statement) → k.statement ≡ o → (m : Sent) → Contains k.sent m → is_heard k.heard m ≡ false → ((s : Statement) → k.statement ≡ Some s → Contains k.sent_now m → ⊥) → IsTrue (is_heard k.heard m) ⊎ Contains k.sent_now m → ⊥
+            by o is m listed unheard earlier (inl heard) = let both = sym heard ∙ unheard in cc both
+            by None is m listed unheard earlier (inr now) = finishing_first (jobs_at head history) (requests.Put meta seq ts key value) st.stands.finishing (tidy_now.finishes is)
+            by (Some s) is m listed unheard earlier (inr now) = earlier s is now
 
         unheard-new : (m : Sent) → length k.sent + 1 ≡ m.number → is_heard k.heard m ≡ false
         unheard-new m next = by (is_heard k.heard m) refl
           where
             by : (b : Bool) → is_heard k.heard m ≡ b → is_heard k.heard m ≡ false
-            by true is = absurd (unsent m.number next (heard-evaluated m is))
+            by true is = absurd (unsent m.number next (heard_evaluated head history before m is))
             by false is = is
 
         -- what a reply that is heard says
@@ -427,43 +433,57 @@ module _ (head : Head) (whole : List (Entry Event)) (run : IsRun head whole) (al
               cc both,
         )
 
-        lays-last : (number range : ℕ) (request : Request) → MaySend head.splits the_session k number range request → (id : TxnId) (epoch : ℕ) (w : Write) → Lays id epoch request w → (id ≡ last_of k) × (k.is_open ≡ true)
-        lays-last number range request sends id epoch w lays = by request sends lays.put
+        lays-last : (number range : ℕ) (request : Request) → MaySend head.splits the_session k number range request → IsTidy k (jobs_at head history) (events.Send number range request)
+            → (id : TxnId) (epoch : ℕ) (w : Write) → Lays id epoch request w → (id ≡ last_of k) × (k.is_open ≡ true)
+        lays-last number range request sends tidy_now id epoch w lays = by request sends tidy_now lays.put
           where
-            by : (request : Request) → MaySend head.splits the_session k number range request → IsPutOfWrite id epoch w request → (id ≡ last_of k) × (k.is_open ≡ true)
-            by (requests.Put meta seq ts key value) sends put = let is = puts number range meta seq ts key value sends in (sym put.0 ∙ is.0, is.1)
-            by request sends put = absurd put
+            by : (request : Request) → MaySend head.splits the_session k number range request → IsTidy k (jobs_at head history) (events.Send number range request) → IsPutOfWrite id epoch w request → (id ≡ last_of k) × (k.is_open ≡ true)
+            by (requests.Put meta seq ts key value) sends tidy_now put = let is = puts number range meta seq ts key value sends tidy_now in (sym put.0 ∙ is.0, is.1)
+            by request sends tidy_now put = absurd put
+
+        -- the next message is none of those that were sent
+        new-message : (m0 : Sent) → length k.sent + 1 ≡ m0.number → (m : Sent) → Contains k.sent m → m0 ≡ m → ⊥
+        new-message m0 next m there same =
+            let low = st.stands.numbered m there in
+            let is : m0.number ≡ m.number = ap (λ (x : Sent). x.number) same in
+            let no : ⊥ = omega (arith, low, is, next) in no
 
         -- the writes that are not proved, by the event
+        abbrev same-awaited : (g : Option Heard) → g ≡ None → (id : TxnId) (epoch : ℕ) (w : Write) → IsAwaited k.sent k.heard id epoch w → IsAwaited (k.sent ++ []) (k.heard ++ option_to_list g) id epoch w
+        same-awaited g none id epoch w a = record {
+          m = a.m;
+          listed = subst (λ l. Contains l a.m) (sym (append-nil k.sent)) a.listed;
+          put = a.put;
+          unheard = subst (λ l. is_heard l a.m ≡ false) (sym (ap (λ o. k.heard ++ option_to_list o) none ∙ append-nil k.heard)) a.unheard;
+        }
+
         awaits : (event : Event) (g : Option Heard) (top high : ℕ) → g ≡ heard_by event (named_in (protocol head) history e.event) k.sent → MayDo head the_session k event
-            → (IsTalk event → (m : Sent) → Contains k.sent m → is_heard k.heard m ≡ true)
+            → IsTidy k (jobs_at head history) event
             → IfSome g (λ h. WasAnswered head history the_session h.number h.request h.reply)
             → AreAwaited (known_after event g top high k) (known_after event g top high k).txns
-        awaits (events.Ask call reading) g top high none may_do all so = λ t there w written unproved. absurd (none_awaited k st.awaited (all tt) t there w written unproved)
-        awaits (events.Send number range request) g top high none may_do all so =
-            awaited_sent k st.awaited (known_after (events.Send number range request) g top high k) number range request refl (ap (λ o. k.heard ++ option_to_list o) none ∙ append-nil k.heard) refl refl
-            (unheard-new (record { number = number; range = range; request = request }) (sym may_do.next)) (lays-last number range request may_do)
-        awaits (events.Eval sender sent told) g top high none may_do all so = absurd may_do
-        awaits (events.Hear number step) g top high none may_do all so =
-            awaited_heard k st.awaited (known_after (events.Hear number step) g top high k) g (append-nil k.sent) refl refl refl (hears-so g so)
-        awaits (events.Tell answer) g top high none may_do all so = λ u there w written unproved.
+        awaits (events.Ask call reading) g top high none may_do tidy_now so = λ t there w written unproved.
+            (same-awaited g none t.id t.epoch w (st.awaited t there w written unproved).0, inr (λ s is now. contains_nil (st.awaited t there w written unproved).0.m now))
+        awaits (events.Send number range request) g top high none may_do tidy_now so =
+            awaited_sent k st.awaited (known_after (events.Send number range request) g top high k) number range request refl (ap (λ o. k.heard ++ option_to_list o) none ∙ append-nil k.heard) refl refl refl refl
+            (new-message (record { number = number; range = range; request = request }) (sym may_do.next))
+            (unheard-new (record { number = number; range = range; request = request }) (sym may_do.next)) (lays-last number range request may_do tidy_now)
+        awaits (events.Eval sender sent told) g top high none may_do tidy_now so = absurd may_do
+        awaits (events.Hear number step) g top high none may_do tidy_now so =
+            awaited_heard k st.awaited (known_after (events.Hear number step) g top high k) g (append-nil k.sent) refl refl refl refl (append-nil k.sent_now) (hears-so g so)
+        awaits (events.Tell answer) g top high none may_do tidy_now so = λ u there w written unproved.
             let t = told-writes answer k u there w written in
-            absurd (none_awaited k st.awaited (all tt) t.0 t.1 w t.2 unproved)
-        awaits (events.Meet id step) g top high none may_do all so = λ t there w written unproved.
+            let a = (st.awaited t.0 t.1 w t.2 unproved).0 in
+            let its : IsAwaited k.sent k.heard u.id u.epoch w = subst (λ i. IsAwaited k.sent k.heard i u.epoch w) t.3 (subst (λ n. IsAwaited k.sent k.heard t.0.id n w) t.4 a) in
+            (same-awaited g none u.id u.epoch w its, inr (λ s is. absurd cc))
+        awaits (events.Meet id step) g top high none may_do tidy_now so = λ t there w written unproved.
             let a = st.awaited t there w written unproved in (
-              a.0,
-              a.1,
-              record {
-                m = a.2.m;
-                listed = subst (λ l. Contains l a.2.m) (sym (append-nil k.sent)) a.2.listed;
-                put = a.2.put;
-                unheard = subst (λ l. is_heard l a.2.m ≡ false) (sym (ap (λ o. k.heard ++ option_to_list o) none ∙ append-nil k.heard)) a.2.unheard;
-              },
+              same-awaited g none t.id t.epoch w a.0,
+              elim a.1 [ inl is ↦ inl is | inr earlier ↦ inr (λ s is now. earlier s is (subst (λ l. Contains l a.0.m) (append-nil k.sent_now) now)) ],
             )
 
         known-commit : (id : TxnId) → e.event ≡ events.Tell (answers.Unknown id) → ⊥
         known-commit id is =
-            (one_quiet_session head whole run alone.one alone.quiet).1 e (answers.Unknown id) (subst (λ h. Contains h e) (sym split) (contains_split history e later)) is tt
+            nothing_lost head whole run alone.wire.none_lost history e later split me (answers.Unknown id) is tt
 
         abbrev learnt : Known
         learnt = learn (pair e (named_in (protocol head) history e.event)) k
@@ -499,7 +519,7 @@ module _ (head : Head) (whole : List (Entry Event)) (run : IsRun head whole) (al
               awaited =
                   let named = named_in (protocol head) history e.event in
                   subst (λ (l : Known). AreAwaited l l.txns) (sym same)
-                  (awaits e.event (heard_by e.event named k.sent) (top_after e.event named k.top) (high_after e.event named k.high) refl acts all-heard
+                  (awaits e.event (heard_by e.event named k.sent) (top_after e.event named k.top) (high_after e.event named k.high) refl acts tidy
                   (heard-event head history before the_session e.event (subst (IsCaused history e.event) me may.caused)));
             }
 

@@ -3,6 +3,7 @@
 use Rattle.std.proofs.Common.{◌≡◌, ℕ, ◌≤◌, Bool, true, false, ◌==◌, cond, if◌then◌else◌, List, [], ◌∷◌, ◌++◌, length, find, map, ◌⊎◌, inl, inr, Option, None, Some, Contains, IsTrue, refl, sym, ap, subst, ◌∙◌}
 use Rattle.std.proofs.lemmas.Bool.{eqb-true}
 use Rattle.std.proofs.lemmas.List.Elements.{Contains-append_left, Contains-push}
+use Rattle.std.proofs.lemmas.List.Folds.{Any-from_list_any}
 use Rattle.std.specs.List.{AllByRecursion as Each}
 use Rattle.std.specs.Option.{option_and_then, option_map, option_to_list}
 use Rattle.std.specs.Prelude.{⊤}
@@ -11,9 +12,10 @@ use Rattle.pc_base.specs.declared.entry.Entry.{Entry}
 use Rattle.pc_base.specs.declared.transaction.TxnId.{TxnId}
 use Rattle.pc_history.specs.Own.{named_in}
 use Rattle.pc_implicit.proofs.Doing.{same_or_not}
+use Rattle.pc_implicit.proofs.Hearing.{heard_is_so}
 use Rattle.pc_implicit.proofs.OwnKeys.{Ends}
 use Rattle.pc_implicit.specs.ReplyKinds.{IsOfKind}
-use Rattle.pc_lists.proofs.Each.{each-append, each-weaker}
+use Rattle.pc_lists.proofs.Each.{each-append, each-contains, each-weaker}
 use Rattle.pc_lists.proofs.Lists.{contains_head, contains_tail}
 use Rattle.pc_proto.specs.declared.answer.Answer.{Answer}
 use Rattle.pc_proto.specs.declared.event.Event.{Event}
@@ -32,7 +34,7 @@ use Rattle.pc_proto.specs.Requests.{is_abort_of}
 use Rattle.pc_proto.specs.Views.{AbortsWith, final_fate, is_final_view}
 use Rattle.pc_serial.proofs.AloneIntents.{IsForIt}
 use Rattle.pc_serial.proofs.AloneJobs.{HasMessage, IsFinishing, IsLocked}
-use Rattle.pc_serial.specs.Alone.{the_session}
+use Rattle.pc_serial.specs.QuietWire.{IsEvaluated, the_session}
 use Rattle.pc_world.proofs.Knowing.{known_other, known_same}
 use Rattle.pc_world.proofs.Prefixes.{run_induction}
 use Rattle.pc_world.specs.After.{known_at}
@@ -44,6 +46,7 @@ use Rattle.pc_world.specs.Known.Transactions.{Txn, txn_told}
 use Rattle.pc_world.specs.Local.{Head, is_outside}
 use Rattle.pc_world.specs.RangeOf.{range_of}
 use Rattle.pc_world.specs.Run.{IsRun, protocol}
+use Rattle.pc_world.specs.Tell.Refusal.{is_heard}
 use Rattle.pc_world.specs.Views.{ShowsAborted, fate_shown}
 
 -- ---- what stands
@@ -51,10 +54,6 @@ use Rattle.pc_world.specs.Views.{ShowsAborted, fate_shown}
 -- The transaction that the session began last.
 abbrev pub last_of : Known → TxnId
 last_of k = record { session = 1; number = k.begun }
-
--- The session's message of this number was evaluated.
-abbrev pub IsEvaluated : ℕ → List (Entry Event) → Type 0
-IsEvaluated number history = (x : Entry Event) × Contains history x × Evaluates the_session number x.event
 
 -- A message of the request was sent, and was not evaluated yet.
 pub record IsWaiting (history : List (Entry Event)) (k : Known) (request : Request) : Type 0 where
@@ -152,6 +151,15 @@ now_heard head = run_induction head (λ history. (actor : ActorId) → Each (λ 
     by : (event : Event) (o : Option Heard) (heard now : List Heard) → Each (λ h. Contains heard h) now → Each (λ h. Contains (heard_after o heard) h) (heard_now_after event o now)
     by (events.Ask call reading) o heard now a = tt
     by event o heard now a = more o heard now a
+
+-- what was heard was evaluated
+pub heard_evaluated : (head : Head) (history : List (Entry Event)) → IsRun head history → (m : Sent) → IsTrue (is_heard (known_at head the_session history).heard m) → IsEvaluated m.number history
+heard_evaluated head history run m is =
+    let a = Any-from_list_any (λ (h : Heard). h.number == m.number) (known_at head the_session history).heard is in
+    let h = a.1 in
+    let same : h.number ≡ m.number = eqb-true h.number m.number a.4 in
+    let w = each-contains _ (known_at head the_session history).heard h (heard_is_so head history run the_session) (a.0, a.2, a.3) in
+    (w.eval, w.evaluated, subst (Evaluates the_session m.number) (sym w.told) (refl, same))
 
 -- an abort is answered by a final view
 pub abort-shows : (id : TxnId) (request : Request) (told : Reply) (number step : ℕ) → IsTrue (is_abort_of id request) → IsOfKind request told

@@ -13,25 +13,25 @@ use Rattle.pc_lists.proofs.Each.{each-contains, each-map, each-weaker}
 use Rattle.pc_lists.proofs.Lists.{contains_cons, contains_nil}
 use Rattle.pc_proto.specs.declared.answer.Answer.{Answer}
 use Rattle.pc_proto.specs.declared.answer.Answer.TheVariants as answers
-use Rattle.pc_proto.specs.declared.call.Call.{Call}
-use Rattle.pc_proto.specs.declared.call.Call.TheVariants as calls
 use Rattle.pc_proto.specs.declared.event.Event.{Event}
 use Rattle.pc_proto.specs.declared.event.Event.TheVariants as events
+use Rattle.pc_proto.specs.declared.fate.Fate.{Fate}
+use Rattle.pc_proto.specs.declared.fate.Fate.TheVariants as fates
 use Rattle.pc_proto.specs.declared.meta.TxnMeta.{TxnMeta}
 use Rattle.pc_proto.specs.declared.request.Request.{Request}
 use Rattle.pc_proto.specs.declared.request.Request.TheVariants as requests
 use Rattle.pc_proto.specs.declared.why.Why.{Why}
 use Rattle.pc_proto.specs.Replies.{is_conflict}
 use Rattle.pc_proto.specs.Stamps.{reply_stamps, why_stamps}
-use Rattle.pc_serial.proofs.AloneJobs.{IsFinishing, finishing_first}
-use Rattle.pc_serial.proofs.AloneStanding.{IsEvaluated, last_of}
+use Rattle.pc_serial.proofs.AloneLow.{SettlesOver}
+use Rattle.pc_serial.proofs.AloneStanding.{last_of}
 use Rattle.pc_serial.proofs.AloneTimes.{HasBegun, IsFirstHigh, IsLowSent, IsLowTxn, blocked_none, clock_rises, fate-low, first_heard-high, first_sent-high, first_told-high, first_told-low, has_begun, has_begun-map, has_begun-told, level, level_map, level_told, low_sent-more, txn_heard-low, txn_sent-low, viewed-low}
 use Rattle.pc_serial.proofs.AloneTold.{committed-shown}
-use Rattle.pc_serial.specs.Alone.{IsTidy, the_session}
+use Rattle.pc_serial.specs.QuietWire.{IsEvaluated, the_session}
+use Rattle.pc_serial.specs.Tidy.{IsTidy}
 use Rattle.pc_world.proofs.Stamps.Within.{AtMost, at_most-more}
-use Rattle.pc_world.specs.Follows.CallMessages.{IsFor}
-use Rattle.pc_world.specs.Known.{Known, call_in, call_of, known_after, open_txn, told_first, txn_begun, txns_told}
-use Rattle.pc_world.specs.Known.Statements.{Statement}
+use Rattle.pc_world.specs.Known.{Known, known_after, open_txn, told_first, txn_begun, txns_told}
+use Rattle.pc_world.specs.Known.Statements.{Statement, begun_after, is_open_told}
 use Rattle.pc_world.specs.Known.Traffic.{Heard, Sent, replies_to}
 use Rattle.pc_world.specs.Known.Transactions.{Txn, txn_heard, txn_sent}
 use Rattle.pc_world.specs.Known.Writes.{Write}
@@ -46,12 +46,12 @@ abbrev pub RepliesLow : ℕ → Event → Type 0
 RepliesLow n (events.Eval actor number reply) = AtMost n (reply_stamps reply)
 RepliesLow n _ = ⊤
 
--- A read that waits reads no lower than the last begin; a put waits in no commit.
-abbrev pub IsHighRead : Known → Request → Type 0
-IsHighRead k (requests.Get id epoch seq ts key) = level k.txns ≤ ts
-IsHighRead k (requests.Scan id epoch seq ts span) = level k.txns ≤ ts
-IsHighRead k (requests.Put meta seq ts key value) = call_of k ≡ Some calls.Commit → ⊥
-IsHighRead k _ = ⊤
+-- A read that waits reads no lower than the last begin; a resolve waits to commit the last transaction only once that is over.
+abbrev pub MayWait : Known → Request → Type 0
+MayWait k (requests.Get id epoch seq ts key) = level k.txns ≤ ts
+MayWait k (requests.Scan id epoch seq ts span) = level k.txns ≤ ts
+MayWait k (requests.Resolve id key fate) = SettlesOver (last_of k) (k.is_open ≡ false) id fate
+MayWait k _ = ⊤
 
 -- What the session knows is at or below the last begin.
 pub record LowAs (history : List (Entry Event)) (k : Known) : Type 0 where
@@ -60,16 +60,18 @@ pub record LowAs (history : List (Entry Event)) (k : Known) : Type 0 where
   pub heard : (h : Heard) → Contains k.heard h → AtMost (level k.txns) (reply_stamps h.reply)
   pub sent : (m : Sent) → Contains k.sent m → IsLowSent (level k.txns) m.request
   pub some : (m : Sent) → Contains k.sent m → HasBegun k.txns
-  pub reading : (m : Sent) → Contains k.sent m → (IsEvaluated m.number history → ⊥) → IsHighRead k m.request
+  pub waiting : (m : Sent) → Contains k.sent m → (IsEvaluated m.number history → ⊥) → MayWait k m.request
 
--- What an event makes of the last begin: it stays, of the same transaction, or is above all that was heard.
-abbrev pub Rises : Known → Known → Type 0
-Rises k later = ((level later.txns ≡ level k.txns) × (last_of later ≡ last_of k) × (HasBegun later.txns → HasBegun k.txns)) ⊎ ((k.high < level later.txns) × (level k.txns ≤ k.high))
+settles-as : (last other : TxnId) (Over Later : Type 0) → other ≡ last → (Over → Later) → (id : TxnId) (fate : Fate) → SettlesOver last Over id fate → SettlesOver other Later id fate
+settles-as last other Over Later same on id (fates.Committed epoch ts) is = λ its. on (is (its ∙ same))
+settles-as last other Over Later same on id fate is = tt
 
-not-for-commit : (call : Call) (meta : TxnMeta) (seq ts : ℕ) (key : List ℕ) (value : Option (List ℕ)) → IsFor call (requests.Put meta seq ts key value) → call ≡ calls.Commit → ⊥
-not-for-commit calls.Commit meta seq ts key value (inl is) same = cc is
-not-for-commit calls.Commit meta seq ts key value (inr is) same = cc is
-not-for-commit call meta seq ts key value is same = cc same
+-- what waits goes on to wait, where the last begin stays, and what was over is
+pub wait_on : (k later : Known) → level later.txns ≡ level k.txns → last_of later ≡ last_of k → (k.is_open ≡ false → later.is_open ≡ false) → (request : Request) → MayWait k request → MayWait later request
+wait_on k later same last over (requests.Get id epoch seq ts key) is = omega (arith, same, is)
+wait_on k later same last over (requests.Scan id epoch seq ts span) is = omega (arith, same, is)
+wait_on k later same last over (requests.Resolve id key fate) is = settles-as (last_of k) (last_of later) (k.is_open ≡ false) (later.is_open ≡ false) last over id fate is
+wait_on k later same last over request is = tt
 
 -- the open transaction is the first
 pub open-first : (k : Known) (t : Txn) → IsFirstHigh k.txns → open_txn k ≡ Some t → (level k.txns ≡ t.begin) × (t.begin ≤ t.write_ts) × (t.begin ≤ t.read_ts)
@@ -80,13 +82,15 @@ open-first k t high opened = by k.txns (open_is k.is_open k.txns t opened) high
         let h : IsFirstHigh (t ∷ others) = subst IsFirstHigh whole high in
         (ap level whole, h.0, h.1)
 
-module _ (head : Head) (history after : List (Entry Event)) (k : Known) (jobs : List (List Request)) (low : LowAs history k) (finishing : Each (Each IsFinishing) jobs)
+module _ (head : Head) (history after : List (Entry Event)) (k : Known) (jobs : List (List Request)) (low : LowAs history k)
     (begins : level k.txns ≤ k.high)
     (still : (number : ℕ) → IsEvaluated number history → IsEvaluated number after)
     (heard_some : (h : Heard) → Contains k.heard h → HasBegun k.txns)
     (clear : (h : Heard) → Contains k.heard_now h → is_conflict h.reply ≡ false)
     (unstaged : (id : TxnId) (epoch ts : ℕ) (writes : List (List ℕ × ℕ)) → WasStaging k.heard id epoch ts writes → ⊥)
-    (unpushed : (number range : ℕ) (holder : TxnMeta) (by : _) (level : _) (now : ℕ) (goal : _) → MaySend head.splits the_session k number range (requests.Push holder by level now goal) → ⊥) where
+    (unpushed : (number range : ℕ) (holder : TxnMeta) (by : _) (level : _) (now : ℕ) (goal : _) → MaySend head.splits the_session k number range (requests.Push holder by level now goal) → ⊥)
+    (unsettled : (number range : ℕ) (id : TxnId) (key : List ℕ) (fate : Fate) → MaySend head.splits the_session k number range (requests.Resolve id key fate) → IsTidy k jobs (events.Send number range (requests.Resolve id key fate))
+    → SettlesOver (last_of k) (k.is_open ≡ false) id fate) where
   abbrev n : ℕ
   n = level k.txns
 
@@ -165,7 +169,7 @@ module _ (head : Head) (history after : List (Entry Event)) (k : Known) (jobs : 
   new-some number range requests.Records may = absurd may.row
 
   new-high : (number range : ℕ) (request : Request) (g : Option Heard) (top high : ℕ) → MaySend head.splits the_session k number range request → IsTidy k jobs (events.Send number range request)
-      → IsHighRead (known_after (events.Send number range request) g top high k) request
+      → MayWait (known_after (events.Send number range request) g top high k) request
   new-high number range (requests.Get id epoch seq ts key) g top high may tidy =
       let f = open-first k may.row.t low.first may.row.opened in
       let lvl = f.0 in
@@ -180,26 +184,10 @@ module _ (head : Head) (history after : List (Entry Event)) (k : Known) (jobs : 
       let at = may.row.read.at_read_ts in
       let same = level_map (txn_sent (requests.Scan id epoch seq ts span)) (λ t. refl) k.txns in
       omega (arith, lvl, read, at, same)
-  new-high number range (requests.Put meta seq ts key value) g top high may tidy = by k.statement refl
-    where
-      by : (o : Option Statement) → k.statement ≡ o → call_of k ≡ Some calls.Commit → ⊥
-      by None is call = absurd (finishing_first jobs (requests.Put meta seq ts key value) finishing (tidy.finishes is).next)
-      by (Some s) is call = elim (tidy.calls s is) [
-        | inl for ↦
-            let commits : s.call ≡ calls.Commit = let both : ◌≡◌ {A = Option Call} (Some s.call) (Some calls.Commit) = sym (ap call_in is) ∙ call in cc both in
-            let one : for.s ≡ s = let both = sym for.opened ∙ is in cc both in
-            not-for-commit for.s.call meta seq ts key value for.kind (ap (λ (x : Statement). x.call) one ∙ commits)
-        | inr round ↦ let none = round.1 in cc none
-      ]
+  new-high number range (requests.Resolve id key fate) g top high may tidy =
+      let later = known_after (events.Send number range (requests.Resolve id key fate)) g top high k in
+      settles-as (last_of k) (last_of later) (k.is_open ≡ false) (later.is_open ≡ false) refl (λ over. over) id fate (unsettled number range id key fate may tidy)
   new-high number range request g top high may tidy = tt
-
-  -- ---- what stays as high
-
-  high-as : (later : Known) → level later.txns ≡ n → call_of later ≡ call_of k → (request : Request) → IsHighRead k request → IsHighRead later request
-  high-as later same call (requests.Get id epoch seq ts key) is = omega (arith, same, is)
-  high-as later same call (requests.Scan id epoch seq ts span) is = omega (arith, same, is)
-  high-as later same call (requests.Put meta seq ts key value) is = λ commits. is (sym call ∙ commits)
-  high-as later same call request is = tt
 
   -- ---- over each entry
 
@@ -216,9 +204,9 @@ module _ (head : Head) (history after : List (Entry Event)) (k : Known) (jobs : 
         heard = λ h there. subst (λ l. AtMost l (reply_stamps h.reply)) (sym same) (low.heard h (heard-nil h (subst (λ o. Contains (k.heard ++ option_to_list o) h) none there)));
         sent = λ m there. subst (λ l. IsLowSent l m.request) (sym same) (elim (Contains-push_cases k.sent m0 m there) [ inl old ↦ low.sent m old | inr is ↦ subst (λ (x : Sent). IsLowSent n x.request) is new ]);
         some = λ m there. has_begun-map (txn_sent request) k.txns (elim (Contains-push_cases k.sent m0 m there) [ inl old ↦ low.some m old | inr is ↦ new-some number range request may ]);
-        reading = λ m there none_yet. elim (Contains-push_cases k.sent m0 m there) [
-          | inl old ↦ high-as later same refl m.request (low.reading m old (λ done. none_yet (still m.number done)))
-          | inr is ↦ subst (λ (x : Sent). IsHighRead later x.request) is (new-high number range request g top high may tidy)
+        waiting = λ m there none_yet. elim (Contains-push_cases k.sent m0 m there) [
+          | inl old ↦ wait_on k later same refl (λ over. over) m.request (low.waiting m old (λ done. none_yet (still m.number done)))
+          | inr is ↦ subst (λ (x : Sent). MayWait later x.request) is (new-high number range request g top high may tidy)
         ];
       }
 
@@ -232,28 +220,30 @@ module _ (head : Head) (history after : List (Entry Event)) (k : Known) (jobs : 
         heard = λ h there. subst (λ l. AtMost l (reply_stamps h.reply)) (sym same) (elim (Contains-append_cases k.heard (option_to_list g) h there) [ inl old ↦ low.heard h old | inr new ↦ by g is h new ]);
         sent = λ m there. subst (λ l. IsLowSent l m.request) (sym same) (low.sent m (sent-nil m there));
         some = λ m there. has_begun-map (txn_heard k.sent g) k.txns (low.some m (sent-nil m there));
-        reading = λ m there none. high-as later same refl m.request (low.reading m (sent-nil m there) (λ done. none (still m.number done)));
+        waiting = λ m there none. wait_on k later same refl (λ over. over) m.request (low.waiting m (sent-nil m there) (λ done. none (still m.number done)));
       }
     where
       by : (g : Option Heard) → IfSome g (λ h. IsLowSent n h.request × AtMost n (reply_stamps h.reply)) → (h : Heard) → Contains (option_to_list g) h → AtMost n (reply_stamps h.reply)
       by None is h there = absurd (contains_nil h there)
       by (Some x) is h there = elim (contains_cons x [] h there) [ inl same ↦ subst (λ (y : Heard). AtMost n (reply_stamps y.reply)) same is.1 | inr none ↦ absurd (contains_nil h none) ]
 
-  pub rests-low : (later : Known) → later.txns ≡ k.txns → later.heard ≡ k.heard → later.sent ≡ k.sent → ((m : Sent) → Contains k.sent m → (IsEvaluated m.number after → ⊥) → IsHighRead later m.request) → LowAs after later
-  rests-low later txns heard sent reading = record {
+  pub rests-low : (later : Known) → later.txns ≡ k.txns → later.heard ≡ k.heard → later.sent ≡ k.sent → last_of later ≡ last_of k → later.is_open ≡ k.is_open → LowAs after later
+  rests-low later txns heard sent last opens = record {
     txns = subst (λ l. Each (IsLowTxn (level l)) l) (sym txns) low.txns;
     first = subst IsFirstHigh (sym txns) low.first;
     heard = λ h there. subst (λ l. AtMost (level l) (reply_stamps h.reply)) (sym txns) (low.heard h (subst (λ l. Contains l h) heard there));
     sent = λ m there. subst (λ l. IsLowSent (level l) m.request) (sym txns) (low.sent m (subst (λ l. Contains l m) sent there));
     some = λ m there. subst HasBegun (sym txns) (low.some m (subst (λ l. Contains l m) sent there));
-    reading = λ m there none. reading m (subst (λ l. Contains l m) sent there) none;
+    waiting = λ m there none. wait_on k later (ap level txns) last (λ over. opens ∙ over) m.request (low.waiting m (subst (λ l. Contains l m) sent there) (λ done. none (still m.number done)));
   }
 
   -- an answer that begins nothing, and is no restart
-  pub tells-low : (answer : Answer) (g : Option Heard) (top high : ℕ) → g ≡ None → ((key : List ℕ) (ts : ℕ) → answer ≡ answers.Restart key ts → ⊥) → ((m : Sent) → Contains k.sent m → IsEvaluated m.number after)
+  pub tells-low : (answer : Answer) (g : Option Heard) (top high : ℕ) → g ≡ None → ((key : List ℕ) (ts : ℕ) → answer ≡ answers.Restart key ts → ⊥)
+      → begun_after (events.Tell answer) k.begun ≡ k.begun → (k.is_open ≡ false → is_open_told answer k.is_open ≡ false)
       → txns_told answer k ≡ cond k.is_open (told_first answer (replies_to k.sent_now k.heard_now) k.txns) k.txns
       → LowAs after (known_after (events.Tell answer) g top high k)
-  tells-low answer g top high none never done is =
+  tells-low answer g top high none never count over is =
+      let later = known_after (events.Tell answer) g top high k in
       let replied = replies_to k.sent_now k.heard_now in
       let next = cond k.is_open (told_first answer replied k.txns) k.txns in
       let same : level next ≡ n = level_told answer replied k.is_open k.txns in
@@ -263,7 +253,8 @@ module _ (head : Head) (history after : List (Entry Event)) (k : Known) (jobs : 
         heard = λ h there. subst (λ l. AtMost (level l) (reply_stamps h.reply)) (sym is) (subst (λ l. AtMost l (reply_stamps h.reply)) (sym same) (low.heard h (heard-nil h (subst (λ o. Contains (k.heard ++ option_to_list o) h) none there))));
         sent = λ m there. subst (λ l. IsLowSent (level l) m.request) (sym is) (subst (λ l. IsLowSent l m.request) (sym same) (low.sent m (sent-nil m there)));
         some = λ m there. subst HasBegun (sym is) (has_begun-told answer replied k.is_open k.txns (low.some m (sent-nil m there)));
-        reading = λ m there waits. absurd (waits (done m (sent-nil m there)));
+        waiting = λ m there none_yet.
+            wait_on k later (ap level is ∙ same) (ap (λ (c : ℕ). let i : TxnId = record { session = 1; number = c } in i) count) over m.request (low.waiting m (sent-nil m there) (λ done. none_yet (still m.number done)));
       }
 
   -- a begin
@@ -293,7 +284,7 @@ module _ (head : Head) (history after : List (Entry Event)) (k : Known) (jobs : 
           heard = λ h there. at_most-more n ts (reply_stamps h.reply) more (low.heard h (heard-nil h (subst (λ o. Contains (k.heard ++ option_to_list o) h) none there)));
           sent = λ m there. low_sent-more n ts m.request more (low.sent m (sent-nil m there));
           some = λ m there. tt;
-          reading = λ m there waits. absurd (waits (done m (sent-nil m there)));
+          waiting = λ m there waits. absurd (waits (done m (sent-nil m there)));
         },
         above,
         refl,
@@ -305,15 +296,8 @@ module _ (head : Head) (history after : List (Entry Event)) (k : Known) (jobs : 
           heard = λ h there. at_most-more n ts (reply_stamps h.reply) more (low.heard h (heard-nil h (subst (λ o. Contains (k.heard ++ option_to_list o) h) none there)));
           sent = λ m there. low_sent-more n ts m.request more (low.sent m (sent-nil m there));
           some = λ m there. tt;
-          reading = λ m there waits. absurd (waits (done m (sent-nil m there)));
+          waiting = λ m there waits. absurd (waits (done m (sent-nil m there)));
         },
         above,
         refl,
       )
-
--- what waits goes on to wait as high
-pub same_high : (k later : Known) → level later.txns ≡ level k.txns → call_of later ≡ call_of k → (request : Request) → IsHighRead k request → IsHighRead later request
-same_high k later same call (requests.Get id epoch seq ts key) is = omega (arith, same, is)
-same_high k later same call (requests.Scan id epoch seq ts span) is = omega (arith, same, is)
-same_high k later same call (requests.Put meta seq ts key value) is = λ commits. is (sym call ∙ commits)
-same_high k later same call request is = tt

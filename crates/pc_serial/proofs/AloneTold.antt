@@ -23,6 +23,7 @@ use Rattle.pc_implicit.proofs.Moves.{is_first, open_is_first}
 use Rattle.pc_implicit.proofs.Outcomes.{outcomes_are_true}
 use Rattle.pc_implicit.proofs.StagesKnown.{HasSent}
 use Rattle.pc_implicit.specs.Causes.{IsCauseAt, IsGivenUpBy}
+use Rattle.pc_implicit.specs.Outcomes.{IsAbortedFor}
 use Rattle.pc_lists.proofs.Each.{each-contains, each-find}
 use Rattle.pc_lists.proofs.Lists.{contains_head, contains_nil, contains_tail}
 use Rattle.pc_proto.specs.declared.answer.Answer.TheVariants as answers
@@ -47,11 +48,13 @@ use Rattle.pc_proto.specs.Views.{is_committed_at}
 use Rattle.pc_serial.proofs.AloneRun.{meets_nothing, who}
 use Rattle.pc_serial.proofs.AloneStanding.{MeetsNone, contains_split}
 use Rattle.pc_serial.proofs.AloneTimes.{viewed-low}
-use Rattle.pc_serial.specs.Alone.{IsAlone, the_session}
+use Rattle.pc_serial.specs.Alone.{IsAlone}
+use Rattle.pc_serial.specs.QuietWire.{the_session}
 use Rattle.pc_world.proofs.Knowing.{known_other, known_same}
-use Rattle.pc_world.proofs.Stamps.Within.{AtMost}
 use Rattle.pc_world.proofs.Prefixes.{run_front, run_induction, run_may}
+use Rattle.pc_world.proofs.Stamps.Within.{AtMost}
 use Rattle.pc_world.specs.After.{known_at}
+use Rattle.pc_world.specs.Counting.{LastIs}
 use Rattle.pc_world.specs.Known.{Known, call_of, open_txn}
 use Rattle.pc_world.specs.Known.Traffic.{Heard, Sent, sent_by}
 use Rattle.pc_world.specs.Known.Transactions.{Txn}
@@ -62,7 +65,6 @@ use Rattle.pc_world.specs.Run.{IsRun, protocol}
 use Rattle.pc_world.specs.Send.Abort.{MaySendAbort}
 use Rattle.pc_world.specs.Send.Push.{SessionPush, StoodInTheWay}
 use Rattle.pc_world.specs.Send.Recovery.{MaySendRecover, MetStaging}
-use Rattle.pc_world.specs.Counting.{LastIs}
 use Rattle.pc_world.specs.Tell.Refusal.{IsConflictOf, MayTellBlocked}
 use Rattle.pc_world.specs.Views.{shows_committed}
 
@@ -207,6 +209,28 @@ module _ (head : Head) (whole : List (Entry Event)) (run : IsRun head whole) (al
       by None there asked = absurd cc
       by (Some x) there asked = (x, subst (λ l. Contains l x) (sym split) (Contains-append_left history more x there), sends x x.event refl asked)
 
+  -- what is aborted its session gave up by itself
+  pub given_up_itself : (before : List (Entry Event)) → IsRun head before → (more : List (Entry Event)) → whole ≡ before ++ more → (id : TxnId) (why : Why) → IsAbortedFor head before id why
+      → (b : List (Entry Event)) × (x : Entry Event) × (l : List (Entry Event)) × (before ≡ b ++ x ∷ l) × IsGivenUpBy head b x id why
+  given_up_itself before run_before more split id why a =
+      let cause = aborts_have_causes head before id why a.epoch a.ts run_before a.says in
+      of-cause why cause.before cause.e cause.later cause.whole cause.cause
+    where
+      of-cause : (why : Why) (b : List (Entry Event)) (x : Entry Event) (l : List (Entry Event)) → before ≡ b ++ x ∷ l → IsCauseAt head b x id why
+          → (b : List (Entry Event)) × (x : Entry Event) × (l : List (Entry Event)) × (before ≡ b ++ x ∷ l) × IsGivenUpBy head b x id why
+      of-cause (whys.Pushed by) b x l at cause =
+          let p = cause.push in
+          let whole_at : whole ≡ b ++ ((x ∷ l) ++ more) = split ∙ ap (λ h. h ++ more) at ∙ append_assoc b (x ∷ l) more in
+          let s = named-send b ((x ∷ l) ++ more) whole_at x.event p.request p.asked in
+          absurd (pushes_none s.0 s.1 s.2.0 s.2.1 cause.holder by cause.level cause.now _ (s.2.2 ∙ ap (events.Send s.2.0 s.2.1) p.is))
+      of-cause (whys.Missing key by) b x l at cause =
+          let p = cause.recovery in
+          let whole_at : whole ≡ b ++ ((x ∷ l) ++ more) = split ∙ ap (λ h. h ++ more) at ∙ append_assoc b (x ∷ l) more in
+          let s = named-send b ((x ∷ l) ++ more) whole_at x.event p.request p.asked in
+          absurd (recovers_none s.0 s.1 s.2.0 s.2.1 id cause.epoch cause.ts cause.anchor _ (s.2.2 ∙ ap (events.Send s.2.0 s.2.1) p.is))
+      of-cause (whys.Refresh key ts) b x l at cause = (b, x, l, at, cause.0)
+      of-cause whys.Client b x l at cause = (b, x, l, at, cause)
+
   -- an abort that it hears of is its own
   pub abort_is_own : (before : List (Entry Event)) (e : Entry Event) (later : List (Entry Event)) → whole ≡ before ++ e ∷ later → (t : Txn) (why : Why) → open_txn (known_at head the_session before) ≡ Some t
       → e.actor ≡ the_session → e.event ≡ events.Tell (answers.Aborted why) → call_of (known_at head the_session before) ≡ Some calls.Rollback
@@ -215,8 +239,8 @@ module _ (head : Head) (whole : List (Entry Event)) (run : IsRun head whole) (al
       let run_before = run_front head before (e ∷ later) (subst (IsRun head) split run) in
       let outcomes = outcomes_are_true head whole run in
       let told = outcomes.told before e later t.id why split (record { answer = answers.Aborted why; tells = tells; says = refl; t = t; opened = subst (λ a. open_txn (known_at head a before) ≡ Some t) (sym me) opened; named = refl }) in
-      let cause = aborts_have_causes head before t.id why told.epoch told.ts run_before told.says in
-      by-cause why cause.before cause.e cause.later cause.whole cause.cause
+      let up = given_up_itself before run_before (e ∷ later) split t.id why told in
+      own-abort why up.0 up.1 up.2 up.3 up.4
     where
       own-abort : (why : Why) (b : List (Entry Event)) (x : Entry Event) (l : List (Entry Event)) → before ≡ b ++ x ∷ l → IsGivenUpBy head b x t.id why → call_of (known_at head the_session before) ≡ Some calls.Rollback
       own-abort why b x l at g =
@@ -245,17 +269,3 @@ module _ (head : Head) (whole : List (Entry Event)) (run : IsRun head whole) (al
                 sym (ap call_of same)
                 ∙ up.ends (subst (λ i. is_first i (session_at head g.meta.id before).txns ≡ true) (sym named) (subst (λ (l : Known). is_first t.id l.txns ≡ true) (sym same) first.0)) (subst (λ (l : Known). l.is_open ≡ true) (sym same) first.1)
           ]
-
-      by-cause : (why : Why) (b : List (Entry Event)) (x : Entry Event) (l : List (Entry Event)) → before ≡ b ++ x ∷ l → IsCauseAt head b x t.id why → call_of (known_at head the_session before) ≡ Some calls.Rollback
-      by-cause (whys.Pushed by) b x l at cause =
-          let p = cause.push in
-          let whole_at : whole ≡ b ++ ((x ∷ l) ++ (e ∷ later)) = split ∙ ap (λ h. h ++ e ∷ later) at ∙ append_assoc b (x ∷ l) (e ∷ later) in
-          let s = named-send b ((x ∷ l) ++ (e ∷ later)) whole_at x.event p.request p.asked in
-          absurd (pushes_none s.0 s.1 s.2.0 s.2.1 cause.holder by cause.level cause.now _ (s.2.2 ∙ ap (events.Send s.2.0 s.2.1) p.is))
-      by-cause (whys.Missing key by) b x l at cause =
-          let p = cause.recovery in
-          let whole_at : whole ≡ b ++ ((x ∷ l) ++ (e ∷ later)) = split ∙ ap (λ h. h ++ e ∷ later) at ∙ append_assoc b (x ∷ l) (e ∷ later) in
-          let s = named-send b ((x ∷ l) ++ (e ∷ later)) whole_at x.event p.request p.asked in
-          absurd (recovers_none s.0 s.1 s.2.0 s.2.1 t.id cause.epoch cause.ts cause.anchor _ (s.2.2 ∙ ap (events.Send s.2.0 s.2.1) p.is))
-      by-cause (whys.Refresh key ts) b x l at cause = own-abort (whys.Refresh key ts) b x l at cause.0
-      by-cause whys.Client b x l at cause = own-abort whys.Client b x l at cause

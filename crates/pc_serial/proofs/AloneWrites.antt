@@ -1,4 +1,5 @@
--- One session alone: a write that is not proved is of the open transaction, and a put of it was not answered yet.
+-- One session alone: of a write that is not proved a put was not answered yet; and it is of the open transaction, or that put went out before the
+-- open call.
 use Rattle.std.proofs.Common.{◌≡◌, ℕ, Bool, true, false, ◌==◌, ◌&&◌, ◌||◌, if◌then◌else◌, List, [], ◌∷◌, ◌++◌, map, ◌⊎◌, inl, inr, Option, None, Some, IfSome, Contains, refl, sym, ap, subst, ◌∙◌, append-nil}
 use Rattle.std.proofs.lemmas.Bool.{and_from, and_parts, eq-eqb, eqb-true}
 use Rattle.std.proofs.lemmas.List.Elements.{Contains-append_left, Contains-push, Contains-push_cases}
@@ -8,6 +9,7 @@ use Rattle.std.specs.Option.{option_to_list}
 use Rattle.pc_base.specs.declared.transaction.TxnId.{TxnId}
 use Rattle.pc_base.specs.Span.{same_key}
 use Rattle.pc_base.specs.Transaction.{same_txn}
+use Rattle.pc_implicit.specs.ReplyKinds.{IsOfKind}
 use Rattle.pc_lists.proofs.Lists.{contains_in_map}
 use Rattle.pc_lists.proofs.Same.{same_key-self, same_txn-is, same_txn-self}
 use Rattle.pc_proto.specs.declared.reply.Reply.{Reply}
@@ -15,9 +17,9 @@ use Rattle.pc_proto.specs.declared.reply.Reply.TheVariants as replies
 use Rattle.pc_proto.specs.declared.request.Request.{Request}
 use Rattle.pc_proto.specs.declared.request.Request.TheVariants as requests
 use Rattle.pc_proto.specs.Replies.{is_conflict}
-use Rattle.pc_implicit.specs.ReplyKinds.{IsOfKind}
 use Rattle.pc_serial.proofs.AloneStanding.{last_of}
 use Rattle.pc_world.specs.Known.{Known}
+use Rattle.pc_world.specs.Known.Statements.{Statement}
 use Rattle.pc_world.specs.Known.Traffic.{Heard, Sent}
 use Rattle.pc_world.specs.Known.Transactions.{Txn, txn_heard, txn_sent}
 use Rattle.pc_world.specs.Known.Writes.{Write, asked_again, is_proved, proved_at, with_put, with_put_reply, with_query_reply, writes_heard, writes_replied, writes_sent}
@@ -35,10 +37,14 @@ pub record IsAwaited (sent : List Sent) (heard : List Heard) (id : TxnId) (epoch
   pub put : IsPutOfWrite id epoch w m.request
   pub unheard : is_heard heard m ≡ false
 
--- Each write that is not proved is awaited, of the open transaction.
+-- The transaction is the open one, or the message did not go out in the open call.
+abbrev pub IsOpenOrEarlier : Known → TxnId → Sent → Type 0
+IsOpenOrEarlier k id m = ((id ≡ last_of k) × (k.is_open ≡ true)) ⊎ ((s : Statement) → k.statement ≡ Some s → Contains k.sent_now m → ⊥)
+
+-- Each write that is not proved is awaited.
 abbrev pub AreAwaited : Known → List Txn → Type 0
 AreAwaited k txns = (t : Txn) → Contains txns t → (w : Write) → Contains t.writes w → is_proved w ≡ false
-    → (t.id ≡ last_of k) × (k.is_open ≡ true) × IsAwaited k.sent k.heard t.id t.epoch w
+    → (a : IsAwaited k.sent k.heard t.id t.epoch w) × IsOpenOrEarlier k t.id a.m
 
 -- ---- what a write was before
 
@@ -158,18 +164,14 @@ unheard-more heard h m old new =
     ∙ ap (λ b. b || false) new
 
 module _ (k : Known) (awaited : AreAwaited k k.txns) where
-  -- where all was heard, all writes are proved
-  pub none_awaited : ((m : Sent) → Contains k.sent m → is_heard k.heard m ≡ true) → (t : Txn) → Contains k.txns t → (w : Write) → Contains t.writes w → is_proved w ≡ false → ⊥
-  none_awaited all t there w written unproved =
-      let a = (awaited t there w written unproved).2 in
-      let both = sym (all a.m a.listed) ∙ a.unheard in cc both
-
   -- a message is sent
   pub awaited_sent : (later : Known) (number range : ℕ) (request : Request) → later.sent ≡ k.sent ++ record { number = number; range = range; request = request } ∷ [] → later.heard ≡ k.heard → last_of later ≡ last_of k → later.is_open ≡ k.is_open
+      → later.statement ≡ k.statement → later.sent_now ≡ k.sent_now ++ record { number = number; range = range; request = request } ∷ []
+      → ((m : Sent) → Contains k.sent m → record { number = number; range = range; request = request } ≡ m → ⊥)
       → is_heard k.heard (record { number = number; range = range; request = request }) ≡ false
       → ((id : TxnId) (epoch : ℕ) (w : Write) → Lays id epoch request w → (id ≡ last_of k) × (k.is_open ≡ true))
       → AreAwaited later (map (txn_sent request) k.txns)
-  awaited_sent later number range request sent heard last opens fresh lays u there w written unproved =
+  awaited_sent later number range request sent heard last opens stated now other fresh lays u there w written unproved =
       let m0 : Sent = record { number = number; range = range; request = request } in
       let t = contains_in_map (txn_sent request) k.txns u there in
       let inside : Contains (writes_sent t.0.id t.0.epoch request t.0.writes) w = subst (λ (x : Txn). Contains x.writes w) (sym t.2) written in
@@ -178,46 +180,54 @@ module _ (k : Known) (awaited : AreAwaited k k.txns) where
       elim (sent-was t.0.id t.0.epoch request t.0.writes w inside) [
         | inl old ↦
             let a = awaited t.0 t.1 old.0 old.1 (old.2.proved unproved) in (
-              sym id ∙ a.0 ∙ sym last,
-              opens ∙ a.1,
               record {
-                m = a.2.m;
-                listed = subst (λ l. Contains l a.2.m) (sym sent) (Contains-append_left k.sent (m0 ∷ []) a.2.m a.2.listed);
-                put = subst (λ i. IsPutOfWrite i u.epoch w a.2.m.request) id (subst (λ n. IsPutOfWrite t.0.id n w a.2.m.request) epoch (put-as t.0.id t.0.epoch w old.0 a.2.m.request old.2 a.2.put));
-                unheard = subst (λ l. is_heard l a.2.m ≡ false) (sym heard) a.2.unheard;
+                m = a.0.m;
+                listed = subst (λ l. Contains l a.0.m) (sym sent) (Contains-append_left k.sent (m0 ∷ []) a.0.m a.0.listed);
+                put = subst (λ i. IsPutOfWrite i u.epoch w a.0.m.request) id (subst (λ n. IsPutOfWrite t.0.id n w a.0.m.request) epoch (put-as t.0.id t.0.epoch w old.0 a.0.m.request old.2 a.0.put));
+                unheard = subst (λ l. is_heard l a.0.m ≡ false) (sym heard) a.0.unheard;
               },
+              elim a.1 [
+                | inl is ↦ inl (sym id ∙ is.0 ∙ sym last, opens ∙ is.1)
+                | inr earlier ↦ inr (λ s is there_now.
+                    elim (Contains-push_cases k.sent_now m0 a.0.m (subst (λ l. Contains l a.0.m) now there_now)) [
+                      | inl before ↦ earlier s (sym stated ∙ is) before
+                      | inr new ↦ other a.0.m a.0.listed new
+                    ])
+              ],
             )
         | inr new ↦
             let is = lays t.0.id t.0.epoch w new in (
-              sym id ∙ is.0 ∙ sym last,
-              opens ∙ is.1,
               record {
                 m = m0;
                 listed = subst (λ l. Contains l m0) (sym sent) (Contains-push k.sent m0);
                 put = subst (λ i. IsPutOfWrite i u.epoch w request) id (subst (λ n. IsPutOfWrite t.0.id n w request) epoch new.put);
                 unheard = subst (λ l. is_heard l m0 ≡ false) (sym heard) fresh;
               },
+              inl (sym id ∙ is.0 ∙ sym last, opens ∙ is.1),
             )
       ]
 
   -- a reply is heard
   pub awaited_heard : (later : Known) (g : Option Heard) → later.sent ≡ k.sent → later.heard ≡ k.heard ++ option_to_list g → last_of later ≡ last_of k → later.is_open ≡ k.is_open
+      → later.statement ≡ k.statement → later.sent_now ≡ k.sent_now
       → IfSome g (λ h. (IsOfKind h.request h.reply) × (is_conflict h.reply ≡ false) × ((m : Sent) → Contains k.sent m → h.number ≡ m.number → m.request ≡ h.request))
       → AreAwaited later (map (txn_heard k.sent g) k.txns)
-  awaited_heard later g sent heard last opens so u there w written unproved =
+  awaited_heard later g sent heard last opens stated now so u there w written unproved =
       let t = contains_in_map (txn_heard k.sent g) k.txns u there in
       let inside : Contains (writes_heard t.0.id t.0.epoch g t.0.writes) w = subst (λ (x : Txn). Contains x.writes w) (sym t.2) written in
       let id : t.0.id ≡ u.id = ap (λ (x : Txn). x.id) t.2 in
       let epoch : t.0.epoch ≡ u.epoch = ap (λ (x : Txn). x.epoch) t.2 in
       let a = by g so t.0 t.1 inside in (
-        sym id ∙ a.0 ∙ sym last,
-        opens ∙ a.1,
         record {
-          m = a.2.m;
-          listed = subst (λ l. Contains l a.2.m) (sym sent) a.2.listed;
-          put = subst (λ i. IsPutOfWrite i u.epoch w a.2.m.request) id (subst (λ n. IsPutOfWrite t.0.id n w a.2.m.request) epoch a.2.put);
-          unheard = subst (λ l. is_heard l a.2.m ≡ false) (sym heard) a.2.unheard;
+          m = a.0.m;
+          listed = subst (λ l. Contains l a.0.m) (sym sent) a.0.listed;
+          put = subst (λ i. IsPutOfWrite i u.epoch w a.0.m.request) id (subst (λ n. IsPutOfWrite t.0.id n w a.0.m.request) epoch a.0.put);
+          unheard = subst (λ l. is_heard l a.0.m ≡ false) (sym heard) a.0.unheard;
         },
+        elim a.1 [
+          | inl is ↦ inl (sym id ∙ is.0 ∙ sym last, opens ∙ is.1)
+          | inr earlier ↦ inr (λ s is there_now. earlier s (sym stated ∙ is) (subst (λ l. Contains l a.0.m) now there_now))
+        ],
       )
     where
       written-of : (request : Request) (told : Reply) (id0 : TxnId) (epoch0 : ℕ) (w0 : Write) → IsPutOfWrite id0 epoch0 w0 request → IsOfKind request told → is_conflict told ≡ false → (ts : ℕ) × (told ≡ replies.Written ts)
@@ -237,19 +247,18 @@ module _ (k : Known) (awaited : AreAwaited k k.txns) where
           let both = sym proved ∙ unproved in cc both
 
       by : (g : Option Heard) → IfSome g (λ h. (IsOfKind h.request h.reply) × (is_conflict h.reply ≡ false) × ((m : Sent) → Contains k.sent m → h.number ≡ m.number → m.request ≡ h.request)) → (t : Txn) → Contains k.txns t
-          → Contains (writes_heard t.id t.epoch g t.writes) w → (t.id ≡ last_of k) × (k.is_open ≡ true) × IsAwaited k.sent (k.heard ++ option_to_list g) t.id t.epoch w
-      by None so t mine inside = let a = awaited t mine w inside unproved in (a.0, a.1, record { m = a.2.m; listed = a.2.listed; put = a.2.put; unheard = subst (λ l. is_heard l a.2.m ≡ false) (sym (append-nil k.heard)) a.2.unheard })
+          → Contains (writes_heard t.id t.epoch g t.writes) w → (a : IsAwaited k.sent (k.heard ++ option_to_list g) t.id t.epoch w) × IsOpenOrEarlier k t.id a.m
+      by None so t mine inside = let a = awaited t mine w inside unproved in (record { m = a.0.m; listed = a.0.listed; put = a.0.put; unheard = subst (λ l. is_heard l a.0.m ≡ false) (sym (append-nil k.heard)) a.0.unheard }, a.1)
       by (Some h) so t mine inside =
           let w0 = heals t.id t.epoch h.request h.reply t.writes w inside in
           let a = awaited t mine w0.0 w0.1 (w0.2.was.proved unproved) in (
-            a.0,
-            a.1,
             record {
-              m = a.2.m;
-              listed = a.2.listed;
-              put = put-as t.id t.epoch w w0.0 a.2.m.request w0.2.was a.2.put;
+              m = a.0.m;
+              listed = a.0.listed;
+              put = put-as t.id t.epoch w w0.0 a.0.m.request w0.2.was a.0.put;
               unheard =
-                  let b = answered h so.0 so.1 so.2 t.id t.epoch w0.0 w0.2 a.2 (h.number == a.2.m.number) refl in
-                  unheard-more k.heard h a.2.m a.2.unheard b;
+                  let b = answered h so.0 so.1 so.2 t.id t.epoch w0.0 w0.2 a.0 (h.number == a.0.m.number) refl in
+                  unheard-more k.heard h a.0.m a.0.unheard b;
             },
+            a.1,
           )

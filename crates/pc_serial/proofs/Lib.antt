@@ -35,5 +35,7 @@ pub mod SeenWrites
 pub mod SolePieces
 pub mod SpanPieces
 pub mod SpanRows
+pub mod StagedAlone
+pub mod StagedRun
 pub mod Undecided
 pub mod Written

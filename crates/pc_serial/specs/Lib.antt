@@ -3,3 +3,6 @@ pub mod FirstRow
 pub mod FirstRun
 pub mod Laws
 pub mod Plain
+pub mod QuietWire
+pub mod StagedRow
+pub mod Tidy

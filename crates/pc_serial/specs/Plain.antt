@@ -10,8 +10,10 @@ use Rattle.pc_proto.specs.declared.call.Call.{Call}
 use Rattle.pc_proto.specs.declared.call.Call.TheVariants as calls
 use Rattle.pc_proto.specs.declared.event.Event.{Event}
 use Rattle.pc_proto.specs.declared.event.Event.TheVariants as events
-use Rattle.pc_serial.specs.Alone.{IsAlone, the_session}
+use Rattle.pc_proto.specs.declared.why.Why.TheVariants as whys
+use Rattle.pc_serial.specs.Alone.{IsAlone}
 use Rattle.pc_serial.specs.Laws.{RunsInTurn}
+use Rattle.pc_serial.specs.QuietWire.{the_session}
 use Rattle.pc_world.specs.After.{known_at}
 use Rattle.pc_world.specs.Committed.{IsCommitted}
 use Rattle.pc_world.specs.Decisions.{TellsCommit}
@@ -22,8 +24,8 @@ use Rattle.pc_world.specs.Local.{Head}
 use Rattle.pc_world.specs.MayTell.{is_past_range, needs_txn}
 use Rattle.pc_world.specs.Run.{IsRun}
 
--- The answer is the plain one to the call: a value, rows, that it is written, committed or rolled back. A rollback may also say so by the abort
--- that it sent itself.
+-- The answer is the plain one to the call: a value, rows, that it is written, committed, or rolled back as the client wished. A rollback may say
+-- the last also as an abort, the one that it sent itself.
 abbrev pub IsPlainTo : Call → Answer → Type 0
 IsPlainTo (calls.Begin priority) (answers.Begun id ts) = ⊤
 IsPlainTo (calls.Get key) (answers.Value value) = ⊤
@@ -31,8 +33,8 @@ IsPlainTo (calls.Scan span) (answers.Rows rows) = ⊤
 IsPlainTo (calls.Put key value) answers.Written = ⊤
 IsPlainTo (calls.Delete key) answers.Written = ⊤
 IsPlainTo calls.Commit (answers.Committed id ts) = ⊤
-IsPlainTo calls.Rollback (answers.RolledBack id why) = ⊤
-IsPlainTo calls.Rollback (answers.Aborted why) = ⊤
+IsPlainTo calls.Rollback (answers.RolledBack id why) = why ≡ whys.Client
+IsPlainTo calls.Rollback (answers.Aborted why) = why ≡ whys.Client
 IsPlainTo (calls.Learn id) answers.Learnt = ⊤
 IsPlainTo (calls.Learn id) answers.NotYet = ⊤
 IsPlainTo calls.Round answers.Done = ⊤

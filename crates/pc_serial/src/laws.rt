@@ -31,7 +31,8 @@ pub fn one_quiet_session()
     ensures { OneQuietSession }
 {}
 
-/// A law: one session alone, whose messages go over a quiet wire and which finishes what is over, is told plain answers alone, and runs on the plain map.
+/// A law: one session alone, whose messages go over a quiet wire and which finishes what is over, is told plain answers alone, and runs on the plain map. Its
+/// writes may be on their way while it asks further calls, and its commits may stage them.
 pub fn one_session_runs_plainly()
     ensures { OneSessionRunsPlainly }
 {}

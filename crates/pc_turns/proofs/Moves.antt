@@ -71,8 +71,8 @@ pub marks_keep_order : MarksKeepOrder
 marks_keep_order order part known rises more mark above = rises_join 0 0 order part rises more (λ y c. omega arith) (after_mark order part known rises mark above)
 
 pub turns_are_kept : TurnsAreKept
-turns_are_kept head history parts order next opened stated stored makes goes =
-    subst (GoInTurns next opened stated head.sessions) (sym (clients_keep_order head history parts order stored makes)) goes
+turns_are_kept head history parts order next ended opened stated stored makes goes =
+    subst (GoInTurns next ended opened stated head.sessions) (sym (clients_keep_order head history parts order stored makes)) goes
 
 -- choosing from what was chosen already
 module _ (p q : Pair Event → Bool) (within : (x : Pair Event) → p x ≡ true → q x ≡ true) where
@@ -97,15 +97,15 @@ own_share head history number =
     (λ p is. ap is_client (sym (same_id-true (Session number) p.entry.actor is))) (pairs_of (protocol head) history)
 
 pub threads_go_on : ThreadsGoOn
-threads_go_on head history parts opening next opened stored begins opens each =
+threads_go_on head history parts opening next ended opened stored begins opens each =
     let front = beginnings_come_first head history parts opening stored begins in record {
       opening = opening;
       rest = front.0;
       whole = front.1;
       opens = opens;
       each = λ number from to. (
-          let gone : HasGoneAlone next parts number = each number from to in
+          let gone : HasGoneAlone next ended parts number = each number from to in
           let list : own (protocol head) gone.0.id history ≡ gone.0.own = All-contains (λ (part : Part Event). own (protocol head) part.id history ≡ part.own) parts gone.0 stored.lists gone.1 in
           let mine : entries_by number (client_pairs head history) ≡ gone.0.own = own_share head history number ∙ (ap (λ id. own (protocol head) id history) (sym gone.2) ∙ list) in
-          subst (λ ps. GoesByItself next number (is_at_end next number) [] ps) (sym mine) gone.3);
+          subst (λ ps. GoesByItself next ended number (is_at_end next number) [] ps) (sym mine) gone.3);
     }

@@ -1,6 +1,6 @@
 -- In which order sessions ask their calls and do their finishing jobs: each by itself, in stated turns, or on threads behind an opening.
 -- Read from the clients' entries alone. Own profile.
-use Rattle.std.specs.Prelude.{◌≡◌, ℕ, zero, suc, ◌+◌, ◌≤◌, Bool, true, is_some, not, Option, None, Some, List, [], ◌∷◌, ◌++◌, drop, map, All, IsTrue, ⊤}
+use Rattle.std.specs.Prelude.{◌≡◌, ℕ, zero, suc, ◌+◌, ◌≤◌, Bool, true, false, is_some, not, ◌⊎◌, Option, None, Some, List, [], ◌∷◌, ◌++◌, drop, map, All, IsTrue, ⊤}
 use Rattle.pc_base.specs.declared.actor.ActorId.TheVariants as actors
 use Rattle.pc_history.specs.declared.pair.Pair.{Pair}
 use Rattle.pc_proto.specs.declared.answer.Answer.{Answer}
@@ -42,15 +42,23 @@ pub record FinishesWhole (number : ℕ) (before part : List (Pair Event)) : Type
   pub done : jobs_of (before ++ part) ≡ drop 1 (jobs_of before)
   pub heard : All (λ m. IsTrue (is_heard (known_of (before ++ part)).heard m)) (known_of (before ++ part)).sent
 
--- The part is the session's next call, or nothing where none is next.
-abbrev pub AsksIfNext : ℕ → Option Call → List (Pair Event) → Type 0
-AsksIfNext number None part = part ≡ []
-AsksIfNext number (Some call) part = AsksWhole number call part
+-- The part is this call of the session, broken off: it was asked, and not told its answer.
+pub record AsksPartly (number : ℕ) (call : Call) (part : List (Pair Event)) : Type 0 where
+  pub whose : All (λ p. p.entry.actor ≡ actors.Session number) part
+  pub reading : ℕ
+  pub between : List Event
+  pub begins : events_of part ≡ events.Ask call reading ∷ between
+  pub within : All IsInBetween between
 
--- The part is the oldest of these jobs of the session, or nothing where none waits.
-abbrev pub FinishesIfLeft : ℕ → List (List Request) → List (Pair Event) → List (Pair Event) → Type 0
-FinishesIfLeft number [] before part = part ≡ []
-FinishesIfLeft number (job ∷ jobs) before part = FinishesWhole number before part
+-- The part is a job of the session, broken off: no call is asked in it.
+pub record FinishesPartly (number : ℕ) (part : List (Pair Event)) : Type 0 where
+  pub whose : All (λ p. p.entry.actor ≡ actors.Session number) part
+  pub within : All IsInBetween (events_of part)
+
+-- A session whose list has ended takes nothing; another one takes a part that is so.
+abbrev pub UnlessEnded : Bool → List (Pair Event) → Type 0 → Type 0
+UnlessEnded true part So = part ≡ []
+UnlessEnded false part So = So
 
 -- What the session takes next by itself: its oldest job where one waits, else its next call.
 abbrev pub turn_by_itself : ℕ → List (List Request) → Turn
@@ -61,12 +69,34 @@ turn_by_itself number (job ∷ jobs) = turns.Job number
 abbrev pub entries_by : ℕ → List (Pair Event) → List (Pair Event)
 entries_by number order = share_of (actors.Session number) order
 
--- The scripts say which call each session asks next, after its own entries.
-module _ (next : ℕ → List (Pair Event) → Option Call) where
+-- No call of the session's script is next.
+abbrev pub is_at_end : (ℕ → List (Pair Event) → Option Call) → ℕ → List (Pair Event) → Bool
+is_at_end next number before = not (is_some (next number (entries_by number before)))
+
+-- The scripts say which call each session asks next, after its own entries; and the test says of a session's own entries that they end its
+-- list, with a call or a job broken off where it was in one.
+module _ (next : ℕ → List (Pair Event) → Option Call) (ended : List (Pair Event) → Bool) where
+  -- The part is the session's next call after its own entries, or nothing where none is next.
+  abbrev pub AsksIfNext : ℕ → Option Call → List (Pair Event) → List (Pair Event) → Type 0
+  AsksIfNext number None mine part = part ≡ []
+  AsksIfNext number (Some call) mine part = AsksWhole number call part ⊎ (AsksPartly number call part × (ended (mine ++ part) ≡ true))
+
+  -- The part is the oldest of these jobs of the session, or nothing where none waits.
+  abbrev pub FinishesIfLeft : ℕ → List (List Request) → List (Pair Event) → List (Pair Event) → Type 0
+  FinishesIfLeft number [] mine part = part ≡ []
+  FinishesIfLeft number (job ∷ jobs) mine part = FinishesWhole number mine part ⊎ (FinishesPartly number part × (ended (mine ++ part) ≡ true))
+
+  -- The part is what the session takes of a call or a job, after its own entries.
+  abbrev pub AsksAfter : ℕ → List (Pair Event) → List (Pair Event) → Type 0
+  AsksAfter number mine part = UnlessEnded (ended mine) part (AsksIfNext number (next number mine) mine part)
+
+  abbrev pub FinishesAfter : ℕ → List (Pair Event) → List (Pair Event) → Type 0
+  FinishesAfter number mine part = UnlessEnded (ended mine) part (FinishesIfLeft number (jobs_of mine) mine part)
+
   -- The part is what the turn takes after these entries.
   abbrev pub IsTakenIn : Turn → List (Pair Event) → List (Pair Event) → Type 0
-  IsTakenIn (turns.Session number) before part = AsksIfNext number (next number (entries_by number before)) part
-  IsTakenIn (turns.Job number) before part = FinishesIfLeft number (jobs_of (entries_by number before)) (entries_by number before) part
+  IsTakenIn (turns.Session number) before part = AsksAfter number (entries_by number before) part
+  IsTakenIn (turns.Job number) before part = FinishesAfter number (entries_by number before) part
   IsTakenIn (turns.Recoverer number) before part = part ≡ []
 
   -- The part is what these turns take, one after another.
@@ -75,25 +105,22 @@ module _ (next : ℕ → List (Pair Event) → Option Call) where
   AreTakenIn (turn ∷ turns) before part =
       (first : List (Pair Event)) × (rest : List (Pair Event)) × (part ≡ first ++ rest) × IsTakenIn turn before first × AreTakenIn turns (before ++ first) rest
 
-  -- The part is what the session does by itself, its jobs before each further call, until the test is passed.
+  -- The part is what the session does by itself, its jobs before each further call, until the test is passed or its list has ended.
   pub data GoesByItself (number : ℕ) (test : List (Pair Event) → Bool) : List (Pair Event) → List (Pair Event) → Type 0 where
-    Ended : (before : List (Pair Event)) → jobs_of (entries_by number before) ≡ [] → test before ≡ true → GoesByItself number test before []
+    Passed : (before : List (Pair Event)) → jobs_of (entries_by number before) ≡ [] → test before ≡ true → GoesByItself number test before []
+    Ended : (before : List (Pair Event)) → ended (entries_by number before) ≡ true → GoesByItself number test before []
     Onwards : (before first rest : List (Pair Event))
         → ((jobs_of (entries_by number before) ≡ []) → test before ≡ true → ⊥)
         → IsTakenIn (turn_by_itself number (jobs_of (entries_by number before))) before first
         → GoesByItself number test (before ++ first) rest
         → GoesByItself number test before (first ++ rest)
 
-  -- No call of the session's script is next.
-  abbrev pub is_at_end : ℕ → List (Pair Event) → Bool
-  is_at_end number before = not (is_some (next number (entries_by number before)))
-
   -- The part is what is left: so many sessions, from this number on, go to their ends, one after another.
   abbrev pub GoToEnds : ℕ → ℕ → List (Pair Event) → List (Pair Event) → Type 0
   GoToEnds number zero before part = part ≡ []
   GoToEnds number (suc count) before part =
       (first : List (Pair Event)) × (rest : List (Pair Event)) × (part ≡ first ++ rest)
-      × GoesByItself number (is_at_end number) before first × GoToEnds (number + 1) count (before ++ first) rest
+      × GoesByItself number (is_at_end next number) before first × GoToEnds (number + 1) count (before ++ first) rest
 
   -- The clients' entries go in stated turns: the first session's opening, up to where this test is passed; the turns; and then each session
   -- in order to its end.
@@ -112,4 +139,4 @@ module _ (next : ℕ → List (Pair Event) → Option Call) where
     pub rest : List (Pair Event)
     pub whole : order ≡ opening ++ rest
     pub opens : GoesByItself 1 opened [] opening
-    pub each : (number : ℕ) → 1 ≤ number → number ≤ sessions → GoesByItself number (is_at_end number) [] (entries_by number order)
+    pub each : (number : ℕ) → 1 ≤ number → number ≤ sessions → GoesByItself number (is_at_end next number) [] (entries_by number order)

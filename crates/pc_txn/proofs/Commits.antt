@@ -87,7 +87,7 @@ module _ (k now : Known) (cause : Why) (spans : List Span) (t : Txn) (anchor : L
       proved = st.proved;
       reads =
           let s : TxnReadsStand t.id k.heard t.reads (record { spans = spans; ts = t.read_ts }) = st.reads in
-          subst (λ hs. TxnReadsStand t.id hs t.reads (record { spans = spans; ts = t.write_ts })) (sym heard-same) (record { kept = s.kept; of_reads = s.of_reads; good = good });
+          subst (λ hs. TxnReadsStand t.id hs t.reads (record { spans = spans; ts = t.write_ts })) (sym heard-same) (record { kept = s.kept; of_reads = s.of_reads; good = good; ordered = s.ordered });
     }
 
 -- its commit was sent

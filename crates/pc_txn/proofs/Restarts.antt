@@ -13,6 +13,7 @@ use Rattle.pc_proto.specs.declared.request.Request.{Request}
 use Rattle.pc_proto.specs.declared.request.Request.TheVariants as requests
 use Rattle.pc_proto.specs.declared.why.Why.TheVariants as whys
 use Rattle.pc_proto.specs.Requests.{is_put_of, subject}
+use Rattle.pc_reads.proofs.Goods.{none_read}
 use Rattle.pc_reads.specs.ReadsStanding.{TxnReadsStand}
 use Rattle.pc_txn.specs.Counted.{IsOwnHeard, IsOwnSent, IsOwnWrite}
 use Rattle.pc_txn.specs.declared.flight.InFlight.{InFlight}
@@ -106,7 +107,7 @@ stands_restarted k now t x anchor key ts st anchored more = record {
   laid = tt;
   unwritten = tt;
   proved = All-nil (IsProvedBy (t.write_ts));
-  reads = record { kept = All-nil (λ (r : Read). Contains [] r.span); of_reads = All-nil (λ span. Any (λ (r : Read). r.span ≡ span) []); good = All-nil (IsGoodAt t.id now.heard (max x.reads.ts x.write_ts)) };
+  reads = none_read t.id now.heard (max x.reads.ts x.write_ts);
 }
 
 same-number : (one other : TxnId) → same_txn one other ≡ true → one.number ≡ other.number
@@ -158,5 +159,5 @@ module _ (k now : Known) (session count : ℕ) (id : TxnId) (priority : Priority
     laid = tt;
     unwritten = tt;
     proved = All-nil (IsProvedBy ts);
-    reads = record { kept = All-nil (λ (r : Read). Contains [] r.span); of_reads = All-nil (λ span. Any (λ (r : Read). r.span ≡ span) []); good = All-nil (IsGoodAt id now.heard ts) };
+    reads = none_read id now.heard ts;
   }

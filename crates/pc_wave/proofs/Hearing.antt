@@ -102,6 +102,7 @@ module _ (k now : Known) (ms : List Message) (w : WaveStands k ms) (number : ℕ
             answered = all_answered;
             heard = subst (λ hs. Any (IsReplyAt number m.request r) hs) (sym more.heard_now) (any_last (IsReplyAt number m.request r) k.heard_now h (record { numbered = is.numbered; asked = same_request; told = is.told ∙ e }));
             kind = subst (λ r. MayAnswer m.request r) e may;
+            plain = refl;
           },
           far_m.1,
         );

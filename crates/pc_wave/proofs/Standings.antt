@@ -131,6 +131,7 @@ module _ (k k2 : Known) (sent_more : List Sent) (heard_more : List Heard) (more 
       answered = answered-kept b.answered;
       heard = subst (λ hs. Any (IsReplyAt number request reply) hs) (sym more.heard_now) (any_kept (IsReplyAt number request reply) k.heard_now heard_more b.heard);
       kind = b.kind;
+      plain = b.plain;
     }
 
     pub go_out-kept : MayGoOut k request → MayGoOut k2 request

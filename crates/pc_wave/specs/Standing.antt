@@ -6,6 +6,7 @@ use Rattle.pc_proto.specs.declared.reply.Reply.{Reply}
 use Rattle.pc_proto.specs.declared.reply.Reply.TheVariants as replies
 use Rattle.pc_proto.specs.declared.request.Request.{Request}
 use Rattle.pc_proto.specs.declared.request.Request.TheVariants as requests
+use Rattle.pc_proto.specs.Replies.{is_conflict}
 use Rattle.pc_wave.specs.declared.message.Message.{Message}
 use Rattle.pc_wave.specs.declared.message.Progress.{Progress}
 use Rattle.pc_wave.specs.declared.message.Progress.TheVariants as progresses
@@ -50,12 +51,13 @@ pub record IsReplyAt (number : ℕ) (request : Request) (reply : Reply) (h : Hea
   pub asked : h.request ≡ request
   pub told : h.reply ≡ reply
 
--- The request came back with this reply, which is one that may be given to it.
+-- The request came back with this reply, which is one that may be given to it, and no conflict.
 pub record HasComeBack (k : Known) (number : ℕ) (request : Request) (reply : Reply) : Type 0 where
   pub out : IsSentUnder k number request
   pub answered : AreAnsweredNow k request
   pub heard : Any (IsReplyAt number request reply) k.heard_now
   pub kind : MayAnswer request reply
+  pub plain : is_conflict reply ≡ false
 
 -- The request met this conflict, and no reply to it was heard after that.
 pub record MetConflict (k : Known) (number : ℕ) (request : Request) (conflict : Reply) : Type 0 where

@@ -4,9 +4,10 @@ use Rattle.pc_call.specs.Learned.{known_heard}
 use Rattle.pc_call.specs.Serving.{InCall}
 use Rattle.pc_call.proofs.call.OpenCall.heard.Goals as goal
 
-pub returns : goal.returns
-returns c = record {
-  stands = λ session clock begun splits k x h counted w waited is on.
-      subst (λ now. InCall splits (known_heard h k) x c.args.self.now.purpose now) (sym c.heard.ensures.made)
-      (call_heard session clock begun splits k x c.args.self.now.purpose c.args.self.now.wave counted w c.args.number c.args.reply h waited is on);
-}
+pub returns-clause-stands : goal.returns-clause-stands
+returns-clause-stands c = λ session clock begun splits k x h counted w waited is on.
+    subst (λ now. InCall splits (known_heard h k) x c.args.self.now.purpose now) (sym c.heard.ensures.made)
+    (call_heard session clock begun splits k x c.args.self.now.purpose c.args.self.now.wave counted w c.args.number c.args.reply h waited is on)
+
+pub returns-clause-awaited : goal.returns-clause-awaited
+returns-clause-awaited c = λ splits k x other w waited. c.heard.ensures.awaited k other w.wave waited

@@ -7,11 +7,9 @@ use Rattle.pc_txn.specs.Opened.{next_put}
 use Rattle.pc_wave.specs.Messages.{message_to_send}
 use Rattle.pc_call.proofs.call.OpenCall.write.Goals as goal
 
-pub returns : goal.returns
-returns c = record {
-  stands = λ splits k s why fresh call none.
-      let x = c.args.txn.now in
-      let e : c.in_ok-wave.wave ≡ message_to_send (next_put x c.args.key.now c.args.value.now) ∷ [] = c.in_ok-wave.ensures ∙ ap (λ r. message_to_send r ∷ []) c.in_ok-next_put.ensures in
-      subst (λ now. InCall splits k x (purposes.Write false) now) (sym e)
-      (write_begins k x s why fresh splits c.args.key.now c.args.value.now call none);
-}
+pub returns-clause-stands : goal.returns-clause-stands
+returns-clause-stands c = λ splits k s why fresh call none.
+    let x = c.args.txn.now in
+    let e : c.in_ok-wave.wave ≡ message_to_send (next_put x c.args.key.now c.args.value.now) ∷ [] = c.in_ok-wave.ensures ∙ ap (λ r. message_to_send r ∷ []) c.in_ok-next_put.ensures in
+    subst (λ now. InCall splits k x (purposes.Write false) now) (sym e)
+    (write_begins k x s why fresh splits c.args.key.now c.args.value.now call none)

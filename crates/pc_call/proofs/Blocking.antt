@@ -1,0 +1,136 @@
+-- An open call is told what blocks it, and its transaction stays open.
+use Rattle.std.proofs.Common.{◌≡◌, ℕ, true, false, ◌⊎◌, inl, inr, List, [], ◌∷◌, ◌++◌, Option, None, Some, IfSome, refl, sym, ap, ◌∙◌, subst, All, Any, IsTrue}
+use Rattle.std.proofs.lemmas.List.Elements.{All-cons, All-head, All-nil, All-tail, All-weaker}
+use Rattle.std.proofs.lemmas.Option.{same_Some}
+use Rattle.std.specs.Option.{option_map}
+use Rattle.pc_base.specs.declared.transaction.TxnId.{TxnId}
+use Rattle.pc_call.proofs.Again.{beside_quiet}
+use Rattle.pc_call.proofs.Eighths.{told_blocked}
+use Rattle.pc_call.proofs.Rounding.{IsBlockable, blocked_due, flight_suits, none_out, round_blocks}
+use Rattle.pc_call.proofs.Told.{blocked_keeps, may_tell, stays_as_is, unavailable_keeps}
+use Rattle.pc_call.specs.declared.purpose.Purpose.{Purpose}
+use Rattle.pc_call.specs.Rounding.{GoesOnBeside, RefusesRound}
+use Rattle.pc_call.specs.Serving.{InCall, IsOpenIn, out_of}
+use Rattle.pc_call.specs.Suiting.{SuitsFlight}
+use Rattle.pc_call.specs.Telling.{MayTellOpen}
+use Rattle.pc_proto.specs.declared.answer.Answer.{Answer}
+use Rattle.pc_proto.specs.declared.answer.Answer.TheVariants as answers
+use Rattle.pc_proto.specs.declared.call.Call.{Call}
+use Rattle.pc_proto.specs.declared.call.Call.TheVariants as calls
+use Rattle.pc_proto.specs.declared.meta.TxnMeta.{TxnMeta}
+use Rattle.pc_proto.specs.declared.reply.Reply.{Reply}
+use Rattle.pc_proto.specs.declared.reply.Reply.TheVariants as replies
+use Rattle.pc_proto.specs.declared.why.Why.TheVariants as whys
+use Rattle.pc_proto.specs.Replies.{holder_in}
+use Rattle.pc_proto.specs.Requests.{is_about}
+use Rattle.pc_txn.proofs.Keeping.{quiet_leaves, stands_on}
+use Rattle.pc_txn.specs.Counted.{IsCounted}
+use Rattle.pc_txn.specs.declared.txn.OpenTxn.{OpenTxn}
+use Rattle.pc_txn.specs.Standing.{HasMovedOn, LeavesAsIs, TxnStands, is_plain}
+use Rattle.pc_wave.specs.declared.message.Message.{Message}
+use Rattle.pc_wave.specs.declared.step.Step.TheVariants as steps
+use Rattle.pc_wave.specs.Messages.{step_of}
+use Rattle.pc_wave.specs.Standing.{goes_beside}
+use Rattle.pc_world.specs.Known.{Known}
+use Rattle.pc_world.specs.Known.Statements.{Statement}
+use Rattle.pc_world.specs.Known.Traffic.{Heard}
+use Rattle.pc_world.specs.Known.Transactions.{Txn}
+use Rattle.pc_world.specs.Send.Recovery.{was_refused}
+use Rattle.pc_world.specs.Tell.Refusal.{IsUncommittedIn, MayBlock, MetEight, WasLost}
+
+-- another call than a commit asks for nothing here
+uncommitted : (k : Known) (call : Call) → (call ≡ calls.Commit → ⊥) → IsUncommittedIn k call
+uncommitted k calls.Commit other = absurd (other refl)
+uncommitted k call other = tt
+
+blocks_no_rollback : (call : Call) → MayBlock call → call ≡ calls.Rollback → ⊥
+blocks_no_rollback call may e = subst MayBlock e may
+
+blocks_no_round : (call : Call) → MayBlock call → call ≡ calls.Round → ⊥
+blocks_no_round call may e = subst MayBlock e may
+
+module _ (splits : List (List ℕ)) (session : ℕ) (k : Known) (t : Txn) (x : OpenTxn) (s : Statement) (open_in : IsOpenIn k t) (st : TxnStands k None t x) (client : x.cause ≡ whys.Client) (opened : k.statement ≡ Some s) (b : IsBlockable s) (flight : SuitsFlight s.call x.in_flight) where
+  suits_again : (other : Statement) → k.statement ≡ Some other → SuitsFlight other.call x.in_flight
+  suits_again other is = subst (λ (s : Statement). SuitsFlight s.call x.in_flight) (same_Some s other (sym opened ∙ is)) flight
+
+  -- the call may be told which transaction blocks it
+  blocked : (holder : TxnId) → Any (λ h. IsTrue (was_refused holder h)) k.heard_now ⊎ MetEight holder k.heard_now → MayTellOpen splits session k (answers.Blocked holder) x
+  blocked holder why = record {
+    may = record {
+      may = may_tell splits session k s (answers.Blocked holder) opened open_in.is_open b.within (record { asked = b.may; why = why; uncommitted = uncommitted k s.call b.other });
+      written = tt;
+      aborts = tt;
+      restarts = tt;
+      eighth = told_blocked k s (answers.Blocked holder) opened b.other (holder, refl);
+    };
+    left = refl;
+    after = stays_as_is k t x open_in st client (answers.Blocked holder) (blocked_keeps holder) refl;
+    suits = suits_again;
+  }
+
+module _ (session clock count : ℕ) (splits : List (List ℕ)) (k : Known) (x : OpenTxn) (p : Purpose) (ms : List Message) (counted : IsCounted session clock count k) (w : InCall splits k x p ms) where
+  -- by the eighth conflict of a request
+  pub blocked_by_eighth : (holder : TxnId) → step_of ms ≡ steps.Blocked holder → MayTellOpen splits session k (answers.Blocked holder) x
+  blocked_by_eighth holder due =
+      let b = blocked_due session clock count splits k x p ms counted w holder due in
+      blocked splits session k w.t x w.s w.open_in (subst (λ o. TxnStands k o w.t x) (none_out session clock count splits k x p ms counted w b.0) w.stands) w.cause w.opened b.0
+      (flight_suits session clock count splits k x p ms counted w b.0) holder (inr b.1)
+
+  module _ (now : Known) (number : ℕ) (conflict : Reply) (due : step_of ms ≡ steps.Round number conflict) (g : GoesOnBeside k now x.id) where
+    b : IsBlockable w.s
+    b = round_blocks session clock count splits k x p ms counted w number conflict due
+
+    gone : HasMovedOn k now g.sent_more g.heard_more
+    gone = record { sent = g.more.sent; heard = g.more.heard; begun = g.begun; high = g.high }
+
+    same_id : x.id ≡ w.t.id
+    same_id = ap (λ x. x.id) w.stands.same
+
+    leaves : (hs : List Heard) → All (λ h. IsTrue (goes_beside h.request)) hs → All (λ h. is_about x.id h.request ≡ false) hs → All (LeavesAsIs w.t) hs
+    leaves [] a o = All-nil (LeavesAsIs w.t)
+    leaves (h ∷ hs) a o =
+        let quiet : is_plain h.request ≡ true = beside_quiet h.request (All-head (λ h. IsTrue (goes_beside h.request)) h hs a) in
+        let no : is_about w.t.id h.request ≡ false = subst (λ id. is_about id h.request ≡ false) same_id (All-head (λ h. is_about x.id h.request ≡ false) h hs o) in
+        All-cons (LeavesAsIs w.t) h hs (quiet_leaves w.t h quiet (λ about. absurd cc))
+        (leaves hs (All-tail (λ h. IsTrue (goes_beside h.request)) h hs a) (All-tail (λ h. is_about x.id h.request ≡ false) h hs o))
+
+    stands_now : TxnStands now None w.t x
+    stands_now =
+        stands_on k now None w.t x g.sent_more g.heard_more (subst (λ o. TxnStands k o w.t x) (none_out session clock count splits k x p ms counted w b) w.stands) gone
+        (All-weaker (λ m. IsTrue (goes_beside m.request)) (λ m. IsTrue (is_plain m.request)) (λ m of. beside_quiet m.request of) g.sent_more g.sent_beside)
+        (leaves g.heard_more g.heard_beside g.other)
+
+    open_now : IsOpenIn now w.t
+    open_now = record { others = w.open_in.others; is_open = g.is_open ∙ w.open_in.is_open; first = g.txns ∙ w.open_in.first }
+
+    -- by a push that was refused
+    pub blocked_by_push : (holder : TxnId) → Any (λ h. IsTrue (was_refused holder h)) now.heard_now → MayTellOpen splits session now (answers.Blocked holder) x
+    blocked_by_push holder refused =
+        blocked splits session now w.t x w.s open_now stands_now w.cause (g.statement ∙ w.opened) b (flight_suits session clock count splits k x p ms counted w b) holder (inl refused)
+
+    -- or it is not answered
+    pub lost_in_round : (faults : ℕ) → WasLost now faults → MayTellOpen splits session now (answers.Unavailable faults) x
+    lost_in_round faults lost = record {
+      may = record {
+        may = may_tell splits session now w.s (answers.Unavailable faults) (g.statement ∙ w.opened) open_now.is_open b.within (record {
+          no_rollback = λ e. blocks_no_rollback w.s.call b.may e;
+          no_round = λ e. blocks_no_round w.s.call b.may e;
+          lost = lost;
+          uncommitted = uncommitted now w.s.call b.other;
+        });
+        written = tt;
+        aborts = tt;
+        restarts = tt;
+        eighth = λ s is. tt;
+      };
+      left = refl;
+      after = stays_as_is now w.t x open_now stands_now w.cause (answers.Unavailable faults) (unavailable_keeps faults) refl;
+      suits = suits_again splits session now w.t x w.s open_now stands_now w.cause (g.statement ∙ w.opened) b (flight_suits session clock count splits k x p ms counted w b);
+    }
+
+  -- what is told where the push was refused
+  pub refusal_told : (now : Known) (number : ℕ) (conflict : Reply) (due : step_of ms ≡ steps.Round number conflict) → RefusesRound k now x.id conflict → (answer : Option Answer) → answer ≡ option_map answers.Blocked (holder_in conflict)
+      → IfSome answer (λ answer. MayTellOpen splits session now answer x)
+  refusal_told now number (replies.Conflict holder ts key) due refused answer is =
+      subst (λ answer. IfSome answer (λ answer. MayTellOpen splits session now answer x)) (sym is) (blocked_by_push now number (replies.Conflict holder ts key) due refused.beside holder.id refused.refused)
+  refusal_told now number conflict due refused answer is = absurd refused.refused

@@ -1,0 +1,242 @@
+-- The reply to the commit of an open call shows that its record is pending: the commit goes on, or is given up.
+use Rattle.std.proofs.Common.{◌≡◌, ℕ, ◌+◌, ◌<◌, ◌≤◌, max, nat_lt, Bool, true, false, cond, ◌&&◌, ◌==◌, ◌⊎◌, inl, inr, List, [], ◌∷◌, ◌++◌, map, Option, None, Some, refl, sym, ap, ◌∙◌, subst, arith, All, Any, IsTrue, count_by}
+use Rattle.std.specs.List.{list_any}
+use Rattle.std.proofs.lemmas.Bool.{eq-eqb, ltb-false, ltb-true}
+use Rattle.std.proofs.lemmas.List.Elements.{All-push, All-weaker}
+use Rattle.pc_base.specs.declared.limits.TheConstants.{MOST_REFUSALS}
+use Rattle.pc_base.specs.declared.transaction.TxnId.{TxnId}
+use Rattle.pc_call.proofs.Decided.{commit_known, commit_out, commit_said, commit_stands, commits, one_out, within}
+use Rattle.pc_call.proofs.Eighths.{told_moved}
+use Rattle.pc_call.proofs.Facts.{none_staged, open_is, unmoved}
+use Rattle.pc_call.proofs.Hearing.{far, gone, paced2, split2}
+use Rattle.pc_call.proofs.Reading.{sent_in}
+use Rattle.pc_call.proofs.Told.{may_tell, moved_keeps, stays_as_is}
+use Rattle.pc_call.specs.Committing.{AreRefusals, CommitsOn, IsRefusalOf, IsUsedUp}
+use Rattle.pc_call.specs.declared.purpose.Purpose.{Purpose}
+use Rattle.pc_call.specs.declared.purpose.Purpose.TheVariants as purposes
+use Rattle.pc_call.specs.Learned.{known_heard}
+use Rattle.pc_call.specs.Paced.{IsPaced}
+use Rattle.pc_call.specs.Serving.{InCall, IsCommitBelow, IsCommitCall, IsOpenIn, IsOutHere, IsRefreshUpTo, IsRefusedBy, MetNoWrite, ServesCommit, WasRefusedIfCommit}
+use Rattle.pc_call.specs.Suiting.{SuitsFlight}
+use Rattle.pc_call.specs.Telling.{MayTellOpen}
+use Rattle.pc_lists.proofs.Anywhere.{any_kept, any_last, any_weaker}
+use Rattle.pc_proto.specs.declared.answer.Answer.TheVariants as answers
+use Rattle.pc_proto.specs.declared.reply.Reply.{Reply}
+use Rattle.pc_proto.specs.declared.reply.Reply.TheVariants as replies
+use Rattle.pc_proto.specs.declared.request.Request.{Request}
+use Rattle.pc_proto.specs.declared.request.Request.TheVariants as requests
+use Rattle.pc_proto.specs.declared.view.View.{View}
+use Rattle.pc_proto.specs.declared.view.View.TheVariants as views
+use Rattle.pc_proto.specs.Replies.{is_conflict, is_undecided_status, status_ts}
+use Rattle.pc_proto.specs.Requests.{is_commit}
+use Rattle.pc_proto.specs.Stamps.{greatest_of, reply_stamps}
+use Rattle.pc_reads.specs.Replies.{unrefreshed_by}
+use Rattle.pc_refusals.specs.Moves.{CountsMoves, DecidesAt, ShowsRecord, moves_with}
+use Rattle.pc_txn.proofs.Commits.{commit_now, commit_refused}
+use Rattle.pc_txn.proofs.Keeping.{each_commit-more}
+use Rattle.pc_txn.specs.Counted.{IsCounted}
+use Rattle.pc_txn.specs.declared.txn.OpenTxn.{OpenTxn}
+use Rattle.pc_txn.specs.Opened.{own_commit, risen_above}
+use Rattle.pc_txn.specs.Standing.{IsOutOrRefused, TxnStands}
+use Rattle.pc_wave.proofs.Lists.{at_least-fewer}
+use Rattle.pc_wave.specs.declared.message.Message.{Message}
+use Rattle.pc_wave.specs.declared.message.Progress.TheVariants as progresses
+use Rattle.pc_wave.specs.Messages.{is_to_send, progress_to_send, wave_awaits}
+use Rattle.pc_wave.specs.Standing.{IsHeardTo, IsMessageAt}
+use Rattle.pc_world.specs.Answering.{MayAnswer}
+use Rattle.pc_world.specs.Counting.{LastIs}
+use Rattle.pc_world.specs.Follows.Eighth.{WasMovedEighth}
+use Rattle.pc_world.specs.Follows.Resends.{ShowsLaterEpoch}
+use Rattle.pc_world.specs.Known.{Known}
+use Rattle.pc_world.specs.Known.Traffic.{Heard, Sent}
+use Rattle.pc_world.specs.Known.Transactions.{Txn, txn_heard}
+use Rattle.pc_world.specs.StageFate.{IsDead, SentCommit, WasCommitRefused, commit_request}
+use Rattle.pc_world.specs.Tell.Data.{was_sent_now}
+use Rattle.pc_world.specs.Tell.Refusal.{WasMoved}
+
+below-more : (low high : ℕ) (r : Request) → low ≤ high → IsCommitBelow low r → IsCommitBelow high r
+below-more low high (requests.Commit meta ts locks) up below = omega arith
+below-more low high r up below = tt
+
+refused-more : (low high : ℕ) (m : Sent) → low ≤ high → (h : Heard) → IsRefusedBy low m h → IsRefusedBy high m h
+refused-more low high m up h r = record { numbered = r.numbered; asked = r.asked; undecided = r.undecided; past = by r.past }
+  where
+    by : IsCommitBelow low m.request ⊎ ShowsLaterEpoch h.request h.reply → IsCommitBelow high m.request ⊎ ShowsLaterEpoch h.request h.reply
+    by (inl below) = inl (below-more low high m.request up below)
+    by (inr later) = inr later
+
+module _ (session clock count : ℕ) (splits : List (List ℕ)) (k : Known) (x : OpenTxn) (p : Purpose) (ms : List Message) (counted : IsCounted session clock count k) (w : InCall splits k x p ms)
+    (number epoch recorded : ℕ) (h : Heard) (waited : wave_awaits number ms ≡ true) (is : IsHeardTo k number (replies.Status (views.Pending epoch recorded)) h) (n : ℕ) (e : p ≡ purposes.Commit n) where
+  abbrev view : View
+  view = views.Pending epoch recorded
+
+  abbrev k2 : Known
+  k2 = known_heard h k
+
+  abbrev t2 : Txn
+  t2 = txn_heard k.sent (Some h) w.t
+
+  abbrev x2 : OpenTxn
+  x2 = risen_above recorded x
+
+  abbrev c : ServesCommit n k w.s w.t x ms
+  c = commits session clock count splits k x p ms counted w number view h waited is n e
+
+  said : h.request ≡ commit_request (commit_now w.t c.commits.anchor)
+  said = commit_known session clock count splits k x p ms counted w number view h waited is n e
+
+  low : recorded ≤ k2.high
+  low = let f : greatest_of (reply_stamps h.reply) ≡ max 0 recorded = ap (λ y. greatest_of (reply_stamps y)) is.told in omega (arith, f)
+
+  stands2 : TxnStands k2 None t2 x2
+  stands2 =
+      commit_refused k k2 w.t x (commit_now w.t c.commits.anchor) epoch recorded h (commit_stands session clock count splits k x p ms counted w number view h waited is n e) c.commits.none_in_flight refl c.commits.anchored said is.told
+      (gone session clock count splits k x p ms counted w number (replies.Status view) h waited is) low
+
+  open2 : IsOpenIn k2 t2
+  open2 = record { others = map (txn_heard k.sent (Some h)) w.open_in.others; is_open = w.open_in.is_open; first = ap (map (txn_heard k.sent (Some h))) w.open_in.first }
+
+  writes_at : t2.write_ts ≡ max w.t.write_ts recorded
+  writes_at = sym (ap (λ x. x.write_ts) stands2.same) ∙ ap (λ (x : OpenTxn). max x.write_ts recorded) w.stands.same
+
+  past : (w.t.epoch < epoch) ⊎ (w.t.write_ts < recorded)
+  past = (subst (λ r. MayAnswer r (replies.Status view)) said is.kind).1
+
+  was_now : was_sent_now k h ≡ true
+  was_now = sent_in k number _ h (far session clock count splits k x p ms counted w number (replies.Status view) h waited is).0.out is.numbered
+
+  -- the reply shows where the record stands
+  pub shows : ShowsRecord k x.write_ts recorded h
+  shows = record {
+    asked = subst (DecidesAt x.write_ts) (sym (commit_said session clock count splits k x p ms counted w number view h waited is n e)) refl;
+    undecided = ap is_undecided_status is.told;
+    shown = ap status_ts is.told;
+    now = was_now;
+  }
+
+  pub few_before : n < MOST_REFUSALS
+  few_before = c.commits.few
+
+  pub moves_before : CountsMoves k n
+  moves_before = c.commits.moves
+
+  out_is : (m : Sent) → IsOutHere ms (commit_request (commit_now w.t c.commits.anchor)) m → m.number ≡ number
+  out_is m o =
+      let here : c.m.progress ≡ progresses.Sent m.number = one_out m.number c.m (subst (λ ms. wave_awaits m.number ms ≡ true) c.one o.waited) in
+      let there : c.m.progress ≡ progresses.Sent number = commit_out session clock count splits k x p ms counted w number view h waited is n e in
+      cc
+
+  refused_now : (m : Sent) → m.number ≡ number → m.request ≡ commit_request (commit_now w.t c.commits.anchor) → WasRefusedIfCommit t2.write_ts k2.heard_now m
+  refused_now m numbered asked = λ commits.
+      any_last (IsRefusedBy t2.write_ts m) k.heard_now h (record {
+        numbered = is.numbered ∙ sym numbered;
+        asked = said ∙ sym asked;
+        undecided = ap is_undecided_status is.told;
+        past = by past;
+      })
+    where
+      by : (w.t.epoch < epoch) ⊎ (w.t.write_ts < recorded) → IsCommitBelow t2.write_ts m.request ⊎ ShowsLaterEpoch h.request h.reply
+      by (inl later) = inr (subst (λ r. ShowsLaterEpoch r h.reply) (sym said) (subst (λ y. ShowsLaterEpoch (commit_request (commit_now w.t c.commits.anchor)) y) (sym is.told) later))
+      by (inr above) = let high : w.t.write_ts < t2.write_ts = omega (arith, writes_at, above) in inl (subst (IsCommitBelow t2.write_ts) (sym asked) high)
+
+  refused_both : (m : Sent) → IsOutHere ms (commit_request (commit_now w.t c.commits.anchor)) m ⊎ WasRefusedIfCommit w.t.write_ts k.heard_now m → WasRefusedIfCommit t2.write_ts k2.heard_now m
+  refused_both m (inl o) = refused_now m (out_is m o) o.asked
+  refused_both m (inr r) = λ commits.
+      any_weaker (IsRefusedBy w.t.write_ts m) (IsRefusedBy t2.write_ts m) (refused-more w.t.write_ts t2.write_ts m (omega (arith, writes_at))) k2.heard_now
+      (any_kept (IsRefusedBy w.t.write_ts m) k.heard_now (h ∷ []) (r commits))
+
+  refused2 : All (WasRefusedIfCommit t2.write_ts k2.heard_now) k.sent_now
+  refused2 =
+      let as_known : own_commit x c.commits.anchor ≡ commit_request (commit_now w.t c.commits.anchor) = ap (λ x. own_commit x c.commits.anchor) w.stands.same in
+      All-weaker (λ m. IsOutHere ms (commit_request (commit_now w.t c.commits.anchor)) m ⊎ WasRefusedIfCommit w.t.write_ts k.heard_now m) (WasRefusedIfCommit t2.write_ts k2.heard_now) refused_both k.sent_now
+      (subst (λ r. All (λ m. IsOutHere ms r m ⊎ WasRefusedIfCommit w.t.write_ts k.heard_now m) k.sent_now) as_known c.refused)
+
+  paced_none : IsPaced [] k2.heard_now
+  paced_none =
+      let paced = paced2 session clock count splits k x p ms counted w number (replies.Status view) h waited is in
+      record { pushes = λ id. let a = paced.pushes id in omega arith; resolves = paced.resolves }
+
+  reads_there : w.t.read_ts ≡ w.t.write_ts
+  reads_there =
+      c.there (ap progress_to_send (commit_out session clock count splits k x p ms counted w number view h waited is n e))
+
+  -- the commit goes on where it was moved fewer times than it may be
+  pub refused_goes_on : (n2 : ℕ) → CountsMoves k2 n2 → (WasMovedEighth k2 → ⊥) → CommitsOn n2 k2 x2
+  refused_goes_on n2 counts fewer = record {
+    t = t2;
+    s = w.s;
+    on = record {
+      open_in = open2;
+      stands = stands2;
+      client = w.cause;
+      opened = w.opened;
+      split = split2 session clock count splits k x p ms counted w number (replies.Status view) h waited is;
+      paced = paced_none;
+      commits = record {
+        call = c.commits.call;
+        anchor = c.commits.anchor;
+        anchored = c.commits.anchored;
+        none_in_flight = c.commits.none_in_flight;
+        few = few2 (nat_lt n2 MOST_REFUSALS) refl;
+        moves = counts;
+        unmet = All-push (λ h. is_conflict h.reply ≡ false) k.heard_now h c.commits.unmet (ap is_conflict is.told);
+      };
+      refused = refused2;
+      refreshes = subst (λ ts. All (λ m. IsRefreshUpTo ts m.request) k.sent_now) (sym reads_there) c.refreshes;
+      held = All-push MetNoWrite k.heard_now h c.held (ap unrefreshed_by is.told);
+    };
+  }
+    where
+      few2 : (b : Bool) → nat_lt n2 MOST_REFUSALS ≡ b → n2 < MOST_REFUSALS
+      few2 true e = ltb-true n2 MOST_REFUSALS e
+      few2 false e = absurd (fewer (at_least-fewer (WasMoved k2) MOST_REFUSALS n2 k2.heard_now (ltb-false n2 MOST_REFUSALS e) counts.moved))
+
+  -- and is given up where it was moved as often
+  pub refused_given_up : IsUsedUp k2 recorded → MayTellOpen splits session k2 (answers.Moved recorded) x2
+  refused_given_up used = record {
+    may = record {
+      may = may_tell splits session k2 w.s (answers.Moved recorded) w.opened w.open_in.is_open (within session clock count splits k x p ms counted w number view h waited is n e) (record {
+        t = t2;
+        opened = open_is k2 t2 open2;
+        asked = c.commits.call;
+        eight = used.eight;
+        last = used.last;
+        uncommitted = record {
+          stages = none_staged w.t.id (IsDead k2.heard) session clock count k counted;
+          commits = each_commit-more w.t.id (IsOutOrRefused None k2.heard) (WasCommitRefused k2.heard) refused_by k.sent stands2.refused;
+        };
+      });
+      written = tt;
+      aborts = tt;
+      restarts = tt;
+      eighth = told_moved k2 w.s (answers.Moved recorded) w.opened c.commits.call (recorded, refl);
+    };
+    left = refl;
+    after = stays_as_is k2 t2 x2 open2 stands2 w.cause (answers.Moved recorded) (moved_keeps recorded) refl;
+    suits = λ s is. subst (λ f. SuitsFlight s.call f) (sym c.commits.none_in_flight) tt;
+  }
+    where
+      refused_by : (commit : SentCommit) → IsOutOrRefused None k2.heard commit → WasCommitRefused k2.heard commit
+      refused_by commit (inl none) = absurd cc
+      refused_by commit (inr refused) = refused
+
+  pub refusal : (r : Option ℕ) → AreRefusals k2 recorded r → IsRefusalOf splits session k2 recorded x2 r
+  refusal None used = refused_given_up used
+  refusal (Some n2) counts = refused_goes_on n2 counts.0 counts.1
+
+-- so often was the commit moved that it is given up
+pub used_up : (k now : Known) (h : Heard) (ts recorded n n2 : ℕ) → n2 ≡ moves_with ts recorded n → n < MOST_REFUSALS → CountsMoves now n2 → (ts < recorded → LastIs (WasMoved now) (λ h. status_ts h.reply ≡ recorded) now.heard_now) → WasMovedEighth now → IsUsedUp now recorded
+used_up k now h ts recorded n n2 made few counts last eight = record { eight = eight; last = last (above (nat_lt ts recorded) refl) }
+  where
+    above : (b : Bool) → nat_lt ts recorded ≡ b → ts < recorded
+    above true is = ltb-true ts recorded is
+    above false is =
+        let same : n2 ≡ n = made ∙ ap (λ b. cond (b && nat_lt n MOST_REFUSALS) (n + 1) n) is in
+        absurd (unmoved now n (subst (CountsMoves now) same counts) (omega (arith, few)) eight)
+
+pub used_otherwise : (b : Bool) → b ≡ false → IsTrue b → ⊥
+used_otherwise true e is = cc
+used_otherwise false e is = cc
+
+pub same_count : (p : Purpose) (n m : ℕ) → p ≡ purposes.Commit n → p ≡ purposes.Commit m → n ≡ m
+same_count p n m one other = let e : purposes.Commit n ≡ purposes.Commit m = sym one ∙ other in cc

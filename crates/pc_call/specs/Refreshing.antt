@@ -1,0 +1,20 @@
+-- What follows the refreshes of a commit.
+use Rattle.std.specs.Prelude.{◌≡◌, ℕ, List, [], ◌∷◌, ⊤}
+use Rattle.pc_call.specs.declared.refreshes.Refreshed.{Refreshed}
+use Rattle.pc_call.specs.declared.refreshes.Refreshed.TheVariants as refreshes
+use Rattle.pc_call.specs.Serving.{InCall}
+use Rattle.pc_call.specs.Telling.{MayTellOpen}
+use Rattle.pc_proto.specs.declared.request.Request.{Request}
+use Rattle.pc_txn.specs.declared.txn.OpenTxn.{OpenTxn}
+use Rattle.pc_wave.specs.Messages.{message_to_send}
+use Rattle.pc_world.specs.Known.{Known}
+
+-- The commit goes out; or its call may be told that the transaction restarts, which stands so then.
+abbrev pub IsRefreshed : List (List ℕ) → ℕ → Known → OpenTxn → Refreshed → Type 0
+IsRefreshed splits session k x (refreshes.Commit call) = InCall splits k x call.purpose call.wave
+IsRefreshed splits session k x (refreshes.Restart answer) = MayTellOpen splits session k answer x
+
+-- A call that goes on has one message, which is to be sent.
+abbrev pub IsToSendAlone : Refreshed → Type 0
+IsToSendAlone (refreshes.Commit call) = (request : Request) × (call.wave ≡ message_to_send request ∷ [])
+IsToSendAlone (refreshes.Restart answer) = ⊤

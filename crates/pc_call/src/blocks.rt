@@ -1,0 +1,39 @@
+ghost use Rattle.std.specs.Prelude.{◌≡◌, ℕ, IfSome, List};
+ghost use Rattle.std.specs.Option.{option_map};
+ghost use Rattle.pc_call.specs.Rounding.{GoesOnBeside, RefusesRound};
+ghost use Rattle.pc_call.specs.Serving.{InCall};
+ghost use Rattle.pc_call.specs.Telling.{MayTellOpen};
+ghost use Rattle.pc_proto.specs.declared.answer.Answer.TheVariants as answers;
+ghost use Rattle.pc_proto.specs.declared.reply.Reply.{Reply};
+ghost use Rattle.pc_proto.specs.Replies.{holder_in};
+ghost use Rattle.pc_txn.specs.Counted.{IsCounted};
+ghost use Rattle.pc_txn.specs.declared.txn.OpenTxn.{OpenTxn};
+ghost use Rattle.pc_wave.specs.declared.step.Step.TheVariants as steps;
+ghost use Rattle.pc_wave.specs.Messages.{step_of};
+ghost use Rattle.pc_world.specs.Known.{Known};
+ghost use Rattle.pc_world.specs.Tell.Refusal.{WasLost};
+
+use crate::call::OpenCall;
+use pc_proto::{Answer, Reply};
+
+impl OpenCall {
+    /// In the round of this conflict, which one of its messages met, the push was refused: its call is told whose intent blocks it, and its transaction
+    /// stays open. A write stays in flight.
+    pub fn round_refused(self, conflict: &Reply) -> Option<Answer>
+        ensures blocked { result ≡ option_map answers.Blocked (holder_in conflict.now) }
+        ensures told { (session clock begun number : ℕ) (splits : List (List ℕ)) (start k : Known) (x : OpenTxn) → IsCounted session clock begun start → InCall splits start x self.purpose self.wave → step_of self.wave ≡ steps.Round number conflict.now → RefusesRound start k x.id conflict.now → IfSome result (λ answer. MayTellOpen splits session k answer x) }
+    {
+        match conflict.holder() {
+            Some(holder) => Some(Answer::Blocked { holder }),
+            None => None,
+        }
+    }
+
+    /// In the round of a conflict that one of its messages met, a message was lost so often: its call is told so, and its transaction stays open.
+    pub fn unavailable(self, faults: u32) -> Answer
+        ensures made { result ≡ answers.Unavailable faults }
+        ensures told { (session clock begun number : ℕ) (splits : List (List ℕ)) (start k : Known) (x : OpenTxn) (conflict : Reply) → IsCounted session clock begun start → InCall splits start x self.purpose self.wave → step_of self.wave ≡ steps.Round number conflict → GoesOnBeside start k x.id → WasLost k faults → MayTellOpen splits session k result x }
+    {
+        Answer::Unavailable { faults }
+    }
+}

@@ -1,0 +1,112 @@
+ghost use Rattle.std.specs.Prelude.{◌≡◌, ℕ, ◌<◌, true, List, [], ◌∷◌, None, Some, All, IfOk};
+ghost use Rattle.pc_base.specs.declared.limits.TheConstants.{MOST_REFUSALS};
+ghost use Rattle.pc_call.specs.Committing.{AreRefusals, CommitsOn, IsRefusalOf};
+ghost use Rattle.pc_call.specs.declared.purpose.Purpose.TheVariants as purposes;
+ghost use Rattle.pc_call.specs.Finished.{MayTellOver, left_at};
+ghost use Rattle.pc_call.specs.Fresh.{IsFresh};
+ghost use Rattle.pc_call.specs.Learned.{known_heard};
+ghost use Rattle.pc_call.specs.Serving.{InCall};
+ghost use Rattle.pc_proto.specs.declared.answer.Answer.TheVariants as answers;
+ghost use Rattle.pc_proto.specs.declared.call.Call.TheVariants as calls;
+ghost use Rattle.pc_proto.specs.declared.fate.Fate.TheVariants as fates;
+ghost use Rattle.pc_proto.specs.declared.reply.Reply.TheVariants as replies;
+ghost use Rattle.pc_proto.specs.declared.view.View.TheVariants as views;
+ghost use Rattle.pc_proto.specs.declared.why.Why.{Why};
+ghost use Rattle.pc_refusals.specs.Moves.{CountsMoves, ShowsRecord};
+ghost use Rattle.pc_txn.specs.Counted.{IsCounted};
+ghost use Rattle.pc_txn.specs.Opened.{risen_above};
+ghost use Rattle.pc_wave.specs.Messages.{is_to_send, wave_awaits};
+ghost use Rattle.pc_wave.specs.Standing.{HasMore, IsHeardTo};
+ghost use Rattle.pc_world.specs.Known.{Known};
+ghost use Rattle.pc_world.specs.Known.Statements.{Statement};
+ghost use Rattle.pc_world.specs.Known.Traffic.{Heard};
+
+use crate::call::OpenCall;
+use crate::over::{Over, left_of};
+use crate::purpose::Purpose;
+use pc_base::{NoMemory, Timestamp};
+use pc_proto::{Answer, Fate, Why};
+use pc_refusals::Refusals;
+use pc_txn::OpenTxn;
+use std::alloc::Global;
+
+impl OpenCall {
+    /// The open transaction, which wrote, goes on to commit after its commit was moved so often: what it read is refreshed first, where it
+    /// writes above where it reads. Refused for want of memory alone.
+    pub fn commits(alloc: Global, txn: &OpenTxn, refusals: Refusals) -> Result<OpenCall, NoMemory>
+        ensures unsent { IfOk result (λ call. All (λ m. is_to_send m ≡ true) call.wave) }
+        ensures goes_on { (splits : List (List ℕ)) (k : Known) → CommitsOn refusals k txn.now → IfOk result (λ call. InCall splits k txn.now call.purpose call.wave) }
+        ensures begins { (splits : List (List ℕ)) (k : Known) (s : Statement) (why : Why) (anchor : List ℕ) → IsFresh k txn.now s why → s.call ≡ calls.Commit → refusals ≡ 0 → txn.now.anchor ≡ Some anchor → txn.now.in_flight ≡ None → IfOk result (λ call. InCall splits k txn.now call.purpose call.wave) }
+    {
+        if txn.reads.is_to_refresh(txn.write_ts) {
+            return OpenCall::refresh(alloc, txn, refusals);
+        }
+        match &txn.anchor {
+            Some(anchor) => OpenCall::commit(alloc, txn, anchor, refusals),
+            None => Err(NoMemory),
+        }
+    }
+
+    /// Its commit was heard to be committed at this timestamp: its transaction is over.
+    pub fn committed(self, txn: OpenTxn, epoch: u32, ts: Timestamp) -> Over
+        ensures made { result ≡ record { answer = answers.Committed txn.id ts; left = left_at txn.anchor (fates.Committed epoch ts) txn } }
+        ensures over { (session clock begun number n : ℕ) (splits : List (List ℕ)) (k : Known) (locks : List (List ℕ)) (h : Heard) → IsCounted session clock begun k → InCall splits k txn self.purpose self.wave → self.purpose ≡ purposes.Commit n → wave_awaits number self.wave ≡ true → IsHeardTo k number (replies.Status (views.Committed epoch ts locks)) h → MayTellOver splits session (known_heard h k) result }
+    {
+        Over {
+            answer: Answer::Committed { id: txn.id, ts },
+            left: left_of(txn, Fate::Committed { epoch, ts }),
+        }
+    }
+
+    /// Its commit was heard to be aborted for this cause: its transaction is over.
+    pub fn aborted(self, txn: OpenTxn, why: Why) -> Over
+        ensures made { result ≡ record { answer = answers.Aborted why; left = left_at txn.anchor fates.Aborted txn } }
+        ensures over { (session clock begun number n epoch : ℕ) (splits : List (List ℕ)) (k : Known) (locks : List (List ℕ)) (h : Heard) → IsCounted session clock begun k → InCall splits k txn self.purpose self.wave → self.purpose ≡ purposes.Commit n → wave_awaits number self.wave ≡ true → IsHeardTo k number (replies.Status (views.Aborted epoch why locks)) h → MayTellOver splits session (known_heard h k) result }
+    {
+        Over {
+            answer: Answer::Aborted { why },
+            left: left_of(txn, Fate::Aborted),
+        }
+    }
+
+    /// Its commit was heard to be refused: its record is not final, and stands at this timestamp. The refusals so far, with which its commit goes on;
+    /// or none, where its commit was moved as often as it may be, and its call is told so.
+    pub fn refused(self, txn: &mut OpenTxn, recorded: Timestamp) -> Option<Refusals>
+        ensures risen { txn.new ≡ risen_above recorded txn.old }
+        ensures refused { (session clock begun number epoch n : ℕ) (splits : List (List ℕ)) (k : Known) (h : Heard) → IsCounted session clock begun k → InCall splits k txn.old self.purpose self.wave → self.purpose ≡ purposes.Commit n → wave_awaits number self.wave ≡ true → IsHeardTo k number (replies.Status (views.Pending epoch recorded)) h → IsRefusalOf splits session (known_heard h k) recorded txn.new result }
+    {
+        let ts = txn.write_ts;
+        txn.raise(recorded);
+        match &self.purpose {
+            Purpose::Commit { refusals } => with_refusal(refusals.copied(), ts, recorded),
+            _ => None,
+        }
+    }
+
+    /// The open transaction, which wrote nothing, is committed where it began, without a message.
+    pub fn commit_unwritten(txn: OpenTxn) -> Over
+        ensures made { result ≡ record { answer = answers.Committed txn.id txn.begin; left = None } }
+        ensures over { (session : ℕ) (splits : List (List ℕ)) (k : Known) (s : Statement) (why : Why) → IsFresh k txn s why → s.call ≡ calls.Commit → txn.anchor ≡ None → MayTellOver splits session k result }
+    {
+        Over {
+            answer: Answer::Committed {
+                id: txn.id,
+                ts: txn.begin,
+            },
+            left: None,
+        }
+    }
+}
+
+/// The refusals with that of a commit at this timestamp, whose record stands there; none where they are used up.
+fn with_refusal(refusals: Refusals, ts: Timestamp, recorded: Timestamp) -> Option<Refusals>
+    ensures { (k now : Known) (h : Heard) → CountsMoves k refusals → refusals < MOST_REFUSALS → ShowsRecord k ts recorded h → HasMore k now [] (h ∷ []) → AreRefusals now recorded result }
+{
+    let mut refusals = refusals;
+    refusals.hear(ts, recorded);
+    if refusals.are_used_up() {
+        None
+    } else {
+        Some(refusals)
+    }
+}
