@@ -1,5 +1,5 @@
 -- A call was just asked of the open transaction: nothing was sent in it.
-use Rattle.std.proofs.Common.{◌≡◌, ℕ, Bool, true, false, cond, ◌&&◌, ◌||◌, List, [], ◌∷◌, find, Option, Some, None, refl, sym, ap, ◌∙◌, subst, arith, All, Any}
+use Rattle.std.proofs.Common.{◌≡◌, ℕ, ◌+◌, ◌≤◌, Bool, true, false, cond, ◌&&◌, ◌||◌, List, [], ◌∷◌, find, Option, Some, None, refl, sym, ap, ◌∙◌, subst, arith, All, Any}
 use Rattle.std.specs.List.{list_all, list_any}
 use Rattle.std.proofs.lemmas.List.{append-nil}
 use Rattle.std.proofs.lemmas.List.Elements.{All-cons, All-head, All-nil, All-tail, All-weaker}
@@ -75,7 +75,7 @@ module _ (k : Known) (none : k.sent_now ≡ []) where
   none_out : (number : ℕ) (request : Request) → IsSentUnder k number request → ⊥
   none_out number request out =
       let a : Any (IsMessageAt number request) [] = subst (λ ms. Any (IsMessageAt number request) ms) none out.now in
-      absurd (omega (arith, a.2.0))
+      absurd (omega (arith, a.2))
 
   unsent_at : (request : Request) (conflicts : ℕ) (p : Progress) → IsAsFar k request conflicts p → progress_to_send p ≡ true
   unsent_at request conflicts progresses.ToSend far = refl

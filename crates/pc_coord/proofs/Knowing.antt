@@ -46,7 +46,7 @@ calls_knows c k call x r w on = record {
 }
 
 within : (s : Statement) → is_begin s.call ≡ false → is_past_range s ≡ false
-within s no = ap (λ b. b && _) no
+within s plain = ap (λ b. b && _) plain
 
 no_begun : (b past : Bool) (P Q R : Type 0) → past ≡ false → (P → ⊥) → (R → ⊥) → MatchBool b P (MatchBool past Q R) → ⊥
 no_begun true past P Q R e p r h = p h
@@ -56,9 +56,9 @@ no_begun false true P Q R e p r h = cc
 -- an answer to a call that begins nothing gives no begin timestamp
 pub none_begun : (splits : List (List ℕ)) (actor : ActorId) (k : Known) (answer : Answer) → MayTell splits actor k answer → BeginsNothing k → (high_told answer k.high ≡ k.high) × (begun_told answer k.begun ≡ k.begun)
 none_begun splits actor k (answers.Begun id ts) m none =
-    let no : is_begin m.s.call ≡ false = none m.s m.opened in
-    let begins : MayTellBegun actor k m.s id ts → ⊥ = λ b. let e : false ≡ true = sym no ∙ ap is_begin b.asked in cc in
-    absurd (no_begun (needs_txn m.s.call && not k.is_open) (is_past_range m.s) (answers.Begun id ts ≡ answers.NoTxn) (answers.Begun id ts ≡ answers.Clock m.s.reading) (MayTellBegun actor k m.s id ts) (within m.s no) (λ e. cc) begins m.told)
+    let plain : is_begin m.s.call ≡ false = none m.s m.opened in
+    let begins : MayTellBegun actor k m.s id ts → ⊥ = λ b. let e : false ≡ true = sym plain ∙ ap is_begin b.asked in cc in
+    absurd (no_begun (needs_txn m.s.call && not k.is_open) (is_past_range m.s) (answers.Begun id ts ≡ answers.NoTxn) (answers.Begun id ts ≡ answers.Clock m.s.reading) (MayTellBegun actor k m.s id ts) (within m.s plain) (λ e. cc) begins m.told)
 none_begun splits actor k answer m none = (refl, refl)
 
 -- what may be told may be due

@@ -49,7 +49,7 @@ module _ {X : Type 0} (test p : X → Bool) (change : X → X) (fails : (x : X) 
       by later false e = and_false (p x) (list_all p (first_changed test change xs)) (later e)
 
 not_answered : (ms : List Message) → list_all has_answer ms ≡ false → step_of ms ≡ steps.Answered → ⊥
-not_answered ms no due = let e : false ≡ true = sym no ∙ answered_all ms due in cc
+not_answered ms some due = let e : false ≡ true = sym some ∙ answered_all ms due in cc
 
 -- what came back with a conflict has no answer
 back_unanswered : (number : ℕ) (reply : Reply) → is_conflict reply ≡ true → (m : Message) → has_answer (back_with number reply m) ≡ false
@@ -60,7 +60,7 @@ pub many_heard : (p : Purpose) (number : ℕ) (reply : Reply) (ms : List Message
 many_heard purposes.Read number reply ms on waits due = tt
 many_heard (purposes.Refresh n) number reply ms on waits due = tt
 many_heard (purposes.Write again) number reply ms on waits due =
-    absurd (not_answered _ (changed_fails (awaits_at number) has_answer (back_with number reply) (back_unanswered number reply on) ms waits) due)
+    absurd (not_answered (first_changed (awaits_at number) (back_with number reply) ms) (changed_fails (awaits_at number) has_answer (back_with number reply) (back_unanswered number reply on) ms waits) due)
 many_heard (purposes.Commit n) number reply ms on waits due = absurd on
 many_heard (purposes.Abort why) number reply ms on waits due = absurd on
 

@@ -1,5 +1,5 @@
 -- A coordinator is asked, sends, hears, and settles a round: what holds before its call goes on.
-use Rattle.std.proofs.Common.{◌≡◌, ℕ, max, Bool, true, false, cond, ◌||◌, ◌&&◌, ◌==◌, List, [], ◌∷◌, find, Option, Some, None, IfSome, refl, sym, ap, ◌∙◌, subst, arith, Unit, OnOk, Ok, Err, Result, IsTrue}
+use Rattle.std.proofs.Common.{◌≡◌, ℕ, max, Bool, true, false, cond, ◌||◌, ◌&&◌, ◌==◌, List, [], ◌∷◌, find, Option, Some, None, IfSome, refl, sym, ap, ◌∙◌, subst, arith, OnOk, Ok, Err, Result, IsTrue}
 use Rattle.std.specs.List.{list_all, list_any}
 use Rattle.std.proofs.lemmas.Option.{same_Some}
 use Rattle.pc_base.specs.declared.memory.NoMemory.{NoMemory}
@@ -195,13 +195,13 @@ module _ (c : Coordination) (k : Known) (x : OpenTxn) (call : OpenCall) (knows :
       (record { rising = knows.rising; ranged = ranged_sent c.splits k knows.ranged number range request (sends_one c.splits k x call.purpose call.wave knows.rising knows.ranged in_call request step); stands = record { counted = counted; x = x2; held = refl; in_call = w; on = awaits_way number call2.wave waits; handed = now.handed } })
 
   module _ (p : Pair Event) (number step : ℕ) (reply : Reply) (is : HearsAwaited c number step reply k p) where
-    waits : wave_awaits number call.wave ≡ true
+    abbrev waits : wave_awaits number call.wave ≡ true
     waits = sym (ap (awaits_number number) due) ∙ is.waited
 
-    out : (r : Request) × (request_sent number k.sent ≡ Some r)
+    abbrev out : (r : Request) × (request_sent number k.sent ≡ Some r)
     out = let o = awaited_out k number call.wave in_call.wave.stand waits in (o.0, o.1.out.said)
 
-    pub h : Heard
+    abbrev pub h : Heard
     h = record { number = number; request = out.0; reply = reply; step = step }
 
     pub heard_is : learn p k ≡ known_heard h k

@@ -1,5 +1,5 @@
 -- A coordinator at its beginning, what it gives, and once its call was told what is due.
-use Rattle.std.proofs.Common.{◌≡◌, ℕ, Bool, true, false, ◌||◌, ◌==◌, List, find, Option, Some, None, IfOk, IfSome, Ok, Err, Result, refl, sym, ap, ◌∙◌, subst, arith, is_some, IsTrue}
+use Rattle.std.proofs.Common.{◌≡◌, ℕ, Bool, true, false, ◌||◌, ◌==◌, List, [], ◌∷◌, find, Option, Some, None, IfOk, IfSome, Ok, Err, Result, refl, sym, ap, ◌∙◌, subst, arith, is_some, IsTrue}
 use Rattle.std.proofs.lemmas.List.Elements.{All-nil}
 use Rattle.std.specs.List.{list_any}
 use Rattle.std.proofs.lemmas.Bool.{eq-eqb}
@@ -143,7 +143,7 @@ module _ (c : Coordination) (k : Known) (call : OpenCall) (knows : Knows c k) (d
   step_comes steps.Answered is on given = absurd on
 
   given_now : MayBeGiven c.session c.splits k at.x call.purpose call.wave (step_of call.wave)
-  given_now = step_given c.session c.clock c.begun c.splits k at.x call.purpose call.wave at.counted at.in_call {NoMemory} (Ok (step_of call.wave)) refl
+  given_now = step_given c.session c.clock c.begun c.splits k at.x call.purpose call.wave at.counted at.in_call {E = NoMemory} (Ok (step_of call.wave)) refl
 
   call_comes : MayCome c k (next_in c.txn call)
   call_comes = subst (λ txn. MayCome c k (next_in txn call)) (sym at.held) (step_comes (step_of call.wave) refl at.on given_now)
