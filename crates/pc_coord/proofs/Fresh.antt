@@ -9,7 +9,7 @@ use Rattle.pc_call.specs.Fresh.{IsFresh}
 use Rattle.pc_call.specs.Learned.{known_asked}
 use Rattle.pc_call.specs.Serving.{InCall, IsOpenIn, Serves}
 use Rattle.pc_call.specs.Telling.{StandsOpen}
-use Rattle.pc_coord.specs.Going.{IsForMany}
+use Rattle.pc_coord.specs.Going.{IsForMany, caused}
 use Rattle.pc_proto.specs.declared.call.Call.{Call}
 use Rattle.pc_proto.specs.declared.request.Request.{Request}
 use Rattle.pc_proto.specs.declared.why.Why.{Why}
@@ -29,10 +29,6 @@ use Rattle.pc_world.specs.Known.{Known}
 use Rattle.pc_world.specs.Known.Statements.{Statement}
 use Rattle.pc_world.specs.Known.Transactions.{Txn}
 use Rattle.pc_world.specs.StageFate.{SentCommit}
-
--- The transaction, of which a rollback is caused by this.
-abbrev pub caused : Why → OpenTxn → OpenTxn
-caused why x = record x { cause = why }
 
 stands_caused : (k : Known) (out : Option SentCommit) (t : Txn) (x : OpenTxn) (why : Why) → TxnStands k out t x → TxnStands k out t (caused why x)
 stands_caused k out t x why st = record {

@@ -2,7 +2,7 @@
 use Rattle.std.proofs.Common.{◌≡◌, ℕ, ◌+◌, ◌*◌, ◌/◌, ◌^◌, ◌<◌, ◌≤◌, nat_lt, Bool, true, false, not, cond, ◌&&◌, ◌==◌, length, List, [], Option, Some, None, refl, sym, ap, ◌∙◌, subst, arith, All, IsTrue}
 use Rattle.std.specs.Bool.{MatchBool}
 use Rattle.std.specs.Option.{option_map_or}
-use Rattle.std.proofs.lemmas.Bool.{and_parts, le-ltb, lt-ltb, ltb-true}
+use Rattle.std.proofs.lemmas.Bool.{and_parts, le-ltb, lt-ltb, ltb-false, ltb-true}
 use Rattle.std.proofs.lemmas.List.Elements.{All-nil, All-weaker}
 use Rattle.pc_base.specs.Clock.{clock_now}
 use Rattle.pc_base.specs.declared.actor.ActorId.TheVariants as actors
@@ -18,7 +18,7 @@ use Rattle.pc_coord.proofs.Learned.{told_is}
 use Rattle.pc_coord.proofs.Ranged.{ranged_asked}
 use Rattle.pc_coord.specs.Coordination.{Coordination, beginning, telling, with_clock}
 use Rattle.pc_coord.specs.declared.due.Due.TheVariants as dues
-use Rattle.pc_coord.specs.Going.{IsReady}
+use Rattle.pc_coord.specs.Going.{StandsReady}
 use Rattle.pc_coord.specs.Knows.{IsHeld, Knows, Rests, messages_left}
 use Rattle.pc_coord.specs.Suiting.{SuitsNext}
 use Rattle.pc_lists.proofs.Same.{same_txn-is}
@@ -104,7 +104,7 @@ about_same : (id : TxnId) (o : Option TxnId) → option_map_or (λ other. same_t
 about_same id None e = absurd cc
 about_same id (Some other) e = ap Some (same_txn-is other id e)
 
-module _ (c : Coordination) (k : Known) (r : IsReady c k) (closed : k.is_open ≡ false) (unheld : c.txn ≡ None) where
+module _ (c : Coordination) (k : Known) (r : StandsReady c k) (closed : k.is_open ≡ false) (unheld : c.txn ≡ None) where
   -- a call is told where no transaction is open
   told_outside : (call : Call) (reading : ℕ) (answer : Answer) → IsSimple answer → MayTellIn c.splits (actors.Session c.session) (known_asked call reading k) (record { call = call; reading = reading }) answer
       → is_open_told answer k.is_open ≡ k.is_open → high_told answer k.high ≡ k.high → begun_told answer k.begun ≡ k.begun → Knows (telling answer c.txn c.job c) (known_asked call reading k)
@@ -239,8 +239,16 @@ module _ (c : Coordination) (k : Known) (r : IsReady c k) (closed : k.is_open �
     }
 
 -- a begin at the timestamp that the clock gave
-pub begun_knows : (c now : Coordination) (k : Known) (priority : Priority) (reading ts : ℕ) → IsReady c k → k.is_open ≡ false → c.txn ≡ None → now ≡ with_clock ts c → ts ≡ clock_now reading c.clock → reading ≤ GREATEST_READING
+pub begun_knows : (c now : Coordination) (k : Known) (priority : Priority) (reading ts : ℕ) → StandsReady c k → k.is_open ≡ false → c.txn ≡ None → now ≡ with_clock ts c → ts ≡ clock_now reading c.clock → reading ≤ GREATEST_READING
     → Knows (beginning priority reading ts now) (known_asked (calls.Begin priority) reading k)
 begun_knows c now k priority reading ts r closed unheld given at within =
     subst (λ n. Knows (beginning priority reading ts n) (known_asked (calls.Begin priority) reading k)) (sym given)
     (subst (λ t. Knows (beginning priority reading t (with_clock t c)) (known_asked (calls.Begin priority) reading k)) (sym at) (begins c k r closed unheld priority reading within))
+
+-- a reading that is not past the clock's range is within it
+pub within_range : (reading : ℕ) → (GREATEST_READING < reading → ⊥) → reading ≤ GREATEST_READING
+within_range reading not = by (nat_lt GREATEST_READING reading) refl
+  where
+    by : (b : Bool) → nat_lt GREATEST_READING reading ≡ b → reading ≤ GREATEST_READING
+    by true e = absurd (not (ltb-true GREATEST_READING reading e))
+    by false e = ltb-false GREATEST_READING reading e
