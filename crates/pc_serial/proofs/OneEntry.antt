@@ -1,5 +1,5 @@
 -- The entry that makes a transaction committed evaluates its commit, its stage or a put of it, or tells so.
-use Rattle.std.proofs.Common.{◌≡◌, ℕ, ◌≤◌, max, true, ◌⊎◌, inl, inr, List, [], ◌∷◌, ◌++◌, Option, None, Some, Any, Contains, refl, sym, ap, subst, ◌∙◌, arith}
+use Rattle.std.proofs.Common.{◌≡◌, ℕ, ◌≤◌, max, true, inl, inr, List, [], ◌∷◌, ◌++◌, None, Some, Contains, refl, sym, ap, subst, ◌∙◌, arith}
 use Rattle.std.proofs.lemmas.List.Sums.{list_all-from_AllPass}
 use Rattle.std.specs.Option.{option_or}
 use Rattle.pc_base.specs.declared.actor.ActorId.{ActorId}
@@ -30,7 +30,6 @@ use Rattle.pc_lists.proofs.Lists.{all_from_contains}
 use Rattle.pc_proto.specs.declared.answer.Answer.TheVariants as answers
 use Rattle.pc_proto.specs.declared.event.Event.{Event}
 use Rattle.pc_proto.specs.declared.event.Event.TheVariants as events
-use Rattle.pc_proto.specs.declared.meta.TxnMeta.{TxnMeta}
 use Rattle.pc_proto.specs.declared.record.Record.{Record}
 use Rattle.pc_proto.specs.declared.record.Standing.TheVariants as standings
 use Rattle.pc_proto.specs.declared.reply.Reply.{Reply}
