@@ -1,25 +1,27 @@
 -- What a coordinator's transaction and counts are after its session sent and heard messages beside it.
-use Rattle.std.proofs.Common.{◌≡◌, ℕ, ◌≤◌, true, false, List, [], ◌∷◌, ◌++◌, length, Option, Some, None, IfSome, refl, sym, ap, ◌∙◌, subst, arith, All, IsTrue, length-append}
+use Rattle.std.proofs.Common.{◌≡◌, ℕ, ◌+◌, ◌≤◌, true, false, List, [], ◌∷◌, ◌++◌, length, Option, Some, None, IfSome, refl, sym, ap, ◌∙◌, subst, arith, All, IsTrue, length-append}
 use Rattle.std.proofs.lemmas.List.Elements.{All-append, All-cons, All-head, All-nil, All-tail, All-weaker}
-use Rattle.pc_base.specs.declared.transaction.TxnId.{TxnId}
-use Rattle.pc_coord.proofs.Ids.{on_commits-longer}
-use Rattle.pc_coord.proofs.Steps.{all_heard-more, all_own-more}
-use Rattle.pc_coord.specs.Beside.{IsBeside, IsLaterBeside, IsOfBegun, is_of_round_or_job}
+use Rattle.pc_call.specs.Telling.{StandsOpen}
+use Rattle.pc_coord.proofs.Counting.{all_heard-more, all_own-more}
+use Rattle.pc_coord.proofs.Ranged.{ranged-beside}
+use Rattle.pc_coord.specs.Beside.{IsBeside, IsLaterBeside, is_of_round_or_job}
 use Rattle.pc_coord.specs.Coordination.{Coordination, with_clock}
 use Rattle.pc_coord.specs.declared.due.Due.TheVariants as dues
-use Rattle.pc_coord.specs.declared.transaction.InFlight.{InFlight}
-use Rattle.pc_coord.specs.declared.transaction.Transaction.{Transaction}
-use Rattle.pc_coord.specs.Knows.{Knows, KnowsAt, MayFinishJob, Rests}
-use Rattle.pc_coord.specs.Knows.Held.{IsCounted, IsHeld, IsOpenAs, IsOwn, IsOwnHeard, IsOwnSent, IsOwnWrite, IsPendingOf, IsPlain, IsSettled, PutsUpTo}
+use Rattle.pc_coord.specs.Knows.{IsHeld, Knows, KnowsAt, MayFinishJob, Rests}
 use Rattle.pc_coord.specs.Laws.{CoordinatingGoesOn}
 use Rattle.pc_proto.specs.declared.request.Request.{Request}
 use Rattle.pc_proto.specs.declared.request.Request.TheVariants as requests
-use Rattle.pc_proto.specs.Requests.{is_about, is_put_of}
+use Rattle.pc_proto.specs.Requests.{is_about}
+use Rattle.pc_proto.specs.Stamps.{why_stamps}
+use Rattle.pc_txn.proofs.Keeping.{quiet_leaves, stands_on}
+use Rattle.pc_txn.specs.Counted.{IsCounted, IsOfBegun, IsOwn, IsOwnHeard, IsOwnSent, IsOwnWrite}
+use Rattle.pc_txn.specs.declared.txn.OpenTxn.{OpenTxn}
+use Rattle.pc_txn.specs.Standing.{HasMovedOn, LeavesAsIs, TxnStands, is_plain}
+use Rattle.pc_wave.specs.Standing.{HasMore, goes_beside}
 use Rattle.pc_world.specs.Known.{Known}
-use Rattle.pc_world.specs.Known.Traffic.{Heard, Sent}
+use Rattle.pc_world.specs.Known.Traffic.{Heard}
 use Rattle.pc_world.specs.Known.Transactions.{Txn}
-use Rattle.pc_world.specs.Known.Writes.{last_seq_of}
-use Rattle.pc_world.specs.StageFate.{EachCommit, OnCommit, SentCommit, WasCommitRefused}
+use Rattle.pc_world.specs.StageFate.{SentCommit}
 
 all_both : {X : Type 0} (P Q R : X → Type 0) → ((x : X) → P x → Q x → R x) → (xs : List X) → All P xs → All Q xs → All R xs
 all_both P Q R on [] p q = All-nil R
@@ -31,13 +33,17 @@ own_write-beside begun (requests.Commit meta ts locks) e = absurd cc
 own_write-beside begun (requests.Stage meta ts now writes locks) e = absurd cc
 own_write-beside begun request e = tt
 
-no_put-beside : (id : TxnId) (epoch seq : ℕ) (request : Request) → is_of_round_or_job request ≡ true → IsTrue (is_put_of id epoch seq request) → ⊥
-no_put-beside id epoch seq (requests.Put meta at ts key value) e is = cc
-no_put-beside id epoch seq request e is = cc
+plain-beside : (request : Request) → is_of_round_or_job request ≡ true → is_plain request ≡ true
+plain-beside (requests.Push holder by level now goal) e = refl
+plain-beside (requests.Resolve id key fate) e = refl
+plain-beside (requests.Remove id anchor) e = refl
+plain-beside request e = absurd cc
 
-no_commit-beside : (id : TxnId) (P : SentCommit → Type 0) (request : Request) → is_of_round_or_job request ≡ true → OnCommit id P request
-no_commit-beside id P (requests.Commit meta ts locks) e = absurd cc
-no_commit-beside id P request e = tt
+goes-beside : (request : Request) → is_of_round_or_job request ≡ true → goes_beside request ≡ true
+goes-beside (requests.Push holder by level now goal) e = refl
+goes-beside (requests.Resolve id key fate) e = refl
+goes-beside (requests.Remove id anchor) e = refl
+goes-beside request e = absurd cc
 
 own-beside : (c : Coordination) (begun : ℕ) (request : Request) → c.begun ≡ begun → IsBeside c request → IsOwn c.session begun request
 own-beside c begun request e is = record {
@@ -73,76 +79,45 @@ module _ (c : Coordination) (start k : Known) (later : IsLaterBeside c start k) 
         heard = subst (λ heard. All (IsOwnHeard c.session k.begun n) heard) (sym later.heard) heard;
       }
 
-  -- the open transaction is as before
-  pub open_as-beside : (x : Transaction) (t : Txn) → IsOpenAs x start t → IsOpenAs x k t
-  open_as-beside x t o = record {
-    others = o.others;
-    is_open = later.is_open ∙ o.is_open;
-    first = later.txns ∙ o.first;
-    same = o.same;
-    unread = o.unread;
-    unmixed = o.unmixed;
-  }
+  pub more-beside : HasMore start k later.sent_more later.heard_more
+  more-beside = record { sent = later.sent; sent_now = later.sent_now; heard = later.heard; heard_now = later.heard_now }
 
-  module _ (x : Transaction) (t : Txn) (held : c.txn ≡ Some x) (whose : x.id ≡ t.id) where
-    pending-beside : (h : Heard) → IsBeside c h.request → IsPendingOf t h
-    pending-beside h is about = let no : is_about t.id h.request ≡ false = subst (λ id. is_about id h.request ≡ false) whose (is.other x held) in absurd cc
+  pub sent_goes-beside : All (λ m. IsTrue (goes_beside m.request)) later.sent_more
+  sent_goes-beside = All-weaker (λ m. IsBeside c m.request) (λ m. IsTrue (goes_beside m.request)) (λ m is. goes-beside m.request is.kind) later.sent_more later.sent_beside
 
-    -- the transaction's messages are those before, and no more was heard of its record
-    pub plain-beside : (sent : List Sent) → IsPlain start t sent → IsPlain k t sent
-    plain-beside sent p =
-        let refused : EachCommit t.id sent (WasCommitRefused (start.heard ++ later.heard_more)) = on_commits-longer t.id start.heard later.heard_more sent p.refused in
-        let views : All (IsPendingOf t) (start.heard ++ later.heard_more) =
-        All-append (IsPendingOf t) start.heard later.heard_more p.views (All-weaker (λ h. IsBeside c h.request) (IsPendingOf t) pending-beside later.heard_more later.heard_beside) in
-        record {
-          number = omega (arith, p.number, later.begun);
-          reads = p.reads;
-          restart = p.restart;
-          begun = p.begun;
-          behind = p.behind;
-          at_begin = p.at_begin;
-          below = omega (arith, p.below, later.high);
-          refused = subst (λ heard. EachCommit t.id sent (WasCommitRefused heard)) (sym later.heard) refused;
-          views = subst (λ heard. All (IsPendingOf t) heard) (sym later.heard) views;
-        }
+  pub heard_goes-beside : All (λ h. IsTrue (goes_beside h.request)) later.heard_more
+  heard_goes-beside = All-weaker (λ h. IsBeside c h.request) (λ h. IsTrue (goes_beside h.request)) (λ h is. goes-beside h.request is.kind) later.heard_more later.heard_beside
 
-    -- the messages beside it are none of its own
-    more-beside : IsPlain k t start.sent → IsPlain k t k.sent
-    more-beside p =
-        let refused : EachCommit t.id (start.sent ++ later.sent_more) (WasCommitRefused k.heard) =
-        All-append (λ m. OnCommit t.id (WasCommitRefused k.heard) m.request) start.sent later.sent_more p.refused
-        (All-weaker (λ m. IsBeside c m.request) (λ m. OnCommit t.id (WasCommitRefused k.heard) m.request) (λ m is. no_commit-beside t.id (WasCommitRefused k.heard) m.request is.kind) later.sent_more later.sent_beside) in
-        record {
-          number = p.number;
-          reads = p.reads;
-          restart = p.restart;
-          begun = p.begun;
-          behind = p.behind;
-          at_begin = p.at_begin;
-          below = p.below;
-          refused = subst (λ sent. EachCommit t.id sent (WasCommitRefused k.heard)) (sym later.sent) refused;
-          views = p.views;
-        }
+  module _ (x : OpenTxn) (held : c.txn ≡ Some x) where
+    -- nothing more was heard of the record of the open transaction
+    pub other-beside : All (λ h. is_about x.id h.request ≡ false) later.heard_more
+    other-beside = All-weaker (λ h. IsBeside c h.request) (λ h. is_about x.id h.request ≡ false) (λ h is. is.other x held) later.heard_more later.heard_beside
 
-    pub puts-beside : (last : ℕ) → All (PutsUpTo t last) start.sent → All (PutsUpTo t last) k.sent
-    puts-beside last a =
-        subst (λ sent. All (PutsUpTo t last) sent) (sym later.sent)
-        (All-append (PutsUpTo t last) start.sent later.sent_more a
-        (All-weaker (λ m. IsBeside c m.request) (PutsUpTo t last) (λ m is seq put. absurd (no_put-beside t.id t.epoch seq m.request is.kind put)) later.sent_more later.sent_beside))
+    leaves-beside : (t : Txn) → x.id ≡ t.id → (h : Heard) → IsBeside c h.request → LeavesAsIs t h
+    leaves-beside t same h is =
+        let no : is_about t.id h.request ≡ false = subst (λ id. is_about id h.request ≡ false) same (is.other x held) in
+        quiet_leaves t h (plain-beside h.request is.kind) (λ about. let e : false ≡ true = sym no ∙ about in absurd cc)
 
-    pub settled-beside : (in_flight : Option InFlight) → IsSettled start t in_flight → IsSettled k t in_flight
-    settled-beside in_flight s = record {
-      plain = more-beside (plain-beside start.sent s.plain);
-      proved = s.proved;
-      puts = puts-beside (last_seq_of t.writes) s.puts;
+    -- the open transaction stands on
+    pub stands-beside : (out : Option SentCommit) (t : Txn) → TxnStands start out t x → TxnStands k out t x
+    stands-beside out t st =
+        let on : HasMovedOn start k later.sent_more later.heard_more = record { sent = later.sent; heard = later.heard; begun = omega (arith, later.begun); high = later.high } in
+        stands_on start k out t x later.sent_more later.heard_more st on
+        (All-weaker (λ m. IsBeside c m.request) (λ m. IsTrue (is_plain m.request)) (λ m is. plain-beside m.request is.kind) later.sent_more later.sent_beside)
+        (All-weaker (λ h. IsBeside c h.request) (LeavesAsIs t) (leaves-beside t (ap (λ x. x.id) st.same)) later.heard_more later.heard_beside)
+
+    open-beside : StandsOpen start x → StandsOpen k x
+    open-beside o = record {
+      t = o.t;
+      open_in = record { others = o.open_in.others; is_open = later.is_open ∙ o.open_in.is_open; first = later.txns ∙ o.open_in.first };
+      stands = stands-beside None o.t o.stands;
+      cause = o.cause;
+      low = All-weaker (λ ts. ts ≤ start.top + 1) (λ ts. ts ≤ k.top + 1) (λ ts low. omega (arith, low, later.top)) (why_stamps x.cause) o.low;
     }
 
-  held_by-beside : (txn : Option Transaction) → c.txn ≡ txn → IsHeld txn start → IsHeld txn k
+  held_by-beside : (txn : Option OpenTxn) → c.txn ≡ txn → IsHeld txn start → IsHeld txn k
   held_by-beside None none closed = later.is_open ∙ closed
-  held_by-beside (Some x) is (t, open_as, settled) = (t, open_as-beside x t open_as, settled-beside x t is (ap (λ x. x.id) open_as.same) x.in_flight settled)
-
-  pub held-beside : IsHeld c.txn start → IsHeld c.txn k
-  held-beside held = held_by-beside c.txn refl held
+  held_by-beside (Some x) is o = open-beside x is o
 
   -- between calls a coordinator with nothing left to hand out knows what its session knows
   goes_on : Knows c start → c.due ≡ dues.Nothing → c.job ≡ None → Knows (with_clock k.high c) k
@@ -150,11 +125,11 @@ module _ (c : Coordination) (start k : Known) (later : IsLaterBeside c start k) 
       let r : Rests c.session c.clock c.begun c.txn c.job start = subst (λ d. KnowsAt c start d) due knows.stands in
       record {
         rising = knows.rising;
-        handed = knows.handed;
+        ranged = ranged-beside c c.splits start k later knows.ranged;
         stands = subst (λ d. KnowsAt (with_clock k.high c) k d) (sym due) (record {
           counted = counted-beside r.counted;
           none_open = later.statement ∙ r.none_open;
-          held = held-beside r.held;
+          held = held_by-beside c.txn refl r.held;
           left = subst (λ j. IfSome j (MayFinishJob k)) (sym job) tt;
         });
       }

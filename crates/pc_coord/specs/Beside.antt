@@ -1,11 +1,11 @@
 -- What a session does beside its coordinator: the messages of conflicts' rounds and of finishing jobs.
-use Rattle.std.specs.Prelude.{◌≡◌, ℕ, ◌≤◌, Bool, true, false, Some, List, ◌++◌, All, length}
-use Rattle.pc_base.specs.declared.transaction.TxnId.{TxnId}
+use Rattle.std.specs.Prelude.{◌≡◌, ◌≤◌, Bool, true, false, Some, List, ◌++◌, All, length}
 use Rattle.pc_coord.specs.Coordination.{Coordination}
-use Rattle.pc_coord.specs.declared.transaction.Transaction.{Transaction}
 use Rattle.pc_proto.specs.declared.request.Request.{Request}
 use Rattle.pc_proto.specs.declared.request.Request.TheVariants as requests
-use Rattle.pc_proto.specs.Requests.{is_about, subject}
+use Rattle.pc_proto.specs.Requests.{is_about}
+use Rattle.pc_txn.specs.Counted.{IsOfBegun}
+use Rattle.pc_txn.specs.declared.txn.OpenTxn.{OpenTxn}
 use Rattle.pc_world.specs.Known.{Known}
 use Rattle.pc_world.specs.Known.Traffic.{Heard, Sent}
 
@@ -16,15 +16,11 @@ is_of_round_or_job (requests.Resolve id key fate) = true
 is_of_round_or_job (requests.Remove id anchor) = true
 is_of_round_or_job _ = false
 
--- If the request speaks of the record of a transaction of this session, that was begun.
-abbrev pub IsOfBegun : ℕ → ℕ → Request → Type 0
-IsOfBegun session begun request = (id : TxnId) → subject request ≡ Some id → id.session ≡ session → id.number ≤ begun
-
 -- The request is one of a round or of a finishing job, and speaks of no record of the open transaction.
 pub record IsBeside (c : Coordination) (request : Request) : Type 0 where
   pub kind : is_of_round_or_job request ≡ true
   pub begun : IsOfBegun c.session c.begun request
-  pub other : (x : Transaction) → c.txn ≡ Some x → is_about x.id request ≡ false
+  pub other : (x : OpenTxn) → c.txn ≡ Some x → is_about x.id request ≡ false
 
 -- Since then the session has only sent such messages and heard replies to them.
 pub record IsLaterBeside (c : Coordination) (start k : Known) : Type 0 where

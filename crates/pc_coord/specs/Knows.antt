@@ -1,38 +1,43 @@
 -- How a coordinator stands beside what its session knows.
-use Rattle.std.specs.Prelude.{◌≡◌, ℕ, Bool, false, Option, None, Some, IfSome, List, [], ⊤}
+use Rattle.std.specs.Prelude.{◌≡◌, ℕ, false, Option, None, Some, IfSome, List, [], IsTrue, ⊤}
 use Rattle.pc_base.specs.declared.actor.ActorId.TheVariants as actors
 use Rattle.pc_base.specs.Rising.{AreRising}
-use Rattle.pc_coord.specs.Coordination.{Coordination}
+use Rattle.pc_call.specs.declared.call.OpenCall.{OpenCall}
+use Rattle.pc_call.specs.Sending.{IsConflictNow, IsSendable}
+use Rattle.pc_call.specs.Serving.{InCall}
+use Rattle.pc_call.specs.Telling.{StandsOpen, TellsAfterEighth}
+use Rattle.pc_coord.specs.Coordination.{Coordination, awaits_number}
 use Rattle.pc_coord.specs.declared.due.Due.{Due}
 use Rattle.pc_coord.specs.declared.due.Due.TheVariants as dues
-use Rattle.pc_coord.specs.declared.due.Wait.{Wait}
-use Rattle.pc_coord.specs.declared.due.Wait.TheVariants as waits
 use Rattle.pc_coord.specs.declared.job.Job.{Job}
-use Rattle.pc_coord.specs.declared.messages.Message.{Message}
 use Rattle.pc_coord.specs.declared.next.Next.{Next}
 use Rattle.pc_coord.specs.declared.next.Next.TheVariants as nexts
-use Rattle.pc_coord.specs.declared.transaction.Transaction.{Transaction}
-use Rattle.pc_coord.specs.Knows.Held.{IsCounted, IsHeld}
-use Rattle.pc_coord.specs.Knows.Ending.{AwaitsAbort, AwaitsCommit}
-use Rattle.pc_coord.specs.Knows.Reading.{AwaitsReads}
-use Rattle.pc_coord.specs.Knows.Sending.{AwaitsNone, IsConflictNow, IsSendable, learned}
-use Rattle.pc_coord.specs.Knows.Writing.{AwaitsPut, HasMetPut}
+use Rattle.pc_coord.specs.Ranged.{IsRanged}
 use Rattle.pc_coord.specs.Suiting.{SuitsNext}
 use Rattle.pc_proto.specs.declared.answer.Answer.{Answer}
+use Rattle.pc_proto.specs.declared.event.Event.{Event}
 use Rattle.pc_proto.specs.declared.event.Event.TheVariants as events
-use Rattle.pc_proto.specs.declared.reply.Reply.{Reply}
 use Rattle.pc_proto.specs.declared.request.Request.{Request}
+use Rattle.pc_txn.specs.Counted.{IsCounted}
+use Rattle.pc_txn.specs.declared.txn.OpenTxn.{OpenTxn}
+use Rattle.pc_wave.specs.declared.step.Step.{Step}
+use Rattle.pc_wave.specs.declared.step.Step.TheVariants as steps
+use Rattle.pc_wave.specs.Messages.{step_of}
 use Rattle.pc_world.specs.Follows.FinishingJobs.{AbortsFirst, finishing_messages, left_by}
 use Rattle.pc_world.specs.Follows.PipelinedPuts.{TellsWritten}
-use Rattle.pc_world.specs.Known.{Known, next_number}
+use Rattle.pc_world.specs.Follows.Refreshes.{RefreshesReads}
+use Rattle.pc_world.specs.Known.{Known, known_after}
+use Rattle.pc_world.specs.Known.Clock.{high_after, top_after}
 use Rattle.pc_world.specs.Known.Statements.{Statement}
+use Rattle.pc_world.specs.Known.Traffic.{heard_by, request_sent}
 use Rattle.pc_world.specs.MayTell.{MayTell}
+use Rattle.pc_world.specs.RangeOf.{IsForOne}
+use Rattle.pc_world.specs.SameRequest.{IsSameRequest}
 use Rattle.pc_world.specs.Send.Settling.{MayFinish}
-pub mod Ending
-pub mod Held
-pub mod Reading
-pub mod Sending
-pub mod Writing
+
+-- What a session knows after an event of its own that names no entry.
+abbrev pub learned : Event → Known → Known
+learned event k = known_after event (heard_by event None k.sent) (top_after event None k.top) (high_after event None k.high) k
 
 -- The job's transaction may be finished as the job says.
 abbrev pub MayFinishJob : Known → Job → Type 0
@@ -47,44 +52,42 @@ abbrev pub messages_left : Option Job → List Request
 messages_left None = []
 messages_left (Some job) = messages_of_job job
 
+-- No transaction is open; or the coordinator's is, and it stands between calls.
+abbrev pub IsHeld : Option OpenTxn → Known → Type 0
+IsHeld None k = k.is_open ≡ false
+IsHeld (Some x) k = StandsOpen k x
+
 -- No statement is open, the coordinator's transaction is the session's, and what the last one left may be done.
-pub record Rests (session clock begun : ℕ) (txn : Option Transaction) (job : Option Job) (k : Known) : Type 0 where
+pub record Rests (session clock begun : ℕ) (txn : Option OpenTxn) (job : Option Job) (k : Known) : Type 0 where
   pub counted : IsCounted session clock begun k
   pub none_open : k.statement ≡ None
   pub held : IsHeld txn k
   pub left : IfSome job (MayFinishJob k)
 
--- The reply that is waited for is of this kind.
-abbrev pub AwaitsReply : Known → Option Transaction → ℕ → Wait → Type 0
-AwaitsReply k txn number (waits.Put conflicts again) = AwaitsPut k txn number conflicts again
-AwaitsReply k txn number (waits.Commit ts refusals) = AwaitsCommit k txn number ts refusals
-AwaitsReply k txn number waits.Abort = AwaitsAbort k txn number
+-- More is due of the messages: one is to be sent, or delivered, or its conflict is to have its round.
+abbrev pub is_under_way : Step → Type 0
+is_under_way (steps.Send request) = ⊤
+is_under_way steps.Deliver = ⊤
+is_under_way (steps.Round number conflict) = ⊤
+is_under_way (steps.Blocked holder) = ⊥
+is_under_way steps.Answered = ⊥
 
--- The reply to this message is waited for.
-pub record Awaits (session clock begun : ℕ) (txn : Option Transaction) (number : ℕ) (wait : Wait) (k : Known) : Type 0 where
-  pub counted : IsCounted session clock begun k
-  pub reply : AwaitsReply k txn number wait
-
--- The request may be sent, and once it is its reply is waited for.
-pub record SendsNow (c : Coordination) (k : Known) (request : Request) (wait : Wait) : Type 0 where
-  pub may : IsSendable c.splits c.session k request
-  pub after : (range : ℕ) → Awaits c.session c.clock c.begun c.txn (next_number k) wait (learned (events.Send (next_number k) range request) k)
-
--- The messages of a call that reads are sent and heard.
-pub record IsReadingNow (c : Coordination) (k : Known) (messages : List Message) : Type 0 where
+-- The messages of the open call stand beside what the session knows, and more is due of them; nothing is left of an earlier transaction.
+pub record HasCallDue (c : Coordination) (k : Known) (call : OpenCall) : Type 0 where
   pub counted : IsCounted c.session c.clock c.begun k
-  pub reads : AwaitsReads c.splits k c.txn messages
+  pub x : OpenTxn
+  pub held : c.txn ≡ Some x
+  pub in_call : InCall c.splits k x call.purpose call.wave
+  pub on : is_under_way (step_of call.wave)
+  pub handed : c.job ≡ None
 
--- The write met an intent, and waits for the round of that conflict.
-pub record Meets (c : Coordination) (k : Known) (number : ℕ) (conflict : Reply) (conflicts : ℕ) (again : Bool) : Type 0 where
-  pub counted : IsCounted c.session c.clock c.begun k
-  pub met : HasMetPut k c.txn number conflict conflicts again
-
--- The answer may be told, as the call's workload has it; this is what it leaves to be done, and which calls suit the transaction then.
+-- The open call may be told the answer, as its workload has it; this is what it leaves to be done, and which calls suit the transaction then.
 pub record IsTellable (c : Coordination) (k : Known) (answer : Answer) : Type 0 where
   pub may : MayTell c.splits (actors.Session c.session) k answer
   pub written : TellsWritten false k (events.Tell answer)
   pub aborts : AbortsFirst k (events.Tell answer)
+  pub restarts : RefreshesReads k (events.Tell answer)
+  pub eighth : (s : Statement) → k.statement ≡ Some s → TellsAfterEighth k s answer
   pub left : messages_left c.job ≡ left_by answer k
   pub suits : (s : Statement) → k.statement ≡ Some s → SuitsNext answer s.call c.txn
 
@@ -96,31 +99,26 @@ pub record TellsNow (c : Coordination) (k : Known) (answer : Answer) : Type 0 wh
 -- How the coordinator stands beside what its session knows, by what is due.
 abbrev pub KnowsAt : Coordination → Known → Due → Type 0
 KnowsAt c k dues.Nothing = Rests c.session c.clock c.begun c.txn c.job k
-KnowsAt c k dues.Stuck = ⊥
-KnowsAt c k (dues.Send request wait) = SendsNow c k request wait
-KnowsAt c k (dues.Hear number wait) = Awaits c.session c.clock c.begun c.txn number wait k
-KnowsAt c k (dues.Met number conflict conflicts again) = Meets c k number conflict conflicts again
-KnowsAt c k (dues.Read messages) = IsReadingNow c k messages
+KnowsAt c k (dues.Call call) = HasCallDue c k call
 KnowsAt c k (dues.Tell answer) = TellsNow c k answer
 
--- What is left to be done is of the answer that is due, or was told last.
-abbrev pub LeavesNothing : Option Job → Due → Type 0
-LeavesNothing job dues.Nothing = ⊤
-LeavesNothing job (dues.Tell answer) = ⊤
-LeavesNothing job _ = job ≡ None
-
--- The coordinator knows what its session knows. What is due may be sent or told, and once it is, the coordinator stands as the
--- session does.
+-- The coordinator knows what its session knows, of which each message was for one range. What is due may be sent or told, and once it is, the
+-- coordinator stands as the session does.
 pub record Knows (c : Coordination) (k : Known) : Type 0 where
   pub rising : AreRising c.splits
-  pub handed : LeavesNothing c.job c.due
+  pub ranged : IsRanged c.splits k
   pub stands : KnowsAt c k c.due
 
--- What comes next is allowed: a request may be sent, and none of the same is waited for; an answer may be told; a conflict was met; and
--- nothing comes only where no call is open.
+-- The coordinator waits for no message of this request.
+abbrev pub AwaitsNone : Coordination → Known → Request → Type 0
+AwaitsNone c k request =
+    (number : ℕ) (other : Request) → IsTrue (awaits_number number c.due) → request_sent number k.sent ≡ Some other → IsSameRequest request other → ⊥
+
+-- What comes next is allowed: a request may be sent, none of the same is waited for, and it is for one range; messages are delivered where one
+-- is waited for; an answer may be told; a conflict was met; and nothing comes only where no call is open.
 abbrev pub MayCome : Coordination → Known → Next → Type 0
-MayCome c k (nexts.Send request) = IsSendable c.splits c.session k request × AwaitsNone c k request
-MayCome c k nexts.Wave = ⊤
+MayCome c k (nexts.Send request) = IsSendable c.splits c.session k request × AwaitsNone c k request × IsForOne c.splits request
+MayCome c k nexts.Wave = (number : ℕ) × IsTrue (awaits_number number c.due)
 MayCome c k (nexts.Conflict number conflict reader) = IsConflictNow k number conflict reader
 MayCome c k (nexts.Tell answer) = IsTellable c k answer
 MayCome c k nexts.Idle = k.statement ≡ None

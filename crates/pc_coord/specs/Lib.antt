@@ -1,14 +1,12 @@
+-- The coordinator of a session's transactions.
 pub mod Beside
-pub mod Coordinating
 pub mod Coordination
 pub mod Events
+pub mod Going
+pub mod Kinds
 pub mod Knows
 pub mod Laws
-pub mod Messages
-pub mod Place
 pub mod Pusher
-pub mod Reading
+pub mod Ranged
 pub mod Rounds
 pub mod Suiting
-pub mod Transaction
-pub mod Turning

@@ -1,12 +1,12 @@
 -- Who pushes in the rounds of a transaction's conflicts.
 use Rattle.std.specs.Prelude.{◌≡◌, Option, None, Some}
 use Rattle.pc_coord.specs.declared.pusher.Pusher.{Pusher}
-use Rattle.pc_coord.specs.declared.transaction.Transaction.{Transaction}
+use Rattle.pc_txn.specs.declared.txn.OpenTxn.{OpenTxn}
 use Rattle.pc_world.specs.Known.{Known, open_txn}
 use Rattle.pc_world.specs.Known.Transactions.{Txn}
 
 -- Who pushes, with this as the open transaction.
-abbrev pub pusher_of : Option Transaction → Option Pusher
+abbrev pub pusher_of : Option OpenTxn → Option Pusher
 pusher_of None = None
 pusher_of (Some x) = Some (record { id = x.id; level = x.priority })
 

@@ -1,4 +1,8 @@
+ghost use Rattle.std.specs.Prelude.{◌≡◌};
+ghost use Rattle.pc_coord.specs.Coordination.{job_left};
+
 use pc_base::Timestamp;
+use pc_call::Left;
 use pc_proto::{Fate, Keys, TxnMeta};
 
 /// What is left to be done of a transaction that is over: its locks are to be settled with its fate, and its record removed.
@@ -9,4 +13,19 @@ pub struct Job {
     pub staged: Option<Timestamp>,
     pub fate: Fate,
     pub locks: Keys,
+}
+
+/// The job of what a transaction left, if it left anything.
+pub fn job_of(left: Option<Left>) -> Option<Job>
+    ensures { result ≡ job_left left }
+{
+    match left {
+        None => None,
+        Some(Left { meta, fate, locks }) => Some(Job {
+            meta,
+            staged: None,
+            fate,
+            locks,
+        }),
+    }
 }

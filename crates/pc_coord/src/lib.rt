@@ -1,18 +1,16 @@
 //! The coordinator of a session's transactions: what it sends, and what it tells, after what it was asked and heard.
 #![tactic(auto)]
 
+mod asking;
 mod coordinator;
 mod due;
+mod going;
 mod job;
+mod kinds;
 mod laws;
-mod locks;
-mod messages;
 mod next;
 mod pusher;
-mod reads;
 mod round;
-mod transaction;
-mod turn;
 
 pub use coordinator::Coordinator;
 pub use job::Job;

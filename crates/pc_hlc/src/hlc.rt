@@ -1,4 +1,4 @@
-ghost use Rattle.std.specs.Prelude.{◌≡◌, ◌<◌, ◌↔◌, max, IsErr, IfErr, IfOk, OnErr};
+ghost use Rattle.std.specs.Prelude.{◌≡◌, ◌<◌, false, ◌↔◌, max, IsErr, IfErr, IfOk, OnErr};
 ghost use Rattle.pc_base.specs.Clock.{clock_now};
 ghost use Rattle.pc_base.specs.declared.limits.TheConstants.{GREATEST_READING};
 ghost use Rattle.pc_base.specs.Timestamp.{greatest};
@@ -7,6 +7,12 @@ ghost use Rattle.pc_hlc.specs.Giving.{IsLeastAbove};
 use pc_base::Timestamp;
 use pc_base::limits::GREATEST_READING;
 use std::marker::Model;
+
+/// The greatest timestamp: none follows it.
+const GREATEST: Timestamp = Timestamp {
+    wall: u64::MAX,
+    logical: u32::MAX,
+};
 
 /// The physical clock reads past the range in which timestamps are given.
 #[derive(Clone, Copy, Debug, PartialEq, Eq)]
@@ -54,6 +60,13 @@ impl Hlc {
         }
         self.last = time_at(reading, self.last);
         Ok(self.last)
+    }
+
+    /// Whether no timestamp is left to give.
+    pub fn is_used_up(&self) -> bool
+        ensures { result ≡ false → self.now < greatest }
+    {
+        self.last >= GREATEST
     }
 
     /// A timestamp was heard, and the clock is not below it from now on.

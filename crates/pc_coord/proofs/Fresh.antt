@@ -1,0 +1,125 @@
+-- A call was just asked of the open transaction: nothing was sent in it.
+use Rattle.std.proofs.Common.{◌≡◌, ℕ, ◌+◌, ◌≤◌, Bool, true, false, ◌&&◌, ◌||◌, List, [], ◌∷◌, Option, None, refl, sym, ap, ◌∙◌, subst, arith, All, Any}
+use Rattle.std.specs.List.{list_all}
+use Rattle.std.proofs.lemmas.List.{append-nil}
+use Rattle.std.proofs.lemmas.List.Elements.{All-head, All-nil, All-tail, All-weaker}
+use Rattle.pc_call.specs.declared.purpose.Purpose.{Purpose}
+use Rattle.pc_call.specs.declared.purpose.Purpose.TheVariants as purposes
+use Rattle.pc_call.specs.Fresh.{IsFresh}
+use Rattle.pc_call.specs.Learned.{known_asked}
+use Rattle.pc_call.specs.Serving.{InCall, Serves}
+use Rattle.pc_call.specs.Telling.{StandsOpen}
+use Rattle.pc_coord.specs.Going.{IsForMany, caused}
+use Rattle.pc_proto.specs.declared.call.Call.{Call}
+use Rattle.pc_proto.specs.declared.request.Request.{Request}
+use Rattle.pc_proto.specs.declared.why.Why.{Why}
+use Rattle.pc_proto.specs.declared.why.Why.TheVariants as whys
+use Rattle.pc_proto.specs.Stamps.{why_stamps}
+use Rattle.pc_txn.proofs.Keeping.{stands_on}
+use Rattle.pc_txn.specs.declared.txn.OpenTxn.{OpenTxn}
+use Rattle.pc_txn.specs.Standing.{HasMovedOn, LeavesAsIs, TxnStands, is_plain}
+use Rattle.pc_wave.specs.declared.message.Message.{Message}
+use Rattle.pc_wave.specs.declared.message.Progress.{Progress}
+use Rattle.pc_wave.specs.declared.message.Progress.TheVariants as progresses
+use Rattle.pc_wave.specs.declared.step.Step.TheVariants as steps
+use Rattle.pc_wave.specs.Messages.{has_answer, is_to_send, progress_awaits, progress_has_answer, progress_to_send, step_of, wave_awaits}
+use Rattle.pc_wave.specs.Standing.{IsAsFar, IsMessageAt, IsSentUnder, MessageStands}
+use Rattle.pc_coord.proofs.Dues.{answered_all}
+use Rattle.pc_world.specs.Known.{Known}
+use Rattle.pc_world.specs.Known.Transactions.{Txn}
+use Rattle.pc_world.specs.StageFate.{SentCommit}
+
+stands_caused : (k : Known) (out : Option SentCommit) (t : Txn) (x : OpenTxn) (why : Why) → TxnStands k out t x → TxnStands k out t (caused why x)
+stands_caused k out t x why st = record {
+  same = ap (caused why) st.same;
+  number = st.number;
+  begun = st.begun;
+  behind = st.behind;
+  at_begin = st.at_begin;
+  below = st.below;
+  refused = st.refused;
+  views = st.views;
+  puts = st.puts;
+  put_heard = st.put_heard;
+  laid = st.laid;
+  unwritten = st.unwritten;
+  proved = st.proved;
+  reads = st.reads;
+}
+
+-- a call is asked of the open transaction
+pub fresh_asked : (call : Call) (reading : ℕ) (k : Known) (x : OpenTxn) → StandsOpen k x → IsFresh (known_asked call reading k) (caused whys.Client x) (record { call = call; reading = reading }) x.cause
+fresh_asked call reading k x o =
+    let k2 = known_asked call reading k in
+    let on : HasMovedOn k k2 [] [] = record { sent = sym (append-nil k.sent); heard = sym (append-nil k.heard); begun = omega arith; high = omega arith } in
+    record {
+      t = o.t;
+      open_in = record { others = o.open_in.others; is_open = o.open_in.is_open; first = o.open_in.first };
+      stands =
+          stands_caused k2 None o.t x whys.Client
+          (stands_on k k2 None o.t x [] [] o.stands on (All-nil (λ m. is_plain m.request ≡ true)) (All-nil (LeavesAsIs o.t)));
+      client = refl;
+      cause = o.cause;
+      low = All-weaker (λ ts. ts ≤ k.top + 1) (λ ts. ts ≤ k2.top + 1) (λ ts low. omega (arith, low)) (why_stamps x.cause) o.low;
+      opened = refl;
+      none_sent = refl;
+      none_heard = refl;
+    }
+
+module _ (k : Known) (none : k.sent_now ≡ []) where
+  none_out : (number : ℕ) (request : Request) → IsSentUnder k number request → ⊥
+  none_out number request out =
+      let a : Any (IsMessageAt number request) [] = subst (λ ms. Any (IsMessageAt number request) ms) none out.now in
+      absurd (omega (arith, a.2))
+
+  unsent_at : (request : Request) (conflicts : ℕ) (p : Progress) → IsAsFar k request conflicts p → progress_to_send p ≡ true
+  unsent_at request conflicts progresses.ToSend far = refl
+  unsent_at request conflicts (progresses.Sent number) far = absurd (none_out number request far.0.out)
+  unsent_at request conflicts (progresses.Met number conflict) far = absurd (none_out number request far.out)
+  unsent_at request conflicts (progresses.Answered number reply) far = absurd (none_out number request far.0.out)
+
+  -- where nothing was sent in the call, each of its messages is to be sent
+  pub all_unsent : (ms : List Message) → All (MessageStands k) ms → All (λ m. is_to_send m ≡ true) ms
+  all_unsent ms stand = All-weaker (MessageStands k) (λ m. is_to_send m ≡ true) (λ m s. unsent_at m.request m.conflicts m.progress s.as_far) ms stand
+
+unsent_waits : (n : ℕ) (p : Progress) → progress_to_send p ≡ true → progress_awaits n p ≡ false
+unsent_waits n progresses.ToSend is = refl
+unsent_waits n (progresses.Sent number) is = absurd cc
+unsent_waits n (progresses.Met number conflict) is = absurd cc
+unsent_waits n (progresses.Answered number reply) is = absurd cc
+
+unsent_unanswered : (p : Progress) → progress_to_send p ≡ true → progress_has_answer p ≡ true → ⊥
+unsent_unanswered progresses.ToSend is has = cc
+unsent_unanswered (progresses.Sent number) is has = cc
+unsent_unanswered (progresses.Met number conflict) is has = cc
+unsent_unanswered (progresses.Answered number reply) is has = cc
+
+-- where each message is to be sent, no reply is waited for
+pub unsent_idle : (n : ℕ) (ms : List Message) → All (λ m. is_to_send m ≡ true) ms → wave_awaits n ms ≡ false
+unsent_idle n [] a = refl
+unsent_idle n (m ∷ ms) a =
+    ap (λ b. b || wave_awaits n ms) (unsent_waits n m.progress (All-head (λ m. is_to_send m ≡ true) m ms a)) ∙ unsent_idle n ms (All-tail (λ m. is_to_send m ≡ true) m ms a)
+
+both_true : (a b : Bool) → (a && b) ≡ true → (a ≡ true) × (b ≡ true)
+both_true true b h = (refl, h)
+both_true false b h = absurd cc
+
+-- nor was one answered
+pub unsent_none : (m : Message) (ms : List Message) → All (λ m. is_to_send m ≡ true) (m ∷ ms) → step_of (m ∷ ms) ≡ steps.Answered → ⊥
+unsent_none m ms a due =
+    let all = both_true (has_answer m) (list_all has_answer ms) (answered_all (m ∷ ms) due) in
+    unsent_unanswered m.progress (All-head (λ m. is_to_send m ≡ true) m ms a) all.0
+
+one_unsent : (ms : List Message) (m : Message) → ms ≡ m ∷ [] → All (λ m. is_to_send m ≡ true) ms → step_of ms ≡ steps.Answered → ⊥
+one_unsent ms m one a due = unsent_none m [] (subst (λ ms. All (λ m. is_to_send m ≡ true) ms) one a) (ap step_of (sym one) ∙ due)
+
+-- so a call whose messages are to be sent has none to answer for but where it may be answered by many
+pub unsent_many : (splits : List (List ℕ)) (k : Known) (x : OpenTxn) (p : Purpose) (ms : List Message) → InCall splits k x p ms → All (λ m. is_to_send m ≡ true) ms → step_of ms ≡ steps.Answered → IsForMany p
+unsent_many splits k x p ms w a due = by p w.serves
+  where
+    by : (p : Purpose) → Serves splits k w.s w.t x p ms → IsForMany p
+    by purposes.Read s = tt
+    by (purposes.Refresh n) s = tt
+    by (purposes.Write again) s = absurd (one_unsent ms s.m s.one a due)
+    by (purposes.Commit n) s = absurd (one_unsent ms s.m s.one a due)
+    by (purposes.Abort why) s = absurd (one_unsent ms s.m s.one a due)

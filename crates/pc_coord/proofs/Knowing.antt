@@ -1,0 +1,139 @@
+-- A coordinator knows what its session knows, by what is due.
+use Rattle.std.proofs.Common.{◌≡◌, ℕ, nat_lt, Bool, true, false, not, ◌&&◌, List, Option, Some, None, IfSome, refl, sym, ap, ◌∙◌, subst}
+use Rattle.std.specs.Bool.{MatchBool}
+use Rattle.std.proofs.lemmas.Option.{same_Some}
+use Rattle.pc_base.specs.declared.actor.ActorId.{ActorId}
+use Rattle.pc_base.specs.declared.limits.TheConstants.{GREATEST_READING}
+use Rattle.pc_base.specs.declared.actor.ActorId.TheVariants as actors
+use Rattle.pc_call.specs.declared.call.OpenCall.{OpenCall}
+use Rattle.pc_call.specs.declared.over.Left.{Left}
+use Rattle.pc_call.specs.declared.over.Over.{Over}
+use Rattle.pc_call.specs.declared.purpose.Purpose.{Purpose}
+use Rattle.pc_call.specs.declared.purpose.Purpose.TheVariants as purposes
+use Rattle.pc_call.specs.Finished.{MayBeSettled, MayTellOver, left_messages}
+use Rattle.pc_call.specs.Learned.{known_told}
+use Rattle.pc_call.specs.Serving.{AreReadsOf, InCall, Serves, write_call}
+use Rattle.pc_call.specs.Telling.{MayBeTold, MayTellOpen}
+use Rattle.pc_coord.proofs.Counting.{counted-told}
+use Rattle.pc_coord.proofs.Learned.{told_is}
+use Rattle.pc_coord.specs.Coordination.{Coordination, calling, job_left, telling}
+use Rattle.pc_coord.specs.declared.due.Due.{Due}
+use Rattle.pc_coord.specs.declared.due.Due.TheVariants as dues
+use Rattle.pc_coord.specs.declared.job.Job.{Job}
+use Rattle.pc_coord.specs.Going.{BeginsNothing, StandsReady}
+use Rattle.pc_coord.specs.Knows.{IsTellable, Knows, KnowsAt, MayFinishJob, Rests, is_under_way, messages_left}
+use Rattle.pc_coord.specs.Suiting.{SuitsNext}
+use Rattle.pc_proto.specs.declared.answer.Answer.{Answer}
+use Rattle.pc_proto.specs.declared.answer.Answer.TheVariants as answers
+use Rattle.pc_proto.specs.declared.call.Call.{Call}
+use Rattle.pc_proto.specs.declared.call.Call.TheVariants as calls
+use Rattle.pc_proto.specs.declared.request.Request.{Request}
+use Rattle.pc_txn.specs.declared.txn.OpenTxn.{OpenTxn}
+use Rattle.pc_wave.specs.declared.message.Message.{Message}
+use Rattle.pc_wave.specs.Messages.{step_of}
+use Rattle.pc_world.specs.Follows.FinishingJobs.{left_by}
+use Rattle.pc_world.specs.Known.{Known}
+use Rattle.pc_world.specs.Known.Clock.{high_told}
+use Rattle.pc_world.specs.Known.Statements.{Statement, begun_told}
+use Rattle.pc_world.specs.MayTell.{MayTell, is_begin, is_past_range, needs_txn}
+use Rattle.pc_world.specs.Tell.Begin.{MayTellBegun}
+
+-- more is due of a call's messages
+pub calls_knows : (c : Coordination) (k : Known) (call : OpenCall) (x : OpenTxn) → StandsReady c k → InCall c.splits k x call.purpose call.wave → is_under_way (step_of call.wave) → Knows (calling call x c) k
+calls_knows c k call x r w on = record {
+  rising = r.rising;
+  ranged = r.ranged;
+  stands = record { counted = r.counted; x = x; held = refl; in_call = w; on = on; handed = r.handed };
+}
+
+within : (s : Statement) → is_begin s.call ≡ false → is_past_range s ≡ false
+within s plain = ap (λ b. b && nat_lt GREATEST_READING s.reading) plain
+
+no_begun : (b past : Bool) (P Q R : Type 0) → past ≡ false → (P → ⊥) → (R → ⊥) → MatchBool b P (MatchBool past Q R) → ⊥
+no_begun true past P Q R e p r h = p h
+no_begun false false P Q R e p r h = r h
+no_begun false true P Q R e p r h = cc
+
+-- an answer to a call that begins nothing gives no begin timestamp
+pub none_begun : (splits : List (List ℕ)) (actor : ActorId) (k : Known) (answer : Answer) → MayTell splits actor k answer → BeginsNothing k → (high_told answer k.high ≡ k.high) × (begun_told answer k.begun ≡ k.begun)
+none_begun splits actor k (answers.Begun id ts) m none =
+    let plain : is_begin m.s.call ≡ false = none m.s m.opened in
+    let begins : MayTellBegun actor k m.s id ts → ⊥ = λ b. let e : false ≡ true = sym plain ∙ ap is_begin b.asked in cc in
+    absurd (no_begun (needs_txn m.s.call && not k.is_open) (is_past_range m.s) (answers.Begun id ts ≡ answers.NoTxn) (answers.Begun id ts ≡ answers.Clock m.s.reading) (MayTellBegun actor k m.s id ts) (within m.s plain) (λ e. cc) begins m.told)
+none_begun splits actor k answer m none = (refl, refl)
+
+-- what may be told may be due
+pub tellable : {c : Coordination} {k : Known} {answer : Answer} → MayBeTold c.splits c.session k answer → messages_left c.job ≡ left_by answer k → ((s : Statement) → k.statement ≡ Some s → SuitsNext answer s.call c.txn) → IsTellable c k answer
+tellable m left suits = record { may = m.may; written = m.written; aborts = m.aborts; restarts = m.restarts; eighth = m.eighth; left = left; suits = suits }
+
+pub no_job : (job : Option Job) (k : Known) → job ≡ None → IfSome job (MayFinishJob k)
+no_job job k none = subst (λ j. IfSome j (MayFinishJob k)) (sym none) tt
+
+-- an answer is due, after which the transaction stays open
+pub tells_knows : (c : Coordination) (k : Known) (answer : Answer) (x : OpenTxn) → StandsReady c k → MayTellOpen c.splits c.session k answer x → BeginsNothing k → Knows (telling answer (Some x) c.job c) k
+tells_knows c k answer x r m none =
+    let k2 = known_told answer k in
+    let e = none_begun c.splits (actors.Session c.session) k answer m.may.may none in
+    record {
+      rising = r.rising;
+      ranged = r.ranged;
+      stands = record {
+        may = tellable m.may (ap messages_left r.handed ∙ sym m.left) m.suits;
+        after =
+            subst (λ k. Rests c.session c.clock c.begun (Some x) c.job k) (sym (told_is answer k))
+            (record { counted = counted-told c.session c.clock c.begun k r.counted answer e.0 e.1; none_open = refl; held = m.after; left = no_job c.job k2 r.handed });
+      };
+    }
+
+job_messages : (left : Option Left) → messages_left (job_left left) ≡ left_messages left
+job_messages None = refl
+job_messages (Some l) = refl
+
+job_may : (k : Known) (left : Option Left) → IfSome left (MayBeSettled k) → IfSome (job_left left) (MayFinishJob k)
+job_may k None may = tt
+job_may k (Some l) may = may
+
+-- an answer is due that ends the transaction
+pub over_knows : (c : Coordination) (k : Known) (over : Over) → StandsReady c k → MayTellOver c.splits c.session k over → BeginsNothing k → Knows (telling over.answer None (job_left over.left) c) k
+over_knows c k over r m none =
+    let k2 = known_told over.answer k in
+    let e = none_begun c.splits (actors.Session c.session) k over.answer m.may.may none in
+    record {
+      rising = r.rising;
+      ranged = r.ranged;
+      stands = record {
+        may = tellable m.may (job_messages over.left ∙ m.left) (λ s is. tt);
+        after =
+            subst (λ k. Rests c.session c.clock c.begun None (job_left over.left) k) (sym (told_is over.answer k))
+            (record { counted = counted-told c.session c.clock c.begun k r.counted over.answer e.0 e.1; none_open = refl; held = m.closed; left = job_may k2 over.left m.settles });
+      };
+    }
+
+reads_begin : (splits : List (List ℕ)) (x : OpenTxn) (call : Call) (asked : List Request) → AreReadsOf splits x call asked → is_begin call ≡ false
+reads_begin splits x (calls.Get key) asked is = refl
+reads_begin splits x (calls.Scan span) asked is = refl
+reads_begin splits x call asked is = absurd is
+
+write_begin : (key : List ℕ) (value : Option (List ℕ)) → is_begin (write_call key value) ≡ false
+write_begin key None = refl
+write_begin key (Some value) = refl
+
+-- a call that is served begins nothing
+pub served_begins : (splits : List (List ℕ)) (k : Known) (x : OpenTxn) (p : Purpose) (ms : List Message) → InCall splits k x p ms → BeginsNothing k
+served_begins splits k x p ms w = λ s is. subst (λ s. is_begin s.call ≡ false) (same_Some w.s s (sym w.opened ∙ is)) (by p w.serves)
+  where
+    by : (p : Purpose) → Serves splits k w.s w.t x p ms → is_begin w.s.call ≡ false
+    by purposes.Read s = reads_begin splits x w.s.call _ s.asked
+    by (purposes.Write again) s = ap is_begin s.call ∙ write_begin s.key s.value
+    by (purposes.Refresh n) s = ap is_begin s.commits.call
+    by (purposes.Commit n) s = ap is_begin s.commits.call
+    by (purposes.Abort why) s = ap is_begin s.call
+
+rests_at : (c : Coordination) (k : Known) (due : Due) → KnowsAt c k due → k.statement ≡ None → Rests c.session c.clock c.begun c.txn c.job k
+rests_at c k dues.Nothing h none = h
+rests_at c k (dues.Call call) h none = let e = sym h.in_call.opened ∙ none in absurd cc
+rests_at c k (dues.Tell answer) h none = let e = sym h.may.may.opened ∙ none in absurd cc
+
+-- where no statement is open, nothing is due
+pub rests : (c : Coordination) (k : Known) → Knows c k → k.statement ≡ None → Rests c.session c.clock c.begun c.txn c.job k
+rests c k knows none = rests_at c k c.due knows.stands none

@@ -1,0 +1,252 @@
+-- A call is asked where no transaction is open: it begins one, or is told that there is none.
+use Rattle.std.proofs.Common.{◌≡◌, ℕ, ◌+◌, ◌*◌, ◌/◌, ◌^◌, ◌<◌, ◌≤◌, nat_lt, Bool, true, false, not, cond, ◌&&◌, length, [], Option, Some, None, refl, sym, ap, ◌∙◌, subst, arith}
+use Rattle.std.specs.Bool.{MatchBool}
+use Rattle.std.specs.Option.{option_map_or}
+use Rattle.std.proofs.lemmas.Bool.{and_parts, le-ltb, lt-ltb, ltb-false, ltb-true}
+use Rattle.std.proofs.lemmas.List.Elements.{All-nil, All-weaker}
+use Rattle.pc_base.specs.Clock.{clock_now}
+use Rattle.pc_base.specs.declared.actor.ActorId.TheVariants as actors
+use Rattle.pc_base.specs.declared.limits.TheConstants.{GREATEST_READING, MOST_CONFLICTS, MOST_REFUSALS}
+use Rattle.pc_base.specs.declared.transaction.Priority.{Priority}
+use Rattle.pc_base.specs.declared.transaction.TxnId.{TxnId}
+use Rattle.pc_base.specs.Transaction.{same_txn}
+use Rattle.pc_call.specs.Learned.{known_asked, known_told}
+use Rattle.pc_call.specs.Telling.{StandsOpen, TellsAfterEighth}
+use Rattle.pc_coord.proofs.Counting.{all_heard-more, all_own-more, counted-asked, counted-told}
+use Rattle.pc_coord.proofs.Knowing.{no_job, tellable}
+use Rattle.pc_coord.proofs.Learned.{told_is}
+use Rattle.pc_coord.proofs.Ranged.{ranged_asked}
+use Rattle.pc_coord.specs.Coordination.{Coordination, beginning, telling, with_clock}
+use Rattle.pc_coord.specs.Going.{StandsReady}
+use Rattle.pc_coord.specs.Knows.{IsHeld, Knows, Rests, messages_left}
+use Rattle.pc_coord.specs.Suiting.{SuitsNext}
+use Rattle.pc_lists.proofs.Same.{same_txn-is}
+use Rattle.pc_proto.specs.declared.answer.Answer.{Answer}
+use Rattle.pc_proto.specs.declared.answer.Answer.TheVariants as answers
+use Rattle.pc_proto.specs.declared.call.Call.{Call}
+use Rattle.pc_proto.specs.declared.call.Call.TheVariants as calls
+use Rattle.pc_proto.specs.declared.event.Event.TheVariants as events
+use Rattle.pc_proto.specs.declared.request.Request.{Request}
+use Rattle.pc_proto.specs.declared.request.Request.TheVariants as requests
+use Rattle.pc_proto.specs.declared.why.Why.TheVariants as whys
+use Rattle.pc_proto.specs.Requests.{subject}
+use Rattle.pc_reads.proofs.Goods.{none_read}
+use Rattle.pc_txn.specs.Counted.{IsCounted, IsOwnHeard, IsOwnSent, IsOwnWrite}
+use Rattle.pc_txn.specs.declared.txn.OpenTxn.{OpenTxn}
+use Rattle.pc_txn.specs.Opened.{opened_as}
+use Rattle.pc_txn.specs.Standing.{IsOutOrRefused, IsPendingOf, PutsUpTo, TxnStands}
+use Rattle.pc_world.specs.Counting.{AtLeast}
+use Rattle.pc_world.specs.Follows.Eighth.{TellsTheEighth}
+use Rattle.pc_world.specs.Follows.FinishingJobs.{AbortsFirst, left_by}
+use Rattle.pc_world.specs.Follows.PipelinedPuts.{TellsWritten}
+use Rattle.pc_world.specs.Follows.Refreshes.{RefreshesReads}
+use Rattle.pc_world.specs.Known.{Known}
+use Rattle.pc_world.specs.Known.Clock.{high_told}
+use Rattle.pc_world.specs.Known.Statements.{Statement, begun_told, is_open_told}
+use Rattle.pc_world.specs.Known.Transactions.{Txn, begun}
+use Rattle.pc_world.specs.Known.Writes.{IsProvedBy}
+use Rattle.pc_world.specs.MayTell.{MayTellIn, needs_txn}
+use Rattle.pc_world.specs.StageFate.{OnCommit, SentCommit}
+use Rattle.pc_world.specs.Tell.Refusal.{IsConflictOf, WasMoved}
+
+pub clock-rises : (reading high : ℕ) → high < clock_now reading high
+clock-rises reading high = by (nat_lt (high / 2 ^ 32) reading) refl
+  where
+    by : (b : Bool) → nat_lt (high / 2 ^ 32) reading ≡ b → high < cond b (reading * 2 ^ 32) (high + 1)
+    by true e = let low : high / 2 ^ 32 < reading = ltb-true (high / 2 ^ 32) reading e in omega arith
+    by false e = omega arith
+
+match_true : (b : Bool) (P Q : Type 0) → b ≡ true → P → MatchBool b P Q
+match_true b P Q e p = subst (λ b. MatchBool b P Q) (sym e) p
+
+match_false : (b : Bool) (P Q : Type 0) → b ≡ false → Q → MatchBool b P Q
+match_false b P Q e q = subst (λ b. MatchBool b P Q) (sym e) q
+
+-- where nothing was heard in the call, nothing was met or moved eight times
+none_heard : (k : Known) (answer : Answer) → k.heard_now ≡ [] → (s : Statement) → k.statement ≡ Some s → TellsTheEighth k s answer
+none_heard k answer none s opened = record {
+  blocked = λ not request eight. absurd (subst (λ hs. AtLeast (IsConflictOf request) MOST_CONFLICTS hs) none eight);
+  moved = λ is eight. absurd (subst (λ hs. AtLeast (WasMoved k) MOST_REFUSALS hs) none eight);
+}
+
+-- The answer asks nothing more than its row.
+record IsSimple (answer : Answer) : Type 0 where
+  written : (k : Known) → TellsWritten false k (events.Tell answer)
+  aborts : (k : Known) → AbortsFirst k (events.Tell answer)
+  restarts : (k : Known) → RefreshesReads k (events.Tell answer)
+  left : (k : Known) → left_by answer k ≡ []
+  eighth : (k : Known) → k.heard_now ≡ [] → (s : Statement) → k.statement ≡ Some s → TellsAfterEighth k s answer
+
+simple_none : IsSimple answers.NoTxn
+simple_none = record { written = λ k. tt; aborts = λ k. tt; restarts = λ k. tt; left = λ k. refl; eighth = λ k none s opened. none_heard k answers.NoTxn none s opened }
+
+simple_not_yet : IsSimple answers.NotYet
+simple_not_yet = record { written = λ k. tt; aborts = λ k. tt; restarts = λ k. tt; left = λ k. refl; eighth = λ k none s opened. none_heard k answers.NotYet none s opened }
+
+simple_clock : (reading : ℕ) → IsSimple (answers.Clock reading)
+simple_clock reading = record { written = λ k. tt; aborts = λ k. tt; restarts = λ k. tt; left = λ k. refl; eighth = λ k none s opened. none_heard k (answers.Clock reading) none s opened }
+
+simple_begun : (id : TxnId) (ts : ℕ) → IsSimple (answers.Begun id ts)
+simple_begun id ts = record { written = λ k. tt; aborts = λ k. tt; restarts = λ k. tt; left = λ k. refl; eighth = λ k none s opened. none_heard k (answers.Begun id ts) none s opened }
+
+new_commit : (id : TxnId) (P : SentCommit → Type 0) (begun : ℕ) (request : Request) → begun < id.number → IsOwnWrite begun request → OnCommit id P request
+new_commit id P begun (requests.Commit meta ts locks) new own = λ same. let e : meta.id.number ≡ id.number = ap (λ i. i.number) (same_txn-is meta.id id same) in absurd (omega arith)
+new_commit id P begun request new own = tt
+
+new_put : (t : Txn) (begun : ℕ) (request : Request) → begun < t.id.number → IsOwnWrite begun request → PutsUpTo t 0 request
+new_put t begun (requests.Put meta at ts key value) new own = λ epoch seq is.
+    let e : meta.id.number ≡ t.id.number = ap (λ i. i.number) (same_txn-is meta.id t.id (and_parts (same_txn meta.id t.id) _ is).0) in absurd (omega arith)
+new_put t begun request new own = λ epoch seq is. absurd cc
+
+about_same : (id : TxnId) (o : Option TxnId) → option_map_or (λ other. same_txn other id) o false ≡ true → o ≡ Some id
+about_same id None e = absurd cc
+about_same id (Some other) e = ap Some (same_txn-is other id e)
+
+module _ (c : Coordination) (k : Known) (r : StandsReady c k) (closed : k.is_open ≡ false) (unheld : c.txn ≡ None) where
+  -- a call is told where no transaction is open
+  told_outside : (call : Call) (reading : ℕ) (answer : Answer) → IsSimple answer → MayTellIn c.splits (actors.Session c.session) (known_asked call reading k) (record { call = call; reading = reading }) answer
+      → is_open_told answer k.is_open ≡ k.is_open → high_told answer k.high ≡ k.high → begun_told answer k.begun ≡ k.begun → Knows (telling answer c.txn c.job c) (known_asked call reading k)
+  told_outside call reading answer simple told stays high begun =
+      let k2 = known_asked call reading k in
+      record {
+        rising = r.rising;
+        ranged = ranged_asked c.splits k r.ranged call reading;
+        stands = record {
+          may =
+              tellable (record {
+                may = record { s = record { call = call; reading = reading }; opened = refl; told = told };
+                written = simple.written k2;
+                aborts = simple.aborts k2;
+                restarts = simple.restarts k2;
+                eighth = simple.eighth k2 refl;
+              }) (ap messages_left r.handed ∙ sym (simple.left k2)) (λ s is. subst (λ txn. SuitsNext answer s.call txn) (sym unheld) tt);
+          after =
+              subst (λ k. Rests c.session c.clock c.begun c.txn c.job k) (sym (told_is answer k2))
+              (record {
+                counted = counted-told c.session c.clock c.begun k2 (counted-asked c.session c.clock c.begun k r.counted call reading) answer high begun;
+                none_open = refl;
+                held = subst (λ txn. IsHeld txn (known_told answer k2)) (sym unheld) (stays ∙ closed);
+                left = no_job c.job (known_told answer k2) r.handed;
+              });
+        };
+      }
+
+  -- a learn, of a commit that was not met
+  pub not_yet : (id : TxnId) (reading : ℕ) → Knows (telling answers.NotYet c.txn c.job c) (known_asked (calls.Learn id) reading k)
+  not_yet id reading = told_outside (calls.Learn id) reading answers.NotYet simple_not_yet refl refl refl refl
+
+  -- a call that needs a transaction
+  pub no_txn : (call : Call) (reading : ℕ) → needs_txn call ≡ true → Knows (telling answers.NoTxn c.txn c.job c) (known_asked call reading k)
+  no_txn call reading needs =
+      let k2 = known_asked call reading k in
+      told_outside call reading answers.NoTxn simple_none
+      (match_true (needs_txn call && not k2.is_open) _ _ (ap (λ b. b && not k2.is_open) needs ∙ ap not closed) refl) refl refl refl
+
+  module _ (priority : Priority) (reading : ℕ) where
+    -- a begin at a reading past the clock's range
+    pub past_range : GREATEST_READING < reading → Knows (telling (answers.Clock reading) c.txn c.job c) (known_asked (calls.Begin priority) reading k)
+    past_range past =
+        told_outside (calls.Begin priority) reading (answers.Clock reading) (simple_clock reading)
+        (match_true (nat_lt GREATEST_READING reading) _ _ (lt-ltb GREATEST_READING reading past) refl) refl refl refl
+
+    abbrev ts : ℕ
+    ts = clock_now reading c.clock
+
+    abbrev id : TxnId
+    id = record { session = c.session; number = c.begun + 1 }
+
+    abbrev t : Txn
+    t = begun id priority reading ts
+
+    abbrev x : OpenTxn
+    x = opened_as whys.Client [] None t
+
+    abbrev answer : Answer
+    answer = answers.Begun id ts
+
+    abbrev k2 : Known
+    k2 = known_asked (calls.Begin priority) reading k
+
+    abbrev k3 : Known
+    k3 = known_told answer k2
+
+    new : k.begun < id.number
+    new = omega (arith, r.counted.begun)
+
+    later : c.clock < ts
+    later = clock-rises reading c.clock
+
+    counted : IsCounted c.session ts (c.begun + 1) k3
+    counted = record {
+      clock = omega (arith, r.counted.clock, later);
+      below = omega (arith, r.counted.below);
+      begun = ap (λ n. n + 1) r.counted.begun;
+      sent = all_own-more c.session k.begun (k.begun + 1) (length k.sent) (length k.sent) k.sent (omega arith) (omega arith) r.counted.sent;
+      heard = all_heard-more c.session k.begun (k.begun + 1) (length k.sent) (length k.sent) k.heard (omega arith) (omega arith) r.counted.heard;
+    }
+
+    stands : TxnStands k3 None t x
+    stands = record {
+      same = refl;
+      number = omega (arith, r.counted.begun);
+      begun = omega arith;
+      behind = omega arith;
+      at_begin = λ none. refl;
+      below = omega arith;
+      refused =
+          All-weaker (IsOwnSent c.session k.begun (length k.sent)) (λ m. OnCommit id (IsOutOrRefused None k.heard) m.request)
+          (λ m own. new_commit id (IsOutOrRefused None k.heard) k.begun m.request new own.own.write) k.sent r.counted.sent;
+      views =
+          All-weaker (IsOwnHeard c.session k.begun (length k.sent)) (IsPendingOf t)
+          (λ h own about. let low : id.number ≤ k.begun = own.own.record_of id (about_same id (subject h.request) about) refl in absurd (omega (arith, new))) k.heard r.counted.heard;
+      puts = All-weaker (IsOwnSent c.session k.begun (length k.sent)) (λ m. PutsUpTo t 0 m.request) (λ m own. new_put t k.begun m.request new own.own.write) k.sent r.counted.sent;
+      put_heard = All-weaker (IsOwnHeard c.session k.begun (length k.sent)) (λ h. PutsUpTo t 0 h.request) (λ h own. new_put t k.begun h.request new own.own.write) k.heard r.counted.heard;
+      laid = tt;
+      unwritten = tt;
+      proved = All-nil (IsProvedBy ts);
+      reads = none_read id k.heard ts;
+    }
+
+    held : StandsOpen k3 x
+    held = record { t = t; open_in = record { others = k.txns; is_open = refl; first = refl }; stands = stands; cause = refl; low = All-nil (λ ts. ts ≤ k3.top + 1) }
+
+    -- a begin within it
+    pub begins : reading ≤ GREATEST_READING → Knows (beginning priority reading ts (with_clock ts c)) k2
+    begins within = record {
+      rising = r.rising;
+      ranged = ranged_asked c.splits k r.ranged (calls.Begin priority) reading;
+      stands = record {
+        may =
+            tellable (record {
+              may = record {
+                s = record { call = calls.Begin priority; reading = reading };
+                opened = refl;
+                told =
+                    match_false (nat_lt GREATEST_READING reading) _ _ (le-ltb GREATEST_READING reading within)
+                    (record { priority = priority; asked = refl; next = (refl, ap (λ n. n + 1) r.counted.begun); at = ap (clock_now reading) r.counted.clock });
+              };
+              written = tt;
+              aborts = tt;
+              restarts = tt;
+              eighth = none_heard k2 answer refl;
+            }) (ap messages_left r.handed) (λ s is. refl);
+        after =
+            subst (λ k. Rests c.session ts (c.begun + 1) (Some x) c.job k) (sym (told_is answer k2))
+            (record { counted = counted; none_open = refl; held = held; left = no_job c.job k3 r.handed });
+      };
+    }
+
+-- a begin at the timestamp that the clock gave
+pub begun_knows : (c now : Coordination) (k : Known) (priority : Priority) (reading ts : ℕ) → StandsReady c k → k.is_open ≡ false → c.txn ≡ None → now ≡ with_clock ts c → ts ≡ clock_now reading c.clock → reading ≤ GREATEST_READING
+    → Knows (beginning priority reading ts now) (known_asked (calls.Begin priority) reading k)
+begun_knows c now k priority reading ts r closed unheld given at within =
+    subst (λ n. Knows (beginning priority reading ts n) (known_asked (calls.Begin priority) reading k)) (sym given)
+    (subst (λ t. Knows (beginning priority reading t (with_clock t c)) (known_asked (calls.Begin priority) reading k)) (sym at) (begins c k r closed unheld priority reading within))
+
+-- a reading that is not past the clock's range is within it
+pub within_range : (reading : ℕ) → (GREATEST_READING < reading → ⊥) → reading ≤ GREATEST_READING
+within_range reading not = by (nat_lt GREATEST_READING reading) refl
+  where
+    by : (b : Bool) → nat_lt GREATEST_READING reading ≡ b → reading ≤ GREATEST_READING
+    by true e = absurd (not (ltb-true GREATEST_READING reading e))
+    by false e = ltb-false GREATEST_READING reading e

@@ -1,0 +1,331 @@
+ghost use Rattle.std.specs.Prelude.{◌≡◌, ℕ, Bool, true, false, ◌==◌, ◌||◌, ◌&&◌, not, None, Some, OnOk};
+ghost use Rattle.pc_call.specs.declared.purpose.Purpose.TheVariants as purposes;
+ghost use Rattle.pc_call.specs.Learned.{known_heard, known_sent};
+ghost use Rattle.pc_call.specs.Opening.{GoesOn};
+ghost use Rattle.pc_call.specs.Rounding.{RefusesRound};
+ghost use Rattle.pc_call.specs.Serving.{InCall};
+ghost use Rattle.pc_coord.specs.Coordination.{awaits_number, calling, job_left, telling};
+ghost use Rattle.pc_coord.specs.Going.{HasHadRound, HearsNow, IsForMany, StandsReady};
+ghost use Rattle.pc_coord.specs.Knows.{Knows};
+ghost use Rattle.pc_proto.specs.declared.reply.Reply.{Reply};
+ghost use Rattle.pc_proto.specs.declared.reply.Reply.TheVariants as replies;
+ghost use Rattle.pc_proto.specs.declared.request.Request.{Request};
+ghost use Rattle.pc_proto.specs.declared.view.View.TheVariants as views;
+ghost use Rattle.pc_proto.specs.declared.why.Why.{Why};
+ghost use Rattle.pc_txn.specs.Counted.{IsCounted};
+ghost use Rattle.pc_wave.specs.declared.step.Step.TheVariants as steps;
+ghost use Rattle.pc_wave.specs.Messages.{step_of, wave_awaits};
+ghost use Rattle.pc_world.specs.Known.{Known, next_number};
+ghost use Rattle.pc_world.specs.Known.Traffic.{Heard};
+
+use crate::coordinator::Coordinator;
+use crate::due::{Due, Opened};
+use crate::job::job_of;
+use crate::kinds::{Decision, conflict_due, decision_of, status_in, written_at};
+use crate::round::Round;
+use pc_base::{NoMemory, Timestamp, TryCopy};
+use pc_call::{OpenCall, Over, Purpose, Refreshed};
+use pc_proto::{Answer, Reply};
+use pc_txn::OpenTxn;
+use pc_wave::Step;
+
+impl<'a> Coordinator<'a> {
+    /// The open call goes on by what is due of these messages, or is told what they came to.
+    pub(crate) fn go_on(&mut self, call: OpenCall, txn: OpenTxn) -> Result<(), NoMemory>
+        ensures knows { (k : Known) → StandsReady self.old k → InCall self.old.splits k txn call.purpose call.wave → (step_of call.wave ≡ steps.Answered → IsForMany call.purpose) → OnOk result (Knows self.new k) }
+        ensures waits { (other : ℕ) → OnOk result (awaits_number other self.new.due ≡ wave_awaits other call.wave) }
+        ensures session { self.new.session ≡ self.old.session }
+        ensures splits { self.new.splits ≡ self.old.splits }
+    {
+        let step = call.step()?;
+        match step {
+            Step::Answered => self.end(call, txn),
+            Step::Blocked { holder } => {
+                self.tell(Answer::Blocked { holder }, txn);
+                Ok(())
+            }
+            Step::Send(_) => {
+                self.call(call, txn);
+                Ok(())
+            }
+            Step::Deliver => {
+                self.call(call, txn);
+                Ok(())
+            }
+            Step::Round { .. } => {
+                self.call(call, txn);
+                Ok(())
+            }
+        }
+    }
+
+    /// More is due of these messages.
+    fn call(&mut self, call: OpenCall, txn: OpenTxn)
+        ensures { self.new ≡ calling call txn self.old }
+    {
+        self.txn = Some(txn);
+        self.due = Due::Call(call);
+    }
+
+    /// The open call is to be told this, and its transaction stays open.
+    pub(crate) fn tell(&mut self, answer: Answer, txn: OpenTxn)
+        ensures { self.new ≡ telling answer (Some txn) self.old.job self.old }
+    {
+        self.txn = Some(txn);
+        self.due = Due::Tell(answer);
+    }
+
+    /// The open call is to be told how its transaction ends.
+    pub(crate) fn finish(&mut self, over: Over)
+        ensures { self.new ≡ telling over.answer None (job_left over.left) self.old }
+    {
+        self.txn = None;
+        self.due = Due::Tell(over.answer);
+        self.job = job_of(over.left);
+    }
+
+    /// Each of these messages was answered: a read is told, and what was refreshed commits or restarts.
+    fn end(&mut self, call: OpenCall, txn: OpenTxn) -> Result<(), NoMemory>
+        ensures knows { (k : Known) → StandsReady self.old k → InCall self.old.splits k txn call.purpose call.wave → step_of call.wave ≡ steps.Answered → IsForMany call.purpose → OnOk result (Knows self.new k) }
+        ensures waits { (other : ℕ) → OnOk result (awaits_number other self.new.due ≡ false) }
+        ensures session { self.new.session ≡ self.old.session }
+        ensures splits { self.new.splits ≡ self.old.splits }
+    {
+        match &call.purpose {
+            Purpose::Read => self.read(call, txn),
+            Purpose::Refresh { .. } => self.refreshed(call, txn),
+            Purpose::Write { .. } | Purpose::Commit { .. } | Purpose::Abort { .. } => {
+                self.told();
+                Ok(())
+            }
+        }
+    }
+
+    fn read(&mut self, call: OpenCall, mut txn: OpenTxn) -> Result<(), NoMemory>
+        ensures knows { (k : Known) → StandsReady self.old k → InCall self.old.splits k txn call.purpose call.wave → call.purpose ≡ purposes.Read → step_of call.wave ≡ steps.Answered → OnOk result (Knows self.new k) }
+        ensures waits { (other : ℕ) → OnOk result (awaits_number other self.new.due ≡ false) }
+        ensures session { self.new.session ≡ self.old.session }
+        ensures splits { self.new.splits ≡ self.old.splits }
+    {
+        let answer = call.read(self.alloc, &mut txn)?;
+        self.tell(answer, txn);
+        Ok(())
+    }
+
+    fn refreshed(&mut self, call: OpenCall, mut txn: OpenTxn) -> Result<(), NoMemory>
+        ensures knows { (k : Known) (refusals : ℕ) → StandsReady self.old k → InCall self.old.splits k txn call.purpose call.wave → call.purpose ≡ purposes.Refresh refusals → step_of call.wave ≡ steps.Answered → OnOk result (Knows self.new k) }
+        ensures waits { (other : ℕ) → OnOk result (awaits_number other self.new.due ≡ false) }
+        ensures session { self.new.session ≡ self.old.session }
+        ensures splits { self.new.splits ≡ self.old.splits }
+    {
+        let refreshed = call.refreshed(self.alloc, &mut txn)?;
+        match refreshed {
+            Refreshed::Commit(call) => self.call(call, txn),
+            Refreshed::Restart(answer) => self.tell(answer, txn),
+        }
+        Ok(())
+    }
+
+    /// The message that was due went out under this number.
+    pub(crate) fn send(&mut self, taken: Opened, number: u64) -> Result<(), NoMemory>
+        ensures knows { (k : Known) (range : ℕ) (request : Request) → StandsReady self.old k → InCall self.old.splits k taken.txn taken.call.purpose taken.call.wave → step_of taken.call.wave ≡ steps.Send request → number ≡ next_number k → OnOk result (Knows self.new (known_sent number range request k)) }
+        ensures waits { (request : Request) (other : ℕ) → step_of taken.call.wave ≡ steps.Send request → OnOk result (awaits_number other self.new.due ≡ (number == other || wave_awaits other taken.call.wave)) }
+        ensures session { self.new.session ≡ self.old.session }
+        ensures splits { self.new.splits ≡ self.old.splits }
+    {
+        let Opened { mut call, mut txn } = taken;
+        call.sent(&mut txn, number)?;
+        self.call(call, txn);
+        Ok(())
+    }
+
+    /// This was replied to the message of this number.
+    pub(crate) fn hear(
+        &mut self,
+        call: OpenCall,
+        txn: OpenTxn,
+        number: u64,
+        reply: &Reply,
+    ) -> Result<(), NoMemory>
+        ensures knows { (k : Known) (h : Heard) → HearsNow self.old call txn number reply.now k h → OnOk result (Knows self.new (known_heard h k)) }
+        ensures waits { (k : Known) (other : ℕ) → InCall self.old.splits k txn call.purpose call.wave → wave_awaits number call.wave ≡ true → OnOk result (awaits_number other self.new.due ≡ (wave_awaits other call.wave && not (number == other))) }
+        ensures session { self.new.session ≡ self.old.session }
+        ensures splits { self.new.splits ≡ self.old.splits }
+    {
+        match &call.purpose {
+            Purpose::Read | Purpose::Refresh { .. } => self.come_back(call, txn, number, reply),
+            Purpose::Write { .. } => self.write_heard(call, txn, number, reply),
+            Purpose::Commit { .. } => self.commit_heard(call, txn, reply),
+            Purpose::Abort { .. } => self.abort_heard(call, txn, reply),
+        }
+    }
+
+    /// This was replied to the message of this number, and its call is not over by that.
+    fn come_back(
+        &mut self,
+        mut call: OpenCall,
+        txn: OpenTxn,
+        number: u64,
+        reply: &Reply,
+    ) -> Result<(), NoMemory>
+        ensures knows { (k : Known) (h : Heard) → HearsNow self.old call txn number reply.now k h → GoesOn call.purpose reply.now → OnOk result (Knows self.new (known_heard h k)) }
+        ensures waits { (k : Known) (other : ℕ) → InCall self.old.splits k txn call.purpose call.wave → wave_awaits number call.wave ≡ true → OnOk result (awaits_number other self.new.due ≡ (wave_awaits other call.wave && not (number == other))) }
+        ensures session { self.new.session ≡ self.old.session }
+        ensures splits { self.new.splits ≡ self.old.splits }
+    {
+        let told = reply.copy()?;
+        call.heard(number, told);
+        self.go_on(call, txn)
+    }
+
+    /// This was replied to a write.
+    fn write_heard(
+        &mut self,
+        call: OpenCall,
+        txn: OpenTxn,
+        number: u64,
+        reply: &Reply,
+    ) -> Result<(), NoMemory>
+        ensures knows { (k : Known) (h : Heard) (again : Bool) → HearsNow self.old call txn number reply.now k h → call.purpose ≡ purposes.Write again → OnOk result (Knows self.new (known_heard h k)) }
+        ensures waits { (k : Known) (other : ℕ) (again : Bool) → InCall self.old.splits k txn call.purpose call.wave → call.purpose ≡ purposes.Write again → wave_awaits number call.wave ≡ true → OnOk result (awaits_number other self.new.due ≡ (wave_awaits other call.wave && not (number == other))) }
+        ensures session { self.new.session ≡ self.old.session }
+        ensures splits { self.new.splits ≡ self.old.splits }
+    {
+        let written = written_at(reply);
+        match written {
+            Some(ts) => self.written(call, txn, ts),
+            None => self.come_back(call, txn, number, reply),
+        }
+    }
+
+    /// A write was written at this timestamp: its call is told so, or goes on by its own write.
+    fn written(&mut self, call: OpenCall, mut txn: OpenTxn, ts: Timestamp) -> Result<(), NoMemory>
+        ensures knows { (k : Known) (h : Heard) (number : ℕ) (again : Bool) → HearsNow self.old call txn number (replies.Written ts) k h → call.purpose ≡ purposes.Write again → OnOk result (Knows self.new (known_heard h k)) }
+        ensures waits { (other : ℕ) → OnOk result (awaits_number other self.new.due ≡ false) }
+        ensures session { self.new.session ≡ self.old.session }
+        ensures splits { self.new.splits ≡ self.old.splits }
+    {
+        let next = call.written(self.alloc, &mut txn, ts)?;
+        match next {
+            Some(call) => self.call(call, txn),
+            None => self.tell(Answer::Written, txn),
+        }
+        Ok(())
+    }
+
+    /// This was replied to a commit: its transaction is over, or its record was moved.
+    fn commit_heard(&mut self, call: OpenCall, txn: OpenTxn, reply: &Reply) -> Result<(), NoMemory>
+        ensures knows { (k : Known) (h : Heard) (number refusals : ℕ) → HearsNow self.old call txn number reply.now k h → call.purpose ≡ purposes.Commit refusals → OnOk result (Knows self.new (known_heard h k)) }
+        ensures waits { (other : ℕ) → OnOk result (awaits_number other self.new.due ≡ false) }
+        ensures session { self.new.session ≡ self.old.session }
+        ensures splits { self.new.splits ≡ self.old.splits }
+    {
+        let decision = decision_of(reply)?;
+        match decision {
+            Decision::Committed { epoch, ts } => self.finish(call.committed(txn, epoch, ts)),
+            Decision::Aborted { why } => self.finish(call.aborted(txn, why)),
+            Decision::Refused { recorded } => return self.refused(call, txn, recorded),
+            Decision::Nothing => self.told(),
+        }
+        Ok(())
+    }
+
+    /// A commit met a record that is not final and stands at this timestamp: it is tried again there, or its call is told that it was moved.
+    fn refused(
+        &mut self,
+        call: OpenCall,
+        mut txn: OpenTxn,
+        recorded: Timestamp,
+    ) -> Result<(), NoMemory>
+        ensures knows { (k : Known) (h : Heard) (number epoch refusals : ℕ) → HearsNow self.old call txn number (replies.Status (views.Pending epoch recorded)) k h → call.purpose ≡ purposes.Commit refusals → OnOk result (Knows self.new (known_heard h k)) }
+        ensures waits { (other : ℕ) → OnOk result (awaits_number other self.new.due ≡ false) }
+        ensures session { self.new.session ≡ self.old.session }
+        ensures splits { self.new.splits ≡ self.old.splits }
+    {
+        let refused = call.refused(&mut txn, recorded);
+        match refused {
+            Some(refusals) => {
+                let call = OpenCall::commits(self.alloc, &txn, refusals)?;
+                self.go_on(call, txn)
+            }
+            None => {
+                self.tell(Answer::Moved { ts: recorded }, txn);
+                Ok(())
+            }
+        }
+    }
+
+    /// This was replied to an abort: its transaction is over.
+    fn abort_heard(&mut self, call: OpenCall, txn: OpenTxn, reply: &Reply) -> Result<(), NoMemory>
+        ensures knows { (k : Known) (h : Heard) (number : ℕ) (why : Why) → HearsNow self.old call txn number reply.now k h → call.purpose ≡ purposes.Abort why → OnOk result (Knows self.new (known_heard h k)) }
+        ensures waits { (other : ℕ) → OnOk result (awaits_number other self.new.due ≡ false) }
+        ensures session { self.new.session ≡ self.old.session }
+        ensures splits { self.new.splits ≡ self.old.splits }
+    {
+        let status = status_in(reply)?;
+        match status {
+            Some(view) => {
+                let over = call.rolled_back(txn, &view)?;
+                self.finish(over);
+            }
+            None => self.told(),
+        }
+        Ok(())
+    }
+
+    /// The round of the conflict that the message of this number met is over.
+    pub(crate) fn settle(
+        &mut self,
+        mut call: OpenCall,
+        txn: OpenTxn,
+        number: u64,
+        round: Round,
+    ) -> Result<(), NoMemory>
+        ensures knows { (start k : Known) (clock : ℕ) (conflict : Reply) → StandsReady self.old k → IsCounted self.old.session clock self.old.begun start → InCall self.old.splits start txn call.purpose call.wave → step_of call.wave ≡ steps.Round number conflict → HasHadRound round start k txn.id conflict → OnOk result (Knows self.new k) }
+        ensures waits { (conflict : Reply) (other : ℕ) → step_of call.wave ≡ steps.Round number conflict → OnOk result (awaits_number other self.new.due ≡ false) }
+        ensures session { self.new.session ≡ self.old.session }
+        ensures splits { self.new.splits ≡ self.old.splits }
+    {
+        match round {
+            Round::Again => {
+                call.again(number);
+                self.go_on(call, txn)
+            }
+            Round::Refused => self.refuse(call, txn),
+            Round::Lost { faults } => {
+                self.tell(call.unavailable(faults), txn);
+                Ok(())
+            }
+        }
+    }
+
+    /// The push of a round was refused: the call is told which transaction blocks it.
+    fn refuse(&mut self, call: OpenCall, txn: OpenTxn) -> Result<(), NoMemory>
+        ensures knows { (start k : Known) (clock number : ℕ) (conflict : Reply) → StandsReady self.old k → IsCounted self.old.session clock self.old.begun start → InCall self.old.splits start txn call.purpose call.wave → step_of call.wave ≡ steps.Round number conflict → RefusesRound start k txn.id conflict → OnOk result (Knows self.new k) }
+        ensures waits { (other : ℕ) → OnOk result (awaits_number other self.new.due ≡ false) }
+        ensures session { self.new.session ≡ self.old.session }
+        ensures splits { self.new.splits ≡ self.old.splits }
+    {
+        let step = call.step()?;
+        let conflict = conflict_due(step);
+        match conflict {
+            Some(conflict) => self.block(call, txn, &conflict),
+            None => self.told(),
+        }
+        Ok(())
+    }
+
+    /// The push in this conflict's round was refused.
+    fn block(&mut self, call: OpenCall, txn: OpenTxn, conflict: &Reply)
+        ensures knows { (start k : Known) (clock number : ℕ) → StandsReady self.old k → IsCounted self.old.session clock self.old.begun start → InCall self.old.splits start txn call.purpose call.wave → step_of call.wave ≡ steps.Round number conflict.now → RefusesRound start k txn.id conflict.now → Knows self.new k }
+        ensures waits { (other : ℕ) → awaits_number other self.new.due ≡ false }
+        ensures session { self.new.session ≡ self.old.session }
+        ensures splits { self.new.splits ≡ self.old.splits }
+    {
+        let answer = call.round_refused(conflict);
+        match answer {
+            Some(answer) => self.tell(answer, txn),
+            None => self.told(),
+        }
+    }
+}
