@@ -1,0 +1,8 @@
+-- What a session does beside its coordinator, one message after another.
+pub mod Aside
+pub mod Exchange
+pub mod Finishing
+pub mod Growing
+pub mod Jobs
+pub mod Rounding
+pub mod Rounds
