@@ -101,7 +101,9 @@ module _ (k : Known) (a : Since k) where
   now-as : (number step : ℕ) (request : Option Request) (reply : Option Reply) → number ≤ length k.sent
       → AreHeardNow (k.sent ++ []) (k.sent_now ++ []) (k.heard ++ option_to_list (heard_as number step request reply)) (k.heard_now ++ option_to_list (heard_as number step request reply))
   now-as number step request reply low =
-      subst (λ s. AreHeardNow s (k.sent_now ++ []) _ _) (sym (append-nil k.sent)) (subst (λ s. AreHeardNow k.sent s _ _) (sym (append-nil k.sent_now)) (by request reply))
+      let h = option_to_list (heard_as number step request reply) in
+      subst (λ s. AreHeardNow s (k.sent_now ++ []) (k.heard ++ h) (k.heard_now ++ h)) (sym (append-nil k.sent))
+      (subst (λ s. AreHeardNow k.sent s (k.heard ++ h) (k.heard_now ++ h)) (sym (append-nil k.sent_now)) (by request reply))
     where
       by : (request : Option Request) (reply : Option Reply) → AreHeardNow k.sent k.sent_now (k.heard ++ option_to_list (heard_as number step request reply)) (k.heard_now ++ option_to_list (heard_as number step request reply))
       by (Some request) (Some reply) = now-heard k.sent k.sent_now k.heard k.heard_now (record { number = number; request = request; reply = reply; step = step }) low a
@@ -164,17 +166,17 @@ module _ (head : Head) (actor : ActorId) (client : IsNoRange actor) where
       ])
 
 -- one that is there passes
+either-true : (b c : Bool) → c ≡ true → (b || c) ≡ true
+either-true true c is = refl
+either-true false c is = is
+
 there-passes : (number : ℕ) (sent : List Sent) (m : Sent) → Contains sent m → m.number ≡ number → list_any (λ (x : Sent). x.number == number) sent ≡ true
 there-passes number [] m there same = absurd (contains_nil m there)
-there-passes number (x ∷ sent) m there same = by (contains_cons x sent m there)
-  where
-    later : (b c : Bool) → c ≡ true → (b || c) ≡ true
-    later true c is = refl
-    later false c is = is
-
-    by : (x ≡ m) ⊎ Contains sent m → list_any (λ (x : Sent). x.number == number) (x ∷ sent) ≡ true
-    by (inl is) = ap (λ b. b || list_any (λ (x : Sent). x.number == number) sent) (eq-eqb x.number number (ap (λ (y : Sent). y.number) is ∙ same))
-    by (inr behind) = later (x.number == number) (list_any (λ (x : Sent). x.number == number) sent) (there-passes number sent m behind same)
+there-passes number (x ∷ sent) m there same =
+    elim (contains_cons x sent m there) [
+      | inl is ↦ ap (λ b. b || list_any (λ (x : Sent). x.number == number) sent) (eq-eqb x.number number (ap (λ (y : Sent). y.number) is ∙ same))
+      | inr behind ↦ either-true (x.number == number) (list_any (λ (x : Sent). x.number == number) sent) (there-passes number sent m behind same)
+    ]
 
 module _ {C : Type 0} (d : DeskMeaning C) (back : HasAllBack d) where
   abbrev known : Known

@@ -1,6 +1,7 @@
 -- One message that is sent, evaluated and heard: what each of the three asks for, and what they come to.
 use Rattle.std.proofs.Common.{◌≡◌, ℕ, ◌+◌, ◌==◌, Bool, true, false, ◌&&◌, ◌||◌, not, ◌⊎◌, inl, inr, All, Contains, List, [], ◌∷◌, ◌++◌, length, Option, None, Some, refl, sym, ap, subst, ◌∙◌, arith}
 use Rattle.std.proofs.lemmas.Bool.{eq-eqb, eqb-true}
+use Rattle.std.proofs.lemmas.List.Elements.{All-cons, All-nil}
 use Rattle.std.specs.List.{list_any}
 use Rattle.pc_base.specs.declared.actor.ActorId.{ActorId}
 use Rattle.pc_base.specs.declared.actor.ActorId.TheVariants as actors
@@ -11,14 +12,17 @@ use Rattle.pc_desk.specs.declared.answered.Answered.{Answered}
 use Rattle.pc_desk.specs.declared.halt.Halt.{Halt}
 use Rattle.pc_desk.specs.declared.halt.Halt.TheVariants as halts
 use Rattle.pc_desk.specs.Desk.{DeskMeaning, HasDelivered, HasHalted, HasHeardFirst, HasSentNext, IsCause, KeepsTrack, MayHearNow, Posted, is_on_way, times_sent}
+use Rattle.pc_desk.specs.Ending.{EndsOnly}
 use Rattle.pc_desk.specs.Keeping.{KeepsAs, KeepsNext}
 use Rattle.pc_desk.specs.OwnLog.{HasEntered, LogMeaning}
 use Rattle.pc_exchange.proofs.Called.{next_unsent}
+use Rattle.pc_exchange.proofs.Ending.{breaks_only, made_by}
 use Rattle.pc_exchange.proofs.Growing.{grows_both, grows_else, grows_entered}
 use Rattle.pc_exchange.proofs.HeardKinds.{heard_kind, heard_possible}
 use Rattle.pc_exchange.proofs.Knowing.{heard_then}
+use Rattle.pc_exchange.specs.Ending.{BreaksOff}
 use Rattle.pc_exchange.specs.Exchange.{MayExchangeNow, WasExchanged, heard_pair, sent_pair}
-use Rattle.pc_exchange.specs.Growing.{GoesOnBeside, HasAllBack, HasGrownBy}
+use Rattle.pc_exchange.specs.Growing.{HasGoneBeside, HasAllBack, HasGrownBy}
 use Rattle.pc_history.specs.declared.pair.Pair.{Pair}
 use Rattle.pc_history.specs.Own.{pair}
 use Rattle.pc_history.specs.Parts.{entry_of, knowledge, named_by}
@@ -33,6 +37,7 @@ use Rattle.pc_proto.specs.Requests.{is_put}
 use Rattle.pc_range.specs.Message.{evaluation}
 use Rattle.pc_range.specs.Protocol.{unstaged_protocol}
 use Rattle.pc_world.specs.Follows.PipelinedPuts.{IsPutWaitedFor}
+use Rattle.pc_turns.specs.Order.{IsInBetween, events_of}
 use Rattle.pc_world.specs.Follows.FinishingJobs.{jobs_of}
 use Rattle.pc_world.specs.Known.{Known, known_of, next_number}
 use Rattle.pc_world.specs.Known.Traffic.{Heard, Sent, heard_as, request_sent}
@@ -49,22 +54,22 @@ hears-as (actors.Session session) pipelining jobs k number step h none =
 hears-as (actors.Recoverer recoverer) pipelining jobs k number step h none = tt
 hears-as (actors.Range range) pipelining jobs k number step h none = tt
 
--- where a message of this number is among these, and no other
-only-this : (number : ℕ) (a : Answered) (replies : List Answered) → Contains replies a → list_any (λ (x : Answered). x.number == a.number) replies ≡ true
-only-this number a [] there = absurd (contains_nil a there)
-only-this number a (x ∷ replies) there = by (contains_cons x replies a there)
-  where
-    later : (b c : Bool) → c ≡ true → (b || c) ≡ true
-    later true c is = refl
-    later false c is = is
-
-    by : (x ≡ a) ⊎ Contains replies a → list_any (λ (x : Answered). x.number == a.number) (x ∷ replies) ≡ true
-    by (inl same) = ap (λ b. b || list_any (λ (x : Answered). x.number == a.number) replies) (eq-eqb x.number a.number (ap (λ (y : Answered). y.number) same))
-    by (inr behind) = later (x.number == a.number) (list_any (λ (x : Answered). x.number == a.number) replies) (only-this number a replies behind)
-
 or-right : (b c : Bool) → c ≡ true → (b || c) ≡ true
 or-right true c is = refl
 or-right false c is = is
+
+-- a reply that is among these is found by its number
+found-there : (a : Answered) (replies : List Answered) → Contains replies a → list_any (λ (x : Answered). x.number == a.number) replies ≡ true
+found-there a [] there = absurd (contains_nil a there)
+found-there a (x ∷ replies) there =
+    elim (contains_cons x replies a there) [
+      | inl same ↦ ap (λ b. b || list_any (λ (x : Answered). x.number == a.number) replies) (eq-eqb x.number a.number (ap (λ (y : Answered). y.number) same))
+      | inr behind ↦ or-right (x.number == a.number) (list_any (λ (x : Answered). x.number == a.number) replies) (found-there a replies behind)
+    ]
+
+and-false : (b : Bool) → (b && false) ≡ false
+and-false true = refl
+and-false false = refl
 
 or-false : (b : Bool) → (b || false) ≡ b
 or-false true = refl
@@ -83,7 +88,7 @@ module _ {C : Type 0} (old mid late : DeskMeaning C) (request : Request) (number
 
   -- each reply that waits is to this message
   pub replies_to_it : (a : Answered) → Contains late.replies a → a.number ≡ number
-  replies_to_it a there = sym (eqb-true number a.number (sym (way-late a.number) ∙ only-this number a late.replies there))
+  replies_to_it a there = sym (eqb-true number a.number (sym (way-late a.number) ∙ found-there a late.replies there))
 
   -- and there is one
   pub has_reply : late.replies ≡ [] → ⊥
@@ -131,13 +136,9 @@ module _ {C : Type 0} (old mid late : DeskMeaning C) (request : Request) (number
         by (b ∷ rest) is =
             let there : Contains new.replies b = subst (λ l. Contains l b) (sym is) (contains_head b rest) in
             let also : b.number ≡ number = replies_to_it b (subst (λ l. Contains l b) (sym heard.first) (contains_tail a new.replies b there)) in
-            let here : is_on_way b.number new ≡ true = or-right (list_any (λ (m : Posted). m.number == b.number) new.posted) (list_any (λ (x : Answered). x.number == b.number) new.replies) (only-this number b new.replies there) in
+            let here : is_on_way b.number new ≡ true = or-right (list_any (λ (m : Posted). m.number == b.number) new.posted) (list_any (λ (x : Answered). x.number == b.number) new.replies) (found-there b new.replies there) in
             let gone : is_on_way b.number new ≡ false = heard.way b.number ∙ (ap (λ e. is_on_way b.number late && not e) (eq-eqb a.number b.number (number-is ∙ sym also)) ∙ and-false (is_on_way b.number late)) in
             absurd (let bad : true ≡ false = sym here ∙ gone in cc bad)
-
-        and-false : (b : Bool) → (b && false) ≡ false
-        and-false true = refl
-        and-false false = refl
 
     -- the two entries, as they stand in the actor's list
     first-is : added old.log sent.sent (events.Send number sent.range request) sent.entered ≡ sent_pair old.log.part.id sent.entered.step (next_number (known_of old.log.part.own)) sent.range request
@@ -181,7 +182,9 @@ module _ {C : Type 0} (old mid late : DeskMeaning C) (request : Request) (number
           heard_at = heard.entered.step;
           goes = record {
             grown = grown;
-            within = _;
+            within =
+                All-cons IsInBetween (events.Send next sent.range request) (events.Hear next a.step ∷ []) tt
+                (All-cons IsInBetween (events.Hear next a.step) [] tt (All-nil IsInBetween));
             back = record { track = heard.track; posted = heard.posted ∙ none; replies = none-left };
             limit = heard.limit ∙ (delivered.limit ∙ sent.limit);
           };
@@ -205,3 +208,27 @@ halts_later old mid new halt going head id halted = record {
   id = halted.id ∙ id;
   cause = halts-since old mid new halt going halted.cause;
 }
+
+-- where its list ends once the message was sent
+module _ {C : Type 0} (old mid : DeskMeaning C) (request : Request) (number : ℕ) (sent : HasSentNext old mid number request) where
+  abbrev first-part : List (Pair Event)
+  first-part = added old.log sent.sent (events.Send number sent.range request) sent.entered ∷ []
+
+  sent-grown : HasGrownBy old.log mid.log first-part
+  sent-grown =
+      let one = grows_entered old.log sent.sent (events.Send number sent.range request) sent.entered refl in
+      let two : HasGrownBy sent.sent mid.log [] = grows_else sent.sent mid.log _ sent.sent.part.known sent.noted (λ k there. there) in
+      grows_both old.log sent.sent mid.log first-part [] one two
+
+  within-first : All IsInBetween (events_of first-part)
+  within-first = All-cons IsInBetween (events.Send number sent.range request) [] tt (All-nil IsInBetween)
+
+  pub ends_sent : (new : DeskMeaning C) (halt : Halt) → EndsOnly mid new halt → BreaksOff (All IsInBetween) old new halt
+  ends_sent new halt ends = breaks_only old mid new first-part sent-grown sent.limit (made_by old.log mid first-part sent.track sent-grown) (All IsInBetween) halt sent.track.given within-first ends
+
+  -- or once it was evaluated
+  pub ends_delivered : (late new : DeskMeaning C) (halt : Halt) → HasDelivered mid late → EndsOnly late new halt → BreaksOff (All IsInBetween) old new halt
+  ends_delivered late new halt delivered ends =
+      let three : HasGrownBy mid.log late.log [] = grows_else mid.log late.log mid.log.part.given late.log.part.known delivered.own delivered.more in
+      let grown = grows_both old.log mid.log late.log first-part [] sent-grown three in
+      breaks_only old late new first-part grown (delivered.limit ∙ sent.limit) (made_by old.log late first-part delivered.track grown) (All IsInBetween) halt delivered.track.given within-first ends

@@ -12,13 +12,13 @@ use Rattle.pc_desk.specs.Desk.{DeskMeaning}
 use Rattle.pc_exchange.proofs.Aside.{aside_none, goes_on_beside, left_still}
 use Rattle.pc_exchange.proofs.Called.{all_heard_ever}
 use Rattle.pc_exchange.proofs.Coordinator.{counted_closed}
-use Rattle.pc_exchange.proofs.Going.{answered_to_by, aside_by, goes_both, goes_none, jobs_by, not_same}
+use Rattle.pc_exchange.proofs.Going.{answered_to_by, aside_by, goes_both, goes_none, jobs_by, not_same, part_by}
 use Rattle.pc_exchange.proofs.Messages.{due_first, is_first, job_left, left_by_exchange, left_less, none_left}
 use Rattle.pc_exchange.proofs.Timely.{IsTimely, may_exchange}
 use Rattle.pc_exchange.specs.Aside.{IsAside, IsLaterAside}
 use Rattle.pc_exchange.specs.Exchange.{MayExchangeNow, WasExchanged}
 use Rattle.pc_exchange.specs.Finishing.{IsJobUnderWay, messages_due, with_rest}
-use Rattle.pc_exchange.specs.Growing.{GoesOnBeside}
+use Rattle.pc_exchange.specs.Growing.{HasGoneBeside}
 use Rattle.pc_exchange.specs.Jobs.{HasFinishedJob, MayFinishNow}
 use Rattle.pc_history.specs.declared.pair.Pair.{Pair}
 use Rattle.pc_lists.proofs.Same.{same_txn-is}
@@ -123,8 +123,8 @@ module _ {C : Type 0} (old : DeskMeaning C) (job : Job) (m : Resolving) (d : Des
           let first : messages_due m ≡ request ∷ messages_due next = (is_first m next request reply due x.kind made).first in
           record {
             start = f.start;
-            part = f.part ++ _;
-            goes = goes_both old d new f.part _ f.goes x.goes;
+            part = f.part ++ part_by d new request reply x;
+            goes = goes_both old d new f.part (part_by d new request reply x) f.goes x.goes;
             aside = aside_by d new request reply f.goes.back x f.start.session start_known ts f.aside it_aside;
             knows = knows start_known now_known (known_of new.log.part.own) request f.knows due answered;
             waiting = jobs_by d new request reply x ∙ (closed_jobs ∙ left_less (messages_due m) (messages_due next) request f.start.waiting first);

@@ -12,8 +12,8 @@ use Rattle.pc_exchange.proofs.Growing.{grows_both, grows_none}
 use Rattle.pc_exchange.proofs.Knowing.{answered_then, exchange_is, known_then, with_exchange}
 use Rattle.pc_exchange.proofs.Messages.{jobs_then, left_by_exchange}
 use Rattle.pc_exchange.specs.Aside.{IsAside, IsLaterAside}
-use Rattle.pc_exchange.specs.Exchange.{WasExchanged, sent_pair}
-use Rattle.pc_exchange.specs.Growing.{GoesOnBeside, HasAllBack}
+use Rattle.pc_exchange.specs.Exchange.{WasExchanged, heard_pair, sent_pair}
+use Rattle.pc_exchange.specs.Growing.{HasGoneBeside, HasAllBack}
 use Rattle.pc_history.specs.declared.pair.Pair.{Pair}
 use Rattle.pc_lists.proofs.Same.{same_txn-is}
 use Rattle.pc_proto.specs.declared.event.Event.{Event}
@@ -28,13 +28,14 @@ use Rattle.pc_turns.specs.Order.{IsInBetween}
 use Rattle.pc_world.specs.Exchange.{WasAnswered}
 use Rattle.pc_world.specs.Follows.FinishingJobs.{jobs_of}
 use Rattle.pc_world.specs.Known.{Known, known_of, next_number}
+use Rattle.pc_world.specs.Known.Traffic.{Heard}
 
 -- by nothing
-pub goes_none : {C : Type 0} (d : DeskMeaning C) → HasAllBack d → GoesOnBeside d d []
+pub goes_none : {C : Type 0} (d : DeskMeaning C) → HasAllBack d → HasGoneBeside d d []
 goes_none d back = record { grown = grows_none d.log; within = All-nil IsInBetween; back = back; limit = refl }
 
 -- by these entries and then by those
-pub goes_both : {C : Type 0} (a b d : DeskMeaning C) (p q : List (Pair Event)) → GoesOnBeside a b p → GoesOnBeside b d q → GoesOnBeside a d (p ++ q)
+pub goes_both : {C : Type 0} (a b d : DeskMeaning C) (p q : List (Pair Event)) → HasGoneBeside a b p → HasGoneBeside b d q → HasGoneBeside a d (p ++ q)
 goes_both a b d p q x y = record {
   grown = grows_both a.log b.log d.log p q x.grown y.grown;
   within = subst (All IsInBetween) (sym (map-append (λ (r : Pair Event). r.entry.event) p q)) (All-append IsInBetween (map (λ r. r.entry.event) p) (map (λ r. r.entry.event) q) x.within y.within);
@@ -57,6 +58,16 @@ puts-none id (requests.Remove other anchor) is = refl
 puts-none id request is = absurd cc
 
 module _ {C : Type 0} (d new : DeskMeaning C) (request : Request) (reply : Reply) where
+  -- the entries of the exchange
+  abbrev pub part_by : WasExchanged d new request reply → List (Pair Event)
+  part_by x =
+      let next = next_number (known_of d.log.part.own) in
+      sent_pair d.log.part.id x.sent_at next x.range request ∷ heard_pair d.log.part.id x.heard_at next x.evaluated_by x.evaluated_at reply ∷ []
+
+  -- what was heard in it
+  abbrev pub reply_by : WasExchanged d new request reply → Heard
+  reply_by x = record { number = next_number (known_of d.log.part.own); request = request; reply = reply; step = x.evaluated_at }
+
   -- the jobs that wait then
   pub jobs_by : WasExchanged d new request reply → jobs_of new.log.part.own ≡ left_by_exchange (known_of d.log.part.own).statement (jobs_of d.log.part.own)
   jobs_by x =
@@ -76,7 +87,7 @@ module _ {C : Type 0} (d new : DeskMeaning C) (request : Request) (reply : Reply
         ∙ exchange_is number_of x.range x.evaluated_at request reply (known_of d.log.part.own) is)
 
     -- what was heard in the open call
-    pub heard_now_by : is_of_round_or_job request ≡ true → (known_of new.log.part.own).heard_now ≡ (known_of d.log.part.own).heard_now ++ record { number = number_of; request = request; reply = reply; step = x.evaluated_at } ∷ []
+    pub heard_now_by : is_of_round_or_job request ≡ true → (known_of new.log.part.own).heard_now ≡ (known_of d.log.part.own).heard_now ++ reply_by x ∷ []
     heard_now_by is = ap (λ (k : Known). k.heard_now) (known_by_it is)
 
     -- the reply was heard to it

@@ -1,6 +1,7 @@
 pub mod Aside
 pub mod Called
 pub mod Coordinator
+pub mod Ending
 pub mod Exchanging
 pub mod Finishing
 pub mod Going

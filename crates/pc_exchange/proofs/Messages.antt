@@ -1,5 +1,5 @@
 -- The messages of a job, one by one, and the jobs that wait behind them.
-use Rattle.std.proofs.Common.{◌≡◌, ℕ, zero, suc, ◌+◌, Bool, true, false, cond, is_some, if◌then◌else◌, List, [], ◌∷◌, ◌++◌, fold, map, drop, slice_get, Option, Some, None, refl, sym, ap, ◌∙◌, subst}
+use Rattle.std.proofs.Common.{◌≡◌, ℕ, zero, suc, ◌+◌, Bool, true, false, cond, is_some, if◌then◌else◌, List, [], ◌∷◌, ◌++◌, fold, map, drop, slice_get, Option, Some, None, refl, sym, ap, ◌∙◌, subst, arith}
 use Rattle.std.proofs.lemmas.Grind.{fold-append}
 use Rattle.pc_base.specs.declared.actor.ActorId.{ActorId}
 use Rattle.pc_coord.specs.Beside.{is_of_round_or_job}
@@ -37,7 +37,9 @@ drop-at : (xs : List (List ℕ)) (n : ℕ) (x : List ℕ) → slice_get xs n ≡
 drop-at [] zero x at = absurd cc
 drop-at [] (suc n) x at = absurd cc
 drop-at (y ∷ ys) zero x at = let same : y ≡ x = cc in ap (λ z. z ∷ ys) same
-drop-at (y ∷ ys) (suc n) x at = drop-at ys n x at
+drop-at (y ∷ ys) (suc n) x at =
+    let same : suc (n + 1) ≡ suc n + 1 = omega arith in
+    drop-at ys n x at ∙ ap (λ k. x ∷ drop k (y ∷ ys)) same
 
 drop-past : (xs : List (List ℕ)) (n : ℕ) → slice_get xs n ≡ None → drop n xs ≡ []
 drop-past [] zero none = refl

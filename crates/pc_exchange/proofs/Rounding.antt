@@ -2,6 +2,7 @@
 use Rattle.std.proofs.Common.{◌≡◌, ℕ, zero, suc, ◌+◌, ◌≤◌, Bool, true, false, ◌&&◌, inl, inr, List, [], ◌∷◌, ◌++◌, All, Any, Contains, Option, Some, None, IfSome, IsTrue, refl, sym, ap, ◌∙◌, subst, arith, count_by}
 use Rattle.std.proofs.lemmas.List.{append_assoc}
 use Rattle.std.proofs.lemmas.List.Elements.{All-cons, All-contains, All-nil, All-weaker, Contains-append_cases}
+use Rattle.std.specs.Option.{option_map_or}
 use Rattle.pc_base.specs.declared.actor.ActorId.TheVariants as actors
 use Rattle.pc_base.specs.declared.transaction.TxnId.{TxnId}
 use Rattle.pc_base.specs.declared.transaction.Who.TheVariants as whos
@@ -29,10 +30,10 @@ use Rattle.pc_proto.specs.declared.reply.Reply.TheVariants as replies
 use Rattle.pc_proto.specs.declared.request.Request.{Request}
 use Rattle.pc_proto.specs.declared.request.Request.TheVariants as requests
 use Rattle.pc_proto.specs.declared.view.View.{View}
-use Rattle.pc_proto.specs.Replies.{ConflictsWith, is_conflict_with, is_refused}
+use Rattle.pc_proto.specs.Replies.{ConflictsWith, is_conflict_with, is_refused, view_in}
 use Rattle.pc_proto.specs.Requests.{goal_in, is_about, is_push_of, is_resolve_of, round_of}
 use Rattle.pc_proto.specs.Stamps.{goal_stamps}
-use Rattle.pc_proto.specs.Views.{fate_after}
+use Rattle.pc_proto.specs.Views.{fate_after, is_committed_at, is_staging_at}
 use Rattle.pc_push.specs.declared.progress.Progress.{Progress}
 use Rattle.pc_push.specs.declared.progress.Progress.TheVariants as progresses
 use Rattle.pc_push.specs.PushKnows.{Asks, AsksAt, MayPush}
@@ -133,8 +134,8 @@ module _ (session : ℕ) (start : Known) (number : ℕ) (conflict : Reply) (read
           opened = opened;
           asked = sym (ap call_in later.statement) ∙ d.asked;
           why = elim d.why [
-            | inl was ↦ inl (heard-before t opened (shows_committed t.id ts) (λ h none. ap (λ b. b && _) none) was)
-            | inr implicit ↦ inr (record { staging = heard-before t opened (shows_staging t.id t.epoch ts) (λ h none. ap (λ b. b && _) none) implicit.staging; proved = implicit.proved })
+            | inl was ↦ inl (heard-before t opened (shows_committed t.id ts) (λ h none. ap (λ b. b && option_map_or (is_committed_at ts) (view_in h.reply) false) none) was)
+            | inr implicit ↦ inr (record { staging = heard-before t opened (shows_staging t.id t.epoch ts) (λ h none. ap (λ b. b && option_map_or (is_staging_at t.epoch ts) (view_in h.reply) false) none) implicit.staging; proved = implicit.proved })
           ];
         })
 

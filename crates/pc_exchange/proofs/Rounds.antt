@@ -13,14 +13,14 @@ use Rattle.pc_desk.specs.Desk.{DeskMeaning}
 use Rattle.pc_exchange.proofs.Aside.{aside_none, goes_on_beside, left_still}
 use Rattle.pc_exchange.proofs.Called.{all_heard_in_call}
 use Rattle.pc_exchange.proofs.Coordinator.{counted_met}
-use Rattle.pc_exchange.proofs.Going.{answered_by, aside_by, goes_both, goes_none, heard_now_by, jobs_by}
+use Rattle.pc_exchange.proofs.Going.{answered_by, aside_by, goes_both, goes_none, heard_now_by, jobs_by, part_by, reply_by}
 use Rattle.pc_exchange.proofs.HeardKinds.{heard_begun, top_below}
 use Rattle.pc_exchange.proofs.Messages.{left_by_exchange}
 use Rattle.pc_exchange.proofs.Rounding.{IsMade, at_changed, at_finished, at_refused, at_settled, come_on, ends_refused, ends_settled, may_push, of_conflict, push_aside, push_timely, resolve_aside, resolve_timely, round_same, sends_asks}
 use Rattle.pc_exchange.proofs.Timely.{IsTimely, may_exchange}
 use Rattle.pc_exchange.specs.Aside.{IsAside, IsLaterAside}
 use Rattle.pc_exchange.specs.Exchange.{MayExchangeNow, WasExchanged}
-use Rattle.pc_exchange.specs.Growing.{GoesOnBeside}
+use Rattle.pc_exchange.specs.Growing.{HasGoneBeside}
 use Rattle.pc_exchange.specs.Rounding.{HasComeTo, IsRoundUnderWay}
 use Rattle.pc_exchange.specs.Rounds.{HasMadeRoundOf, MayMakeRound}
 use Rattle.pc_history.specs.declared.pair.Pair.{Pair}
@@ -140,13 +140,13 @@ module _ {C : Type 0} (old : DeskMeaning C) (pusher : Pusher) (reading : ℕ) (c
         let k = known_of new.log.part.own in
         record {
           start = r.start;
-          part = r.part ++ _;
-          goes = goes_both old d new r.part _ r.goes x.goes;
+          part = r.part ++ part_by d new request reply x;
+          goes = goes_both old d new r.part (part_by d new request reply x) r.goes x.goes;
           aside = aside_by d new request reply r.goes.back x r.start.session start_known ts r.aside aside;
           jobs = jobs_by d new request reply x ∙ (still_jobs ∙ r.jobs);
           knows = knows (actors.Session r.start.session) start_known now_known k request r.knows asks (answered_by d new request reply r.goes.back x) x.possible;
           come = subst (λ (m : Pushing). HasComeTo m.progress m start_known k) (sym made)
-              (come_on m start_known now_known k _ (heard_now_by d new request reply r.goes.back x aside.kind) r.come asks x.kind x.possible);
+              (come_on m start_known now_known k (reply_by d new request reply x) (heard_now_by d new request reply r.goes.back x aside.kind) r.come asks x.kind x.possible);
           holder = ap (λ (m : Pushing). m.holder) made ∙ (same.0 ∙ r.holder);
           key = ap (λ (m : Pushing). m.key) made ∙ (same.1 ∙ r.key);
         }

@@ -2,7 +2,7 @@
 use Rattle.std.specs.Prelude.{◌≡◌, ℕ, false, None, Some, [], ◌∷◌}
 use Rattle.pc_base.specs.declared.actor.ActorId.{ActorId}
 use Rattle.pc_desk.specs.Desk.{DeskMeaning, MaySendNow}
-use Rattle.pc_exchange.specs.Growing.{GoesOnBeside, HasAllBack}
+use Rattle.pc_exchange.specs.Growing.{HasGoneBeside, HasAllBack}
 use Rattle.pc_history.specs.declared.pair.Pair.{Pair}
 use Rattle.pc_history.specs.Own.{pair}
 use Rattle.pc_history.specs.Parts.{entry_of}
@@ -39,8 +39,8 @@ pub record WasExchanged {C : Type 0} (old new : DeskMeaning C) (request : Reques
   pub evaluated_at : ℕ
   pub heard_at : ℕ
   pub goes :
-      GoesOnBeside old new (
-        sent_pair old.log.part.id sent_at (next_number (known_of old.log.part.own)) range request
-        ∷ heard_pair old.log.part.id heard_at (next_number (known_of old.log.part.own)) evaluated_by evaluated_at reply ∷ [])
+      HasGoneBeside old new (
+      sent_pair old.log.part.id sent_at (next_number (known_of old.log.part.own)) range request
+      ∷ heard_pair old.log.part.id heard_at (next_number (known_of old.log.part.own)) evaluated_by evaluated_at reply ∷ [])
   pub kind : MayAnswer request reply
   pub possible : IsPossibleReply request reply

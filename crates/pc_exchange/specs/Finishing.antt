@@ -3,7 +3,7 @@ use Rattle.std.specs.Prelude.{◌≡◌, ℕ, cond, List, [], ◌∷◌, ◌++�
 use Rattle.pc_coord.specs.declared.job.Job.{Job}
 use Rattle.pc_desk.specs.Desk.{DeskMeaning}
 use Rattle.pc_exchange.specs.Aside.{IsLaterAside}
-use Rattle.pc_exchange.specs.Growing.{GoesOnBeside}
+use Rattle.pc_exchange.specs.Growing.{HasGoneBeside}
 use Rattle.pc_exchange.specs.Jobs.{MayFinishNow}
 use Rattle.pc_history.specs.declared.pair.Pair.{Pair}
 use Rattle.pc_proto.specs.declared.event.Event.{Event}
@@ -27,7 +27,7 @@ with_rest (message ∷ messages) jobs = (message ∷ messages) ∷ jobs
 pub record IsJobUnderWay {C : Type 0} (old : DeskMeaning C) (job : Job) (m : Resolving) (new : DeskMeaning C) (ts : ℕ) : Type 0 where
   pub start : MayFinishNow old job
   pub part : List (Pair Event)
-  pub goes : GoesOnBeside old new part
+  pub goes : HasGoneBeside old new part
   pub aside : IsLaterAside start.session (known_of old.log.part.own) (known_of new.log.part.own) ts
   pub knows : ResolveKnows (known_of old.log.part.own) (known_of new.log.part.own) m
   pub waiting : jobs_of new.log.part.own ≡ with_rest (messages_due m) start.waiting

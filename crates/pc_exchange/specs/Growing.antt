@@ -31,7 +31,7 @@ pub record HasAllBack {C : Type 0} (d : DeskMeaning C) : Type 0 where
   pub replies : d.replies ≡ []
 
 -- The actor's list went on by these entries, by which no call is asked and no answer told; no message of it is on its way.
-pub record GoesOnBeside {C : Type 0} (old new : DeskMeaning C) (part : List (Pair Event)) : Type 0 where
+pub record HasGoneBeside {C : Type 0} (old new : DeskMeaning C) (part : List (Pair Event)) : Type 0 where
   pub grown : HasGrownBy old.log new.log part
   pub within : All IsInBetween (events_of part)
   pub back : HasAllBack new

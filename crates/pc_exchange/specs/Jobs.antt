@@ -6,7 +6,7 @@ use Rattle.pc_coord.specs.declared.job.Job.{Job}
 use Rattle.pc_coord.specs.Knows.{Knows, MayFinishJob, messages_of_job}
 use Rattle.pc_desk.specs.Desk.{DeskMeaning}
 use Rattle.pc_exchange.specs.Aside.{IsLaterAside, MayGoOnBeside}
-use Rattle.pc_exchange.specs.Growing.{GoesOnBeside, HasAllBack}
+use Rattle.pc_exchange.specs.Growing.{HasGoneBeside, HasAllBack}
 use Rattle.pc_history.specs.declared.pair.Pair.{Pair}
 use Rattle.pc_proto.specs.declared.event.Event.{Event}
 use Rattle.pc_proto.specs.declared.request.Request.{Request}
@@ -43,7 +43,7 @@ pub record HasFinishedJob {C : Type 0} (old new : DeskMeaning C) (job : Job) (ts
   pub session : ℕ
   pub whose : old.log.part.id ≡ actors.Session session
   pub part : List (Pair Event)
-  pub goes : GoesOnBeside old new part
+  pub goes : HasGoneBeside old new part
   pub made : IsJobMade session (known_of old.log.part.own) (known_of new.log.part.own) ts
   pub done : jobs_of old.log.part.own ≡ messages_of_job job ∷ jobs_of new.log.part.own
   pub heard : All (λ m. IsTrue (is_heard (known_of new.log.part.own).heard m)) (known_of new.log.part.own).sent

@@ -1,5 +1,6 @@
 -- What a session does beside its coordinator, one message after another.
 pub mod Aside
+pub mod Ending
 pub mod Exchange
 pub mod Finishing
 pub mod Growing

@@ -6,7 +6,7 @@ use Rattle.pc_coord.specs.declared.pusher.Pusher.{Pusher}
 use Rattle.pc_coord.specs.Rounds.{IsRefusedRound, IsSettledRound}
 use Rattle.pc_desk.specs.Desk.{DeskMeaning}
 use Rattle.pc_exchange.specs.Aside.{IsLaterAside}
-use Rattle.pc_exchange.specs.Growing.{GoesOnBeside}
+use Rattle.pc_exchange.specs.Growing.{HasGoneBeside}
 use Rattle.pc_exchange.specs.Rounds.{MayMakeRound}
 use Rattle.pc_history.specs.declared.pair.Pair.{Pair}
 use Rattle.pc_proto.specs.declared.event.Event.{Event}
@@ -47,7 +47,7 @@ HasComeTo progresses.Over m start k = IsSettledRound m.holder.id m.key start k
 pub record IsRoundUnderWay {C : Type 0} (old : DeskMeaning C) (pusher : Pusher) (reading : ℕ) (conflict : Reply) (reader : Option ℕ) (m : Pushing) (new : DeskMeaning C) (ts : ℕ) : Type 0 where
   pub start : MayMakeRound old pusher reading conflict reader
   pub part : List (Pair Event)
-  pub goes : GoesOnBeside old new part
+  pub goes : HasGoneBeside old new part
   pub aside : IsLaterAside start.session (known_of old.log.part.own) (known_of new.log.part.own) ts
   pub jobs : jobs_of new.log.part.own ≡ jobs_of old.log.part.own
   pub knows : PushKnows (actors.Session start.session) (known_of old.log.part.own) (known_of new.log.part.own) m

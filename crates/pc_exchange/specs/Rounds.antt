@@ -12,7 +12,7 @@ use Rattle.pc_coord.specs.Pusher.{IsPusherOf}
 use Rattle.pc_coord.specs.Rounds.{EndsRound}
 use Rattle.pc_desk.specs.Desk.{DeskMeaning}
 use Rattle.pc_exchange.specs.Aside.{IsLaterAside, MayGoOnBeside}
-use Rattle.pc_exchange.specs.Growing.{GoesOnBeside, HasAllBack}
+use Rattle.pc_exchange.specs.Growing.{HasGoneBeside, HasAllBack}
 use Rattle.pc_exchange.specs.Jobs.{IsFinishable}
 use Rattle.pc_history.specs.declared.pair.Pair.{Pair}
 use Rattle.pc_proto.specs.declared.event.Event.{Event}
@@ -48,6 +48,6 @@ pub record HasMadeRoundOf {C : Type 0} (old new : DeskMeaning C) (conflict : Rep
   pub session : ℕ
   pub whose : old.log.part.id ≡ actors.Session session
   pub part : List (Pair Event)
-  pub goes : GoesOnBeside old new part
+  pub goes : HasGoneBeside old new part
   pub made : IsRoundMade session (known_of old.log.part.own) (known_of new.log.part.own) conflict round ts
   pub jobs : jobs_of new.log.part.own ≡ jobs_of old.log.part.own

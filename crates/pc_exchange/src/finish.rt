@@ -1,11 +1,13 @@
-ghost use Rattle.std.specs.Prelude.{◌≡◌, ℕ, max, IfErr, IfOk};
+ghost use Rattle.std.specs.Prelude.{◌≡◌, ℕ, max, IfErr, IfOk, All};
 ghost use Rattle.pc_coord.specs.declared.job.Job.{Job};
 ghost use Rattle.pc_desk.specs.Desk.{DeskMeaning, HasHalted};
+ghost use Rattle.pc_exchange.specs.Ending.{BreaksOff};
 ghost use Rattle.pc_exchange.specs.Exchange.{MayExchangeNow};
 ghost use Rattle.pc_exchange.specs.Finishing.{IsJobUnderWay};
 ghost use Rattle.pc_exchange.specs.Jobs.{HasFinishedJob, MayFinishNow};
 ghost use Rattle.pc_proto.specs.declared.machine.MachineNext.TheVariants as machines;
 ghost use Rattle.pc_resolve.specs.Resolving.{finishing_next};
+ghost use Rattle.pc_turns.specs.Order.{IsInBetween};
 
 use crate::message::exchange;
 use pc_base::{NoMemory, Timestamp};
@@ -31,6 +33,7 @@ pub fn finish_job<N: Named<CommitWorld>, C: Clock, V: Wire, G: Gate, R: Wait>(
     ensures ok { IfOk result (λ ts. HasFinishedJob desk.old desk.new job ts) }
     ensures clock { desk.new.log.clock ≡ desk.old.log.clock }
     ensures err { IfErr result (HasHalted desk.old desk.new) }
+    ensures ended { IfErr result (BreaksOff (All IsInBetween) desk.old desk.new) }
 {
     let mut machine = ResolveMachine::new(job.meta.id, job.meta.anchor, job.fate, job.locks);
     let mut heard = Timestamp::ZERO;
@@ -64,6 +67,7 @@ fn settle_on<N: Named<CommitWorld>, C: Clock, V: Wire, G: Gate, R: Wait>(
     ensures ok { (old : DeskMeaning C) (job : Job) (ts : ℕ) → IsJobUnderWay old job machine.old desk.old ts → finishing_next machine.old ≡ machines.Send request → IfOk result (λ last. IsJobUnderWay old job machine.new desk.new (max ts last)) }
     ensures clock { desk.new.log.clock ≡ desk.old.log.clock }
     ensures err { IfErr result (HasHalted desk.old desk.new) }
+    ensures ended { IfErr result (BreaksOff (All IsInBetween) desk.old desk.new) }
 {
     let reply = exchange(desk, rt, request)?;
     match machine.heard(&reply) {

@@ -1,6 +1,8 @@
-ghost use Rattle.std.specs.Prelude.{◌≡◌, IfErr, IfOk};
+ghost use Rattle.std.specs.Prelude.{◌≡◌, IfErr, IfOk, All};
 ghost use Rattle.pc_desk.specs.Desk.{HasHalted};
+ghost use Rattle.pc_exchange.specs.Ending.{BreaksOff};
 ghost use Rattle.pc_exchange.specs.Exchange.{MayExchangeNow, WasExchanged};
+ghost use Rattle.pc_turns.specs.Order.{IsInBetween};
 
 use pc_clock::Clock;
 use pc_desk::{Desk, Halt};
@@ -20,10 +22,12 @@ pub fn exchange<N: Named<CommitWorld>, C: Clock, V: Wire, G: Gate, R: Wait>(
     ensures ok { IfOk result (λ reply. WasExchanged desk.old desk.new request reply) }
     ensures clock { desk.new.log.clock ≡ desk.old.log.clock }
     ensures err { IfErr result (HasHalted desk.old desk.new) }
+    ensures ended { IfErr result (BreaksOff (All IsInBetween) desk.old desk.new) }
 {
     desk.send(request)?;
     desk.deliver(rt)?;
-    match desk.hear()? {
+    let heard = desk.hear()?;
+    match heard {
         Some(answered) => Ok(answered.reply),
         None => unreachable!(),
     }

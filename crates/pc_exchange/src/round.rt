@@ -1,11 +1,13 @@
-ghost use Rattle.std.specs.Prelude.{◌≡◌, ℕ, max, IfErr, IfOk, Option};
+ghost use Rattle.std.specs.Prelude.{◌≡◌, ℕ, max, IfErr, IfOk, Option, All};
 ghost use Rattle.pc_coord.specs.declared.pusher.Pusher.{Pusher};
 ghost use Rattle.pc_desk.specs.Desk.{DeskMeaning, HasHalted};
+ghost use Rattle.pc_exchange.specs.Ending.{BreaksOff};
 ghost use Rattle.pc_exchange.specs.Exchange.{MayExchangeNow};
 ghost use Rattle.pc_exchange.specs.Rounding.{IsRoundUnderWay};
 ghost use Rattle.pc_exchange.specs.Rounds.{HasMadeRoundOf, MayMakeRound};
 ghost use Rattle.pc_proto.specs.declared.reply.Reply.{Reply};
 ghost use Rattle.pc_push.specs.PushKnows.{Asks};
+ghost use Rattle.pc_turns.specs.Order.{IsInBetween};
 
 use crate::message::exchange;
 use pc_base::{NoMemory, Timestamp, Who};
@@ -35,9 +37,15 @@ pub fn make_round<N: Named<CommitWorld>, C: Clock, V: Wire, G: Gate, R: Wait>(
     ensures ok { IfOk result (λ made. HasMadeRoundOf desk.old desk.new conflict made.0 made.1) }
     ensures clock { desk.new.log.clock ≡ desk.old.log.clock }
     ensures err { IfErr result (HasHalted desk.old desk.new) }
+    ensures ended { IfErr result (BreaksOff (All IsInBetween) desk.old desk.new) }
 {
-    let mut machine =
-        PushMachine::new(conflict, Who::Txn(pusher.id), pusher.level, reading, reader);
+    let mut machine = PushMachine::new(
+        conflict,
+        Who::Txn(pusher.id),
+        pusher.level,
+        reading,
+        reader,
+    );
     let mut heard = Timestamp::ZERO;
     for _ in 0..u64::MAX {
         let next = match machine.next() {
@@ -68,6 +76,7 @@ fn push_on<N: Named<CommitWorld>, C: Clock, V: Wire, G: Gate, R: Wait>(
     ensures ok { (old : DeskMeaning C) (pusher : Pusher) (reading : ℕ) (conflict : Reply) (reader : Option ℕ) (ts : ℕ) → IsRoundUnderWay old pusher reading conflict reader machine.old desk.old ts → Asks machine.old request → IfOk result (λ last. IsRoundUnderWay old pusher reading conflict reader machine.new desk.new (max ts last)) }
     ensures clock { desk.new.log.clock ≡ desk.old.log.clock }
     ensures err { IfErr result (HasHalted desk.old desk.new) }
+    ensures ended { IfErr result (BreaksOff (All IsInBetween) desk.old desk.new) }
 {
     let reply = exchange(desk, rt, request)?;
     match machine.heard(&reply) {
