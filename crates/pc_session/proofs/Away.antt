@@ -8,7 +8,7 @@ use Rattle.std.proofs.lemmas.List.Folds.{list_any-append}
 use Rattle.std.specs.List.{list_any}
 use Rattle.std.specs.Option.{option_map}
 use Rattle.pc_coord.specs.Coordination.{Coordination, awaits_number}
-use Rattle.pc_coord.specs.Knows.Sending.{AwaitsNone}
+use Rattle.pc_coord.specs.Knows.{AwaitsNone}
 use Rattle.pc_desk.proofs.Counting.{any_counts, counts_any, none_beyond, none_counted, said_more, said_new, sent_where_said, uncounted}
 use Rattle.pc_desk.specs.declared.answered.Answered.{Answered}
 use Rattle.pc_desk.specs.Desk.{DeskMeaning, KeepsTrack, Posted, answered_as, heard_as_number, is_on_way, posted_as, times_sent}

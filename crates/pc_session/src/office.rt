@@ -1,10 +1,12 @@
-ghost use Rattle.std.specs.Prelude.{◌≡◌, ◌+◌, ◌++◌, [], true, length, IfErr, IfOk, IfSome, OnOk};
+ghost use Rattle.std.specs.Prelude.{◌≡◌, ◌+◌, ◌++◌, [], true, length, map, All, IfErr, IfOk, IfSome, OnOk};
 ghost use Rattle.std.specs.Option.{option_to_list};
 ghost use Rattle.pc_coord.specs.Coordination.{next_of, without_job};
 ghost use Rattle.pc_coord.specs.declared.due.Due.TheVariants as dues;
 ghost use Rattle.pc_coord.specs.declared.next.Next.TheVariants as nexts;
 ghost use Rattle.pc_coord.specs.Knows.{Knows, MayCome, MayFinishJob};
-ghost use Rattle.pc_desk.specs.Desk.{HasHalted};
+ghost use Rattle.pc_desk.specs.Desk.{HasHalted, IsReadyToGo};
+ghost use Rattle.pc_desk.specs.Keeping.{ReadsEach};
+ghost use Rattle.pc_desk.specs.OwnLog.{IsOwnLog};
 ghost use Rattle.pc_session.specs.Calls.{HasCalled, MayBeCalled};
 ghost use Rattle.pc_session.specs.InCall.{GoesOn, HasAsked, HasGoneInside, HasOpenCall};
 ghost use Rattle.pc_session.specs.Session.{IsAtRest, session_knows};
@@ -14,9 +16,9 @@ ghost use Rattle.pc_world.specs.Known.{Known};
 use pc_base::{NoMemory, Timestamp, TryCopy};
 use pc_clock::Clock;
 use pc_coord::{Coordinator, Job, Next, coordinating_goes_on};
-use pc_desk::{Desk, Halt};
+use pc_desk::{Desk, Halt, Rest};
 use pc_exchange::{finish_job, make_round};
-use pc_history::Named;
+use pc_history::{Actor, Named};
 use pc_proto::{Answer, Call, Reply, Request};
 use pc_range::{CommitWorld, Gate};
 use pc_wire::Wire;
@@ -49,7 +51,7 @@ impl<'a, N: Named<CommitWorld>, C: Clock, V: Wire, G: Gate> Office<'a, N, C, V, 
         desk: Desk<'a, N, C, V, G>,
         coordinator: Coordinator<'a>,
     ) -> Office<'a, N, C, V, G>
-        ensures { result ≡ record { desk = desk; coordinator = coordinator; jobs = [] } }
+        ensures { result ≡ record { desk = desk.entry; coordinator = coordinator.entry; jobs = [] } }
     {
         Office {
             desk,
@@ -126,7 +128,7 @@ impl<'a, N: Named<CommitWorld>, C: Clock, V: Wire, G: Gate> Office<'a, N, C, V, 
     /// What is due in the call that was asked at this reading.
     fn due(&mut self, reading: u64) -> Result<Next, Halt>
         requires { HasOpenCall self.old reading }
-        ensures due { IfOk result (λ next. next ≡ next_of self.old.coordinator.due) }
+        ensures due { IfOk result (λ next. next ≡ next_of self.old.coordinator) }
         ensures may { IfOk result (MayCome self.old.coordinator (session_knows self.old)) }
         ensures same { OnOk result (self.new ≡ self.old) }
         ensures err { IfErr result (HasHalted self.old.desk self.new.desk) }
@@ -141,7 +143,7 @@ impl<'a, N: Named<CommitWorld>, C: Clock, V: Wire, G: Gate> Office<'a, N, C, V, 
     /// Sends a message that the coordinator gave. It waits until the next wave.
     fn send(&mut self, reading: u64, request: Request) -> Result<Option<Answer>, Halt>
         requires calls { HasOpenCall self.old reading }
-        requires due { next_of self.old.coordinator.due ≡ nexts.Send request }
+        requires due { next_of self.old.coordinator ≡ nexts.Send request }
         requires may { MayCome self.old.coordinator (session_knows self.old) (nexts.Send request) }
         ensures ok { IfOk result (GoesOn self.old self.new reading) }
         ensures err { IfErr result (HasHalted self.old.desk self.new.desk) }
@@ -212,7 +214,7 @@ impl<'a, N: Named<CommitWorld>, C: Clock, V: Wire, G: Gate> Office<'a, N, C, V, 
         reader: Option<Timestamp>,
     ) -> Result<Option<Answer>, Halt>
         requires calls { HasOpenCall self.old reading }
-        requires due { next_of self.old.coordinator.due ≡ nexts.Conflict number conflict reader }
+        requires due { next_of self.old.coordinator ≡ nexts.Conflict number conflict reader }
         requires may { MayCome self.old.coordinator (session_knows self.old) (nexts.Conflict number conflict reader) }
         ensures ok { IfOk result (GoesOn self.old self.new reading) }
         ensures err { IfErr result (HasHalted self.old.desk self.new.desk) }
@@ -233,7 +235,7 @@ impl<'a, N: Named<CommitWorld>, C: Clock, V: Wire, G: Gate> Office<'a, N, C, V, 
     /// The open call is told its answer; what its transaction left becomes the newest job.
     fn tell(&mut self, reading: u64, answer: Answer) -> Result<Option<Answer>, Halt>
         requires calls { HasOpenCall self.old reading }
-        requires due { next_of self.old.coordinator.due ≡ nexts.Tell answer }
+        requires due { next_of self.old.coordinator ≡ nexts.Tell answer }
         requires may { MayCome self.old.coordinator (session_knows self.old) (nexts.Tell answer) }
         ensures ok { IfOk result (GoesOn self.old self.new reading) }
         ensures err { IfErr result (HasHalted self.old.desk self.new.desk) }
@@ -280,5 +282,18 @@ impl<'a, N: Named<CommitWorld>, C: Clock, V: Wire, G: Gate> Office<'a, N, C, V, 
         coordinating_goes_on();
         self.coordinator.raise(ts);
         Ok(true)
+    }
+}
+
+impl<'a, N: Named<CommitWorld>, C: Clock + Drop, V: Wire + Drop, G> Office<'a, N, C, V, G> {
+    /// Its actor, and what is still in its outbox.
+    pub(crate) fn finish(self) -> (Actor<CommitWorld, N>, Rest<N>)
+        ensures actor { (result.0.world ≡ self.entry.desk.log.head) × (result.0.part ≡ self.entry.desk.log.part) }
+        ensures log { IsOwnLog self.entry.desk.log }
+        ensures reads { ReadsEach (C.rule self.entry.desk.log.clock) self.entry.desk.log.part.own }
+        ensures rest { map (λ w. w.posted) result.1 ≡ self.entry.desk.posted }
+        ensures ready { All (IsReadyToGo self.entry.desk.log.part.id self.entry.desk.log.head.splits) result.1 }
+    {
+        self.desk.finish()
     }
 }

@@ -161,6 +161,6 @@ impl<'a, N: Named<CommitWorld>, C: Clock + Drop, V: Wire + Drop, G> Session<'a, 
         ensures ready { All (IsReadyToGo self.entry.desk.log.part.id self.entry.desk.log.head.splits) result.1 }
         ensures rests { RestsOrStopped self.entry }
     {
-        self.office.desk.finish()
+        self.office.finish()
     }
 }
