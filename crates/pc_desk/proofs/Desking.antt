@@ -13,7 +13,7 @@ use Rattle.pc_desk.proofs.Counting.{insert_all, insert_contains, insert_count, l
 use Rattle.pc_desk.proofs.Entering.{log_kept}
 use Rattle.pc_desk.proofs.Going.{kept_below}
 use Rattle.pc_desk.proofs.Making.{added, hear_names_it, known_after_it, may_hear, own_after}
-use Rattle.pc_desk.proofs.Tracking.{answered_on, track_delivered, track_done, track_heard, track_sent, unheard_yet, way_delivered, way_heard, way_sent}
+use Rattle.pc_desk.proofs.Tracking.{answered_on, gives_same, track_delivered, track_done, track_heard, track_sent, unheard_yet, way_delivered, way_heard, way_sent}
 use Rattle.pc_desk.specs.declared.answered.Answered.{Answered}
 use Rattle.pc_desk.specs.Desk.{DeskMeaning, EndsWithSend, HasDelivered, HasDone, HasHeardFirst, HasKept, HasPosted, HasSentNext, IsAnsweredBy, IsDesk, IsReadyToGo, KeepsTrack, MayHearNow, Posted, WaitingMessage, answered_as, heard_as_number, posted_as, posting, times_sent, uses_by}
 use Rattle.pc_desk.specs.OwnLog.{HasEntered, IsOwnLog, LogMeaning, MayEnter, Took}
@@ -76,6 +76,7 @@ heard-at old after a rest track first entered =
       named = hear_names_it old.log a track.log by;
       track = track_heard old new a track first refl by entered refl;
       way = way_heard old new a track first refl by entered;
+      limit = refl;
     }
 
 pub has_heard : {C : Type 0} (v old : DeskMeaning C) (after : LogMeaning C) (a : Answered) (rest : List Answered) → v ≡ old → KeepsTrack old → v.replies ≡ a ∷ rest → HasEntered v.log after (events.Hear a.number a.step)
@@ -124,8 +125,10 @@ module _ {C : Type 0} (old new : DeskMeaning C) (rest : List Posted) (m : Posted
     own = ap (λ (d : DeskMeaning C). d.log) kept.kept ∙ ap (λ ks. record old.log { part = record old.log.part { known = ks } }) (sym (ap (λ (d : DeskMeaning C). d.log.part.known) kept.kept));
     sends = ap (λ (d : DeskMeaning C). d.sends) kept.kept;
     track = track_delivered old new m a track posted-is replies-are to own-is range tells.place kept.log (ap (λ (d : DeskMeaning C). d.sends) kept.kept) (ap (λ (d : DeskMeaning C). d.log.part.id) kept.kept) knows-more
-        (λ x there. subst (λ l. Contains l x) (sym knows-more) there) (subst (λ l. Contains l told_of) (sym knows-more) (Contains-push old.log.part.known told_of));
+        (λ x there. subst (λ l. Contains l x) (sym knows-more) there) (subst (λ l. Contains l told_of) (sym knows-more) (Contains-push old.log.part.known told_of)) (ap (λ (d : DeskMeaning C). d.log.part.given) kept.kept);
     way = way_delivered old new m a track posted-is replies-are to own-is;
+    more = λ x there. subst (λ l. Contains l x) (sym knows-more) (Contains-append_left old.log.part.known (told_of ∷ []) x there);
+    limit = ap (λ (d : DeskMeaning C). d.range_limit) kept.kept;
   }
 
 pub has_delivered : {C : Type 0} (v old new : DeskMeaning C) (rest : List Posted) (m : Posted) (a : Answered) (note : List (KnownEntry Event)) (sender : ActorId) (range : ℕ) → v ≡ old → KeepsTrack old → v.posted ≡ m ∷ rest → sender ≡ v.log.part.id → a.number ≡ m.number
@@ -136,7 +139,7 @@ has_delivered v old new rest m a note sender range same track first whose to tel
 
 -- nothing was delivered yet
 pub delivers_none : {C : Type 0} (d : DeskMeaning C) → KeepsTrack d → HasDelivered d d
-delivers_none d track = record { own = refl; sends = refl; track = track; way = λ n. refl }
+delivers_none d track = record { own = refl; sends = refl; track = track; way = λ n. refl; more = λ k there. there; limit = refl }
 
 -- first this was delivered, then that
 pub delivers_both : {C : Type 0} (a b d : DeskMeaning C) → HasDelivered a b → HasDelivered b d → HasDelivered a d
@@ -145,6 +148,8 @@ delivers_both {C} a b d x y = record {
   sends = y.sends ∙ x.sends;
   track = y.track;
   way = λ n. y.way n ∙ x.way n;
+  more = λ k there. y.more k (x.more k there);
+  limit = y.limit ∙ x.limit;
 }
 
 -- ---- a message is posted
@@ -300,9 +305,10 @@ has_sent old mid new number range request track goes next entered rest posted =
       entered = entered;
       noted = posted.log;
       track = track_sent old new mid.log number range 1 request track next entered id own known counts replies log (ap (λ d. d.sends) posted.rest ∙ ap (λ d. d.sends) rest)
-          (λ x there. elim (posted.all x there) [ inl before ↦ inl (subst (λ l. Contains l x) were before) | inr now ↦ inr now ]);
+          (λ x there. elim (posted.all x there) [ inl before ↦ inl (subst (λ l. Contains l x) were before) | inr now ↦ inr now ]) (ap (λ l. l.part) posted.log);
       way = way_sent old new mid.log number range 1 request track next entered id own known counts replies;
       replies = replies;
+      limit = ap (λ d. d.range_limit) posted.rest ∙ ap (λ d. d.range_limit) rest;
     }
 
 -- the range of a message that was sent is there
@@ -336,6 +342,7 @@ took-at {C} old after note took track =
       answered = All-weaker (IsAnsweredBy old.log) (IsAnsweredBy after)
           (λ a. answered_on old.log after a (ap (λ (l : LogMeaning C). l.part.id) took.told_this) (λ r said. subst (λ (k : Known). request_sent a.number k.sent ≡ Some r) (sym same) said)
           (λ x there. subst (λ ks. Contains ks x) (sym (ap (λ (l : LogMeaning C). l.part.known) took.told_this)) (Contains-append_left old.log.part.known note x there))) old.replies track.answered;
+      given = gives_same old.log.part after.part own (ap (λ (l : LogMeaning C). l.part.given) took.told_this) track.given;
     }
 
 -- an actor that took a note has its messages where they were

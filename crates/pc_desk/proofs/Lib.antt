@@ -7,3 +7,4 @@ pub mod Halting
 pub mod Going
 pub mod Desking
 pub mod Leaving
+pub mod Ending

@@ -1,16 +1,20 @@
 -- Each message stands at one stage still, once one more was sent, evaluated or heard.
-use Rattle.std.proofs.Common.{◌≡◌, ℕ, ◌+◌, ◌≤◌, nat_lt, Bool, true, false, ◌&&◌, ◌||◌, ◌==◌, not, All, Contains, List, [], ◌∷◌, ◌++◌, length, count_by, ◌⊎◌, inl, inr, Some, refl, sym, ap, subst, ◌∙◌, arith, length-append}
+use Rattle.std.proofs.Common.{◌≡◌, ℕ, ◌+◌, ◌-◌, ◌≤◌, nat_lt, slice_index, slice_set, Bool, true, false, ◌&&◌, ◌||◌, ◌==◌, not, All, Contains, List, [], ◌∷◌, ◌++◌, length, count_by, ◌⊎◌, inl, inr, Some, refl, sym, ap, subst, ◌∙◌, arith, length-append}
 use Rattle.std.proofs.lemmas.Bool.{eqb-true}
 use Rattle.std.proofs.lemmas.Bool.Decides.{nat_tests}
 use Rattle.std.proofs.lemmas.List.Elements.{All-contains, All-head, All-push, All-tail, All-weaker, Contains-append_left}
+use Rattle.std.proofs.Math.Seq.{set-append_seam}
 use Rattle.std.specs.List.{list_any}
 use Rattle.pc_base.specs.declared.actor.ActorId.{ActorId}
 use Rattle.pc_desk.proofs.Counting.{any_counts, none_beyond, said_more, said_new}
-use Rattle.pc_desk.proofs.Making.{heard_more, heard_then, known_still, message_of, reply_of, sent_still, sent_then}
+use Rattle.pc_desk.proofs.Making.{added, own_after, heard_more, heard_then, known_still, message_of, reply_of, sent_still, sent_then}
 use Rattle.pc_desk.specs.declared.answered.Answered.{Answered}
-use Rattle.pc_desk.specs.Desk.{DeskMeaning, IsAnsweredBy, KeepsTrack, Posted, answered_as, heard_as_number, is_on_way, posted_as, posting, times_sent}
+use Rattle.pc_desk.specs.Desk.{DeskMeaning, GivesOnce, IsAnsweredBy, KeepsTrack, Posted, answered_as, heard_as_number, is_on_way, posted_as, posting, times_sent}
 use Rattle.pc_desk.specs.OwnLog.{HasEntered, IsOwnLog, LogMeaning}
+use Rattle.pc_history.specs.declared.pair.Pair.{Pair}
 use Rattle.pc_history.specs.declared.view.Known.{Known as KnownEntry}
+use Rattle.pc_history.specs.declared.view.Part.{Part}
+use Rattle.pc_history.specs.Parts.{gave}
 use Rattle.pc_lists.proofs.Counts.{count-cons, count-push, one_if}
 use Rattle.pc_lists.proofs.Lists.{all_from_contains}
 use Rattle.pc_proto.specs.declared.event.Event.{Event}
@@ -19,6 +23,36 @@ use Rattle.pc_proto.specs.declared.request.Request.{Request}
 use Rattle.pc_range.specs.Message.{evaluation}
 use Rattle.pc_world.specs.Known.{Known, known_of}
 use Rattle.pc_world.specs.Known.Traffic.{Heard, Sent, request_sent}
+
+-- ---- the uses that the actor gave
+
+-- one more entry, of which no use was given yet
+pub gives_none : (part after : Part Event) (p : Pair Event) → after.own ≡ part.own ++ p ∷ [] → after.given ≡ part.given ++ 0 ∷ [] → GivesOnce part → GivesOnce after
+gives_none part after p own given once = record {
+  each = ap length given ∙ (length-append part.given (0 ∷ []) ∙ (ap (λ n. n + 1) once.each ∙ sym (ap length own ∙ length-append part.own (p ∷ []))));
+  once = subst (All (λ uses. uses ≤ 1)) (sym given) (All-push (λ uses. uses ≤ 1) part.given 0 once.once (omega arith));
+}
+
+-- one more entry, of which one use was given at once
+pub gives_one : (part mid after : Part Event) (p : Pair Event) → mid.own ≡ part.own ++ p ∷ [] → mid.given ≡ part.given ++ 0 ∷ [] → after ≡ gave (length mid.own - 1) 1 mid → GivesOnce part → GivesOnce after
+gives_one part mid after p own given gives once =
+    let long : length mid.own - 1 ≡ length part.given = (let e : length mid.own ≡ length part.own + 1 = ap length own ∙ length-append part.own (p ∷ []) in let l = once.each in omega arith) in
+    let now : slice_set mid.given (length mid.own - 1) (slice_index mid.given (length mid.own - 1) + 1) ≡ part.given ++ 1 ∷ [] =
+    ap (λ n. slice_set mid.given n (slice_index mid.given n + 1)) long
+    ∙ (ap (λ gs. slice_set gs (length part.given) (slice_index gs (length part.given) + 1)) given
+    ∙ (ap (λ n. slice_set (part.given ++ 0 ∷ []) (length part.given) (n + 1)) (index_push part.given 0) ∙ set-append_seam part.given 0 [] 1)) in
+    record {
+      each = ap (λ (q : Part Event). length q.given) gives ∙ (ap length now ∙ (length-append part.given (1 ∷ []) ∙ (ap (λ n. n + 1) once.each ∙ sym (ap (λ (q : Part Event). length q.own) gives ∙ (ap length own ∙ length-append part.own (p ∷ []))))));
+      once = subst (All (λ uses. uses ≤ 1)) (sym (ap (λ (q : Part Event). q.given) gives ∙ now)) (All-push (λ uses. uses ≤ 1) part.given 1 once.once (omega arith));
+    }
+  where
+    index_push : (xs : List ℕ) (x : ℕ) → slice_index (xs ++ x ∷ []) (length xs) ≡ x
+    index_push [] x = refl
+    index_push (y ∷ xs) x = index_push xs x
+
+-- what neither makes an entry nor gives a use
+pub gives_same : (part after : Part Event) → after.own ≡ part.own → after.given ≡ part.given → GivesOnce part → GivesOnce after
+gives_same part after own given once = record { each = ap length given ∙ (once.each ∙ sym (ap length own)); once = subst (All (λ uses. uses ≤ 1)) (sym given) once.once }
 
 -- What the message of this number said, of these.
 abbrev Says : List Sent → Posted → Type 0
@@ -80,8 +114,8 @@ module _ {C : Type 0} (old new : DeskMeaning C) (sent : LogMeaning C) (number ra
 
   pub track_sent : IsOwnLog new.log → new.sends ≡ number
       → ((x : Posted) → Contains new.posted x → Contains old.posted x ⊎ (posting number range request uses ≡ x))
-      → KeepsTrack new
-  track_sent log counted all = record {
+      → new.log.part ≡ gave (length sent.part.own - 1) 1 sent.part → KeepsTrack new
+  track_sent log counted all gives = record {
     log = log;
     counted = counted ∙ (next ∙ (ap (λ n. n + 1) track.counted ∙ sym longer));
     numbers = subst (λ (xs : List Sent). All (λ x. x.number ≤ length xs) xs) (sym sent_is)
@@ -100,6 +134,7 @@ module _ {C : Type 0} (old new : DeskMeaning C) (sent : LogMeaning C) (number ra
         (All-weaker (IsAnsweredBy old.log) (IsAnsweredBy new.log)
         (λ a. answered_on old.log new.log a (id ∙ ap (λ (l : LogMeaning C). l.part.id) entered.stored) (says-on a.number)
         (λ x there. subst (λ ks. Contains ks x) (sym (known ∙ ap (λ (l : LogMeaning C). l.part.known) entered.stored)) there)) old.replies track.answered);
+    given = gives_one old.log.part sent.part new.log.part (added old.log sent (events.Send number range request) entered) (own_after old.log sent (events.Send number range request) entered) (ap (λ (l : LogMeaning C). l.part.given) entered.stored) gives track.given;
   }
 
   pub way_sent : (other : ℕ) → is_on_way other new ≡ (number == other || is_on_way other old)
@@ -142,8 +177,8 @@ module _ {C : Type 0} (old new : DeskMeaning C) (m : Posted) (a : Answered) (tra
       → new.log.part.known ≡ old.log.part.known ++ record { entry = evaluation a.step range old.log.part.id a.number a.reply; place = place; uses = 0 } ∷ []
       → ((x : KnownEntry Event) → Contains (old.log.part.known ++ record { entry = evaluation a.step range old.log.part.id a.number a.reply; place = place; uses = 0 } ∷ []) x → Contains new.log.part.known x)
       → Contains new.log.part.known (record { entry = evaluation a.step range old.log.part.id a.number a.reply; place = place; uses = 0 })
-      → KeepsTrack new
-  track_delivered range place log sends id known has there = record {
+      → new.log.part.given ≡ old.log.part.given → KeepsTrack new
+  track_delivered range place log sends id known has there given = record {
     log = log;
     counted = sends ∙ (track.counted ∙ ap (λ (k : Known). length k.sent) (sym same-known));
     numbers = subst (λ (k : Known). All (λ x. x.number ≤ length k.sent) k.sent) (sym same-known) track.numbers;
@@ -164,6 +199,7 @@ module _ {C : Type 0} (old new : DeskMeaning C) (m : Posted) (a : Answered) (tra
           said = subst (λ (k : Known). request_sent a.number k.sent ≡ Some m.request) (sym same-known) (subst (λ n. request_sent n (known_of old.log.part.own).sent ≡ Some m.request) (sym to) first-said);
           knows = subst (λ (i : ActorId). Contains new.log.part.known (record { entry = evaluation a.step range i a.number a.reply; place = place; uses = 0 })) (sym id) there;
         }));
+    given = gives_same old.log.part new.log.part own given track.given;
   }
 
   pub way_delivered : (n : ℕ) → is_on_way n new ≡ is_on_way n old
@@ -216,6 +252,7 @@ module _ {C : Type 0} (old new : DeskMeaning C) (a : Answered) (track : KeepsTra
         (λ x. answered_on old.log new.log x (ap (λ (l : LogMeaning C). l.part.id) entered.stored) (λ r said. subst (λ (xs : List Sent). request_sent x.number xs ≡ Some r) (sym sent-same) said)
         (λ e there. subst (λ ks. Contains ks e) (sym (known_still old.log new.log a track.log by entered)) there)) new.replies
         (All-tail (IsAnsweredBy old.log) a new.replies (subst (All (IsAnsweredBy old.log)) first track.answered));
+    given = gives_none old.log.part new.log.part (added old.log new.log (events.Hear a.number a.step) entered) (own_after old.log new.log (events.Hear a.number a.step) entered) (ap (λ (l : LogMeaning C). l.part.given) entered.stored) track.given;
   }
 
   pub way_heard : (n : ℕ) → is_on_way n new ≡ (is_on_way n old && not (a.number == n))
@@ -272,4 +309,5 @@ track_done old new event track entered rest sent heard known =
           (All-weaker (IsAnsweredBy old.log) (IsAnsweredBy new.log)
           (λ x. answered_on old.log new.log x (ap (λ l. l.part.id) entered.stored) (λ r said. subst (λ (xs : List Sent). request_sent x.number xs ≡ Some r) (sym sent) said)
           (λ e there. subst (λ ks. Contains ks e) (sym known) there)) old.replies track.answered);
+      given = gives_none old.log.part new.log.part (added old.log new.log event entered) (own_after old.log new.log event entered) (ap (λ l. l.part.given) entered.stored) track.given;
     }

@@ -116,8 +116,13 @@ pub record IsAnsweredBy {C : Type 0} (log : LogMeaning C) (a : Answered) : Type 
   pub said : request_sent a.number (known_of log.part.own).sent ≡ Some request
   pub knows : Contains log.part.known (record { entry = evaluation a.step range log.part.id a.number a.reply; place = place; uses = 0 })
 
+-- The actor counts the uses that it gave of each of its entries: of none more than one.
+pub record GivesOnce (part : Part Event) : Type 0 where
+  pub each : length part.given ≡ length part.own
+  pub once : All (λ uses. uses ≤ 1) part.given
+
 -- Each message that the actor sent stands at one stage, and no other does at any: it waits to be evaluated, or its reply to be heard, or
--- that was heard. What waits says what was sent.
+-- that was heard. What waits says what was sent; and of no entry more than one use was given.
 pub record KeepsTrack {C : Type 0} (d : DeskMeaning C) : Type 0 where
   pub log : IsOwnLog d.log
   pub counted : d.sends ≡ length (known_of d.log.part.own).sent
@@ -126,6 +131,7 @@ pub record KeepsTrack {C : Type 0} (d : DeskMeaning C) : Type 0 where
   pub stages : (number : ℕ) → posted_as number d.posted + answered_as number d.replies + heard_as_number number (known_of d.log.part.own) ≡ times_sent number (known_of d.log.part.own)
   pub posted : All (λ m. request_sent m.number (known_of d.log.part.own).sent ≡ Some m.request) d.posted
   pub answered : All (IsAnsweredBy d.log) d.replies
+  pub given : GivesOnce d.log.part
 
 -- The message of this number is on its way: it waits to be evaluated, or its reply to be heard.
 abbrev pub is_on_way : {C : Type 0} → ℕ → DeskMeaning C → Bool
@@ -149,6 +155,7 @@ pub record HasSentNext {C : Type 0} (old new : DeskMeaning C) (number : ℕ) (re
   pub track : KeepsTrack new
   pub way : (other : ℕ) → is_on_way other new ≡ (number == other || is_on_way other old)
   pub replies : new.replies ≡ old.replies
+  pub limit : new.range_limit ≡ old.range_limit
 
 -- The actor's last entry sends this message.
 pub record EndsWithSend {C : Type 0} (l : LogMeaning C) (number range : ℕ) (request : Request) : Type 0 where
@@ -176,12 +183,14 @@ pub record HasKept {C : Type 0} (old new : DeskMeaning C) (a : Answered) (note :
   pub kept : new ≡ record old { log = record old.log { part = told note old.log.part }; replies = old.replies ++ a ∷ [] }
   pub log : IsOwnLog new.log
 
--- What was posted was evaluated, and the actor made no entry.
+-- What was posted was evaluated, and the actor made no entry; what it knew it knows still.
 pub record HasDelivered {C : Type 0} (old new : DeskMeaning C) : Type 0 where
   pub own : new.log ≡ record old.log { part = record old.log.part { known = new.log.part.known } }
   pub sends : new.sends ≡ old.sends
   pub track : KeepsTrack new
   pub way : (number : ℕ) → is_on_way number new ≡ is_on_way number old
+  pub more : (k : KnownEntry Event) → Contains old.log.part.known k → Contains new.log.part.known k
+  pub limit : new.range_limit ≡ old.range_limit
 
 -- The reply that has waited longest may be heard now as the actor's work has it.
 pub record MayHearNow {C : Type 0} (d : DeskMeaning C) : Type 0 where
@@ -198,6 +207,7 @@ pub record HasHeardFirst {C : Type 0} (old new : DeskMeaning C) (a : Answered) :
   pub named : named_by (unstaged_protocol old.log.head) old.log.part (events.Hear a.number a.step) ≡ Some (evaluation a.step range old.log.part.id a.number a.reply)
   pub track : KeepsTrack new
   pub way : (number : ℕ) → is_on_way number new ≡ (is_on_way number old && not (a.number == number))
+  pub limit : new.range_limit ≡ old.range_limit
 
 -- The actor knows an entry of the range, which has at least so many entries up to it.
 pub record KnowsFull (range limit : ℕ) (known : List (KnownEntry Event)) : Type 0 where

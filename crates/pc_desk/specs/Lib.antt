@@ -4,4 +4,5 @@ pub mod Hearing
 pub mod Keeping
 pub mod OwnLog
 pub mod Desk
+pub mod Ending
 pub mod Rest

@@ -1,7 +1,8 @@
-ghost use Rattle.std.specs.Prelude.{◌≡◌, ℕ, ◌+◌, ◌-◌, ◌<◌, ◌≤◌, ◌^◌, [], length, map, All, IfErr, IfOk, IfNone, IfSome, OnErr, OnOk};
+ghost use Rattle.std.specs.Prelude.{◌≡◌, ℕ, ◌+◌, ◌-◌, ◌<◌, ◌≤◌, ◌^◌, [], ◌∷◌, length, map, All, IfErr, IfOk, IfNone, IfSome, OnErr, OnOk};
 ghost use Rattle.pc_base.specs.Rising.{AreRising};
 ghost use Rattle.pc_desk.specs.declared.halt.Halt.TheVariants as halts;
-ghost use Rattle.pc_desk.specs.Desk.{EndsWithSend, HasDelivered, HasDone, HasHalted, HasHeardFirst, HasKept, HasPosted, HasSentNext, IsReadyToGo, KeepsTrack, MayHearNow, MaySendNow, new_desk, posted_as, uses_by};
+ghost use Rattle.pc_desk.specs.Desk.{DeskMeaning, EndsWithSend, HasDelivered, HasDone, HasHalted, HasHeardFirst, HasKept, HasPosted, HasSentNext, IsReadyToGo, KeepsTrack, MayHearNow, MaySendNow, Posted, new_desk, posted_as, uses_by};
+ghost use Rattle.pc_desk.specs.Ending.{EndsOnly};
 ghost use Rattle.pc_desk.specs.Keeping.{ReadsEach};
 ghost use Rattle.pc_desk.specs.OwnLog.{HasEntered, IsNoRange, IsOwnLog, MayEnter};
 ghost use Rattle.pc_history.specs.Parts.{newcomer, noted, told};
@@ -101,6 +102,13 @@ impl<'a, N: Named<CommitWorld>, C: Clock, V: Wire, G: Gate> Desk<'a, N, C, V, G>
         }
     }
 
+    /// Whether it makes no more entries.
+    pub fn has_stopped(&self) -> bool
+        ensures { result ≡ self.now.log.stopped }
+    {
+        self.log.has_stopped()
+    }
+
     /// A note of the actor's last entry, without uses. None where it has no entry.
     pub fn mark(&mut self) -> Result<Option<Note<CommitWorld, N>>, NoMemory>
         ensures note { IfOk result (λ mark. IfSome mark (λ n. n.known ≡ noted (length self.old.log.part.own - 1) 0 self.old.log.part)) }
@@ -126,7 +134,9 @@ impl<'a, N: Named<CommitWorld>, C: Clock, V: Wire, G: Gate> Desk<'a, N, C, V, G>
         requires track { KeepsTrack self.old }
         requires may { MayAsk self.old.log.part.id (known_of self.old.log.part.own) call }
         ensures ok { IfOk result (λ reading. HasDone self.old self.new (events.Ask call reading)) }
+        ensures rule { C.rule self.new.log.clock ≡ C.rule self.old.log.clock }
         ensures err { IfErr result (HasHalted self.old self.new) }
+        ensures ended { IfErr result (EndsOnly self.old self.new) }
     {
         self.log.ask(call)
     }
@@ -136,7 +146,9 @@ impl<'a, N: Named<CommitWorld>, C: Clock, V: Wire, G: Gate> Desk<'a, N, C, V, G>
         requires track { KeepsTrack self.old }
         requires may { MayEnter self.old.log (events.Tell answer) }
         ensures ok { OnOk result (HasDone self.old self.new (events.Tell answer)) }
+        ensures clock { self.new.log.clock ≡ self.old.log.clock }
         ensures err { IfErr result (HasHalted self.old self.new) }
+        ensures ended { IfErr result (EndsOnly self.old self.new) }
     {
         self.log.enter(Event::Tell(answer))
     }
@@ -146,7 +158,9 @@ impl<'a, N: Named<CommitWorld>, C: Clock, V: Wire, G: Gate> Desk<'a, N, C, V, G>
         requires track { KeepsTrack self.old }
         requires may { MaySendNow self.old.log request }
         ensures ok { IfOk result (λ number. HasSentNext self.old self.new number request) }
+        ensures clock { self.new.log.clock ≡ self.old.log.clock }
         ensures err { IfErr result (HasHalted self.old self.new) }
+        ensures ended { IfErr result (EndsOnly self.old self.new) }
     {
         let number = self.sends + 1;
         let range = range_for(self.ranges.splits(), &request);
@@ -165,7 +179,9 @@ impl<'a, N: Named<CommitWorld>, C: Clock, V: Wire, G: Gate> Desk<'a, N, C, V, G>
         requires may { MayEnter self.old.log (events.Send number range request) }
         ensures ok { OnOk result (HasEntered self.old.log self.new.log (events.Send number range request)) }
         ensures rest { OnOk result (self.new ≡ record self.old { log = self.new.log; sends = number }) }
+        ensures clock { self.new.log.clock ≡ self.old.log.clock }
         ensures err { IfErr result (HasHalted self.old self.new) }
+        ensures ended { IfErr result (λ halt. KeepsTrack self.old → EndsOnly self.old self.new halt) }
     {
         self.log.enter(Event::Send {
             number,
@@ -184,6 +200,7 @@ impl<'a, N: Named<CommitWorld>, C: Clock, V: Wire, G: Gate> Desk<'a, N, C, V, G>
         requires below { AllBelowGreatest (request_stamps request) }
         ensures ok { OnOk result (HasPosted self.old self.new number range request) }
         ensures same { (self.new.log.head ≡ self.old.log.head) × (self.new.log.part.id ≡ self.old.log.part.id) }
+        ensures clock { self.new.log.clock ≡ self.old.log.clock }
     {
         let verdict = self.wire.verdict(number);
         let note = self.log.note(uses_of(verdict))?;
@@ -197,9 +214,10 @@ impl<'a, N: Named<CommitWorld>, C: Clock, V: Wire, G: Gate> Desk<'a, N, C, V, G>
         self.outbox.add(number, verdict, message)
     }
 
-    /// Stops for want of memory.
-    fn want_memory(&mut self) -> Halt
+    /// Stops for want of memory, of its user's too.
+    pub fn want_memory(&mut self) -> Halt
         ensures memory { result ≡ halts.NoMemory }
+        ensures clock { self.new.log.clock ≡ self.old.log.clock }
         ensures halted { HasHalted self.old self.new result }
     {
         self.log.halt();
@@ -218,7 +236,9 @@ impl<'a, N: Named<CommitWorld>, C: Clock, V: Wire, G: Gate> Desk<'a, N, C, V, G>
         requires { KeepsTrack self.old }
         ensures ok { OnOk result (HasDelivered self.old self.new) }
         ensures all { OnOk result (self.new.posted ≡ []) }
+        ensures clock { self.new.log.clock ≡ self.old.log.clock }
         ensures err { IfErr result (HasHalted self.old self.new) }
+        ensures ended { IfErr result (EndsOnly self.old self.new) }
     {
         while self.waiting() > 0 {
             self.deliver_first(rt)?;
@@ -232,7 +252,9 @@ impl<'a, N: Named<CommitWorld>, C: Clock, V: Wire, G: Gate> Desk<'a, N, C, V, G>
         requires some { 1 ≤ length self.old.posted }
         ensures ok { OnOk result (HasDelivered self.old self.new) }
         ensures one { OnOk result (length self.old.posted ≡ length self.new.posted + 1) }
+        ensures clock { self.new.log.clock ≡ self.old.log.clock }
         ensures err { IfErr result (HasHalted self.old self.new) }
+        ensures ended { IfErr result (EndsOnly self.old self.new) }
     {
         let message = match self.outbox.take_first() {
             Some((_, message)) => message,
@@ -247,7 +269,9 @@ impl<'a, N: Named<CommitWorld>, C: Clock, V: Wire, G: Gate> Desk<'a, N, C, V, G>
     /// Knows the evaluation, and keeps its reply until it is heard.
     fn keep(&mut self, msg: ReplyMsg<N>) -> Result<(), Halt>
         ensures ok { OnOk result (HasKept self.old self.new (record { number = msg.number; step = msg.step; reply = msg.reply }) msg.note.known) }
+        ensures clock { self.new.log.clock ≡ self.old.log.clock }
         ensures err { IfErr result (HasHalted self.old self.new) }
+        ensures memory { IfErr result (λ halt. halt ≡ halts.NoMemory) }
     {
         let ReplyMsg {
             number,
@@ -270,7 +294,9 @@ impl<'a, N: Named<CommitWorld>, C: Clock, V: Wire, G: Gate> Desk<'a, N, C, V, G>
     /// Stops where a range refused a message.
     fn refused(&mut self, fault: ServeFault<N>) -> Halt
         requires { (range : ℕ) × IsFullAt range self.old.range_limit fault }
-        ensures { HasHalted self.old self.new result }
+        ensures halted { HasHalted self.old self.new result }
+        ensures clock { self.new.log.clock ≡ self.old.log.clock }
+        ensures ended { (old : DeskMeaning C) (m : Posted) → KeepsTrack old → old.posted ≡ m ∷ self.old.posted → self.old ≡ record old { posted = self.old.posted } → EndsOnly old self.new result }
     {
         match fault {
             ServeFault::Full { range, last } => {
@@ -290,7 +316,9 @@ impl<'a, N: Named<CommitWorld>, C: Clock, V: Wire, G: Gate> Desk<'a, N, C, V, G>
         requires may { MayHearNow self.old }
         ensures ok { IfOk result (λ heard. IfSome heard (HasHeardFirst self.old self.new)) }
         ensures none { IfOk result (λ heard. IfNone heard ((self.old.replies ≡ []) × (self.new ≡ self.old))) }
+        ensures clock { self.new.log.clock ≡ self.old.log.clock }
         ensures err { IfErr result (HasHalted self.old self.new) }
+        ensures ended { IfErr result (EndsOnly self.old self.new) }
     {
         let answered = match self.replies.pop_front() {
             Some(answered) => answered,

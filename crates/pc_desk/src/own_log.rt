@@ -110,6 +110,13 @@ impl<N: Named<CommitWorld>, C: Clock> OwnLog<N, C> {
         self.actor.entries().len()
     }
 
+    /// Whether it makes no more entries.
+    pub fn has_stopped(&self) -> bool
+        ensures { result ≡ self.now.stopped }
+    {
+        self.stopped
+    }
+
     /// Asks a call, at the next reading of the clock. Gives the reading.
     pub fn ask(&mut self, call: Call) -> Result<u64, Halt>
         requires { MayAsk self.old.part.id (known_of self.old.part.own) call }

@@ -1,9 +1,9 @@
-use Rattle.std.proofs.Common.{length}
+use Rattle.std.proofs.Common.{◌≡◌, length}
 use Rattle.pc_desk.specs.Desk.{HasDelivered}
 use Rattle.pc_desk.proofs.desk.Desk.deliver.Given as goal
 
 abbrev pub invariant-loop-self : goal.invariant-loop-self
-invariant-loop-self g l = HasDelivered l.initial.self l.self
+invariant-loop-self g l = HasDelivered l.initial.self l.self × (l.self.log.clock ≡ l.initial.self.log.clock)
 
 abbrev pub decreases-loop-self : goal.decreases-loop-self
 decreases-loop-self g l = length l.self.posted

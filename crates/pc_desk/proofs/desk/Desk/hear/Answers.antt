@@ -1,6 +1,9 @@
-use Rattle.std.proofs.Common.{sym, ap, subst, ◌∙◌}
+use Rattle.std.proofs.Common.{◌≡◌, sym, ap, subst, ◌∙◌}
 use Rattle.pc_desk.proofs.Desking.{has_heard, hear_may}
+use Rattle.std.proofs.lemmas.Result.{err_from_is_err_and}
+use Rattle.pc_desk.proofs.Ending.{ended_so}
 use Rattle.pc_desk.specs.OwnLog.{MayEnter}
+use Rattle.pc_proto.specs.declared.event.Event.{Event}
 use Rattle.pc_proto.specs.declared.event.Event.TheVariants as events
 use Rattle.pc_desk.proofs.desk.Desk.hear.Goals as goal
 
@@ -13,3 +16,10 @@ enter-requires g c =
 pub returns-clause-ok : goal.returns-clause-ok
 returns-clause-ok g c =
     has_heard _ c.args.self.now c.enter.new.self c.in-Some.answered c.pop_front.new.self.items c.self.view_is c.requires.track c.in-Some.ensures.items c.in_ok-enter.ensures.ok
+
+pub returns-in_err-enter-clause-ended : goal.returns-in_err-enter-clause-ended
+returns-in_err-enter-clause-ended g c =
+    let a = c.in-Some.answered in
+    let p = err_from_is_err_and c.from_residual.result c.from_residual.ensures.1 in
+    rw (p.1, p.2)
+    (ended_so (λ (made : Event). made ≡ events.Hear a.number a.step) _ c.args.self.now c.enter.new.self c.pop_front.new.self.items c.in_err-enter.field-0.0 c.self.view_is c.requires.track c.in_err-enter.ensures.err)

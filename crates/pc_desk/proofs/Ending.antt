@@ -1,0 +1,176 @@
+-- An actor's list that has ended, and what became of its messages.
+use Rattle.std.proofs.Common.{◌≡◌, ℕ, ◌+◌, ◌≤◌, ◌==◌, ◌||◌, Bool, true, false, All, Contains, IsTrue, IfErr, inl, inr, List, [], ◌∷◌, ◌++◌, cond, count_by, find, length, Result, Ok, Err, Option, None, Some, refl, sym, ap, subst, ◌∙◌, arith}
+use Rattle.std.proofs.lemmas.Bool.{eq-eqb, eqb-true}
+use Rattle.std.proofs.lemmas.List.Elements.{All-contains, All-head, Contains-append_left, Contains-append_right}
+use Rattle.std.specs.List.{list_any}
+use Rattle.std.specs.Option.{option_map}
+use Rattle.pc_desk.proofs.Counting.{counts_any, none_counted, uncounted}
+use Rattle.pc_desk.specs.declared.answered.Answered.{Answered}
+use Rattle.pc_desk.specs.declared.halt.Halt.{Halt}
+use Rattle.pc_desk.specs.declared.halt.Halt.TheVariants as halts
+use Rattle.pc_desk.specs.Desk.{DeskMeaning, IsAnsweredBy, KeepsTrack, KnowsFull, Posted, answered_as, heard_as_number, posted_as, times_sent}
+use Rattle.pc_desk.specs.Ending.{EndsOnly, HasEnded, IsEndedBy, IsNotLost}
+use Rattle.pc_desk.specs.OwnLog.{IsHalt, LogMeaning, Took}
+use Rattle.pc_history.specs.declared.view.Known.{Known as KnownEntry}
+use Rattle.pc_history.specs.Parts.{known_entry, told}
+use Rattle.pc_lists.proofs.Lists.{all_from_contains, contains_head, contains_nil, contains_cons, contains_tail}
+use Rattle.pc_proto.specs.declared.event.Event.{Event}
+use Rattle.pc_proto.specs.declared.request.Request.{Request}
+use Rattle.pc_range.specs.Message.{IsFullNote, evaluation}
+use Rattle.pc_world.specs.Known.{Known, known_of}
+use Rattle.pc_world.specs.Known.Traffic.{Heard, Sent, request_sent}
+use Rattle.pc_world.specs.Tell.Refusal.{is_heard}
+
+-- one that passes the test is there
+any_gives : {X : Type 0} (p : X → Bool) (xs : List X) → list_any p xs ≡ true → (x : X) × Contains xs x × (p x ≡ true)
+any_gives p [] e = absurd cc
+any_gives {X} p (x ∷ xs) e = by (p x) refl (any_gives p xs)
+  where
+    by : (b : Bool) → p x ≡ b → (list_any p xs ≡ true → (y : X) × Contains xs y × (p y ≡ true)) → (y : X) × Contains (x ∷ xs) y × (p y ≡ true)
+    by true is on = (x, contains_head x xs, is)
+    by false is on =
+        let later = on (sym (ap (λ b. b || list_any p xs) is) ∙ e) in
+        (later.0, contains_tail x xs later.0 later.1, later.2)
+
+or_right : (a b : Bool) → b ≡ true → (a || b) ≡ true
+or_right true b e = refl
+or_right false b e = e
+
+any_there : {X : Type 0} (test : X → Bool) (xs : List X) (x : X) → test x ≡ true → Contains xs x → list_any test xs ≡ true
+any_there test [] x is there = absurd (contains_nil x there)
+any_there test (y ∷ ys) x is there = elim (contains_cons y ys x there) [
+  | inl here ↦ ap (λ b. b || list_any test ys) (ap test here ∙ is)
+  | inr later ↦ or_right (test y) (list_any test ys) (any_there test ys x is later)
+]
+
+-- the message that says something under a number is there
+said_there : (n : ℕ) (xs : List Sent) (r : Request) → request_sent n xs ≡ Some r → (x : Sent) × Contains xs x × (x.number ≡ n)
+said_there n [] r e = absurd cc
+said_there n (x ∷ xs) r e = by (x.number == n) refl (said_there n xs r)
+  where
+    by : (b : Bool) → (x.number == n) ≡ b → (request_sent n xs ≡ Some r → (y : Sent) × Contains xs y × (y.number ≡ n)) → (y : Sent) × Contains (x ∷ xs) y × (y.number ≡ n)
+    by true is on = (x, contains_head x xs, eqb-true x.number n is)
+    by false is on =
+        let later = on (sym (ap (λ b. option_map (λ (m : Sent). m.request) (cond b (Some x) (find (λ (m : Sent). m.number == n) xs))) is) ∙ e) in
+        (later.0, contains_tail x xs later.0 later.1, later.2)
+
+module _ {C : Type 0} (d : DeskMeaning C) (track : KeepsTrack d) where
+  abbrev k : Known
+  k = known_of d.log.part.own
+
+  one-not-lost : (m : Sent) → Contains k.sent m → IsNotLost d m
+  one-not-lost m there = by (list_any (λ (h : Heard). h.number == m.number) k.heard) (list_any (λ (p : Posted). p.number == m.number) d.posted) (list_any (λ (a : Answered). a.number == m.number) d.replies) refl refl refl
+    where
+      some : 1 ≤ times_sent m.number k
+      some = counts_any (λ (x : Sent). x.number == m.number) k.sent (any_there (λ (x : Sent). x.number == m.number) k.sent m (eq-eqb m.number m.number refl) there)
+
+      by : (heard posted answered : Bool) → list_any (λ (h : Heard). h.number == m.number) k.heard ≡ heard → list_any (λ (p : Posted). p.number == m.number) d.posted ≡ posted → list_any (λ (a : Answered). a.number == m.number) d.replies ≡ answered → IsNotLost d m
+      by true posted answered h p a = inl h
+      by false true answered h p a =
+          let w = any_gives (λ (p : Posted). p.number == m.number) d.posted p in
+          inr (inl (record { waiting = w.0; there = w.1; is = eqb-true w.0.number m.number w.2 }))
+      by false false true h p a =
+          let w = any_gives (λ (a : Answered). a.number == m.number) d.replies a in
+          let of = All-contains (IsAnsweredBy d.log) d.replies w.0 track.answered w.1 in
+          inr (inr (record { evaluation = known_entry (evaluation w.0.step of.range d.log.part.id w.0.number w.0.reply) of.place 0; knows = of.knows; of_it = (refl, eqb-true w.0.number m.number w.2) }))
+      by false false false h p a =
+          let stages = track.stages m.number in
+          let x = uncounted (λ (h : Heard). h.number == m.number) k.heard h in
+          let y = uncounted (λ (p : Posted). p.number == m.number) d.posted p in
+          let z = uncounted (λ (a : Answered). a.number == m.number) d.replies a in
+          let s = some in
+          absurd (omega arith)
+
+  -- no message is lost
+  pub not_lost : All (IsNotLost d) k.sent
+  not_lost = all_from_contains (IsNotLost d) k.sent one-not-lost
+
+-- ---- a list that is full
+
+ended-at : {C : Type 0} (old : DeskMeaning C) (rs : List Answered) → KeepsTrack old → ◌≡◌ {A = ℕ} (length old.log.part.own) old.log.limit → HasEnded old (record old { log = record old.log { stopped = true }; replies = rs })
+ended-at old rs track full = record { known = λ x there. there; rest = refl; limit = refl; end = inl (record { long = full; each = not_lost old track }) }
+
+ended-by : {C : Type 0} (P : Event → Type 0) (old : DeskMeaning C) (after : LogMeaning C) (rs : List Answered) (halt : Halt) → KeepsTrack old → IsHalt P old.log after halt → EndsOnly old (record old { log = after; replies = rs }) halt
+ended-by P old after rs halts.Stopped track (inl h) = λ going none. absurd (let e : true ≡ false = sym h.0 ∙ going in cc e)
+ended-by P old after rs halts.Stopped track (inr h) = λ going none. absurd (let e = sym h.stop ∙ none in cc e)
+ended-by {C} P old after rs (halts.Full actor) track h = λ going none. subst (λ (l : LogMeaning C). HasEnded old (record old { log = l; replies = rs })) (sym h.3) (ended-at old rs track h.2)
+ended-by P old after rs halts.NoMemory track h = λ going none. tt
+
+-- one more entry was not made, at which nothing but a reply was taken
+pub ended_so : {C : Type 0} (P : Event → Type 0) (v old : DeskMeaning C) (after : LogMeaning C) (rs : List Answered) (halt : Halt) → v ≡ old → KeepsTrack old → IsHalt P v.log after halt → EndsOnly old (record v { log = after; replies = rs }) halt
+ended_so {C} P v old after rs halt same track h =
+    subst (λ (x : DeskMeaning C). IsHalt P x.log after halt → EndsOnly old (record x { log = after; replies = rs }) halt) (sym same) (ended-by P old after rs halt track) h
+
+pub ended_if : {C X : Type 0} (P : Event → Type 0) (v old : DeskMeaning C) (after : LogMeaning C) (r : Result X Halt) → v ≡ old → KeepsTrack old → IfErr r (IsHalt P v.log after) → IfErr r (EndsOnly old (record v { log = after }))
+ended_if P v old after (Ok x) same track h = tt
+ended_if P v old after (Err halt) same track h = ended_so P v old after v.replies halt same track h
+
+-- ---- a range that is full
+
+module _ {C : Type 0} (old : DeskMeaning C) (m : Posted) (rest : List Posted) (note : List (KnownEntry Event)) (range : ℕ) (track : KeepsTrack old) (first : old.posted ≡ m ∷ rest) (full : IsFullNote range old.range_limit note) where
+  it : (x : Sent) × Contains (known_of old.log.part.own).sent x × (x.number ≡ m.number)
+  it = said_there m.number (known_of old.log.part.own).sent m.request
+      (All-head (λ (m : Posted). request_sent m.number (known_of old.log.part.own).sent ≡ Some m.request) m rest
+      (subst (All (λ (m : Posted). request_sent m.number (known_of old.log.part.own).sent ≡ Some m.request)) first track.posted))
+
+  unheard : is_heard (known_of old.log.part.own).heard it.0 ≡ false
+  unheard =
+      let waits : 1 ≤ posted_as m.number old.posted = counts_any (λ (p : Posted). p.number == m.number) old.posted
+      (any_there (λ (p : Posted). p.number == m.number) old.posted m (eq-eqb m.number m.number refl) (subst (λ l. Contains l m) (sym first) (contains_head m rest))) in
+      let stages = track.stages m.number in
+      let once = track.once m.number in
+      ap (λ n. list_any (λ (h : Heard). h.number == n) (known_of old.log.part.own).heard) it.2
+      ∙ none_counted (λ (h : Heard). h.number == m.number) (known_of old.log.part.own).heard (omega arith)
+
+  pub ended_full : HasEnded old (record old { posted = rest; log = record old.log { part = told note old.log.part; stopped = true } })
+  ended_full = record {
+    known = λ x there. Contains-append_left old.log.part.known note x there;
+    rest = refl;
+    limit = refl;
+    end = inr (record {
+      range = range;
+      full = record {
+        entry = known_entry full.entry full.place 0;
+        knows = Contains-append_right old.log.part.known note (known_entry full.entry full.place 0) (subst (λ l. Contains l (known_entry full.entry full.place 0)) (sym full.tells) (contains_head (known_entry full.entry full.place 0) []));
+        full = record { entry = full.entry; place = full.place; tells = refl; whose = full.whose; many = full.many };
+      };
+      message = it.0;
+      sent = it.1;
+      unheard = unheard;
+    });
+  }
+
+-- the desk from which the message was taken
+pub ended_at_range : {C : Type 0} (v d old : DeskMeaning C) (m : Posted) (note : List (KnownEntry Event)) (range : ℕ) → v ≡ d → KeepsTrack old → old.posted ≡ m ∷ d.posted → d ≡ record old { posted = d.posted } → IsFullNote range d.range_limit note
+    → HasEnded old (record v { log = record v.log { part = told note v.log.part; stopped = true } })
+ended_at_range {C} v d old m note range same track first taken full =
+    subst (λ (x : DeskMeaning C). HasEnded old (record x { log = record x.log { part = told note x.log.part; stopped = true } })) (sym (same ∙ taken))
+    (ended_full old m d.posted note range track first (subst (λ n. IsFullNote range n note) (ap (λ (x : DeskMeaning C). x.range_limit) taken) full))
+
+-- as its code has it
+pub ended_refused : {C : Type 0} (v d old : DeskMeaning C) (m : Posted) (note : List (KnownEntry Event)) (range : ℕ) (mid after : LogMeaning C) → v ≡ d → Took note v.log mid → after ≡ record mid { stopped = true } → KeepsTrack old → old.posted ≡ m ∷ d.posted
+    → d ≡ record old { posted = d.posted } → IsFullNote range d.range_limit note → HasEnded old (record v { log = after })
+ended_refused {C} v d old m note range mid after same took halted track first taken full =
+    subst (λ (l : LogMeaning C). HasEnded old (record v { log = l })) (sym (halted ∙ ap (λ (l : LogMeaning C). record l { stopped = true }) took.told_this)) (ended_at_range v d old m note range same track first taken full)
+
+-- first messages were delivered, then the list ended
+pub ended_later : {C : Type 0} (old mid new : DeskMeaning C) (halt : Halt) → mid.log.stopped ≡ old.log.stopped → mid.log.stop ≡ old.log.stop → ((k : KnownEntry Event) → Contains old.log.part.known k → Contains mid.log.part.known k)
+    → mid.log ≡ record old.log { part = record old.log.part { known = mid.log.part.known } } → mid.range_limit ≡ old.range_limit → EndsOnly mid new halt → EndsOnly old new halt
+ended_later {C} old mid new halt stopped stop more same limit ends = λ going none. by halt (ends (stopped ∙ going) (stop ∙ none))
+  where
+    on : HasEnded mid new → HasEnded old new
+    on e = record {
+      known = λ x there. e.known x (more x there);
+      rest = e.rest ∙ ap (λ (l : LogMeaning C). record l { part = record l.part { known = new.log.part.known }; stopped = true }) same;
+      limit = e.limit ∙ limit;
+      end = e.end;
+    }
+
+    by : (halt : Halt) → IsEndedBy halt (HasEnded mid new) → IsEndedBy halt (HasEnded old new)
+    by halts.Stopped e = on e
+    by (halts.Full actor) e = on e
+    by halts.NoMemory e = tt
+
+-- want of memory
+pub ended_memory : {C : Type 0} (old new : DeskMeaning C) (halt : Halt) → halt ≡ halts.NoMemory → EndsOnly old new halt
+ended_memory old new halt want = λ going none. subst (λ (h : Halt). IsEndedBy h (HasEnded old new)) (sym want) tt

@@ -1,0 +1,101 @@
+-- What an actor made before its list ended.
+use Rattle.std.proofs.Common.{◌≡◌, false, true, All, Contains, List, [], ◌∷◌, ◌++◌, map, None, refl, sym, ap, subst, ◌∙◌}
+use Rattle.std.proofs.lemmas.List.{append-nil, append_assoc, map-append}
+use Rattle.std.proofs.lemmas.List.Elements.{All-append, All-contains, All-nil, Contains-append_right}
+use Rattle.pc_base.specs.declared.actor.ActorId.{ActorId}
+use Rattle.pc_desk.specs.declared.halt.Halt.{Halt}
+use Rattle.pc_desk.specs.declared.halt.Halt.TheVariants as halts
+use Rattle.pc_desk.specs.Desk.{DeskMeaning, GivesOnce, KeepsTrack}
+use Rattle.pc_desk.specs.Ending.{EndsOnly, HasEnded, IsEndedBy}
+use Rattle.pc_desk.specs.OwnLog.{LogMeaning}
+use Rattle.pc_exchange.proofs.Growing.{grows_both, grows_none}
+use Rattle.pc_exchange.specs.Ending.{BreaksOff, HasBrokenOff}
+use Rattle.pc_exchange.specs.Growing.{HasGoneBeside, HasGrownBy}
+use Rattle.pc_history.specs.declared.pair.Pair.{Pair}
+use Rattle.pc_history.specs.declared.view.Part.{Part}
+use Rattle.pc_lists.proofs.Lists.{all_from_contains}
+use Rattle.pc_proto.specs.declared.event.Event.{Event}
+use Rattle.pc_turns.specs.Order.{IsInBetween, events_of}
+
+-- what is so where a list ended is so where something more is
+ended_on : (halt : Halt) (A B : Type 0) → (A → B) → IsEndedBy halt A → IsEndedBy halt B
+ended_on halts.Stopped A B f a = f a
+ended_on (halts.Full actor) A B f a = f a
+ended_on halts.NoMemory A B f a = tt
+
+module _ {C : Type 0} (old mid new : DeskMeaning C) (part : List (Pair Event)) (grown : HasGrownBy old.log mid.log part) (limit : mid.range_limit ≡ old.range_limit) (whose : All (λ (p : Pair Event). p.entry.actor ≡ old.log.part.id) part) where
+  -- these entries were made before the list ended
+  broke_off : (Are : List Event → Type 0) → GivesOnce mid.log.part → Are (events_of part) → HasEnded mid new → HasBrokenOff Are old new
+  broke_off Are given are ended =
+      let own : new.log.part.own ≡ mid.log.part.own = ap (λ (l : LogMeaning C). l.part.own) ended.rest in
+      record {
+        part = part;
+        own = own ∙ grown.own;
+        whose = whose;
+        rises = grown.rises;
+        above = grown.above;
+        are = are;
+        known = λ k there. ended.known k (grown.known k there);
+        rest = ended_rest ended;
+        limit = ended.limit ∙ limit;
+        given = subst GivesOnce (sym (ap (λ (l : LogMeaning C). l.part) ended.rest)) (record { each = given.each; once = given.once });
+        end = ended.end;
+      }
+    where
+      ended_rest : HasEnded mid new → new.log ≡ record old.log { part = record old.log.part { own = new.log.part.own; given = new.log.part.given; known = new.log.part.known }; spare = new.log.spare; clock = new.log.clock; stopped = true }
+      ended_rest ended =
+          let F : LogMeaning C → LogMeaning C = λ l. record old.log { part = record old.log.part { own = l.part.own; given = l.part.given; known = l.part.known }; spare = l.spare; clock = l.clock; stopped = true } in
+          let G : LogMeaning C → LogMeaning C = λ l. record l { part = record l.part { known = new.log.part.known }; stopped = true } in
+          ended.rest ∙ (ap G grown.rest ∙ sym (ap F (ended.rest ∙ ap G grown.rest)))
+
+  pub breaks_only : (Are : List Event → Type 0) (halt : Halt) → GivesOnce mid.log.part → Are (events_of part) → EndsOnly mid new halt → BreaksOff Are old new halt
+  breaks_only Are halt given are ends going stop =
+      ended_on halt (HasEnded mid new) (HasBrokenOff Are old new) (broke_off Are given are)
+      (ends (ap (λ (l : LogMeaning C). l.stopped) grown.rest ∙ going) (ap (λ (l : LogMeaning C). l.stop) grown.rest ∙ stop))
+
+  -- these, and then some more
+  broke_later : (More Are : List Event → Type 0) → ((made : List Event) → More made → Are (events_of part ++ made)) → HasBrokenOff More mid new → HasBrokenOff Are old new
+  broke_later More Are on b =
+      let id : mid.log.part.id ≡ old.log.part.id = ap (λ (l : LogMeaning C). l.part.id) grown.rest in
+      let going : LogMeaning C = record new.log { stopped = mid.log.stopped } in
+      let more : HasGrownBy mid.log going b.part = record { own = b.own; rises = b.rises; above = b.above; known = b.known; rest = ap (λ (l : LogMeaning C). record l { stopped = mid.log.stopped }) b.rest } in
+      let all = grows_both old.log mid.log going part b.part grown more in
+      record {
+        part = part ++ b.part;
+        own = all.own;
+        whose = All-append (λ (p : Pair Event). p.entry.actor ≡ old.log.part.id) part b.part whose (subst (λ i. All (λ (p : Pair Event). p.entry.actor ≡ i) b.part) id b.whose);
+        rises = all.rises;
+        above = all.above;
+        are = subst Are (sym (map-append (λ (p : Pair Event). p.entry.event) part b.part)) (on (events_of b.part) b.are);
+        known = all.known;
+        rest = stopped_rest b;
+        limit = b.limit ∙ limit;
+        given = b.given;
+        end = b.end;
+      }
+    where
+      stopped_rest : HasBrokenOff More mid new → new.log ≡ record old.log { part = record old.log.part { own = new.log.part.own; given = new.log.part.given; known = new.log.part.known }; spare = new.log.spare; clock = new.log.clock; stopped = true }
+      stopped_rest b = b.rest ∙ ap (λ (l : LogMeaning C). record l { part = record l.part { own = new.log.part.own; given = new.log.part.given; known = new.log.part.known }; spare = new.log.spare; clock = new.log.clock; stopped = true }) grown.rest
+
+  pub breaks_later : (More Are : List Event → Type 0) (halt : Halt) → ((made : List Event) → More made → Are (events_of part ++ made)) → BreaksOff More mid new halt → BreaksOff Are old new halt
+  breaks_later More Are halt on breaks going stop =
+      ended_on halt (HasBrokenOff More mid new) (HasBrokenOff Are old new) (broke_later More Are on)
+      (breaks (ap (λ (l : LogMeaning C). l.stopped) grown.rest ∙ going) (ap (λ (l : LogMeaning C). l.stop) grown.rest ∙ stop))
+
+-- whose entries they are that were made since
+pub made_by : {C : Type 0} (old : LogMeaning C) (new : DeskMeaning C) (part : List (Pair Event)) → KeepsTrack new → HasGrownBy old new.log part → All (λ (p : Pair Event). p.entry.actor ≡ old.part.id) part
+made_by {C} old new part track grown =
+    let id : new.log.part.id ≡ old.part.id = ap (λ (l : LogMeaning C). l.part.id) grown.rest in
+    all_from_contains (λ (p : Pair Event). p.entry.actor ≡ old.part.id) part (λ p there.
+    All-contains (λ (p : Pair Event). p.entry.actor ≡ new.log.part.id) new.log.part.own p track.log.whose (subst (λ own. Contains own p) (sym grown.own) (Contains-append_right old.part.own part p there)) ∙ id)
+
+-- a list that went on by these entries, and then broke off
+pub goes_breaks : {C : Type 0} (old mid new : DeskMeaning C) (part : List (Pair Event)) (halt : Halt) → HasGoneBeside old mid part → BreaksOff (All IsInBetween) mid new halt → BreaksOff (All IsInBetween) old new halt
+goes_breaks old mid new part halt goes breaks =
+    breaks_later old mid new part goes.grown goes.limit (made_by old.log mid part goes.back.track goes.grown) (All IsInBetween) (All IsInBetween) halt
+    (λ made more. All-append IsInBetween (events_of part) made goes.within more) breaks
+
+-- or that ended where it was
+pub only_breaks : {C : Type 0} (old new : DeskMeaning C) (halt : Halt) → KeepsTrack old → EndsOnly old new halt → BreaksOff (All IsInBetween) old new halt
+only_breaks old new halt track ends =
+    breaks_only old old new [] (grows_none old.log) refl (All-nil (λ (p : Pair Event). p.entry.actor ≡ old.log.part.id)) (All IsInBetween) halt track.given (All-nil IsInBetween) ends

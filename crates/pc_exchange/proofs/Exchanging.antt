@@ -1,0 +1,234 @@
+-- One message that is sent, evaluated and heard: what each of the three asks for, and what they come to.
+use Rattle.std.proofs.Common.{◌≡◌, ℕ, ◌+◌, ◌==◌, Bool, true, false, ◌&&◌, ◌||◌, not, ◌⊎◌, inl, inr, All, Contains, List, [], ◌∷◌, ◌++◌, length, Option, None, Some, refl, sym, ap, subst, ◌∙◌, arith}
+use Rattle.std.proofs.lemmas.Bool.{eq-eqb, eqb-true}
+use Rattle.std.proofs.lemmas.List.Elements.{All-cons, All-nil}
+use Rattle.std.specs.List.{list_any}
+use Rattle.pc_base.specs.declared.actor.ActorId.{ActorId}
+use Rattle.pc_base.specs.declared.actor.ActorId.TheVariants as actors
+use Rattle.pc_base.specs.declared.entry.Entry.{Entry}
+use Rattle.pc_desk.proofs.Counting.{said_new}
+use Rattle.pc_desk.proofs.Making.{added, sent_then}
+use Rattle.pc_desk.specs.declared.answered.Answered.{Answered}
+use Rattle.pc_desk.specs.declared.halt.Halt.{Halt}
+use Rattle.pc_desk.specs.declared.halt.Halt.TheVariants as halts
+use Rattle.pc_desk.specs.Desk.{DeskMeaning, HasDelivered, HasHalted, HasHeardFirst, HasSentNext, IsCause, KeepsTrack, MayHearNow, Posted, is_on_way, times_sent}
+use Rattle.pc_desk.specs.Ending.{EndsOnly}
+use Rattle.pc_desk.specs.Keeping.{KeepsAs, KeepsNext}
+use Rattle.pc_desk.specs.OwnLog.{HasEntered, LogMeaning}
+use Rattle.pc_exchange.proofs.Called.{next_unsent}
+use Rattle.pc_exchange.proofs.Ending.{breaks_only, made_by}
+use Rattle.pc_exchange.proofs.Growing.{grows_both, grows_else, grows_entered}
+use Rattle.pc_exchange.proofs.HeardKinds.{heard_kind, heard_possible}
+use Rattle.pc_exchange.proofs.Knowing.{heard_then}
+use Rattle.pc_exchange.specs.Ending.{BreaksOff}
+use Rattle.pc_exchange.specs.Exchange.{MayExchangeNow, WasExchanged, heard_pair, sent_pair}
+use Rattle.pc_exchange.specs.Growing.{HasGoneBeside, HasAllBack, HasGrownBy}
+use Rattle.pc_history.specs.declared.pair.Pair.{Pair}
+use Rattle.pc_history.specs.Own.{pair}
+use Rattle.pc_history.specs.Parts.{entry_of, knowledge, named_by}
+use Rattle.pc_lists.proofs.Lists.{contains_cons, contains_head, contains_nil, contains_tail, find_none}
+use Rattle.pc_proto.specs.declared.call.Call.{Call}
+use Rattle.pc_proto.specs.declared.event.Event.{Event}
+use Rattle.pc_proto.specs.declared.event.Event.TheVariants as events
+use Rattle.pc_proto.specs.declared.reply.Reply.{Reply}
+use Rattle.pc_proto.specs.declared.request.Request.{Request}
+use Rattle.pc_proto.specs.declared.request.Request.TheVariants as requests
+use Rattle.pc_proto.specs.Requests.{is_put}
+use Rattle.pc_range.specs.Message.{evaluation}
+use Rattle.pc_range.specs.Protocol.{unstaged_protocol}
+use Rattle.pc_world.specs.Follows.PipelinedPuts.{IsPutWaitedFor}
+use Rattle.pc_turns.specs.Order.{IsInBetween, events_of}
+use Rattle.pc_world.specs.Follows.FinishingJobs.{jobs_of}
+use Rattle.pc_world.specs.Known.{Known, known_of, next_number}
+use Rattle.pc_world.specs.Known.Traffic.{Heard, Sent, heard_as, request_sent}
+
+-- ---- a reply to what is no put may be heard at any time
+
+waits-none : (k : Known) (call : Call) (request : Request) → is_put request ≡ false → IsPutWaitedFor k call request
+waits-none k call (requests.Put meta seq ts key value) none = absurd cc
+waits-none k call request none = tt
+
+hears-as : (id : ActorId) (pipelining : Bool) (jobs : List (List Request)) (k : Known) (number step : ℕ) (h : Heard) → is_put h.request ≡ false → KeepsAs id pipelining jobs k (events.Hear number step) (Some h)
+hears-as (actors.Session session) pipelining jobs k number step h none =
+    record { wire = tt; early_tell = tt; early_proof = λ asked staged. none; written = tt; puts = λ call asked. waits-none k call h.request none; resends = tt; calls = tt; finishes = tt; aborts = tt }
+hears-as (actors.Recoverer recoverer) pipelining jobs k number step h none = tt
+hears-as (actors.Range range) pipelining jobs k number step h none = tt
+
+or-right : (b c : Bool) → c ≡ true → (b || c) ≡ true
+or-right true c is = refl
+or-right false c is = is
+
+-- a reply that is among these is found by its number
+found-there : (a : Answered) (replies : List Answered) → Contains replies a → list_any (λ (x : Answered). x.number == a.number) replies ≡ true
+found-there a [] there = absurd (contains_nil a there)
+found-there a (x ∷ replies) there =
+    elim (contains_cons x replies a there) [
+      | inl same ↦ ap (λ b. b || list_any (λ (x : Answered). x.number == a.number) replies) (eq-eqb x.number a.number (ap (λ (y : Answered). y.number) same))
+      | inr behind ↦ or-right (x.number == a.number) (list_any (λ (x : Answered). x.number == a.number) replies) (found-there a replies behind)
+    ]
+
+and-false : (b : Bool) → (b && false) ≡ false
+and-false true = refl
+and-false false = refl
+
+or-false : (b : Bool) → (b || false) ≡ b
+or-false true = refl
+or-false false = refl
+
+module _ {C : Type 0} (old mid late : DeskMeaning C) (request : Request) (number : ℕ) (may : MayExchangeNow old request) (sent : HasSentNext old mid number request) (delivered : HasDelivered mid late) (none : late.posted ≡ []) where
+  was-none : (n : ℕ) → is_on_way n old ≡ false
+  was-none n =
+      ap (λ l. list_any (λ (m : Posted). m.number == n) l || list_any (λ (a : Answered). a.number == n) old.replies) may.back.posted
+      ∙ ap (λ l. list_any (λ (a : Answered). a.number == n) l) may.back.replies
+
+  way-late : (n : ℕ) → list_any (λ (a : Answered). a.number == n) late.replies ≡ (number == n)
+  way-late n =
+      sym (ap (λ l. list_any (λ (m : Posted). m.number == n) l || list_any (λ (a : Answered). a.number == n) late.replies) none)
+      ∙ (delivered.way n ∙ (sent.way n ∙ (ap (λ b. number == n || b) (was-none n) ∙ or-false (number == n))))
+
+  -- each reply that waits is to this message
+  pub replies_to_it : (a : Answered) → Contains late.replies a → a.number ≡ number
+  replies_to_it a there = sym (eqb-true number a.number (sym (way-late a.number) ∙ found-there a late.replies there))
+
+  -- and there is one
+  pub has_reply : late.replies ≡ [] → ⊥
+  has_reply empty = let is : false ≡ true = sym (ap (λ l. list_any (λ (a : Answered). a.number == number) l) empty) ∙ (way-late number ∙ eq-eqb number number refl) in cc is
+
+  next-is : number ≡ next_number (known_of old.log.part.own)
+  next-is = sent.next ∙ ap (λ n. n + 1) may.back.track.counted
+
+  own-late : late.log.part.own ≡ sent.sent.part.own
+  own-late = ap (λ (l : LogMeaning C). l.part.own) delivered.own ∙ ap (λ (l : LogMeaning C). l.part.own) sent.noted
+
+  id-late : late.log.part.id ≡ old.log.part.id
+  id-late = ap (λ (l : LogMeaning C). l.part.id) delivered.own ∙ (ap (λ (l : LogMeaning C). l.part.id) sent.noted ∙ ap (λ (l : LogMeaning C). l.part.id) sent.entered.stored)
+
+  fresh : times_sent number (known_of old.log.part.own) ≡ 0
+  fresh = subst (λ n. times_sent n (known_of old.log.part.own) ≡ 0) (sym next-is) (next_unsent old may.back)
+
+  said-late : request_sent number (known_of late.log.part.own).sent ≡ Some request
+  said-late =
+      let m : Sent = record { number = number; range = sent.range; request = request } in
+      ap (λ own. request_sent number (known_of own).sent) own-late
+      ∙ (ap (request_sent number) (sent_then old.log sent.sent number sent.range request sent.entered)
+      ∙ said_new (known_of old.log.part.own).sent m fresh)
+
+  -- it may be heard
+  pub may_hear_it : MayHearNow late
+  may_hear_it = record {
+    each = λ a range there.
+        let said : request_sent a.number (known_of late.log.part.own).sent ≡ Some request = ap (λ n. request_sent n (known_of late.log.part.own).sent) (replies_to_it a there) ∙ said-late in
+        let h : Heard = record { number = a.number; request = request; reply = a.reply; step = a.step } in
+        let brings : heard_as a.number a.step (request_sent a.number (known_of late.log.part.own).sent) (Some a.reply) ≡ Some h = ap (λ r. heard_as a.number a.step r (Some a.reply)) said in
+        subst (KeepsAs late.log.part.id late.log.pipelining (jobs_of late.log.part.own) (known_of late.log.part.own) (events.Hear a.number a.step)) (sym brings)
+        (hears-as late.log.part.id late.log.pipelining (jobs_of late.log.part.own) (known_of late.log.part.own) a.number a.step h may.no_put);
+  }
+
+  module _ (new : DeskMeaning C) (a : Answered) (heard : HasHeardFirst late new a) where
+    number-is : a.number ≡ number
+    number-is = replies_to_it a (subst (λ l. Contains l a) (sym heard.first) (contains_head a new.replies))
+
+    none-left : new.replies ≡ []
+    none-left = by new.replies refl
+      where
+        by : (replies : List Answered) → new.replies ≡ replies → new.replies ≡ []
+        by [] is = is
+        by (b ∷ rest) is =
+            let there : Contains new.replies b = subst (λ l. Contains l b) (sym is) (contains_head b rest) in
+            let also : b.number ≡ number = replies_to_it b (subst (λ l. Contains l b) (sym heard.first) (contains_tail a new.replies b there)) in
+            let here : is_on_way b.number new ≡ true = or-right (list_any (λ (m : Posted). m.number == b.number) new.posted) (list_any (λ (x : Answered). x.number == b.number) new.replies) (found-there b new.replies there) in
+            let gone : is_on_way b.number new ≡ false = heard.way b.number ∙ (ap (λ e. is_on_way b.number late && not e) (eq-eqb a.number b.number (number-is ∙ sym also)) ∙ and-false (is_on_way b.number late)) in
+            absurd (let bad : true ≡ false = sym here ∙ gone in cc bad)
+
+    -- the two entries, as they stand in the actor's list
+    first-is : added old.log sent.sent (events.Send number sent.range request) sent.entered ≡ sent_pair old.log.part.id sent.entered.step (next_number (known_of old.log.part.own)) sent.range request
+    first-is =
+        let event = events.Send number sent.range request in
+        let names : named_by (unstaged_protocol old.log.head) old.log.part event ≡ None = find_none (λ e. (unstaged_protocol old.log.head).names event e) (knowledge old.log.part) (λ e. refl) in
+        ap (pair (entry_of sent.entered.step old.log.part.id event)) names ∙ ap (λ n. sent_pair old.log.part.id sent.entered.step n sent.range request) next-is
+
+    second-is : added late.log new.log (events.Hear a.number a.step) heard.entered ≡ heard_pair old.log.part.id heard.entered.step (next_number (known_of old.log.part.own)) heard.range a.step a.reply
+    second-is =
+        ap (pair (entry_of heard.entered.step late.log.part.id (events.Hear a.number a.step))) heard.named
+        ∙ (ap (λ i. heard_pair i heard.entered.step a.number heard.range a.step a.reply) id-late
+        ∙ ap (λ n. heard_pair old.log.part.id heard.entered.step n heard.range a.step a.reply) (number-is ∙ next-is))
+
+    abbrev part-of : List (Pair Event)
+    part-of = sent_pair old.log.part.id sent.entered.step (next_number (known_of old.log.part.own)) sent.range request ∷ heard_pair old.log.part.id heard.entered.step (next_number (known_of old.log.part.own)) heard.range a.step a.reply ∷ []
+
+    grown : HasGrownBy old.log new.log part-of
+    grown =
+        let one = grows_entered old.log sent.sent (events.Send number sent.range request) sent.entered refl in
+        let two : HasGrownBy sent.sent mid.log [] = grows_else sent.sent mid.log _ sent.sent.part.known sent.noted (λ k there. there) in
+        let three : HasGrownBy mid.log late.log [] = grows_else mid.log late.log mid.log.part.given late.log.part.known delivered.own delivered.more in
+        let four = grows_entered late.log new.log (events.Hear a.number a.step) heard.entered refl in
+        let all = grows_both old.log late.log new.log _ _ (grows_both old.log mid.log late.log _ [] (grows_both old.log sent.sent mid.log _ [] one two) three) four in
+        subst (λ p. HasGrownBy old.log new.log (p ∷ heard_pair old.log.part.id heard.entered.step (next_number (known_of old.log.part.own)) heard.range a.step a.reply ∷ [])) first-is
+        (subst (λ p. HasGrownBy old.log new.log (added old.log sent.sent (events.Send number sent.range request) sent.entered ∷ p ∷ [])) second-is all)
+
+    -- the exchange
+    pub was_exchanged : WasExchanged old new request a.reply
+    was_exchanged =
+        let next = next_number (known_of old.log.part.own) in
+        let h : Heard = record { number = next; request = request; reply = a.reply; step = a.step } in
+        let unsent = next_unsent old may.back in
+        let there : Contains (known_of new.log.part.own).heard h =
+        subst (λ own. Contains (known_of own).heard h) (sym grown.own) (heard_then old.log.part.own old.log.part.id sent.entered.step heard.entered.step next sent.range heard.range a.step request a.reply unsent) in
+        record {
+          range = sent.range;
+          evaluated_by = heard.range;
+          sent_at = sent.entered.step;
+          evaluated_at = a.step;
+          heard_at = heard.entered.step;
+          goes = record {
+            grown = grown;
+            within =
+                All-cons IsInBetween (events.Send next sent.range request) (events.Hear next a.step ∷ []) tt
+                (All-cons IsInBetween (events.Hear next a.step) [] tt (All-nil IsInBetween));
+            back = record { track = heard.track; posted = heard.posted ∙ none; replies = none-left };
+            limit = heard.limit ∙ (delivered.limit ∙ sent.limit);
+          };
+          kind = heard_kind new.log heard.track.log h there;
+          possible = heard_possible new.log heard.track.log h there;
+        }
+
+-- ---- an actor that halts on the way
+
+-- what went before changed nothing of why it halts
+halts-since : {C : Type 0} (old mid new : DeskMeaning C) (halt : Halt) → mid.log.stopped ≡ old.log.stopped → IsCause mid new halt → IsCause old new halt
+halts-since old mid new halts.Stopped same (inl was) = inl (sym same ∙ was)
+halts-since old mid new halts.Stopped same (inr at) = inr at
+halts-since old mid new (halts.Full actor) same cause = cause
+halts-since old mid new halts.NoMemory same cause = tt
+
+pub halts_later : {C : Type 0} (old mid new : DeskMeaning C) (halt : Halt) → mid.log.stopped ≡ old.log.stopped → mid.log.head ≡ old.log.head → mid.log.part.id ≡ old.log.part.id → HasHalted mid new halt → HasHalted old new halt
+halts_later old mid new halt going head id halted = record {
+  stopped = halted.stopped;
+  head = halted.head ∙ head;
+  id = halted.id ∙ id;
+  cause = halts-since old mid new halt going halted.cause;
+}
+
+-- where its list ends once the message was sent
+module _ {C : Type 0} (old mid : DeskMeaning C) (request : Request) (number : ℕ) (sent : HasSentNext old mid number request) where
+  abbrev first-part : List (Pair Event)
+  first-part = added old.log sent.sent (events.Send number sent.range request) sent.entered ∷ []
+
+  sent-grown : HasGrownBy old.log mid.log first-part
+  sent-grown =
+      let one = grows_entered old.log sent.sent (events.Send number sent.range request) sent.entered refl in
+      let two : HasGrownBy sent.sent mid.log [] = grows_else sent.sent mid.log _ sent.sent.part.known sent.noted (λ k there. there) in
+      grows_both old.log sent.sent mid.log first-part [] one two
+
+  within-first : All IsInBetween (events_of first-part)
+  within-first = All-cons IsInBetween (events.Send number sent.range request) [] tt (All-nil IsInBetween)
+
+  pub ends_sent : (new : DeskMeaning C) (halt : Halt) → EndsOnly mid new halt → BreaksOff (All IsInBetween) old new halt
+  ends_sent new halt ends = breaks_only old mid new first-part sent-grown sent.limit (made_by old.log mid first-part sent.track sent-grown) (All IsInBetween) halt sent.track.given within-first ends
+
+  -- or once it was evaluated
+  pub ends_delivered : (late new : DeskMeaning C) (halt : Halt) → HasDelivered mid late → EndsOnly late new halt → BreaksOff (All IsInBetween) old new halt
+  ends_delivered late new halt delivered ends =
+      let three : HasGrownBy mid.log late.log [] = grows_else mid.log late.log mid.log.part.given late.log.part.known delivered.own delivered.more in
+      let grown = grows_both old.log mid.log late.log first-part [] sent-grown three in
+      breaks_only old late new first-part grown (delivered.limit ∙ sent.limit) (made_by old.log late first-part delivered.track grown) (All IsInBetween) halt delivered.track.given within-first ends

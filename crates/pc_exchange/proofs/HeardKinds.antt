@@ -1,0 +1,96 @@
+-- What an actor heard is of the kind that its message asks for, and whose intents it met was begun: by the fine history in which its own list
+-- stands.
+use Rattle.std.proofs.Common.{◌≡◌, ℕ, ◌≤◌, ◌+◌, ◌<◌, ◌^◌, Contains, List, [], ◌∷◌, ◌++◌, Some, sym, ap, subst, ◌∙◌, arith}
+use Rattle.std.proofs.lemmas.List.{append-nil, append_assoc}
+use Rattle.pc_base.specs.declared.actor.ActorId.TheVariants as actors
+use Rattle.pc_base.specs.declared.entry.Entry.{Entry}
+use Rattle.pc_base.specs.declared.transaction.TxnId.{TxnId}
+use Rattle.pc_base.specs.Timestamp.{greatest}
+use Rattle.pc_desk.specs.OwnLog.{IsOwnLog, LogMeaning}
+use Rattle.pc_history.specs.declared.pair.Pair.{Pair}
+use Rattle.pc_implicit.proofs.Anchored.{anchor_stays}
+use Rattle.pc_implicit.proofs.Answering.{replies_are_of_their_kind, reply_is_one}
+use Rattle.pc_implicit.proofs.Hearing.{IsSo, heard_is_so, now_is_so}
+use Rattle.pc_implicit.proofs.Holders.{anchored_begun, holder_anchored}
+use Rattle.pc_implicit.proofs.Sent.{unstaged_front}
+use Rattle.pc_implicit.proofs.Shown.{WasAnswered}
+use Rattle.pc_lists.proofs.Each.{each-contains}
+use Rattle.pc_proto.specs.declared.event.Event.{Event}
+use Rattle.pc_proto.specs.declared.meta.TxnMeta.{TxnMeta}
+use Rattle.pc_proto.specs.declared.reply.Reply.{Reply}
+use Rattle.pc_proto.specs.declared.reply.Reply.TheVariants as replies
+use Rattle.pc_range.proofs.Unstaged.{nothing_staged}
+use Rattle.pc_range.specs.Unstaged.{unstaged_run}
+use Rattle.pc_world.proofs.Kept.{run_top}
+use Rattle.pc_world.proofs.Prefixes.{run_front}
+use Rattle.pc_world.specs.After.{known_at}
+use Rattle.pc_world.specs.Answering.{MayAnswer}
+use Rattle.pc_world.specs.Committed.{anchor_in}
+use Rattle.pc_world.specs.Exchange.{IsPossibleReply}
+use Rattle.pc_world.specs.Known.{Known, known_of}
+use Rattle.pc_world.specs.Known.Traffic.{Heard}
+use Rattle.pc_world.specs.Run.{IsRun}
+use Rattle.pc_world.specs.Unstaged.{NothingIsStaged}
+
+anchor_longer : (id : TxnId) (anchor : List ℕ) (front back : List (Entry Event)) → anchor_in id front ≡ Some anchor → anchor_in id (front ++ back) ≡ Some anchor
+anchor_longer id anchor front [] is = ap (anchor_in id) (append-nil front) ∙ is
+anchor_longer id anchor front (e ∷ back) is =
+    sym (ap (anchor_in id) (append_assoc front (e ∷ []) back))
+    ∙ anchor_longer id anchor (front ++ e ∷ []) back (anchor_stays id front e anchor is)
+
+module _ {C : Type 0} (l : LogMeaning C) (log : IsOwnLog l) where
+  -- the history in which the list stands
+  abbrev pub history_of : List (Entry Event)
+  history_of = log.stands.history
+
+  pub is_run : IsRun l.head history_of
+  is_run = unstaged_run l.head history_of log.stands.fine
+
+  is_unstaged : NothingIsStaged history_of
+  is_unstaged = nothing_staged l.head history_of log.stands.fine
+
+  -- what the actor knows there is what it knows by its list
+  pub known_there : known_at l.head l.part.id history_of ≡ known_of l.part.own
+  known_there = ap known_of log.stands.list
+
+  answered : (h : Heard) → Contains (known_of l.part.own).heard h → WasAnswered l.head history_of l.part.id h.number h.request h.reply
+  answered h there =
+      each-contains (IsSo l.head history_of l.part.id) (known_at l.head l.part.id history_of).heard h (heard_is_so l.head history_of is_run l.part.id)
+      (subst (λ (k : Known). Contains k.heard h) (sym known_there) there)
+
+  answered_now : (h : Heard) → Contains (known_of l.part.own).heard_now h → WasAnswered l.head history_of l.part.id h.number h.request h.reply
+  answered_now h there =
+      each-contains (IsSo l.head history_of l.part.id) (known_at l.head l.part.id history_of).heard_now h (now_is_so l.head history_of is_run l.part.id)
+      (subst (λ (k : Known). Contains k.heard_now h) (sym known_there) there)
+
+  run_then : (h : Heard) (w : WasAnswered l.head history_of l.part.id h.number h.request h.reply) → IsRun l.head w.front
+  run_then h w = run_front l.head w.front w.back (subst (IsRun l.head) (sym w.whole) is_run)
+
+  -- a reply that was heard is one that its message may be answered by
+  pub heard_kind : (h : Heard) → Contains (known_of l.part.own).heard h → MayAnswer h.request h.reply
+  heard_kind h there =
+      let w = answered h there in
+      subst (MayAnswer h.request) (sym w.answers) (replies_are_of_their_kind l.head w.front w.range h.request (run_then h w) (unstaged_front w.front w.back (subst NothingIsStaged (sym w.whole) is_unstaged)))
+
+  -- and that some state of a range gives
+  pub heard_possible : (h : Heard) → Contains (known_of l.part.own).heard h → IsPossibleReply h.request h.reply
+  heard_possible h there =
+      let w = answered h there in
+      subst (IsPossibleReply h.request) (sym w.answers) (reply_is_one l.head w.front w.range h.request)
+
+  -- the holder of an intent that was met was begun, where it is of the actor itself
+  pub heard_begun : (session : ℕ) → l.part.id ≡ actors.Session session → (h : Heard) → Contains (known_of l.part.own).heard_now h → (holder : TxnMeta) (ts : ℕ) (key : List ℕ) → h.reply ≡ replies.Conflict holder ts key
+      → holder.id.session ≡ session → holder.id.number ≤ (known_of l.part.own).begun
+  heard_begun session whose h there holder ts key met mine =
+      let w = answered_now h there in
+      let first : anchor_in holder.id w.front ≡ Some holder.anchor = holder_anchored l.head w.front (run_then h w) w.range h.request holder ts key (sym w.answers ∙ met) in
+      let low = anchored_begun l.head history_of is_run holder.id holder.anchor (ap (anchor_in holder.id) (sym w.whole) ∙ anchor_longer holder.id holder.anchor w.front w.back first) in
+      let same : actors.Session holder.id.session ≡ l.part.id = ap (λ n. actors.Session n) mine ∙ sym whose in
+      subst (λ (k : Known). holder.id.number ≤ k.begun) (ap (λ id. known_at l.head id history_of) same ∙ known_there) low
+
+  -- what the actor knows of timestamps is below the greatest
+  pub top_below : (known_of l.part.own).top < greatest
+  top_below =
+      let top = run_top l.head l.part.id history_of is_run in
+      let short = log.stands.short in
+      subst (λ (k : Known). k.top < greatest) known_there (omega (arith, top, short))

@@ -1,0 +1,15 @@
+pub mod Aside
+pub mod Called
+pub mod Coordinator
+pub mod Ending
+pub mod Exchanging
+pub mod Finishing
+pub mod Going
+pub mod Growing
+pub mod HeardKinds
+pub mod Knowing
+pub mod Messages
+pub mod Pushed
+pub mod Rounding
+pub mod Rounds
+pub mod Timely

@@ -1,0 +1,342 @@
+-- A conflict's round, step by step: each of its messages may be sent when it is due, and what was heard is what its machine stands at.
+use Rattle.std.proofs.Common.{◌≡◌, ℕ, zero, suc, ◌+◌, ◌≤◌, Bool, true, false, ◌&&◌, inl, inr, List, [], ◌∷◌, ◌++◌, All, Any, Contains, Option, Some, None, IfSome, IsTrue, refl, sym, ap, ◌∙◌, subst, arith, count_by}
+use Rattle.std.proofs.lemmas.List.{append_assoc}
+use Rattle.std.proofs.lemmas.List.Elements.{All-cons, All-contains, All-nil, All-weaker, Contains-append_cases}
+use Rattle.std.specs.Option.{option_map_or}
+use Rattle.pc_base.specs.declared.actor.ActorId.TheVariants as actors
+use Rattle.pc_base.specs.declared.transaction.TxnId.{TxnId}
+use Rattle.pc_base.specs.declared.transaction.Who.TheVariants as whos
+use Rattle.pc_base.specs.Transaction.{same_txn}
+use Rattle.pc_coord.specs.declared.pusher.Pusher.{Pusher}
+use Rattle.pc_coord.specs.declared.round.Round.TheVariants as rounds
+use Rattle.pc_coord.specs.Knows.Sending.{IsConflictNow}
+use Rattle.pc_coord.specs.Messages.{read_at}
+use Rattle.pc_coord.specs.Pusher.{IsPusherOf}
+use Rattle.pc_coord.specs.Rounds.{EndsRound, IsRefusedRound, IsSettledRound, shows_resolve, was_met, was_pushed}
+use Rattle.pc_exchange.proofs.Aside.{open_same}
+use Rattle.pc_exchange.proofs.Going.{not_same}
+use Rattle.pc_exchange.proofs.Pushed.{push_decides}
+use Rattle.pc_exchange.proofs.Timely.{IsTimely}
+use Rattle.pc_exchange.specs.Aside.{IsAside, IsLaterAside}
+use Rattle.pc_exchange.specs.Rounding.{HasComeTo, WasPushedOnceFor}
+use Rattle.pc_lists.proofs.Counts.{count-append, count-cons, one_if}
+use Rattle.pc_lists.proofs.Same.{same_txn-self}
+use Rattle.pc_proto.specs.declared.fate.Fate.{Fate}
+use Rattle.pc_proto.specs.declared.fate.Goal.{Goal}
+use Rattle.pc_proto.specs.declared.machine.MachineNext.TheVariants as machine
+use Rattle.pc_proto.specs.declared.meta.TxnMeta.{TxnMeta}
+use Rattle.pc_proto.specs.declared.reply.Reply.{Reply}
+use Rattle.pc_proto.specs.declared.reply.Reply.TheVariants as replies
+use Rattle.pc_proto.specs.declared.request.Request.{Request}
+use Rattle.pc_proto.specs.declared.request.Request.TheVariants as requests
+use Rattle.pc_proto.specs.declared.view.View.{View}
+use Rattle.pc_proto.specs.Replies.{ConflictsWith, is_conflict_with, is_refused, view_in}
+use Rattle.pc_proto.specs.Requests.{goal_in, is_about, is_push_of, is_resolve_of, round_of}
+use Rattle.pc_proto.specs.Stamps.{goal_stamps}
+use Rattle.pc_proto.specs.Views.{fate_after, is_committed_at, is_staging_at}
+use Rattle.pc_push.specs.declared.progress.Progress.{Progress}
+use Rattle.pc_push.specs.declared.progress.Progress.TheVariants as progresses
+use Rattle.pc_push.specs.PushKnows.{Asks, AsksAt, MayPush}
+use Rattle.pc_push.specs.Pushing.{Pushing, goal_of, holder_resolve, push_of, resolve_or, round_after, round_due, round_heard}
+use Rattle.pc_world.specs.Answering.{MayAnswer}
+use Rattle.pc_world.specs.Counting.{AtLeast}
+use Rattle.pc_world.specs.Exchange.{IsPossibleReply}
+use Rattle.pc_world.specs.Follows.EarlyTell.{IsCommitKnown}
+use Rattle.pc_world.specs.Follows.Resends.{HasMoreConflicts, MayGoAgain}
+use Rattle.pc_world.specs.Known.{Known, call_in, open_txn, reading_of}
+use Rattle.pc_world.specs.Known.Traffic.{Heard, Sent}
+use Rattle.pc_world.specs.Known.Transactions.{Txn}
+use Rattle.pc_world.specs.SameRequest.{IsSameRequest}
+use Rattle.pc_world.specs.Send.Push.{goal_for}
+use Rattle.pc_world.specs.Tell.End.{shows_staging}
+use Rattle.pc_world.specs.Tell.Refusal.{is_heard}
+use Rattle.pc_world.specs.Views.{shows_committed}
+
+-- ---- counts
+
+module _ {X : Type 0} (P : X → Type 0) (p : X → Bool) where
+  count-yes : (x : X) (xs : List X) → p x ≡ true → count_by p (x ∷ xs) ≡ suc (count_by p xs)
+  count-yes x xs is = let a = count-cons p x xs in let b : one_if (p x) ≡ 1 = ap one_if is in omega (arith, a, b)
+
+  count-low : (x : X) (xs : List X) → count_by p xs ≤ count_by p (x ∷ xs)
+  count-low x xs = let a = count-cons p x xs in omega (arith, a)
+
+  -- as many as are so are counted
+  at_least-count : ((x : X) → P x → p x ≡ true) → (n : ℕ) (xs : List X) → AtLeast P n xs → n ≤ count_by p xs
+  at_least-count on zero xs h = omega arith
+  at_least-count on (suc n) [] h = absurd h
+  at_least-count on (suc n) (x ∷ xs) (inl (is, h)) = let a = at_least-count on n xs h in let b = count-yes x xs (on x is) in omega (arith, a, b)
+  at_least-count on (suc n) (x ∷ xs) (inr h) = let a = at_least-count on (suc n) xs h in let b = count-low x xs in omega (arith, a, b)
+
+  -- as many as are counted are so
+  count-at_least : ((x : X) → p x ≡ true → P x) → (n : ℕ) (xs : List X) → n ≤ count_by p xs → AtLeast P n xs
+  count-at_least on zero xs low = tt
+  count-at_least on (suc n) [] low = absurd (omega arith)
+  count-at_least on (suc n) (x ∷ xs) low = by (p x) refl (λ less. count-at_least on n xs less) (λ less. count-at_least on (suc n) xs less)
+    where
+      by : (b : Bool) → p x ≡ b → (n ≤ count_by p xs → AtLeast P n xs) → (suc n ≤ count_by p xs → AtLeast P (suc n) xs) → AtLeast P (suc n) (x ∷ xs)
+      by true is first later = inl (on x is, first (let a = count-yes x xs is in omega (arith, a, low)))
+      by false not first later = inr (later (let a = count-cons p x xs in let b : one_if (p x) ≡ 0 = ap one_if not in omega (arith, a, b, low)))
+
+same_push : (m : Pushing) (h : Heard) → IsSameRequest (push_of m) h.request → was_pushed m.holder.id h ≡ true
+same_push m h (inl same) = sym (ap (is_push_of m.holder.id) same) ∙ same_txn-self m.holder.id
+same_push m h (inr put) = absurd put
+
+same_resolve : (m : Pushing) (fate : Fate) (h : Heard) → IsSameRequest (holder_resolve m fate) h.request → shows_resolve m.holder.id h ≡ true
+same_resolve m fate h (inl same) = sym (ap (is_resolve_of m.holder.id) same) ∙ same_txn-self m.holder.id
+same_resolve m fate h (inr put) = absurd put
+
+push_settles_none : (id : TxnId) (request : Request) → IsTrue (is_push_of id request) → is_resolve_of id request ≡ false
+push_settles_none id (requests.Push holder by level now goal) is = refl
+push_settles_none id request is = absurd cc
+
+-- ---- the messages of the round
+
+-- one that is so is in front, where none behind is
+any-front : {X : Type 0} (P : X → Type 0) (xs ys : List X) → Any P (xs ++ ys) → All (λ y. P y → ⊥) ys → Any P xs
+any-front P xs ys any none =
+    elim (Contains-append_cases xs ys any.1 (any.0, any.2, any.3)) [
+      | inl front ↦ (front.0, any.1, front.1, front.2, any.4)
+      | inr behind ↦ absurd (All-contains (λ y. P y → ⊥) ys any.1 none behind any.4)
+    ]
+
+module _ (session : ℕ) (start : Known) (number : ℕ) (conflict : Reply) (reader : Option ℕ) (met : IsConflictNow start number conflict reader) where
+  -- The machine makes this round, and its holder was begun.
+  pub record IsMade (m : Pushing) : Type 0 where
+    pub holder : m.holder ≡ met.holder
+    pub begun : m.holder.id.session ≡ session → m.holder.id.number ≤ start.begun
+
+  pub push_aside : (m : Pushing) → IsMade m → IsAside session start (push_of m)
+  push_aside m made = record {
+    kind = refl;
+    begun = λ id about whose.
+        let same : m.holder.id ≡ id = cc in
+        subst (λ (id : TxnId). id.number ≤ start.begun) same (made.begun (ap (λ (id : TxnId). id.session) same ∙ whose));
+    other = λ t opened.
+        let is_t : met.t ≡ t = let both = sym met.open_is ∙ opened in cc both in
+        not_same m.holder.id t.id (λ e. met.other (sym (ap (λ (h : TxnMeta). h.id) made.holder) ∙ (e ∙ sym (ap (λ (t : Txn). t.id) is_t))));
+  }
+
+  pub resolve_aside : (m : Pushing) (fate : Fate) → IsAside session start (holder_resolve m fate)
+  resolve_aside m fate = record { kind = refl; begun = λ id about whose. absurd cc; other = λ t opened. refl }
+
+  module _ (undecided : (t : Txn) (ts : ℕ) → IsCommitKnown start t ts → ⊥) (k : Known) (last : ℕ) (later : IsLaterAside session start k last) (answered : All (λ m. IsTrue (is_heard k.heard_now m)) k.sent_now) (waiting : List (List Request)) where
+    -- what was heard since speaks of no record of the open transaction
+    heard-before : (t : Txn) → open_txn start ≡ Some t → (p : Heard → Bool) → ((h : Heard) → is_about t.id h.request ≡ false → p h ≡ false) → Any (λ h. IsTrue (p h)) k.heard → Any (λ h. IsTrue (p h)) start.heard
+    heard-before t opened p none any =
+        any-front (λ h. IsTrue (p h)) start.heard later.heard_more (subst (Any (λ h. IsTrue (p h))) later.heard any)
+        (All-weaker (λ (h : Heard). IsAside session start h.request) (λ h. IsTrue (p h) → ⊥) (λ h aside is. let no : p h ≡ false = none h (aside.other t opened) in cc) later.heard_more later.heard_aside)
+
+    not_decided : (t : Txn) (ts : ℕ) → IsCommitKnown k t ts → ⊥
+    not_decided t ts d =
+        let opened : open_txn start ≡ Some t = sym (open_same session start k last later) ∙ d.opened in
+        undecided t ts (record {
+          opened = opened;
+          asked = sym (ap call_in later.statement) ∙ d.asked;
+          why = elim d.why [
+            | inl was ↦ inl (heard-before t opened (shows_committed t.id ts) (λ h none. ap (λ b. b && option_map_or (is_committed_at ts) (view_in h.reply) false) none) was)
+            | inr implicit ↦ inr (record { staging = heard-before t opened (shows_staging t.id t.epoch ts) (λ h none. ap (λ b. b && option_map_or (is_staging_at t.epoch ts) (view_in h.reply) false) none) implicit.staging; proved = implicit.proved })
+          ];
+        })
+
+    in_call : k.statement ≡ Some met.s
+    in_call = later.statement ∙ met.opened
+
+    timely : (request : Request) (id : TxnId) → round_of request ≡ Some id → HasMoreConflicts k request id → IsTimely k waiting request
+    timely request id round more = record {
+      undecided = not_decided;
+      again = λ s opened any. (
+        All-weaker (λ (m : Sent). IsTrue (is_heard k.heard_now m)) (λ (m : Sent). IsSameRequest request m.request → IsTrue (is_heard k.heard_now m)) (λ m heard same. heard) k.sent_now answered,
+        subst (MayGoAgain k request) (sym round) more,
+      );
+      kind = λ s opened. inr (id, round);
+      due = λ none. let both = sym in_call ∙ none in absurd cc;
+    }
+
+    -- more conflicts with the holder were heard than pushes of it
+    pub push_timely : (m : Pushing) → IsMade m → k.heard_now ≡ start.heard_now → IsTimely k waiting (push_of m)
+    push_timely m made same =
+        let id = m.holder.id in
+        let is : id ≡ met.holder.id = ap (λ (h : TxnMeta). h.id) made.holder in
+        let low : count_by (was_pushed id) start.heard_now + 1 ≤ count_by (was_met id) start.heard_now =
+        subst (λ id. count_by (was_pushed id) start.heard_now + 1 ≤ count_by (was_met id) start.heard_now) (sym is) met.pushes in
+        timely (push_of m) id refl (λ n many.
+        let a : n ≤ count_by (was_pushed id) k.heard_now = at_least-count (λ h. IsSameRequest (push_of m) h.request) (was_pushed id) (same_push m) n k.heard_now many in
+        let b : count_by (was_pushed id) k.heard_now ≡ count_by (was_pushed id) start.heard_now = ap (count_by (was_pushed id)) same in
+        let d : count_by (was_met id) k.heard_now ≡ count_by (was_met id) start.heard_now = ap (count_by (was_met id)) same in
+        count-at_least (λ h. IsTrue (is_conflict_with id h.reply)) (was_met id) (λ h is. is) (n + 1) k.heard_now (omega (arith, a, b, d, low)))
+
+    -- and than settlings of its intents
+    pub resolve_timely : (m : Pushing) (fate : Fate) → IsMade m → WasPushedOnceFor m.holder.id m.goal fate start k → IsTimely k waiting (holder_resolve m fate)
+    resolve_timely m fate made was =
+        let id = m.holder.id in
+        let is : id ≡ met.holder.id = ap (λ (h : TxnMeta). h.id) made.holder in
+        let low : count_by (was_pushed id) start.heard_now + 1 ≤ count_by (was_met id) start.heard_now =
+        subst (λ id. count_by (was_pushed id) start.heard_now + 1 ≤ count_by (was_met id) start.heard_now) (sym is) met.pushes in
+        let few : count_by (shows_resolve id) start.heard_now ≤ count_by (was_pushed id) start.heard_now =
+        subst (λ id. count_by (shows_resolve id) start.heard_now ≤ count_by (was_pushed id) start.heard_now) (sym is) met.resolves in
+        timely (holder_resolve m fate) id refl (λ n many.
+        let a : n ≤ count_by (shows_resolve id) k.heard_now = at_least-count (λ h. IsSameRequest (holder_resolve m fate) h.request) (shows_resolve id) (same_resolve m fate) n k.heard_now many in
+        let on : (p : Heard → Bool) → count_by p k.heard_now ≡ count_by p start.heard_now + one_if (p was.push) = λ p.
+        let e : count_by p k.heard_now ≡ count_by p (start.heard_now ++ was.push ∷ []) = ap (count_by p) was.more in
+        omega (arith, e, count-append p start.heard_now (was.push ∷ []), count-cons p was.push []) in
+        let b : one_if (shows_resolve id was.push) ≡ 0 = ap one_if (push_settles_none id was.push.request was.pushed) in
+        count-at_least (λ h. IsTrue (is_conflict_with id h.reply)) (was_met id) (λ h is. is) (n + 1) k.heard_now (omega (arith, a, b, on (shows_resolve id), on (was_met id), low, few)))
+
+-- ---- the machine's beginning
+
+goal_reads : (request : Request) → goal_of (read_at request) ≡ goal_for request
+goal_reads (requests.Get id epoch seq ts key) = refl
+goal_reads (requests.Scan id epoch seq ts span) = refl
+goal_reads request = refl
+
+low_goal : (reader : Option ℕ) (top : ℕ) → IfSome reader (λ ts. ts ≤ top) → All (λ ts. ts ≤ top + 1) (goal_stamps (goal_of reader))
+low_goal None top low = All-nil (λ ts. ts ≤ top + 1)
+low_goal (Some ts) top low = All-cons (λ ts. ts ≤ top + 1) (ts + 1) [] (omega (arith, low)) (All-nil (λ ts. ts ≤ top + 1))
+
+-- the session may push the holder
+pub may_push : (session : ℕ) (k : Known) (number : ℕ) (conflict : Reply) (reader : Option ℕ) (met : IsConflictNow k number conflict reader) (pusher : Pusher) (reading : ℕ) → IsPusherOf k (Some pusher) → reading_of k ≡ Some reading
+    → (m : Pushing) → m.holder ≡ met.holder → m.by ≡ whos.Txn pusher.id → m.level ≡ pusher.level → m.reading ≡ reading → m.goal ≡ goal_of reader → MayPush (actors.Session session) k m
+may_push session k number conflict reader met pusher reading pushes read m holder by level now goal =
+    let who : record { id = met.t.id; level = met.t.priority } ≡ pusher = let both = pushes met.t met.open_is in cc both in
+    let goal_is : m.goal ≡ goal_for met.h.request = goal ∙ (ap goal_of met.reads ∙ goal_reads met.h.request) in
+    let holds : ConflictsWith m.holder met.h.reply = subst (ConflictsWith m.holder) (sym (met.told ∙ met.is)) (sym holder) in
+    record {
+      row = record {
+        t = met.t;
+        opened = met.open_is;
+        conflict = (met.there.0, met.h, met.there.1, met.there.2, record { conflict = holds; for = goal_is });
+        whose = by ∙ sym (ap (λ (p : Pusher). whos.Txn p.id) who);
+        own_level = level ∙ sym (ap (λ (p : Pusher). p.level) who);
+        read_now = read ∙ sym (ap (λ (n : ℕ). Some n) now);
+      };
+      stamps = subst (λ g. All (λ ts. ts ≤ k.top + 1) (goal_stamps g)) (sym goal) (low_goal reader k.top met.low);
+    }
+
+-- ---- its steps
+
+-- what it asks for
+pub sends_asks : (p : Progress) (m : Pushing) (request : Request) → round_due p m ≡ machine.Send request → AsksAt p m request
+sends_asks progresses.Push m request is = cc
+sends_asks progresses.Refused m request is = absurd cc
+sends_asks (progresses.Unsure view) m request is = absurd cc
+sends_asks (progresses.Resolve fate) m request is = cc
+sends_asks progresses.Over m request is = absurd cc
+
+module _ (m : Pushing) (start k later : Known) (h : Heard) (more : later.heard_now ≡ k.heard_now ++ h ∷ []) where
+  status_come : (view : View) (fate : Option Fate) → fate_after m.goal view ≡ fate → (fate_after m.goal view ≡ None → ⊥) → k.heard_now ≡ start.heard_now → h.request ≡ push_of m → h.reply ≡ replies.Status view
+      → HasComeTo (resolve_or fate progresses.Push) m start later
+  status_come view None is not same asked told = absurd (not is)
+  status_come view (Some fate) is not same asked told = record {
+    push = h;
+    view = view;
+    more = more ∙ ap (λ l. l ++ h ∷ []) same;
+    pushed = ap (is_push_of m.holder.id) asked ∙ same_txn-self m.holder.id;
+    aims = ap goal_in asked;
+    told = told;
+    left = is;
+  }
+
+  come_push : (reply : Reply) → h.reply ≡ reply → k.heard_now ≡ start.heard_now → h.request ≡ push_of m → MayAnswer (push_of m) reply → IsPossibleReply (push_of m) reply → HasComeTo (round_heard progresses.Push reply m).progress m start later
+  come_push (replies.Status view) told same asked may is = status_come view (fate_after m.goal view) refl (push_decides m view is) same asked told
+  come_push (replies.Refused view) told same asked may is =
+      let pushed : is_push_of m.holder.id h.request ≡ true = ap (is_push_of m.holder.id) asked ∙ same_txn-self m.holder.id in
+      record {
+        push = h;
+        more = more ∙ ap (λ l. l ++ h ∷ []) same;
+        refused = ap (λ r. is_push_of m.holder.id h.request && is_refused r) told ∙ (ap (λ b. b && true) pushed);
+      }
+  come_push reply told same asked may is = absurd may
+
+  come_resolve : (reply : Reply) (fate : Fate) → h.reply ≡ reply → WasPushedOnceFor m.holder.id m.goal fate start k → h.request ≡ holder_resolve m fate → MayAnswer (holder_resolve m fate) reply → IsSettledRound m.holder.id m.key start later
+  come_resolve replies.Resolved fate told was asked may = record {
+    push = was.push;
+    view = was.view;
+    goal = m.goal;
+    fate = fate;
+    resolve = h;
+    more = more ∙ (ap (λ l. l ++ h ∷ []) was.more ∙ append_assoc start.heard_now (was.push ∷ []) (h ∷ []));
+    pushed = was.pushed;
+    aims = was.aims;
+    told = was.told;
+    left = was.left;
+    resolved = record { asked = asked; told = told };
+  }
+  come_resolve reply fate told was asked may = absurd may
+
+  come_by : (p : Progress) → HasComeTo p m start k → AsksAt p m h.request → MayAnswer h.request h.reply → IsPossibleReply h.request h.reply → HasComeTo (round_heard p h.reply m).progress m start later
+  come_by progresses.Push come asks may is =
+      come_push h.reply refl come asks (subst (λ q. MayAnswer q h.reply) asks may) (subst (λ q. IsPossibleReply q h.reply) asks is)
+  come_by progresses.Refused come asks may is = absurd asks
+  come_by (progresses.Unsure view) come asks may is = absurd come
+  come_by (progresses.Resolve fate) come asks may is = come_resolve h.reply fate refl come asks (subst (λ q. MayAnswer q h.reply) asks may)
+  come_by progresses.Over come asks may is = absurd asks
+
+  restood : (p progress : Progress) → HasComeTo p m start later → HasComeTo p (record m { progress = progress }) start later
+  restood progresses.Push progress come = come
+  restood progresses.Refused progress come = come
+  restood (progresses.Unsure view) progress come = come
+  restood (progresses.Resolve fate) progress come = come
+  restood progresses.Over progress come = come
+
+  on_itself : (p : Progress) (reply : Reply) → HasComeTo (round_heard p reply m).progress m start later → HasComeTo (round_heard p reply m).progress (round_heard p reply m) start later
+  on_itself progresses.Push reply come = restood (round_heard progresses.Push reply m).progress (round_heard progresses.Push reply m).progress come
+  on_itself progresses.Refused reply come = come
+  on_itself (progresses.Unsure view) reply come = restood (round_heard (progresses.Unsure view) reply m).progress (round_heard (progresses.Unsure view) reply m).progress come
+  on_itself (progresses.Resolve fate) reply come = restood progresses.Over progresses.Over come
+  on_itself progresses.Over reply come = come
+
+  -- after the reply to what it asked for it stands at what was heard
+  pub come_on : HasComeTo m.progress m start k → Asks m h.request → MayAnswer h.request h.reply → IsPossibleReply h.request h.reply → HasComeTo (round_after h.reply m).progress (round_after h.reply m) start later
+  come_on come asks may is = on_itself m.progress h.reply (come_by m.progress come asks may is)
+
+-- it stays the round of its conflict
+same_round : (p : Progress) (reply : Reply) (m : Pushing) → ((round_heard p reply m).holder ≡ m.holder) × ((round_heard p reply m).key ≡ m.key)
+same_round progresses.Push reply m = (refl, refl)
+same_round progresses.Refused reply m = (refl, refl)
+same_round (progresses.Unsure view) reply m = (refl, refl)
+same_round (progresses.Resolve fate) reply m = (refl, refl)
+same_round progresses.Over reply m = (refl, refl)
+
+pub round_same : (reply : Reply) (m : Pushing) → ((round_after reply m).holder ≡ m.holder) × ((round_after reply m).key ≡ m.key)
+round_same reply m = same_round m.progress reply m
+
+-- ---- its end
+
+-- The machine makes the round of this conflict.
+abbrev pub IsOfConflict : Reply → Pushing → Type 0
+IsOfConflict (replies.Conflict holder ts key) m = (m.holder ≡ holder) × (m.key ≡ key)
+IsOfConflict _ m = ⊥
+
+pub of_conflict : (conflict : Reply) (m : Pushing) (holder : TxnMeta) (ts : ℕ) (key : List ℕ) → conflict ≡ replies.Conflict holder ts key → m.holder ≡ holder → m.key ≡ key → IsOfConflict conflict m
+of_conflict conflict m holder ts key is one two = subst (λ r. IsOfConflict r m) (sym is) (one, two)
+
+-- a refused push ends it so
+pub ends_refused : (conflict : Reply) (m : Pushing) (start k : Known) → IsOfConflict conflict m → IsRefusedRound m.holder.id start k → EndsRound conflict rounds.Refused start k
+ends_refused (replies.Conflict holder ts key) m start k of ended = subst (λ (h : TxnMeta). IsRefusedRound h.id start k) of.0 ended
+ends_refused conflict m start k of ended = absurd of
+
+-- and the settling of the intent so
+pub ends_settled : (conflict : Reply) (m : Pushing) (start k : Known) → IsOfConflict conflict m → IsSettledRound m.holder.id m.key start k → EndsRound conflict rounds.Again start k
+ends_settled (replies.Conflict holder ts key) m start k of ended =
+    subst (λ key. IsSettledRound holder.id key start k) of.1 (subst (λ (h : TxnMeta). IsSettledRound h.id m.key start k) of.0 ended)
+ends_settled conflict m start k of ended = absurd of
+
+pub at_refused : (p : Progress) (m : Pushing) (id : TxnId) (start k : Known) → round_due p m ≡ machine.Refused id → HasComeTo p m start k → IsRefusedRound m.holder.id start k
+at_refused progresses.Refused m id start k is come = come
+at_refused p m id start k is come = absurd cc
+
+pub at_finished : (p : Progress) (m : Pushing) (start k : Known) → round_due p m ≡ machine.Finished → HasComeTo p m start k → IsSettledRound m.holder.id m.key start k
+at_finished progresses.Over m start k is come = come
+at_finished p m start k is come = absurd cc
+
+pub at_settled : (p : Progress) (m : Pushing) (view : View) (start k : Known) → round_due p m ≡ machine.Settled view → HasComeTo p m start k → ⊥
+at_settled (progresses.Unsure met) m view start k is come = come
+at_settled p m view start k is come = cc
+
+pub at_changed : (p : Progress) (m : Pushing) (view : View) → round_due p m ≡ machine.Changed view → ⊥
+at_changed progresses.Push m view is = cc
+at_changed progresses.Refused m view is = cc
+at_changed (progresses.Unsure met) m view is = cc
+at_changed (progresses.Resolve fate) m view is = cc
+at_changed progresses.Over m view is = cc

@@ -1,0 +1,190 @@
+-- A session makes a conflict's round: how it begins, what each exchange of its machine leaves, and how it ends.
+use Rattle.std.proofs.Common.{◌≡◌, ℕ, ◌≤◌, ◌<◌, max, true, List, [], ◌∷◌, ◌++◌, Option, Some, None, IfSome, refl, sym, ap, ◌∙◌, subst, arith}
+use Rattle.pc_base.specs.declared.actor.ActorId.{ActorId}
+use Rattle.pc_base.specs.declared.actor.ActorId.TheVariants as actors
+use Rattle.pc_base.specs.declared.transaction.TxnId.{TxnId}
+use Rattle.pc_base.specs.declared.transaction.Who.TheVariants as whos
+use Rattle.pc_base.specs.Timestamp.{greatest}
+use Rattle.pc_coord.specs.declared.pusher.Pusher.{Pusher}
+use Rattle.pc_coord.specs.declared.round.Round.{Round}
+use Rattle.pc_coord.specs.declared.round.Round.TheVariants as rounds
+use Rattle.pc_coord.specs.Rounds.{EndsRound}
+use Rattle.pc_desk.specs.Desk.{DeskMeaning}
+use Rattle.pc_exchange.proofs.Aside.{aside_none, goes_on_beside, left_still}
+use Rattle.pc_exchange.proofs.Called.{all_heard_in_call}
+use Rattle.pc_exchange.proofs.Coordinator.{counted_met}
+use Rattle.pc_exchange.proofs.Going.{answered_by, aside_by, goes_both, goes_none, heard_now_by, jobs_by, part_by, reply_by}
+use Rattle.pc_exchange.proofs.HeardKinds.{heard_begun, top_below}
+use Rattle.pc_exchange.proofs.Messages.{left_by_exchange}
+use Rattle.pc_exchange.proofs.Rounding.{IsMade, at_changed, at_finished, at_refused, at_settled, come_on, ends_refused, ends_settled, may_push, of_conflict, push_aside, push_timely, resolve_aside, resolve_timely, round_same, sends_asks}
+use Rattle.pc_exchange.proofs.Timely.{IsTimely, may_exchange}
+use Rattle.pc_exchange.specs.Aside.{IsAside, IsLaterAside}
+use Rattle.pc_exchange.specs.Exchange.{MayExchangeNow, WasExchanged}
+use Rattle.pc_exchange.specs.Growing.{HasGoneBeside}
+use Rattle.pc_exchange.specs.Rounding.{HasComeTo, IsRoundUnderWay}
+use Rattle.pc_exchange.specs.Rounds.{HasMadeRoundOf, MayMakeRound}
+use Rattle.pc_history.specs.declared.pair.Pair.{Pair}
+use Rattle.pc_proto.specs.declared.event.Event.{Event}
+use Rattle.pc_proto.specs.declared.machine.MachineNext.{MachineNext}
+use Rattle.pc_proto.specs.declared.machine.MachineNext.TheVariants as machine
+use Rattle.pc_proto.specs.declared.meta.TxnMeta.{TxnMeta}
+use Rattle.pc_proto.specs.declared.reply.Reply.{Reply}
+use Rattle.pc_proto.specs.declared.reply.Reply.TheVariants as replies
+use Rattle.pc_proto.specs.declared.request.Request.{Request}
+use Rattle.pc_proto.specs.declared.view.View.{View}
+use Rattle.pc_proto.specs.Replies.{is_conflict}
+use Rattle.pc_proto.specs.Stamps.{greatest_of, reply_stamps}
+use Rattle.pc_push.specs.declared.progress.Progress.{Progress}
+use Rattle.pc_push.specs.declared.progress.Progress.TheVariants as progresses
+use Rattle.pc_push.specs.PushKnows.{Asks, AsksAt, MayPush, PushKnows, RoundMayCome}
+use Rattle.pc_push.specs.Pushing.{IsStart, Pushing, goal_of, round_after, round_next as next_due}
+use Rattle.pc_world.specs.Exchange.{IsAllowed, IsPossibleReply, WasAnswered}
+use Rattle.pc_world.specs.Follows.FinishingJobs.{jobs_of}
+use Rattle.pc_world.specs.Known.{Known, known_of}
+
+module _ {C : Type 0} (old : DeskMeaning C) (pusher : Pusher) (reading : ℕ) (conflict : Reply) (reader : Option ℕ) (start : MayMakeRound old pusher reading conflict reader) where
+  -- what the machine's beginning requires
+  pub is_conflict_met : is_conflict conflict ≡ true
+  is_conflict_met = ap is_conflict start.met.is
+
+  pub reader_below : IfSome reader (λ ts. ts < greatest)
+  reader_below = by reader start.met.low
+    where
+      by : (reader : Option ℕ) → IfSome reader (λ ts. ts ≤ (known_of old.log.part.own).top) → IfSome reader (λ ts. ts < greatest)
+      by None low = tt
+      by (Some ts) low = let top = top_below old.log start.back.track.log in omega (arith, low, top)
+
+  -- it begins
+  pub round_begins : (m : Pushing) → IsStart conflict (whos.Txn pusher.id) pusher.level reading reader m
+      → ((actor : ActorId) (k : Known) → MayPush actor k m → PushKnows actor k k m) → IsRoundUnderWay old pusher reading conflict reader m old 0
+  round_begins m begins knows =
+      let k = known_of old.log.part.own in
+      let met = start.met in
+      let made : m ≡ record { holder = met.holder; key = met.key; by = whos.Txn pusher.id; level = pusher.level; reading = reading; goal = goal_of reader; progress = progresses.Push } =
+      subst (λ reply. IsStart reply (whos.Txn pusher.id) pusher.level reading reader m) met.is begins in
+      let holder : m.holder ≡ met.holder = ap (λ (m : Pushing). m.holder) made in
+      record {
+        start = start;
+        part = [];
+        goes = goes_none old start.back;
+        aside = aside_none start.session k;
+        jobs = refl;
+        knows = knows (actors.Session start.session) k (may_push start.session k start.number conflict reader met pusher reading start.pushes start.read m holder
+            (ap (λ (m : Pushing). m.by) made) (ap (λ (m : Pushing). m.level) made) (ap (λ (m : Pushing). m.reading) made) (ap (λ (m : Pushing). m.goal) made));
+        come = subst (λ p. HasComeTo p m k k) (sym (ap (λ (m : Pushing). m.progress) made)) refl;
+        holder = holder;
+        key = ap (λ (m : Pushing). m.key) made;
+      }
+
+module _ {C : Type 0} (old : DeskMeaning C) (pusher : Pusher) (reading : ℕ) (conflict : Reply) (reader : Option ℕ) (m : Pushing) (d : DeskMeaning C) (ts : ℕ) (r : IsRoundUnderWay old pusher reading conflict reader m d ts) where
+  -- What the session knew when the round began, and what it knows now.
+  abbrev start_known : Known
+  start_known = known_of old.log.part.own
+
+  abbrev now_known : Known
+  now_known = known_of d.log.part.own
+
+  whose : d.log.part.id ≡ actors.Session r.start.session
+  whose = ap (λ l. l.part.id) r.goes.grown.rest ∙ r.start.whose
+
+  made_it : IsMade r.start.session start_known r.start.number conflict reader r.start.met m
+  made_it = record {
+    holder = r.holder;
+    begun = λ mine.
+        let id : m.holder.id ≡ r.start.met.holder.id = ap (λ (h : TxnMeta). h.id) r.holder in
+        subst (λ id. id.number ≤ start_known.begun) (sym id)
+        (heard_begun old.log r.start.back.track.log r.start.session r.start.whose r.start.met.h r.start.met.there r.start.met.holder r.start.met.ts r.start.met.key (r.start.met.told ∙ r.start.met.is)
+        (ap (λ id. id.session) (sym id) ∙ mine));
+  }
+
+  asked_by : (p : Progress) (request : Request) → HasComeTo p m start_known now_known → AsksAt p m request → IsAside r.start.session start_known request × IsTimely now_known (jobs_of d.log.part.own) request
+  asked_by progresses.Push request come asks =
+      subst (λ q. IsAside r.start.session start_known q × IsTimely now_known (jobs_of d.log.part.own) q) (sym asks) (
+        push_aside r.start.session start_known r.start.number conflict reader r.start.met m made_it,
+        push_timely r.start.session start_known r.start.number conflict reader r.start.met r.start.undecided now_known ts r.aside (all_heard_in_call d r.goes.back) (jobs_of d.log.part.own) m made_it come,
+      )
+  asked_by progresses.Refused request come asks = absurd asks
+  asked_by (progresses.Unsure view) request come asks = absurd come
+  asked_by (progresses.Resolve fate) request come asks =
+      subst (λ q. IsAside r.start.session start_known q × IsTimely now_known (jobs_of d.log.part.own) q) (sym asks) (
+        resolve_aside r.start.session start_known r.start.number conflict reader r.start.met m fate,
+        resolve_timely r.start.session start_known r.start.number conflict reader r.start.met r.start.undecided now_known ts r.aside (all_heard_in_call d r.goes.back) (jobs_of d.log.part.own) m fate made_it come,
+      )
+  asked_by progresses.Over request come asks = absurd asks
+
+  -- what it gives to be sent is what it asks for
+  pub given_asks : (given : MachineNext) (request : Request) → given ≡ next_due m → given ≡ machine.Send request → Asks m request
+  given_asks given request due is = sends_asks m.progress m request (sym due ∙ is)
+
+  -- and may be exchanged
+  pub round_asks : (given : MachineNext) (request : Request) → given ≡ next_due m → given ≡ machine.Send request
+      → ((splits : List (List ℕ)) (actor : ActorId) (start k : Known) → PushKnows actor start k m → RoundMayCome splits actor start k m given) → MayExchangeNow d request
+  round_asks given request due is may =
+      let asks = given_asks given request due is in
+      let both = asked_by m.progress request r.come asks in
+      let allowed : IsAllowed d.log.head.splits (actors.Session r.start.session) now_known request =
+      subst (RoundMayCome d.log.head.splits (actors.Session r.start.session) start_known now_known m) is (may d.log.head.splits (actors.Session r.start.session) start_known now_known r.knows) in
+      may_exchange d r.start.session request r.goes.back whose both.0.kind allowed both.1
+
+  module _ (next : Pushing) (new : DeskMeaning C) (request : Request) (reply : Reply) (asks : Asks m request) (x : WasExchanged d new request reply) where
+    still_jobs : left_by_exchange now_known.statement (jobs_of d.log.part.own) ≡ jobs_of d.log.part.own
+    still_jobs = ap (λ s. left_by_exchange s (jobs_of d.log.part.own)) (r.aside.statement ∙ r.start.met.opened)
+
+    -- one exchange more
+    pub round_on : next ≡ round_after reply m
+        → ((actor : ActorId) (start k later : Known) (request : Request) → PushKnows actor start k m → Asks m request → WasAnswered k later request reply → IsPossibleReply request reply → PushKnows actor start later next)
+        → IsRoundUnderWay old pusher reading conflict reader next new (max ts (greatest_of (reply_stamps reply)))
+    round_on made knows =
+        let aside = (asked_by m.progress request r.come asks).0 in
+        let same = round_same reply m in
+        let k = known_of new.log.part.own in
+        record {
+          start = r.start;
+          part = r.part ++ part_by d new request reply x;
+          goes = goes_both old d new r.part (part_by d new request reply x) r.goes x.goes;
+          aside = aside_by d new request reply r.goes.back x r.start.session start_known ts r.aside aside;
+          jobs = jobs_by d new request reply x ∙ (still_jobs ∙ r.jobs);
+          knows = knows (actors.Session r.start.session) start_known now_known k request r.knows asks (answered_by d new request reply r.goes.back x) x.possible;
+          come = subst (λ (m : Pushing). HasComeTo m.progress m start_known k) (sym made)
+              (come_on m start_known now_known k (reply_by d new request reply x) (heard_now_by d new request reply r.goes.back x aside.kind) r.come asks x.kind x.possible);
+          holder = ap (λ (m : Pushing). m.holder) made ∙ (same.0 ∙ r.holder);
+          key = ap (λ (m : Pushing). m.key) made ∙ (same.1 ∙ r.key);
+        }
+
+  -- ---- its end
+
+  made_round : (round : Round) → EndsRound conflict round start_known now_known → HasMadeRoundOf old d conflict round ts
+  made_round round ends = record {
+    session = r.start.session;
+    whose = r.start.whose;
+    part = r.part;
+    goes = r.goes;
+    made = record {
+      ends = ends;
+      aside = r.aside;
+      left = left_still r.start.session start_known now_known ts r.aside;
+      beside = λ c number reader same knows next. goes_on_beside r.start.session start_known now_known ts r.aside c same (counted_met c start_known number conflict reader knows next);
+    };
+    jobs = r.jobs;
+  }
+
+  -- its push was refused
+  pub round_refused : (given : MachineNext) (id : TxnId) → given ≡ next_due m → given ≡ machine.Refused id → HasMadeRoundOf old d conflict rounds.Refused ts
+  round_refused given id due is =
+      made_round rounds.Refused
+      (ends_refused conflict m start_known now_known (of_conflict conflict m r.start.met.holder r.start.met.ts r.start.met.key r.start.met.is r.holder r.key)
+      (at_refused m.progress m id start_known now_known (sym due ∙ is) r.come))
+
+  -- or its intent was settled
+  pub round_settled : (given : MachineNext) → given ≡ next_due m → given ≡ machine.Finished → HasMadeRoundOf old d conflict rounds.Again ts
+  round_settled given due is =
+      made_round rounds.Again
+      (ends_settled conflict m start_known now_known (of_conflict conflict m r.start.met.holder r.start.met.ts r.start.met.key r.start.met.is r.holder r.key)
+      (at_finished m.progress m start_known now_known (sym due ∙ is) r.come))
+
+  -- it asks for no recovery
+  pub never_settled : (given : MachineNext) (view : View) → given ≡ next_due m → given ≡ machine.Settled view → ⊥
+  never_settled given view due is = at_settled m.progress m view start_known now_known (sym due ∙ is) r.come
+
+  pub never_changed : (given : MachineNext) (view : View) → given ≡ next_due m → given ≡ machine.Changed view → ⊥
+  never_changed given view due is = at_changed m.progress m view (sym due ∙ is)

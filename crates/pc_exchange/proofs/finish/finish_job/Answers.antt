@@ -1,0 +1,29 @@
+use Rattle.std.proofs.Common.{rules, ◌≡◌, max, refl, sym, subst, ◌∙◌}
+use Rattle.std.proofs.lemmas.Result.{err_from_is_err_and}
+use Rattle.pc_exchange.proofs.Ending.{goes_breaks}
+use Rattle.pc_exchange.proofs.Finishing.{finishing_asks, finishing_begins, finishing_ends}
+use Rattle.pc_exchange.specs.Finishing.{IsJobUnderWay}
+use Rattle.pc_exchange.proofs.finish.finish_job.Goals as goal
+
+pub loop-init : goal.loop-init
+loop-init g c = (finishing_begins c.args.desk.now c.args.job c.new-machine.result c.requires c.new-machine.ensures.made c.new-machine.ensures.knows, refl)
+
+pub settle_on-requires : goal.settle_on-requires
+settle_on-requires g c =
+    finishing_asks c.args.desk.now c.args.job c.loop.machine c.loop.desk c.loop.heard c.loop.invariant.0 c.in-Ok.next c.in-Send.request c.in-Ok.ensures.due c.in-Send.is c.in-Ok.ensures.may
+
+pub returns-in-Finished-clause-ok : goal.returns-in-Finished-clause-ok
+returns-in-Finished-clause-ok g c = finishing_ends c.args.desk.now c.args.job c.loop.machine c.loop.desk c.loop.heard c.loop.invariant.0 (sym c.in-Ok.ensures.due ∙ c.in-Finished.is)
+
+pub loop-preserved : goal.loop-preserved
+loop-preserved g c =
+    let last : c.max-heard.result ≡ max c.loop.heard c.in_ok-last-in-Send.last = search rules in (
+      subst (λ n. IsJobUnderWay c.args.desk.now c.args.job c.settle_on.new.machine c.settle_on.new.desk n) (sym last)
+          (c.in_ok-last-in-Send.ensures.ok c.args.desk.now c.args.job c.loop.heard c.loop.invariant.0 (sym c.in-Ok.ensures.due ∙ c.in-Send.is)),
+      c.in_ok-last-in-Send.ensures.clock ∙ c.loop.invariant.1,
+    )
+
+pub returns-in_err-last-clause-ended : goal.returns-in_err-last-clause-ended
+returns-in_err-last-clause-ended g c =
+    let p = err_from_is_err_and c.from_residual.result c.from_residual.ensures.1 in
+    rw (p.1, p.2) (goes_breaks c.args.desk.now c.loop.desk c.settle_on.new.desk c.loop.invariant.0.part c.in_err-last.field-0.0 c.loop.invariant.0.goes c.in_err-last.ensures.ended)

@@ -1,0 +1,36 @@
+-- How an actor's list breaks off in the middle of what it did: it made some entries, and then its list had ended.
+use Rattle.std.specs.Prelude.{◌≡◌, false, true, ◌⊎◌, None, List, ◌++◌, All, Contains}
+use Rattle.pc_desk.specs.declared.halt.Halt.{Halt}
+use Rattle.pc_desk.specs.Desk.{DeskMeaning, GivesOnce}
+use Rattle.pc_desk.specs.Ending.{IsAtFullRange, IsAtOwnEnd, IsEndedBy}
+use Rattle.pc_history.specs.declared.pair.Pair.{Pair}
+use Rattle.pc_history.specs.declared.view.Known.{Known as KnownEntry}
+use Rattle.pc_history.specs.Parts.{knowledge}
+use Rattle.pc_proto.specs.declared.event.Event.{Event}
+use Rattle.pc_turns.specs.Clients.{RisesFrom}
+use Rattle.pc_turns.specs.Laws.{AreAboveKnown}
+use Rattle.pc_turns.specs.Order.{events_of}
+
+-- The actor made these entries, whose events are so, and then no more: its list has ended.
+pub record HasBrokenOff {C : Type 0} (Are : List Event → Type 0) (old new : DeskMeaning C) : Type 0 where
+  pub part : List (Pair Event)
+  pub own : new.log.part.own ≡ old.log.part.own ++ part
+  pub whose : All (λ p. p.entry.actor ≡ old.log.part.id) part
+  pub rises : RisesFrom 0 part
+  pub above : AreAboveKnown (knowledge old.log.part) part
+  pub are : Are (events_of part)
+  pub known : (k : KnownEntry Event) → Contains old.log.part.known k → Contains new.log.part.known k
+  pub rest :
+      new.log ≡ record old.log {
+        part = record old.log.part { own = new.log.part.own; given = new.log.part.given; known = new.log.part.known };
+        spare = new.log.spare;
+        clock = new.log.clock;
+        stopped = true;
+      }
+  pub limit : new.range_limit ≡ old.range_limit
+  pub given : GivesOnce new.log.part
+  pub end : IsAtOwnEnd new ⊎ IsAtFullRange new
+
+-- Where it had not stopped, and no entry is stated at which it stops: its list broke off so, or memory was wanted.
+abbrev pub BreaksOff : {C : Type 0} → (List Event → Type 0) → DeskMeaning C → DeskMeaning C → Halt → Type 0
+BreaksOff Are old new halt = old.log.stopped ≡ false → old.log.stop ≡ None → IsEndedBy halt (HasBrokenOff Are old new)

@@ -1,0 +1,9 @@
+-- What a session does beside its coordinator, one message after another.
+pub mod Aside
+pub mod Ending
+pub mod Exchange
+pub mod Finishing
+pub mod Growing
+pub mod Jobs
+pub mod Rounding
+pub mod Rounds

@@ -1,0 +1,56 @@
+-- How far a conflict's round has come.
+use Rattle.std.specs.Prelude.{◌≡◌, ℕ, Option, Some, List, [], ◌∷◌, ◌++◌, IsTrue}
+use Rattle.pc_base.specs.declared.actor.ActorId.TheVariants as actors
+use Rattle.pc_base.specs.declared.transaction.TxnId.{TxnId}
+use Rattle.pc_coord.specs.declared.pusher.Pusher.{Pusher}
+use Rattle.pc_coord.specs.Rounds.{IsRefusedRound, IsSettledRound}
+use Rattle.pc_desk.specs.Desk.{DeskMeaning}
+use Rattle.pc_exchange.specs.Aside.{IsLaterAside}
+use Rattle.pc_exchange.specs.Growing.{HasGoneBeside}
+use Rattle.pc_exchange.specs.Rounds.{MayMakeRound}
+use Rattle.pc_history.specs.declared.pair.Pair.{Pair}
+use Rattle.pc_proto.specs.declared.event.Event.{Event}
+use Rattle.pc_proto.specs.declared.fate.Fate.{Fate}
+use Rattle.pc_proto.specs.declared.fate.Goal.{Goal}
+use Rattle.pc_proto.specs.declared.reply.Reply.{Reply}
+use Rattle.pc_proto.specs.declared.reply.Reply.TheVariants as replies
+use Rattle.pc_proto.specs.declared.view.View.{View}
+use Rattle.pc_proto.specs.Requests.{goal_in, is_push_of}
+use Rattle.pc_proto.specs.Views.{fate_after}
+use Rattle.pc_push.specs.declared.progress.Progress.{Progress}
+use Rattle.pc_push.specs.declared.progress.Progress.TheVariants as progresses
+use Rattle.pc_push.specs.PushKnows.{PushKnows}
+use Rattle.pc_push.specs.Pushing.{Pushing}
+use Rattle.pc_world.specs.Follows.FinishingJobs.{jobs_of}
+use Rattle.pc_world.specs.Known.{Known, known_of}
+use Rattle.pc_world.specs.Known.Traffic.{Heard}
+
+-- Since then the transaction was pushed for this goal, which was answered by a status that leaves this fate, and nothing else was heard.
+pub record WasPushedOnceFor (id : TxnId) (goal : Goal) (fate : Fate) (start k : Known) : Type 0 where
+  pub push : Heard
+  pub view : View
+  pub more : k.heard_now ≡ start.heard_now ++ push ∷ []
+  pub pushed : IsTrue (is_push_of id push.request)
+  pub aims : goal_in push.request ≡ Some goal
+  pub told : push.reply ≡ replies.Status view
+  pub left : fate_after goal view ≡ Some fate
+
+-- What was heard since the round began is what its machine stands at. No push is unsure, since nothing is staged.
+abbrev pub HasComeTo : Progress → Pushing → Known → Known → Type 0
+HasComeTo progresses.Push m start k = k.heard_now ≡ start.heard_now
+HasComeTo progresses.Refused m start k = IsRefusedRound m.holder.id start k
+HasComeTo (progresses.Unsure view) m start k = ⊥
+HasComeTo (progresses.Resolve fate) m start k = WasPushedOnceFor m.holder.id m.goal fate start k
+HasComeTo progresses.Over m start k = IsSettledRound m.holder.id m.key start k
+
+-- The round is being made by this machine: these entries were made for it, and this is the greatest timestamp that was heard in them.
+pub record IsRoundUnderWay {C : Type 0} (old : DeskMeaning C) (pusher : Pusher) (reading : ℕ) (conflict : Reply) (reader : Option ℕ) (m : Pushing) (new : DeskMeaning C) (ts : ℕ) : Type 0 where
+  pub start : MayMakeRound old pusher reading conflict reader
+  pub part : List (Pair Event)
+  pub goes : HasGoneBeside old new part
+  pub aside : IsLaterAside start.session (known_of old.log.part.own) (known_of new.log.part.own) ts
+  pub jobs : jobs_of new.log.part.own ≡ jobs_of old.log.part.own
+  pub knows : PushKnows (actors.Session start.session) (known_of old.log.part.own) (known_of new.log.part.own) m
+  pub come : HasComeTo m.progress m (known_of old.log.part.own) (known_of new.log.part.own)
+  pub holder : m.holder ≡ start.met.holder
+  pub key : m.key ≡ start.met.key

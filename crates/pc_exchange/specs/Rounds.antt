@@ -1,0 +1,53 @@
+-- The round of a conflict that the open call met: the holder of the intent is pushed, and the intent settled as the push came out.
+use Rattle.std.specs.Prelude.{◌≡◌, ℕ, Option, Some, List}
+use Rattle.pc_base.specs.declared.actor.ActorId.TheVariants as actors
+use Rattle.pc_coord.specs.Coordination.{Coordination, next_of}
+use Rattle.pc_coord.specs.declared.job.Job.{Job}
+use Rattle.pc_coord.specs.declared.next.Next.TheVariants as nexts
+use Rattle.pc_coord.specs.declared.pusher.Pusher.{Pusher}
+use Rattle.pc_coord.specs.declared.round.Round.{Round}
+use Rattle.pc_coord.specs.Knows.{Knows}
+use Rattle.pc_coord.specs.Knows.Sending.{IsConflictNow}
+use Rattle.pc_coord.specs.Pusher.{IsPusherOf}
+use Rattle.pc_coord.specs.Rounds.{EndsRound}
+use Rattle.pc_desk.specs.Desk.{DeskMeaning}
+use Rattle.pc_exchange.specs.Aside.{IsLaterAside, MayGoOnBeside}
+use Rattle.pc_exchange.specs.Growing.{HasGoneBeside, HasAllBack}
+use Rattle.pc_exchange.specs.Jobs.{IsFinishable}
+use Rattle.pc_history.specs.declared.pair.Pair.{Pair}
+use Rattle.pc_proto.specs.declared.event.Event.{Event}
+use Rattle.pc_proto.specs.declared.reply.Reply.{Reply}
+use Rattle.pc_world.specs.Follows.EarlyTell.{IsCommitKnown}
+use Rattle.pc_world.specs.Follows.FinishingJobs.{jobs_of}
+use Rattle.pc_world.specs.Known.{Known, known_of, reading_of}
+use Rattle.pc_world.specs.Known.Transactions.{Txn}
+
+-- The session's open call, which is not decided and was asked at this reading, met this conflict, and its round is due.
+pub record MayMakeRound {C : Type 0} (d : DeskMeaning C) (pusher : Pusher) (reading : ℕ) (conflict : Reply) (reader : Option ℕ) : Type 0 where
+  pub back : HasAllBack d
+  pub session : ℕ
+  pub whose : d.log.part.id ≡ actors.Session session
+  pub number : ℕ
+  pub met : IsConflictNow (known_of d.log.part.own) number conflict reader
+  pub pushes : IsPusherOf (known_of d.log.part.own) (Some pusher)
+  pub read : reading_of (known_of d.log.part.own) ≡ Some reading
+  pub undecided : (t : Txn) (ts : ℕ) → IsCommitKnown (known_of d.log.part.own) t ts → ⊥
+
+-- Since then the session has made the round of this conflict, which ended so, and done nothing else; this is the greatest timestamp that it
+-- heard in it. What its jobs may do they may do still.
+pub record IsRoundMade (session : ℕ) (start k : Known) (conflict : Reply) (round : Round) (ts : ℕ) : Type 0 where
+  pub ends : EndsRound conflict round start k
+  pub aside : IsLaterAside session start k ts
+  pub left : (job : Job) → IsFinishable start job → IsFinishable k job
+  pub beside :
+      (c : Coordination) (number : ℕ) (reader : Option ℕ) → c.session ≡ session → Knows c start → next_of c.due ≡ nexts.Conflict number conflict reader
+      → MayGoOnBeside c start k ts
+
+-- The session made the round of this conflict beside its coordinator, and no job's message went out in it.
+pub record HasMadeRoundOf {C : Type 0} (old new : DeskMeaning C) (conflict : Reply) (round : Round) (ts : ℕ) : Type 0 where
+  pub session : ℕ
+  pub whose : old.log.part.id ≡ actors.Session session
+  pub part : List (Pair Event)
+  pub goes : HasGoneBeside old new part
+  pub made : IsRoundMade session (known_of old.log.part.own) (known_of new.log.part.own) conflict round ts
+  pub jobs : jobs_of new.log.part.own ≡ jobs_of old.log.part.own

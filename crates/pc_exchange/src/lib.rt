@@ -1,0 +1,11 @@
+//! What a session does beside its coordinator: the rounds of conflicts and finishing jobs, each message sent, evaluated and heard before the
+//! next.
+#![tactic(auto)]
+
+mod finish;
+mod message;
+mod round;
+
+pub use finish::finish_job;
+pub use message::exchange;
+pub use round::make_round;

@@ -1,0 +1,86 @@
+ghost use Rattle.std.specs.Prelude.{◌≡◌, ℕ, max, IfErr, IfOk, Option, All};
+ghost use Rattle.pc_coord.specs.declared.pusher.Pusher.{Pusher};
+ghost use Rattle.pc_desk.specs.Desk.{DeskMeaning, HasHalted};
+ghost use Rattle.pc_exchange.specs.Ending.{BreaksOff};
+ghost use Rattle.pc_exchange.specs.Exchange.{MayExchangeNow};
+ghost use Rattle.pc_exchange.specs.Rounding.{IsRoundUnderWay};
+ghost use Rattle.pc_exchange.specs.Rounds.{HasMadeRoundOf, MayMakeRound};
+ghost use Rattle.pc_proto.specs.declared.reply.Reply.{Reply};
+ghost use Rattle.pc_push.specs.PushKnows.{Asks};
+ghost use Rattle.pc_turns.specs.Order.{IsInBetween};
+
+use crate::message::exchange;
+use pc_base::{NoMemory, Timestamp, Who};
+use pc_clock::Clock;
+use pc_coord::{Pusher, Round};
+use pc_desk::{Desk, Halt};
+use pc_history::Named;
+use pc_proto::{MachineNext, Reply, Request};
+use pc_push::PushMachine;
+use pc_range::{CommitWorld, Gate};
+use pc_wire::Wire;
+use std::sync::Wait;
+
+/// Makes the round of a conflict that the open call met, which was asked at this reading: the holder of the intent is pushed, and the
+/// intent settled as the push came out. A reader's conflict is given with the timestamp at which it reads.
+///
+/// Gives how the round ended, and the greatest timestamp that was heard in it.
+pub fn make_round<N: Named<CommitWorld>, C: Clock, V: Wire, G: Gate, R: Wait>(
+    desk: &mut Desk<'_, N, C, V, G>,
+    rt: &R,
+    pusher: Pusher,
+    reading: u64,
+    conflict: Reply,
+    reader: Option<Timestamp>,
+) -> Result<(Round, Timestamp), Halt>
+    requires { MayMakeRound desk.old pusher reading conflict reader }
+    ensures ok { IfOk result (λ made. HasMadeRoundOf desk.old desk.new conflict made.0 made.1) }
+    ensures clock { desk.new.log.clock ≡ desk.old.log.clock }
+    ensures err { IfErr result (HasHalted desk.old desk.new) }
+    ensures ended { IfErr result (BreaksOff (All IsInBetween) desk.old desk.new) }
+{
+    let mut machine = PushMachine::new(
+        conflict,
+        Who::Txn(pusher.id),
+        pusher.level,
+        reading,
+        reader,
+    );
+    let mut heard = Timestamp::ZERO;
+    for _ in 0..u64::MAX {
+        let next = match machine.next() {
+            Ok(next) => next,
+            Err(NoMemory) => return Err(desk.want_memory()),
+        };
+        match next {
+            MachineNext::Send(request) => {
+                let last = push_on(desk, rt, &mut machine, request)?;
+                heard = heard.max(last);
+            }
+            MachineNext::Refused(_) => return Ok((Round::Refused, heard)),
+            MachineNext::Finished => return Ok((Round::Again, heard)),
+            MachineNext::Settled(_) | MachineNext::Changed(_) => unreachable!(),
+        }
+    }
+    Err(desk.want_memory())
+}
+
+/// Exchanges what the round's machine asks for. Gives the greatest timestamp in the reply.
+fn push_on<N: Named<CommitWorld>, C: Clock, V: Wire, G: Gate, R: Wait>(
+    desk: &mut Desk<'_, N, C, V, G>,
+    rt: &R,
+    machine: &mut PushMachine,
+    request: Request,
+) -> Result<Timestamp, Halt>
+    requires { MayExchangeNow desk.old request }
+    ensures ok { (old : DeskMeaning C) (pusher : Pusher) (reading : ℕ) (conflict : Reply) (reader : Option ℕ) (ts : ℕ) → IsRoundUnderWay old pusher reading conflict reader machine.old desk.old ts → Asks machine.old request → IfOk result (λ last. IsRoundUnderWay old pusher reading conflict reader machine.new desk.new (max ts last)) }
+    ensures clock { desk.new.log.clock ≡ desk.old.log.clock }
+    ensures err { IfErr result (HasHalted desk.old desk.new) }
+    ensures ended { IfErr result (BreaksOff (All IsInBetween) desk.old desk.new) }
+{
+    let reply = exchange(desk, rt, request)?;
+    match machine.heard(&reply) {
+        Ok(()) => Ok(reply.last_stamp()),
+        Err(NoMemory) => Err(desk.want_memory()),
+    }
+}

@@ -1,0 +1,163 @@
+-- The messages of a session in its call: each is on its way, or was heard in the call.
+use Rattle.std.proofs.Common.{◌≡◌, ℕ, ◌+◌, ◌<◌, ◌≤◌, nat_lt, Bool, true, false, ◌&&◌, ◌||◌, ◌==◌, not, All, Contains, IsTrue, List, [], ◌∷◌, ◌++◌, length, cond, count_by, find, inl, inr, Option, None, Some, refl, sym, ap, subst, ◌∙◌, arith}
+use Rattle.std.proofs.lemmas.Bool.{eq-eqb, eqb-true}
+use Rattle.std.proofs.lemmas.Bool.Decides.{nat_tests}
+use Rattle.std.proofs.lemmas.List.{append-nil, append_assoc}
+use Rattle.std.proofs.lemmas.List.Elements.{All-contains, All-nil, All-push, All-weaker}
+use Rattle.std.proofs.lemmas.List.Folds.{list_any-append}
+use Rattle.std.specs.List.{list_any}
+use Rattle.std.specs.Option.{option_map}
+use Rattle.pc_coord.specs.Coordination.{Coordination, awaits_number}
+use Rattle.pc_coord.specs.Knows.Sending.{AwaitsNone}
+use Rattle.pc_desk.proofs.Counting.{any_counts, counts_any, none_beyond, none_counted, said_more, said_new, sent_where_said, uncounted}
+use Rattle.pc_desk.specs.declared.answered.Answered.{Answered}
+use Rattle.pc_desk.specs.Desk.{DeskMeaning, KeepsTrack, Posted, answered_as, heard_as_number, is_on_way, posted_as, times_sent}
+use Rattle.pc_lists.proofs.Lists.{all_from_contains, contains_cons, contains_nil}
+use Rattle.pc_proto.specs.declared.call.Call.{Call}
+use Rattle.pc_proto.specs.declared.request.Request.{Request}
+use Rattle.pc_session.proofs.Knowing.{with_asked, with_heard, with_sent}
+use Rattle.pc_session.specs.InCall.{IsApartNow}
+use Rattle.pc_world.specs.Follows.Resends.{AreAnsweredNow}
+use Rattle.pc_world.specs.Known.{Known, known_of}
+use Rattle.pc_world.specs.Known.Traffic.{Heard, Sent, request_sent}
+use Rattle.pc_world.specs.SameRequest.{IsSameRequest}
+use Rattle.pc_world.specs.Tell.Refusal.{is_heard}
+
+-- one more message, of another number
+pub said_before : (n : ℕ) (xs : List Sent) (m : Sent) → (m.number == n) ≡ false → request_sent n (xs ++ m ∷ []) ≡ request_sent n xs
+said_before n [] m other = ap (λ b. option_map (λ (x : Sent). x.request) (cond b (Some m) None)) other
+said_before n (x ∷ xs) m other = by (x.number == n) refl (said_before n xs m other)
+  where
+    F : Bool → List Sent → Option Request
+    F b ys = option_map (λ (x : Sent). x.request) (cond b (Some x) (find (λ (x : Sent). x.number == n) ys))
+
+    by : (b : Bool) → (x.number == n) ≡ b → request_sent n (xs ++ m ∷ []) ≡ request_sent n xs → F (x.number == n) (xs ++ m ∷ []) ≡ F (x.number == n) xs
+    by true is on = ap (λ b. F b (xs ++ m ∷ [])) is ∙ sym (ap (λ b. F b xs) is)
+    by false is on = ap (λ b. F b (xs ++ m ∷ [])) is ∙ (on ∙ sym (ap (λ b. F b xs) is))
+
+or_right : (a b : Bool) → b ≡ true → (a || b) ≡ true
+or_right true b e = refl
+or_right false b e = e
+
+-- one that is there and passes the test
+pub any_there : {X : Type 0} (test : X → Bool) (xs : List X) (x : X) → test x ≡ true → Contains xs x → list_any test xs ≡ true
+any_there test [] x is there = absurd (contains_nil x there)
+any_there test (y ∷ ys) x is there = elim (contains_cons y ys x there) [
+  | inl here ↦ ap (λ b. b || list_any test ys) (ap test here ∙ is)
+  | inr later ↦ or_right (test y) (list_any test ys) (any_there test ys x is later)
+]
+
+or_false : (a b : Bool) → (a || b) ≡ false → (a ≡ false) × (b ≡ false)
+or_false true b e = absurd cc
+or_false false b e = (refl, e)
+
+module _ {C : Type 0} (d : DeskMeaning C) (track : KeepsTrack d) where
+  abbrev k : Known
+  k = known_of d.log.part.own
+
+  -- what was sent and is not on its way was heard
+  pub heard_if_back : (number : ℕ) → list_any (λ (m : Sent). m.number == number) k.sent ≡ true → is_on_way number d ≡ false → list_any (λ (h : Heard). h.number == number) k.heard ≡ true
+  heard_if_back number sent away =
+      let off = or_false (list_any (λ (m : Posted). m.number == number) d.posted) (list_any (λ (a : Answered). a.number == number) d.replies) away in
+      let some : 1 ≤ times_sent number k = counts_any (λ (m : Sent). m.number == number) k.sent sent in
+      let p : posted_as number d.posted ≡ 0 = uncounted (λ (m : Posted). m.number == number) d.posted off.0 in
+      let r : answered_as number d.replies ≡ 0 = uncounted (λ (a : Answered). a.number == number) d.replies off.1 in
+      let all = track.stages number in
+      let heard : 1 ≤ heard_as_number number k = omega arith in
+      let yes : nat_lt 0 (heard_as_number number k) ≡ true = grind (arith, nat_tests) in
+      any_counts (λ (h : Heard). h.number == number) k.heard ∙ yes
+
+  -- no message of the next number was heard or sent
+  pub none_heard_next : (number : ℕ) → number ≡ d.sends + 1 → (list_any (λ (h : Heard). h.number == number) k.heard ≡ false) × (count_by (λ (m : Sent). m.number == number) k.sent ≡ 0)
+  none_heard_next number next =
+      let none : times_sent number k ≡ 0 = none_beyond (λ (m : Sent). m.number) (length k.sent) number k.sent track.numbers (let c = track.counted in omega arith) in
+      let all = track.stages number in
+      (none_counted (λ (h : Heard). h.number == number) k.heard (omega arith), none)
+
+  -- where none is on its way, all that was sent was heard
+  pub all_heard : ((number : ℕ) → is_on_way number d ≡ false) → All (λ m. IsTrue (is_heard k.heard m)) k.sent
+  all_heard away = all_from_contains (λ (m : Sent). IsTrue (is_heard k.heard m)) k.sent (λ m there. heard_if_back m.number (any_there (λ (x : Sent). x.number == m.number) k.sent m (eq-eqb m.number m.number refl) there) (away m.number))
+
+  -- what was sent in the call and is not on its way was heard in it
+  heard_now_if_back : (apart : IsApartNow k) (m : Sent) → request_sent m.number k.sent ≡ Some m.request → is_heard apart.before m ≡ false → is_on_way m.number d ≡ false → IsTrue (is_heard k.heard_now m)
+  heard_now_if_back apart m said before away =
+      let whole : is_heard k.heard m ≡ true = heard_if_back m.number (sent_where_said m.number k.sent m.request said) away in
+      let cut : (is_heard apart.before m || is_heard k.heard_now m) ≡ true = sym (ap (λ (hs : List Heard). is_heard hs m) apart.split ∙ list_any-append (λ (h : Heard). h.number == m.number) apart.before k.heard_now) ∙ whole in
+      sym (ap (λ b. b || is_heard k.heard_now m) before) ∙ cut
+
+  -- where the coordinator waits for none, all that was sent in the call was heard in it
+  pub all_heard_now : IsApartNow k → ((number : ℕ) → is_on_way number d ≡ false) → All (λ m. IsTrue (is_heard k.heard_now m)) k.sent_now
+  all_heard_now apart away = all_from_contains (λ (m : Sent). IsTrue (is_heard k.heard_now m)) k.sent_now (λ m there.
+      heard_now_if_back apart m (All-contains (λ (m : Sent). request_sent m.number k.sent ≡ Some m.request) k.sent_now m apart.said there) (All-contains (λ (m : Sent). is_heard apart.before m ≡ false) k.sent_now m apart.apart there) (away m.number))
+
+  -- where it waits for none of a request, each of that in the call was answered there
+  pub answered_now : (c : Coordination) (request : Request) → IsApartNow k → ((number : ℕ) → awaits_number number c.due ≡ is_on_way number d) → AwaitsNone c k request → AreAnsweredNow k request
+  answered_now c request apart way none = all_from_contains (λ (m : Sent). IsSameRequest request m.request → IsTrue (is_heard k.heard_now m)) k.sent_now (λ m there same. by m there same (is_on_way m.number d) refl)
+    where
+      by : (m : Sent) → Contains k.sent_now m → IsSameRequest request m.request → (b : Bool) → is_on_way m.number d ≡ b → IsTrue (is_heard k.heard_now m)
+      by m there same true is =
+          absurd (none m.number m.request (way m.number ∙ is) (All-contains (λ (m : Sent). request_sent m.number k.sent ≡ Some m.request) k.sent_now m apart.said there) same)
+      by m there same false is =
+          heard_now_if_back apart m (All-contains (λ (m : Sent). request_sent m.number k.sent ≡ Some m.request) k.sent_now m apart.said there) (All-contains (λ (m : Sent). is_heard apart.before m ≡ false) k.sent_now m apart.apart there) is
+
+-- where none is on its way, none waits
+pub none_posted : {C : Type 0} (d : DeskMeaning C) → ((number : ℕ) → is_on_way number d ≡ false) → d.posted ≡ []
+none_posted d away = by d.posted refl
+  where
+    by : (ps : List Posted) → d.posted ≡ ps → ps ≡ []
+    by [] is = refl
+    by (m ∷ ps) is =
+        let off = or_false (list_any (λ (x : Posted). x.number == m.number) d.posted) (list_any (λ (a : Answered). a.number == m.number) d.replies) (away m.number) in
+        let here : list_any (λ (x : Posted). x.number == m.number) (m ∷ ps) ≡ true = ap (λ b. b || list_any (λ (x : Posted). x.number == m.number) ps) (eq-eqb m.number m.number refl) in
+        absurd (let e : true ≡ false = sym here ∙ (ap (list_any (λ (x : Posted). x.number == m.number)) (sym is) ∙ off.0) in cc e)
+
+pub none_answered : {C : Type 0} (d : DeskMeaning C) → ((number : ℕ) → is_on_way number d ≡ false) → d.replies ≡ []
+none_answered d away = by d.replies refl
+  where
+    by : (rs : List Answered) → d.replies ≡ rs → rs ≡ []
+    by [] is = refl
+    by (a ∷ rs) is =
+        let off = or_false (list_any (λ (x : Posted). x.number == a.number) d.posted) (list_any (λ (x : Answered). x.number == a.number) d.replies) (away a.number) in
+        let here : list_any (λ (x : Answered). x.number == a.number) (a ∷ rs) ≡ true = ap (λ b. b || list_any (λ (x : Answered). x.number == a.number) rs) (eq-eqb a.number a.number refl) in
+        absurd (let e : true ≡ false = sym here ∙ (ap (list_any (λ (x : Answered). x.number == a.number)) (sym is) ∙ off.1) in cc e)
+
+-- where none waits, none is on its way
+pub none_away : {C : Type 0} (d : DeskMeaning C) → d.posted ≡ [] → d.replies ≡ [] → (number : ℕ) → is_on_way number d ≡ false
+none_away d posted replies number =
+    ap (λ (ps : List Posted). list_any (λ m. m.number == number) ps || list_any (λ (a : Answered). a.number == number) d.replies) posted
+    ∙ ap (λ (rs : List Answered). list_any (λ (a : Answered). a.number == number) rs) replies
+
+-- ---- what was heard in the call stays apart
+
+pub apart_asked : (call : Call) (reading : ℕ) (k : Known) → IsApartNow (with_asked call reading k)
+apart_asked call reading k = record {
+  before = k.heard;
+  split = sym (append-nil k.heard);
+  apart = All-nil (λ (m : Sent). is_heard k.heard m ≡ false);
+  said = All-nil (λ (m : Sent). request_sent m.number k.sent ≡ Some m.request);
+}
+
+pub front_none : (before now : List Heard) (number : ℕ) → list_any (λ (h : Heard). h.number == number) (before ++ now) ≡ false → list_any (λ (h : Heard). h.number == number) before ≡ false
+front_none before now number none =
+    (or_false (list_any (λ (h : Heard). h.number == number) before) (list_any (λ (h : Heard). h.number == number) now) (sym (list_any-append (λ (h : Heard). h.number == number) before now) ∙ none)).0
+
+pub apart_sent : (number range : ℕ) (request : Request) (k : Known) → list_any (λ (h : Heard). h.number == number) k.heard ≡ false → count_by (λ (m : Sent). m.number == number) k.sent ≡ 0 → IsApartNow k → IsApartNow (with_sent number range request k)
+apart_sent number range request k unheard unsent a =
+    let m : Sent = record { number = number; range = range; request = request } in
+    record {
+      before = a.before;
+      split = a.split;
+      apart = All-push (λ (m : Sent). is_heard a.before m ≡ false) k.sent_now m a.apart (front_none a.before k.heard_now number (ap (list_any (λ (h : Heard). h.number == number)) (sym a.split) ∙ unheard));
+      said =
+          All-push (λ (x : Sent). request_sent x.number (k.sent ++ m ∷ []) ≡ Some x.request) k.sent_now m
+          (All-weaker (λ (x : Sent). request_sent x.number k.sent ≡ Some x.request) (λ (x : Sent). request_sent x.number (k.sent ++ m ∷ []) ≡ Some x.request) (λ x said. said_more x.number k.sent (m ∷ []) x.request said) k.sent_now a.said)
+          (said_new k.sent m unsent);
+    }
+
+pub apart_heard : (h : Heard) (k : Known) → IsApartNow k → IsApartNow (with_heard h k)
+apart_heard h k a = record {
+  before = a.before;
+  split = ap (λ hs. hs ++ h ∷ []) a.split ∙ append_assoc a.before k.heard_now (h ∷ []);
+  apart = a.apart;
+  said = a.said;
+}

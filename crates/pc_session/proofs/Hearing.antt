@@ -1,0 +1,205 @@
+-- A session in its call while its messages are evaluated, and their replies heard.
+use Rattle.std.proofs.Common.{◌≡◌, ℕ, ◌+◌, true, false, Bool, ◌==◌, ◌||◌, ◌&&◌, not, All, Contains, IsTrue, List, [], ◌∷◌, ◌++◌, length, Option, Some, None, refl, sym, ap, subst, ◌∙◌, arith}
+use Rattle.std.proofs.lemmas.Bool.{eq-eqb}
+use Rattle.std.proofs.lemmas.List.{append-nil}
+use Rattle.std.proofs.lemmas.List.Elements.{All-cons, All-contains, All-head, All-nil, Contains-push}
+use Rattle.std.specs.List.{list_any}
+use Rattle.pc_base.specs.declared.actor.ActorId.TheVariants as actors
+use Rattle.pc_base.specs.declared.entry.Entry.{Entry}
+use Rattle.pc_coord.specs.Coordination.{Coordination, awaits_number}
+use Rattle.pc_coord.specs.Events.{HearsAwaited}
+use Rattle.pc_coord.specs.Knows.{Knows}
+use Rattle.pc_desk.proofs.Making.{added, answer_of, known_after_it}
+use Rattle.pc_desk.specs.declared.answered.Answered.{Answered}
+use Rattle.pc_desk.specs.Desk.{DeskMeaning, HasDelivered, HasHeardFirst, IsAnsweredBy, MayHearNow, Posted, is_on_way}
+use Rattle.pc_desk.specs.Keeping.{KeepsSessionStep}
+use Rattle.pc_desk.specs.OwnLog.{IsOwnLog, LogMeaning}
+use Rattle.pc_exchange.proofs.Growing.{grows_else, grows_entered}
+use Rattle.pc_exchange.proofs.HeardKinds.{heard_kind}
+use Rattle.pc_exchange.specs.Growing.{HasGrownBy}
+use Rattle.pc_history.specs.declared.pair.Pair.{Pair}
+use Rattle.pc_lists.proofs.Lists.{contains_head}
+use Rattle.pc_proto.specs.declared.event.Event.{Event}
+use Rattle.pc_proto.specs.declared.event.Event.TheVariants as events
+use Rattle.pc_proto.specs.declared.request.Request.{Request}
+use Rattle.pc_range.specs.Message.{evaluation}
+use Rattle.pc_session.proofs.Away.{any_there, apart_heard}
+use Rattle.pc_session.proofs.Inside.{one_on}
+use Rattle.pc_session.proofs.Jobs.{HasJobs, jobs_heard}
+use Rattle.pc_session.proofs.Keeping.{keeps_as, keeps_heard}
+use Rattle.pc_session.proofs.Knowing.{brings_it, it, jobs_then, known_heard, with_heard}
+use Rattle.pc_session.specs.InCall.{HasGoneInside, HasOpenCall, IsApartNow}
+use Rattle.pc_session.specs.Session.{HasLeft, SessionMeaning, session_knows}
+use Rattle.pc_turns.specs.Order.{IsInBetween}
+use Rattle.pc_world.specs.Answering.{MayAnswer}
+use Rattle.pc_world.specs.Follows.CallMessages.{IsForCall}
+use Rattle.pc_world.specs.Follows.FinishingJobs.{jobs_of}
+use Rattle.pc_world.specs.Known.{Known, known_of, learn}
+use Rattle.pc_world.specs.Known.Traffic.{Heard, heard_as, request_sent}
+
+-- ---- messages are evaluated
+
+module _ {C : Type 0} (old : SessionMeaning C) (reading : ℕ) (calls : HasOpenCall old reading) (d : DeskMeaning C) (made : HasDelivered old.desk d) where
+  -- The session after it.
+  abbrev pub delivered_then : SessionMeaning C
+  delivered_then = record old { desk = d }
+
+  own_is : d.log.part.own ≡ old.desk.log.part.own
+  own_is = ap (λ (l : LogMeaning C). l.part.own) made.own
+
+  known_is : known_of d.log.part.own ≡ session_knows old
+  known_is = ap known_of own_is
+
+  grown_delivered : HasGrownBy old.desk.log d.log []
+  grown_delivered = grows_else old.desk.log d.log old.desk.log.part.given d.log.part.known made.own made.more
+
+  -- the call goes on
+  pub delivered_open : HasOpenCall delivered_then reading
+  delivered_open = record {
+    track = made.track;
+    one = one_on old.desk d old.coordinator old.coordinator [] grown_delivered calls.one refl refl (subst (Knows old.coordinator) (sym known_is) calls.one.knows);
+    way = λ n. calls.way n ∙ sym (made.way n);
+    call = calls.call;
+    opened = ap (λ (k : Known). k.statement) known_is ∙ calls.opened;
+    apart = subst IsApartNow (sym known_is) calls.apart;
+    kinds = λ n q on said.
+        subst (λ k. IsForCall k q) (sym known_is) (calls.kinds n q (sym (made.way n) ∙ on) (ap (λ (k : Known). request_sent n k.sent) (sym known_is) ∙ said));
+    waiting = subst (λ own. HasLeft own old.jobs) (sym own_is) calls.waiting;
+  }
+
+  pub delivered_goes : HasGoneInside old delivered_then
+  delivered_goes = record {
+    part = [];
+    grown = grown_delivered;
+    within = All-nil IsInBetween;
+    limit = made.limit;
+    session = refl;
+    statement = ap (λ (k : Known). k.statement) known_is;
+  }
+
+-- ---- a reply is heard
+
+or_right : (a b : Bool) → b ≡ true → (a || b) ≡ true
+or_right true b e = refl
+or_right false b e = e
+
+module _ {C : Type 0} (old : SessionMeaning C) (reading : ℕ) (calls : HasOpenCall old reading) where
+  abbrev k : Known
+  k = session_knows old
+
+  by-it : (a : Answered) → Contains old.desk.replies a → IsAnsweredBy old.desk.log a
+  by-it a there = All-contains (IsAnsweredBy old.desk.log) old.desk.replies a calls.track.answered there
+
+  answered-any : (xs : List Answered) (a : Answered) → Contains xs a → list_any (λ (x : Answered). x.number == a.number) xs ≡ true
+  answered-any xs a there = any_there (λ (x : Answered). x.number == a.number) xs a (eq-eqb a.number a.number refl) there
+
+  -- a reply that waits is to a message on its way, which is for the call
+  for-call : (a : Answered) (there : Contains old.desk.replies a) → IsForCall k (by-it a there).request
+  for-call a there =
+      calls.kinds a.number (by-it a there).request (or_right (list_any (λ (m : Posted). m.number == a.number) old.desk.posted) (list_any (λ (x : Answered). x.number == a.number) old.desk.replies) (answered-any old.desk.replies a there))
+      (by-it a there).said
+
+  -- each reply that waits may be heard
+  pub may_hear_now : MayHearNow old.desk
+  may_hear_now = record {
+    each = λ a range there.
+        let by = by-it a there in
+        let h : Heard = record { number = a.number; request = by.request; reply = a.reply; step = a.step } in
+        let brings : heard_as a.number a.step (request_sent a.number k.sent) (Some a.reply) ≡ Some h = ap (λ (r : Option Request). heard_as a.number a.step r (Some a.reply)) by.said in
+        keeps_as old.desk.log.part.id old.coordinator.session old.desk.log.pipelining (jobs_of old.desk.log.part.own) k (events.Hear a.number a.step) (heard_as a.number a.step (request_sent a.number k.sent) (Some a.reply)) calls.one.whose calls.one.unpiped
+        (subst (KeepsSessionStep false (jobs_of old.desk.log.part.own) k (events.Hear a.number a.step)) (sym brings) (keeps_heard (jobs_of old.desk.log.part.own) k a.number a.step h (for-call a there)));
+  }
+
+  module _ (d : DeskMeaning C) (c : Coordination) (a : Answered) (heard : HasHeardFirst old.desk d a) where
+    abbrev event : Event
+    event = events.Hear a.number a.step
+
+    abbrev p : Pair Event
+    p = added old.desk.log d.log event heard.entered
+
+    -- The session after it.
+    abbrev pub heard_then : SessionMeaning C
+    heard_then = record old { desk = d; coordinator = c }
+
+    there-first : Contains old.desk.replies a
+    there-first = subst (λ l. Contains l a) (sym heard.first) (contains_head a d.replies)
+
+    by : IsAnsweredBy old.desk.log a
+    by = by-it a there-first
+
+    abbrev h : Heard
+    h = it old.desk.log d.log a calls.track.log by heard.entered
+
+    known_is : known_of d.log.part.own ≡ with_heard h k
+    known_is = known_heard old.desk.log d.log a calls.track.log by heard.entered
+
+    learnt : known_of d.log.part.own ≡ learn p k
+    learnt = known_after_it old.desk.log d.log event heard.entered
+
+    grown_heard : HasGrownBy old.desk.log d.log (p ∷ [])
+    grown_heard = grows_entered old.desk.log d.log event heard.entered refl
+
+    on-way : is_on_way a.number old.desk ≡ true
+    on-way = or_right (list_any (λ (m : Posted). m.number == a.number) old.desk.posted) (list_any (λ (x : Answered). x.number == a.number) old.desk.replies) (answered-any old.desk.replies a there-first)
+
+    pub waited : awaits_number a.number old.coordinator.due ≡ true
+    waited = calls.way a.number ∙ on-way
+
+    kind : (request : Request) → request_sent a.number k.sent ≡ Some request → MayAnswer request a.reply
+    kind request said =
+        let both : Some by.request ≡ Some request = sym by.said ∙ said in
+        let same : by.request ≡ request = cc in
+        let there : Contains (known_of d.log.part.own).heard h = subst (λ (x : Known). Contains x.heard h) (sym known_is) (Contains-push k.heard h) in
+        subst (λ q. MayAnswer q a.reply) same (heard_kind d.log heard.entered.log h there)
+
+    hears-awaited : HearsAwaited old.coordinator a.number a.step a.reply k p
+    hears-awaited = record {
+      waited = waited;
+      event = refl;
+      evaluation = evaluation a.step heard.range old.desk.log.part.id a.number a.reply;
+      actor = old.desk.log.part.id;
+      asked = a.number;
+      named = heard.named;
+      told = refl;
+      kind = kind;
+    }
+
+    left_on : HasLeft d.log.part.own old.jobs
+    left_on =
+        let has : HasJobs old.jobs (learn p k) = jobs_heard old.jobs k p a.number a.step h refl (sym learnt ∙ known_is) (record { numbers = calls.waiting.numbers; left = calls.waiting.each }) in
+        let now : HasJobs old.jobs (known_of d.log.part.own) = subst (HasJobs old.jobs) (sym learnt) has in
+        record { left = jobs_then old.desk.log d.log event heard.entered ∙ calls.waiting.left; numbers = now.numbers; each = now.left }
+
+    and_left : (x y : Bool) → (x && y) ≡ true → x ≡ true
+    and_left true y e = refl
+    and_left false y e = e
+
+    -- the call goes on
+    pub heard_open : ((k : Known) (p : Pair Event) → Knows old.coordinator k → HearsAwaited old.coordinator a.number a.step a.reply k p → Knows c (learn p k))
+        → ((k : Known) (other : ℕ) → Knows old.coordinator k → awaits_number a.number old.coordinator.due ≡ true → awaits_number other c.due ≡ (awaits_number other old.coordinator.due && not (a.number == other)))
+        → c.session ≡ old.coordinator.session → c.splits ≡ old.coordinator.splits → HasOpenCall heard_then reading
+    heard_open learns waits session splits = record {
+      track = heard.track;
+      one = one_on old.desk d old.coordinator c (p ∷ []) grown_heard calls.one session splits (subst (Knows c) (sym learnt) (learns k p calls.one.knows hears-awaited));
+      way = λ n. waits k n calls.one.knows waited ∙ (ap (λ b. b && not (a.number == n)) (calls.way n) ∙ sym (heard.way n));
+      call = calls.call;
+      opened = ap (λ (k : Known). k.statement) known_is ∙ calls.opened;
+      apart = subst IsApartNow (sym known_is) (apart_heard h k calls.apart);
+      kinds = λ n q on said.
+          let is = calls.kinds n q (and_left (is_on_way n old.desk) (not (a.number == n)) (sym (heard.way n) ∙ on)) (ap (λ (x : Known). request_sent n x.sent) (sym known_is) ∙ said) in
+          record { s = is.s; opened = ap (λ (x : Known). x.statement) known_is ∙ is.opened; kind = is.kind };
+      waiting = left_on;
+    }
+
+    pub heard_goes : c.session ≡ old.coordinator.session → HasGoneInside old heard_then
+    heard_goes session = record {
+      part = p ∷ [];
+      grown = grown_heard;
+      within = All-cons IsInBetween event [] tt (All-nil IsInBetween);
+      limit = heard.limit;
+      session = session;
+      statement = ap (λ (k : Known). k.statement) known_is;
+    }
+
+    pub fewer : length old.desk.replies ≡ length d.replies + 1
+    fewer = let e : length old.desk.replies ≡ length (a ∷ d.replies) = ap length heard.first in omega (arith, e)

@@ -1,0 +1,15 @@
+pub mod Asking
+pub mod Away
+pub mod Calling
+pub mod Due
+pub mod Hearing
+pub mod Inside
+pub mod Jobs
+pub mod JobsTold
+pub mod Keeping
+pub mod Knowing
+pub mod Rounds
+pub mod Sending
+pub mod Standing
+pub mod Stepping
+pub mod Telling

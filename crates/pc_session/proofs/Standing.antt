@@ -1,0 +1,87 @@
+-- A session rests where it begins, and rests or has stopped after what it does.
+use Rattle.std.proofs.Common.{◌≡◌, ℕ, Bool, true, false, All, IsTrue, IfErr, IfOk, List, [], Result, Ok, Err, ◌≤◌, is_some, Some, None, refl, sym, ap, subst, ◌∙◌}
+use Rattle.std.proofs.lemmas.List.Elements.{All-nil}
+use Rattle.pc_base.specs.declared.actor.ActorId.TheVariants as actors
+use Rattle.pc_coord.specs.Coordination.{Coordination, new_coordination}
+use Rattle.pc_coord.specs.declared.job.Job.{Job}
+use Rattle.pc_coord.specs.Knows.{Knows}
+use Rattle.pc_desk.specs.declared.halt.Halt.{Halt}
+use Rattle.pc_desk.specs.Desk.{DeskMeaning, HasHalted, KeepsTrack}
+use Rattle.pc_exchange.specs.Jobs.{IsFinishable}
+use Rattle.pc_history.specs.declared.pair.Pair.{Pair}
+use Rattle.pc_history.specs.declared.view.Part.{Part}
+use Rattle.pc_history.specs.Parts.{newcomer, told}
+use Rattle.pc_history.specs.declared.view.Known.{Known as KnownEntry}
+use Rattle.pc_proto.specs.declared.answer.Answer.{Answer}
+use Rattle.pc_proto.specs.declared.call.Call.{Call}
+use Rattle.pc_proto.specs.declared.event.Event.{Event}
+use Rattle.pc_session.specs.Calls.{HasCalled}
+use Rattle.pc_session.specs.Session.{AreOfOneSession, HasLeft, IsAtRest, RestsOrStopped, SessionMeaning}
+use Rattle.pc_session.specs.Steps.{HasMadeStep, HasStepped}
+use Rattle.pc_world.specs.Known.{Known, known_of, nothing_known}
+use Rattle.pc_world.specs.Known.Transactions.{Txn}
+use Rattle.pc_world.specs.Known.Traffic.{Sent}
+use Rattle.pc_world.specs.Tell.Refusal.{is_heard}
+
+-- before its first call
+pub begun_rests : {C : Type 0} (s : SessionMeaning C) (session : ℕ) → s.desk.log.part ≡ newcomer (actors.Session session) → KeepsTrack s.desk → s.coordinator ≡ new_coordination session s.desk.log.head.splits → Knows s.coordinator nothing_known
+    → s.desk.log.pipelining ≡ false → s.desk.posted ≡ [] → s.desk.replies ≡ [] → s.jobs ≡ [] → IsAtRest s
+begun_rests s session fresh track made knows unpiped posted replies jobs =
+    let own : s.desk.log.part.own ≡ [] = ap (λ (p : Part Event). p.own) fresh in
+    let known : known_of s.desk.log.part.own ≡ nothing_known = ap known_of own in
+    record {
+      track = track;
+      one = record {
+        whose = ap (λ (p : Part Event). p.id) fresh ∙ ap (λ n. actors.Session n) (sym (ap (λ (c : Coordination). c.session) made));
+        splits = ap (λ (c : Coordination). c.splits) made;
+        unpiped = unpiped;
+        knows = subst (Knows s.coordinator) (sym known) knows;
+      };
+      posted = posted;
+      replies = replies;
+      heard = subst (λ (k : Known). All (λ m. IsTrue (is_heard k.heard m)) k.sent) (sym known) (All-nil (λ (m : Sent). IsTrue (is_heard [] m)));
+      closed = ap (λ (k : Known). k.statement) known;
+      handed = ap (λ (c : Coordination). c.job) made;
+      holds = ap (λ (c : Coordination). is_some c.txn) made ∙ sym (ap (λ (k : Known). k.is_open) known);
+      waiting = subst (λ js. HasLeft s.desk.log.part.own js) (sym jobs) (subst (λ own. HasLeft own []) (sym own)
+          (record { left = refl; numbers = All-nil (λ (t : Txn). t.id.number ≤ 0); each = All-nil (IsFinishable nothing_known) }));
+    }
+
+stopped_not : {C : Type 0} (s : SessionMeaning C) → s.desk.log.stopped ≡ true → RestsOrStopped s
+stopped_not s stopped = λ going. absurd (let e : true ≡ false = sym stopped ∙ going in cc e)
+
+-- after a call
+pub called_rests : {C : Type 0} (old new : SessionMeaning C) (call : Call) (r : Result Answer Halt) → IfOk r (HasCalled old new call) → IfErr r (HasHalted old.desk new.desk) → RestsOrStopped new
+called_rests old new call (Ok answer) called halted = λ going. called.rest
+called_rests old new call (Err halt) called halted = stopped_not new halted.stopped
+
+-- after a step
+pub stepped_rests : {C : Type 0} (old new : SessionMeaning C) (r : Result Bool Halt) → IsAtRest old → IfOk r (HasStepped old new) → IfErr r (HasHalted old.desk new.desk) → RestsOrStopped new
+stepped_rests old new (Ok true) rest stepped halted = λ going. stepped.rest
+stepped_rests {C} old new (Ok false) rest stepped halted = λ going. subst (λ (s : SessionMeaning C). IsAtRest s) (sym stepped.1) rest
+stepped_rests old new (Err halt) rest stepped halted = stopped_not new halted.stopped
+
+-- once a mark was taken
+pub followed_rests : {C : Type 0} (old new : SessionMeaning C) (note : List (KnownEntry Event)) → new ≡ record old { desk = new.desk } → new.desk ≡ record old.desk { log = record old.desk.log { part = told note old.desk.log.part } } → (KeepsTrack old.desk → KeepsTrack new.desk)
+    → RestsOrStopped old → RestsOrStopped new
+followed_rests {C} old new note same took track rests = λ going.
+    let own : new.desk.log.part.own ≡ old.desk.log.part.own = ap (λ (d : DeskMeaning C). d.log.part.own) took in
+    let c : new.coordinator ≡ old.coordinator = ap (λ (s : SessionMeaning C). s.coordinator) same in
+    let jobs : new.jobs ≡ old.jobs = ap (λ (s : SessionMeaning C). s.jobs) same in
+    let rest = rests (sym (ap (λ (d : DeskMeaning C). d.log.stopped) took) ∙ going) in
+    record {
+      track = track rest.track;
+      one = subst (λ x. AreOfOneSession new.desk x) (sym c) (record {
+        whose = ap (λ (d : DeskMeaning C). d.log.part.id) took ∙ rest.one.whose;
+        splits = rest.one.splits ∙ sym (ap (λ (d : DeskMeaning C). d.log.head.splits) took);
+        unpiped = ap (λ (d : DeskMeaning C). d.log.pipelining) took ∙ rest.one.unpiped;
+        knows = subst (λ own. Knows old.coordinator (known_of own)) (sym own) rest.one.knows;
+      });
+      posted = ap (λ (d : DeskMeaning C). d.posted) took ∙ rest.posted;
+      replies = ap (λ (d : DeskMeaning C). d.replies) took ∙ rest.replies;
+      heard = subst (λ own. All (λ m. IsTrue (is_heard (known_of own).heard m)) (known_of own).sent) (sym own) rest.heard;
+      closed = ap (λ own. (known_of own).statement) own ∙ rest.closed;
+      handed = ap (λ (x : Coordination). x.job) c ∙ rest.handed;
+      holds = ap (λ (x : Coordination). is_some x.txn) c ∙ (rest.holds ∙ sym (ap (λ own. (known_of own).is_open) own));
+      waiting = subst (λ js. HasLeft new.desk.log.part.own js) (sym jobs) (subst (λ own. HasLeft own old.jobs) (sym own) rest.waiting);
+    }

@@ -1,0 +1,113 @@
+-- A session once it did its oldest job.
+use Rattle.std.proofs.Common.{◌≡◌, ℕ, ◌≤◌, max, All, Contains, IsTrue, List, [], ◌∷◌, ◌++◌, drop, map, None, refl, sym, ap, subst, ◌∙◌}
+use Rattle.std.proofs.lemmas.List.Elements.{All-contains, All-head, All-tail, All-weaker, Contains-append_right}
+use Rattle.pc_base.specs.declared.actor.ActorId.TheVariants as actors
+use Rattle.pc_coord.specs.Coordination.{Coordination, with_clock}
+use Rattle.pc_coord.specs.declared.job.Job.{Job}
+use Rattle.pc_coord.specs.Knows.{Knows, messages_of_job}
+use Rattle.pc_coord.specs.Laws.{CoordinatingGoesOn}
+use Rattle.pc_desk.specs.Desk.{DeskMeaning}
+use Rattle.pc_desk.specs.OwnLog.{IsOwnLog, LogMeaning}
+use Rattle.pc_exchange.specs.Growing.{HasGrownBy}
+use Rattle.pc_exchange.specs.Jobs.{HasFinishedJob, IsFinishable, MayFinishNow}
+use Rattle.pc_history.specs.declared.pair.Pair.{Pair}
+use Rattle.pc_lists.proofs.Lists.{all_from_contains}
+use Rattle.pc_proto.specs.declared.event.Event.{Event}
+use Rattle.pc_proto.specs.declared.request.Request.{Request}
+use Rattle.pc_session.proofs.Due.{holds, idle}
+use Rattle.pc_session.proofs.Inside.{id_same, one_on}
+use Rattle.pc_session.specs.Session.{HasLeft, IsAtRest, SessionMeaning, session_knows}
+use Rattle.pc_session.specs.Steps.{HasMadeStep}
+use Rattle.pc_turns.specs.Order.{FinishesWhole}
+use Rattle.pc_world.specs.Follows.FinishingJobs.{jobs_of}
+use Rattle.pc_world.specs.Known.{Known, known_of}
+use Rattle.pc_world.specs.Known.Transactions.{Txn}
+use Rattle.pc_world.specs.Tell.Refusal.{is_heard}
+
+-- what an actor's list grew by is the actor's
+pub part_whose : {C : Type 0} (old new : LogMeaning C) (part : List (Pair Event)) (session : ℕ) → HasGrownBy old new part → IsOwnLog new → old.part.id ≡ actors.Session session → All (λ p. p.entry.actor ≡ actors.Session session) part
+part_whose old new part session grown log whose =
+    all_from_contains (λ (p : Pair Event). p.entry.actor ≡ actors.Session session) part (λ p there.
+    All-contains (λ (p : Pair Event). p.entry.actor ≡ new.part.id) new.part.own p log.whose (subst (λ l. Contains l p) (sym grown.own) (Contains-append_right old.part.own part p there))
+    ∙ (id_same old new part grown ∙ whose))
+
+module _ {C : Type 0} (old : SessionMeaning C) (job : Job) (jobs : List Job) (rest : IsAtRest old) (listed : old.jobs ≡ job ∷ jobs) where
+  abbrev k : Known
+  k = session_knows old
+
+  all_finishable : All (IsFinishable k) (job ∷ jobs)
+  all_finishable = subst (All (IsFinishable k)) listed rest.waiting.each
+
+  waiting_is : jobs_of old.desk.log.part.own ≡ messages_of_job job ∷ map messages_of_job jobs
+  waiting_is = rest.waiting.left ∙ ap (map messages_of_job) listed
+
+  -- the job may be done
+  pub may_finish : MayFinishNow old.desk job
+  may_finish = record {
+    back = record { track = rest.track; posted = rest.posted; replies = rest.replies };
+    session = old.coordinator.session;
+    whose = rest.one.whose;
+    closed = rest.closed;
+    may = All-head (IsFinishable k) job jobs all_finishable;
+    waiting = map messages_of_job jobs;
+    oldest = waiting_is;
+  }
+
+  module _ (d : DeskMeaning C) (c : Coordination) (ts : ℕ) (made : HasFinishedJob old.desk d job ts) (raised : c ≡ with_clock (max old.coordinator.clock ts) old.coordinator) (goes-on : CoordinatingGoesOn) where
+    abbrev now : Known
+    now = known_of d.log.part.own
+
+    -- The session after it.
+    abbrev pub finished_then : SessionMeaning C
+    finished_then = record { desk = d; coordinator = c; jobs = jobs }
+
+    same-session : old.coordinator.session ≡ made.session
+    same-session = let both : actors.Session old.coordinator.session ≡ actors.Session made.session = sym rest.one.whose ∙ made.whose in cc both
+
+    left-is : jobs_of d.log.part.own ≡ map messages_of_job jobs
+    left-is = let both : messages_of_job job ∷ jobs_of d.log.part.own ≡ messages_of_job job ∷ map messages_of_job jobs = sym made.done ∙ waiting_is in cc both
+
+    closed : now.statement ≡ None
+    closed = made.made.aside.statement ∙ rest.closed
+
+    knows : Knows c now
+    knows =
+        let beside = made.made.beside old.coordinator same-session rest.one.knows in
+        let on = goes-on old.coordinator k now rest.one.knows (idle old.coordinator k rest.one.knows rest.closed) rest.handed beside.later in
+        subst (λ x. Knows x now) (sym (raised ∙ ap (λ n. with_clock n old.coordinator) beside.clock)) on
+
+    rests : IsAtRest finished_then
+    rests = record {
+      track = made.goes.back.track;
+      one = one_on old.desk d old.coordinator c made.part made.goes.grown rest.one (ap (λ (x : Coordination). x.session) raised) (ap (λ (x : Coordination). x.splits) raised) knows;
+      posted = made.goes.back.posted;
+      replies = made.goes.back.replies;
+      heard = made.heard;
+      closed = closed;
+      handed = ap (λ (x : Coordination). x.job) raised ∙ rest.handed;
+      holds = holds c now knows closed;
+      waiting = record {
+        left = left-is;
+        numbers = subst (λ n. All (λ (t : Txn). t.id.number ≤ n) now.txns) (sym made.made.aside.begun) (subst (All (λ (t : Txn). t.id.number ≤ k.begun)) (sym made.made.aside.txns) rest.waiting.numbers);
+        each = All-weaker (IsFinishable k) (IsFinishable now) made.made.left jobs (All-tail (IsFinishable k) job jobs all_finishable);
+      };
+    }
+
+    -- the job was done whole
+    pub finished_step : HasMadeStep old finished_then
+    finished_step = record {
+      part = made.part;
+      grown = made.goes.grown;
+      whole = record {
+        whose = part_whose old.desk.log d.log made.part old.coordinator.session made.goes.grown made.goes.back.track.log rest.one.whose;
+        within = made.goes.within;
+        done = ap jobs_of (sym made.goes.grown.own) ∙ (left-is ∙ sym (ap (drop 1) waiting_is));
+        heard = subst (λ own. All (λ m. IsTrue (is_heard (known_of own).heard m)) (known_of own).sent) made.goes.grown.own made.heard;
+      };
+      job = job;
+      oldest = listed;
+      limit = made.goes.limit;
+      session = ap (λ (x : Coordination). x.session) raised;
+      txn = ap (λ (x : Coordination). x.txn) raised;
+      rest = rests;
+    }

@@ -1,0 +1,74 @@
+-- A session in one of its calls, and what it does there.
+use Rattle.std.specs.Prelude.{◌≡◌, ℕ, true, false, Option, None, Some, List, [], ◌∷◌, ◌++◌, All}
+use Rattle.pc_coord.specs.Coordination.{awaits_number}
+use Rattle.pc_coord.specs.Suiting.{SuitsNext}
+use Rattle.pc_desk.specs.Desk.{KeepsTrack, is_on_way}
+use Rattle.pc_exchange.specs.Growing.{HasGrownBy}
+use Rattle.pc_history.specs.declared.pair.Pair.{Pair}
+use Rattle.pc_proto.specs.declared.answer.Answer.{Answer}
+use Rattle.pc_proto.specs.declared.call.Call.{Call}
+use Rattle.pc_proto.specs.declared.event.Event.{Event}
+use Rattle.pc_proto.specs.declared.event.Event.TheVariants as events
+use Rattle.pc_proto.specs.declared.request.Request.{Request}
+use Rattle.pc_session.specs.Session.{AreOfOneSession, HasLeft, IsAtRest, SessionMeaning, session_knows}
+use Rattle.pc_turns.specs.Order.{IsInBetween, events_of}
+use Rattle.pc_world.specs.Follows.CallMessages.{IsForCall}
+use Rattle.pc_world.specs.Known.{Known}
+use Rattle.pc_world.specs.Known.Statements.{Statement}
+use Rattle.pc_world.specs.Known.Traffic.{Heard, request_sent}
+use Rattle.pc_world.specs.Tell.Refusal.{is_heard}
+
+-- No reply that was heard before the last call was asked is to a message that was sent since; and under each such message's number stands
+-- what it says.
+pub record IsApartNow (k : Known) : Type 0 where
+  pub before : List Heard
+  pub split : k.heard ≡ before ++ k.heard_now
+  pub apart : All (λ m. is_heard before m ≡ false) k.sent_now
+  pub said : All (λ m. request_sent m.number k.sent ≡ Some m.request) k.sent_now
+
+-- The session is in a call that was asked at this reading: its coordinator waits for just the messages that are on their way, and these are
+-- for the call.
+pub record HasOpenCall {C : Type 0} (s : SessionMeaning C) (reading : ℕ) : Type 0 where
+  pub track : KeepsTrack s.desk
+  pub one : AreOfOneSession s.desk s.coordinator
+  pub way : (number : ℕ) → awaits_number number s.coordinator.due ≡ is_on_way number s.desk
+  pub call : Call
+  pub opened : (session_knows s).statement ≡ Some (record { call = call; reading = reading })
+  pub apart : IsApartNow (session_knows s)
+  pub kinds : (number : ℕ) (request : Request) → is_on_way number s.desk ≡ true → request_sent number (session_knows s).sent ≡ Some request → IsForCall (session_knows s) request
+  pub waiting : HasLeft s.desk.log.part.own s.jobs
+
+-- In its call the session sent and heard, and did nothing else.
+pub record HasGoneInside {C : Type 0} (old new : SessionMeaning C) : Type 0 where
+  pub part : List (Pair Event)
+  pub grown : HasGrownBy old.desk.log new.desk.log part
+  pub within : All IsInBetween (events_of part)
+  pub limit : new.desk.range_limit ≡ old.desk.range_limit
+  pub session : new.coordinator.session ≡ old.coordinator.session
+  pub statement : (session_knows new).statement ≡ (session_knows old).statement
+
+-- The session asked the call at this reading, sent and heard since, and did nothing else.
+pub record HasAsked {C : Type 0} (old new : SessionMeaning C) (call : Call) (reading : ℕ) : Type 0 where
+  pub part : List (Pair Event)
+  pub grown : HasGrownBy old.desk.log new.desk.log part
+  pub between : List Event
+  pub whole : events_of part ≡ events.Ask call reading ∷ between
+  pub within : All IsInBetween between
+  pub limit : new.desk.range_limit ≡ old.desk.range_limit
+  pub session : new.coordinator.session ≡ old.coordinator.session
+  pub opened : (session_knows new).statement ≡ Some (record { call = call; reading = reading })
+
+-- The session told this answer to its open call, and did nothing else. It rests; and which calls suit its transaction now.
+pub record HasTold {C : Type 0} (old new : SessionMeaning C) (answer : Answer) : Type 0 where
+  pub part : List (Pair Event)
+  pub grown : HasGrownBy old.desk.log new.desk.log part
+  pub whole : events_of part ≡ events.Tell answer ∷ []
+  pub limit : new.desk.range_limit ≡ old.desk.range_limit
+  pub session : new.coordinator.session ≡ old.coordinator.session
+  pub suits : (s : Statement) → (session_knows old).statement ≡ Some s → SuitsNext answer s.call new.coordinator.txn
+  pub rest : IsAtRest new
+
+-- The call goes on, or was told this answer.
+abbrev pub GoesOn : {C : Type 0} → SessionMeaning C → SessionMeaning C → ℕ → Option Answer → Type 0
+GoesOn old new reading None = HasOpenCall new reading × HasGoneInside old new
+GoesOn old new reading (Some answer) = HasTold old new answer

@@ -1,0 +1,7 @@
+//! A session: it asks calls and is told their answers, sends its messages to the ranges, and does the jobs that its transactions leave.
+#![tactic(auto)]
+
+mod office;
+mod session;
+
+pub use session::Session;

@@ -1,0 +1,284 @@
+ghost use Rattle.std.specs.Prelude.{◌≡◌, ◌+◌, ◌++◌, [], true, length, IfErr, IfOk, IfSome, OnOk};
+ghost use Rattle.std.specs.Option.{option_to_list};
+ghost use Rattle.pc_coord.specs.Coordination.{next_of, without_job};
+ghost use Rattle.pc_coord.specs.declared.due.Due.TheVariants as dues;
+ghost use Rattle.pc_coord.specs.declared.next.Next.TheVariants as nexts;
+ghost use Rattle.pc_coord.specs.Knows.{Knows, MayCome, MayFinishJob};
+ghost use Rattle.pc_desk.specs.Desk.{HasHalted};
+ghost use Rattle.pc_session.specs.Calls.{HasCalled, MayBeCalled};
+ghost use Rattle.pc_session.specs.InCall.{GoesOn, HasAsked, HasGoneInside, HasOpenCall};
+ghost use Rattle.pc_session.specs.Session.{IsAtRest, session_knows};
+ghost use Rattle.pc_session.specs.Steps.{HasStepped};
+ghost use Rattle.pc_world.specs.Known.{Known};
+
+use pc_base::{NoMemory, Timestamp, TryCopy};
+use pc_clock::Clock;
+use pc_coord::{Coordinator, Job, Next, coordinating_goes_on};
+use pc_desk::{Desk, Halt};
+use pc_exchange::{finish_job, make_round};
+use pc_history::Named;
+use pc_proto::{Answer, Call, Reply, Request};
+use pc_range::{CommitWorld, Gate};
+use pc_wire::Wire;
+use std::alloc::Global;
+use std::collections::VecDeque;
+use std::marker::Model;
+use std::sync::Wait;
+
+/// What a session works with: its desk, its coordinator, and the jobs that wait. It may be in the middle of a call.
+#[derive(Drop)]
+pub(crate) struct Office<'a, N: Named<CommitWorld>, C: Clock, V: Wire, G> {
+    pub(crate) desk: Desk<'a, N, C, V, G>,
+    pub(crate) coordinator: Coordinator<'a>,
+    /// What the transactions that are over left to be done, the oldest first.
+    pub(crate) jobs: VecDeque<Job>,
+}
+
+impl<'a, N: Named<CommitWorld>, C: Clock, V: Wire, G> Model for Office<'a, N, C, V, G> {
+    ghost use Rattle.pc_session.specs.Session.{SessionMeaning};
+
+    ghost Value = { SessionMeaning C };
+
+    ghost view = { λ o. record { desk = o.desk; coordinator = o.coordinator; jobs = o.jobs.items } };
+}
+
+impl<'a, N: Named<CommitWorld>, C: Clock, V: Wire, G: Gate> Office<'a, N, C, V, G> {
+    /// That of a session before its first call.
+    pub(crate) fn new(
+        alloc: Global,
+        desk: Desk<'a, N, C, V, G>,
+        coordinator: Coordinator<'a>,
+    ) -> Office<'a, N, C, V, G>
+        ensures { result ≡ record { desk = desk; coordinator = coordinator; jobs = [] } }
+    {
+        Office {
+            desk,
+            coordinator,
+            jobs: VecDeque::new(alloc),
+        }
+    }
+
+    /// Asks the call, makes its messages and the rounds of its conflicts, and tells its answer.
+    pub(crate) fn call<R: Wait>(&mut self, rt: &R, call: Call) -> Result<Answer, Halt>
+        requires rest { IsAtRest self.old }
+        requires may { MayBeCalled self.old call }
+        ensures ok { IfOk result (HasCalled self.old self.new call) }
+        ensures err { IfErr result (HasHalted self.old.desk self.new.desk) }
+        ensures rule { C.rule self.new.desk.log.clock ≡ C.rule self.old.desk.log.clock }
+    {
+        let reading = self.ask(call)?;
+        for _ in rt.forever() {
+            if let Some(answer) = self.go_on(rt, reading)? {
+                return Ok(answer);
+            }
+        }
+        unreachable!()
+    }
+
+    /// Stops for want of memory.
+    fn want_memory(&mut self) -> Halt
+        ensures halted { HasHalted self.old.desk self.new.desk result }
+        ensures clock { self.new.desk.log.clock ≡ self.old.desk.log.clock }
+    {
+        self.desk.want_memory()
+    }
+
+    /// Asks the call, at the next reading of the clock, which it gives.
+    fn ask(&mut self, call: Call) -> Result<u64, Halt>
+        requires rest { IsAtRest self.old }
+        requires may { MayBeCalled self.old call }
+        ensures calls { IfOk result (HasOpenCall self.new) }
+        ensures asked { IfOk result (HasAsked self.old self.new call) }
+        ensures err { IfErr result (HasHalted self.old.desk self.new.desk) }
+        ensures rule { C.rule self.new.desk.log.clock ≡ C.rule self.old.desk.log.clock }
+    {
+        let copy = match call.copy() {
+            Ok(copy) => copy,
+            Err(NoMemory) => return Err(self.want_memory()),
+        };
+        let reading = self.desk.ask(copy)?;
+        match self.coordinator.ask(call, reading) {
+            Ok(()) => Ok(reading),
+            Err(NoMemory) => Err(self.want_memory()),
+        }
+    }
+
+    /// Does what is due. Gives the answer once it was told.
+    fn go_on<R: Wait>(&mut self, rt: &R, reading: u64) -> Result<Option<Answer>, Halt>
+        requires { HasOpenCall self.old reading }
+        ensures ok { IfOk result (GoesOn self.old self.new reading) }
+        ensures err { IfErr result (HasHalted self.old.desk self.new.desk) }
+        ensures clock { self.new.desk.log.clock ≡ self.old.desk.log.clock }
+    {
+        match self.due(reading)? {
+            Next::Send(request) => self.send(reading, request),
+            Next::Wave => self.wave(rt, reading),
+            Next::Conflict {
+                number,
+                conflict,
+                reader,
+            } => self.round(rt, reading, number, conflict, reader),
+            Next::Tell(answer) => self.tell(reading, answer),
+            Next::Idle => unreachable!(),
+        }
+    }
+
+    /// What is due in the call that was asked at this reading.
+    fn due(&mut self, reading: u64) -> Result<Next, Halt>
+        requires { HasOpenCall self.old reading }
+        ensures due { IfOk result (λ next. next ≡ next_of self.old.coordinator.due) }
+        ensures may { IfOk result (MayCome self.old.coordinator (session_knows self.old)) }
+        ensures same { OnOk result (self.new ≡ self.old) }
+        ensures err { IfErr result (HasHalted self.old.desk self.new.desk) }
+        ensures clock { self.new.desk.log.clock ≡ self.old.desk.log.clock }
+    {
+        match self.coordinator.next() {
+            Ok(next) => Ok(next),
+            Err(NoMemory) => Err(self.want_memory()),
+        }
+    }
+
+    /// Sends a message that the coordinator gave. It waits until the next wave.
+    fn send(&mut self, reading: u64, request: Request) -> Result<Option<Answer>, Halt>
+        requires calls { HasOpenCall self.old reading }
+        requires due { next_of self.old.coordinator.due ≡ nexts.Send request }
+        requires may { MayCome self.old.coordinator (session_knows self.old) (nexts.Send request) }
+        ensures ok { IfOk result (GoesOn self.old self.new reading) }
+        ensures err { IfErr result (HasHalted self.old.desk self.new.desk) }
+        ensures clock { self.new.desk.log.clock ≡ self.old.desk.log.clock }
+    {
+        let number = self.desk.send(request)?;
+        match self.coordinator.sent(number) {
+            Ok(()) => Ok(None),
+            Err(NoMemory) => Err(self.want_memory()),
+        }
+    }
+
+    /// A wave: the messages that wait are evaluated, and then their replies heard.
+    fn wave<R: Wait>(&mut self, rt: &R, reading: u64) -> Result<Option<Answer>, Halt>
+        requires { HasOpenCall self.old reading }
+        ensures ok { IfOk result (GoesOn self.old self.new reading) }
+        ensures err { IfErr result (HasHalted self.old.desk self.new.desk) }
+        ensures clock { self.new.desk.log.clock ≡ self.old.desk.log.clock }
+    {
+        self.deliver(rt, reading)?;
+        loop {
+            if !self.hear(reading)? {
+                return Ok(None);
+            }
+        }
+    }
+
+    /// Has the messages that wait evaluated.
+    fn deliver<R: Wait>(&mut self, rt: &R, reading: u64) -> Result<(), Halt>
+        requires { HasOpenCall self.old reading }
+        ensures calls { OnOk result (HasOpenCall self.new reading) }
+        ensures goes { OnOk result (HasGoneInside self.old self.new) }
+        ensures err { IfErr result (HasHalted self.old.desk self.new.desk) }
+        ensures clock { self.new.desk.log.clock ≡ self.old.desk.log.clock }
+    {
+        self.desk.deliver(rt)
+    }
+
+    /// Hears the reply that has waited longest. False where none waits.
+    fn hear(&mut self, reading: u64) -> Result<bool, Halt>
+        requires { HasOpenCall self.old reading }
+        ensures calls { OnOk result (HasOpenCall self.new reading) }
+        ensures goes { OnOk result (HasGoneInside self.old self.new) }
+        ensures fewer { IfOk result (λ more. more ≡ true → length self.old.desk.replies ≡ length self.new.desk.replies + 1) }
+        ensures err { IfErr result (HasHalted self.old.desk self.new.desk) }
+        ensures clock { self.new.desk.log.clock ≡ self.old.desk.log.clock }
+    {
+        let answered = match self.desk.hear()? {
+            Some(answered) => answered,
+            None => return Ok(false),
+        };
+        match self
+            .coordinator
+            .heard(answered.number, answered.step, &answered.reply)
+        {
+            Ok(()) => Ok(true),
+            Err(NoMemory) => Err(self.want_memory()),
+        }
+    }
+
+    /// Makes the round of the conflict that the message of this number met, and tells the coordinator how it ended.
+    fn round<R: Wait>(
+        &mut self,
+        rt: &R,
+        reading: u64,
+        number: u64,
+        conflict: Reply,
+        reader: Option<Timestamp>,
+    ) -> Result<Option<Answer>, Halt>
+        requires calls { HasOpenCall self.old reading }
+        requires due { next_of self.old.coordinator.due ≡ nexts.Conflict number conflict reader }
+        requires may { MayCome self.old.coordinator (session_knows self.old) (nexts.Conflict number conflict reader) }
+        ensures ok { IfOk result (GoesOn self.old self.new reading) }
+        ensures err { IfErr result (HasHalted self.old.desk self.new.desk) }
+        ensures clock { self.new.desk.log.clock ≡ self.old.desk.log.clock }
+    {
+        let pusher = match self.coordinator.pusher() {
+            Some(pusher) => pusher,
+            None => unreachable!(),
+        };
+        let (round, ts) = make_round(&mut self.desk, rt, pusher, reading, conflict, reader)?;
+        self.coordinator.raise(ts);
+        match self.coordinator.settled(number, round) {
+            Ok(()) => Ok(None),
+            Err(NoMemory) => Err(self.want_memory()),
+        }
+    }
+
+    /// The open call is told its answer; what its transaction left becomes the newest job.
+    fn tell(&mut self, reading: u64, answer: Answer) -> Result<Option<Answer>, Halt>
+        requires calls { HasOpenCall self.old reading }
+        requires due { next_of self.old.coordinator.due ≡ nexts.Tell answer }
+        requires may { MayCome self.old.coordinator (session_knows self.old) (nexts.Tell answer) }
+        ensures ok { IfOk result (GoesOn self.old self.new reading) }
+        ensures err { IfErr result (HasHalted self.old.desk self.new.desk) }
+        ensures clock { self.new.desk.log.clock ≡ self.old.desk.log.clock }
+    {
+        let copy = match answer.copy() {
+            Ok(copy) => copy,
+            Err(NoMemory) => return Err(self.want_memory()),
+        };
+        self.desk.tell(copy)?;
+        self.coordinator.told();
+        match self.take_job() {
+            Ok(()) => Ok(Some(answer)),
+            Err(NoMemory) => Err(self.want_memory()),
+        }
+    }
+
+    /// What the last transaction left becomes the newest job.
+    fn take_job(&mut self) -> Result<(), NoMemory>
+        ensures desk { self.new.desk ≡ self.old.desk }
+        ensures made { self.new.coordinator ≡ without_job self.old.coordinator }
+        ensures jobs { OnOk result (self.new.jobs ≡ self.old.jobs ++ option_to_list self.old.coordinator.job) }
+        ensures knows { (k : Known) → Knows self.old.coordinator k → self.old.coordinator.due ≡ dues.Nothing → Knows self.new.coordinator k }
+        ensures may { (k : Known) → Knows self.old.coordinator k → self.old.coordinator.due ≡ dues.Nothing → IfSome self.old.coordinator.job (MayFinishJob k) }
+    {
+        if let Some(job) = self.coordinator.job() {
+            self.jobs.push_back(job)?;
+        }
+        Ok(())
+    }
+
+    /// Does the oldest job. False where none waits.
+    pub(crate) fn step<R: Wait>(&mut self, rt: &R) -> Result<bool, Halt>
+        requires { IsAtRest self.old }
+        ensures ok { IfOk result (HasStepped self.old self.new) }
+        ensures err { IfErr result (HasHalted self.old.desk self.new.desk) }
+        ensures clock { self.new.desk.log.clock ≡ self.old.desk.log.clock }
+    {
+        let job = match self.jobs.pop_front() {
+            Some(job) => job,
+            None => return Ok(false),
+        };
+        let ts = finish_job(&mut self.desk, rt, job)?;
+        coordinating_goes_on();
+        self.coordinator.raise(ts);
+        Ok(true)
+    }
+}

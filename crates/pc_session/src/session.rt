@@ -1,0 +1,166 @@
+ghost use Rattle.std.specs.Prelude.{◌≡◌, ℕ, ◌-◌, ◌≤◌, ◌<◌, ◌^◌, ◌↔◌, [], false, length, map, not, All, IfErr, IfNone, IfOk, IfSome, IsTrue, OnOk};
+ghost use Rattle.pc_base.specs.declared.actor.ActorId.TheVariants as actors;
+ghost use Rattle.pc_base.specs.Rising.{AreRising};
+ghost use Rattle.pc_desk.specs.Desk.{HasHalted, IsReadyToGo, new_desk};
+ghost use Rattle.pc_desk.specs.Keeping.{ReadsEach};
+ghost use Rattle.pc_desk.specs.OwnLog.{IsOwnLog};
+ghost use Rattle.pc_history.specs.Parts.{newcomer, noted, told};
+ghost use Rattle.pc_session.specs.Calls.{HasCalled, MayBeCalled};
+ghost use Rattle.pc_session.specs.Session.{IsAtRest, RestsOrStopped, session_knows};
+ghost use Rattle.pc_session.specs.Steps.{HasStepped};
+ghost use Rattle.pc_wire.specs.declared.verdict.Verdict.TheVariants as verdicts;
+ghost use Rattle.pc_world.specs.Local.{IsActorOf};
+
+use crate::office::Office;
+use pc_base::NoMemory;
+use pc_clock::Clock;
+use pc_coord::Coordinator;
+use pc_desk::{Desk, Halt, Rest};
+use pc_history::{Actor, Named, Note};
+use pc_proto::{Answer, Call};
+use pc_range::{CommitWorld, Gate, Ranges};
+use pc_wire::Wire;
+use std::alloc::Global;
+use std::marker::Model;
+use std::sync::Wait;
+
+/// One session of the ranges: it begins transactions, reads, writes and ends them, one call after another, and does what they leave.
+///
+/// It makes its own list of entries, and knows what that says. Once it has halted it makes no more: each later call is refused as stopped.
+#[derive(Drop)]
+pub struct Session<'a, N: Named<CommitWorld>, C: Clock, V: Wire, G> {
+    office: Office<'a, N, C, V, G>,
+}
+
+impl<'a, N: Named<CommitWorld>, C: Clock, V: Wire, G> Model for Session<'a, N, C, V, G> {
+    ghost use Rattle.pc_session.specs.Session.{RestsOrStopped, SessionMeaning};
+
+    ghost Value = { SessionMeaning C };
+
+    ghost view = { λ s. s.office };
+
+    ghost invariant = { λ s. RestsOrStopped s.office };
+}
+
+impl<'a, N: Named<CommitWorld>, C: Clock, V: Wire, G: Gate> Session<'a, N, C, V, G> {
+    /// The session of this number, from 1, before its first call. Its list may have at most `limit` entries, and stops at entry number
+    /// `stop`, if one is stated. A request is sent at most `tries` times in all.
+    pub fn new(
+        alloc: Global,
+        number: u32,
+        actor: Actor<CommitWorld, N>,
+        ranges: &'a Ranges<'a, N, G>,
+        clock: C,
+        wire: V,
+        tries: u32,
+        pipelining: bool,
+        limit: u64,
+        stop: Option<u64>,
+    ) -> Session<'a, N, C, V, G>
+        requires whose { actor.part ≡ newcomer (actors.Session number) }
+        requires there { IsActorOf actor.world (actors.Session number) }
+        requires unread { C.reads clock ≡ 0 }
+        requires limit { limit < 2 ^ 32 }
+        requires stop { IfSome stop (λ n. 1 ≤ n) }
+        requires splits { ranges.now.splits ≡ actor.world.splits }
+        requires rising { AreRising actor.world.splits }
+        requires few { length actor.world.splits ≤ 31 }
+        requires unpiped { pipelining ≡ false }
+        requires quiet { (number : ℕ) → V.rule wire number ≡ verdicts.Deliver }
+        ensures made { result.desk ≡ new_desk actor.world actor.part actor.spare clock pipelining limit stop ranges.now.limit }
+        ensures session { result.coordinator.session ≡ number }
+        ensures jobs { result.jobs ≡ [] }
+        ensures rests { IsAtRest result }
+    {
+        let desk = Desk::new(alloc, actor, ranges, clock, wire, pipelining, limit, stop);
+        let coordinator = Coordinator::new(alloc, number, tries, pipelining, ranges.splits());
+        Session {
+            office: Office::new(alloc, desk, coordinator),
+        }
+    }
+
+    /// Whether it makes no more entries.
+    pub fn has_stopped(&self) -> bool
+        ensures stopped { result ≡ self.now.desk.log.stopped }
+        ensures rests { RestsOrStopped self.now }
+    {
+        self.office.desk.has_stopped()
+    }
+
+    /// Whether a transaction is open.
+    pub fn has_txn(&self) -> bool
+        ensures { self.now.desk.log.stopped ≡ false → result ≡ (session_knows self.now).is_open }
+    {
+        self.office.coordinator.has_txn()
+    }
+
+    /// Whether a job waits.
+    pub fn has_job(&self) -> bool
+        ensures { IsTrue (not result) ↔ (self.now.jobs ≡ []) }
+    {
+        !self.office.jobs.is_empty()
+    }
+
+    /// A note of its last entry, without uses. None where it has no entry.
+    pub fn mark(&mut self) -> Result<Option<Note<CommitWorld, N>>, NoMemory>
+        ensures note { IfOk result (λ mark. IfSome mark (λ n. n.known ≡ noted (length self.old.desk.log.part.own - 1) 0 self.old.desk.log.part)) }
+        ensures none { IfOk result (λ mark. IfNone mark (self.old.desk.log.part.own ≡ [])) }
+        ensures same { self.new ≡ self.old }
+    {
+        self.office.desk.mark()
+    }
+
+    /// Knows the entry of a mark from now on, so that its later entries stand after that one.
+    pub fn follow(&mut self, mark: Note<CommitWorld, N>)
+        ensures took { self.new ≡ record self.old { desk = record self.old.desk { log = record self.old.desk.log { part = told mark.known self.old.desk.log.part } } } }
+        ensures rests { RestsOrStopped self.new }
+    {
+        self.office.desk.follow(mark);
+    }
+
+    /// Asks the call, makes its messages and the rounds of its conflicts, and is told its answer.
+    pub fn call<R: Wait>(&mut self, rt: &R, call: Call) -> Result<Answer, Halt>
+        requires { self.old.desk.log.stopped ≡ false → MayBeCalled self.old call }
+        ensures ok { IfOk result (HasCalled self.old self.new call) }
+        ensures err { IfErr result (HasHalted self.old.desk self.new.desk) }
+        ensures rule { C.rule self.new.desk.log.clock ≡ C.rule self.old.desk.log.clock }
+    {
+        self.going()?;
+        self.office.call(rt, call)
+    }
+
+    /// Refused where it has stopped.
+    fn going(&self) -> Result<(), Halt>
+        ensures ok { OnOk result (self.now.desk.log.stopped ≡ false) }
+        ensures err { IfErr result (HasHalted self.now.desk self.now.desk) }
+    {
+        if self.office.desk.has_stopped() {
+            return Err(Halt::Stopped);
+        }
+        Ok(())
+    }
+
+    /// Does the oldest job: settles each lock of a transaction that is over, and then removes its record. False where no job waits.
+    pub fn step<R: Wait>(&mut self, rt: &R) -> Result<bool, Halt>
+        ensures ok { IfOk result (HasStepped self.old self.new) }
+        ensures err { IfErr result (HasHalted self.old.desk self.new.desk) }
+        ensures clock { self.new.desk.log.clock ≡ self.old.desk.log.clock }
+    {
+        self.going()?;
+        self.office.step(rt)
+    }
+}
+
+impl<'a, N: Named<CommitWorld>, C: Clock + Drop, V: Wire + Drop, G> Session<'a, N, C, V, G> {
+    /// Its actor, to be handed in, and what is still in its outbox: nothing, unless it has stopped.
+    pub fn finish(self) -> (Actor<CommitWorld, N>, Rest<N>)
+        ensures actor { (result.0.world ≡ self.entry.desk.log.head) × (result.0.part ≡ self.entry.desk.log.part) }
+        ensures log { IsOwnLog self.entry.desk.log }
+        ensures reads { ReadsEach (C.rule self.entry.desk.log.clock) self.entry.desk.log.part.own }
+        ensures rest { map (λ w. w.posted) result.1 ≡ self.entry.desk.posted }
+        ensures ready { All (IsReadyToGo self.entry.desk.log.part.id self.entry.desk.log.head.splits) result.1 }
+        ensures rests { RestsOrStopped self.entry }
+    {
+        self.office.desk.finish()
+    }
+}
