@@ -78,6 +78,11 @@ asked_on a b d call reading x y = record {
   opened = y.statement ∙ x.opened;
 }
 
+-- the desk is as it was
+pub inside_still : {C : Type 0} (v old : SessionMeaning C) (d : DeskMeaning C) → v ≡ old → d ≡ v.desk → HasGoneInside old (record v { desk = d })
+inside_still {C} v old d same still =
+    subst (λ (s : SessionMeaning C). HasGoneInside s (record v { desk = d })) same (subst (λ (x : DeskMeaning C). HasGoneInside v (record v { desk = x })) (sym still) (inside_none v))
+
 -- ---- from the session as its code has it
 
 module _ {C : Type 0} (v old new : SessionMeaning C) (same : v ≡ old) where

@@ -1,14 +1,13 @@
 -- A session in its call once it sent the message that its coordinator gave.
-use Rattle.std.proofs.Common.{◌≡◌, ℕ, ◌+◌, true, false, Bool, ◌==◌, ◌||◌, All, IsTrue, inl, inr, List, [], ◌∷◌, ◌++◌, Some, None, refl, sym, ap, subst, ◌∙◌, if◌then◌else◌, is_some, map, Option}
+use Rattle.std.proofs.Common.{◌≡◌, ℕ, ◌+◌, true, false, Bool, ◌==◌, ◌||◌, [], ◌∷◌, ◌++◌, Some, None, refl, sym, ap, subst, ◌∙◌, is_some, Option}
 use Rattle.std.proofs.lemmas.Bool.{eqb-true}
 use Rattle.std.proofs.lemmas.List.Elements.{All-cons, All-nil}
 use Rattle.pc_base.specs.declared.actor.ActorId.TheVariants as actors
-use Rattle.pc_base.specs.Rising.{AreRising}
 use Rattle.pc_call.specs.Sending.{IsSendable}
 use Rattle.pc_coord.specs.Coordination.{Coordination, awaits_number, next_of}
 use Rattle.pc_coord.specs.declared.next.Next.TheVariants as nexts
 use Rattle.pc_coord.specs.Events.{SendsDue}
-use Rattle.pc_coord.specs.Knows.{AwaitsNone, Knows, messages_of_job}
+use Rattle.pc_coord.specs.Knows.{AwaitsNone, Knows}
 use Rattle.pc_desk.proofs.Counting.{said_new}
 use Rattle.pc_desk.proofs.Making.{added, known_after_it}
 use Rattle.pc_desk.specs.Desk.{DeskMeaning, HasSentNext, MaySendNow, is_on_way}
@@ -20,28 +19,22 @@ use Rattle.pc_history.specs.Parts.{gave}
 use Rattle.pc_proto.specs.declared.event.Event.{Event}
 use Rattle.pc_proto.specs.declared.event.Event.TheVariants as events
 use Rattle.pc_proto.specs.declared.request.Request.{Request}
-use Rattle.pc_proto.specs.declared.request.Request.TheVariants as requests
-use Rattle.pc_proto.specs.Requests.{is_refresh}
-use Rattle.pc_lists.proofs.Lists.{contains_in_map}
 use Rattle.pc_session.proofs.Away.{answered_now, apart_sent, none_heard_next, said_before}
 use Rattle.pc_session.proofs.Due.{puts_open}
 use Rattle.pc_session.proofs.Inside.{one_on}
 use Rattle.pc_session.proofs.Jobs.{HasJobs, jobs_sent}
 use Rattle.pc_session.proofs.Keeping.{keeps_as, keeps_sent, plain_for}
 use Rattle.pc_session.proofs.Knowing.{jobs_then, known_sent, of_send, with_sent}
-use Rattle.pc_session.specs.InCall.{GoesOn, HasGoneInside, HasOpenCall, IsApartNow}
+use Rattle.pc_session.specs.InCall.{HasGoneInside, HasOpenCall, IsApartNow}
 use Rattle.pc_session.specs.Session.{HasLeft, SessionMeaning, session_knows}
 use Rattle.pc_turns.specs.Order.{IsInBetween}
-use Rattle.pc_world.proofs.Pieces.{pieces-lie}
-use Rattle.pc_world.specs.Exchange.{IsAllowed}
 use Rattle.pc_world.specs.Follows.CallMessages.{IsForCall}
 use Rattle.pc_world.specs.Follows.FinishingJobs.{jobs_of, without_first}
 use Rattle.pc_world.specs.Known.{Known, known_of, learn, next_number}
 use Rattle.pc_world.specs.Known.Statements.{Statement}
 use Rattle.pc_world.specs.Known.Traffic.{Sent, request_sent}
 use Rattle.pc_world.specs.MaySend.{MaySendRow}
-use Rattle.pc_world.specs.RangeOf.{IsForOne, LiesInOne, pieces}
-use Rattle.pc_world.specs.Send.Reading.{MaySendScan}
+use Rattle.pc_world.specs.RangeOf.{IsForOne}
 
 module _ {C : Type 0} (old : SessionMeaning C) (reading : ℕ) (request : Request) (calls : HasOpenCall old reading) (due : next_of old.coordinator ≡ nexts.Send request)
     (may : IsSendable old.coordinator.splits old.coordinator.session (session_knows old) request) (none : AwaitsNone old.coordinator (session_knows old) request) (one-range : IsForOne old.coordinator.splits request) where

@@ -1,0 +1,27 @@
+use Rattle.std.proofs.Common.{sym, subst}
+use Rattle.pc_desk.specs.Desk.{HasDone}
+use Rattle.pc_proto.specs.declared.event.Event.TheVariants as events
+use Rattle.pc_session.proofs.Asking.{asked_goes, asked_open}
+use Rattle.pc_session.proofs.Inside.{asked_from}
+use Rattle.pc_session.specs.Calls.{MayBeCalled}
+use Rattle.pc_session.specs.Session.{IsAtRest}
+use Rattle.pc_session.proofs.office.Office.ask.Goals as goal
+
+pub returns-in-Ok-ask-clause-calls : goal.returns-in-Ok-ask-clause-calls
+returns-in-Ok-ask-clause-calls g c =
+    let rest = subst (λ s. IsAtRest s) (sym c.self.view_is) c.requires.rest in
+    let may = subst (λ s. MayBeCalled s c.args.call) (sym c.self.view_is) c.requires.may in
+    let d = c.ask.new.self in
+    let reading = c.in_ok-reading.reading in
+    let done = subst (λ q. HasDone c.self.inside.desk d (events.Ask q reading)) c.in-Ok.ensures c.in_ok-reading.ensures.ok in
+    let asked = c.in-Ok-ask.ensures in
+    asked_open _ d c.ask-2.new.self c.args.call reading rest may done asked.knows asked.waits asked.session asked.splits
+
+pub returns-in-Ok-ask-clause-asked : goal.returns-in-Ok-ask-clause-asked
+returns-in-Ok-ask-clause-asked g c =
+    let rest = subst (λ s. IsAtRest s) (sym c.self.view_is) c.requires.rest in
+    let may = subst (λ s. MayBeCalled s c.args.call) (sym c.self.view_is) c.requires.may in
+    let d = c.ask.new.self in
+    let reading = c.in_ok-reading.reading in
+    let done = subst (λ q. HasDone c.self.inside.desk d (events.Ask q reading)) c.in-Ok.ensures c.in_ok-reading.ensures.ok in
+    asked_from _ c.args.self.now _ c.self.view_is c.args.call reading (asked_goes _ d c.ask-2.new.self c.args.call reading rest may done c.in-Ok-ask.ensures.session)

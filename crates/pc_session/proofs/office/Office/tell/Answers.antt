@@ -1,0 +1,30 @@
+use Rattle.std.proofs.Common.{◌≡◌, sym, subst}
+use Rattle.pc_coord.specs.Coordination.{next_of}
+use Rattle.pc_coord.specs.declared.next.Next.TheVariants as nexts
+use Rattle.pc_coord.specs.Knows.{MayCome}
+use Rattle.pc_desk.specs.Desk.{HasDone}
+use Rattle.pc_desk.specs.OwnLog.{MayEnter}
+use Rattle.pc_proto.specs.declared.event.Event.TheVariants as events
+use Rattle.pc_session.proofs.Inside.{told_from}
+use Rattle.pc_session.proofs.Telling.{may_tell, told_goes}
+use Rattle.pc_session.specs.InCall.{HasOpenCall}
+use Rattle.pc_session.specs.Session.{session_knows}
+use Rattle.pc_session.proofs.office.Office.tell.Goals as goal
+
+pub tell-requires-clause-may : goal.tell-requires-clause-may
+tell-requires-clause-may g c =
+    let calls = subst (λ s. HasOpenCall s c.args.reading) (sym c.self.view_is) c.requires.calls in
+    let due = subst (λ s. next_of s.coordinator ≡ nexts.Tell c.args.answer) (sym c.self.view_is) c.requires.due in
+    let may = subst (λ s. MayCome s.coordinator (session_knows s) (nexts.Tell c.args.answer)) (sym c.self.view_is) c.requires.may in
+    subst (λ q. MayEnter c.self.inside.desk.log (events.Tell q)) (sym c.in-Ok.ensures) (may_tell _ c.args.reading c.args.answer calls due may)
+
+pub returns-in-Ok-take_job-clause-ok : goal.returns-in-Ok-take_job-clause-ok
+returns-in-Ok-take_job-clause-ok g c =
+    let calls = subst (λ s. HasOpenCall s c.args.reading) (sym c.self.view_is) c.requires.calls in
+    let due = subst (λ s. next_of s.coordinator ≡ nexts.Tell c.args.answer) (sym c.self.view_is) c.requires.due in
+    let may = subst (λ s. MayCome s.coordinator (session_knows s) (nexts.Tell c.args.answer)) (sym c.self.view_is) c.requires.may in
+    let left = c.in-Ok-take_job.ensures in
+    let s = c.take_job.new.self in
+    let done = subst (λ d. HasDone c.self.inside.desk d (events.Tell c.args.answer)) (sym left.desk) (subst (λ q. HasDone c.self.inside.desk c.tell.new.self (events.Tell q)) c.in-Ok.ensures c.in_ok-tell.ensures.ok) in
+    told_from _ c.args.self.now s c.self.view_is c.args.answer
+    (told_goes _ c.args.reading c.args.answer calls due may s.desk c.told.new.self s.coordinator s.jobs done c.told.ensures.made left.made left.jobs c.told.ensures.knows left.knows left.may)
