@@ -59,11 +59,11 @@ no_wait number (progresses.Answered sent reply) none = refl
 
 none_awaits : (number : ℕ) (messages : List Message) → list_any is_out messages ≡ false → wave_awaits number messages ≡ false
 none_awaits number [] none = refl
-none_awaits number (m ∷ messages) none = by (is_out m) refl none
+none_awaits number (m ∷ messages) none = by (none_awaits number messages) (is_out m) refl none
   where
-    by : (b : Bool) → is_out m ≡ b → (b || list_any is_out messages) ≡ false → wave_awaits number (m ∷ messages) ≡ false
-    by true is none = absurd cc
-    by false is none = ap (λ b. b || wave_awaits number messages) (no_wait number m.progress is) ∙ none_awaits number messages none
+    by : (list_any is_out messages ≡ false → wave_awaits number messages ≡ false) → (b : Bool) → is_out m ≡ b → (b || list_any is_out messages) ≡ false → wave_awaits number (m ∷ messages) ≡ false
+    by later true is none = absurd cc
+    by later false is none = ap (λ b. b || wave_awaits number messages) (no_wait number m.progress is) ∙ later none
 
 -- The step is a conflict's round.
 rounds_by : (reader : Option ℕ) (step : Step) (n : ℕ) (conflict : Reply) (at : Option ℕ) → next_by reader step ≡ nexts.Conflict n conflict at → (m : ℕ) × (met : Reply) × (step ≡ steps.Round m met)
