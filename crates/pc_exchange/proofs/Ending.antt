@@ -1,5 +1,5 @@
 -- What an actor made before its list ended.
-use Rattle.std.proofs.Common.{◌≡◌, false, true, All, Contains, List, [], ◌∷◌, ◌++◌, map, None, refl, sym, ap, subst, ◌∙◌}
+use Rattle.std.proofs.Common.{◌≡◌, ◌≤◌, false, true, length, All, Contains, List, [], ◌∷◌, ◌++◌, map, None, refl, sym, ap, subst, ◌∙◌}
 use Rattle.std.proofs.lemmas.List.{append-nil, append_assoc, map-append}
 use Rattle.std.proofs.lemmas.List.Elements.{All-append, All-contains, All-nil, Contains-append_right}
 use Rattle.pc_base.specs.declared.actor.ActorId.{ActorId}
@@ -25,8 +25,8 @@ ended_on halts.NoMemory A B f a = tt
 
 module _ {C : Type 0} (old mid new : DeskMeaning C) (part : List (Pair Event)) (grown : HasGrownBy old.log mid.log part) (limit : mid.range_limit ≡ old.range_limit) (whose : All (λ (p : Pair Event). p.entry.actor ≡ old.log.part.id) part) where
   -- these entries were made before the list ended
-  broke_off : (Are : List Event → Type 0) → GivesOnce mid.log.part → Are (events_of part) → HasEnded mid new → HasBrokenOff Are old new
-  broke_off Are given are ended =
+  broke_off : (Are : List Event → Type 0) → KeepsTrack mid → Are (events_of part) → HasEnded mid new → HasBrokenOff Are old new
+  broke_off Are track are ended =
       let own : new.log.part.own ≡ mid.log.part.own = ap (λ (l : LogMeaning C). l.part.own) ended.rest in
       record {
         part = part;
@@ -38,7 +38,8 @@ module _ {C : Type 0} (old mid new : DeskMeaning C) (part : List (Pair Event)) (
         known = λ k there. ended.known k (grown.known k there);
         rest = ended_rest ended;
         limit = ended.limit ∙ limit;
-        given = subst GivesOnce (sym (ap (λ (l : LogMeaning C). l.part) ended.rest)) (record { each = given.each; once = given.once });
+        given = subst GivesOnce (sym (ap (λ (l : LogMeaning C). l.part) ended.rest)) (record { each = track.given.each; once = track.given.once });
+        within = subst (λ (l : LogMeaning C). length l.part.own ≤ l.limit) (sym ended.rest) track.log.within;
         end = ended.end;
       }
     where
@@ -48,9 +49,9 @@ module _ {C : Type 0} (old mid new : DeskMeaning C) (part : List (Pair Event)) (
           let G : LogMeaning C → LogMeaning C = λ l. record l { part = record l.part { known = new.log.part.known }; stopped = true } in
           ended.rest ∙ (ap G grown.rest ∙ sym (ap F (ended.rest ∙ ap G grown.rest)))
 
-  pub breaks_only : (Are : List Event → Type 0) (halt : Halt) → GivesOnce mid.log.part → Are (events_of part) → EndsOnly mid new halt → BreaksOff Are old new halt
-  breaks_only Are halt given are ends going stop =
-      ended_on halt (HasEnded mid new) (HasBrokenOff Are old new) (broke_off Are given are)
+  pub breaks_only : (Are : List Event → Type 0) (halt : Halt) → KeepsTrack mid → Are (events_of part) → EndsOnly mid new halt → BreaksOff Are old new halt
+  breaks_only Are halt track are ends going stop =
+      ended_on halt (HasEnded mid new) (HasBrokenOff Are old new) (broke_off Are track are)
       (ends (ap (λ (l : LogMeaning C). l.stopped) grown.rest ∙ going) (ap (λ (l : LogMeaning C). l.stop) grown.rest ∙ stop))
 
   -- these, and then some more
@@ -71,6 +72,7 @@ module _ {C : Type 0} (old mid new : DeskMeaning C) (part : List (Pair Event)) (
         rest = stopped_rest b;
         limit = b.limit ∙ limit;
         given = b.given;
+        within = b.within;
         end = b.end;
       }
     where
@@ -98,4 +100,4 @@ goes_breaks old mid new part halt goes breaks =
 -- or that ended where it was
 pub only_breaks : {C : Type 0} (old new : DeskMeaning C) (halt : Halt) → KeepsTrack old → EndsOnly old new halt → BreaksOff (All IsInBetween) old new halt
 only_breaks old new halt track ends =
-    breaks_only old old new [] (grows_none old.log) refl (All-nil (λ (p : Pair Event). p.entry.actor ≡ old.log.part.id)) (All IsInBetween) halt track.given (All-nil IsInBetween) ends
+    breaks_only old old new [] (grows_none old.log) refl (All-nil (λ (p : Pair Event). p.entry.actor ≡ old.log.part.id)) (All IsInBetween) halt track (All-nil IsInBetween) ends

@@ -224,11 +224,11 @@ module _ {C : Type 0} (old mid : DeskMeaning C) (request : Request) (number : �
   within-first = All-cons IsInBetween (events.Send number sent.range request) [] tt (All-nil IsInBetween)
 
   pub ends_sent : (new : DeskMeaning C) (halt : Halt) → EndsOnly mid new halt → BreaksOff (All IsInBetween) old new halt
-  ends_sent new halt ends = breaks_only old mid new first-part sent-grown sent.limit (made_by old.log mid first-part sent.track sent-grown) (All IsInBetween) halt sent.track.given within-first ends
+  ends_sent new halt ends = breaks_only old mid new first-part sent-grown sent.limit (made_by old.log mid first-part sent.track sent-grown) (All IsInBetween) halt sent.track within-first ends
 
   -- or once it was evaluated
   pub ends_delivered : (late new : DeskMeaning C) (halt : Halt) → HasDelivered mid late → EndsOnly late new halt → BreaksOff (All IsInBetween) old new halt
   ends_delivered late new halt delivered ends =
       let three : HasGrownBy mid.log late.log [] = grows_else mid.log late.log mid.log.part.given late.log.part.known delivered.own delivered.more in
       let grown = grows_both old.log mid.log late.log first-part [] sent-grown three in
-      breaks_only old late new first-part grown (delivered.limit ∙ sent.limit) (made_by old.log late first-part delivered.track grown) (All IsInBetween) halt delivered.track.given within-first ends
+      breaks_only old late new first-part grown (delivered.limit ∙ sent.limit) (made_by old.log late first-part delivered.track grown) (All IsInBetween) halt delivered.track within-first ends

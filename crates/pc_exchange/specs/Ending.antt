@@ -1,5 +1,5 @@
 -- How an actor's list breaks off in the middle of what it did: it made some entries, and then its list had ended.
-use Rattle.std.specs.Prelude.{◌≡◌, false, true, ◌⊎◌, None, List, ◌++◌, All, Contains}
+use Rattle.std.specs.Prelude.{◌≡◌, ◌≤◌, false, true, ◌⊎◌, None, List, ◌++◌, length, All, Contains}
 use Rattle.pc_desk.specs.declared.halt.Halt.{Halt}
 use Rattle.pc_desk.specs.Desk.{DeskMeaning, GivesOnce}
 use Rattle.pc_desk.specs.Ending.{IsAtFullRange, IsAtOwnEnd, IsEndedBy}
@@ -29,6 +29,7 @@ pub record HasBrokenOff {C : Type 0} (Are : List Event → Type 0) (old new : De
       }
   pub limit : new.range_limit ≡ old.range_limit
   pub given : GivesOnce new.log.part
+  pub within : length new.log.part.own ≤ new.log.limit
   pub end : IsAtOwnEnd new ⊎ IsAtFullRange new
 
 -- Where it had not stopped, and no entry is stated at which it stops: its list broke off so, or memory was wanted.

@@ -23,7 +23,7 @@ loop-preserved g c =
       c.in_ok-last-in-Send.ensures.clock ∙ c.loop.invariant.1,
     )
 
-pub returns-in_err-last-clause-ended : goal.returns-in_err-last-clause-ended
-returns-in_err-last-clause-ended g c =
+pub returns-in_err-last-in-Send-clause-ended : goal.returns-in_err-last-in-Send-clause-ended
+returns-in_err-last-in-Send-clause-ended g c =
     let p = err_from_is_err_and c.from_residual.result c.from_residual.ensures.1 in
-    rw (p.1, p.2) (goes_breaks c.args.desk.now c.loop.desk c.settle_on.new.desk c.loop.invariant.0.part c.in_err-last.field-0.0 c.loop.invariant.0.goes c.in_err-last.ensures.ended)
+    rw (p.1, p.2) (goes_breaks c.args.desk.now c.loop.desk c.settle_on.new.desk c.loop.invariant.0.part c.in_err-last-in-Send.field-0.0 c.loop.invariant.0.goes c.in_err-last-in-Send.ensures.ended)

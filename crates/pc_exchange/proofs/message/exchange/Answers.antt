@@ -25,11 +25,11 @@ returns-in_err-send-clause-ended g c =
 
 pub returns-in_err-deliver-clause-ended : goal.returns-in_err-deliver-clause-ended
 returns-in_err-deliver-clause-ended g c =
-    let p = err_from_is_err_and c.from_residual.result c.from_residual.ensures.1 in
+    let p = err_from_is_err_and c.from_residual-in_err-deliver.result c.from_residual-in_err-deliver.ensures.1 in
     rw (p.1, p.2) (ends_sent c.args.desk.now c.send.new.self c.args.request _ c.in_ok-send.ensures.ok c.deliver.new.self c.in_err-deliver.field-0.0 c.in_err-deliver.ensures.ended)
 
 pub returns-in_err-heard-clause-ended : goal.returns-in_err-heard-clause-ended
 returns-in_err-heard-clause-ended g c =
-    let p = err_from_is_err_and c.from_residual.result c.from_residual.ensures.1 in
+    let p = err_from_is_err_and c.from_residual-in_err-heard.result c.from_residual-in_err-heard.ensures.1 in
     rw (p.1, p.2)
     (ends_delivered c.args.desk.now c.send.new.self c.args.request _ c.in_ok-send.ensures.ok c.deliver.new.self c.hear.new.self c.in_err-heard.field-0.0 c.in_ok-deliver.ensures.ok c.in_err-heard.ensures.ended)

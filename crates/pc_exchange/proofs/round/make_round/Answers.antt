@@ -23,7 +23,7 @@ pub returns-in-Finished-clause-ok : goal.returns-in-Finished-clause-ok
 returns-in-Finished-clause-ok g c =
     round_settled c.args.desk.now c.args.pusher c.args.reading c.args.conflict c.args.reader c.loop.machine c.loop.desk c.loop.heard c.loop.invariant.0 c.in-Ok.next c.in-Ok.ensures.due c.in-Finished.is
 
-pub returns-in_err-last-clause-ended : goal.returns-in_err-last-clause-ended
-returns-in_err-last-clause-ended g c =
+pub returns-in_err-last-in-Send-clause-ended : goal.returns-in_err-last-in-Send-clause-ended
+returns-in_err-last-in-Send-clause-ended g c =
     let p = err_from_is_err_and c.from_residual.result c.from_residual.ensures.1 in
-    rw (p.1, p.2) (goes_breaks c.args.desk.now c.loop.desk c.push_on.new.desk c.loop.invariant.0.part c.in_err-last.field-0.0 c.loop.invariant.0.goes c.in_err-last.ensures.ended)
+    rw (p.1, p.2) (goes_breaks c.args.desk.now c.loop.desk c.push_on.new.desk c.loop.invariant.0.part c.in_err-last-in-Send.field-0.0 c.loop.invariant.0.goes c.in_err-last-in-Send.ensures.ended)
