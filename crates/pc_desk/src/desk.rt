@@ -102,6 +102,13 @@ impl<'a, N: Named<CommitWorld>, C: Clock, V: Wire, G: Gate> Desk<'a, N, C, V, G>
         }
     }
 
+    /// How many entries the actor's list has.
+    pub fn len(&self) -> usize
+        ensures { result ≡ length self.now.log.part.own }
+    {
+        self.log.len()
+    }
+
     /// Whether it makes no more entries.
     pub fn has_stopped(&self) -> bool
         ensures { result ≡ self.now.log.stopped }

@@ -44,11 +44,11 @@ module _ {C : Type 0} (old : SessionMeaning C) (reading : ℕ) (calls : HasOpenC
   abbrev pub delivered_then : SessionMeaning C
   delivered_then = record old { desk = d }
 
-  own_is : d.log.part.own ≡ old.desk.log.part.own
-  own_is = ap (λ (l : LogMeaning C). l.part.own) made.own
+  own_same : d.log.part.own ≡ old.desk.log.part.own
+  own_same = ap (λ (l : LogMeaning C). l.part.own) made.own
 
-  known_is : known_of d.log.part.own ≡ session_knows old
-  known_is = ap known_of own_is
+  known_same : known_of d.log.part.own ≡ session_knows old
+  known_same = ap known_of own_same
 
   grown_delivered : HasGrownBy old.desk.log d.log []
   grown_delivered = grows_else old.desk.log d.log old.desk.log.part.given d.log.part.known made.own made.more
@@ -57,14 +57,14 @@ module _ {C : Type 0} (old : SessionMeaning C) (reading : ℕ) (calls : HasOpenC
   pub delivered_open : HasOpenCall delivered_then reading
   delivered_open = record {
     track = made.track;
-    one = one_on old.desk d old.coordinator old.coordinator [] grown_delivered calls.one refl refl (subst (Knows old.coordinator) (sym known_is) calls.one.knows);
+    one = one_on old.desk d old.coordinator old.coordinator [] grown_delivered calls.one refl refl (subst (Knows old.coordinator) (sym known_same) calls.one.knows);
     way = λ n. calls.way n ∙ sym (made.way n);
     call = calls.call;
-    opened = ap (λ (k : Known). k.statement) known_is ∙ calls.opened;
-    apart = subst IsApartNow (sym known_is) calls.apart;
+    opened = ap (λ (k : Known). k.statement) known_same ∙ calls.opened;
+    apart = subst IsApartNow (sym known_same) calls.apart;
     kinds = λ n q on said.
-        subst (λ k. IsForCall k q) (sym known_is) (calls.kinds n q (sym (made.way n) ∙ on) (ap (λ (k : Known). request_sent n k.sent) (sym known_is) ∙ said));
-    waiting = subst (λ own. HasLeft own old.jobs) (sym own_is) calls.waiting;
+        subst (λ k. IsForCall k q) (sym known_same) (calls.kinds n q (sym (made.way n) ∙ on) (ap (λ (k : Known). request_sent n k.sent) (sym known_same) ∙ said));
+    waiting = subst (λ own. HasLeft own old.jobs) (sym own_same) calls.waiting;
   }
 
   pub delivered_goes : HasGoneInside old delivered_then
@@ -74,7 +74,7 @@ module _ {C : Type 0} (old : SessionMeaning C) (reading : ℕ) (calls : HasOpenC
     within = All-nil IsInBetween;
     limit = made.limit;
     session = refl;
-    statement = ap (λ (k : Known). k.statement) known_is;
+    statement = ap (λ (k : Known). k.statement) known_same;
   }
 
 -- ---- a reply is heard

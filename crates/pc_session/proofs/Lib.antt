@@ -2,6 +2,7 @@ pub mod Asking
 pub mod Away
 pub mod Calling
 pub mod Due
+pub mod Ending
 pub mod Hearing
 pub mod Inside
 pub mod Jobs

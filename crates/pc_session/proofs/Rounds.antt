@@ -120,8 +120,8 @@ module _ {C : Type 0} (old : SessionMeaning C) (reading number : ℕ) (conflict 
   some_pusher none = let e = none met.t met.open_is in cc e
 
   module _ (d : DeskMeaning C) (c e : Coordination) (round : Round) (ts : ℕ) (made : HasMadeRoundOf old.desk d conflict round ts) (raised : c ≡ with_clock (max old.coordinator.clock ts) old.coordinator) where
-    abbrev now : Known
-    now = known_of d.log.part.own
+    abbrev later : Known
+    later = known_of d.log.part.own
 
     -- The session after it.
     abbrev pub round_then : SessionMeaning C
@@ -130,13 +130,13 @@ module _ {C : Type 0} (old : SessionMeaning C) (reading number : ℕ) (conflict 
     same-session : old.coordinator.session ≡ made.session
     same-session = let both : actors.Session old.coordinator.session ≡ actors.Session made.session = sym calls.one.whose ∙ made.whose in cc both
 
-    track-now : KeepsTrack d
-    track-now = made.goes.back.track
+    track-later : KeepsTrack d
+    track-later = made.goes.back.track
 
     away : (n : ℕ) → is_on_way n d ≡ false
     away = none_away d made.goes.back.posted made.goes.back.replies
 
-    c-is : c ≡ with_clock now.high old.coordinator
+    c-is : c ≡ with_clock later.high old.coordinator
     c-is =
         let beside = made.made.beside old.coordinator number reader same-session calls.one.knows due in
         raised ∙ ap (λ n. with_clock n old.coordinator) beside.clock
@@ -147,8 +147,8 @@ module _ {C : Type 0} (old : SessionMeaning C) (reading number : ℕ) (conflict 
     left_on : HasLeft d.log.part.own old.jobs
     left_on = record {
       left = made.jobs ∙ calls.waiting.left;
-      numbers = subst (λ n. All (λ (t : Txn). t.id.number ≤ n) now.txns) (sym made.made.aside.begun) (subst (All (λ (t : Txn). t.id.number ≤ known.begun)) (sym made.made.aside.txns) calls.waiting.numbers);
-      each = All-weaker (IsFinishable known) (IsFinishable now) made.made.left old.jobs calls.waiting.each;
+      numbers = subst (λ n. All (λ (t : Txn). t.id.number ≤ n) later.txns) (sym made.made.aside.begun) (subst (All (λ (t : Txn). t.id.number ≤ known.begun)) (sym made.made.aside.txns) calls.waiting.numbers);
+      each = All-weaker (IsFinishable known) (IsFinishable later) made.made.left old.jobs calls.waiting.each;
     }
 
     -- the call goes on
@@ -157,13 +157,13 @@ module _ {C : Type 0} (old : SessionMeaning C) (reading number : ℕ) (conflict 
     round_open settles waits session splits =
         let beside = made.made.beside old.coordinator number reader same-session calls.one.knows due in
         record {
-          track = track-now;
+          track = track-later;
           one = one_on old.desk d old.coordinator e made.part made.goes.grown calls.one (session ∙ ap (λ (x : Coordination). x.session) raised) (splits ∙ ap (λ (x : Coordination). x.splits) raised)
-              (settles old.coordinator known now conflict reader calls.one.knows c-is due beside.later made.made.ends);
+              (settles old.coordinator known later conflict reader calls.one.knows c-is due beside.later made.made.ends);
           way = λ n. waits conflict reader n c-due ∙ sym (away n);
           call = calls.call;
           opened = made.made.aside.statement ∙ calls.opened;
-          apart = apart_aside old.desk d calls.track track-now made.session ts made.made.aside calls.apart;
+          apart = apart_aside old.desk d calls.track track-later made.session ts made.made.aside calls.apart;
           kinds = λ n q on. absurd (let e : true ≡ false = sym on ∙ away n in cc e);
           waiting = left_on;
         }

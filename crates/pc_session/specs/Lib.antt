@@ -3,3 +3,4 @@ pub mod Session
 pub mod InCall
 pub mod Calls
 pub mod Steps
+pub mod Ending

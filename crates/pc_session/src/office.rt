@@ -4,13 +4,17 @@ ghost use Rattle.pc_coord.specs.Coordination.{next_of, without_job};
 ghost use Rattle.pc_coord.specs.declared.due.Due.TheVariants as dues;
 ghost use Rattle.pc_coord.specs.declared.next.Next.TheVariants as nexts;
 ghost use Rattle.pc_coord.specs.Knows.{Knows, MayCome, MayFinishJob};
+ghost use Rattle.pc_desk.specs.declared.halt.Halt.TheVariants as halts;
 ghost use Rattle.pc_desk.specs.Desk.{HasHalted, IsReadyToGo};
 ghost use Rattle.pc_desk.specs.Keeping.{ReadsEach};
 ghost use Rattle.pc_desk.specs.OwnLog.{IsOwnLog};
+ghost use Rattle.pc_exchange.specs.Ending.{BreaksOff};
 ghost use Rattle.pc_session.specs.Calls.{HasCalled, MayBeCalled};
+ghost use Rattle.pc_session.specs.Ending.{AreOfBrokenCall};
 ghost use Rattle.pc_session.specs.InCall.{GoesOn, HasAsked, HasGoneInside, HasOpenCall};
 ghost use Rattle.pc_session.specs.Session.{IsAtRest, session_knows};
 ghost use Rattle.pc_session.specs.Steps.{HasStepped};
+ghost use Rattle.pc_turns.specs.Order.{IsInBetween};
 ghost use Rattle.pc_world.specs.Known.{Known};
 
 use pc_base::{NoMemory, Timestamp, TryCopy};
@@ -66,6 +70,7 @@ impl<'a, N: Named<CommitWorld>, C: Clock, V: Wire, G: Gate> Office<'a, N, C, V, 
         requires may { MayBeCalled self.old call }
         ensures ok { IfOk result (HasCalled self.old self.new call) }
         ensures err { IfErr result (HasHalted self.old.desk self.new.desk) }
+        ensures ended { IfErr result (BreaksOff (AreOfBrokenCall call) self.old.desk self.new.desk) }
         ensures rule { C.rule self.new.desk.log.clock ≡ C.rule self.old.desk.log.clock }
     {
         let reading = self.ask(call)?;
@@ -79,6 +84,7 @@ impl<'a, N: Named<CommitWorld>, C: Clock, V: Wire, G: Gate> Office<'a, N, C, V, 
 
     /// Stops for want of memory.
     fn want_memory(&mut self) -> Halt
+        ensures memory { result ≡ halts.NoMemory }
         ensures halted { HasHalted self.old.desk self.new.desk result }
         ensures clock { self.new.desk.log.clock ≡ self.old.desk.log.clock }
     {
@@ -92,6 +98,7 @@ impl<'a, N: Named<CommitWorld>, C: Clock, V: Wire, G: Gate> Office<'a, N, C, V, 
         ensures calls { IfOk result (HasOpenCall self.new) }
         ensures asked { IfOk result (HasAsked self.old self.new call) }
         ensures err { IfErr result (HasHalted self.old.desk self.new.desk) }
+        ensures ended { IfErr result (BreaksOff (AreOfBrokenCall call) self.old.desk self.new.desk) }
         ensures rule { C.rule self.new.desk.log.clock ≡ C.rule self.old.desk.log.clock }
     {
         let copy = match call.copy() {
@@ -110,6 +117,7 @@ impl<'a, N: Named<CommitWorld>, C: Clock, V: Wire, G: Gate> Office<'a, N, C, V, 
         requires { HasOpenCall self.old reading }
         ensures ok { IfOk result (GoesOn self.old self.new reading) }
         ensures err { IfErr result (HasHalted self.old.desk self.new.desk) }
+        ensures ended { IfErr result (BreaksOff (All IsInBetween) self.old.desk self.new.desk) }
         ensures clock { self.new.desk.log.clock ≡ self.old.desk.log.clock }
     {
         match self.due(reading)? {
@@ -128,10 +136,12 @@ impl<'a, N: Named<CommitWorld>, C: Clock, V: Wire, G: Gate> Office<'a, N, C, V, 
     /// What is due in the call that was asked at this reading.
     fn due(&mut self, reading: u64) -> Result<Next, Halt>
         requires { HasOpenCall self.old reading }
-        ensures due { IfOk result (λ next. next ≡ next_of self.old.coordinator) }
-        ensures may { IfOk result (MayCome self.old.coordinator (session_knows self.old)) }
+        ensures due { IfOk result (λ next. next ≡ next_of self.new.coordinator) }
+        ensures may { IfOk result (MayCome self.new.coordinator (session_knows self.new)) }
+        ensures calls { OnOk result (HasOpenCall self.new reading) }
         ensures same { OnOk result (self.new ≡ self.old) }
         ensures err { IfErr result (HasHalted self.old.desk self.new.desk) }
+        ensures ended { IfErr result (BreaksOff (All IsInBetween) self.old.desk self.new.desk) }
         ensures clock { self.new.desk.log.clock ≡ self.old.desk.log.clock }
     {
         match self.coordinator.next() {
@@ -147,6 +157,7 @@ impl<'a, N: Named<CommitWorld>, C: Clock, V: Wire, G: Gate> Office<'a, N, C, V, 
         requires may { MayCome self.old.coordinator (session_knows self.old) (nexts.Send request) }
         ensures ok { IfOk result (GoesOn self.old self.new reading) }
         ensures err { IfErr result (HasHalted self.old.desk self.new.desk) }
+        ensures ended { IfErr result (BreaksOff (All IsInBetween) self.old.desk self.new.desk) }
         ensures clock { self.new.desk.log.clock ≡ self.old.desk.log.clock }
     {
         let number = self.desk.send(request)?;
@@ -161,6 +172,7 @@ impl<'a, N: Named<CommitWorld>, C: Clock, V: Wire, G: Gate> Office<'a, N, C, V, 
         requires { HasOpenCall self.old reading }
         ensures ok { IfOk result (GoesOn self.old self.new reading) }
         ensures err { IfErr result (HasHalted self.old.desk self.new.desk) }
+        ensures ended { IfErr result (BreaksOff (All IsInBetween) self.old.desk self.new.desk) }
         ensures clock { self.new.desk.log.clock ≡ self.old.desk.log.clock }
     {
         self.deliver(rt, reading)?;
@@ -177,6 +189,7 @@ impl<'a, N: Named<CommitWorld>, C: Clock, V: Wire, G: Gate> Office<'a, N, C, V, 
         ensures calls { OnOk result (HasOpenCall self.new reading) }
         ensures goes { OnOk result (HasGoneInside self.old self.new) }
         ensures err { IfErr result (HasHalted self.old.desk self.new.desk) }
+        ensures ended { IfErr result (BreaksOff (All IsInBetween) self.old.desk self.new.desk) }
         ensures clock { self.new.desk.log.clock ≡ self.old.desk.log.clock }
     {
         self.desk.deliver(rt)
@@ -189,6 +202,7 @@ impl<'a, N: Named<CommitWorld>, C: Clock, V: Wire, G: Gate> Office<'a, N, C, V, 
         ensures goes { OnOk result (HasGoneInside self.old self.new) }
         ensures fewer { IfOk result (λ more. more ≡ true → length self.old.desk.replies ≡ length self.new.desk.replies + 1) }
         ensures err { IfErr result (HasHalted self.old.desk self.new.desk) }
+        ensures ended { IfErr result (BreaksOff (All IsInBetween) self.old.desk self.new.desk) }
         ensures clock { self.new.desk.log.clock ≡ self.old.desk.log.clock }
     {
         let answered = match self.desk.hear()? {
@@ -218,6 +232,7 @@ impl<'a, N: Named<CommitWorld>, C: Clock, V: Wire, G: Gate> Office<'a, N, C, V, 
         requires may { MayCome self.old.coordinator (session_knows self.old) (nexts.Conflict number conflict reader) }
         ensures ok { IfOk result (GoesOn self.old self.new reading) }
         ensures err { IfErr result (HasHalted self.old.desk self.new.desk) }
+        ensures ended { IfErr result (BreaksOff (All IsInBetween) self.old.desk self.new.desk) }
         ensures clock { self.new.desk.log.clock ≡ self.old.desk.log.clock }
     {
         let pusher = match self.coordinator.pusher() {
@@ -239,6 +254,7 @@ impl<'a, N: Named<CommitWorld>, C: Clock, V: Wire, G: Gate> Office<'a, N, C, V, 
         requires may { MayCome self.old.coordinator (session_knows self.old) (nexts.Tell answer) }
         ensures ok { IfOk result (GoesOn self.old self.new reading) }
         ensures err { IfErr result (HasHalted self.old.desk self.new.desk) }
+        ensures ended { IfErr result (BreaksOff (All IsInBetween) self.old.desk self.new.desk) }
         ensures clock { self.new.desk.log.clock ≡ self.old.desk.log.clock }
     {
         let copy = match answer.copy() {
@@ -272,6 +288,7 @@ impl<'a, N: Named<CommitWorld>, C: Clock, V: Wire, G: Gate> Office<'a, N, C, V, 
         requires { IsAtRest self.old }
         ensures ok { IfOk result (HasStepped self.old self.new) }
         ensures err { IfErr result (HasHalted self.old.desk self.new.desk) }
+        ensures ended { IfErr result (BreaksOff (All IsInBetween) self.old.desk self.new.desk) }
         ensures clock { self.new.desk.log.clock ≡ self.old.desk.log.clock }
     {
         let job = match self.jobs.pop_front() {

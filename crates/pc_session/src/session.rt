@@ -1,13 +1,16 @@
-ghost use Rattle.std.specs.Prelude.{◌≡◌, ℕ, ◌-◌, ◌≤◌, ◌<◌, ◌^◌, ◌↔◌, [], false, length, map, not, All, IfErr, IfNone, IfOk, IfSome, IsTrue, OnOk};
+ghost use Rattle.std.specs.Prelude.{◌≡◌, ℕ, ◌-◌, ◌≤◌, ◌<◌, ◌^◌, ◌↔◌, [], true, false, length, map, not, All, IfErr, IfNone, IfOk, IfSome, IsTrue, OnOk};
 ghost use Rattle.pc_base.specs.declared.actor.ActorId.TheVariants as actors;
 ghost use Rattle.pc_base.specs.Rising.{AreRising};
 ghost use Rattle.pc_desk.specs.Desk.{HasHalted, IsReadyToGo, new_desk};
 ghost use Rattle.pc_desk.specs.Keeping.{ReadsEach};
 ghost use Rattle.pc_desk.specs.OwnLog.{IsOwnLog};
+ghost use Rattle.pc_exchange.specs.Ending.{BreaksOff};
 ghost use Rattle.pc_history.specs.Parts.{newcomer, noted, told};
 ghost use Rattle.pc_session.specs.Calls.{HasCalled, MayBeCalled};
+ghost use Rattle.pc_session.specs.Ending.{AreOfBrokenCall};
 ghost use Rattle.pc_session.specs.Session.{IsAtRest, RestsOrStopped, session_knows};
 ghost use Rattle.pc_session.specs.Steps.{HasStepped};
+ghost use Rattle.pc_turns.specs.Order.{IsInBetween};
 ghost use Rattle.pc_wire.specs.declared.verdict.Verdict.TheVariants as verdicts;
 ghost use Rattle.pc_world.specs.Local.{IsActorOf};
 
@@ -87,6 +90,13 @@ impl<'a, N: Named<CommitWorld>, C: Clock, V: Wire, G: Gate> Session<'a, N, C, V,
         self.office.desk.has_stopped()
     }
 
+    /// How many entries its list has.
+    pub fn len(&self) -> usize
+        ensures { result ≡ length self.now.desk.log.part.own }
+    {
+        self.office.desk.len()
+    }
+
     /// Whether a transaction is open.
     pub fn has_txn(&self) -> bool
         ensures { self.now.desk.log.stopped ≡ false → result ≡ (session_knows self.now).is_open }
@@ -123,6 +133,7 @@ impl<'a, N: Named<CommitWorld>, C: Clock, V: Wire, G: Gate> Session<'a, N, C, V,
         requires { self.old.desk.log.stopped ≡ false → MayBeCalled self.old call }
         ensures ok { IfOk result (HasCalled self.old self.new call) }
         ensures err { IfErr result (HasHalted self.old.desk self.new.desk) }
+        ensures ended { IfErr result (BreaksOff (AreOfBrokenCall call) self.old.desk self.new.desk) }
         ensures rule { C.rule self.new.desk.log.clock ≡ C.rule self.old.desk.log.clock }
     {
         self.going()?;
@@ -132,6 +143,7 @@ impl<'a, N: Named<CommitWorld>, C: Clock, V: Wire, G: Gate> Session<'a, N, C, V,
     /// Refused where it has stopped.
     fn going(&self) -> Result<(), Halt>
         ensures ok { OnOk result (self.now.desk.log.stopped ≡ false) }
+        ensures stopped { IfErr result (λ halt. self.now.desk.log.stopped ≡ true) }
         ensures err { IfErr result (HasHalted self.now.desk self.now.desk) }
     {
         if self.office.desk.has_stopped() {
@@ -144,6 +156,7 @@ impl<'a, N: Named<CommitWorld>, C: Clock, V: Wire, G: Gate> Session<'a, N, C, V,
     pub fn step<R: Wait>(&mut self, rt: &R) -> Result<bool, Halt>
         ensures ok { IfOk result (HasStepped self.old self.new) }
         ensures err { IfErr result (HasHalted self.old.desk self.new.desk) }
+        ensures ended { IfErr result (BreaksOff (All IsInBetween) self.old.desk self.new.desk) }
         ensures clock { self.new.desk.log.clock ≡ self.old.desk.log.clock }
     {
         self.going()?;

@@ -5,6 +5,8 @@ use Rattle.pc_session.proofs.Asking.{asked_goes, asked_open}
 use Rattle.pc_session.proofs.Inside.{asked_from}
 use Rattle.pc_session.specs.Calls.{MayBeCalled}
 use Rattle.pc_session.specs.Session.{IsAtRest}
+use Rattle.std.proofs.lemmas.Result.{err_from_is_err_and}
+use Rattle.pc_session.proofs.Ending.{unasked_breaks}
 use Rattle.pc_session.proofs.office.Office.ask.Goals as goal
 
 pub returns-in-Ok-ask-clause-calls : goal.returns-in-Ok-ask-clause-calls
@@ -25,3 +27,8 @@ returns-in-Ok-ask-clause-asked g c =
     let reading = c.in_ok-reading.reading in
     let done = subst (λ q. HasDone c.self.inside.desk d (events.Ask q reading)) c.in-Ok.ensures c.in_ok-reading.ensures.ok in
     asked_from _ c.args.self.now _ c.self.view_is c.args.call reading (asked_goes _ d c.ask-2.new.self c.args.call reading rest may done c.in-Ok-ask.ensures.session)
+
+pub returns-in_err-reading-clause-ended : goal.returns-in_err-reading-clause-ended
+returns-in_err-reading-clause-ended g c =
+    let p = err_from_is_err_and c.from_residual.result c.from_residual.ensures.1 in
+    rw (p.1, p.2) (unasked_breaks _ c.args.self.now c.ask.new.self c.self.view_is c.args.call c.in_err-reading.field-0.0 c.requires.rest.track c.in_err-reading.ensures.ended)

@@ -8,3 +8,6 @@ pub returns-in-Ok-clause-may : goal.returns-in-Ok-clause-may
 returns-in-Ok-clause-may g c =
     let calls = subst (λ s. HasOpenCall s c.args.reading) (sym c.self.view_is) c.requires in
     subst (λ s. MayCome s.coordinator (session_knows s) c.in-Ok.next) c.self.view_is (c.in-Ok.ensures.may _ calls.one.knows)
+
+pub returns-in-Ok-clause-calls : goal.returns-in-Ok-clause-calls
+returns-in-Ok-clause-calls g c = c.requires

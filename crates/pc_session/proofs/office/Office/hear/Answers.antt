@@ -1,7 +1,10 @@
-use Rattle.std.proofs.Common.{sym, subst}
+use Rattle.std.proofs.Common.{◌≡◌, [], sym, subst, IfNone, IfSome}
+use Rattle.pc_desk.specs.Desk.{HasHeardFirst}
 use Rattle.pc_session.proofs.Hearing.{heard_goes, heard_open, may_hear_now}
 use Rattle.pc_session.proofs.Inside.{inside_from, inside_still}
 use Rattle.pc_session.specs.InCall.{HasOpenCall}
+use Rattle.std.proofs.lemmas.Result.{err_from_is_err_and}
+use Rattle.pc_session.proofs.Ending.{nothing_breaks}
 use Rattle.pc_session.proofs.office.Office.hear.Goals as goal
 
 pub hear-requires-clause-may : goal.hear-requires-clause-may
@@ -11,14 +14,23 @@ pub returns-in-Ok-clause-calls : goal.returns-in-Ok-clause-calls
 returns-in-Ok-clause-calls g c =
     let calls = subst (λ s. HasOpenCall s c.args.reading) (sym c.self.view_is) c.requires in
     let a = c.in-Some.answered in
+    let took = subst (λ heard. IfSome heard (HasHeardFirst c.self.inside.desk c.hear.new.self)) c.in-Some.is c.in_ok-answered.ensures.ok in
     let e = c.in-Ok.ensures in
-    heard_open _ c.args.reading calls c.hear.new.self c.heard.new.self a c.in-Some.ensures.ok e.knows e.waits e.session e.splits
+    heard_open _ c.args.reading calls c.hear.new.self c.heard.new.self a took e.knows e.waits e.session e.splits
 
 pub returns-in-Ok-clause-goes : goal.returns-in-Ok-clause-goes
 returns-in-Ok-clause-goes g c =
     let calls = subst (λ s. HasOpenCall s c.args.reading) (sym c.self.view_is) c.requires in
     let a = c.in-Some.answered in
-    inside_from _ c.args.self.now _ c.self.view_is (heard_goes _ c.args.reading calls c.hear.new.self c.heard.new.self a c.in-Some.ensures.ok c.in-Ok.ensures.session)
+    let took = subst (λ heard. IfSome heard (HasHeardFirst c.self.inside.desk c.hear.new.self)) c.in-Some.is c.in_ok-answered.ensures.ok in
+    inside_from _ c.args.self.now _ c.self.view_is (heard_goes _ c.args.reading calls c.hear.new.self c.heard.new.self a took c.in-Ok.ensures.session)
 
 pub returns-in-None-clause-goes : goal.returns-in-None-clause-goes
-returns-in-None-clause-goes g c = inside_still _ c.args.self.now c.hear.new.self c.self.view_is c.in-None.ensures.none.1
+returns-in-None-clause-goes g c =
+    let none = subst (λ heard. IfNone heard ((c.self.inside.desk.replies ≡ []) × (c.hear.new.self ≡ c.self.inside.desk))) c.in-None.is c.in_ok-answered.ensures.none in
+    inside_still _ c.args.self.now c.hear.new.self c.self.view_is none.1
+
+pub returns-in_err-answered-clause-ended : goal.returns-in_err-answered-clause-ended
+returns-in_err-answered-clause-ended g c =
+    let p = err_from_is_err_and c.from_residual.result c.from_residual.ensures.1 in
+    rw (p.1, p.2) (nothing_breaks _ c.args.self.now c.hear.new.self c.self.view_is c.in_err-answered.field-0.0 c.requires.track c.in_err-answered.ensures.ended)

@@ -1,4 +1,4 @@
-use Rattle.std.proofs.Common.{◌≡◌, sym, subst}
+use Rattle.std.proofs.Common.{◌≡◌, sym, subst, All}
 use Rattle.pc_coord.specs.Coordination.{next_of}
 use Rattle.pc_coord.specs.declared.next.Next.TheVariants as nexts
 use Rattle.pc_coord.specs.Knows.{MayCome}
@@ -6,6 +6,9 @@ use Rattle.pc_session.proofs.Inside.{inside_from}
 use Rattle.pc_session.proofs.Rounds.{may_round, round_goes, round_open}
 use Rattle.pc_session.specs.InCall.{HasOpenCall}
 use Rattle.pc_session.specs.Session.{session_knows}
+use Rattle.std.proofs.lemmas.Result.{err_from_is_err_and}
+use Rattle.pc_session.proofs.Ending.{breaks_from}
+use Rattle.pc_turns.specs.Order.{IsInBetween}
 use Rattle.pc_session.proofs.office.Office.round.Goals as goal
 
 pub make_round-requires : goal.make_round-requires
@@ -28,3 +31,8 @@ returns-in-Ok-clause-ok g c =
       inside_from _ c.args.self.now _ c.self.view_is
           (round_goes _ c.args.reading n c.args.conflict c.args.reader calls due met c.make_round.new.desk c.raise.new.self c.settled.new.self made.round made.ts made.ensures.ok c.raise.ensures e.session),
     )
+
+pub returns-in_err-round-clause-ended : goal.returns-in_err-round-clause-ended
+returns-in_err-round-clause-ended g c =
+    let p = err_from_is_err_and c.from_residual.result c.from_residual.ensures.1 in
+    rw (p.1, p.2) (breaks_from _ c.args.self.now c.make_round.new.desk c.self.view_is (All IsInBetween) c.in_err-round.field-0.0 c.in_err-round.ensures.ended)

@@ -6,6 +6,8 @@ use Rattle.pc_session.proofs.Inside.{inside_from}
 use Rattle.pc_session.proofs.Sending.{may_go, sent_goes, sent_open}
 use Rattle.pc_session.specs.InCall.{HasOpenCall}
 use Rattle.pc_session.specs.Session.{session_knows}
+use Rattle.std.proofs.lemmas.Result.{err_from_is_err_and}
+use Rattle.pc_session.proofs.Ending.{nothing_breaks}
 use Rattle.pc_session.proofs.office.Office.send.Goals as goal
 
 pub send-requires-clause-may : goal.send-requires-clause-may
@@ -26,3 +28,8 @@ returns-in-Ok-clause-ok g c =
       sent_open _ c.args.reading c.args.request calls due may.0 may.1.0 may.1.1 d c.sent.new.self n c.in_ok-number.ensures.ok e.knows (λ other. e.waits c.args.request other due) e.session e.splits,
       inside_from _ c.args.self.now _ c.self.view_is (sent_goes _ c.args.reading c.args.request calls due may.0 may.1.0 may.1.1 d c.sent.new.self n c.in_ok-number.ensures.ok e.session),
     )
+
+pub returns-in_err-number-clause-ended : goal.returns-in_err-number-clause-ended
+returns-in_err-number-clause-ended g c =
+    let p = err_from_is_err_and c.from_residual.result c.from_residual.ensures.1 in
+    rw (p.1, p.2) (nothing_breaks _ c.args.self.now c.send.new.self c.self.view_is c.in_err-number.field-0.0 c.requires.calls.track c.in_err-number.ensures.ended)

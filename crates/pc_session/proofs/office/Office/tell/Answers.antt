@@ -9,6 +9,8 @@ use Rattle.pc_session.proofs.Inside.{told_from}
 use Rattle.pc_session.proofs.Telling.{may_tell, told_goes}
 use Rattle.pc_session.specs.InCall.{HasOpenCall}
 use Rattle.pc_session.specs.Session.{session_knows}
+use Rattle.std.proofs.lemmas.Result.{err_from_is_err_and}
+use Rattle.pc_session.proofs.Ending.{nothing_breaks}
 use Rattle.pc_session.proofs.office.Office.tell.Goals as goal
 
 pub tell-requires-clause-may : goal.tell-requires-clause-may
@@ -28,3 +30,8 @@ returns-in-Ok-take_job-clause-ok g c =
     let done = subst (λ d. HasDone c.self.inside.desk d (events.Tell c.args.answer)) (sym left.desk) (subst (λ q. HasDone c.self.inside.desk c.tell.new.self (events.Tell q)) c.in-Ok.ensures c.in_ok-tell.ensures.ok) in
     told_from _ c.args.self.now s c.self.view_is c.args.answer
     (told_goes _ c.args.reading c.args.answer calls due may s.desk c.told.new.self s.coordinator s.jobs done c.told.ensures.made left.made left.jobs c.told.ensures.knows left.knows left.may)
+
+pub returns-in_err-tell-clause-ended : goal.returns-in_err-tell-clause-ended
+returns-in_err-tell-clause-ended g c =
+    let p = err_from_is_err_and c.from_residual.result c.from_residual.ensures.1 in
+    rw (p.1, p.2) (nothing_breaks _ c.args.self.now c.tell.new.self c.self.view_is c.in_err-tell.field-0.0 c.requires.calls.track c.in_err-tell.ensures.ended)
