@@ -69,6 +69,6 @@ pub record HasTold {C : Type 0} (old new : SessionMeaning C) (answer : Answer) :
   pub rest : IsAtRest new
 
 -- The call goes on, or was told this answer.
-abbrev pub GoesOn : {C : Type 0} → SessionMeaning C → SessionMeaning C → ℕ → Option Answer → Type 0
-GoesOn old new reading None = HasOpenCall new reading × HasGoneInside old new
-GoesOn old new reading (Some answer) = HasTold old new answer
+abbrev pub GoesOnOrTold : {C : Type 0} → SessionMeaning C → SessionMeaning C → ℕ → Option Answer → Type 0
+GoesOnOrTold old new reading None = HasOpenCall new reading × HasGoneInside old new
+GoesOnOrTold old new reading (Some answer) = HasTold old new answer

@@ -11,7 +11,7 @@ ghost use Rattle.pc_desk.specs.OwnLog.{IsOwnLog};
 ghost use Rattle.pc_exchange.specs.Ending.{BreaksOff};
 ghost use Rattle.pc_session.specs.Calls.{HasCalled, MayBeCalled};
 ghost use Rattle.pc_session.specs.Ending.{AreOfBrokenCall};
-ghost use Rattle.pc_session.specs.InCall.{GoesOn, HasAsked, HasGoneInside, HasOpenCall};
+ghost use Rattle.pc_session.specs.InCall.{GoesOnOrTold, HasAsked, HasGoneInside, HasOpenCall};
 ghost use Rattle.pc_session.specs.Session.{IsAtRest, session_knows};
 ghost use Rattle.pc_session.specs.Steps.{HasStepped};
 ghost use Rattle.pc_turns.specs.Order.{IsInBetween};
@@ -115,7 +115,7 @@ impl<'a, N: Named<CommitWorld>, C: Clock, V: Wire, G: Gate> Office<'a, N, C, V, 
     /// Does what is due. Gives the answer once it was told.
     fn go_on<R: Wait>(&mut self, rt: &R, reading: u64) -> Result<Option<Answer>, Halt>
         requires { HasOpenCall self.old reading }
-        ensures ok { IfOk result (GoesOn self.old self.new reading) }
+        ensures ok { IfOk result (GoesOnOrTold self.old self.new reading) }
         ensures err { IfErr result (HasHalted self.old.desk self.new.desk) }
         ensures ended { IfErr result (BreaksOff (All IsInBetween) self.old.desk self.new.desk) }
         ensures clock { self.new.desk.log.clock ≡ self.old.desk.log.clock }
@@ -155,7 +155,7 @@ impl<'a, N: Named<CommitWorld>, C: Clock, V: Wire, G: Gate> Office<'a, N, C, V, 
         requires calls { HasOpenCall self.old reading }
         requires due { next_of self.old.coordinator ≡ nexts.Send request }
         requires may { MayCome self.old.coordinator (session_knows self.old) (nexts.Send request) }
-        ensures ok { IfOk result (GoesOn self.old self.new reading) }
+        ensures ok { IfOk result (GoesOnOrTold self.old self.new reading) }
         ensures err { IfErr result (HasHalted self.old.desk self.new.desk) }
         ensures ended { IfErr result (BreaksOff (All IsInBetween) self.old.desk self.new.desk) }
         ensures clock { self.new.desk.log.clock ≡ self.old.desk.log.clock }
@@ -170,7 +170,7 @@ impl<'a, N: Named<CommitWorld>, C: Clock, V: Wire, G: Gate> Office<'a, N, C, V, 
     /// A wave: the messages that wait are evaluated, and then their replies heard.
     fn wave<R: Wait>(&mut self, rt: &R, reading: u64) -> Result<Option<Answer>, Halt>
         requires { HasOpenCall self.old reading }
-        ensures ok { IfOk result (GoesOn self.old self.new reading) }
+        ensures ok { IfOk result (GoesOnOrTold self.old self.new reading) }
         ensures err { IfErr result (HasHalted self.old.desk self.new.desk) }
         ensures ended { IfErr result (BreaksOff (All IsInBetween) self.old.desk self.new.desk) }
         ensures clock { self.new.desk.log.clock ≡ self.old.desk.log.clock }
@@ -230,7 +230,7 @@ impl<'a, N: Named<CommitWorld>, C: Clock, V: Wire, G: Gate> Office<'a, N, C, V, 
         requires calls { HasOpenCall self.old reading }
         requires due { next_of self.old.coordinator ≡ nexts.Conflict number conflict reader }
         requires may { MayCome self.old.coordinator (session_knows self.old) (nexts.Conflict number conflict reader) }
-        ensures ok { IfOk result (GoesOn self.old self.new reading) }
+        ensures ok { IfOk result (GoesOnOrTold self.old self.new reading) }
         ensures err { IfErr result (HasHalted self.old.desk self.new.desk) }
         ensures ended { IfErr result (BreaksOff (All IsInBetween) self.old.desk self.new.desk) }
         ensures clock { self.new.desk.log.clock ≡ self.old.desk.log.clock }
@@ -252,7 +252,7 @@ impl<'a, N: Named<CommitWorld>, C: Clock, V: Wire, G: Gate> Office<'a, N, C, V, 
         requires calls { HasOpenCall self.old reading }
         requires due { next_of self.old.coordinator ≡ nexts.Tell answer }
         requires may { MayCome self.old.coordinator (session_knows self.old) (nexts.Tell answer) }
-        ensures ok { IfOk result (GoesOn self.old self.new reading) }
+        ensures ok { IfOk result (GoesOnOrTold self.old self.new reading) }
         ensures err { IfErr result (HasHalted self.old.desk self.new.desk) }
         ensures ended { IfErr result (BreaksOff (All IsInBetween) self.old.desk self.new.desk) }
         ensures clock { self.new.desk.log.clock ≡ self.old.desk.log.clock }

@@ -1,7 +1,7 @@
 use Rattle.std.proofs.Common.{ap, subst, ◌∙◌}
 use Rattle.pc_session.proofs.Calling.{has_called}
 use Rattle.pc_session.proofs.Inside.{asked_on}
-use Rattle.pc_session.specs.InCall.{GoesOn}
+use Rattle.pc_session.specs.InCall.{GoesOnOrTold}
 use Rattle.std.proofs.lemmas.Result.{err_from_is_err_and}
 use Rattle.pc_session.proofs.Ending.{asked_breaks}
 use Rattle.pc_session.proofs.office.Office.call.Goals as goal
@@ -10,12 +10,12 @@ pub returns-in-Some-2-clause-ok : goal.returns-in-Some-2-clause-ok
 returns-in-Some-2-clause-ok g c =
     let reading = c.in_ok-reading.reading in
     has_called c.args.self.now c.loop.self c.go_on.new.self c.args.call reading c.in-Some-2.answer c.requires.rest c.loop.invariant.1.0
-    (subst (λ o. GoesOn c.loop.self c.go_on.new.self reading o) c.in-Some-2.is c.in_ok-answer.ensures.ok)
+    (subst (λ o. GoesOnOrTold c.loop.self c.go_on.new.self reading o) c.in-Some-2.is c.in_ok-answer.ensures.ok)
 
 pub loop-preserved : goal.loop-preserved
 loop-preserved g c =
     let reading = c.in_ok-reading.reading in
-    let goes = subst (λ o. GoesOn c.loop.self c.go_on.new.self reading o) c.in_default.is c.in_ok-answer.ensures.ok in (
+    let goes = subst (λ o. GoesOnOrTold c.loop.self c.go_on.new.self reading o) c.in_default.is c.in_ok-answer.ensures.ok in (
       goes.0,
       asked_on c.args.self.now c.loop.self c.go_on.new.self c.args.call reading c.loop.invariant.1.0 goes.1,
       ap (λ clock. g.C.Clock.rule clock) c.in_ok-answer.ensures.clock ∙ c.loop.invariant.1.1,
