@@ -5,12 +5,12 @@ use Rattle.pc_session.proofs.Ending.{inside_breaks}
 use Rattle.pc_session.proofs.office.Office.wave.Goals as goal
 
 pub returns-then-not-branch-clause-ok : goal.returns-then-not-branch-clause-ok
-returns-then-not-branch-clause-ok g c = (c.in_ok-hear.ensures.calls, inside_both c.args.self.now _ c.hear.new.self c.loop.invariant.1.0 c.in_ok-hear.ensures.goes)
+returns-then-not-branch-clause-ok g c = (c.in_ok-hear.ensures.calls, inside_both c.args.self.now _ c.hear.new.self c.loop.invariant.1 c.in_ok-hear.ensures.goes)
 
 pub loop-preserved : goal.loop-preserved
-loop-preserved g c = (c.in_ok-hear.ensures.calls, inside_both c.args.self.now _ c.hear.new.self c.loop.invariant.1.0 c.in_ok-hear.ensures.goes, c.in_ok-hear.ensures.clock ∙ c.loop.invariant.1.1)
+loop-preserved g c = (c.in_ok-hear.ensures.calls, inside_both c.args.self.now _ c.hear.new.self c.loop.invariant.1 c.in_ok-hear.ensures.goes, c.in_ok-hear.ensures.clock ∙ c.loop.invariant.2)
 
 pub returns-in_err-hear-clause-ended : goal.returns-in_err-hear-clause-ended
 returns-in_err-hear-clause-ended g c =
     let p = err_from_is_err_and c.from_residual-in_err-hear.result c.from_residual-in_err-hear.ensures.1 in
-    rw (p.1, p.2) (inside_breaks c.args.self.now c.loop.self c.hear.new.self.desk c.in_err-hear.field-0.0 c.loop.invariant.0.track c.in_err-hear.ensures.ended c.loop.invariant.1.0)
+    rw (p.1, p.2) (inside_breaks c.args.self.now c.loop.self c.hear.new.self.desk c.in_err-hear.field-0.0 c.loop.invariant.0.track c.in_err-hear.ensures.ended c.loop.invariant.1)
