@@ -1,10 +1,7 @@
 -- What is due at a coordinator that knows what its session knows: where it waits for nothing, and what it sends.
-use Rattle.std.proofs.Common.{◌≡◌, ◌≢◌, ℕ, ◌<◌, Bool, true, false, ◌==◌, ◌||◌, All, IsTrue, inl, inr, List, [], ◌∷◌, ◌++◌, find, if◌then◌else◌, is_some, map, Option, None, Some, refl, sym, ap, subst, ◌∙◌}
-use Rattle.std.proofs.lemmas.List.Elements.{All-weaker}
+use Rattle.std.proofs.Common.{◌≡◌, ℕ, Bool, true, false, ◌||◌, IsTrue, inl, inr, List, [], ◌∷◌, ◌++◌, find, if◌then◌else◌, is_some, map, Option, None, Some, refl, sym, ap, subst, ◌∙◌}
 use Rattle.std.specs.List.{list_any}
-use Rattle.std.specs.Option.{option_map}
 use Rattle.pc_base.specs.declared.transaction.TxnId.{TxnId}
-use Rattle.pc_base.specs.Rising.{AreRising}
 use Rattle.pc_coord.specs.Coordination.{Coordination, awaits_number, next_of}
 use Rattle.pc_coord.specs.declared.due.Due.{Due}
 use Rattle.pc_coord.specs.declared.due.Due.TheVariants as dues
@@ -16,10 +13,9 @@ use Rattle.pc_coord.specs.declared.messages.Progress.TheVariants as progresses
 use Rattle.pc_coord.specs.declared.next.Next.TheVariants as nexts
 use Rattle.pc_coord.specs.declared.transaction.Transaction.{Transaction}
 use Rattle.pc_coord.specs.Knows.{AwaitsReply, Knows, KnowsAt}
-use Rattle.pc_coord.specs.Knows.Ending.{IsLastSent}
 use Rattle.pc_coord.specs.Knows.Held.{IsHeld}
 use Rattle.pc_coord.specs.Knows.Reading.{AreReadsOf}
-use Rattle.pc_coord.specs.Knows.Sending.{IsSendable, learned}
+use Rattle.pc_coord.specs.Knows.Sending.{learned}
 use Rattle.pc_coord.specs.Knows.Writing.{write_call}
 use Rattle.pc_coord.specs.Messages.{is_awaited, is_met, next_by, next_of_met, next_unmet, progress_sent, progress_waits, waits_at}
 use Rattle.pc_coord.specs.Transaction.{put_of}
@@ -31,7 +27,7 @@ use Rattle.pc_proto.specs.declared.event.Event.TheVariants as events
 use Rattle.pc_proto.specs.declared.reply.Reply.{Reply}
 use Rattle.pc_proto.specs.declared.request.Request.{Request}
 use Rattle.pc_proto.specs.declared.request.Request.TheVariants as requests
-use Rattle.pc_proto.specs.Requests.{is_abort, is_commit, is_get, is_put_by, is_refresh, is_scan}
+use Rattle.pc_proto.specs.Requests.{is_abort, is_get, is_put_by, is_refresh, is_scan}
 use Rattle.pc_session.proofs.Jobs.{PutsNothing, PutsOpen, nothing_put}
 use Rattle.pc_world.specs.Follows.CallMessages.{IsFor, IsForCall}
 use Rattle.pc_world.specs.Known.{Known, call_in, call_of, first_if, next_number}

@@ -1,26 +1,23 @@
 -- A session in its call once the round of a conflict was made beside its coordinator.
-use Rattle.std.proofs.Common.{◌≡◌, ℕ, ◌+◌, ◌≤◌, max, true, false, Bool, ◌==◌, ◌||◌, inl, inr, All, Contains, IsTrue, List, [], ◌∷◌, ◌++◌, cond, count_by, find, Option, Some, None, refl, sym, ap, subst, ◌∙◌, arith}
+use Rattle.std.proofs.Common.{◌≡◌, ℕ, ◌+◌, ◌≤◌, max, true, false, Bool, ◌==◌, inl, inr, All, Contains, List, [], ◌∷◌, ◌++◌, cond, count_by, find, Option, Some, None, refl, sym, ap, subst, ◌∙◌, arith}
 use Rattle.std.proofs.lemmas.Bool.{eq-eqb}
-use Rattle.std.proofs.lemmas.Bool.Decides.{nat_tests}
 use Rattle.std.proofs.lemmas.List.{append_assoc}
-use Rattle.std.proofs.lemmas.List.Elements.{All-append, All-contains, All-weaker, Contains-append_right}
+use Rattle.std.proofs.lemmas.List.Elements.{All-append, All-weaker, Contains-append_right}
 use Rattle.std.specs.List.{list_any}
 use Rattle.std.specs.Option.{option_map}
 use Rattle.pc_base.specs.declared.actor.ActorId.TheVariants as actors
 use Rattle.pc_coord.specs.Beside.{IsLaterBeside}
 use Rattle.pc_coord.specs.Coordination.{Coordination, awaits_number, next_of, with_clock}
-use Rattle.pc_coord.specs.declared.job.Job.{Job}
 use Rattle.pc_coord.specs.declared.next.Next.TheVariants as nexts
 use Rattle.pc_coord.specs.declared.pusher.Pusher.{Pusher}
 use Rattle.pc_coord.specs.declared.round.Round.{Round}
-use Rattle.pc_coord.specs.Knows.{Knows, messages_of_job}
+use Rattle.pc_coord.specs.Knows.{Knows}
 use Rattle.pc_coord.specs.Knows.Sending.{IsConflictNow}
 use Rattle.pc_coord.specs.Pusher.{IsPusherOf}
 use Rattle.pc_coord.specs.Rounds.{EndsRound}
 use Rattle.pc_desk.proofs.Counting.{counts_any, none_counted, said_more}
-use Rattle.pc_desk.specs.Desk.{DeskMeaning, KeepsTrack, heard_as_number, is_on_way, times_sent}
+use Rattle.pc_desk.specs.Desk.{DeskMeaning, KeepsTrack, is_on_way, times_sent}
 use Rattle.pc_exchange.specs.Aside.{IsLaterAside}
-use Rattle.pc_exchange.specs.Growing.{HasAllBack}
 use Rattle.pc_exchange.specs.Jobs.{IsFinishable}
 use Rattle.pc_exchange.specs.Rounds.{HasMadeRoundOf, MayMakeRound}
 use Rattle.pc_lists.proofs.Counts.{count-append, count-cons, one_if}
@@ -32,9 +29,7 @@ use Rattle.pc_session.proofs.Due.{met_no_commit, quiet_met}
 use Rattle.pc_session.proofs.Inside.{one_on}
 use Rattle.pc_session.specs.InCall.{HasGoneInside, HasOpenCall, IsApartNow}
 use Rattle.pc_session.specs.Session.{HasLeft, SessionMeaning, session_knows}
-use Rattle.pc_world.specs.Follows.FinishingJobs.{jobs_of}
 use Rattle.pc_world.specs.Known.{Known, known_of, reading_in}
-use Rattle.pc_world.specs.Known.Statements.{Statement}
 use Rattle.pc_world.specs.Known.Traffic.{Heard, Sent, request_sent}
 use Rattle.pc_world.specs.Known.Transactions.{Txn}
 use Rattle.pc_world.specs.Tell.Refusal.{is_heard}

@@ -1,5 +1,5 @@
 -- A session in its call once it sent the message that its coordinator gave.
-use Rattle.std.proofs.Common.{◌≡◌, ℕ, ◌+◌, true, false, Bool, ◌==◌, ◌||◌, All, IsTrue, inl, inr, List, [], ◌∷◌, ◌++◌, Some, None, refl, sym, ap, subst, ◌∙◌, if◌then◌else◌, is_some, map, Option}
+use Rattle.std.proofs.Common.{◌≡◌, ℕ, ◌+◌, true, false, Bool, ◌==◌, ◌||◌, List, [], ◌∷◌, ◌++◌, Some, None, refl, sym, ap, subst, ◌∙◌, if◌then◌else◌, is_some, Option}
 use Rattle.std.proofs.lemmas.Bool.{eqb-true}
 use Rattle.std.proofs.lemmas.List.Elements.{All-cons, All-nil}
 use Rattle.pc_base.specs.declared.actor.ActorId.TheVariants as actors
@@ -7,7 +7,7 @@ use Rattle.pc_base.specs.Rising.{AreRising}
 use Rattle.pc_coord.specs.Coordination.{Coordination, awaits_number, next_of}
 use Rattle.pc_coord.specs.declared.next.Next.TheVariants as nexts
 use Rattle.pc_coord.specs.Events.{SendsDue}
-use Rattle.pc_coord.specs.Knows.{Knows, messages_of_job}
+use Rattle.pc_coord.specs.Knows.{Knows}
 use Rattle.pc_coord.specs.Knows.Sending.{AwaitsNone, IsSendable, learned}
 use Rattle.pc_desk.proofs.Counting.{said_new}
 use Rattle.pc_desk.proofs.Making.{added, known_after_it}
@@ -16,7 +16,6 @@ use Rattle.pc_desk.specs.OwnLog.{LogMeaning}
 use Rattle.pc_exchange.proofs.Growing.{grows_both, grows_else, grows_entered}
 use Rattle.pc_exchange.specs.Growing.{HasGrownBy}
 use Rattle.pc_history.specs.declared.pair.Pair.{Pair}
-use Rattle.pc_history.specs.Parts.{gave}
 use Rattle.pc_proto.specs.declared.event.Event.{Event}
 use Rattle.pc_proto.specs.declared.event.Event.TheVariants as events
 use Rattle.pc_proto.specs.declared.request.Request.{Request}
@@ -29,11 +28,10 @@ use Rattle.pc_session.proofs.Inside.{one_on}
 use Rattle.pc_session.proofs.Jobs.{HasJobs, jobs_sent}
 use Rattle.pc_session.proofs.Keeping.{keeps_as, keeps_sent, plain_for}
 use Rattle.pc_session.proofs.Knowing.{jobs_then, known_sent, of_send, with_sent}
-use Rattle.pc_session.specs.InCall.{GoesOnOrTold, HasGoneInside, HasOpenCall, IsApartNow}
+use Rattle.pc_session.specs.InCall.{HasGoneInside, HasOpenCall, IsApartNow}
 use Rattle.pc_session.specs.Session.{HasLeft, SessionMeaning, session_knows}
 use Rattle.pc_turns.specs.Order.{IsInBetween}
 use Rattle.pc_world.proofs.Pieces.{pieces-lie}
-use Rattle.pc_world.specs.Exchange.{IsAllowed}
 use Rattle.pc_world.specs.Follows.CallMessages.{IsForCall}
 use Rattle.pc_world.specs.Follows.FinishingJobs.{jobs_of, without_first}
 use Rattle.pc_world.specs.Known.{Known, known_of, learn, next_number}
