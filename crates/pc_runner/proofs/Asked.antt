@@ -4,8 +4,8 @@ use Rattle.std.proofs.Math.Nat.{add-zero}
 use Rattle.std.proofs.lemmas.List.Elements.{All-nil}
 use Rattle.pc_base.specs.Counts.{saturating_next}
 use Rattle.pc_base.specs.declared.actor.ActorId.TheVariants as actors
-use Rattle.pc_coord.proofs.Resting.{rests}
-use Rattle.pc_coord.proofs.Steps.{asked}
+use Rattle.pc_coord.proofs.Knowing.{rests}
+use Rattle.pc_runner.proofs.Learning.{asked}
 use Rattle.pc_coord.specs.Coordination.{Coordination, awaits_number}
 use Rattle.pc_coord.specs.declared.due.Due.TheVariants as dues
 use Rattle.pc_coord.specs.declared.job.Job.{Job}
@@ -130,6 +130,7 @@ module _ (work : Workload) (number : ℕ) (session : SessionWork) (at : Position
           opened = ap (λ (k : Known). k.statement) known;
           outside = λ out. ap (λ (k : Known). k.is_open) known ∙ may.outside out;
           course = fits_course at.ahead c.txn rest.fits.now;
+          calls = rest.fits.calls;
           items = rest.fits.items;
         };
         way = record {
