@@ -3,7 +3,6 @@ use Rattle.std.proofs.Common.{◌≡◌, ℕ, zero, suc, ◌+◌, ◌≤◌, Boo
 use Rattle.std.proofs.lemmas.Option.{get_or_from_slice_get, slice_get_within}
 use Rattle.pc_base.specs.declared.transaction.TxnId.{TxnId}
 use Rattle.pc_base.specs.Transaction.{same_txn}
-use Rattle.pc_call.proofs.Facts.{open_is}
 use Rattle.pc_coord.specs.Beside.{IsBeside, is_of_round_or_job}
 use Rattle.pc_coord.specs.Coordination.{Coordination}
 use Rattle.pc_coord.specs.declared.due.Due.TheVariants as dues
@@ -13,13 +12,13 @@ use Rattle.pc_proto.specs.declared.reply.Reply.{Reply}
 use Rattle.pc_proto.specs.declared.reply.Reply.TheVariants as replies
 use Rattle.pc_proto.specs.declared.request.Request.{Request}
 use Rattle.pc_proto.specs.declared.request.Request.TheVariants as requests
-use Rattle.pc_txn.specs.declared.txn.OpenTxn.{OpenTxn}
 use Rattle.pc_resolve.specs.Resolving.{Resolving, at_end, finishing_after, finishing_due, finishing_heard, finishing_next, lock_resolve, remove_of, unsettled, with_reply}
 use Rattle.pc_world.specs.Answering.{MayAnswer}
 use Rattle.pc_proto.specs.declared.machine.MachineNext.TheVariants as machine
 use Rattle.pc_world.specs.Follows.FinishingJobs.{first_message, without_first}
-use Rattle.pc_world.specs.Known.{Known, call_in, open_txn}
+use Rattle.pc_world.specs.Known.{Known, call_in, first_if, open_txn}
 use Rattle.pc_world.specs.Known.Transactions.{Txn}
+use Rattle.pc_txn.specs.declared.txn.OpenTxn.{OpenTxn}
 use Rattle.pc_runner.proofs.OnWay.{all_heard}
 use Rattle.pc_runner.proofs.Places.{drop_item}
 use Rattle.pc_runner.proofs.Rounding.{not_same}
@@ -136,9 +135,10 @@ rests_now c k knows due = subst (KnowsAt c k) due knows.stands
 module _ (c : Coordination) (start : Known) (knows : Knows c start) (due : c.due ≡ dues.Nothing) (id : TxnId) (begun : id.number ≤ start.begun) (other : (t : Txn) → open_txn start ≡ Some t → id ≡ t.id → ⊥) where
   none_open_as : (txn : Option OpenTxn) → IsHeld txn start → (x : OpenTxn) → txn ≡ Some x → same_txn id x.id ≡ false
   none_open_as None held x is = absurd cc
-  none_open_as (Some y) h x is =
+  none_open_as (Some y) held x is =
       let same : y ≡ x = cc in
-      not_same id x.id (λ e. other h.t (open_is start h.t h.open_in) (e ∙ (sym (ap (λ (x : OpenTxn). x.id) same) ∙ ap (λ (x : OpenTxn). x.id) h.stands.same)))
+      let opened : open_txn start ≡ Some held.t = ap (λ b. first_if b start.txns) held.open_in.is_open ∙ ap (first_if true) held.open_in.first in
+      not_same id x.id (λ e. other held.t opened (e ∙ (sym (ap (λ (x : OpenTxn). x.id) same) ∙ ap (λ (x : OpenTxn). x.id) held.stands.same)))
 
   -- the removal of the job's record speaks of no open transaction
   remove_beside : (anchor : List ℕ) → IsBeside c (requests.Remove id anchor)
