@@ -6,12 +6,12 @@ use Rattle.std.specs.Option.{option_map}
 use Rattle.pc_base.specs.declared.actor.ActorId.TheVariants as actors
 use Rattle.pc_runner.proofs.Lasts.{find-last}
 use Rattle.pc_runner.proofs.Learning.{sent}
+use Rattle.pc_call.specs.Sending.{IsSendable}
 use Rattle.pc_coord.specs.Coordination.{Coordination, awaits_number, next_of}
 use Rattle.pc_coord.specs.declared.job.Job.{Job}
 use Rattle.pc_coord.specs.declared.next.Next.TheVariants as nexts
 use Rattle.pc_coord.specs.Events.{SendsDue}
-use Rattle.pc_coord.specs.Knows.{Knows, messages_of_job}
-use Rattle.pc_coord.specs.Knows.Sending.{AwaitsNone, IsSendable}
+use Rattle.pc_coord.specs.Knows.{AwaitsNone, Knows, messages_of_job}
 use Rattle.pc_history.specs.declared.pair.Pair.{Pair}
 use Rattle.pc_proto.specs.declared.event.Event.TheVariants as events
 use Rattle.pc_proto.specs.declared.request.Request.{Request}
