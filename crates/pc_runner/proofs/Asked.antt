@@ -4,8 +4,7 @@ use Rattle.std.proofs.Math.Nat.{add-zero}
 use Rattle.std.proofs.lemmas.List.Elements.{All-nil}
 use Rattle.pc_base.specs.Counts.{saturating_next}
 use Rattle.pc_base.specs.declared.actor.ActorId.TheVariants as actors
-use Rattle.pc_coord.proofs.Resting.{rests}
-use Rattle.pc_coord.proofs.Steps.{asked}
+use Rattle.pc_coord.proofs.Knowing.{rests}
 use Rattle.pc_coord.specs.Coordination.{Coordination, awaits_number}
 use Rattle.pc_coord.specs.declared.due.Due.TheVariants as dues
 use Rattle.pc_coord.specs.declared.job.Job.{Job}
@@ -24,6 +23,7 @@ use Rattle.pc_runner.proofs.Fitting.{first_of, fits_course, fits_outside, fits_s
 use Rattle.pc_runner.proofs.Going.{known_asked, of_ask}
 use Rattle.pc_runner.proofs.Growing.{next_pair, one_longer}
 use Rattle.pc_runner.proofs.Keeps.{keeps_on}
+use Rattle.pc_runner.proofs.Learning.{asked}
 use Rattle.pc_runner.proofs.Left.{jobs_asked}
 use Rattle.pc_runner.proofs.OnWay.{heard_asked, waits_none}
 use Rattle.pc_runner.proofs.Stepping.{step_asked}
@@ -110,7 +110,7 @@ module _ (work : Workload) (number : ℕ) (session : SessionWork) (at : Position
   -- a session that asked its next call is in it
   pub calls_asked : (c d : Coordination) (sends : ℕ) → Rests work number session at clock jobs c sends h → HasGrown h g (actors.Session number) (events.Ask call reading) → next_call at ≡ Some call
       → IsTrue (stepped_rule clock.start clock.step clock.reads reading) → later.reads ≡ saturating_next clock.reads → later.start ≡ clock.start → later.step ≡ clock.step
-      → ((k : Known) (p : Pair _) → Knows c k → IsAsked c call reading k p → Knows d (learn p k)) → ((other : ℕ) → awaits_number other d.due ≡ false)
+      → ((k : Known) (p : Pair _) → Knows c k → IsAsked c call reading k p → Knows d (learn p k)) → ((k : Known) (p : Pair _) (number : ℕ) → Knows c k → IsAsked c call reading k p → awaits_number number d.due ≡ false)
       → d.session ≡ c.session → d.splits ≡ c.splits → Calls work number session at later reading jobs d sends [] [] g
   calls_asked c d sends rest grown next given counted start step learns quiet same_session same_splits =
       let k = known_by number h in
@@ -130,6 +130,7 @@ module _ (work : Workload) (number : ℕ) (session : SessionWork) (at : Position
           opened = ap (λ (k : Known). k.statement) known;
           outside = λ out. ap (λ (k : Known). k.is_open) known ∙ may.outside out;
           course = fits_course at.ahead c.txn rest.fits.now;
+          calls = rest.fits.calls;
           items = rest.fits.items;
         };
         way = record {
@@ -141,6 +142,6 @@ module _ (work : Workload) (number : ℕ) (session : SessionWork) (at : Position
           posted = tt;
           replied = All-nil _;
           waiting = All-nil _;
-          waits = waits_none sends d.due quiet;
+          waits = waits_none sends d.due (λ other. quiet k (next_pair number h event) other rest.stands.knows asks);
         };
       }

@@ -2,17 +2,14 @@
 use Rattle.std.proofs.Common.{◌≡◌, ℕ, ◌-◌, ◌<◌, true, false, IfSome, List, [], length, Option, Some, None, refl, sym, subst, arith}
 use Rattle.std.proofs.lemmas.List.Elements.{All-nil}
 use Rattle.std.proofs.lemmas.Option.{slice_get_within}
-use Rattle.pc_coord.proofs.Resting.{rests}
+use Rattle.pc_coord.proofs.Knowing.{rests}
 use Rattle.pc_coord.specs.Coordination.{Coordination}
 use Rattle.pc_coord.specs.declared.due.Due.{Due}
 use Rattle.pc_coord.specs.declared.due.Due.TheVariants as dues
-use Rattle.pc_coord.specs.declared.due.Wait.{Wait}
-use Rattle.pc_coord.specs.declared.due.Wait.TheVariants as waits
 use Rattle.pc_coord.specs.declared.job.Job.{Job}
-use Rattle.pc_coord.specs.declared.transaction.Transaction.{Transaction}
-use Rattle.pc_coord.specs.Knows.Held.{IsHeld}
-use Rattle.pc_coord.specs.Knows.{AwaitsReply, Knows, KnowsAt, MayFinishJob}
+use Rattle.pc_coord.specs.Knows.{IsHeld, Knows, KnowsAt, MayFinishJob}
 use Rattle.pc_clock.specs.Stepped.{SteppedState}
+use Rattle.pc_txn.specs.declared.txn.OpenTxn.{OpenTxn}
 use Rattle.pc_work.specs.Built.{IsBuilt}
 use Rattle.pc_work.specs.declared.session.SessionWork.{SessionWork}
 use Rattle.pc_work.specs.declared.workload.Workload.{Workload}
@@ -31,19 +28,10 @@ use Rattle.pc_runner.specs.Traffic.{HasHeard}
 abbrev pub fresh : Workload → History
 fresh work = first_history work.splits (length work.sessions)
 
-none_waited : (txn : Option Transaction) (number : ℕ) (wait : Wait) → AwaitsReply nothing_known txn number wait → ⊥
-none_waited txn number (waits.Put conflicts again) a = let e : false ≡ true = a.writing.open_as.is_open in cc
-none_waited txn number (waits.Commit ts refusals) a = let e : false ≡ true = a.open_as.is_open in cc
-none_waited txn number waits.Abort a = let e : false ≡ true = a.open_as.is_open in cc
-
 -- where nothing is known nothing is due
 nothing_due : (c : Coordination) (due : Due) → KnowsAt c nothing_known due → due ≡ dues.Nothing
 nothing_due c dues.Nothing h = refl
-nothing_due c dues.Stuck h = absurd h
-nothing_due c (dues.Send request wait) h = let e = h.may.kind.opened in absurd cc
-nothing_due c (dues.Hear number wait) h = absurd (none_waited c.txn number wait h.reply)
-nothing_due c (dues.Met number conflict conflicts again) h = let e : false ≡ true = h.met.writing.open_as.is_open in absurd cc
-nothing_due c (dues.Read messages) h = let e = h.reads.opened in absurd cc
+nothing_due c (dues.Call call) h = let e = h.in_call.opened in absurd cc
 nothing_due c (dues.Tell answer) h = let e = h.may.may.opened in absurd cc
 
 pub new_idle : (c : Coordination) → Knows c nothing_known → c.due ≡ dues.Nothing
@@ -56,9 +44,9 @@ no_job (Some job) left = let none = left.anchored in absurd cc
 pub new_handed : (c : Coordination) → Knows c nothing_known → c.job ≡ None
 new_handed c knows = no_job c.job (rests c nothing_known knows refl).left
 
-none_held : (txn : Option Transaction) → IsHeld txn nothing_known → txn ≡ None
+none_held : (txn : Option OpenTxn) → IsHeld txn nothing_known → txn ≡ None
 none_held None held = refl
-none_held (Some x) held = let e : false ≡ true = held.1.is_open in absurd cc
+none_held (Some x) held = let e : false ≡ true = held.open_in.is_open in absurd cc
 
 new_closed : (c : Coordination) → Knows c nothing_known → c.txn ≡ None
 new_closed c knows = none_held c.txn (rests c nothing_known knows refl).held
@@ -97,5 +85,5 @@ begun_delivered work number = record { once = λ sent from to. absurd (omega ari
 pub begun_fits : (work : Workload) (number : ℕ) (session : SessionWork) (c : Coordination) (at : Position) → IsStatedBy work number session → Knows c nothing_known → at ≡ opened session.script work.reruns → FitsCalls at c.txn
 begun_fits work number session c at stated knows start =
     subst (λ (p : Position). FitsCalls p c.txn) (sym start)
-    (subst (λ (txn : Option Transaction). FitsCalls (opened session.script work.reruns) txn) (sym (new_closed c knows))
+    (subst (λ (txn : Option OpenTxn). FitsCalls (opened session.script work.reruns) txn) (sym (new_closed c knows))
     (opened_fits session.script work.reruns (built_items work (number - 1) session stated.built stated.listed)))

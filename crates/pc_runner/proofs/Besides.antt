@@ -2,7 +2,6 @@
 use Rattle.std.proofs.Common.{◌≡◌, ℕ, ◌+◌, ◌<◌, max, true, List, [], ◌∷◌, ◌++◌, length, refl, sym, ap, ◌∙◌, subst, arith, length-append}
 use Rattle.std.proofs.lemmas.List.Elements.{All-weaker}
 use Rattle.pc_base.specs.declared.actor.ActorId.TheVariants as actors
-use Rattle.pc_coord.proofs.Steps.{heard, sent}
 use Rattle.pc_coord.specs.Beside.{IsBeside, IsLaterBeside, is_of_round_or_job}
 use Rattle.pc_coord.specs.Coordination.{Coordination, with_clock}
 use Rattle.pc_proto.specs.declared.reply.Reply.{Reply}
@@ -14,6 +13,7 @@ use Rattle.pc_world.specs.Known.Traffic.{Heard, Sent}
 use Rattle.pc_world.specs.Local.{Head, IsActorOf}
 use Rattle.pc_runner.proofs.Beside.{delivered_exchanged, jobs_exchanged, keeps_exchanged, later_exchanged, left_after, part_exchanged, was_answered}
 use Rattle.pc_runner.proofs.Exchanging.{AreBefore, head_same_then, known_exchanged}
+use Rattle.pc_runner.proofs.Learning.{heard, sent}
 use Rattle.pc_runner.proofs.OnWay.{heard_heard, heard_sent}
 use Rattle.pc_runner.specs.Beside.{IsBesides, MayExchange, after_exchange}
 use Rattle.pc_runner.specs.declared.session.SessionRun.{SessionRun}

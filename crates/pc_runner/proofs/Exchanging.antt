@@ -3,8 +3,8 @@ use Rattle.std.proofs.Common.{◌≡◌, ℕ, ◌<◌, max, true, not, List, [],
 use Rattle.std.specs.Option.{option_map}
 use Rattle.pc_base.specs.declared.actor.ActorId.TheVariants as actors
 use Rattle.pc_coord.proofs.Learned.{learn_own}
-use Rattle.pc_coord.proofs.Lists.{any_last_of, find-last}
-use Rattle.pc_coord.proofs.Steps.{heard, sent, sent_is}
+use Rattle.pc_runner.proofs.Lasts.{any_last_of, find-last}
+use Rattle.pc_runner.proofs.Learning.{heard, sent, sent_is}
 use Rattle.pc_coord.specs.Beside.{is_of_round_or_job}
 use Rattle.pc_history.specs.declared.pair.Pair.{Pair}
 use Rattle.pc_proto.specs.declared.event.Event.{Event}

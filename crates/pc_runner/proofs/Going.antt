@@ -2,7 +2,7 @@
 use Rattle.std.proofs.Common.{◌≡◌, ℕ, max, Option, Some, refl, ap, ◌∙◌}
 use Rattle.pc_base.specs.declared.actor.ActorId.TheVariants as actors
 use Rattle.pc_coord.proofs.Learned.{learn_own}
-use Rattle.pc_coord.proofs.Steps.{asked, asked_is, heard, heard_is, sent, sent_is, told, told_is}
+use Rattle.pc_runner.proofs.Learning.{asked, asked_is, heard, heard_is, sent, sent_is, told, told_is}
 use Rattle.pc_coord.specs.Events.{IsOf}
 use Rattle.pc_base.specs.declared.entry.Entry.{Entry}
 use Rattle.pc_history.specs.declared.pair.Pair.{Pair}

@@ -3,7 +3,7 @@ use Rattle.std.proofs.Common.{◌≡◌, ℕ, ◌+◌, ◌≤◌, max, Bool, tru
 use Rattle.std.proofs.lemmas.List.Elements.{All-cons, All-head, All-nil, All-tail, All-weaker}
 use Rattle.pc_base.specs.declared.transaction.TxnId.{TxnId}
 use Rattle.pc_coord.proofs.Learned.{learn_own}
-use Rattle.pc_coord.proofs.Steps.{asked, heard, sent, sent_is}
+use Rattle.pc_runner.proofs.Learning.{asked, heard, sent, sent_is}
 use Rattle.pc_coord.specs.declared.job.Job.{Job}
 use Rattle.pc_coord.specs.Events.{IsOf}
 use Rattle.pc_coord.specs.Knows.{MayFinishJob}

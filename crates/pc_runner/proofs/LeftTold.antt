@@ -5,7 +5,7 @@ use Rattle.std.proofs.lemmas.List.{map-append}
 use Rattle.std.proofs.lemmas.List.Elements.{All-cons, All-head, All-push, All-tail, All-weaker}
 use Rattle.std.specs.Option.{option_or, option_to_list}
 use Rattle.pc_base.specs.declared.transaction.TxnId.{TxnId}
-use Rattle.pc_coord.proofs.Steps.{told}
+use Rattle.pc_runner.proofs.Learning.{told}
 use Rattle.pc_coord.specs.declared.job.Job.{Job}
 use Rattle.pc_coord.specs.Knows.{MayFinishJob, messages_left, messages_of_job}
 use Rattle.pc_lists.proofs.Lists.{contains_cons, contains_head, contains_tail}

@@ -16,12 +16,15 @@ pub mod Growing
 pub mod Holding
 pub mod InTurn
 pub mod Keeps
+pub mod Lasts
+pub mod Learning
 pub mod Left
 pub mod LeftTold
 pub mod OnWay
 pub mod OwnPuts
 pub mod Places
 pub mod Pushed
+pub mod Quiet
 pub mod Ranges
 pub mod Refitting
 pub mod Rounding

@@ -6,11 +6,11 @@ use Rattle.std.proofs.lemmas.List.Elements.{All-cons, All-head, All-nil, All-pus
 use Rattle.std.proofs.lemmas.List.Folds.{find-append, list_any-append, list_any_none}
 use Rattle.std.specs.List.{list_any}
 use Rattle.std.specs.Option.{option_map, option_or}
-use Rattle.pc_coord.proofs.Lists.{find-last}
-use Rattle.pc_coord.proofs.Steps.{asked, heard, sent, told}
+use Rattle.pc_runner.proofs.Lasts.{find-last}
+use Rattle.pc_runner.proofs.Learning.{asked, heard, sent, told}
 use Rattle.pc_coord.specs.Coordination.{Coordination, awaits_number}
 use Rattle.pc_coord.specs.declared.due.Due.{Due}
-use Rattle.pc_coord.specs.Knows.Sending.{AwaitsNone}
+use Rattle.pc_coord.specs.Knows.{AwaitsNone}
 use Rattle.pc_proto.specs.declared.answer.Answer.{Answer}
 use Rattle.pc_proto.specs.declared.call.Call.{Call}
 use Rattle.pc_proto.specs.declared.request.Request.{Request}

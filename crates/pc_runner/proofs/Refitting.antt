@@ -2,25 +2,26 @@
 use Rattle.std.proofs.Common.{◌≡◌, ℕ, Bool, true, false, ◌&&◌, not, All, List, drop, Option, Some, None, IfSome, refl, sym, ap, subst, ◌∙◌}
 use Rattle.std.specs.Bool.{MatchBool}
 use Rattle.pc_base.specs.declared.actor.ActorId.{ActorId}
-use Rattle.pc_coord.specs.declared.transaction.Transaction.{Transaction}
-use Rattle.pc_coord.specs.Events.{Suits}
-use Rattle.pc_coord.specs.Knows.Held.{IsHeld}
-use Rattle.pc_coord.specs.Suiting.{IsReader, IsWriter, SuitsNext}
+use Rattle.pc_call.specs.Suiting.{SuitsFlightNext}
+use Rattle.pc_coord.specs.Knows.{IsHeld}
+use Rattle.pc_coord.specs.Suiting.{Suits, SuitsNext}
 use Rattle.pc_proto.specs.declared.answer.Answer.{Answer}
 use Rattle.pc_proto.specs.declared.answer.Answer.TheVariants as answers
 use Rattle.pc_proto.specs.declared.call.Call.{Call}
 use Rattle.pc_proto.specs.declared.call.Call.TheVariants as calls
+use Rattle.pc_txn.specs.declared.flight.InFlight.{InFlight}
+use Rattle.pc_txn.specs.declared.txn.OpenTxn.{OpenTxn}
 use Rattle.pc_work.specs.Built.{IsBuiltItem}
 use Rattle.pc_world.specs.Known.{Known}
 use Rattle.pc_world.specs.Known.Statements.{Statement, is_open_told}
 use Rattle.pc_world.specs.Local.{is_outside, is_round}
-use Rattle.pc_world.specs.MayTell.{MayTellIn, MayTellRow, is_begin, is_past_range, needs_txn}
+use Rattle.pc_world.specs.MayTell.{IsLearnTold, MayTellIn, MayTellRow, is_begin, is_past_range, needs_txn}
 use Rattle.pc_world.specs.Send.Put.{AsksFor}
 use Rattle.pc_world.specs.Tell.Begin.{MayTellBegun}
 use Rattle.pc_world.specs.Tell.Data.{MayTellRows, MayTellValue, MayTellWritten}
-use Rattle.pc_runner.proofs.Fitting.{after_begin, again_fits, behind, first_of, opened_fits, reader_suits, reads_get, reads_scan, rerun_fits, writer_suits, writes_delete, writes_put}
+use Rattle.pc_runner.proofs.Fitting.{IsFree, after_begin, again_fits, behind, first_of, free_fits, opened_fits, rerun_fits}
 use Rattle.pc_runner.specs.Follows.Script.{Position, after_told, next_call, opened}
-use Rattle.pc_runner.specs.Suiting.{FitsCalls, FitsTxn, IsCallIn, IsCourse}
+use Rattle.pc_runner.specs.Suiting.{AreOfOne, FitsCalls, FitsTxn, IsCourse}
 
 pub row_by : (needs past : Bool) (none clock row : Type 0) → (none → ⊥) → (clock → ⊥) → MatchBool needs none (MatchBool past clock row) → row
 row_by true past none clock row first second is = absurd (first is)
@@ -30,6 +31,10 @@ row_by false false none clock row first second is = is
 begin_outside : (call : Call) → is_begin call ≡ true → is_outside call ≡ true
 begin_outside (calls.Begin priority) e = refl
 begin_outside call e = absurd cc
+
+learn_outside : (met : Bool) (k : Known) (call : Call) → IsLearnTold met k call → is_outside call ≡ true
+learn_outside met k (calls.Learn id) is = refl
+learn_outside met k call is = absurd is
 
 left_true : (a b : Bool) → (a && b) ≡ true → a ≡ true
 left_true true b e = refl
@@ -66,76 +71,85 @@ module _ (splits : List (List ℕ)) (actor : ActorId) (k : Known) (s : Statement
       by false false e is = absurd is
 
 -- The open call, and what becomes of the transaction by its answer.
-pub record IsAnsweredCall (at : Position) (k : Known) (call : Call) (answer : Answer) (txn : Option Transaction) : Type 0 where
+pub record IsAnsweredCall (at : Position) (k : Known) (call : Call) (answer : Answer) (txn : Option OpenTxn) : Type 0 where
   pub course : IsCourse at.ahead
   pub items : All IsBuiltItem at.items
+  pub calls : AreOfOne (drop 1 at.calls)
   pub next : next_call at ≡ Some call
   pub outside : is_outside call ≡ true → k.is_open ≡ false
   pub suits : SuitsNext answer call txn
   pub closed : is_open_told answer k.is_open ≡ false → txn ≡ None
 
-module _ (at : Position) (txn : Option Transaction) where
+module _ (at : Position) (txn : Option OpenTxn) where
   -- the next item, where no transaction is open
   next_item : All IsBuiltItem at.items → txn ≡ None → FitsCalls (opened at.items at.reruns) txn
   next_item items none = subst (FitsCalls (opened at.items at.reruns)) (sym none) (opened_fits at.items at.reruns items)
 
-  -- behind a call that reads
-  on_reading : (call : Call) → IsCourse at.ahead → next_call at ≡ Some call → is_outside call ≡ false → ((reads : Bool) → IsCallIn reads call → reads ≡ true) → IfSome txn IsReader → FitsTxn (drop 1 at.ahead) txn
-  on_reading call course next out of suits = behind at.ahead call true txn IsReader ((first_of at.ahead call course next).inside out) next of reader_suits suits
+  -- behind a call of a transaction that was begun
+  on_behind : (call : Call) → IsCourse at.ahead → next_call at ≡ Some call → is_outside call ≡ false → IfSome txn IsFree → FitsTxn (drop 1 at.ahead) txn
+  on_behind call course next out free = behind at.ahead call txn ((first_of at.ahead call course next).inside out) next free
 
-  on_writing : (call : Call) → IsCourse at.ahead → next_call at ≡ Some call → is_outside call ≡ false → ((reads : Bool) → IsCallIn reads call → reads ≡ false) → IfSome txn IsWriter → FitsTxn (drop 1 at.ahead) txn
-  on_writing call course next out of suits = behind at.ahead call false txn IsWriter ((first_of at.ahead call course next).inside out) next of writer_suits suits
-
-  written_by : (call : Call) (key : List ℕ) (value : Option (List ℕ)) → AsksFor (Some call) key value → IsCourse at.ahead → next_call at ≡ Some call → IfSome txn IsWriter → FitsTxn (drop 1 at.ahead) txn
-  written_by call key None asks course next suits =
-      let same : call ≡ calls.Delete key = cc in
-      on_writing call course next (ap is_outside same) (λ reads is. writes_delete reads key (subst (IsCallIn reads) same is)) suits
-  written_by call key (Some value) asks course next suits =
-      let same : call ≡ calls.Put key value = cc in
-      on_writing call course next (ap is_outside same) (λ reads is. writes_put reads key value (subst (IsCallIn reads) same is)) suits
+  written_by : (call : Call) (key : List ℕ) (value : Option (List ℕ)) → AsksFor (Some call) key value → IsCourse at.ahead → next_call at ≡ Some call → IfSome txn IsFree → FitsTxn (drop 1 at.ahead) txn
+  written_by call key None asks course next free = let same : call ≡ calls.Delete key = cc in on_behind call course next (ap is_outside same) free
+  written_by call key (Some value) asks course next free = let same : call ≡ calls.Put key value = cc in on_behind call course next (ap is_outside same) free
 
   -- the same call once more
   once_more : (k : Known) (call : Call) → IsCourse at.ahead → next_call at ≡ Some call → (is_outside call ≡ true → k.is_open ≡ false) → Suits call txn → (k.is_open ≡ false → txn ≡ None) → FitsTxn at.ahead txn
   once_more k call course next outside suits closed = again_fits at.ahead call txn course next suits (λ out. closed (outside out))
 
+-- after an answer that leaves no write in flight
+free_next : (answer : Answer) (call : Call) (txn : Option OpenTxn) → ((w : Option InFlight) → SuitsFlightNext answer call w → w ≡ None) → SuitsNext answer call txn → IfSome txn IsFree
+free_next answer call None none suits = tt
+free_next answer call (Some x) none suits = none x.in_flight suits
+
+-- after a refusal
+again_next : (answer : Answer) (call : Call) (txn : Option OpenTxn) → ((x : OpenTxn) → SuitsFlightNext answer call x.in_flight → Suits call (Some x)) → SuitsNext answer call txn → Suits call txn
+again_next answer call None same suits = tt
+again_next answer call (Some x) same suits = same x suits
+
 -- after each answer the script goes on with what is open
-pub told_fits : (answer : Answer) (at : Position) (txn : Option Transaction) (splits : List (List ℕ)) (actor : ActorId) (k : Known) (s : Statement) → IsAnsweredCall at k s.call answer txn → MayTellIn splits actor k s answer
+pub told_fits : (answer : Answer) (at : Position) (txn : Option OpenTxn) (splits : List (List ℕ)) (actor : ActorId) (k : Known) (s : Statement) → IsAnsweredCall at k s.call answer txn → MayTellIn splits actor k s answer
     → FitsCalls (after_told answer at) txn
 told_fits (answers.Begun id ts) at txn splits actor k s a may =
     let row : MayTellBegun actor k s id ts = row_by _ _ (answers.Begun id ts ≡ answers.NoTxn) (answers.Begun id ts ≡ answers.Clock s.reading) (MayTellBegun actor k s id ts) (λ e. absurd cc) (λ e. absurd cc) may in
-    record { items = a.items; now = after_begin at.ahead s.call row.priority txn a.course a.next row.asked a.suits }
+    record { items = a.items; calls = a.calls; now = after_begin at.ahead s.call row.priority txn a.course a.next row.asked (free_next (answers.Begun id ts) s.call txn (λ w none. none) a.suits) }
 told_fits (answers.Value value) at txn splits actor k s a may =
     let row : MayTellValue k s value = row_by _ _ (answers.Value value ≡ answers.NoTxn) (answers.Value value ≡ answers.Clock s.reading) (MayTellValue k s value) (λ e. absurd cc) (λ e. absurd cc) may in
-    record { items = a.items; now = on_reading at txn s.call a.course a.next (ap is_outside row.asked) (λ reads is. reads_get reads row.key (subst (IsCallIn reads) row.asked is)) a.suits }
+    record { items = a.items; calls = a.calls; now = on_behind at txn s.call a.course a.next (ap is_outside row.asked) (free_next (answers.Value value) s.call txn (λ w none. none) a.suits) }
 told_fits (answers.Rows rows) at txn splits actor k s a may =
     let row : MayTellRows splits k s rows = row_by _ _ (answers.Rows rows ≡ answers.NoTxn) (answers.Rows rows ≡ answers.Clock s.reading) (MayTellRows splits k s rows) (λ e. absurd cc) (λ e. absurd cc) may in
-    record { items = a.items; now = on_reading at txn s.call a.course a.next (ap is_outside row.asked) (λ reads is. reads_scan reads row.span (subst (IsCallIn reads) row.asked is)) a.suits }
+    record { items = a.items; calls = a.calls; now = on_behind at txn s.call a.course a.next (ap is_outside row.asked) (free_next (answers.Rows rows) s.call txn (λ w none. none) a.suits) }
 told_fits answers.Written at txn splits actor k s a may =
     let row : MayTellWritten k s = row_by _ _ (answers.Written ≡ answers.NoTxn) (answers.Written ≡ answers.Clock s.reading) (MayTellWritten k s) (λ e. absurd cc) (λ e. absurd cc) may in
     let first = row.sent.4 in
-    record { items = a.items; now = written_by at txn s.call first.key first.value first.asked a.course a.next a.suits }
+    record { items = a.items; calls = a.calls; now = written_by at txn s.call first.key first.value first.asked a.course a.next (free_next answers.Written s.call txn (λ w none. none) a.suits) }
 told_fits (answers.Blocked holder) at txn splits actor k s a may =
-    rerun_fits at.left at txn a.items (once_more at txn k s.call a.course a.next a.outside a.suits a.closed)
+    rerun_fits at.ahead at.left at txn a.items a.calls (once_more at txn k s.call a.course a.next a.outside (again_next (answers.Blocked holder) s.call txn (λ x suits. suits) a.suits) a.closed)
 told_fits (answers.Unavailable faults) at txn splits actor k s a may =
-    rerun_fits at.left at txn a.items (once_more at txn k s.call a.course a.next a.outside a.suits a.closed)
+    rerun_fits at.ahead at.left at txn a.items a.calls (once_more at txn k s.call a.course a.next a.outside (again_next (answers.Unavailable faults) s.call txn (λ x suits. suits) a.suits) a.closed)
 told_fits (answers.Moved ts) at txn splits actor k s a may =
-    rerun_fits at.left at txn a.items (once_more at txn k s.call a.course a.next a.outside a.suits a.closed)
-told_fits (answers.Restart key ts) at txn splits actor k s a may = absurd a.suits
-told_fits answers.Learnt at txn splits actor k s a may = next_item at txn a.items a.suits
-told_fits answers.NotYet at txn splits actor k s a may = next_item at txn a.items a.suits
+    rerun_fits at.ahead at.left at txn a.items a.calls (once_more at txn k s.call a.course a.next a.outside (again_next (answers.Moved ts) s.call txn (λ x suits. suits) a.suits) a.closed)
+told_fits (answers.Restart key ts) at txn splits actor k s a may =
+    rerun_fits (drop 1 at.calls) at.left at txn a.items a.calls (free_fits (drop 1 at.calls) txn a.calls (free_next (answers.Restart key ts) s.call txn (λ w none. none) a.suits))
+told_fits answers.Learnt at txn splits actor k s a may =
+    let row : IsLearnTold true k s.call = row_by _ _ (answers.Learnt ≡ answers.NoTxn) (answers.Learnt ≡ answers.Clock s.reading) (IsLearnTold true k s.call) (λ e. absurd cc) (λ e. absurd cc) may in
+    next_item at txn a.items (a.closed (a.outside (learn_outside true k s.call row)))
+told_fits answers.NotYet at txn splits actor k s a may =
+    let row : IsLearnTold false k s.call = row_by _ _ (answers.NotYet ≡ answers.NoTxn) (answers.NotYet ≡ answers.Clock s.reading) (IsLearnTold false k s.call) (λ e. absurd cc) (λ e. absurd cc) may in
+    next_item at txn a.items (a.closed (a.outside (learn_outside false k s.call row)))
 told_fits (answers.Committed id ts) at txn splits actor k s a may = next_item at txn a.items (a.closed refl)
 told_fits (answers.RolledBack id why) at txn splits actor k s a may = next_item at txn a.items (a.closed refl)
 told_fits (answers.Aborted why) at txn splits actor k s a may = next_item at txn a.items (a.closed refl)
 told_fits (answers.Unknown id) at txn splits actor k s a may = next_item at txn a.items (a.closed refl)
 told_fits (answers.Clock reading) at txn splits actor k s a may = next_item at txn a.items (a.closed (a.outside (clock_begins splits actor k s reading may)))
 told_fits answers.NoTxn at txn splits actor k s a may =
-    record { items = a.items; now = subst (FitsTxn at.ahead) (sym (a.closed (none_open splits actor k s may))) a.course }
+    record { items = a.items; calls = a.calls; now = subst (FitsTxn at.ahead) (sym (a.closed (none_open splits actor k s may))) a.course }
 told_fits answers.Done at txn splits actor k s a may =
     let row : s.call ≡ calls.Round = row_by _ _ (answers.Done ≡ answers.NoTxn) (answers.Done ≡ answers.Clock s.reading) (s.call ≡ calls.Round) (λ e. absurd cc) (λ e. absurd cc) may in
     let e : true ≡ false = sym (ap is_round row) ∙ (first_of at.ahead s.call a.course a.next).round in
     absurd cc
 
 -- where no transaction is open after an answer, the coordinator holds none
-pub held_none : (txn : Option Transaction) (k : Known) → IsHeld txn k → k.is_open ≡ false → txn ≡ None
+pub held_none : (txn : Option OpenTxn) (k : Known) → IsHeld txn k → k.is_open ≡ false → txn ≡ None
 held_none None k held none = refl
-held_none (Some x) k held none = let e : true ≡ false = sym held.1.is_open ∙ none in absurd cc
+held_none (Some x) k held none = let e : true ≡ false = sym held.open_in.is_open ∙ none in absurd cc

@@ -1,31 +1,29 @@
 -- A conflict's round, step by step: each of its messages may be sent when it is due, and what was heard is what its machine stands at.
-use Rattle.std.proofs.Common.{◌≡◌, ℕ, zero, suc, ◌+◌, ◌≤◌, Bool, true, false, ◌&&◌, inl, inr, List, [], ◌∷◌, ◌++◌, All, Option, Some, None, IfSome, IsTrue, refl, sym, ap, ◌∙◌, subst, arith, count_by}
+use Rattle.std.proofs.Common.{◌≡◌, ℕ, zero, suc, ◌+◌, ◌≤◌, Bool, true, false, ◌&&◌, inl, inr, List, [], ◌∷◌, ◌++◌, All, Any, Option, Some, None, IfSome, IsTrue, refl, sym, ap, ◌∙◌, subst, arith, count_by}
 use Rattle.std.proofs.lemmas.List.{append_assoc}
-use Rattle.std.proofs.lemmas.List.Elements.{All-cons, All-nil, All-weaker}
+use Rattle.std.proofs.lemmas.List.Elements.{All-cons, All-contains, All-nil, All-weaker, Contains-append_cases}
+use Rattle.std.proofs.lemmas.Option.{same_Some}
+use Rattle.std.specs.Option.{option_map_or}
 use Rattle.pc_base.specs.declared.actor.ActorId.TheVariants as actors
 use Rattle.pc_base.specs.declared.transaction.TxnId.{TxnId}
 use Rattle.pc_base.specs.declared.transaction.Who.TheVariants as whos
 use Rattle.pc_base.specs.Transaction.{same_txn}
+use Rattle.pc_call.proofs.Facts.{open_is}
+use Rattle.pc_call.specs.Paced.{shows_resolve, was_met, was_pushed}
+use Rattle.pc_call.specs.Sending.{IsConflictNow, read_at}
 use Rattle.pc_coord.specs.Beside.{IsBeside, IsLaterBeside}
-use Rattle.pc_coord.specs.Coordination.{Coordination, next_of}
+use Rattle.pc_coord.specs.Coordination.{Coordination, next_at, next_of}
 use Rattle.pc_coord.specs.declared.due.Due.{Due}
 use Rattle.pc_coord.specs.declared.due.Due.TheVariants as dues
 use Rattle.pc_coord.specs.declared.next.Next.TheVariants as nexts
 use Rattle.pc_coord.specs.declared.pusher.Pusher.{Pusher}
 use Rattle.pc_coord.specs.declared.round.Round.TheVariants as rounds
-use Rattle.pc_coord.specs.declared.transaction.Transaction.{Transaction}
 use Rattle.pc_coord.specs.Knows.{Knows, KnowsAt}
-use Rattle.pc_coord.specs.Knows.Held.{IsCounted, IsOpenAs}
-use Rattle.pc_coord.specs.Knows.Reading.{AreReadsOf}
-use Rattle.pc_coord.specs.Knows.Sending.{IsConflictNow}
-use Rattle.pc_coord.specs.Knows.Writing.{write_call}
-use Rattle.pc_coord.specs.Messages.{read_at}
 use Rattle.pc_coord.specs.Pusher.{IsPusherOf}
-use Rattle.pc_coord.specs.Rounds.{EndsRound, IsRefusedRound, IsSettledRound, shows_resolve, was_met, was_pushed}
+use Rattle.pc_coord.specs.Rounds.{EndsRound, IsRefusedRound, IsSettledRound}
 use Rattle.pc_lists.proofs.Counts.{count-append, count-cons, one_if}
 use Rattle.pc_lists.proofs.Same.{same_txn-is, same_txn-self}
 use Rattle.pc_proto.specs.declared.call.Call.{Call}
-use Rattle.pc_proto.specs.declared.call.Call.TheVariants as calls
 use Rattle.pc_proto.specs.declared.fate.Fate.{Fate}
 use Rattle.pc_proto.specs.declared.meta.TxnMeta.{TxnMeta}
 use Rattle.pc_proto.specs.declared.reply.Reply.{Reply}
@@ -33,26 +31,30 @@ use Rattle.pc_proto.specs.declared.reply.Reply.TheVariants as replies
 use Rattle.pc_proto.specs.declared.request.Request.{Request}
 use Rattle.pc_proto.specs.declared.request.Request.TheVariants as requests
 use Rattle.pc_proto.specs.declared.view.View.{View}
-use Rattle.pc_proto.specs.Replies.{ConflictsWith, is_conflict_with, is_refused}
-use Rattle.pc_proto.specs.Requests.{goal_in, is_push_of, is_resolve_of, round_of}
+use Rattle.pc_proto.specs.Replies.{ConflictsWith, is_conflict_with, is_refused, view_in}
+use Rattle.pc_proto.specs.Requests.{goal_in, is_about, is_push_of, is_resolve_of, round_of}
 use Rattle.pc_proto.specs.Stamps.{goal_stamps}
-use Rattle.pc_proto.specs.Views.{fate_after}
+use Rattle.pc_proto.specs.Views.{fate_after, is_committed_at, is_staging_at}
 use Rattle.pc_push.specs.declared.progress.Progress.{Progress}
 use Rattle.pc_push.specs.declared.progress.Progress.TheVariants as progresses
 use Rattle.pc_push.specs.PushKnows.{Asks, AsksAt, MayPush}
 use Rattle.pc_push.specs.Pushing.{Pushing, goal_of, holder_resolve, push_of, resolve_or, round_after, round_due, round_heard}
+use Rattle.pc_txn.specs.Counted.{IsCounted}
+use Rattle.pc_txn.specs.declared.txn.OpenTxn.{OpenTxn}
 use Rattle.pc_world.specs.Answering.{MayAnswer}
 use Rattle.pc_world.specs.Counting.{AtLeast}
 use Rattle.pc_proto.specs.declared.machine.MachineNext.TheVariants as machine
 use Rattle.pc_world.specs.Exchange.{IsPossibleReply}
 use Rattle.pc_world.specs.Follows.EarlyTell.{IsCommitKnown}
 use Rattle.pc_world.specs.Follows.Resends.{HasMoreConflicts, MayGoAgain}
-use Rattle.pc_world.specs.Known.{Known, call_in, call_of, first_if, open_txn, reading_in}
+use Rattle.pc_world.specs.Known.{Known, call_in, first_if, open_txn, reading_in}
 use Rattle.pc_world.specs.Known.Traffic.{Heard, Sent}
 use Rattle.pc_world.specs.Known.Transactions.{Txn}
 use Rattle.pc_world.specs.SameRequest.{IsSameRequest}
 use Rattle.pc_world.specs.Send.Push.{goal_for}
+use Rattle.pc_world.specs.Tell.End.{shows_staging}
 use Rattle.pc_world.specs.Tell.Refusal.{is_heard}
+use Rattle.pc_world.specs.Views.{shows_committed}
 use Rattle.pc_runner.proofs.Pushed.{push_decides}
 use Rattle.pc_runner.specs.Exchanging.{IsTimely}
 use Rattle.pc_runner.specs.Rounding.{HasCome, IsOfConflict, WasPushedOnce}
@@ -97,54 +99,29 @@ push_settles_none id request is = absurd cc
 
 -- ---- what is open where a conflict was met
 
--- The coordinator's transaction is the open one, and the call is no commit.
+-- The coordinator's transaction is the open one.
 pub record IsMetIn (c : Coordination) (k : Known) : Type 0 where
-  pub x : Transaction
+  pub x : OpenTxn
   pub t : Txn
   pub held : c.txn ≡ Some x
-  pub open_as : IsOpenAs x k t
-  pub undecided : call_of k ≡ Some calls.Commit → ⊥
+  pub opened : open_txn k ≡ Some t
+  pub same : x.id ≡ t.id
   pub counted : IsCounted c.session c.clock c.begun k
 
-write_no_commit : (key : List ℕ) (value : Option (List ℕ)) → write_call key value ≡ calls.Commit → ⊥
-write_no_commit key None e = cc
-write_no_commit key (Some value) e = cc
-
-read_no_commit : (splits : List (List ℕ)) (x : Transaction) (call : Call) (asked : List Request) → AreReadsOf splits x call asked → call ≡ calls.Commit → ⊥
-read_no_commit splits x (calls.Get key) asked are e = cc
-read_no_commit splits x (calls.Scan span) asked are e = cc
-read_no_commit splits x call asked are e = absurd are
-
-pub met_in : (c : Coordination) (k : Known) (number : ℕ) (conflict : Reply) (reader : Option ℕ) → Knows c k → next_of c.due ≡ nexts.Conflict number conflict reader → IsMetIn c k
-met_in c k number conflict reader knows next = by c.due refl next
+pub met_in : (c : Coordination) (k : Known) (number : ℕ) (conflict : Reply) (reader : Option ℕ) → Knows c k → next_of c ≡ nexts.Conflict number conflict reader → IsMetIn c k
+met_in c k number conflict reader knows next = by c.due knows.stands next
   where
-    by : (due : Due) → c.due ≡ due → next_of due ≡ nexts.Conflict number conflict reader → IsMetIn c k
-    by (dues.Met n met conflicts again) is next =
-        let at = subst (KnowsAt c k) is knows.stands in
-        let w = at.met.writing in
-        record {
-          x = w.x;
-          t = w.t;
-          held = w.held;
-          open_as = w.open_as;
-          undecided = λ e. write_no_commit w.w.key w.w.value (let both = sym (ap call_in w.call) ∙ e in cc both);
-          counted = at.counted;
-        }
-    by (dues.Read messages) is next =
-        let at = subst (KnowsAt c k) is knows.stands in
-        let r = at.reads in
-        record {
-          x = r.x;
-          t = r.t;
-          held = r.held;
-          open_as = r.open_as;
-          undecided = λ e. read_no_commit c.splits r.x r.call _ r.asked (let both = sym (ap call_in r.opened) ∙ e in cc both);
-          counted = at.counted;
-        }
-    by due is next = absurd cc
-
-met_open : (c : Coordination) (k : Known) (m : IsMetIn c k) → open_txn k ≡ Some m.t
-met_open c k m = ap (λ b. first_if b k.txns) m.open_as.is_open ∙ ap (first_if true) m.open_as.first
+    by : (due : Due) → KnowsAt c k due → next_at c.txn due ≡ nexts.Conflict number conflict reader → IsMetIn c k
+    by dues.Nothing at next = absurd cc
+    by (dues.Tell answer) at next = absurd cc
+    by (dues.Call call) at next = record {
+      x = at.x;
+      t = at.in_call.t;
+      held = at.held;
+      opened = open_is k at.in_call.t at.in_call.open_in;
+      same = ap (λ (x : OpenTxn). x.id) at.in_call.stands.same;
+      counted = at.counted;
+    }
 
 -- two names that differ
 pub not_same : (one other : TxnId) → (one ≡ other → ⊥) → same_txn one other ≡ false
@@ -156,18 +133,25 @@ not_same one other differ = by (same_txn one other) refl
 
 -- ---- the messages of the round
 
-module _ (c : Coordination) (start : Known) (number : ℕ) (conflict : Reply) (reader : Option ℕ) (knows : Knows c start) (next : next_of c.due ≡ nexts.Conflict number conflict reader) (met : IsConflictNow start number conflict reader) where
+any-front : {X : Type 0} (P : X → Type 0) (xs ys : List X) → Any P (xs ++ ys) → All (λ y. P y → ⊥) ys → Any P xs
+any-front P xs ys any none =
+    elim (Contains-append_cases xs ys any.1 (any.0, any.2, any.3)) [
+      | inl front ↦ (front.0, any.1, front.1, front.2, any.4)
+      | inr behind ↦ absurd (All-contains (λ y. P y → ⊥) ys any.1 none behind any.4)
+    ]
+
+module _ (c : Coordination) (start : Known) (number : ℕ) (conflict : Reply) (reader : Option ℕ) (knows : Knows c start) (next : next_of c ≡ nexts.Conflict number conflict reader) (met : IsConflictNow start number conflict reader) where
   -- The machine makes this round, and its holder was begun.
   pub record IsMade (m : Pushing) : Type 0 where
     pub holder : m.holder ≡ met.holder
     pub begun : m.holder.id.session ≡ c.session → m.holder.id.number ≤ c.begun
 
-  open_other : (m : Pushing) → IsMade m → (x : Transaction) → c.txn ≡ Some x → same_txn m.holder.id x.id ≡ false
+  open_other : (m : Pushing) → IsMade m → (x : OpenTxn) → c.txn ≡ Some x → same_txn m.holder.id x.id ≡ false
   open_other m made x held =
       let i = met_in c start number conflict reader knows next in
       let is_x : i.x ≡ x = let both = sym i.held ∙ held in cc both in
-      let is_t : i.t ≡ met.t = let both = sym (met_open c start i) ∙ met.open_is in cc both in
-      let id : x.id ≡ met.t.id = sym (ap (λ (x : Transaction). x.id) is_x) ∙ (ap (λ (x : Transaction). x.id) i.open_as.same ∙ ap (λ (t : Txn). t.id) is_t) in
+      let is_t : i.t ≡ met.t = let both = sym i.opened ∙ met.open_is in cc both in
+      let id : x.id ≡ met.t.id = sym (ap (λ (x : OpenTxn). x.id) is_x) ∙ (i.same ∙ ap (λ (t : Txn). t.id) is_t) in
       not_same m.holder.id x.id (λ e. met.other (sym (ap (λ (h : TxnMeta). h.id) made.holder) ∙ (e ∙ id)))
 
   pub push_beside : (m : Pushing) → IsMade m → IsBeside c (push_of m)
@@ -183,8 +167,27 @@ module _ (c : Coordination) (start : Known) (number : ℕ) (conflict : Reply) (r
   resolve_beside m fate = record { kind = refl; begun = λ id about whose. absurd cc; other = λ x held. refl }
 
   module _ (k : Known) (later : IsLaterBeside c start k) (answered : All (λ m. IsTrue (is_heard k.heard_now m)) k.sent_now) (waiting : List (List Request)) where
+    -- what was heard since speaks of no record of the open transaction
+    heard-before : (t : Txn) → open_txn start ≡ Some t → (p : Heard → Bool) → ((h : Heard) → is_about t.id h.request ≡ false → p h ≡ false) → Any (λ h. IsTrue (p h)) k.heard → Any (λ h. IsTrue (p h)) start.heard
+    heard-before t opened p none any =
+        let i = met_in c start number conflict reader knows next in
+        let is_t : i.t ≡ t = same_Some i.t t (sym i.opened ∙ opened) in
+        any-front (λ h. IsTrue (p h)) start.heard later.heard_more (subst (Any (λ h. IsTrue (p h))) later.heard any)
+        (All-weaker (λ (h : Heard). IsBeside c h.request) (λ h. IsTrue (p h) → ⊥)
+        (λ h beside is. let no : p h ≡ false = none h (subst (λ id. is_about id h.request ≡ false) (i.same ∙ ap (λ (t : Txn). t.id) is_t) (beside.other i.x i.held)) in cc) later.heard_more later.heard_beside)
+
     not_decided : (t : Txn) (ts : ℕ) → IsCommitKnown k t ts → ⊥
-    not_decided t ts d = (met_in c start number conflict reader knows next).undecided (sym (ap call_in later.statement) ∙ d.asked)
+    not_decided t ts d =
+        let same : open_txn k ≡ open_txn start = ap (λ b. first_if b k.txns) later.is_open ∙ ap (first_if start.is_open) later.txns in
+        let opened : open_txn start ≡ Some t = sym same ∙ d.opened in
+        met.undecided t ts (record {
+          opened = opened;
+          asked = sym (ap call_in later.statement) ∙ d.asked;
+          why = elim d.why [
+            | inl was ↦ inl (heard-before t opened (shows_committed t.id ts) (λ h none. ap (λ b. b && option_map_or (is_committed_at ts) (view_in h.reply) false) none) was)
+            | inr implicit ↦ inr (record { staging = heard-before t opened (shows_staging t.id t.epoch ts) (λ h none. ap (λ b. b && option_map_or (is_staging_at t.epoch ts) (view_in h.reply) false) none) implicit.staging; proved = implicit.proved })
+          ];
+        })
 
     in_call : k.statement ≡ Some met.s
     in_call = later.statement ∙ met.opened

@@ -6,15 +6,12 @@ use Rattle.pc_base.specs.declared.actor.ActorId.{ActorId}
 use Rattle.pc_base.specs.declared.actor.ActorId.TheVariants as actors
 use Rattle.pc_base.specs.declared.transaction.Who.TheVariants as whos
 use Rattle.pc_base.specs.Timestamp.{greatest}
-use Rattle.pc_coord.proofs.Waits.{reads_conflict_waits}
 use Rattle.pc_coord.specs.Beside.{IsBeside}
-use Rattle.pc_coord.specs.Coordination.{awaits_number, next_of, with_clock}
-use Rattle.pc_coord.specs.declared.due.Due.{Due}
-use Rattle.pc_coord.specs.declared.due.Due.TheVariants as dues
+use Rattle.pc_coord.specs.Coordination.{next_of, with_clock}
 use Rattle.pc_coord.specs.declared.next.Next.TheVariants as nexts
 use Rattle.pc_coord.specs.declared.pusher.Pusher.{Pusher}
 use Rattle.pc_coord.specs.Knows.{messages_of_job}
-use Rattle.pc_coord.specs.Knows.Sending.{IsConflictNow}
+use Rattle.pc_call.specs.Sending.{IsConflictNow}
 use Rattle.pc_coord.specs.Pusher.{IsPusherOf}
 use Rattle.pc_proto.specs.declared.meta.TxnMeta.{TxnMeta}
 use Rattle.pc_proto.specs.declared.reply.Reply.{Reply}
@@ -37,6 +34,7 @@ use Rattle.pc_runner.proofs.Holding.{holder_begun}
 use Rattle.pc_runner.proofs.InTurn.{inside_none}
 use Rattle.pc_runner.proofs.Keeps.{beside_of}
 use Rattle.pc_runner.proofs.OnWay.{all_heard_now}
+use Rattle.pc_runner.proofs.Quiet.{quiet_met}
 use Rattle.pc_runner.proofs.Rounding.{IsMade, IsMetIn, may_push, met_in, push_beside, push_timely, resolve_beside, resolve_timely, sends_asks}
 use Rattle.pc_runner.specs.Beside.{IsBesides, MayExchange}
 use Rattle.pc_runner.specs.declared.session.SessionRun.{SessionRun}
@@ -47,16 +45,10 @@ use Rattle.pc_runner.specs.Keeping.{AreDelivered}
 use Rattle.pc_runner.specs.Rounding.{HasCome, IsMakingRound, IsOfConflict}
 use Rattle.pc_runner.specs.Traffic.{AwaitsAllBetween, HasHeard}
 
--- nothing is awaited where a conflict's round is due
-pub conflict_waits : (n : ℕ) (due : Due) (number : ℕ) (conflict : Reply) (reader : Option ℕ) → next_of due ≡ nexts.Conflict number conflict reader → awaits_number n due ≡ false
-conflict_waits n (dues.Read messages) number conflict reader next = reads_conflict_waits n messages number conflict reader next
-conflict_waits n (dues.Met met reply conflicts again) number conflict reader next = refl
-conflict_waits n due number conflict reader next = absurd cc
-
 none_between : (last sends : ℕ) → (nat_lt last sends && nat_le sends sends) ≡ false → sends ≤ last
 none_between last sends none = grind arith
 
-module _ (r : SessionRun) (h : History) (number : ℕ) (conflict : Reply) (reader : Option ℕ) (calls : IsInCall r h) (next : next_of r.coordinator.due ≡ nexts.Conflict number conflict reader) (met : IsConflictNow (known_by r.number h) number conflict reader) where
+module _ (r : SessionRun) (h : History) (number : ℕ) (conflict : Reply) (reader : Option ℕ) (calls : IsInCall r h) (next : next_of r.coordinator ≡ nexts.Conflict number conflict reader) (met : IsConflictNow (known_by r.number h) number conflict reader) where
   -- What the session knows.
   abbrev k : Known
   k = known_by r.number h
@@ -67,7 +59,7 @@ module _ (r : SessionRun) (h : History) (number : ℕ) (conflict : Reply) (reade
   all_heard : r.sends ≤ calls.way.last
   all_heard =
       let waits : AwaitsAllBetween calls.way.last r.sends r.coordinator.due = calls.way.waits in
-      none_between calls.way.last r.sends (sym (waits r.sends) ∙ conflict_waits r.sends r.coordinator.due number conflict reader next)
+      none_between calls.way.last r.sends (sym (waits r.sends) ∙ quiet_met r.coordinator number conflict reader next r.sends)
 
   pub at_last : calls.way.last ≡ r.sends
   at_last = omega (arith, all_heard, calls.way.counted)

@@ -10,7 +10,7 @@ use Rattle.pc_coord.specs.Coordination.{Coordination, awaits_number, next_of, wi
 use Rattle.pc_coord.specs.declared.next.Next.TheVariants as nexts
 use Rattle.pc_coord.specs.declared.round.Round.{Round}
 use Rattle.pc_coord.specs.Knows.{Knows, messages_of_job}
-use Rattle.pc_coord.specs.Knows.Sending.{IsConflictNow}
+use Rattle.pc_call.specs.Sending.{IsConflictNow}
 use Rattle.pc_coord.specs.Rounds.{EndsRound}
 use Rattle.pc_proto.specs.declared.meta.TxnMeta.{TxnMeta}
 use Rattle.pc_proto.specs.declared.reply.Reply.{Reply}
@@ -41,7 +41,7 @@ of_same : (conflict : Reply) (m next : Pushing) → next.holder ≡ m.holder →
 of_same (replies.Conflict holder ts key) m next one two of = (one ∙ of.0, two ∙ of.1)
 of_same conflict m next one two of = absurd of
 
-module _ (r : SessionRun) (h : History) (number : ℕ) (conflict : Reply) (reader : Option ℕ) (calls : IsInCall r h) (due : next_of r.coordinator.due ≡ nexts.Conflict number conflict reader) (met : IsConflictNow (known_by r.number h) number conflict reader) where
+module _ (r : SessionRun) (h : History) (number : ℕ) (conflict : Reply) (reader : Option ℕ) (calls : IsInCall r h) (due : next_of r.coordinator ≡ nexts.Conflict number conflict reader) (met : IsConflictNow (known_by r.number h) number conflict reader) where
   -- What the session knew.
   abbrev k : Known
   k = known_by r.number h
@@ -163,12 +163,12 @@ module _ (r : SessionRun) (h : History) (number : ℕ) (conflict : Reply) (reade
         }
 
     -- the same, as the coordinator has it
-    pub settled_goes : ((was : Coordination) (start k : Known) (conflict : Reply) (reader : Option ℕ) → Knows was start → new.coordinator ≡ with_clock k.high was → next_of was.due ≡ nexts.Conflict number conflict reader → IsLaterBeside was start k → EndsRound conflict round start k → Knows c k)
-        → ((conflict : Reply) (reader : Option ℕ) (other : ℕ) → next_of new.coordinator.due ≡ nexts.Conflict number conflict reader → awaits_number other c.due ≡ false)
+    pub settled_goes : ((was : Coordination) (start k : Known) (conflict : Reply) (reader : Option ℕ) → Knows was start → new.coordinator ≡ with_clock k.high was → next_of was ≡ nexts.Conflict number conflict reader → IsLaterBeside was start k → EndsRound conflict round start k → Knows c k)
+        → ((conflict : Reply) (reader : Option ℕ) (other : ℕ) → next_of new.coordinator ≡ nexts.Conflict number conflict reader → awaits_number other c.due ≡ false)
         → c.session ≡ new.coordinator.session → c.splits ≡ new.coordinator.splits → IsInCall run g
     settled_goes knows waits session splits =
         goes_on (knows r.coordinator k (known_by new.number g) conflict reader made.beside.knows made.beside.clock due made.beside.later made.ends) session splits
-        (λ n. waits conflict reader n (ap (λ (c : Coordination). next_of c.due) made.beside.clock ∙ due))
+        (λ n. waits conflict reader n (ap (λ (c : Coordination). next_of c) made.beside.clock ∙ due))
 
     pub part_still : TakesPart r.number h g (IsInside r.number)
     part_still = subst (λ n. TakesPart n h g (IsInside n)) (ap (λ (s : SessionRun). s.number) made.rest) made.beside.part

@@ -4,14 +4,14 @@ use Rattle.std.proofs.Math.Nat.{add-zero}
 use Rattle.std.proofs.lemmas.List.Elements.{All-nil, All-push, All-weaker}
 use Rattle.std.specs.Option.{option_map}
 use Rattle.pc_base.specs.declared.actor.ActorId.TheVariants as actors
-use Rattle.pc_coord.proofs.Lists.{find-last}
-use Rattle.pc_coord.proofs.Steps.{sent}
+use Rattle.pc_runner.proofs.Lasts.{find-last}
+use Rattle.pc_runner.proofs.Learning.{sent}
+use Rattle.pc_call.specs.Sending.{IsSendable}
 use Rattle.pc_coord.specs.Coordination.{Coordination, awaits_number, next_of}
 use Rattle.pc_coord.specs.declared.job.Job.{Job}
 use Rattle.pc_coord.specs.declared.next.Next.TheVariants as nexts
 use Rattle.pc_coord.specs.Events.{SendsDue}
-use Rattle.pc_coord.specs.Knows.{Knows, messages_of_job}
-use Rattle.pc_coord.specs.Knows.Sending.{AwaitsNone, IsSendable}
+use Rattle.pc_coord.specs.Knows.{AwaitsNone, Knows, messages_of_job}
 use Rattle.pc_history.specs.declared.pair.Pair.{Pair}
 use Rattle.pc_proto.specs.declared.event.Event.TheVariants as events
 use Rattle.pc_proto.specs.declared.request.Request.{Request}
@@ -127,7 +127,7 @@ module _ (work : Workload) (number : ℕ) (session : SessionWork) (at : Position
       }
 
   -- the session is still in its call
-  pub calls_sent : (d : Coordination) → next_of c.due ≡ nexts.Send request
+  pub calls_sent : (d : Coordination) → next_of c ≡ nexts.Send request
       → ((k : Known) (p : Pair _) (range : ℕ) (request : Request) → Knows c k → SendsDue c (sends + 1) range request k p → Knows d (learn p k))
       → ((other : ℕ) → awaits_number other d.due ≡ (sends + 1 == other || awaits_number other c.due)) → d.session ≡ c.session → d.splits ≡ c.splits
       → Calls work number session at clock reading jobs d (sends + 1) [] (outbox ++ post ∷ []) g
@@ -141,7 +141,7 @@ module _ (work : Workload) (number : ℕ) (session : SessionWork) (at : Position
             (learns k p made.range request calls.stands.knows (record { due = due; is = of; next = counted_next }))
             (counted_next ∙ sym (ap (λ (k : Known). length k.sent) known_is ∙ length-append k.sent (m ∷ [])));
         keeps = keeps_sent;
-        jobs_left = subst (HasJobs jobs) (sym (known_grows h g number event made.grown)) (jobs_sent jobs k p (sends + 1) made.range request of (puts_open c k request earlier may.kind calls.stands.knows due) calls.jobs_left);
+        jobs_left = subst (HasJobs jobs) (sym (known_grows h g number event made.grown)) (jobs_sent jobs k p (sends + 1) made.range request of (puts_open k request may.own) calls.jobs_left);
         open_now = open_sent;
         way = way_sent d waits;
       }

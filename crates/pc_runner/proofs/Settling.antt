@@ -7,9 +7,7 @@ use Rattle.pc_coord.specs.Beside.{IsBeside, is_of_round_or_job}
 use Rattle.pc_coord.specs.Coordination.{Coordination}
 use Rattle.pc_coord.specs.declared.due.Due.TheVariants as dues
 use Rattle.pc_coord.specs.declared.job.Job.{Job}
-use Rattle.pc_coord.specs.declared.transaction.Transaction.{Transaction}
-use Rattle.pc_coord.specs.Knows.{Knows, KnowsAt, Rests, messages_of_job}
-use Rattle.pc_coord.specs.Knows.Held.{IsHeld}
+use Rattle.pc_coord.specs.Knows.{IsHeld, Knows, KnowsAt, Rests, messages_of_job}
 use Rattle.pc_proto.specs.declared.reply.Reply.{Reply}
 use Rattle.pc_proto.specs.declared.reply.Reply.TheVariants as replies
 use Rattle.pc_proto.specs.declared.request.Request.{Request}
@@ -20,6 +18,7 @@ use Rattle.pc_proto.specs.declared.machine.MachineNext.TheVariants as machine
 use Rattle.pc_world.specs.Follows.FinishingJobs.{first_message, without_first}
 use Rattle.pc_world.specs.Known.{Known, call_in, first_if, open_txn}
 use Rattle.pc_world.specs.Known.Transactions.{Txn}
+use Rattle.pc_txn.specs.declared.txn.OpenTxn.{OpenTxn}
 use Rattle.pc_runner.proofs.OnWay.{all_heard}
 use Rattle.pc_runner.proofs.Places.{drop_item}
 use Rattle.pc_runner.proofs.Rounding.{not_same}
@@ -134,12 +133,12 @@ pub rests_now : (c : Coordination) (k : Known) → Knows c k → c.due ≡ dues.
 rests_now c k knows due = subst (KnowsAt c k) due knows.stands
 
 module _ (c : Coordination) (start : Known) (knows : Knows c start) (due : c.due ≡ dues.Nothing) (id : TxnId) (begun : id.number ≤ start.begun) (other : (t : Txn) → open_txn start ≡ Some t → id ≡ t.id → ⊥) where
-  none_open_as : (txn : Option Transaction) → IsHeld txn start → (x : Transaction) → txn ≡ Some x → same_txn id x.id ≡ false
+  none_open_as : (txn : Option OpenTxn) → IsHeld txn start → (x : OpenTxn) → txn ≡ Some x → same_txn id x.id ≡ false
   none_open_as None held x is = absurd cc
-  none_open_as (Some y) (t, open_as, settled) x is =
+  none_open_as (Some y) held x is =
       let same : y ≡ x = cc in
-      let opened : open_txn start ≡ Some t = ap (λ b. first_if b start.txns) open_as.is_open ∙ ap (first_if true) open_as.first in
-      not_same id x.id (λ e. other t opened (e ∙ (sym (ap (λ (x : Transaction). x.id) same) ∙ ap (λ (x : Transaction). x.id) open_as.same)))
+      let opened : open_txn start ≡ Some held.t = ap (λ b. first_if b start.txns) held.open_in.is_open ∙ ap (first_if true) held.open_in.first in
+      not_same id x.id (λ e. other held.t opened (e ∙ (sym (ap (λ (x : OpenTxn). x.id) same) ∙ ap (λ (x : OpenTxn). x.id) held.stands.same)))
 
   -- the removal of the job's record speaks of no open transaction
   remove_beside : (anchor : List ℕ) → IsBeside c (requests.Remove id anchor)

@@ -1,28 +1,22 @@
 -- A session once its call was told its answer.
-use Rattle.std.proofs.Common.{◌≡◌, ℕ, ◌+◌, ◌≤◌, All, List, [], ◌++◌, length, map, Option, Some, None, IfSome, IsTrue, refl, sym, ap, subst, ◌∙◌, arith}
+use Rattle.std.proofs.Common.{◌≡◌, ℕ, ◌+◌, ◌≤◌, All, List, [], ◌++◌, length, map, Option, Some, IfSome, IsTrue, refl, sym, ap, subst, ◌∙◌, arith}
 use Rattle.std.proofs.lemmas.List.{nil_from_length}
 use Rattle.std.proofs.Math.Nat.{add-zero}
 use Rattle.std.specs.Option.{option_to_list}
 use Rattle.pc_base.specs.declared.actor.ActorId.TheVariants as actors
-use Rattle.pc_coord.proofs.Resting.{rests}
-use Rattle.pc_coord.proofs.Steps.{told}
-use Rattle.pc_coord.specs.Coordination.{Coordination, next_of, with_due, without_job}
-use Rattle.pc_coord.specs.declared.due.Due.{Due}
+use Rattle.pc_coord.proofs.Knowing.{rests}
+use Rattle.pc_runner.proofs.Learning.{told}
+use Rattle.pc_coord.specs.Coordination.{Coordination, next_of, with_nothing_due, without_job}
 use Rattle.pc_coord.specs.declared.due.Due.TheVariants as dues
 use Rattle.pc_coord.specs.declared.job.Job.{Job}
-use Rattle.pc_coord.specs.declared.messages.Message.{Message}
-use Rattle.pc_coord.specs.declared.messages.Progress.{Progress}
-use Rattle.pc_coord.specs.declared.messages.Progress.TheVariants as progresses
 use Rattle.pc_coord.specs.declared.next.Next.TheVariants as nexts
 use Rattle.pc_coord.specs.Events.{IsTold}
 use Rattle.pc_coord.specs.Knows.{IsTellable, Knows, MayFinishJob, messages_of_job}
-use Rattle.pc_coord.specs.Messages.{next_by, next_of_met}
 use Rattle.pc_history.specs.declared.pair.Pair.{Pair}
 use Rattle.pc_proto.specs.declared.answer.Answer.{Answer}
 use Rattle.pc_proto.specs.declared.answer.Answer.TheVariants as answers
 use Rattle.pc_proto.specs.declared.event.Event.{Event}
 use Rattle.pc_proto.specs.declared.event.Event.TheVariants as events
-use Rattle.pc_proto.specs.declared.request.Request.{Request}
 use Rattle.pc_clock.specs.Stepped.{SteppedState}
 use Rattle.pc_work.specs.declared.session.SessionWork.{SessionWork}
 use Rattle.pc_work.specs.declared.workload.Workload.{Workload}
@@ -38,7 +32,8 @@ use Rattle.pc_runner.proofs.Going.{known_told, of_tell}
 use Rattle.pc_runner.proofs.Growing.{known_grows, next_pair}
 use Rattle.pc_runner.proofs.Keeps.{keeps_on}
 use Rattle.pc_runner.proofs.LeftTold.{BeginsNext, jobs_after_told, jobs_told}
-use Rattle.pc_runner.proofs.OnWay.{WaitsForNone, all_heard_now, heard_told, none_waits}
+use Rattle.pc_runner.proofs.OnWay.{all_heard_now, heard_told, none_waits}
+use Rattle.pc_runner.proofs.Quiet.{quiet_tell}
 use Rattle.pc_runner.proofs.Refitting.{held_none, row_by, told_fits}
 use Rattle.pc_runner.proofs.Stepping.{step_told}
 use Rattle.pc_runner.specs.declared.outbox.Posted.{Posted}
@@ -50,21 +45,6 @@ use Rattle.pc_runner.specs.Journal.{HasGrown}
 use Rattle.pc_runner.specs.Keeping.{AreDelivered, KeepsSoFar, open_calls}
 use Rattle.pc_runner.specs.Suiting.{FitsCalls}
 use Rattle.pc_runner.specs.Traffic.{HasHeard}
-
--- where an answer is due, no reply is waited for
-not_met : (request : Request) (progress : Progress) (answer : Answer) → next_of_met request progress ≡ nexts.Tell answer → ⊥
-not_met request (progresses.Met number conflict) answer e = cc
-not_met request progress answer e = cc
-
-not_read : (met unsent : Option Message) (answer : Answer) → next_by met unsent ≡ nexts.Tell answer → ⊥
-not_read None None answer e = cc
-not_read None (Some m) answer e = cc
-not_read (Some m) unsent answer e = not_met m.request m.progress answer e
-
-quiet_tell : (due : Due) (answer : Answer) → next_of due ≡ nexts.Tell answer → WaitsForNone due
-quiet_tell (dues.Tell told) answer e number = refl
-quiet_tell (dues.Read messages) answer e number = absurd (not_read _ _ answer e)
-quiet_tell due answer e number = absurd cc
 
 -- the answer may be told to the session
 pub may_be_told : (number : ℕ) (c : Coordination) (sends : ℕ) (h : History) (answer : Answer) → StandsBy number c sends h → IsTellable c (known_by number h) answer → MayTell h.head.splits (actors.Session number) (known_by number h) answer
@@ -82,7 +62,7 @@ begins_next (answers.Begun id ts) splits session k s may =
 begins_next answer splits session k s may = tt
 
 module _ (work : Workload) (number : ℕ) (session : SessionWork) (at : Position) (clock : SteppedState) (reading : ℕ) (jobs : List Job) (c : Coordination) (sends : ℕ) (outbox : List Posted) (h g : History) (answer : Answer)
-    (calls : Calls work number session at clock reading jobs c sends [] outbox h) (due : next_of c.due ≡ nexts.Tell answer) (may : IsTellable c (known_by number h) answer)
+    (calls : Calls work number session at clock reading jobs c sends [] outbox h) (due : next_of c ≡ nexts.Tell answer) (may : IsTellable c (known_by number h) answer)
     (grown : HasGrown h g (actors.Session number) (events.Tell answer)) where
   abbrev k : Known
   k = known_by number h
@@ -94,7 +74,7 @@ module _ (work : Workload) (number : ℕ) (session : SessionWork) (at : Position
   known_is = known_told number h g answer grown
 
   over : sends ≤ calls.way.last
-  over = none_waits calls.way.last sends c.due calls.way.waits (quiet_tell c.due answer due)
+  over = none_waits calls.way.last sends c.due calls.way.waits (quiet_tell c answer due)
 
   all_over : calls.way.last ≡ sends
   all_over = let counts = calls.way.counted in let o = over in omega arith
@@ -128,7 +108,7 @@ module _ (work : Workload) (number : ℕ) (session : SessionWork) (at : Position
 
   -- The coordinator once the answer was told, and what was left handed out.
   abbrev pub done : Coordination
-  done = without_job (with_due dues.Nothing c)
+  done = without_job (with_nothing_due c)
 
   fits_told : Knows done (told answer k) → FitsCalls (after_told answer at) c.txn
   fits_told knows =
@@ -137,6 +117,7 @@ module _ (work : Workload) (number : ℕ) (session : SessionWork) (at : Position
       told_fits answer at c.txn c.splits (actors.Session c.session) k s
       (record {
         course = o.course;
+        calls = o.calls;
         items = o.items;
         next = o.next ∙ ap Some call_is;
         outside = λ out. o.outside (ap is_outside call_is ∙ out);
@@ -168,7 +149,7 @@ module _ (work : Workload) (number : ℕ) (session : SessionWork) (at : Position
       }
 
   -- as its code leaves it
-  pub following_told : (later : Position) (left : List Job) (d e : Coordination) (job : Option Job) → later ≡ after_told answer at → left ≡ jobs ++ option_to_list job → d ≡ with_due dues.Nothing c → e ≡ without_job d → job ≡ d.job
+  pub following_told : (later : Position) (left : List Job) (d e : Coordination) (job : Option Job) → later ≡ after_told answer at → left ≡ jobs ++ option_to_list job → d ≡ with_nothing_due c → e ≡ without_job d → job ≡ d.job
       → ((k : Known) (p : Pair Event) (answer : Answer) → Knows c k → IsTold c answer p → Knows d (learn p k))
       → ((k : Known) → Knows d k → d.due ≡ dues.Nothing → Knows e k) → ((k : Known) → Knows d k → d.due ≡ dues.Nothing → IfSome job (MayFinishJob k))
       → Rests work number session later clock left e sends g

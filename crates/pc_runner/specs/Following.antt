@@ -1,5 +1,5 @@
 -- How a session stands beside the history that all sessions make, between its calls and in one.
-use Rattle.std.specs.Prelude.{◌≡◌, ℕ, ◌+◌, ◌≤◌, true, false, None, Some, List, [], length, All}
+use Rattle.std.specs.Prelude.{◌≡◌, ℕ, ◌+◌, ◌≤◌, true, false, None, Some, List, [], length, drop, All}
 use Rattle.pc_base.specs.declared.actor.ActorId.TheVariants as actors
 use Rattle.pc_coord.specs.Coordination.{Coordination}
 use Rattle.pc_coord.specs.declared.due.Due.TheVariants as dues
@@ -16,7 +16,7 @@ use Rattle.pc_runner.specs.declared.session.SessionRun.{SessionRun}
 use Rattle.pc_runner.specs.Follows.Script.{Position, next_call}
 use Rattle.pc_runner.specs.History.{History, IsSoundHistory, known_by}
 use Rattle.pc_runner.specs.Keeping.{AreDelivered, KeepsSoFar}
-use Rattle.pc_runner.specs.Suiting.{FitsCalls, IsCourse}
+use Rattle.pc_runner.specs.Suiting.{AreOfOne, FitsCalls, IsCourse}
 use Rattle.pc_runner.specs.Traffic.{AreAnsweredFrom, ArePostedFrom, AwaitsAllBetween, HasHeard, IsPosted, IsReplied}
 
 -- The history is sound; the session is one of it, its coordinator knows what it knows, and its messages are counted.
@@ -53,13 +53,14 @@ pub record IsFollowing (r : SessionRun) (h : History) : Type 0 where
   pub fits : FitsCalls r.script r.coordinator.txn
 
 -- The call that comes next in the script is open since this reading, a begin or a learn where no transaction is; each later item is of
--- the form that is built.
+-- the form that is built, and the calls behind the running one's begin are of one transaction.
 pub record IsOpen (at : Position) (reading : ℕ) (k : Known) : Type 0 where
   pub call : Call
   pub next : next_call at ≡ Some call
   pub opened : k.statement ≡ Some (record { call = call; reading = reading })
   pub outside : is_outside call ≡ true → k.is_open ≡ false
   pub course : IsCourse at.ahead
+  pub calls : AreOfOne (drop 1 at.calls)
   pub items : All IsBuiltItem at.items
 
 -- Of the messages of the open call, those up to a number were heard, the next ones were evaluated with these replies, and the last ones

@@ -1,26 +1,25 @@
 -- How a session's script stands beside its open transaction: the call that comes next suits it.
-use Rattle.std.specs.Prelude.{◌≡◌, Bool, true, false, Option, None, Some, List, ◌∷◌, All, ⊤, slice_get}
-use Rattle.pc_coord.specs.declared.transaction.Transaction.{Transaction}
-use Rattle.pc_coord.specs.Events.{SuitsTxn}
+use Rattle.std.specs.Prelude.{◌≡◌, Option, None, Some, List, ◌∷◌, All, ⊤, drop, slice_get}
+use Rattle.pc_call.specs.Suiting.{SuitsFlight}
 use Rattle.pc_proto.specs.declared.call.Call.{Call}
 use Rattle.pc_proto.specs.declared.call.Call.TheVariants as calls
-use Rattle.pc_work.specs.Built.{IsBuiltItem}
 use Rattle.pc_runner.specs.Follows.Script.{Position}
+use Rattle.pc_txn.specs.declared.txn.OpenTxn.{OpenTxn}
+use Rattle.pc_work.specs.Built.{IsBuiltItem}
 
--- A call of a transaction that only reads, or of one that only writes: a statement, or its end.
-abbrev pub IsCallIn : Bool → Call → Type 0
-IsCallIn true (calls.Get key) = ⊤
-IsCallIn true (calls.Scan span) = ⊤
-IsCallIn false (calls.Put key value) = ⊤
-IsCallIn false (calls.Delete key) = ⊤
-IsCallIn reads calls.Commit = ⊤
-IsCallIn reads calls.Rollback = ⊤
-IsCallIn reads _ = ⊥
+-- A call of a transaction that was begun: a statement, or its end.
+abbrev pub IsCallIn : Call → Type 0
+IsCallIn (calls.Get key) = ⊤
+IsCallIn (calls.Scan span) = ⊤
+IsCallIn (calls.Put key value) = ⊤
+IsCallIn (calls.Delete key) = ⊤
+IsCallIn calls.Commit = ⊤
+IsCallIn calls.Rollback = ⊤
+IsCallIn _ = ⊥
 
--- The calls are those of one transaction that was begun, which only reads or only writes.
-pub record AreOfOne (ahead : List Call) : Type 0 where
-  pub reads : Bool
-  pub each : All (IsCallIn reads) ahead
+-- The calls are those of one transaction that was begun.
+abbrev pub AreOfOne : List Call → Type 0
+AreOfOne ahead = All IsCallIn ahead
 
 -- The calls are those of one transaction, from its begin or from a later one on.
 abbrev pub IsCourse : List Call → Type 0
@@ -28,15 +27,17 @@ IsCourse (calls.Begin priority ∷ later) = AreOfOne later
 IsCourse ahead = AreOfOne ahead
 
 -- The open transaction goes on by these calls, and the first of them suits it.
-pub record GoesOnWith (ahead : List Call) (x : Transaction) : Type 0 where
+pub record GoesOnWith (ahead : List Call) (x : OpenTxn) : Type 0 where
   pub inside : AreOfOne ahead
-  pub first : (call : Call) → slice_get ahead 0 ≡ Some call → SuitsTxn call x
+  pub first : (call : Call) → slice_get ahead 0 ≡ Some call → SuitsFlight call x.in_flight
 
-abbrev pub FitsTxn : List Call → Option Transaction → Type 0
+abbrev pub FitsTxn : List Call → Option OpenTxn → Type 0
 FitsTxn ahead None = IsCourse ahead
 FitsTxn ahead (Some x) = GoesOnWith ahead x
 
--- The calls ahead go on with the open transaction, or begin one where none is open; each later item is of the form that is built.
-pub record FitsCalls (at : Position) (txn : Option Transaction) : Type 0 where
+-- The calls ahead go on with the open transaction, or begin one where none is open; those behind the running item's begin are of one
+-- transaction; and each later item is of the form that is built.
+pub record FitsCalls (at : Position) (txn : Option OpenTxn) : Type 0 where
   pub items : All IsBuiltItem at.items
+  pub calls : AreOfOne (drop 1 at.calls)
   pub now : FitsTxn at.ahead txn

@@ -2,7 +2,7 @@ ghost use Rattle.std.specs.Prelude.{◌≡◌, ℕ, IfOk, OnOk, Option};
 ghost use Rattle.pc_coord.specs.Coordination.{next_of};
 ghost use Rattle.pc_coord.specs.declared.next.Next.TheVariants as nexts;
 ghost use Rattle.pc_coord.specs.Knows.{MayCome};
-ghost use Rattle.pc_coord.specs.Knows.Sending.{IsConflictNow};
+ghost use Rattle.pc_call.specs.Sending.{IsConflictNow};
 ghost use Rattle.pc_proto.specs.declared.reply.Reply.{Reply};
 ghost use Rattle.pc_push.specs.PushKnows.{Asks};
 ghost use Rattle.pc_runner.specs.Beside.{MayExchange};
@@ -29,7 +29,7 @@ impl<'a> SessionRun<'a> {
         reader: Option<Timestamp>,
     ) -> Result<(), NoMemory>
         requires calls { IsInCall self.old db.old }
-        requires due { next_of self.old.coordinator.due ≡ nexts.Conflict number conflict reader }
+        requires due { next_of self.old.coordinator ≡ nexts.Conflict number conflict reader }
         requires may { MayCome self.old.coordinator (known_by self.old.number db.old) (nexts.Conflict number conflict reader) }
         ensures calls { OnOk result (IsInCall self.new db.new) }
         ensures part { OnOk result (TakesPart self.old.number db.old db.new (IsInside self.old.number)) }
@@ -49,7 +49,7 @@ impl<'a> SessionRun<'a> {
         reader: Option<Timestamp>,
     ) -> Result<Round, NoMemory>
         requires calls { IsInCall self.old db.old }
-        requires due { next_of self.old.coordinator.due ≡ nexts.Conflict number conflict reader }
+        requires due { next_of self.old.coordinator ≡ nexts.Conflict number conflict reader }
         requires may { MayCome self.old.coordinator (known_by self.old.number db.old) (nexts.Conflict number conflict reader) }
         ensures { IfOk result (HasMadeRound self.old db.old self.new db.new conflict) }
     {
@@ -83,7 +83,7 @@ impl<'a> SessionRun<'a> {
         request: &Request,
     ) -> Result<(), NoMemory>
         requires { MayExchange self.old db.old request.now }
-        ensures { (old : SessionRun) (before : History) (number : ℕ) (conflict : Reply) (reader : Option ℕ) → IsInCall old before → next_of old.coordinator.due ≡ nexts.Conflict number conflict reader → IsConflictNow (known_by old.number before) number conflict reader → IsMakingRound old before conflict machine.old self.old db.old → Asks machine.old request.now → OnOk result (IsMakingRound old before conflict machine.new self.new db.new) }
+        ensures { (old : SessionRun) (before : History) (number : ℕ) (conflict : Reply) (reader : Option ℕ) → IsInCall old before → next_of old.coordinator ≡ nexts.Conflict number conflict reader → IsConflictNow (known_by old.number before) number conflict reader → IsMakingRound old before conflict machine.old self.old db.old → Asks machine.old request.now → OnOk result (IsMakingRound old before conflict machine.new self.new db.new) }
     {
         let reply = self.exchange(db, request)?;
         machine.heard(&reply)

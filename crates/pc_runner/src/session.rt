@@ -166,7 +166,7 @@ impl<'a> SessionRun<'a> {
     /// It is refused too where the numbers of messages are used up.
     fn send(&mut self, db: &mut Database<'_>, request: Request) -> Result<Progress, NoMemory>
         requires calls { IsInCall self.old db.old }
-        requires due { next_of self.old.coordinator.due ≡ nexts.Send request }
+        requires due { next_of self.old.coordinator ≡ nexts.Send request }
         requires may { MayCome self.old.coordinator (known_by self.old.number db.old) (nexts.Send request) }
         ensures after { IfOk result (IsAfterStep self.old.number db.old self.new db.new) }
         ensures same { OnOk result (HasSameWork self.old self.new) }
@@ -231,7 +231,7 @@ impl<'a> SessionRun<'a> {
     /// The open call is told its answer, and the script goes on by it; what the transaction left becomes the newest job.
     fn tell(&mut self, db: &mut Database<'_>, answer: Answer) -> Result<Progress, NoMemory>
         requires calls { IsInCall self.old db.old }
-        requires due { next_of self.old.coordinator.due ≡ nexts.Tell answer }
+        requires due { next_of self.old.coordinator ≡ nexts.Tell answer }
         requires may { MayCome self.old.coordinator (known_by self.old.number db.old) (nexts.Tell answer) }
         ensures after { IfOk result (IsAfterStep self.old.number db.old self.new db.new) }
         ensures same { OnOk result (HasSameWork self.old self.new) }

@@ -1,0 +1,79 @@
+-- Where a coordinator waits for nothing.
+use Rattle.std.proofs.Common.{◌≡◌, ℕ, Bool, true, false, ◌||◌, List, [], ◌∷◌, Option, None, Some, refl, ap, ◌∙◌}
+use Rattle.std.specs.List.{list_any}
+use Rattle.pc_call.specs.declared.call.OpenCall.{OpenCall}
+use Rattle.pc_call.specs.Opening.{reader_of}
+use Rattle.pc_coord.specs.Coordination.{Coordination, awaits_number, next_at, next_by, next_in, next_of}
+use Rattle.pc_coord.specs.declared.due.Due.{Due}
+use Rattle.pc_coord.specs.declared.due.Due.TheVariants as dues
+use Rattle.pc_coord.specs.declared.next.Next.TheVariants as nexts
+use Rattle.pc_proto.specs.declared.answer.Answer.{Answer}
+use Rattle.pc_proto.specs.declared.reply.Reply.{Reply}
+use Rattle.pc_txn.specs.declared.txn.OpenTxn.{OpenTxn}
+use Rattle.pc_wave.proofs.Rounds.{due_round, first_found}
+use Rattle.pc_wave.specs.declared.message.Message.{Message}
+use Rattle.pc_wave.specs.declared.message.Progress.{Progress}
+use Rattle.pc_wave.specs.declared.message.Progress.TheVariants as progresses
+use Rattle.pc_wave.specs.declared.step.Step.{Step}
+use Rattle.pc_wave.specs.declared.step.Step.TheVariants as steps
+use Rattle.pc_wave.specs.Messages.{is_out, progress_awaits, progress_out, step_of, wave_awaits}
+
+tells_by : (reader : Option ℕ) (step : Step) (answer : Answer) → next_by reader step ≡ nexts.Tell answer → ⊥
+tells_by reader (steps.Send request) answer e = cc
+tells_by reader steps.Deliver answer e = cc
+tells_by reader (steps.Round number conflict) answer e = cc
+tells_by reader (steps.Blocked holder) answer e = cc
+tells_by reader steps.Answered answer e = cc
+
+tells_in : (txn : Option OpenTxn) (call : OpenCall) (answer : Answer) → next_in txn call ≡ nexts.Tell answer → ⊥
+tells_in None call answer e = cc
+tells_in (Some x) call answer e = tells_by (reader_of call.purpose x) (step_of call.wave) answer e
+
+-- where an answer is due, no reply is waited for
+pub quiet_tell : (c : Coordination) (answer : Answer) → next_of c ≡ nexts.Tell answer → (number : ℕ) → awaits_number number c.due ≡ false
+quiet_tell c answer next number = by c.due next
+  where
+    by : (due : Due) → next_at c.txn due ≡ nexts.Tell answer → awaits_number number due ≡ false
+    by dues.Nothing e = refl
+    by (dues.Tell told) e = refl
+    by (dues.Call call) e = absurd (tells_in c.txn call answer e)
+
+no_wait : (number : ℕ) (progress : Progress) → progress_out progress ≡ false → progress_awaits number progress ≡ false
+no_wait number progresses.ToSend none = refl
+no_wait number (progresses.Sent sent) none = absurd cc
+no_wait number (progresses.Met sent conflict) none = refl
+no_wait number (progresses.Answered sent reply) none = refl
+
+none_awaits : (number : ℕ) (messages : List Message) → list_any is_out messages ≡ false → wave_awaits number messages ≡ false
+none_awaits number [] none = refl
+none_awaits number (m ∷ messages) none = by (none_awaits number messages) (is_out m) refl none
+  where
+    by : (list_any is_out messages ≡ false → wave_awaits number messages ≡ false) → (b : Bool) → is_out m ≡ b → (b || list_any is_out messages) ≡ false → wave_awaits number (m ∷ messages) ≡ false
+    by later true is none = absurd cc
+    by later false is none = ap (λ b. b || wave_awaits number messages) (no_wait number m.progress is) ∙ later none
+
+-- The step is a conflict's round.
+rounds_by : (reader : Option ℕ) (step : Step) (n : ℕ) (conflict : Reply) (at : Option ℕ) → next_by reader step ≡ nexts.Conflict n conflict at → (m : ℕ) × (met : Reply) × (step ≡ steps.Round m met)
+rounds_by reader (steps.Send request) n conflict at e = absurd cc
+rounds_by reader steps.Deliver n conflict at e = absurd cc
+rounds_by reader (steps.Round m met) n conflict at e = (m, met, refl)
+rounds_by reader (steps.Blocked holder) n conflict at e = absurd cc
+rounds_by reader steps.Answered n conflict at e = absurd cc
+
+none_out : (messages : List Message) (n : ℕ) (conflict : Reply) → step_of messages ≡ steps.Round n conflict → list_any is_out messages ≡ false
+none_out messages n conflict due = let f = due_round messages n conflict due in (first_found messages f.0 f.1).1
+
+quiet_in : (txn : Option OpenTxn) (call : OpenCall) (n : ℕ) (conflict : Reply) (reader : Option ℕ) → next_in txn call ≡ nexts.Conflict n conflict reader → (number : ℕ) → wave_awaits number call.wave ≡ false
+quiet_in None call n conflict reader e number = absurd cc
+quiet_in (Some x) call n conflict reader e number =
+    let r = rounds_by (reader_of call.purpose x) (step_of call.wave) n conflict reader e in
+    none_awaits number call.wave (none_out call.wave r.0 r.1 r.2)
+
+-- where the round of a conflict is due, no reply is waited for
+pub quiet_met : (c : Coordination) (n : ℕ) (conflict : Reply) (reader : Option ℕ) → next_of c ≡ nexts.Conflict n conflict reader → (number : ℕ) → awaits_number number c.due ≡ false
+quiet_met c n conflict reader next number = by c.due next
+  where
+    by : (due : Due) → next_at c.txn due ≡ nexts.Conflict n conflict reader → awaits_number number due ≡ false
+    by dues.Nothing e = refl
+    by (dues.Tell told) e = refl
+    by (dues.Call call) e = quiet_in c.txn call n conflict reader e number
