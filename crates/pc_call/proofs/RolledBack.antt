@@ -178,7 +178,7 @@ module _ (session clock count : ℕ) (splits : List (List ℕ)) (k : Known) (x :
 -- so what a call gives that gives how it ends
 pub over_ok : {E : Type 0} (splits : List (List ℕ)) (session : ℕ) (k : Known) (view : View) (one other : Why) (x : OpenTxn) (r : Result Over E) → IfOk r (λ over. over ≡ ends_rolled_back view one x) → one ≡ other → MayTellOver splits session k (ends_rolled_back view other x)
     → IfOk r (MayTellOver splits session k)
-over_ok splits session k view one other x (Ok ended) is same told = subst (MayTellOver splits session k) (sym (is ∙ ap (λ why. ends_rolled_back view why x) same)) told
+over_ok splits session k view one other x (Ok o) is same told = subst (MayTellOver splits session k) (sym (is ∙ ap (λ why. ends_rolled_back view why x) same)) told
 over_ok splits session k view one other x (Err e) is same told = is
 
 pub same_why : (p : Purpose) (one other : Why) → p ≡ purposes.Abort one → p ≡ purposes.Abort other → one ≡ other
