@@ -1,9 +1,8 @@
 -- The abort of an open call was answered: its transaction is rolled back.
-use Rattle.std.proofs.Common.{◌≡◌, ℕ, ◌<◌, ◌≤◌, Bool, true, false, ◌⊎◌, inl, inr, List, [], ◌∷◌, ◌++◌, map, Option, None, Some, Result, Ok, Err, IfOk, refl, sym, ap, ◌∙◌, subst, arith, All, Any, IsTrue}
+use Rattle.std.proofs.Common.{◌≡◌, ℕ, ◌<◌, true, false, inl, inr, List, [], ◌∷◌, map, Some, Result, Ok, Err, IfOk, refl, sym, ap, ◌∙◌, subst, All, Any, IsTrue}
 use Rattle.std.proofs.lemmas.List.Elements.{All-cons, All-head, All-nil, All-push, All-weaker}
 use Rattle.std.proofs.lemmas.Option.{same_Some}
 use Rattle.pc_base.specs.declared.limits.TheConstants.{MOST_CONFLICTS}
-use Rattle.pc_base.specs.declared.transaction.TxnId.{TxnId}
 use Rattle.pc_base.specs.Transaction.{same_txn}
 use Rattle.pc_call.proofs.Closing.{closing-left, closing-may, opened3}
 use Rattle.pc_call.proofs.Decided.{one_out}
@@ -20,7 +19,6 @@ use Rattle.pc_call.specs.Learned.{known_heard}
 use Rattle.pc_call.specs.Serving.{InCall, Serves, ServesAbort}
 use Rattle.pc_lists.proofs.Anywhere.{any_last, any_of}
 use Rattle.pc_lists.proofs.Same.{same_txn-self}
-use Rattle.pc_proto.specs.declared.answer.Answer.{Answer}
 use Rattle.pc_proto.specs.declared.answer.Answer.TheVariants as answers
 use Rattle.pc_proto.specs.declared.call.Call.TheVariants as calls
 use Rattle.pc_proto.specs.declared.fate.Fate.{Fate}
@@ -49,7 +47,6 @@ use Rattle.pc_world.specs.Known.{Known, open_txn}
 use Rattle.pc_world.specs.Known.Traffic.{Heard}
 use Rattle.pc_world.specs.Known.Transactions.{Txn, txn_heard}
 use Rattle.pc_world.specs.MayTell.{is_past_range}
-use Rattle.pc_world.specs.Send.Abort.{own_cause}
 use Rattle.pc_world.specs.Tell.End.{IsCauseTold}
 use Rattle.pc_world.specs.Tell.Refusal.{IsConflictOf}
 use Rattle.pc_world.specs.Views.{ShowsAborted, WasAborted}
