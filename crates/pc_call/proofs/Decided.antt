@@ -1,10 +1,8 @@
 -- The reply to the commit of an open call shows that its transaction is decided.
-use Rattle.std.proofs.Common.{◌≡◌, ℕ, ◌+◌, ◌≤◌, nat_lt, Bool, true, false, cond, not, ◌&&◌, ◌||◌, inl, inr, List, [], ◌∷◌, length, map, None, Some, refl, sym, ap, ◌∙◌, subst, arith, All, Any, IsTrue}
+use Rattle.std.proofs.Common.{◌≡◌, ℕ, ◌+◌, ◌≤◌, nat_lt, Bool, true, false, cond, ◌&&◌, ◌||◌, inl, inr, List, [], ◌∷◌, length, map, None, Some, refl, sym, ap, ◌∙◌, subst, arith, IsTrue}
 use Rattle.std.specs.Option.{option_map_or}
 use Rattle.std.proofs.lemmas.Bool.{and_from, eq-eqb}
 use Rattle.std.proofs.lemmas.List.Elements.{All-cons, All-nil}
-use Rattle.pc_base.specs.declared.limits.TheConstants.{MOST_REFUSALS}
-use Rattle.pc_base.specs.Transaction.{same_txn}
 use Rattle.pc_call.proofs.Closing.{closing-committed, closing-left, closing-may, opened3}
 use Rattle.pc_call.proofs.Eighths.{no_eighth_move}
 use Rattle.pc_call.proofs.Ending.{EndsWith, IsFinalAs, final_aborted, final_committed}
@@ -33,7 +31,7 @@ use Rattle.pc_proto.specs.Replies.{is_undecided_status, status_ts, view_in}
 use Rattle.pc_proto.specs.Requests.{is_about, is_commit, subject_anchor}
 use Rattle.pc_proto.specs.Views.{AbortsWith, is_committed_at}
 use Rattle.pc_refusals.proofs.Counted.{refusals_go}
-use Rattle.pc_refusals.specs.Moves.{CountsMoves, IsNoMove}
+use Rattle.pc_refusals.specs.Moves.{IsNoMove}
 use Rattle.pc_txn.proofs.Commits.{commit_now}
 use Rattle.pc_txn.specs.Counted.{IsCounted}
 use Rattle.pc_txn.specs.declared.txn.OpenTxn.{OpenTxn}
@@ -42,7 +40,7 @@ use Rattle.pc_txn.specs.Standing.{TxnStands}
 use Rattle.pc_wave.proofs.Hearing.{awaits_as}
 use Rattle.pc_wave.specs.declared.message.Message.{Message}
 use Rattle.pc_wave.specs.declared.message.Progress.TheVariants as progresses
-use Rattle.pc_wave.specs.Messages.{awaits_at, is_to_send, progress_to_send, wave_awaits}
+use Rattle.pc_wave.specs.Messages.{awaits_at, progress_to_send, wave_awaits}
 use Rattle.pc_wave.specs.Standing.{IsHeardTo}
 use Rattle.pc_world.specs.Follows.Eighth.{TellsTheEighth, WasMovedEighth}
 use Rattle.pc_world.specs.Follows.FinishingJobs.{is_commit_told}

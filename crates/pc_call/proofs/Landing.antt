@@ -1,6 +1,6 @@
 -- The write of an open call was written: the call is told so, or goes on with its own write.
 use Rattle.std.specs.Option.{option_map}
-use Rattle.std.proofs.Common.{◌≡◌, ℕ, ◌+◌, ◌≤◌, Bool, true, false, ◌==◌, ◌&&◌, ◌⊎◌, inl, inr, List, [], ◌∷◌, ◌++◌, Option, None, Some, Result, Ok, Err, IfOk, refl, sym, ap, ◌∙◌, subst, arith, All, Any, IsTrue, lit<, unwrap_or}
+use Rattle.std.proofs.Common.{◌≡◌, ℕ, ◌+◌, ◌≤◌, Bool, true, false, ◌==◌, ◌&&◌, inl, inr, List, [], ◌∷◌, Option, None, Some, Result, Ok, Err, IfOk, refl, sym, ap, ◌∙◌, subst, arith, All, IsTrue, lit<, unwrap_or}
 use Rattle.std.proofs.lemmas.Bool.{and_from, eq-eqb}
 use Rattle.std.proofs.lemmas.List.Elements.{All-cons, All-nil, All-weaker}
 use Rattle.pc_base.specs.Transaction.{same_txn}
@@ -30,7 +30,6 @@ use Rattle.pc_txn.specs.Standing.{PutsUpTo}
 use Rattle.pc_wave.proofs.Lists.{at_least-before}
 use Rattle.pc_wave.specs.Messages.{message_to_send}
 use Rattle.pc_wave.specs.Standing.{AreOfTwo, MayGoOut, MessageStands}
-use Rattle.pc_world.specs.Counting.{AtLeast}
 use Rattle.pc_world.specs.Follows.PipelinedPuts.{IsHeardOf}
 use Rattle.pc_world.specs.Known.{Known, open_txn}
 use Rattle.pc_world.specs.Known.Statements.{Statement}

@@ -1,5 +1,5 @@
 -- The writes that the refreshes of an open call met.
-use Rattle.std.proofs.Common.{◌≡◌, ℕ, ◌≤◌, max, Bool, true, false, cond, ◌⊎◌, inl, inr, List, [], ◌∷◌, find, Option, None, Some, IfSome, zero, suc, refl, sym, ap, ◌∙◌, subst, arith, All, Any}
+use Rattle.std.proofs.Common.{◌≡◌, ℕ, ◌≤◌, Bool, true, false, cond, inl, inr, List, [], ◌∷◌, find, Option, None, Some, IfSome, zero, suc, refl, sym, ◌∙◌, subst, arith, All, Any}
 use Rattle.std.proofs.lemmas.List.Elements.{All-cons, All-head, All-nil, All-tail}
 use Rattle.pc_call.specs.Serving.{HasGoneOut, IsAnswerTo, IsRefreshGoneOut, IsMetUpTo, MetNoOtherWrite, MetNoWrite}
 use Rattle.pc_lists.proofs.Anywhere.{any_head, any_later}

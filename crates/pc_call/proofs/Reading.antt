@@ -1,14 +1,12 @@
 -- All messages of a call that reads were answered: the call may be told so, and its transaction stands with what it read.
-use Rattle.std.proofs.Common.{◌≡◌, ℕ, ◌<◌, ◌≤◌, Bool, true, false, cond, ◌==◌, ◌⊎◌, inl, inr, List, [], ◌∷◌, ◌++◌, map, filter, Option, None, Some, Result, Ok, Err, IfOk, zero, suc, refl, sym, ap, ◌∙◌, subst, arith, All, Any, IsTrue, Contains}
-use Rattle.std.specs.List.{flat_map, list_any}
-use Rattle.std.specs.List.Sorted.{IsStrictlySortedBy}
+use Rattle.std.proofs.Common.{◌≡◌, ℕ, ◌<◌, true, false, cond, ◌==◌, inl, inr, List, [], ◌∷◌, ◌++◌, map, Option, None, Result, Ok, Err, IfOk, zero, suc, refl, sym, ap, ◌∙◌, subst, arith, All, Any, IsTrue, Contains}
+use Rattle.std.specs.List.{flat_map}
 use Rattle.std.proofs.lemmas.Bool.{eq-eqb}
-use Rattle.std.proofs.lemmas.List.Elements.{All-append, All-cons, All-contains, All-head, All-map, All-nil, All-tail, All-weaker, Contains-append_left, Contains-append_right}
+use Rattle.std.proofs.lemmas.List.Elements.{All-append, All-cons, All-head, All-map, All-nil, All-tail, All-weaker, Contains-append_left, Contains-append_right}
 use Rattle.pc_base.specs.declared.actor.ActorId.TheVariants as actors
 use Rattle.pc_base.specs.declared.limits.TheConstants.{MOST_CONFLICTS}
 use Rattle.pc_base.specs.declared.span.Span.{Span}
 use Rattle.pc_base.specs.declared.span.Span.TheVariants.{One}
-use Rattle.pc_base.specs.SpanOrder.{span_cmp}
 use Rattle.pc_call.proofs.Beginning.{any_true}
 use Rattle.pc_call.proofs.Eighths.{no_eighth, none_eighth}
 use Rattle.pc_call.proofs.Told.{may_tell, rows_keep, stays_open, value_keeps}
@@ -17,7 +15,7 @@ use Rattle.pc_call.specs.declared.purpose.Purpose.TheVariants as purposes
 use Rattle.pc_call.specs.Reading.{answer_by, answer_read, rows_answered, rows_found, span_read, spans_read, value_answered, with_spans}
 use Rattle.pc_call.specs.Serving.{AreReadsOf, InCall, IsReadFor, Serves, ServesRead, out_of}
 use Rattle.pc_call.specs.Telling.{MayTellOpen}
-use Rattle.pc_lists.proofs.Anywhere.{any_behind, any_head, any_kept, any_later, any_of, any_weaker}
+use Rattle.pc_lists.proofs.Anywhere.{any_behind, any_head, any_kept, any_of, any_weaker}
 use Rattle.pc_proto.specs.declared.answer.Answer.{Answer}
 use Rattle.pc_proto.specs.declared.answer.Answer.TheVariants as answers
 use Rattle.pc_proto.specs.declared.call.Call.{Call}
@@ -36,22 +34,20 @@ use Rattle.pc_txn.specs.Opened.{own_get, own_scan}
 use Rattle.pc_txn.specs.Standing.{TxnStands}
 use Rattle.pc_wave.proofs.Dues.{may_be_due}
 use Rattle.pc_wave.specs.declared.message.Message.{Message}
-use Rattle.pc_wave.specs.declared.message.Progress.{Progress}
 use Rattle.pc_wave.specs.declared.message.Progress.TheVariants as progresses
 use Rattle.pc_wave.specs.declared.step.Step.TheVariants as steps
 use Rattle.pc_wave.specs.Due.{MayBeDue, WasAnsweredWith}
 use Rattle.pc_wave.specs.Messages.{step_of}
-use Rattle.pc_wave.specs.Standing.{HasComeBack, IsAsFar, IsMessageAt, IsReplyAt, IsSentUnder, MessageStands}
+use Rattle.pc_wave.specs.Standing.{IsAsFar, IsMessageAt, IsReplyAt, IsSentUnder, MessageStands}
 use Rattle.pc_world.specs.Answering.{MayAnswer}
 use Rattle.pc_world.specs.Follows.Eighth.{MetEighth}
 use Rattle.pc_world.specs.Known.{Known}
 use Rattle.pc_world.specs.Known.Reads.{AtOnce, IsGoodAt, Read, read_heard, reads_heard}
 use Rattle.pc_world.specs.Known.Statements.{Statement}
 use Rattle.pc_world.specs.Known.Traffic.{Heard, Sent, is_reply_to_one, replies_to}
-use Rattle.pc_world.specs.Known.Transactions.{Txn}
 use Rattle.pc_world.specs.MayTell.{MayTellRow, is_past_range}
 use Rattle.pc_world.specs.RangeOf.{pieces}
-use Rattle.pc_world.specs.Tell.Data.{AreRowsOf, AreRowsOfAll, IsValueOf, told_row, was_sent_now}
+use Rattle.pc_world.specs.Tell.Data.{AreRowsOf, AreRowsOfAll, IsValueOf, was_sent_now}
 
 -- If the request reads, it reads at this timestamp.
 abbrev ReadsAt : ℕ → Request → Type 0

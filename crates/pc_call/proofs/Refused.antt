@@ -1,10 +1,8 @@
 -- The reply to the commit of an open call shows that its record is pending: the commit goes on, or is given up.
-use Rattle.std.proofs.Common.{◌≡◌, ℕ, ◌+◌, ◌<◌, ◌≤◌, max, nat_lt, Bool, true, false, cond, ◌&&◌, ◌==◌, ◌⊎◌, inl, inr, List, [], ◌∷◌, ◌++◌, map, Option, None, Some, refl, sym, ap, ◌∙◌, subst, arith, All, Any, IsTrue, count_by}
-use Rattle.std.specs.List.{list_any}
-use Rattle.std.proofs.lemmas.Bool.{eq-eqb, ltb-false, ltb-true}
+use Rattle.std.proofs.Common.{◌≡◌, ℕ, ◌+◌, ◌<◌, ◌≤◌, max, nat_lt, Bool, true, false, cond, ◌&&◌, ◌⊎◌, inl, inr, List, [], ◌∷◌, map, Option, None, Some, refl, sym, ap, ◌∙◌, subst, arith, All, IsTrue}
+use Rattle.std.proofs.lemmas.Bool.{ltb-false, ltb-true}
 use Rattle.std.proofs.lemmas.List.Elements.{All-push, All-weaker}
 use Rattle.pc_base.specs.declared.limits.TheConstants.{MOST_REFUSALS}
-use Rattle.pc_base.specs.declared.transaction.TxnId.{TxnId}
 use Rattle.pc_call.proofs.Decided.{commit_known, commit_out, commit_said, commit_stands, commits, one_out, within}
 use Rattle.pc_call.proofs.Eighths.{told_moved}
 use Rattle.pc_call.proofs.Facts.{none_staged, open_is, unmoved}
@@ -16,19 +14,17 @@ use Rattle.pc_call.specs.declared.purpose.Purpose.{Purpose}
 use Rattle.pc_call.specs.declared.purpose.Purpose.TheVariants as purposes
 use Rattle.pc_call.specs.Learned.{known_heard}
 use Rattle.pc_call.specs.Paced.{IsPaced}
-use Rattle.pc_call.specs.Serving.{InCall, IsCommitBelow, IsCommitCall, IsOpenIn, IsOutHere, IsRefreshUpTo, IsRefusedBy, MetNoWrite, ServesCommit, WasRefusedIfCommit}
+use Rattle.pc_call.specs.Serving.{InCall, IsCommitBelow, IsOpenIn, IsOutHere, IsRefreshUpTo, IsRefusedBy, MetNoWrite, ServesCommit, WasRefusedIfCommit}
 use Rattle.pc_call.specs.Suiting.{SuitsFlight}
 use Rattle.pc_call.specs.Telling.{MayTellOpen}
 use Rattle.pc_lists.proofs.Anywhere.{any_kept, any_last, any_weaker}
 use Rattle.pc_proto.specs.declared.answer.Answer.TheVariants as answers
-use Rattle.pc_proto.specs.declared.reply.Reply.{Reply}
 use Rattle.pc_proto.specs.declared.reply.Reply.TheVariants as replies
 use Rattle.pc_proto.specs.declared.request.Request.{Request}
 use Rattle.pc_proto.specs.declared.request.Request.TheVariants as requests
 use Rattle.pc_proto.specs.declared.view.View.{View}
 use Rattle.pc_proto.specs.declared.view.View.TheVariants as views
 use Rattle.pc_proto.specs.Replies.{is_conflict, is_undecided_status, status_ts}
-use Rattle.pc_proto.specs.Requests.{is_commit}
 use Rattle.pc_proto.specs.Stamps.{greatest_of, reply_stamps}
 use Rattle.pc_reads.specs.Replies.{unrefreshed_by}
 use Rattle.pc_refusals.specs.Moves.{CountsMoves, DecidesAt, ShowsRecord, moves_with}
@@ -41,8 +37,8 @@ use Rattle.pc_txn.specs.Standing.{IsOutOrRefused, TxnStands}
 use Rattle.pc_wave.proofs.Lists.{at_least-fewer}
 use Rattle.pc_wave.specs.declared.message.Message.{Message}
 use Rattle.pc_wave.specs.declared.message.Progress.TheVariants as progresses
-use Rattle.pc_wave.specs.Messages.{is_to_send, progress_to_send, wave_awaits}
-use Rattle.pc_wave.specs.Standing.{IsHeardTo, IsMessageAt}
+use Rattle.pc_wave.specs.Messages.{progress_to_send, wave_awaits}
+use Rattle.pc_wave.specs.Standing.{IsHeardTo}
 use Rattle.pc_world.specs.Answering.{MayAnswer}
 use Rattle.pc_world.specs.Counting.{LastIs}
 use Rattle.pc_world.specs.Follows.Eighth.{WasMovedEighth}

@@ -1,5 +1,5 @@
 -- All refreshes of a commit were answered: the commit goes out, or its transaction restarts.
-use Rattle.std.proofs.Common.{◌≡◌, ℕ, ◌+◌, ◌<◌, ◌≤◌, max, Bool, true, false, cond, ◌⊎◌, inl, inr, List, [], ◌∷◌, ◌++◌, map, find, Option, None, Some, Result, Ok, Err, IfOk, OnOk, IfSome, is_some, refl, sym, ap, ◌∙◌, subst, arith, All, Any, Contains, IsTrue, zero, suc}
+use Rattle.std.proofs.Common.{◌≡◌, ℕ, ◌+◌, ◌≤◌, Bool, true, false, cond, ◌⊎◌, inl, inr, List, [], ◌∷◌, map, find, Option, None, Some, Result, Ok, Err, IfOk, OnOk, IfSome, is_some, refl, sym, ap, ◌∙◌, subst, arith, All, Any, Contains, IsTrue, zero, suc}
 use Rattle.std.specs.List.Sorted.{IsStrictlySortedBy}
 use Rattle.std.specs.Option.{option_and_then}
 use Rattle.std.specs.List.{AllByRecursion as Each}
@@ -23,17 +23,15 @@ use Rattle.pc_call.specs.declared.refreshes.Refreshed.{Refreshed}
 use Rattle.pc_call.specs.declared.refreshes.Refreshed.TheVariants as refreshes
 use Rattle.pc_call.specs.Learned.{known_told}
 use Rattle.pc_call.specs.Refreshing.{IsRefreshed}
-use Rattle.pc_call.specs.Serving.{InCall, IsAnswerTo, IsMetUpTo, IsOpenIn, MetNoOtherWrite, MetNoWrite, Serves, ServesRefresh, out_of}
-use Rattle.pc_call.specs.Telling.{MayTellOpen, StandsOpen}
+use Rattle.pc_call.specs.Serving.{InCall, IsAnswerTo, IsMetUpTo, MetNoOtherWrite, MetNoWrite, Serves, ServesRefresh, out_of}
+use Rattle.pc_call.specs.Telling.{MayTellOpen}
 use Rattle.pc_lists.proofs.Anywhere.{any_head, any_later, any_of, any_weaker}
 use Rattle.pc_proto.specs.declared.answer.Answer.{Answer}
 use Rattle.pc_proto.specs.declared.answer.Answer.TheVariants as answers
-use Rattle.pc_proto.specs.declared.call.Call.TheVariants as calls
 use Rattle.pc_proto.specs.declared.reply.Reply.{Reply}
 use Rattle.pc_proto.specs.declared.reply.Reply.TheVariants as replies
 use Rattle.pc_proto.specs.declared.request.Request.{Request}
 use Rattle.pc_proto.specs.declared.request.Request.TheVariants as requests
-use Rattle.pc_proto.specs.Stamps.{why_stamps}
 use Rattle.pc_reads.proofs.Goods.{refreshed_stand}
 use Rattle.pc_reads.proofs.Ordered.{span_total}
 use Rattle.pc_reads.specs.ReadsStanding.{refresh_to}
@@ -47,18 +45,15 @@ use Rattle.pc_txn.specs.Standing.{HasMovedOn, IsOutOrRefused, TxnStands}
 use Rattle.pc_wave.proofs.Changed.{found_all, found_none, found_passes}
 use Rattle.pc_wave.proofs.Dues.{may_be_due}
 use Rattle.pc_wave.specs.declared.message.Message.{Message}
-use Rattle.pc_wave.specs.declared.message.Progress.{Progress}
-use Rattle.pc_wave.specs.declared.message.Progress.TheVariants as progresses
 use Rattle.pc_wave.specs.declared.step.Step.TheVariants as steps
 use Rattle.pc_wave.specs.Due.{MayBeDue, WasAnsweredWith}
 use Rattle.pc_wave.specs.Messages.{step_of}
-use Rattle.pc_wave.specs.Standing.{HasComeBack, IsReplyAt}
+use Rattle.pc_wave.specs.Standing.{IsReplyAt}
 use Rattle.pc_world.specs.Answering.{IsRefreshReply, MayAnswer}
-use Rattle.pc_world.specs.Follows.Refreshes.{IsFirstMet, IsNoneBefore, MetWrite}
+use Rattle.pc_world.specs.Follows.Refreshes.{IsNoneBefore, MetWrite}
 use Rattle.pc_world.specs.Known.{Known}
 use Rattle.pc_world.specs.Known.Reads.{IsGoodAt, WasRefreshed}
-use Rattle.pc_world.specs.Known.Traffic.{Heard, replies_to}
-use Rattle.pc_world.specs.Known.Transactions.{Txn}
+use Rattle.pc_world.specs.Known.Traffic.{Heard}
 use Rattle.pc_world.specs.MayTell.{is_past_range}
 use Rattle.pc_world.specs.StageFate.{IsDead, SentCommit, WasCommitRefused}
 use Rattle.pc_world.specs.Tell.End.{IsUnrefreshed}

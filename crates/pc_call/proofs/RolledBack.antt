@@ -1,9 +1,8 @@
 -- The abort of an open call was answered: its transaction is rolled back.
-use Rattle.std.proofs.Common.{◌≡◌, ℕ, ◌<◌, ◌≤◌, Bool, true, false, ◌⊎◌, inl, inr, List, [], ◌∷◌, ◌++◌, map, Option, None, Some, Result, Ok, Err, IfOk, refl, sym, ap, ◌∙◌, subst, arith, All, Any, IsTrue}
+use Rattle.std.proofs.Common.{◌≡◌, ℕ, ◌<◌, true, false, inl, inr, List, [], ◌∷◌, map, Some, Result, Ok, Err, IfOk, refl, sym, ap, ◌∙◌, subst, All, Any, IsTrue}
 use Rattle.std.proofs.lemmas.List.Elements.{All-cons, All-head, All-nil, All-push, All-weaker}
 use Rattle.std.proofs.lemmas.Option.{same_Some}
 use Rattle.pc_base.specs.declared.limits.TheConstants.{MOST_CONFLICTS}
-use Rattle.pc_base.specs.declared.transaction.TxnId.{TxnId}
 use Rattle.pc_base.specs.Transaction.{same_txn}
 use Rattle.pc_call.proofs.Closing.{closing-left, closing-may, opened3}
 use Rattle.pc_call.proofs.Decided.{one_out}
@@ -20,7 +19,6 @@ use Rattle.pc_call.specs.Learned.{known_heard}
 use Rattle.pc_call.specs.Serving.{InCall, Serves, ServesAbort}
 use Rattle.pc_lists.proofs.Anywhere.{any_last, any_of}
 use Rattle.pc_lists.proofs.Same.{same_txn-self}
-use Rattle.pc_proto.specs.declared.answer.Answer.{Answer}
 use Rattle.pc_proto.specs.declared.answer.Answer.TheVariants as answers
 use Rattle.pc_proto.specs.declared.call.Call.TheVariants as calls
 use Rattle.pc_proto.specs.declared.fate.Fate.{Fate}
@@ -49,7 +47,6 @@ use Rattle.pc_world.specs.Known.{Known, open_txn}
 use Rattle.pc_world.specs.Known.Traffic.{Heard}
 use Rattle.pc_world.specs.Known.Transactions.{Txn, txn_heard}
 use Rattle.pc_world.specs.MayTell.{is_past_range}
-use Rattle.pc_world.specs.Send.Abort.{own_cause}
 use Rattle.pc_world.specs.Tell.End.{IsCauseTold}
 use Rattle.pc_world.specs.Tell.Refusal.{IsConflictOf}
 use Rattle.pc_world.specs.Views.{ShowsAborted, WasAborted}
@@ -178,7 +175,7 @@ module _ (session clock count : ℕ) (splits : List (List ℕ)) (k : Known) (x :
 -- so what a call gives that gives how it ends
 pub over_ok : {E : Type 0} (splits : List (List ℕ)) (session : ℕ) (k : Known) (view : View) (one other : Why) (x : OpenTxn) (r : Result Over E) → IfOk r (λ over. over ≡ ends_rolled_back view one x) → one ≡ other → MayTellOver splits session k (ends_rolled_back view other x)
     → IfOk r (MayTellOver splits session k)
-over_ok splits session k view one other x (Ok ended) is same told = subst (MayTellOver splits session k) (sym (is ∙ ap (λ why. ends_rolled_back view why x) same)) told
+over_ok splits session k view one other x (Ok o) is same told = subst (MayTellOver splits session k) (sym (is ∙ ap (λ why. ends_rolled_back view why x) same)) told
 over_ok splits session k view one other x (Err e) is same told = is
 
 pub same_why : (p : Purpose) (one other : Why) → p ≡ purposes.Abort one → p ≡ purposes.Abort other → one ≡ other

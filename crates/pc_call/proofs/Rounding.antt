@@ -1,5 +1,5 @@
 -- A message of an open call that met an intent has its round, or its holder blocks the call.
-use Rattle.std.proofs.Common.{◌≡◌, ℕ, ◌≤◌, Bool, true, false, not, ◌&&◌, ◌⊎◌, inl, inr, List, [], ◌∷◌, map, find, Option, Some, None, IfSome, refl, sym, ap, ◌∙◌, subst, arith, All, Contains}
+use Rattle.std.proofs.Common.{◌≡◌, ℕ, ◌≤◌, Bool, true, false, ◌⊎◌, inl, inr, List, [], ◌∷◌, map, find, Option, Some, None, IfSome, refl, sym, ap, ◌∙◌, subst, arith, All, Contains}
 use Rattle.std.specs.List.{list_all}
 use Rattle.std.proofs.lemmas.List.Elements.{All-cons, All-map, All-nil, Contains-append_right}
 use Rattle.pc_base.specs.declared.span.Span.{Span}

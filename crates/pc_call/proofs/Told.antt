@@ -3,7 +3,6 @@ use Rattle.std.proofs.Common.{◌≡◌, ℕ, ◌+◌, ◌≤◌, Bool, true, fa
 use Rattle.std.specs.Bool.{MatchBool}
 use Rattle.std.proofs.lemmas.List.{append-nil}
 use Rattle.std.proofs.lemmas.List.Elements.{All-nil}
-use Rattle.pc_base.specs.declared.actor.ActorId.{ActorId}
 use Rattle.pc_base.specs.declared.actor.ActorId.TheVariants as actors
 use Rattle.pc_base.specs.declared.span.Span.{Span}
 use Rattle.pc_base.specs.declared.transaction.TxnId.{TxnId}
@@ -26,7 +25,7 @@ use Rattle.pc_world.specs.Known.Reads.{Read, reads_told}
 use Rattle.pc_world.specs.Known.Statements.{Statement, begun_told, is_open_told}
 use Rattle.pc_world.specs.Known.Traffic.{Heard, replies_to}
 use Rattle.pc_world.specs.Known.Transactions.{Txn, txn_told}
-use Rattle.pc_world.specs.MayTell.{MayTell, MayTellIn, MayTellRow, is_past_range, needs_txn}
+use Rattle.pc_world.specs.MayTell.{MayTell, MayTellRow, is_past_range, needs_txn}
 
 pub match_false : (b : Bool) (P Q : Type 0) → b ≡ false → Q → MatchBool b P Q
 match_false b P Q e q = subst (λ b. MatchBool b P Q) (sym e) q

@@ -1,7 +1,6 @@
 -- The refreshes of a commit go out in the order of their spans.
-use Rattle.std.proofs.Common.{◌≡◌, ℕ, ◌<◌, ◌≤◌, Bool, true, false, cond, ◌⊎◌, inl, inr, List, [], ◌∷◌, map, find, Option, None, Some, zero, suc, refl, sym, ap, ◌∙◌, subst, arith, All, Any, Contains, IsTrue}
+use Rattle.std.proofs.Common.{◌≡◌, ℕ, Bool, true, false, cond, ◌⊎◌, inl, inr, List, [], ◌∷◌, map, find, None, Some, suc, refl, sym, ap, ◌∙◌, subst, arith, All, Any, Contains}
 use Rattle.std.specs.List.Sorted.{IsStrictlySortedBy}
-use Rattle.std.specs.List.{AllByRecursion as Each}
 use Rattle.std.specs.Ordering.{is_lt}
 use Rattle.std.specs.declared.cmp.Ordering.TheVariants.{Less}
 use Rattle.std.proofs.lemmas.List.Elements.{All-cons, All-contains, All-head, All-map, All-nil, All-tail, All-weaker}
@@ -14,27 +13,21 @@ use Rattle.pc_call.proofs.Restarting.{any_cons, asks, behind, same_span_of, span
 use Rattle.pc_call.specs.declared.purpose.Purpose.{Purpose}
 use Rattle.pc_call.specs.declared.purpose.Purpose.TheVariants as purposes
 use Rattle.pc_call.specs.Serving.{AreReadsOf, HasGoneOut, InCall, IsRefreshGoneOut, IsSentBefore, LaysLast, LaysNext, Serves, ServesRefresh, ServesWrite}
-use Rattle.pc_lists.proofs.Anywhere.{any_head, any_later, any_of, any_weaker}
+use Rattle.pc_lists.proofs.Anywhere.{any_head, any_later, any_of}
 use Rattle.pc_proto.specs.declared.call.Call.{Call}
 use Rattle.pc_proto.specs.declared.call.Call.TheVariants as calls
-use Rattle.pc_proto.specs.declared.reply.Reply.{Reply}
 use Rattle.pc_proto.specs.declared.request.Request.{Request}
 use Rattle.pc_proto.specs.declared.request.Request.TheVariants as requests
-use Rattle.pc_proto.specs.Replies.{is_conflict}
 use Rattle.pc_reads.specs.ReadsStanding.{refresh_to}
 use Rattle.pc_txn.specs.declared.txn.OpenTxn.{OpenTxn}
 use Rattle.pc_txn.specs.Opened.{own_get, own_scan}
 use Rattle.pc_wave.specs.declared.message.Message.{Message}
-use Rattle.pc_wave.specs.declared.message.Progress.{Progress}
-use Rattle.pc_wave.specs.declared.message.Progress.TheVariants as progresses
 use Rattle.pc_wave.specs.Messages.{is_to_send}
-use Rattle.pc_wave.specs.Standing.{IsAsFar, IsMessageAt, IsSentUnder, MessageStands, Pairwise}
-use Rattle.pc_world.specs.Follows.Refreshes.{AreAllAsked, IsItsRefresh, IsRefreshBefore, WasRead}
-use Rattle.pc_world.specs.Known.{Known, open_txn}
-use Rattle.pc_world.specs.Known.Traffic.{Heard, Sent}
+use Rattle.pc_wave.specs.Standing.{Pairwise}
+use Rattle.pc_world.specs.Follows.Refreshes.{IsItsRefresh, IsRefreshBefore}
+use Rattle.pc_world.specs.Known.{Known}
 use Rattle.pc_world.specs.Known.Transactions.{Txn}
 use Rattle.pc_world.specs.RangeOf.{pieces}
-use Rattle.pc_world.specs.SameRequest.{IsSameRequest}
 
 every : {X : Type 0} (P : X → Type 0) → ((x : X) → P x) → (xs : List X) → All P xs
 every P all [] = All-nil P

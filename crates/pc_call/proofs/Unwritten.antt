@@ -1,5 +1,5 @@
 -- A transaction that wrote nothing is committed, or rolled back, without a message.
-use Rattle.std.proofs.Common.{◌≡◌, ℕ, ◌≤◌, List, [], ◌∷◌, ◌++◌, Option, None, Some, refl, sym, ap, ◌∙◌, subst, arith, All, Any, IsTrue, inl, inr}
+use Rattle.std.proofs.Common.{◌≡◌, ℕ, List, [], ◌++◌, Option, None, Some, refl, sym, ap, ◌∙◌, subst, arith, All, Any, inl, inr}
 use Rattle.std.proofs.lemmas.Option.{same_Some}
 use Rattle.pc_base.specs.declared.limits.TheConstants.{MOST_CONFLICTS, MOST_REFUSALS}
 use Rattle.pc_call.proofs.Eighths.{no_eighth, no_eighth_move}
@@ -7,15 +7,12 @@ use Rattle.pc_call.proofs.Facts.{open_is}
 use Rattle.pc_call.proofs.Told.{may_tell}
 use Rattle.pc_call.specs.Finished.{MayTellOver}
 use Rattle.pc_call.specs.Fresh.{IsFresh}
-use Rattle.pc_proto.specs.declared.answer.Answer.{Answer}
 use Rattle.pc_proto.specs.declared.answer.Answer.TheVariants as answers
 use Rattle.pc_proto.specs.declared.call.Call.TheVariants as calls
 use Rattle.pc_proto.specs.declared.fate.Fate.{Fate}
 use Rattle.pc_proto.specs.declared.why.Why.{Why}
-use Rattle.pc_proto.specs.Requests.{is_abort_of}
 use Rattle.pc_txn.specs.declared.txn.OpenTxn.{OpenTxn}
 use Rattle.pc_world.specs.Counting.{AtLeast}
-use Rattle.pc_world.specs.Follows.Eighth.{MetEighth}
 use Rattle.pc_world.specs.Follows.FinishingJobs.{committed_fate, committing, left_committed, left_if, settling}
 use Rattle.pc_world.specs.Known.{Known, open_txn}
 use Rattle.pc_world.specs.Known.Reads.{IsGoodAt}
@@ -24,7 +21,7 @@ use Rattle.pc_world.specs.Known.Traffic.{Heard}
 use Rattle.pc_world.specs.Known.Transactions.{IsGood, Txn}
 use Rattle.pc_world.specs.MayTell.{is_past_range}
 use Rattle.pc_world.specs.Tell.Refusal.{IsConflictOf, WasMoved}
-use Rattle.pc_world.specs.Views.{ShowsAborted, WasAborted, fate_heard}
+use Rattle.pc_world.specs.Views.{ShowsAborted, fate_heard}
 
 settling_none : (t : Txn) (o : Option Fate) → settling t o None ≡ []
 settling_none t None = refl

@@ -1,5 +1,5 @@
 -- What a call that read is told, by the answers to its messages, and the spans that it read.
-use Rattle.std.specs.Prelude.{ℕ, Option, None, Some, List, [], ◌∷◌, fold, map}
+use Rattle.std.specs.Prelude.{ℕ, Option, None, List, [], ◌∷◌, fold, map}
 use Rattle.std.specs.BTreeSet.{insert_key}
 use Rattle.std.specs.List.{flat_map}
 use Rattle.pc_base.specs.declared.span.Span.{Span}

@@ -1,5 +1,4 @@
-use Rattle.std.proofs.Common.{◌≡◌, ◌<◌, ◌≤◌, sym, ap, ◌∙◌, subst, arith}
-use Rattle.std.proofs.lemmas.Option.{same_Some}
+use Rattle.std.proofs.Common.{sym, subst}
 use Rattle.pc_call.proofs.Committing.{anchor_now, behind_of, commit_asked_now, commits_at_once, goes_at_once}
 use Rattle.pc_call.specs.Committing.{CommitsOn}
 use Rattle.pc_call.proofs.call.OpenCall.commits.Goals as goal

@@ -1,4 +1,4 @@
-use Rattle.std.proofs.Common.{◌≡◌, sym, ◌∙◌}
+use Rattle.std.proofs.Common.{sym, ◌∙◌}
 use Rattle.pc_call.proofs.RolledBack.{over_ok, rolled_back_over, same_why}
 use Rattle.pc_call.specs.Learned.{known_heard}
 use Rattle.pc_call.proofs.call.OpenCall.rolled_back.Goals as goal
