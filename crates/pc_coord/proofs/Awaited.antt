@@ -1,17 +1,14 @@
 -- Messages of an open call that are waited for, and those that are sent.
-use Rattle.std.proofs.Common.{◌≡◌, ◌≢◌, ℕ, zero, suc, ◌+◌, ◌≤◌, ◌<◌, Bool, true, false, cond, ◌||◌, ◌==◌, ◌⊎◌, inl, inr, List, [], ◌∷◌, ◌++◌, find, map, Option, Some, None, refl, sym, ap, ◌∙◌, subst, arith, All, Any, IsTrue}
+use Rattle.std.proofs.Common.{◌≡◌, ◌≢◌, ℕ, zero, suc, ◌+◌, ◌≤◌, ◌<◌, Bool, true, false, ◌||◌, ◌==◌, ◌⊎◌, inl, inr, List, [], ◌∷◌, find, Option, Some, refl, sym, ap, ◌∙◌, subst, arith, All, Any, IsTrue}
 use Rattle.std.specs.List.{list_all, list_any}
 use Rattle.std.proofs.lemmas.Bool.{ne_eqb}
 use Rattle.std.proofs.lemmas.List.Elements.{All-cons, All-head, All-map, All-nil, All-tail, All-weaker}
 use Rattle.std.proofs.lemmas.Option.{same_Some}
 use Rattle.pc_base.specs.declared.limits.TheConstants.{MOST_CONFLICTS}
 use Rattle.pc_base.specs.declared.span.Span.{Span}
-use Rattle.pc_base.specs.declared.transaction.TxnId.{TxnId}
 use Rattle.pc_call.proofs.Lists.{all_behind, all_unmapped}
-use Rattle.pc_call.specs.declared.call.OpenCall.{OpenCall}
 use Rattle.pc_call.specs.declared.purpose.Purpose.{Purpose}
 use Rattle.pc_call.specs.declared.purpose.Purpose.TheVariants as purposes
-use Rattle.pc_call.specs.Sending.{IsSendable}
 use Rattle.pc_call.specs.Serving.{AreReadsOf, InCall, LaysLast, LaysNext, Serves}
 use Rattle.pc_proto.specs.declared.call.Call.{Call}
 use Rattle.pc_proto.specs.declared.call.Call.TheVariants as calls
@@ -20,7 +17,7 @@ use Rattle.pc_proto.specs.declared.request.Request.TheVariants as requests
 use Rattle.pc_reads.specs.ReadsStanding.{refresh_to}
 use Rattle.pc_txn.specs.Counted.{IsOwn}
 use Rattle.pc_txn.specs.declared.txn.OpenTxn.{OpenTxn}
-use Rattle.pc_txn.specs.Opened.{last_put, next_put, own_abort, own_commit, own_get, own_scan}
+use Rattle.pc_txn.specs.Opened.{own_get, own_scan}
 use Rattle.pc_wave.proofs.Changed.{found_all}
 use Rattle.pc_wave.proofs.Hearing.{awaits_as}
 use Rattle.pc_wave.proofs.Sending.{sends_first}

@@ -1,7 +1,6 @@
 -- What a coordinator's transaction and counts are after its session sent and heard messages beside it.
 use Rattle.std.proofs.Common.{◌≡◌, ℕ, ◌+◌, ◌≤◌, true, false, List, [], ◌∷◌, ◌++◌, length, Option, Some, None, IfSome, refl, sym, ap, ◌∙◌, subst, arith, All, IsTrue, length-append}
 use Rattle.std.proofs.lemmas.List.Elements.{All-append, All-cons, All-head, All-nil, All-tail, All-weaker}
-use Rattle.pc_base.specs.declared.transaction.TxnId.{TxnId}
 use Rattle.pc_call.specs.Telling.{StandsOpen}
 use Rattle.pc_coord.proofs.Counting.{all_heard-more, all_own-more}
 use Rattle.pc_coord.proofs.Ranged.{ranged-beside}
@@ -17,10 +16,10 @@ use Rattle.pc_proto.specs.Stamps.{why_stamps}
 use Rattle.pc_txn.proofs.Keeping.{quiet_leaves, stands_on}
 use Rattle.pc_txn.specs.Counted.{IsCounted, IsOfBegun, IsOwn, IsOwnHeard, IsOwnSent, IsOwnWrite}
 use Rattle.pc_txn.specs.declared.txn.OpenTxn.{OpenTxn}
-use Rattle.pc_txn.specs.Standing.{HasMovedOn, IsPendingView, LeavesAsIs, TxnStands, is_plain}
+use Rattle.pc_txn.specs.Standing.{HasMovedOn, LeavesAsIs, TxnStands, is_plain}
 use Rattle.pc_wave.specs.Standing.{HasMore, goes_beside}
 use Rattle.pc_world.specs.Known.{Known}
-use Rattle.pc_world.specs.Known.Traffic.{Heard, Sent}
+use Rattle.pc_world.specs.Known.Traffic.{Heard}
 use Rattle.pc_world.specs.Known.Transactions.{Txn}
 use Rattle.pc_world.specs.StageFate.{SentCommit}
 

@@ -1,13 +1,13 @@
 -- A call was just asked of the open transaction: nothing was sent in it.
-use Rattle.std.proofs.Common.{◌≡◌, ℕ, ◌+◌, ◌≤◌, Bool, true, false, cond, ◌&&◌, ◌||◌, List, [], ◌∷◌, find, Option, Some, None, refl, sym, ap, ◌∙◌, subst, arith, All, Any}
-use Rattle.std.specs.List.{list_all, list_any}
+use Rattle.std.proofs.Common.{◌≡◌, ℕ, ◌+◌, ◌≤◌, Bool, true, false, ◌&&◌, ◌||◌, List, [], ◌∷◌, Option, None, refl, sym, ap, ◌∙◌, subst, arith, All, Any}
+use Rattle.std.specs.List.{list_all}
 use Rattle.std.proofs.lemmas.List.{append-nil}
-use Rattle.std.proofs.lemmas.List.Elements.{All-cons, All-head, All-nil, All-tail, All-weaker}
+use Rattle.std.proofs.lemmas.List.Elements.{All-head, All-nil, All-tail, All-weaker}
 use Rattle.pc_call.specs.declared.purpose.Purpose.{Purpose}
 use Rattle.pc_call.specs.declared.purpose.Purpose.TheVariants as purposes
 use Rattle.pc_call.specs.Fresh.{IsFresh}
 use Rattle.pc_call.specs.Learned.{known_asked}
-use Rattle.pc_call.specs.Serving.{InCall, IsOpenIn, Serves}
+use Rattle.pc_call.specs.Serving.{InCall, Serves}
 use Rattle.pc_call.specs.Telling.{StandsOpen}
 use Rattle.pc_coord.specs.Going.{IsForMany, caused}
 use Rattle.pc_proto.specs.declared.call.Call.{Call}
@@ -22,11 +22,10 @@ use Rattle.pc_wave.specs.declared.message.Message.{Message}
 use Rattle.pc_wave.specs.declared.message.Progress.{Progress}
 use Rattle.pc_wave.specs.declared.message.Progress.TheVariants as progresses
 use Rattle.pc_wave.specs.declared.step.Step.TheVariants as steps
-use Rattle.pc_wave.specs.Messages.{awaits_at, has_answer, is_to_send, progress_awaits, progress_has_answer, progress_to_send, step_of, wave_awaits}
+use Rattle.pc_wave.specs.Messages.{has_answer, is_to_send, progress_awaits, progress_has_answer, progress_to_send, step_of, wave_awaits}
 use Rattle.pc_wave.specs.Standing.{IsAsFar, IsMessageAt, IsSentUnder, MessageStands}
 use Rattle.pc_coord.proofs.Dues.{answered_all}
 use Rattle.pc_world.specs.Known.{Known}
-use Rattle.pc_world.specs.Known.Statements.{Statement}
 use Rattle.pc_world.specs.Known.Transactions.{Txn}
 use Rattle.pc_world.specs.StageFate.{SentCommit}
 

@@ -1,5 +1,5 @@
 -- A coordinator knows what its session knows, by what is due.
-use Rattle.std.proofs.Common.{◌≡◌, ℕ, nat_lt, Bool, true, false, not, ◌&&◌, List, [], ◌∷◌, Option, Some, None, IfSome, refl, sym, ap, ◌∙◌, subst}
+use Rattle.std.proofs.Common.{◌≡◌, ℕ, nat_lt, Bool, true, false, not, ◌&&◌, List, Option, Some, None, IfSome, refl, sym, ap, ◌∙◌, subst}
 use Rattle.std.specs.Bool.{MatchBool}
 use Rattle.std.proofs.lemmas.Option.{same_Some}
 use Rattle.pc_base.specs.declared.actor.ActorId.{ActorId}
@@ -35,7 +35,7 @@ use Rattle.pc_world.specs.Follows.FinishingJobs.{left_by}
 use Rattle.pc_world.specs.Known.{Known}
 use Rattle.pc_world.specs.Known.Clock.{high_told}
 use Rattle.pc_world.specs.Known.Statements.{Statement, begun_told}
-use Rattle.pc_world.specs.MayTell.{MayTell, MayTellIn, MayTellRow, is_begin, is_past_range, needs_txn}
+use Rattle.pc_world.specs.MayTell.{MayTell, is_begin, is_past_range, needs_txn}
 use Rattle.pc_world.specs.Tell.Begin.{MayTellBegun}
 
 -- more is due of a call's messages

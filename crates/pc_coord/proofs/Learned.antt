@@ -1,5 +1,5 @@
 -- What a session learns from its own events, in short.
-use Rattle.std.proofs.Common.{◌≡◌, ℕ, max, List, [], ◌∷◌, ◌++◌, Option, Some, None, sym, ap, ◌∙◌}
+use Rattle.std.proofs.Common.{◌≡◌, ℕ, max, List, [], ◌++◌, Option, Some, None, ap, ◌∙◌}
 use Rattle.std.proofs.lemmas.List.{append-nil}
 use Rattle.pc_base.specs.declared.entry.Entry.{Entry}
 use Rattle.pc_call.specs.Learned.{known_asked, known_heard, known_sent, known_told}

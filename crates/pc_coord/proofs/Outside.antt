@@ -1,5 +1,5 @@
 -- A call is asked where no transaction is open: it begins one, or is told that there is none.
-use Rattle.std.proofs.Common.{◌≡◌, ℕ, ◌+◌, ◌*◌, ◌/◌, ◌^◌, ◌<◌, ◌≤◌, nat_lt, Bool, true, false, not, cond, ◌&&◌, ◌==◌, length, List, [], Option, Some, None, refl, sym, ap, ◌∙◌, subst, arith, All, IsTrue}
+use Rattle.std.proofs.Common.{◌≡◌, ℕ, ◌+◌, ◌*◌, ◌/◌, ◌^◌, ◌<◌, ◌≤◌, nat_lt, Bool, true, false, not, cond, ◌&&◌, length, [], Option, Some, None, refl, sym, ap, ◌∙◌, subst, arith}
 use Rattle.std.specs.Bool.{MatchBool}
 use Rattle.std.specs.Option.{option_map_or}
 use Rattle.std.proofs.lemmas.Bool.{and_parts, le-ltb, lt-ltb, ltb-false, ltb-true}
@@ -11,13 +11,12 @@ use Rattle.pc_base.specs.declared.transaction.Priority.{Priority}
 use Rattle.pc_base.specs.declared.transaction.TxnId.{TxnId}
 use Rattle.pc_base.specs.Transaction.{same_txn}
 use Rattle.pc_call.specs.Learned.{known_asked, known_told}
-use Rattle.pc_call.specs.Telling.{MayBeTold, StandsOpen, TellsAfterEighth}
+use Rattle.pc_call.specs.Telling.{StandsOpen, TellsAfterEighth}
 use Rattle.pc_coord.proofs.Counting.{all_heard-more, all_own-more, counted-asked, counted-told}
 use Rattle.pc_coord.proofs.Knowing.{no_job, tellable}
 use Rattle.pc_coord.proofs.Learned.{told_is}
 use Rattle.pc_coord.proofs.Ranged.{ranged_asked}
 use Rattle.pc_coord.specs.Coordination.{Coordination, beginning, telling, with_clock}
-use Rattle.pc_coord.specs.declared.due.Due.TheVariants as dues
 use Rattle.pc_coord.specs.Going.{StandsReady}
 use Rattle.pc_coord.specs.Knows.{IsHeld, Knows, Rests, messages_left}
 use Rattle.pc_coord.specs.Suiting.{SuitsNext}
@@ -30,7 +29,7 @@ use Rattle.pc_proto.specs.declared.event.Event.TheVariants as events
 use Rattle.pc_proto.specs.declared.request.Request.{Request}
 use Rattle.pc_proto.specs.declared.request.Request.TheVariants as requests
 use Rattle.pc_proto.specs.declared.why.Why.TheVariants as whys
-use Rattle.pc_proto.specs.Requests.{is_about, is_put_of, subject}
+use Rattle.pc_proto.specs.Requests.{subject}
 use Rattle.pc_reads.proofs.Goods.{none_read}
 use Rattle.pc_txn.specs.Counted.{IsCounted, IsOwnHeard, IsOwnSent, IsOwnWrite}
 use Rattle.pc_txn.specs.declared.txn.OpenTxn.{OpenTxn}
@@ -44,11 +43,10 @@ use Rattle.pc_world.specs.Follows.Refreshes.{RefreshesReads}
 use Rattle.pc_world.specs.Known.{Known}
 use Rattle.pc_world.specs.Known.Clock.{high_told}
 use Rattle.pc_world.specs.Known.Statements.{Statement, begun_told, is_open_told}
-use Rattle.pc_world.specs.Known.Traffic.{Heard, Sent}
 use Rattle.pc_world.specs.Known.Transactions.{Txn, begun}
 use Rattle.pc_world.specs.Known.Writes.{IsProvedBy}
-use Rattle.pc_world.specs.MayTell.{MayTell, MayTellIn, MayTellRow, is_past_range, needs_txn}
-use Rattle.pc_world.specs.StageFate.{EachCommit, OnCommit, SentCommit}
+use Rattle.pc_world.specs.MayTell.{MayTellIn, needs_txn}
+use Rattle.pc_world.specs.StageFate.{OnCommit, SentCommit}
 use Rattle.pc_world.specs.Tell.Refusal.{IsConflictOf, WasMoved}
 
 pub clock-rises : (reading high : ℕ) → high < clock_now reading high

@@ -1,9 +1,8 @@
 -- A coordinator is asked, sends, hears, and settles a round: what holds before its call goes on.
-use Rattle.std.proofs.Common.{◌≡◌, ℕ, max, Bool, true, false, cond, ◌||◌, ◌&&◌, ◌==◌, List, [], ◌∷◌, find, Option, Some, None, IfSome, refl, sym, ap, ◌∙◌, subst, arith, OnOk, Ok, Err, Result, IsTrue}
+use Rattle.std.proofs.Common.{◌≡◌, ℕ, max, Bool, true, false, cond, ◌||◌, ◌&&◌, List, [], ◌∷◌, find, Option, Some, None, refl, sym, ap, ◌∙◌, subst, arith, OnOk, Ok, Err, Result}
 use Rattle.std.specs.List.{list_all, list_any}
 use Rattle.std.proofs.lemmas.Option.{same_Some}
 use Rattle.pc_base.specs.declared.memory.NoMemory.{NoMemory}
-use Rattle.pc_base.specs.declared.transaction.TxnId.{TxnId}
 use Rattle.pc_call.specs.declared.call.OpenCall.{OpenCall}
 use Rattle.pc_call.specs.Learned.{known_asked, known_heard, known_sent}
 use Rattle.pc_call.specs.Opening.{reader_of}
@@ -16,7 +15,7 @@ use Rattle.pc_coord.proofs.Beside.{counted-beside, heard_goes-beside, more-besid
 use Rattle.pc_coord.proofs.Counting.{counted-heard, counted-sent}
 use Rattle.pc_coord.proofs.Fresh.{all_unsent, unsent_idle}
 use Rattle.pc_coord.proofs.Knowing.{rests}
-use Rattle.pc_coord.proofs.Learned.{learn_asked, learn_heard, learn_sent}
+use Rattle.pc_coord.proofs.Learned.{learn_heard, learn_sent}
 use Rattle.pc_coord.proofs.Ranged.{ranged-beside, ranged_heard, ranged_sent, sends_one}
 use Rattle.pc_coord.proofs.Rounds.{makes_round, refused_heard}
 use Rattle.pc_coord.specs.Beside.{IsLaterBeside}
@@ -26,15 +25,14 @@ use Rattle.pc_coord.specs.declared.due.Due.TheVariants as dues
 use Rattle.pc_coord.specs.declared.next.Next.TheVariants as nexts
 use Rattle.pc_coord.specs.declared.round.Round.{Round}
 use Rattle.pc_coord.specs.declared.round.Round.TheVariants as rounds
-use Rattle.pc_coord.specs.Events.{HearsAwaited, IsAsked, SendsDue}
+use Rattle.pc_coord.specs.Events.{HearsAwaited, SendsDue}
 use Rattle.pc_coord.specs.Going.{HasHadRound, HearsNow, StandsReady}
-use Rattle.pc_coord.specs.Knows.{HasCallDue, IsHeld, Knows, KnowsAt, Rests, is_under_way}
+use Rattle.pc_coord.specs.Knows.{HasCallDue, IsHeld, Knows, KnowsAt, is_under_way}
 use Rattle.pc_coord.specs.Rounds.{EndsRound}
 use Rattle.pc_coord.specs.Suiting.{Suits}
 use Rattle.pc_history.specs.declared.pair.Pair.{Pair}
 use Rattle.pc_proto.specs.declared.call.Call.{Call}
 use Rattle.pc_proto.specs.declared.event.Event.{Event}
-use Rattle.pc_proto.specs.declared.event.Event.TheVariants as events
 use Rattle.pc_proto.specs.declared.reply.Reply.{Reply}
 use Rattle.pc_proto.specs.declared.reply.Reply.TheVariants as replies
 use Rattle.pc_proto.specs.declared.request.Request.{Request}
@@ -47,7 +45,7 @@ use Rattle.pc_wave.specs.declared.message.Progress.TheVariants as progresses
 use Rattle.pc_wave.specs.declared.step.Step.{Step}
 use Rattle.pc_wave.specs.declared.step.Step.TheVariants as steps
 use Rattle.pc_wave.specs.Messages.{awaits_at, first_in_conflict, has_answer, is_in_conflict, is_out, is_to_send, progress_awaits, progress_has_answer, progress_out, step_by, step_of, wave_awaits}
-use Rattle.pc_world.specs.Known.{Known, learn, next_number}
+use Rattle.pc_world.specs.Known.{Known, learn}
 use Rattle.pc_world.specs.Known.Traffic.{Heard, request_sent}
 use Rattle.pc_world.specs.Local.{is_outside}
 

@@ -1,5 +1,5 @@
 -- A coordinator at its beginning, what it gives, and once its call was told what is due.
-use Rattle.std.proofs.Common.{◌≡◌, ℕ, Bool, true, false, ◌||◌, ◌==◌, List, [], ◌∷◌, find, Option, Some, None, IfOk, IfSome, Ok, Err, Result, refl, sym, ap, ◌∙◌, subst, arith, is_some, IsTrue}
+use Rattle.std.proofs.Common.{◌≡◌, ℕ, Bool, true, false, ◌||◌, List, [], ◌∷◌, Option, Some, None, IfOk, IfSome, Ok, Err, Result, refl, sym, ap, ◌∙◌, subst, arith, is_some, IsTrue}
 use Rattle.std.proofs.lemmas.List.Elements.{All-nil}
 use Rattle.std.specs.List.{list_any}
 use Rattle.std.proofs.lemmas.Bool.{eq-eqb}
@@ -11,7 +11,6 @@ use Rattle.pc_call.proofs.Sending.{step_given}
 use Rattle.pc_call.specs.declared.call.OpenCall.{OpenCall}
 use Rattle.pc_call.specs.Giving.{MayBeGiven}
 use Rattle.pc_call.specs.Opening.{reader_of}
-use Rattle.pc_call.specs.Serving.{InCall}
 use Rattle.pc_coord.proofs.Awaited.{none_awaited_of}
 use Rattle.pc_coord.proofs.Knowing.{rests}
 use Rattle.pc_coord.proofs.Learned.{learn_own, told_is}
@@ -24,7 +23,7 @@ use Rattle.pc_coord.specs.declared.next.Next.{Next}
 use Rattle.pc_coord.specs.declared.next.Next.TheVariants as nexts
 use Rattle.pc_coord.specs.declared.pusher.Pusher.{Pusher}
 use Rattle.pc_coord.specs.Events.{IsTold}
-use Rattle.pc_coord.specs.Knows.{AwaitsNone, HasCallDue, IsHeld, Knows, KnowsAt, MayCome, MayFinishJob, Rests, is_under_way, learned}
+use Rattle.pc_coord.specs.Knows.{HasCallDue, IsHeld, Knows, KnowsAt, MayCome, MayFinishJob, Rests, is_under_way, learned}
 use Rattle.pc_coord.specs.Pusher.{IsPusherOf, pusher_of}
 use Rattle.pc_coord.specs.Ranged.{IsRanged, ReadsInOne}
 use Rattle.pc_history.specs.declared.pair.Pair.{Pair}
@@ -32,7 +31,6 @@ use Rattle.pc_proto.specs.declared.answer.Answer.{Answer}
 use Rattle.pc_proto.specs.declared.event.Event.{Event}
 use Rattle.pc_proto.specs.declared.event.Event.TheVariants as events
 use Rattle.pc_proto.specs.declared.reply.Reply.{Reply}
-use Rattle.pc_proto.specs.declared.request.Request.{Request}
 use Rattle.pc_txn.specs.Counted.{IsOwnHeard, IsOwnSent}
 use Rattle.pc_txn.specs.declared.txn.OpenTxn.{OpenTxn}
 use Rattle.pc_wave.specs.declared.message.Message.{Message}
@@ -41,7 +39,7 @@ use Rattle.pc_wave.specs.declared.message.Progress.TheVariants as progresses
 use Rattle.pc_wave.specs.declared.step.Step.{Step}
 use Rattle.pc_wave.specs.declared.step.Step.TheVariants as steps
 use Rattle.pc_wave.specs.Messages.{awaits_at, is_out, progress_awaits, progress_out, step_of, wave_awaits}
-use Rattle.pc_world.specs.Known.{Known, learn, nothing_known, open_txn}
+use Rattle.pc_world.specs.Known.{Known, learn, nothing_known}
 use Rattle.pc_world.specs.Known.Traffic.{Heard, Sent}
 use Rattle.pc_world.specs.Known.Transactions.{Txn}
 use Rattle.pc_world.specs.RangeOf.{IsForOne}

@@ -1,5 +1,5 @@
 -- What each step of a coordinator comes to, by what it makes of the coordinator.
-use Rattle.std.proofs.Common.{◌≡◌, ℕ, max, Bool, true, false, not, ◌&&◌, ◌||◌, ◌==◌, List, [], ◌∷◌, Option, Some, None, refl, sym, ap, ◌∙◌, subst, OnOk, IfOk, Ok, Err, Result}
+use Rattle.std.proofs.Common.{◌≡◌, ℕ, Bool, true, false, ◌||◌, ◌==◌, List, Option, Some, None, refl, sym, ap, ◌∙◌, subst, OnOk, Result}
 use Rattle.std.specs.Option.{option_map}
 use Rattle.std.proofs.lemmas.Bool.{eq-eqb}
 use Rattle.std.proofs.lemmas.Option.{same_Some}
@@ -10,7 +10,7 @@ use Rattle.pc_call.specs.declared.call.OpenCall.{OpenCall}
 use Rattle.pc_call.specs.declared.over.Over.{Over}
 use Rattle.pc_call.specs.Finished.{MayTellOver}
 use Rattle.pc_call.specs.Fresh.{IsFresh}
-use Rattle.pc_call.specs.Learned.{known_asked, known_heard, known_sent}
+use Rattle.pc_call.specs.Learned.{known_asked, known_sent}
 use Rattle.pc_call.specs.Rounding.{RefusesRound}
 use Rattle.pc_call.specs.Serving.{InCall, write_call}
 use Rattle.pc_call.specs.Suiting.{SuitsFlight}
@@ -18,22 +18,21 @@ use Rattle.pc_call.specs.Telling.{MayTellOpen, StandsOpen}
 use Rattle.pc_coord.proofs.Awaited.{sends_own}
 use Rattle.pc_coord.proofs.Counting.{counted-asked, counted-sent}
 use Rattle.pc_coord.proofs.Knowing.{calls_knows, over_knows, tells_knows}
-use Rattle.pc_coord.proofs.Learned.{learn_asked, learn_sent}
+use Rattle.pc_coord.proofs.Learned.{learn_asked}
 use Rattle.pc_coord.proofs.Outside.{no_txn, not_yet}
 use Rattle.pc_coord.proofs.Ranged.{ranged_asked, ranged_sent, sends_one}
-use Rattle.pc_coord.proofs.Steps.{awaits_way, closed, idle, inside, on_ok, ready, standing, suiting}
-use Rattle.pc_coord.specs.Coordination.{Coordination, awaits_number, calling, job_left, next_at, next_in, next_of, opened_by, telling, without_call, without_txn}
+use Rattle.pc_coord.proofs.Steps.{closed, idle, inside, on_ok, ready, standing, suiting}
+use Rattle.pc_coord.specs.Coordination.{Coordination, awaits_number, calling, job_left, next_at, next_of, opened_by, telling, without_txn}
 use Rattle.pc_coord.specs.declared.due.Due.{Due}
 use Rattle.pc_coord.specs.declared.due.Due.TheVariants as dues
 use Rattle.pc_coord.specs.declared.due.Opened.{Opened}
 use Rattle.pc_coord.specs.declared.job.Job.{Job}
-use Rattle.pc_coord.specs.declared.kinds.Decision.{Decision}
 use Rattle.pc_coord.specs.declared.kinds.Decision.TheVariants as decisions
 use Rattle.pc_coord.specs.declared.next.Next.TheVariants as nexts
 use Rattle.pc_coord.specs.Events.{IsAsked}
 use Rattle.pc_coord.specs.Going.{BeginsNothing, StandsReady}
 use Rattle.pc_coord.specs.Kinds.{begins_at, conflict_due, decision_in, decision_of, status_in, told_outside, written_at}
-use Rattle.pc_coord.specs.Knows.{HasCallDue, Knows, KnowsAt, is_under_way}
+use Rattle.pc_coord.specs.Knows.{Knows, KnowsAt, is_under_way}
 use Rattle.pc_history.specs.declared.pair.Pair.{Pair}
 use Rattle.pc_proto.specs.declared.answer.Answer.{Answer}
 use Rattle.pc_proto.specs.declared.answer.Answer.TheVariants as answers
@@ -55,7 +54,7 @@ use Rattle.pc_txn.specs.Standing.{AreProved, IsLaying}
 use Rattle.pc_wave.specs.declared.message.Message.{Message}
 use Rattle.pc_wave.specs.declared.step.Step.{Step}
 use Rattle.pc_wave.specs.declared.step.Step.TheVariants as steps
-use Rattle.pc_wave.specs.Messages.{step_of, wave_awaits}
+use Rattle.pc_wave.specs.Messages.{step_of}
 use Rattle.pc_world.specs.Answering.{IsAbortReply, IsCommitReply, IsPutReply}
 use Rattle.pc_world.specs.Known.{Known, learn, next_number}
 use Rattle.pc_world.specs.Known.Statements.{Statement}

@@ -1,5 +1,5 @@
 -- How an open call goes on, beside what its session knows.
-use Rattle.std.specs.Prelude.{◌≡◌, ℕ, true, false, None, Some, List, ⊤}
+use Rattle.std.specs.Prelude.{◌≡◌, ℕ, true, false, None, Some, ⊤}
 use Rattle.pc_base.specs.declared.transaction.TxnId.{TxnId}
 use Rattle.pc_base.specs.Rising.{AreRising}
 use Rattle.pc_call.specs.declared.call.OpenCall.{OpenCall}

@@ -1,8 +1,7 @@
 -- Which calls suit the open transaction as far as it is built: while a write is in flight it waits for that write.
-use Rattle.std.specs.Prelude.{◌≡◌, Option, None, Some, ⊤}
+use Rattle.std.specs.Prelude.{Option, None, Some, ⊤}
 use Rattle.pc_call.specs.Suiting.{SuitsFlight, SuitsFlightNext}
 use Rattle.pc_proto.specs.declared.answer.Answer.{Answer}
-use Rattle.pc_proto.specs.declared.answer.Answer.TheVariants as answers
 use Rattle.pc_proto.specs.declared.call.Call.{Call}
 use Rattle.pc_txn.specs.declared.txn.OpenTxn.{OpenTxn}
 

@@ -18,4 +18,3 @@ pub use laws::coordinating_goes_on;
 pub use next::Next;
 pub use pusher::Pusher;
 pub use round::Round;
-

@@ -2,7 +2,6 @@ use Rattle.std.proofs.Common.{sym, ◌∙◌, subst}
 use Rattle.pc_call.specs.Learned.{known_heard}
 use Rattle.pc_coord.proofs.Knowing.{served_begins}
 use Rattle.pc_coord.proofs.Onward.{abort_kind}
-use Rattle.pc_coord.proofs.Steps.{in_call}
 use Rattle.pc_coord.proofs.Tying.{abort_status, finish_ok, status_reply}
 use Rattle.pc_wave.specs.Standing.{IsHeardTo}
 use Rattle.pc_coord.proofs.coordinator.Coordinator.abort_heard.Goals as goal

@@ -2,7 +2,6 @@ use Rattle.std.proofs.Common.{sym, ap, ◌∙◌, subst}
 use Rattle.pc_call.specs.Fresh.{IsFresh}
 use Rattle.pc_call.specs.Learned.{known_asked}
 use Rattle.pc_coord.proofs.Fresh.{fresh_asked}
-use Rattle.pc_coord.proofs.Steps.{calls}
 use Rattle.pc_coord.proofs.Tying.{reads_alone, ready_asked, suits_as}
 use Rattle.pc_coord.specs.Going.{StandsReady, caused}
 use Rattle.pc_world.specs.Known.Statements.{Statement}

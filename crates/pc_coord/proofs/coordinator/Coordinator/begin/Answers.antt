@@ -1,7 +1,6 @@
 use Rattle.std.proofs.Common.{◌≡◌, true, false, refl, sym, ap, ◌∙◌, subst}
 use Rattle.pc_call.specs.Learned.{known_asked}
 use Rattle.pc_coord.proofs.Outside.{begun_knows, past_range, within_range}
-use Rattle.pc_coord.proofs.Steps.{calls}
 use Rattle.pc_coord.specs.Coordination.{Coordination, telling}
 use Rattle.pc_coord.specs.Knows.{Knows}
 use Rattle.pc_proto.specs.declared.answer.Answer.TheVariants as answers

@@ -2,7 +2,7 @@ use Rattle.std.proofs.Common.{◌≡◌, not, ◌&&◌, ◌==◌, sym, ap, ◌�
 use Rattle.pc_call.specs.Learned.{known_heard}
 use Rattle.pc_call.specs.Opening.{GoesOn}
 use Rattle.pc_coord.proofs.Onward.{many_heard}
-use Rattle.pc_coord.proofs.Steps.{in_call, on_ok}
+use Rattle.pc_coord.proofs.Steps.{on_ok}
 use Rattle.pc_coord.specs.Coordination.{awaits_number}
 use Rattle.pc_coord.specs.Going.{IsForMany}
 use Rattle.pc_wave.specs.Messages.{step_of, wave_awaits}

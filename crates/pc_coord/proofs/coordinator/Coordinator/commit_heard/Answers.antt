@@ -2,7 +2,6 @@ use Rattle.std.proofs.Common.{sym, ◌∙◌, subst}
 use Rattle.pc_call.specs.Learned.{known_heard}
 use Rattle.pc_coord.proofs.Knowing.{served_begins}
 use Rattle.pc_coord.proofs.Onward.{commit_kind}
-use Rattle.pc_coord.proofs.Steps.{in_call}
 use Rattle.pc_coord.proofs.Tying.{aborted_reply, committed_reply, decided, finish_ok, refused_reply}
 use Rattle.pc_coord.specs.Going.{HearsNow}
 use Rattle.pc_wave.specs.Standing.{IsHeardTo}

@@ -1,6 +1,6 @@
 use Rattle.std.proofs.Common.{◌≡◌, sym, ap, ◌∙◌, subst, IfOk}
 use Rattle.pc_coord.proofs.Told.{next_ok}
-use Rattle.pc_coord.specs.Coordination.{Coordination, next_at, next_in}
+use Rattle.pc_coord.specs.Coordination.{Coordination, next_at}
 use Rattle.pc_coord.proofs.coordinator.Coordinator.next.Goals as goal
 
 pub returns-in-Call-clause-may : goal.returns-in-Call-clause-may

@@ -3,7 +3,7 @@ use Rattle.pc_call.specs.Committing.{IsRefusalOf}
 use Rattle.pc_call.specs.Learned.{known_heard}
 use Rattle.pc_coord.proofs.Fresh.{unsent_idle, unsent_many}
 use Rattle.pc_coord.proofs.Knowing.{served_begins}
-use Rattle.pc_coord.proofs.Steps.{in_call, on_ok}
+use Rattle.pc_coord.proofs.Steps.{on_ok}
 use Rattle.pc_coord.proofs.Tying.{tell_ok}
 use Rattle.pc_coord.specs.Coordination.{awaits_number}
 use Rattle.pc_wave.specs.Messages.{wave_awaits}

@@ -3,7 +3,6 @@ use Rattle.pc_call.specs.Ended.{HasLanded}
 use Rattle.pc_call.specs.Learned.{known_heard}
 use Rattle.pc_coord.proofs.Knowing.{served_begins}
 use Rattle.pc_coord.proofs.Onward.{one_goes, one_idle}
-use Rattle.pc_coord.proofs.Steps.{in_call}
 use Rattle.pc_coord.proofs.Tying.{call_ok, tell_ok}
 use Rattle.pc_coord.specs.Coordination.{awaits_number}
 use Rattle.pc_proto.specs.declared.request.Request.{Request}
