@@ -7,12 +7,13 @@ use Rattle.pc_base.specs.declared.limits.TheConstants.{MOST_CONFLICTS}
 use Rattle.pc_base.specs.declared.span.Span.{Span}
 use Rattle.pc_call.proofs.Beginning.{AreTwo, any_true, fresh_split, none_held, none_paced, requests_are}
 use Rattle.pc_call.proofs.Meeting.{none_low}
+use Rattle.pc_call.proofs.Turning.{turn_begun}
 use Rattle.pc_call.specs.Committing.{CommitsNow, CommitsOn, CommitsUpTo}
 use Rattle.pc_call.specs.declared.purpose.Purpose.{Purpose}
 use Rattle.pc_call.specs.declared.purpose.Purpose.TheVariants as purposes
 use Rattle.pc_call.specs.Fresh.{IsFresh}
 use Rattle.pc_call.specs.Paced.{IsPaced}
-use Rattle.pc_call.specs.Serving.{InCall, IsCommitBelow, IsMetUpTo, IsOutHere, IsRefreshUpTo, IsRefusedBy, MetNoOtherWrite, MetNoWrite, Serves, WasRefusedIfCommit, out_of}
+use Rattle.pc_call.specs.Serving.{InCall, IsCommitBelow, IsMetUpTo, IsOutHere, IsRefreshGoneOut, IsRefreshUpTo, IsRefusedBy, MetNoOtherWrite, MetNoWrite, Serves, WasRefusedIfCommit, out_of}
 use Rattle.pc_lists.proofs.Anywhere.{any_of}
 use Rattle.pc_proto.specs.declared.call.Call.TheVariants as calls
 use Rattle.pc_proto.specs.declared.request.Request.{Request}
@@ -204,9 +205,15 @@ module _ (n : ℕ) (k : Known) (x : OpenTxn) (c : CommitsOn n k x) (behind : x.r
             (λ m up. refresh-more c.t.read_ts c.t.write_ts m.request (omega (arith, c.on.stands.behind)) up) k.sent_now c.on.refreshes;
         behind = behind;
         asked = requests_are (map asks x.reads.spans);
+        sent = All-weaker (λ m. IsRefreshUpTo c.t.read_ts m.request) (λ m. IsRefreshGoneOut c.t.write_ts (map message_to_send (map asks x.reads.spans)) m.request) (λ m up. none_gone m.request up) k.sent_now c.on.refreshes;
+        in_turn = turn_begun (map asks x.reads.spans);
         held = All-weaker MetNoWrite (MetNoOtherWrite (map message_to_send (map asks x.reads.spans))) (λ h none. inl none) k.heard_now c.on.held;
         low = All-weaker MetNoWrite (IsMetUpTo k.top) (none_low k.top) k.heard_now c.on.held;
       })
+    where
+      none_gone : (q : Request) → IsRefreshUpTo c.t.read_ts q → IsRefreshGoneOut c.t.write_ts (map message_to_send (map asks x.reads.spans)) q
+      none_gone (requests.Refresh id from to span) up = λ same. absurd (omega (arith, same, up, reads_at, writes_now, behind))
+      none_gone q up = tt
 
 -- a commit that goes on commits at once, where its reads are good at its write timestamp
 pub commits_at_once : (n : ℕ) (k : Known) (x : OpenTxn) (c : CommitsOn n k x) → All (IsGoodAt c.t.id k.heard x.write_ts) c.t.reads → CommitsNow n k x c.s

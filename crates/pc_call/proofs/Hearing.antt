@@ -12,13 +12,14 @@ use Rattle.pc_call.proofs.Eighths.{none_eighth}
 use Rattle.pc_call.proofs.Facts.{are_numbered, open_is}
 use Rattle.pc_call.proofs.Holders.{holders_heard, is_id, met_by}
 use Rattle.pc_call.proofs.Lists.{all_behind, all_unmapped, kept_by, only_found}
-use Rattle.pc_call.proofs.Meeting.{any_changed, low-more, low_now, met-more}
+use Rattle.pc_call.proofs.Meeting.{any_changed, gone_out_on, low-more, low_now, met-more}
+use Rattle.pc_call.proofs.Turning.{back_out, turn_heard}
 use Rattle.pc_call.specs.declared.purpose.Purpose.{Purpose}
 use Rattle.pc_call.specs.declared.purpose.Purpose.TheVariants as purposes
 use Rattle.pc_call.specs.Learned.{known_heard}
 use Rattle.pc_call.specs.Opening.{GoesOn}
 use Rattle.pc_call.specs.Paced.{IsPaced, shows_resolve, was_met, was_pushed}
-use Rattle.pc_call.specs.Serving.{AreReadsOf, InCall, IsAnswerTo, IsMetUpTo, IsOpenIn, IsReadFor, IsRefusedBy, IsSplit, LaysLast, LaysNext, MetNoOtherWrite, NoOtherMetEighth, Serves, ServesRead, ServesRefresh, ServesWrite, WasRefusedIfCommit, WroteNothingNew, holders_met, out_of, write_call}
+use Rattle.pc_call.specs.Serving.{AreReadsOf, InCall, IsAnswerTo, IsMetUpTo, IsOpenIn, IsReadFor, IsRefreshGoneOut, IsRefusedBy, IsSplit, LaysLast, LaysNext, MetNoOtherWrite, NoOtherMetEighth, Serves, ServesRead, ServesRefresh, ServesWrite, WasRefusedIfCommit, WroteNothingNew, holders_met, out_of, write_call}
 use Rattle.pc_lists.proofs.Anywhere.{any_head, any_kept, any_last, any_later}
 use Rattle.pc_lists.proofs.Counts.{count-cons, count-push, one_if}
 use Rattle.pc_proto.specs.declared.call.Call.{Call}
@@ -246,7 +247,7 @@ module _ (session clock count : ℕ) (splits : List (List ℕ)) (k : Known) (x :
       same_request ∙ sym (ap (λ (m : Message). m.request) (only_found (awaits_at number) m found.0 f).0)
 
   -- what holds of each request holds of the one that was answered
-  of_request : (P : Request → Type 0) → All P (map (λ m. m.request) ms) → P h.request
+  pub of_request : (P : Request → Type 0) → All P (map (λ m. m.request) ms) → P h.request
   of_request P a = subst P (sym same_request) (found_all (awaits_at number) (λ (m : Message). P m.request) ms found.0 found.1 (all_unmapped P (λ (m : Message). m.request) ms a))
 
   not_beside : goes_beside h.request ≡ false
@@ -358,6 +359,10 @@ module _ (session clock count : ℕ) (splits : List (List ℕ)) (k : Known) (x :
         refreshes = r.refreshes;
         behind = r.behind;
         asked = requests2 ∙ r.asked;
+        sent =
+            All-weaker (λ m. IsRefreshGoneOut w.t.write_ts ms m.request) (λ m. IsRefreshGoneOut w.t.write_ts ms2 m.request)
+            (λ m out. gone_out_on w.t.write_ts (awaits_at number) (back_with number reply) (λ q y at g. record { asked = came_request number reply y ∙ g.asked; out = back_out number reply y }) ms m.request out) k.sent_now r.sent;
+        in_turn = turn_heard number reply ms r.in_turn;
         held =
             All-push (MetNoOtherWrite ms2) k.heard_now h
             (All-weaker (MetNoOtherWrite ms) (MetNoOtherWrite ms2) (met-more (awaits_at number) (back_with number reply) awaited_met ms) k.heard_now r.held)

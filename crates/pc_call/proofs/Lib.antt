@@ -21,4 +21,7 @@ pub mod Rounding
 pub mod Sending
 pub mod Steps
 pub mod Told
+pub mod Turning
+pub mod Turns
 pub mod Unwritten
+pub mod Waves

@@ -88,33 +88,33 @@ not_less Equal e h = cc
 not_less Greater e h = cc
 
 -- the spans of two refreshes that are one
-span_of : {one two : TxnId} {from to low high : ℕ} (s : Span) (other : Span) → requests.Refresh one from to s ≡ requests.Refresh two low high other → s ≡ other
+pub span_of : {one two : TxnId} {from to low high : ℕ} (s : Span) (other : Span) → requests.Refresh one from to s ≡ requests.Refresh two low high other → s ≡ other
 span_of s other e = cc
 
-any_cons : {X : Type 0} (P : X → Type 0) (x : X) (xs : List X) → Any P (x ∷ xs) → P x ⊎ Any P xs
+pub any_cons : {X : Type 0} (P : X → Type 0) (x : X) (xs : List X) → Any P (x ∷ xs) → P x ⊎ Any P xs
 any_cons P x xs (zero, y, low, is, p) = inl (subst P (sym is) p)
 any_cons P x xs (suc n, y, low, is, p) = inr (n, y, omega arith, is, p)
 
 module _ (id : TxnId) (from to : ℕ) where
-  abbrev asks : Span → Request
+  abbrev pub asks : Span → Request
   asks span = refresh_to id from to span
 
   -- The message is of the refresh of this span, and met a write.
   abbrev IsMetOf : Span → Message → Type 0
   IsMetOf other y = (y.request ≡ asks other) × (shows_unrefreshed y ≡ true)
 
-  same_span_of : (one other : Span) → asks one ≡ asks other → one ≡ other
+  pub same_span_of : (one other : Span) → asks one ≡ asks other → one ≡ other
   same_span_of one other e = cc
 
   -- a span of a message behind is behind
-  behind : (one other : Span) (spans : List Span) (ms : List Message) → map (λ m. m.request) ms ≡ map asks spans → Each (λ s. span_cmp one s ≡ Less) spans → Any (IsMetOf other) ms → span_cmp one other ≡ Less
+  pub behind : (one other : Span) (spans : List Span) (ms : List Message) → map (λ m. m.request) ms ≡ map asks spans → Each (λ s. span_cmp one s ≡ Less) spans → Any (λ m. m.request ≡ asks other) ms → span_cmp one other ≡ Less
   behind one other spans [] same each some = absurd (omega (arith, some.2))
   behind one other [] (q ∷ qs) same each some = absurd cc
   behind one other (s ∷ ss) (q ∷ qs) same each some =
       let first : q.request ≡ asks s = cc in
       let later : map (λ (m : Message). m.request) qs ≡ map asks ss = cc in
-      elim (any_cons (IsMetOf other) q qs some) as (λ c. span_cmp one other ≡ Less)
-      [ inl here ↦ subst (λ s. span_cmp one s ≡ Less) (same_span_of s other (sym first ∙ here.0)) each.0 | inr there ↦ behind one other ss qs later each.1 there ]
+      elim (any_cons (λ (m : Message). m.request ≡ asks other) q qs some) as (λ c. span_cmp one other ≡ Less)
+      [ inl here ↦ subst (λ s. span_cmp one s ≡ Less) (same_span_of s other (sym first ∙ here)) each.0 | inr there ↦ behind one other ss qs later each.1 there ]
 
   -- of the messages in the order of their spans, none before the first that met a write met one
   none_earlier : (spans : List Span) (ms : List Message) (m : Message) (span other : Span) → map (λ m. m.request) ms ≡ map asks spans → IsStrictlySortedBy span_cmp spans → find shows_unrefreshed ms ≡ Some m → m.request ≡ asks span → Any (IsMetOf other) ms
@@ -137,7 +137,7 @@ module _ (id : TxnId) (from to : ℕ) where
       by first later rest (inr there) true e f =
           let is : y ≡ m = cc in
           let at : one ≡ span = same_span_of one span (sym first ∙ ap (λ (m : Message). m.request) is ∙ said) in
-          let after : span_cmp one other ≡ Less = behind one other spans ms later sorted.0 there in
+          let after : span_cmp one other ≡ Less = behind one other spans ms later sorted.0 (any_weaker (IsMetOf other) (λ (m : Message). m.request ≡ asks other) (λ m both. both.0) ms there) in
           not_less (span_cmp one other) after (ap is_lt (sym (span_total.antisymm other one)) ∙ ap (λ s. is_lt (span_cmp other s)) at ∙ less)
       by first later rest (inl here) false e f = let g : true ≡ false = sym here.1 ∙ e in cc
       by first later rest (inr there) false e f = rest f there

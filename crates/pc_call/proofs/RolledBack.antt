@@ -15,7 +15,7 @@ use Rattle.pc_call.proofs.Told.{may_tell, still_open}
 use Rattle.pc_call.specs.declared.over.Over.{Over}
 use Rattle.pc_call.specs.declared.purpose.Purpose.{Purpose}
 use Rattle.pc_call.specs.declared.purpose.Purpose.TheVariants as purposes
-use Rattle.pc_call.specs.Finished.{MayTellOver, left_at, rolled_back_by}
+use Rattle.pc_call.specs.Finished.{MayTellOver, left_at, ends_rolled_back}
 use Rattle.pc_call.specs.Learned.{known_heard}
 use Rattle.pc_call.specs.Serving.{InCall, Serves, ServesAbort}
 use Rattle.pc_lists.proofs.Anywhere.{any_last, any_of}
@@ -157,10 +157,10 @@ module _ (session clock count : ℕ) (splits : List (List ℕ)) (k : Known) (x :
           f.1 other f.2
 
   -- the transaction is rolled back, however its record was decided
-  pub rolled_back_over : MayTellOver splits session k2 (rolled_back_by view why x)
+  pub rolled_back_over : MayTellOver splits session k2 (ends_rolled_back view why x)
   rolled_back_over = by view refl (subst (λ r. MayAnswer r (replies.Status view)) said is.kind)
     where
-      by : (v : View) → view ≡ v → is_final_view v ≡ true → MayTellOver splits session k2 (rolled_back_by v why x)
+      by : (v : View) → view ≡ v → is_final_view v ≡ true → MayTellOver splits session k2 (ends_rolled_back v why x)
       by (views.Committed epoch ts locks) v final =
           ended why (fates.Committed epoch ts) (subst (λ v. IsFinalAs v (fates.Committed epoch ts)) (sym v) (final_committed epoch ts locks))
           (own_told (λ other shows. committed_not epoch ts locks other shows.view (sym (ap view_in is.told ∙ ap Some v) ∙ shows.told) shows.cause))
@@ -176,9 +176,9 @@ module _ (session clock count : ℕ) (splits : List (List ℕ)) (k : Known) (x :
       by (views.Staging epoch ts writes) v final = absurd cc
 
 -- so what a call gives that gives how it ends
-pub over_ok : {E : Type 0} (splits : List (List ℕ)) (session : ℕ) (k : Known) (view : View) (one other : Why) (x : OpenTxn) (r : Result Over E) → IfOk r (λ over. over ≡ rolled_back_by view one x) → one ≡ other → MayTellOver splits session k (rolled_back_by view other x)
+pub over_ok : {E : Type 0} (splits : List (List ℕ)) (session : ℕ) (k : Known) (view : View) (one other : Why) (x : OpenTxn) (r : Result Over E) → IfOk r (λ over. over ≡ ends_rolled_back view one x) → one ≡ other → MayTellOver splits session k (ends_rolled_back view other x)
     → IfOk r (MayTellOver splits session k)
-over_ok splits session k view one other x (Ok over) is same told = subst (MayTellOver splits session k) (sym (is ∙ ap (λ why. rolled_back_by view why x) same)) told
+over_ok splits session k view one other x (Ok ended) is same told = subst (MayTellOver splits session k) (sym (is ∙ ap (λ why. ends_rolled_back view why x) same)) told
 over_ok splits session k view one other x (Err e) is same told = is
 
 pub same_why : (p : Purpose) (one other : Why) → p ≡ purposes.Abort one → p ≡ purposes.Abort other → one ≡ other

@@ -7,6 +7,7 @@ use Rattle.pc_call.proofs.Blocking.{blocked_by_eighth}
 use Rattle.pc_call.proofs.Facts.{open_is}
 use Rattle.pc_call.proofs.Ready.{IsReady, IsReadyToSend, ready}
 use Rattle.pc_call.proofs.Rounding.{round_due}
+use Rattle.pc_call.proofs.Turns.{its_refresh}
 use Rattle.pc_call.specs.declared.purpose.Purpose.{Purpose}
 use Rattle.pc_call.specs.Giving.{MayBeGiven}
 use Rattle.pc_call.specs.Sending.{IsSendable}
@@ -30,6 +31,7 @@ use Rattle.pc_wave.specs.Due.{MayBeDue}
 use Rattle.pc_wave.specs.Messages.{conflict_by, first_in_conflict, has_answer, is_in_conflict, is_to_send, progress_in_conflict, step_by, step_in, step_of}
 use Rattle.pc_wave.specs.Standing.{MayGoOut}
 use Rattle.pc_world.specs.Follows.Eighth.{MetEighth}
+use Rattle.pc_world.specs.Follows.Refreshes.{IsItsRefresh}
 use Rattle.pc_world.specs.Known.{Known}
 
 no_delivery : (o : Option TxnId) (number : ℕ) (conflict : Reply) → conflict_by o number conflict ≡ steps.Deliver → ⊥
@@ -69,6 +71,7 @@ module _ (session clock count : ℕ) (splits : List (List ℕ)) (k : Known) (x :
         below = may.1;
         before = here.before;
         own = here.own;
+        refresh = subst (IsItsRefresh k) f.2 (its_refresh splits k x p ms w f.0 f.1);
       }
 
   given : (step : Step) → step_of ms ≡ step → MayBeDue k ms step → MayBeGiven session splits k x p ms step

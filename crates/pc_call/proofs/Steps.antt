@@ -9,13 +9,14 @@ use Rattle.pc_base.specs.declared.transaction.TxnId.{TxnId}
 use Rattle.pc_call.proofs.Facts.{are_numbered}
 use Rattle.pc_call.proofs.Holders.{holders_sent}
 use Rattle.pc_call.proofs.Lists.{all_behind, all_front, all_unmapped, kept_by, only_found}
-use Rattle.pc_call.proofs.Meeting.{low-more, met-more}
+use Rattle.pc_call.proofs.Meeting.{any_changed, gone_now, gone_out_on, low-more, met-more}
+use Rattle.pc_call.proofs.Turning.{turn_sent}
 use Rattle.pc_call.specs.declared.purpose.Purpose.{Purpose}
 use Rattle.pc_call.specs.declared.purpose.Purpose.TheVariants as purposes
 use Rattle.pc_call.specs.Learned.{known_sent}
 use Rattle.pc_call.specs.Opening.{after_send, laid_first, laid_with}
 use Rattle.pc_call.specs.Paced.{IsPaced}
-use Rattle.pc_call.specs.Serving.{AreReadsOf, InCall, IsCommitCall, IsMetUpTo, IsOpenIn, IsOutHere, IsReadFor, IsRefreshUpTo, IsSplit, LaysLast, LaysNext, MetNoOtherWrite, NoOtherMetEighth, Serves, ServesAbort, ServesCommit, ServesRead, ServesRefresh, ServesWrite, WasRefusedIfCommit, commit_asked, holders_met, out_of, write_call}
+use Rattle.pc_call.specs.Serving.{AreReadsOf, HasGoneOut, InCall, IsCommitCall, IsMetUpTo, IsOpenIn, IsOutHere, IsReadFor, IsRefreshGoneOut, IsRefreshUpTo, IsSplit, LaysLast, LaysNext, MetNoOtherWrite, NoOtherMetEighth, Serves, ServesAbort, ServesCommit, ServesRead, ServesRefresh, ServesWrite, WasRefusedIfCommit, commit_asked, holders_met, out_of, write_call}
 use Rattle.pc_proto.specs.declared.call.Call.{Call}
 use Rattle.pc_proto.specs.declared.call.Call.TheVariants as calls
 use Rattle.pc_proto.specs.declared.request.Request.{Request}
@@ -214,6 +215,12 @@ module _ (session clock count : ℕ) (splits : List (List ℕ)) (k : Known) (x :
         refreshes = All-push (λ m. IsRefreshUpTo w.t.write_ts m.request) k.sent_now m2 r.refreshes (of_request (IsRefreshUpTo w.t.write_ts) refreshes);
         behind = r.behind;
         asked = requests2 ∙ r.asked;
+        sent =
+            All-push (λ m. IsRefreshGoneOut w.t.write_ts ms2 m.request) k.sent_now m2
+            (All-weaker (λ m. IsRefreshGoneOut w.t.write_ts ms m.request) (λ m. IsRefreshGoneOut w.t.write_ts ms2 m.request)
+            (λ m out. gone_out_on w.t.write_ts is_to_send (sent_under number) (λ q y is g. record { asked = g.asked; out = refl }) ms m.request out) k.sent_now r.sent)
+            (gone_now w.t.write_ts ms2 request (any_changed is_to_send (sent_under number) (HasGoneOut request) ms first_one.0 first_one.1 (record { asked = first_one.2; out = refl })));
+        in_turn = turn_sent number ms r.in_turn;
         held = All-weaker (MetNoOtherWrite ms) (MetNoOtherWrite ms2) (met-more is_to_send (sent_under number) (λ m is. ap unrefreshed_in (to_send_as m.progress is)) ms) k.heard_now r.held;
         low = All-weaker (IsMetUpTo k.top) (IsMetUpTo k2.top) (low-more k.top k2.top (omega arith)) k.heard_now r.low;
       }

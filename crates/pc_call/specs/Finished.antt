@@ -39,7 +39,7 @@ pub record MayTellOver (splits : List (List ℕ)) (session : ℕ) (k : Known) (o
   pub settles : IfSome over.left (MayBeSettled (known_told over.answer k))
 
 -- How a transaction ends whose rollback aborts it for this cause, where its abort was told this view: an aborted record's own cause is told.
-abbrev pub rolled_back_by : View → Why → OpenTxn → Over
-rolled_back_by (views.Committed epoch ts locks) why x = record { answer = answers.RolledBack x.id why; left = left_at x.anchor (fates.Committed epoch ts) x }
-rolled_back_by (views.Aborted epoch cause locks) why x = record { answer = answers.RolledBack x.id cause; left = left_at x.anchor fates.Aborted x }
-rolled_back_by view why x = record { answer = answers.RolledBack x.id why; left = None }
+abbrev pub ends_rolled_back : View → Why → OpenTxn → Over
+ends_rolled_back (views.Committed epoch ts locks) why x = record { answer = answers.RolledBack x.id why; left = left_at x.anchor (fates.Committed epoch ts) x }
+ends_rolled_back (views.Aborted epoch cause locks) why x = record { answer = answers.RolledBack x.id cause; left = left_at x.anchor fates.Aborted x }
+ends_rolled_back view why x = record { answer = answers.RolledBack x.id why; left = None }

@@ -13,6 +13,7 @@ use Rattle.pc_world.specs.Follows.CallMessages.{IsForCall}
 use Rattle.pc_world.specs.Follows.EarlyTell.{IsCommitKnown}
 use Rattle.pc_world.specs.Follows.Eighth.{IsBeforeEighth, MetEighth}
 use Rattle.pc_world.specs.Follows.OneWrite.{IsItsPut}
+use Rattle.pc_world.specs.Follows.Refreshes.{IsItsRefresh}
 use Rattle.pc_world.specs.Follows.Resends.{AreAnsweredNow, MayGoAgain}
 use Rattle.pc_world.specs.Known.{Known, open_txn}
 use Rattle.pc_world.specs.Known.Statements.{Statement}
@@ -23,7 +24,8 @@ use Rattle.pc_world.specs.SameRequest.{IsSameRequest}
 
 -- The request may be sent: its row allows it, and none of its timestamps is past the one after the greatest that the session knows; it is
 -- for the open call, which is not decided; where it was sent in the call before, all such were answered, and there is a reason to send it
--- again; neither it nor the commit has met its eighth; and a put is of the open transaction, and the call's only new write.
+-- again; neither it nor the commit has met its eighth; a put is of the open transaction, and the call's only new write; and a refresh is of a span
+-- that was read, behind all that went out to its timestamp.
 pub record IsSendable (splits : List (List ℕ)) (session : ℕ) (k : Known) (request : Request) : Type 0 where
   pub row : MaySendRow splits (actors.Session session) k request
   pub stamps : All (λ ts. ts ≤ k.top + 1) (request_stamps request)
@@ -34,6 +36,7 @@ pub record IsSendable (splits : List (List ℕ)) (session : ℕ) (k : Known) (re
   pub below : MetEighth k request → ⊥
   pub before : IsBeforeEighth k request
   pub own : IsItsPut k request
+  pub refresh : IsItsRefresh k request
 
 -- The timestamp at which a request reads.
 abbrev pub read_at : Request → Option ℕ

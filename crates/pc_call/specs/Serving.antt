@@ -26,7 +26,7 @@ use Rattle.pc_wave.specs.declared.message.Message.{Message}
 use Rattle.pc_wave.specs.declared.message.Progress.{Progress}
 use Rattle.pc_wave.specs.declared.message.Progress.TheVariants as progresses
 use Rattle.pc_wave.specs.Messages.{is_to_send, wave_awaits}
-use Rattle.pc_wave.specs.Standing.{WaveStands}
+use Rattle.pc_wave.specs.Standing.{Pairwise, WaveStands}
 use Rattle.pc_world.specs.Counting.{AtLeast}
 use Rattle.pc_world.specs.Follows.Resends.{ShowsLaterEpoch}
 use Rattle.pc_world.specs.Known.{Known}
@@ -131,6 +131,20 @@ IsMetUpTo top h = IfSome (unrefreshed_by h.reply) (λ w. w.1 ≤ top)
 abbrev pub MetNoOtherWrite : List Message → Heard → Type 0
 MetNoOtherWrite messages h = MetNoWrite h ⊎ Any (IsAnswerTo h) messages
 
+-- The message went out with this request.
+pub record HasGoneOut (request : Request) (m : Message) : Type 0 where
+  pub asked : m.request ≡ request
+  pub out : is_to_send m ≡ false
+
+-- If the request is a refresh to this timestamp, one of these messages went out with it.
+abbrev pub IsRefreshGoneOut : ℕ → List Message → Request → Type 0
+IsRefreshGoneOut ts messages (requests.Refresh id from to span) = to ≡ ts → Any (HasGoneOut (requests.Refresh id from to span)) messages
+IsRefreshGoneOut ts messages _ = ⊤
+
+-- Where the first is still to be sent, so is the other.
+abbrev pub IsSentBefore : Message → Message → Type 0
+IsSentBefore one other = is_to_send one ≡ true → is_to_send other ≡ true
+
 -- A commit of a transaction that wrote, whose writes are proved, after it was moved so often.
 pub record IsCommitCall (refusals : ℕ) (k : Known) (s : Statement) (t : Txn) (x : OpenTxn) : Type 0 where
   pub call : s.call ≡ calls.Commit
@@ -141,13 +155,15 @@ pub record IsCommitCall (refusals : ℕ) (k : Known) (s : Statement) (t : Txn) (
   pub moves : CountsMoves k refusals
   pub unmet : All (λ h. is_conflict h.reply ≡ false) k.heard_now
 
--- It refreshes what was read, from where it reads to where it writes.
+-- It refreshes what was read, from where it reads to where it writes, one message after another.
 pub record ServesRefresh (refusals : ℕ) (k : Known) (s : Statement) (t : Txn) (x : OpenTxn) (messages : List Message) : Type 0 where
   pub commits : IsCommitCall refusals k s t x
   pub refused : All (WasRefusedIfCommit t.write_ts k.heard_now) k.sent_now
   pub refreshes : All (λ m. IsRefreshUpTo t.write_ts m.request) k.sent_now
   pub behind : x.reads.ts < x.write_ts
   pub asked : map (λ m. m.request) messages ≡ map (refresh_to x.id x.reads.ts x.write_ts) x.reads.spans
+  pub sent : All (λ m. IsRefreshGoneOut t.write_ts messages m.request) k.sent_now
+  pub in_turn : Pairwise IsSentBefore messages
   pub held : All (MetNoOtherWrite messages) k.heard_now
   pub low : All (IsMetUpTo k.top) k.heard_now
 

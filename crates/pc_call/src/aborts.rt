@@ -1,6 +1,6 @@
 ghost use Rattle.std.specs.Prelude.{◌≡◌, ℕ, true, List, None, IfOk};
 ghost use Rattle.pc_call.specs.declared.purpose.Purpose.TheVariants as purposes;
-ghost use Rattle.pc_call.specs.Finished.{MayTellOver, rolled_back_by};
+ghost use Rattle.pc_call.specs.Finished.{MayTellOver, ends_rolled_back};
 ghost use Rattle.pc_call.specs.Fresh.{IsFresh};
 ghost use Rattle.pc_call.specs.Learned.{known_heard};
 ghost use Rattle.pc_call.specs.Serving.{InCall};
@@ -25,7 +25,7 @@ use pc_txn::OpenTxn;
 impl OpenCall {
     /// Its abort was told this view of the record: its transaction is over, and rolled back. Refused for want of memory alone.
     pub fn rolled_back(self, txn: OpenTxn, view: &View) -> Result<Over, NoMemory>
-        ensures made { (why : Why) → self.purpose ≡ purposes.Abort why → IfOk result (λ over. over ≡ rolled_back_by view.now why txn) }
+        ensures made { (why : Why) → self.purpose ≡ purposes.Abort why → IfOk result (λ over. over ≡ ends_rolled_back view.now why txn) }
         ensures over { (session clock begun number : ℕ) (splits : List (List ℕ)) (k : Known) (why : Why) (h : Heard) → IsCounted session clock begun k → InCall splits k txn self.purpose self.wave → self.purpose ≡ purposes.Abort why → wave_awaits number self.wave ≡ true → IsHeardTo k number (replies.Status view.now) h → IfOk result (MayTellOver splits session (known_heard h k)) }
     {
         match &self.purpose {
@@ -47,7 +47,7 @@ impl OpenCall {
 }
 
 fn rolled_back_by(view: &View, why: Why, txn: OpenTxn) -> Result<Over, NoMemory>
-    ensures { IfOk result (λ over. over ≡ rolled_back_by view.now why txn) }
+    ensures { IfOk result (λ over. over ≡ ends_rolled_back view.now why txn) }
 {
     let id = txn.id;
     match view {

@@ -1,4 +1,4 @@
-ghost use Rattle.std.specs.Prelude.{◌≡◌, ℕ, ◌==◌, ◌||◌, ◌&&◌, not, Bool, true, false, List, [], ◌∷◌, None, IfOk, IfSome, OnOk};
+ghost use Rattle.std.specs.Prelude.{◌≡◌, ℕ, ◌==◌, ◌||◌, ◌&&◌, not, Bool, true, false, List, [], ◌∷◌, All, None, Some, IfOk, IfSome, OnOk};
 ghost use Rattle.std.specs.Option.{option_map};
 ghost use Rattle.pc_call.specs.declared.purpose.Purpose.TheVariants as purposes;
 ghost use Rattle.pc_call.specs.Ended.{HasLanded, is_again, laying};
@@ -15,7 +15,8 @@ ghost use Rattle.pc_txn.specs.Opened.{landed_at};
 ghost use Rattle.pc_txn.specs.declared.txn.OpenTxn.{OpenTxn};
 ghost use Rattle.pc_wave.specs.Standing.{IsHeardTo};
 ghost use Rattle.pc_wave.specs.declared.step.Step.TheVariants as steps;
-ghost use Rattle.pc_wave.specs.Messages.{awaits_at, back_with, conflicts_at, first_changed, goes_again, message_to_send, step_of, wave_awaits};
+ghost use Rattle.pc_wave.specs.Messages.{awaits_at, back_with, conflicts_at, first_changed, goes_again, is_to_send, message_to_send, step_of, wave_awaits};
+ghost use Rattle.pc_world.specs.Follows.Refreshes.{RefreshesInOneWave};
 ghost use Rattle.pc_world.specs.Known.{Known, next_number};
 ghost use Rattle.pc_world.specs.Known.Traffic.{Heard};
 
@@ -73,6 +74,7 @@ impl OpenCall {
     pub fn heard(&mut self, number: u64, reply: Reply)
         ensures made { self.new ≡ record self.old { wave = first_changed (awaits_at number) (back_with number reply) self.old.wave } }
         ensures stands { (session clock begun : ℕ) (splits : List (List ℕ)) (k : Known) (x : OpenTxn) (h : Heard) → IsCounted session clock begun k → InCall splits k x self.old.purpose self.old.wave → wave_awaits number self.old.wave ≡ true → IsHeardTo k number reply h → GoesOn self.old.purpose reply → InCall splits (known_heard h k) x self.new.purpose self.new.wave }
+        ensures one_wave { (session clock begun : ℕ) (splits : List (List ℕ)) (k : Known) (x : OpenTxn) (h : Heard) → IsCounted session clock begun k → InCall splits k x self.old.purpose self.old.wave → All (λ m. is_to_send m ≡ false) self.old.wave → wave_awaits number self.old.wave ≡ true → IsHeardTo k number reply h → RefreshesInOneWave k (Some h) }
         ensures awaited { (splits : List (List ℕ)) (k : Known) (x : OpenTxn) (other : ℕ) → InCall splits k x self.old.purpose self.old.wave → wave_awaits number self.old.wave ≡ true → wave_awaits other self.new.wave ≡ (wave_awaits other self.old.wave && not (number == other)) }
     {
         self.wave.heard(number, reply);

@@ -1,5 +1,5 @@
 -- Messages of an open call that are waited for, and those that are sent.
-use Rattle.std.proofs.Common.{◌≡◌, ◌≢◌, ℕ, ◌≤◌, ◌<◌, Bool, true, false, cond, ◌||◌, ◌==◌, ◌⊎◌, inl, inr, List, [], ◌∷◌, ◌++◌, find, map, Option, Some, None, refl, sym, ap, ◌∙◌, subst, arith, All, Any, IsTrue}
+use Rattle.std.proofs.Common.{◌≡◌, ◌≢◌, ℕ, zero, suc, ◌+◌, ◌≤◌, ◌<◌, Bool, true, false, cond, ◌||◌, ◌==◌, ◌⊎◌, inl, inr, List, [], ◌∷◌, ◌++◌, find, map, Option, Some, None, refl, sym, ap, ◌∙◌, subst, arith, All, Any, IsTrue}
 use Rattle.std.specs.List.{list_all, list_any}
 use Rattle.std.proofs.lemmas.Bool.{ne_eqb}
 use Rattle.std.proofs.lemmas.List.Elements.{All-cons, All-head, All-map, All-nil, All-tail, All-weaker}
@@ -23,7 +23,6 @@ use Rattle.pc_txn.specs.declared.txn.OpenTxn.{OpenTxn}
 use Rattle.pc_txn.specs.Opened.{last_put, next_put, own_abort, own_commit, own_get, own_scan}
 use Rattle.pc_wave.proofs.Changed.{found_all}
 use Rattle.pc_wave.proofs.Hearing.{awaits_as}
-use Rattle.pc_wave.proofs.Lists.{none_of}
 use Rattle.pc_wave.proofs.Sending.{sends_first}
 use Rattle.pc_wave.specs.declared.message.Message.{Message}
 use Rattle.pc_wave.specs.declared.step.Step.TheVariants as steps
@@ -46,6 +45,11 @@ awaited_out k number (m ∷ ms) a waits = by (awaited_out k number ms (All-tail 
         let far : IsOnItsWay k number m.request × (m.conflicts < MOST_CONFLICTS) = subst (λ p. IsAsFar k m.request m.conflicts p) (awaits_as number m.progress is) (All-head (MessageStands k) m ms a).as_far in
         (m.request, far.0)
     by later false is e = later e
+
+none_of : {X : Type 0} (P : X → Type 0) (xs : List X) → All (λ x. P x → ⊥) xs → Any P xs → ⊥
+none_of P [] a (k, x, there, is, h) = absurd (omega arith)
+none_of P (y ∷ xs) a (zero, x, there, is, h) = All-head (λ x. P x → ⊥) y xs a (subst P (sym is) h)
+none_of P (y ∷ xs) a (suc k, x, there, is, h) = none_of P xs (All-tail (λ x. P x → ⊥) y xs a) (k, x, omega arith, is, h)
 
 none_numbered : (n : ℕ) (hs : List Heard) → All (λ h. h.number ≢ n) hs → list_any (λ h. h.number == n) hs ≡ false
 none_numbered n [] a = refl

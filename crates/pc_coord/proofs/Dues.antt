@@ -5,14 +5,13 @@ use Rattle.pc_base.specs.declared.limits.TheConstants.{MOST_CONFLICTS}
 use Rattle.pc_base.specs.declared.transaction.TxnId.{TxnId}
 use Rattle.pc_proto.specs.declared.reply.Reply.{Reply}
 use Rattle.pc_proto.specs.Replies.{holder_in}
-use Rattle.pc_wave.proofs.Awaiting.{none_awaited}
 use Rattle.pc_wave.proofs.Rounds.{first_found}
 use Rattle.pc_wave.specs.declared.message.Message.{Message}
 use Rattle.pc_wave.specs.declared.message.Progress.{Progress}
 use Rattle.pc_wave.specs.declared.message.Progress.TheVariants as progresses
 use Rattle.pc_wave.specs.declared.step.Step.{Step}
 use Rattle.pc_wave.specs.declared.step.Step.TheVariants as steps
-use Rattle.pc_wave.specs.Messages.{conflict_by, first_in_conflict, has_answer, is_out, is_to_send, progress_awaits, progress_has_answer, step_by, step_in, step_of, wave_awaits}
+use Rattle.pc_wave.specs.Messages.{conflict_by, first_in_conflict, has_answer, is_out, is_to_send, awaits_at, progress_awaits, progress_has_answer, progress_out, step_by, step_in, step_of, wave_awaits}
 
 no_answer : (o : Option TxnId) (number : ℕ) (conflict : Reply) → conflict_by o number conflict ≡ steps.Answered → ⊥
 no_answer None number conflict e = cc
@@ -59,6 +58,22 @@ blocked_first (Some m) next b holder e = (m, refl)
 blocked_first None (Some m) b holder e = absurd cc
 blocked_first None None true holder e = absurd cc
 blocked_first None None false holder e = absurd cc
+
+idle_at : (n : ℕ) (p : Progress) → progress_out p ≡ false → progress_awaits n p ≡ false
+idle_at n progresses.ToSend is = refl
+idle_at n (progresses.Sent number) is = absurd cc
+idle_at n (progresses.Met number conflict) is = refl
+idle_at n (progresses.Answered number reply) is = refl
+
+or_parts : (a b : Bool) → (a || b) ≡ false → (a ≡ false) × (b ≡ false)
+or_parts true b e = absurd cc
+or_parts false b e = (refl, e)
+
+none_awaited : (n : ℕ) (ms : List Message) → list_any is_out ms ≡ false → wave_awaits n ms ≡ false
+none_awaited n [] e = refl
+none_awaited n (m ∷ ms) e =
+    let parts = or_parts (is_out m) (list_any is_out ms) e in
+    ap (λ b. b || wave_awaits n ms) (idle_at n m.progress parts.0) ∙ none_awaited n ms parts.1
 
 -- nor where one blocks its call
 pub blocked_idle : (n : ℕ) (ms : List Message) (holder : TxnId) → step_of ms ≡ steps.Blocked holder → wave_awaits n ms ≡ false

@@ -1,5 +1,5 @@
 -- A call was just asked of the open transaction: nothing was sent in it.
-use Rattle.std.proofs.Common.{◌≡◌, ℕ, Bool, true, false, cond, ◌&&◌, ◌||◌, List, [], ◌∷◌, find, Option, Some, None, refl, sym, ap, ◌∙◌, subst, arith, All, Any}
+use Rattle.std.proofs.Common.{◌≡◌, ℕ, ◌+◌, ◌≤◌, Bool, true, false, cond, ◌&&◌, ◌||◌, List, [], ◌∷◌, find, Option, Some, None, refl, sym, ap, ◌∙◌, subst, arith, All, Any}
 use Rattle.std.specs.List.{list_all, list_any}
 use Rattle.std.proofs.lemmas.List.{append-nil}
 use Rattle.std.proofs.lemmas.List.Elements.{All-cons, All-head, All-nil, All-tail, All-weaker}
@@ -9,7 +9,7 @@ use Rattle.pc_call.specs.Fresh.{IsFresh}
 use Rattle.pc_call.specs.Learned.{known_asked}
 use Rattle.pc_call.specs.Serving.{InCall, IsOpenIn, Serves}
 use Rattle.pc_call.specs.Telling.{StandsOpen}
-use Rattle.pc_coord.specs.Going.{IsForMany}
+use Rattle.pc_coord.specs.Going.{IsForMany, caused}
 use Rattle.pc_proto.specs.declared.call.Call.{Call}
 use Rattle.pc_proto.specs.declared.request.Request.{Request}
 use Rattle.pc_proto.specs.declared.why.Why.{Why}
@@ -29,10 +29,6 @@ use Rattle.pc_world.specs.Known.{Known}
 use Rattle.pc_world.specs.Known.Statements.{Statement}
 use Rattle.pc_world.specs.Known.Transactions.{Txn}
 use Rattle.pc_world.specs.StageFate.{SentCommit}
-
--- The transaction, of which a rollback is caused by this.
-abbrev pub caused : Why → OpenTxn → OpenTxn
-caused why x = record x { cause = why }
 
 stands_caused : (k : Known) (out : Option SentCommit) (t : Txn) (x : OpenTxn) (why : Why) → TxnStands k out t x → TxnStands k out t (caused why x)
 stands_caused k out t x why st = record {
@@ -75,7 +71,7 @@ module _ (k : Known) (none : k.sent_now ≡ []) where
   none_out : (number : ℕ) (request : Request) → IsSentUnder k number request → ⊥
   none_out number request out =
       let a : Any (IsMessageAt number request) [] = subst (λ ms. Any (IsMessageAt number request) ms) none out.now in
-      absurd (omega (arith, a.2.0))
+      absurd (omega (arith, a.2))
 
   unsent_at : (request : Request) (conflicts : ℕ) (p : Progress) → IsAsFar k request conflicts p → progress_to_send p ≡ true
   unsent_at request conflicts progresses.ToSend far = refl

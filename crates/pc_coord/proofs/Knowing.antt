@@ -1,8 +1,9 @@
 -- A coordinator knows what its session knows, by what is due.
-use Rattle.std.proofs.Common.{◌≡◌, ℕ, Bool, true, false, not, ◌&&◌, List, [], ◌∷◌, Option, Some, None, IfSome, refl, sym, ap, ◌∙◌, subst}
+use Rattle.std.proofs.Common.{◌≡◌, ℕ, nat_lt, Bool, true, false, not, ◌&&◌, List, [], ◌∷◌, Option, Some, None, IfSome, refl, sym, ap, ◌∙◌, subst}
 use Rattle.std.specs.Bool.{MatchBool}
 use Rattle.std.proofs.lemmas.Option.{same_Some}
 use Rattle.pc_base.specs.declared.actor.ActorId.{ActorId}
+use Rattle.pc_base.specs.declared.limits.TheConstants.{GREATEST_READING}
 use Rattle.pc_base.specs.declared.actor.ActorId.TheVariants as actors
 use Rattle.pc_call.specs.declared.call.OpenCall.{OpenCall}
 use Rattle.pc_call.specs.declared.over.Left.{Left}
@@ -19,7 +20,7 @@ use Rattle.pc_coord.specs.Coordination.{Coordination, calling, job_left, telling
 use Rattle.pc_coord.specs.declared.due.Due.{Due}
 use Rattle.pc_coord.specs.declared.due.Due.TheVariants as dues
 use Rattle.pc_coord.specs.declared.job.Job.{Job}
-use Rattle.pc_coord.specs.Going.{BeginsNothing, IsReady}
+use Rattle.pc_coord.specs.Going.{BeginsNothing, StandsReady}
 use Rattle.pc_coord.specs.Knows.{IsTellable, Knows, KnowsAt, MayFinishJob, Rests, is_under_way, messages_left}
 use Rattle.pc_coord.specs.Suiting.{SuitsNext}
 use Rattle.pc_proto.specs.declared.answer.Answer.{Answer}
@@ -38,7 +39,7 @@ use Rattle.pc_world.specs.MayTell.{MayTell, MayTellIn, MayTellRow, is_begin, is_
 use Rattle.pc_world.specs.Tell.Begin.{MayTellBegun}
 
 -- more is due of a call's messages
-pub calls_knows : (c : Coordination) (k : Known) (call : OpenCall) (x : OpenTxn) → IsReady c k → InCall c.splits k x call.purpose call.wave → is_under_way (step_of call.wave) → Knows (calling call x c) k
+pub calls_knows : (c : Coordination) (k : Known) (call : OpenCall) (x : OpenTxn) → StandsReady c k → InCall c.splits k x call.purpose call.wave → is_under_way (step_of call.wave) → Knows (calling call x c) k
 calls_knows c k call x r w on = record {
   rising = r.rising;
   ranged = r.ranged;
@@ -46,7 +47,7 @@ calls_knows c k call x r w on = record {
 }
 
 within : (s : Statement) → is_begin s.call ≡ false → is_past_range s ≡ false
-within s no = ap (λ b. b && _) no
+within s plain = ap (λ b. b && nat_lt GREATEST_READING s.reading) plain
 
 no_begun : (b past : Bool) (P Q R : Type 0) → past ≡ false → (P → ⊥) → (R → ⊥) → MatchBool b P (MatchBool past Q R) → ⊥
 no_begun true past P Q R e p r h = p h
@@ -56,9 +57,9 @@ no_begun false true P Q R e p r h = cc
 -- an answer to a call that begins nothing gives no begin timestamp
 pub none_begun : (splits : List (List ℕ)) (actor : ActorId) (k : Known) (answer : Answer) → MayTell splits actor k answer → BeginsNothing k → (high_told answer k.high ≡ k.high) × (begun_told answer k.begun ≡ k.begun)
 none_begun splits actor k (answers.Begun id ts) m none =
-    let no : is_begin m.s.call ≡ false = none m.s m.opened in
-    let begins : MayTellBegun actor k m.s id ts → ⊥ = λ b. let e : false ≡ true = sym no ∙ ap is_begin b.asked in cc in
-    absurd (no_begun (needs_txn m.s.call && not k.is_open) (is_past_range m.s) (answers.Begun id ts ≡ answers.NoTxn) (answers.Begun id ts ≡ answers.Clock m.s.reading) (MayTellBegun actor k m.s id ts) (within m.s no) (λ e. cc) begins m.told)
+    let plain : is_begin m.s.call ≡ false = none m.s m.opened in
+    let begins : MayTellBegun actor k m.s id ts → ⊥ = λ b. let e : false ≡ true = sym plain ∙ ap is_begin b.asked in cc in
+    absurd (no_begun (needs_txn m.s.call && not k.is_open) (is_past_range m.s) (answers.Begun id ts ≡ answers.NoTxn) (answers.Begun id ts ≡ answers.Clock m.s.reading) (MayTellBegun actor k m.s id ts) (within m.s plain) (λ e. cc) begins m.told)
 none_begun splits actor k answer m none = (refl, refl)
 
 -- what may be told may be due
@@ -69,7 +70,7 @@ pub no_job : (job : Option Job) (k : Known) → job ≡ None → IfSome job (May
 no_job job k none = subst (λ j. IfSome j (MayFinishJob k)) (sym none) tt
 
 -- an answer is due, after which the transaction stays open
-pub tells_knows : (c : Coordination) (k : Known) (answer : Answer) (x : OpenTxn) → IsReady c k → MayTellOpen c.splits c.session k answer x → BeginsNothing k → Knows (telling answer (Some x) c.job c) k
+pub tells_knows : (c : Coordination) (k : Known) (answer : Answer) (x : OpenTxn) → StandsReady c k → MayTellOpen c.splits c.session k answer x → BeginsNothing k → Knows (telling answer (Some x) c.job c) k
 tells_knows c k answer x r m none =
     let k2 = known_told answer k in
     let e = none_begun c.splits (actors.Session c.session) k answer m.may.may none in
@@ -93,7 +94,7 @@ job_may k None may = tt
 job_may k (Some l) may = may
 
 -- an answer is due that ends the transaction
-pub over_knows : (c : Coordination) (k : Known) (over : Over) → IsReady c k → MayTellOver c.splits c.session k over → BeginsNothing k → Knows (telling over.answer None (job_left over.left) c) k
+pub over_knows : (c : Coordination) (k : Known) (over : Over) → StandsReady c k → MayTellOver c.splits c.session k over → BeginsNothing k → Knows (telling over.answer None (job_left over.left) c) k
 over_knows c k over r m none =
     let k2 = known_told over.answer k in
     let e = none_begun c.splits (actors.Session c.session) k over.answer m.may.may none in

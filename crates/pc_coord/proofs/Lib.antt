@@ -11,3 +11,4 @@ pub mod Ranged
 pub mod Rounds
 pub mod Steps
 pub mod Told
+pub mod Tying

@@ -14,6 +14,7 @@ use Rattle.pc_coord.proofs.Dues.{answered_all}
 use Rattle.pc_coord.specs.Coordination.{Coordination}
 use Rattle.pc_coord.specs.Going.{HearsNow, IsForMany}
 use Rattle.pc_coord.specs.Knows.{is_under_way}
+use Rattle.pc_proto.specs.declared.meta.TxnMeta.{TxnMeta}
 use Rattle.pc_proto.specs.declared.reply.Reply.{Reply}
 use Rattle.pc_proto.specs.declared.reply.Reply.TheVariants as replies
 use Rattle.pc_proto.specs.declared.request.Request.{Request}
@@ -22,6 +23,7 @@ use Rattle.pc_proto.specs.declared.view.View.TheVariants as views
 use Rattle.pc_proto.specs.declared.why.Why.{Why}
 use Rattle.pc_proto.specs.Replies.{is_conflict}
 use Rattle.pc_txn.specs.declared.txn.OpenTxn.{OpenTxn}
+use Rattle.pc_txn.specs.Opened.{meta_now}
 use Rattle.pc_wave.proofs.Changed.{found_passes}
 use Rattle.pc_wave.proofs.Rounds.{due_round, first_found}
 use Rattle.pc_wave.specs.declared.message.Message.{Message}
@@ -49,7 +51,7 @@ module _ {X : Type 0} (test p : X → Bool) (change : X → X) (fails : (x : X) 
       by later false e = and_false (p x) (list_all p (first_changed test change xs)) (later e)
 
 not_answered : (ms : List Message) → list_all has_answer ms ≡ false → step_of ms ≡ steps.Answered → ⊥
-not_answered ms no due = let e : false ≡ true = sym no ∙ answered_all ms due in cc
+not_answered ms some due = let e : false ≡ true = sym some ∙ answered_all ms due in cc
 
 -- what came back with a conflict has no answer
 back_unanswered : (number : ℕ) (reply : Reply) → is_conflict reply ≡ true → (m : Message) → has_answer (back_with number reply m) ≡ false
@@ -60,7 +62,7 @@ pub many_heard : (p : Purpose) (number : ℕ) (reply : Reply) (ms : List Message
 many_heard purposes.Read number reply ms on waits due = tt
 many_heard (purposes.Refresh n) number reply ms on waits due = tt
 many_heard (purposes.Write again) number reply ms on waits due =
-    absurd (not_answered _ (changed_fails (awaits_at number) has_answer (back_with number reply) (back_unanswered number reply on) ms waits) due)
+    absurd (not_answered (first_changed (awaits_at number) (back_with number reply) ms) (changed_fails (awaits_at number) has_answer (back_with number reply) (back_unanswered number reply on) ms waits) due)
 many_heard (purposes.Commit n) number reply ms on waits due = absurd on
 many_heard (purposes.Abort why) number reply ms on waits due = absurd on
 
@@ -151,10 +153,10 @@ module _ (c : Coordination) (call : OpenCall) (x : OpenTxn) (number : ℕ) (repl
   asked_one m one = one_asked c.session is.before c.begun c.splits k x call.purpose call.wave is.counted is.in_call number reply h is.waited is.heard m one
 
   -- the reply to a commit is one that may be given to it
-  pub commit_kind : (n : ℕ) → call.purpose ≡ purposes.Commit n → (meta : _) × (ts : ℕ) × IsCommitReply meta ts reply
+  pub commit_kind : (n : ℕ) → call.purpose ≡ purposes.Commit n → (meta : TxnMeta) × (ts : ℕ) × IsCommitReply meta ts reply
   commit_kind n e =
       let s = served_commit c.splits k x call.purpose call.wave is.in_call n e in
-      (_, x.write_ts, subst (λ r. MayAnswer r reply) (asked_one s.m s.one ∙ s.said) is.heard.kind)
+      (meta_now x s.commits.anchor, x.write_ts, subst (λ r. MayAnswer r reply) (asked_one s.m s.one ∙ s.said) is.heard.kind)
 
   -- that to an abort too
   pub abort_kind : (why : Why) → call.purpose ≡ purposes.Abort why → IsAbortReply reply

@@ -2,7 +2,7 @@
 use Rattle.std.proofs.Common.{◌≡◌, ℕ, ◌+◌, ◌*◌, ◌/◌, ◌^◌, ◌<◌, ◌≤◌, nat_lt, Bool, true, false, not, cond, ◌&&◌, ◌==◌, length, List, [], Option, Some, None, refl, sym, ap, ◌∙◌, subst, arith, All, IsTrue}
 use Rattle.std.specs.Bool.{MatchBool}
 use Rattle.std.specs.Option.{option_map_or}
-use Rattle.std.proofs.lemmas.Bool.{and_parts, le-ltb, lt-ltb, ltb-true}
+use Rattle.std.proofs.lemmas.Bool.{and_parts, le-ltb, lt-ltb, ltb-false, ltb-true}
 use Rattle.std.proofs.lemmas.List.Elements.{All-nil, All-weaker}
 use Rattle.pc_base.specs.Clock.{clock_now}
 use Rattle.pc_base.specs.declared.actor.ActorId.TheVariants as actors
@@ -11,14 +11,14 @@ use Rattle.pc_base.specs.declared.transaction.Priority.{Priority}
 use Rattle.pc_base.specs.declared.transaction.TxnId.{TxnId}
 use Rattle.pc_base.specs.Transaction.{same_txn}
 use Rattle.pc_call.specs.Learned.{known_asked, known_told}
-use Rattle.pc_call.specs.Telling.{MayBeTold, StandsOpen}
+use Rattle.pc_call.specs.Telling.{MayBeTold, StandsOpen, TellsAfterEighth}
 use Rattle.pc_coord.proofs.Counting.{all_heard-more, all_own-more, counted-asked, counted-told}
 use Rattle.pc_coord.proofs.Knowing.{no_job, tellable}
 use Rattle.pc_coord.proofs.Learned.{told_is}
 use Rattle.pc_coord.proofs.Ranged.{ranged_asked}
-use Rattle.pc_coord.specs.Coordination.{Coordination, telling}
+use Rattle.pc_coord.specs.Coordination.{Coordination, beginning, telling, with_clock}
 use Rattle.pc_coord.specs.declared.due.Due.TheVariants as dues
-use Rattle.pc_coord.specs.Going.{IsReady}
+use Rattle.pc_coord.specs.Going.{StandsReady}
 use Rattle.pc_coord.specs.Knows.{IsHeld, Knows, Rests, messages_left}
 use Rattle.pc_coord.specs.Suiting.{SuitsNext}
 use Rattle.pc_lists.proofs.Same.{same_txn-is}
@@ -77,18 +77,19 @@ record IsSimple (answer : Answer) : Type 0 where
   aborts : (k : Known) → AbortsFirst k (events.Tell answer)
   restarts : (k : Known) → RefreshesReads k (events.Tell answer)
   left : (k : Known) → left_by answer k ≡ []
+  eighth : (k : Known) → k.heard_now ≡ [] → (s : Statement) → k.statement ≡ Some s → TellsAfterEighth k s answer
 
 simple_none : IsSimple answers.NoTxn
-simple_none = record { written = λ k. tt; aborts = λ k. tt; restarts = λ k. tt; left = λ k. refl }
+simple_none = record { written = λ k. tt; aborts = λ k. tt; restarts = λ k. tt; left = λ k. refl; eighth = λ k none s opened. none_heard k answers.NoTxn none s opened }
 
 simple_not_yet : IsSimple answers.NotYet
-simple_not_yet = record { written = λ k. tt; aborts = λ k. tt; restarts = λ k. tt; left = λ k. refl }
+simple_not_yet = record { written = λ k. tt; aborts = λ k. tt; restarts = λ k. tt; left = λ k. refl; eighth = λ k none s opened. none_heard k answers.NotYet none s opened }
 
 simple_clock : (reading : ℕ) → IsSimple (answers.Clock reading)
-simple_clock reading = record { written = λ k. tt; aborts = λ k. tt; restarts = λ k. tt; left = λ k. refl }
+simple_clock reading = record { written = λ k. tt; aborts = λ k. tt; restarts = λ k. tt; left = λ k. refl; eighth = λ k none s opened. none_heard k (answers.Clock reading) none s opened }
 
 simple_begun : (id : TxnId) (ts : ℕ) → IsSimple (answers.Begun id ts)
-simple_begun id ts = record { written = λ k. tt; aborts = λ k. tt; restarts = λ k. tt; left = λ k. refl }
+simple_begun id ts = record { written = λ k. tt; aborts = λ k. tt; restarts = λ k. tt; left = λ k. refl; eighth = λ k none s opened. none_heard k (answers.Begun id ts) none s opened }
 
 new_commit : (id : TxnId) (P : SentCommit → Type 0) (begun : ℕ) (request : Request) → begun < id.number → IsOwnWrite begun request → OnCommit id P request
 new_commit id P begun (requests.Commit meta ts locks) new own = λ same. let e : meta.id.number ≡ id.number = ap (λ i. i.number) (same_txn-is meta.id id same) in absurd (omega arith)
@@ -103,7 +104,7 @@ about_same : (id : TxnId) (o : Option TxnId) → option_map_or (λ other. same_t
 about_same id None e = absurd cc
 about_same id (Some other) e = ap Some (same_txn-is other id e)
 
-module _ (c : Coordination) (k : Known) (r : IsReady c k) (none_open : k.statement ≡ None) (closed : k.is_open ≡ false) (unheld : c.txn ≡ None) where
+module _ (c : Coordination) (k : Known) (r : StandsReady c k) (closed : k.is_open ≡ false) (unheld : c.txn ≡ None) where
   -- a call is told where no transaction is open
   told_outside : (call : Call) (reading : ℕ) (answer : Answer) → IsSimple answer → MayTellIn c.splits (actors.Session c.session) (known_asked call reading k) (record { call = call; reading = reading }) answer
       → is_open_told answer k.is_open ≡ k.is_open → high_told answer k.high ≡ k.high → begun_told answer k.begun ≡ k.begun → Knows (telling answer c.txn c.job c) (known_asked call reading k)
@@ -119,7 +120,7 @@ module _ (c : Coordination) (k : Known) (r : IsReady c k) (none_open : k.stateme
                 written = simple.written k2;
                 aborts = simple.aborts k2;
                 restarts = simple.restarts k2;
-                eighth = none_heard k2 answer refl;
+                eighth = simple.eighth k2 refl;
               }) (ap messages_left r.handed ∙ sym (simple.left k2)) (λ s is. subst (λ txn. SuitsNext answer s.call txn) (sym unheld) tt);
           after =
               subst (λ k. Rests c.session c.clock c.begun c.txn c.job k) (sym (told_is answer k2))
@@ -212,8 +213,7 @@ module _ (c : Coordination) (k : Known) (r : IsReady c k) (none_open : k.stateme
     held = record { t = t; open_in = record { others = k.txns; is_open = refl; first = refl }; stands = stands; cause = refl; low = All-nil (λ ts. ts ≤ k3.top + 1) }
 
     -- a begin within it
-    pub begins : (reading ≤ GREATEST_READING)
-        → Knows (record c { clock = ts; begun = c.begun + 1; txn = Some x; due = dues.Tell answer }) k2
+    pub begins : reading ≤ GREATEST_READING → Knows (beginning priority reading ts (with_clock ts c)) k2
     begins within = record {
       rising = r.rising;
       ranged = ranged_asked c.splits k r.ranged (calls.Begin priority) reading;
@@ -237,3 +237,18 @@ module _ (c : Coordination) (k : Known) (r : IsReady c k) (none_open : k.stateme
             (record { counted = counted; none_open = refl; held = held; left = no_job c.job k3 r.handed });
       };
     }
+
+-- a begin at the timestamp that the clock gave
+pub begun_knows : (c now : Coordination) (k : Known) (priority : Priority) (reading ts : ℕ) → StandsReady c k → k.is_open ≡ false → c.txn ≡ None → now ≡ with_clock ts c → ts ≡ clock_now reading c.clock → reading ≤ GREATEST_READING
+    → Knows (beginning priority reading ts now) (known_asked (calls.Begin priority) reading k)
+begun_knows c now k priority reading ts r closed unheld given at within =
+    subst (λ n. Knows (beginning priority reading ts n) (known_asked (calls.Begin priority) reading k)) (sym given)
+    (subst (λ t. Knows (beginning priority reading t (with_clock t c)) (known_asked (calls.Begin priority) reading k)) (sym at) (begins c k r closed unheld priority reading within))
+
+-- a reading that is not past the clock's range is within it
+pub within_range : (reading : ℕ) → (GREATEST_READING < reading → ⊥) → reading ≤ GREATEST_READING
+within_range reading not = by (nat_lt GREATEST_READING reading) refl
+  where
+    by : (b : Bool) → nat_lt GREATEST_READING reading ≡ b → reading ≤ GREATEST_READING
+    by true e = absurd (not (ltb-true GREATEST_READING reading e))
+    by false e = ltb-false GREATEST_READING reading e

@@ -47,10 +47,7 @@ module _ (splits : List (List ℕ)) where
       All-cons (λ (r : Read). LiesInOne splits r.span) (record { span = One key; ts = ts }) [] (range_of splits key, refl) (All-nil (λ (r : Read). LiesInOne splits r.span))
   read_in_one (requests.Scan id epoch seq ts span) (replies.Rows rows) one =
       All-cons (λ (r : Read). LiesInOne splits r.span) (record { span = span; ts = ts }) [] one (All-nil (λ (r : Read). LiesInOne splits r.span))
-  read_in_one request reply one = none request reply
-    where
-      none : (request : Request) (reply : Reply) → All (λ r. LiesInOne splits r.span) (read_heard request reply)
-      none request reply = cc
+  read_in_one request reply one = All-nil (λ (r : Read). LiesInOne splits r.span)
 
   reads_in_one : (hs : List Heard) → All (λ h. IsForOne splits h.request) hs → All (λ r. LiesInOne splits r.span) (reads_heard hs)
   reads_in_one [] a = All-nil (λ (r : Read). LiesInOne splits r.span)

@@ -1,5 +1,5 @@
 -- A coordinator is asked, sends, hears, and settles a round: what holds before its call goes on.
-use Rattle.std.proofs.Common.{◌≡◌, ℕ, max, Bool, true, false, cond, ◌||◌, ◌&&◌, ◌==◌, List, [], ◌∷◌, find, Option, Some, None, IfSome, refl, sym, ap, ◌∙◌, subst, arith, Unit, OnOk, Ok, Err, Result, IsTrue}
+use Rattle.std.proofs.Common.{◌≡◌, ℕ, max, Bool, true, false, cond, ◌||◌, ◌&&◌, ◌==◌, List, [], ◌∷◌, find, Option, Some, None, IfSome, refl, sym, ap, ◌∙◌, subst, arith, OnOk, Ok, Err, Result, IsTrue}
 use Rattle.std.specs.List.{list_all, list_any}
 use Rattle.std.proofs.lemmas.Option.{same_Some}
 use Rattle.pc_base.specs.declared.memory.NoMemory.{NoMemory}
@@ -27,8 +27,8 @@ use Rattle.pc_coord.specs.declared.next.Next.TheVariants as nexts
 use Rattle.pc_coord.specs.declared.round.Round.{Round}
 use Rattle.pc_coord.specs.declared.round.Round.TheVariants as rounds
 use Rattle.pc_coord.specs.Events.{HearsAwaited, IsAsked, SendsDue}
-use Rattle.pc_coord.specs.Going.{HasHadRound, HearsNow, IsReady}
-use Rattle.pc_coord.specs.Knows.{IsCalling, IsHeld, Knows, KnowsAt, Rests, is_under_way}
+use Rattle.pc_coord.specs.Going.{HasHadRound, HearsNow, StandsReady}
+use Rattle.pc_coord.specs.Knows.{HasCallDue, IsHeld, Knows, KnowsAt, Rests, is_under_way}
 use Rattle.pc_coord.specs.Rounds.{EndsRound}
 use Rattle.pc_coord.specs.Suiting.{Suits}
 use Rattle.pc_history.specs.declared.pair.Pair.{Pair}
@@ -56,7 +56,7 @@ on_ok (Ok u) P Q f p = f p
 on_ok (Err e) P Q f p = tt
 
 -- a coordinator at rest is ready for a call
-pub ready : (c : Coordination) (k : Known) (txn : Option OpenTxn) → Knows c k → k.statement ≡ None → c.job ≡ None → IsReady (record c { txn = txn }) k
+pub ready : (c : Coordination) (k : Known) (txn : Option OpenTxn) → Knows c k → k.statement ≡ None → c.job ≡ None → StandsReady (record c { txn = txn }) k
 ready c k txn knows none handed = let r = rests c k knows none in record { rising = knows.rising; ranged = knows.ranged; counted = r.counted; handed = handed }
 
 pub closed : (c : Coordination) (k : Known) → Knows c k → k.statement ≡ None → c.txn ≡ None → k.is_open ≡ false
@@ -171,11 +171,11 @@ none_next c (dues.Call call) unheld is reader number conflict next = let e = sym
 none_next c (dues.Tell answer) unheld is reader number conflict next = let e = sym (ap (λ d. next_at c.txn d) is) ∙ next in cc
 
 -- what is known while a call is open
-pub calls : (c : Coordination) (k : Known) (call : OpenCall) → Knows c k → c.due ≡ dues.Call call → IsCalling c k call
+pub calls : (c : Coordination) (k : Known) (call : OpenCall) → Knows c k → c.due ≡ dues.Call call → HasCallDue c k call
 calls c k call knows due = subst (λ d. KnowsAt c k d) due knows.stands
 
 module _ (c : Coordination) (k : Known) (x : OpenTxn) (call : OpenCall) (knows : Knows c k) (held : c.txn ≡ Some x) (due : c.due ≡ dues.Call call) where
-  now : IsCalling c k call
+  now : HasCallDue c k call
   now = calls c k call knows due
 
   -- of this transaction
@@ -195,13 +195,13 @@ module _ (c : Coordination) (k : Known) (x : OpenTxn) (call : OpenCall) (knows :
       (record { rising = knows.rising; ranged = ranged_sent c.splits k knows.ranged number range request (sends_one c.splits k x call.purpose call.wave knows.rising knows.ranged in_call request step); stands = record { counted = counted; x = x2; held = refl; in_call = w; on = awaits_way number call2.wave waits; handed = now.handed } })
 
   module _ (p : Pair Event) (number step : ℕ) (reply : Reply) (is : HearsAwaited c number step reply k p) where
-    waits : wave_awaits number call.wave ≡ true
+    abbrev waits : wave_awaits number call.wave ≡ true
     waits = sym (ap (awaits_number number) due) ∙ is.waited
 
-    out : (r : Request) × (request_sent number k.sent ≡ Some r)
+    abbrev out : (r : Request) × (request_sent number k.sent ≡ Some r)
     out = let o = awaited_out k number call.wave in_call.wave.stand waits in (o.0, o.1.out.said)
 
-    pub h : Heard
+    abbrev pub h : Heard
     h = record { number = number; request = out.0; reply = reply; step = step }
 
     pub heard_is : learn p k ≡ known_heard h k
@@ -225,7 +225,7 @@ module _ (c : Coordination) (k : Known) (x : OpenTxn) (call : OpenCall) (knows :
 
 module _ (c : Coordination) (start k : Known) (x : OpenTxn) (call : OpenCall) (knows : Knows c start) (held : c.txn ≡ Some x) (due : c.due ≡ dues.Call call) (later : IsLaterBeside c start k) where
   -- after a round the coordinator is ready for what follows
-  pub settles : (txn : Option OpenTxn) (rest : Due) → IsReady (record (with_clock k.high c) { txn = txn; due = rest }) k
+  pub settles : (txn : Option OpenTxn) (rest : Due) → StandsReady (record (with_clock k.high c) { txn = txn; due = rest }) k
   settles txn rest =
       let n = calls c start call knows due in
       record { rising = knows.rising; ranged = ranged-beside c c.splits start k later knows.ranged; counted = counted-beside c start k later n.counted; handed = n.handed }

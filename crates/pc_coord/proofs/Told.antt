@@ -1,5 +1,5 @@
 -- A coordinator at its beginning, what it gives, and once its call was told what is due.
-use Rattle.std.proofs.Common.{◌≡◌, ℕ, Bool, true, false, ◌||◌, ◌==◌, List, find, Option, Some, None, IfOk, IfSome, Ok, Err, Result, refl, sym, ap, ◌∙◌, subst, arith, is_some, IsTrue}
+use Rattle.std.proofs.Common.{◌≡◌, ℕ, Bool, true, false, ◌||◌, ◌==◌, List, [], ◌∷◌, find, Option, Some, None, IfOk, IfSome, Ok, Err, Result, refl, sym, ap, ◌∙◌, subst, arith, is_some, IsTrue}
 use Rattle.std.proofs.lemmas.List.Elements.{All-nil}
 use Rattle.std.specs.List.{list_any}
 use Rattle.std.proofs.lemmas.Bool.{eq-eqb}
@@ -24,7 +24,7 @@ use Rattle.pc_coord.specs.declared.next.Next.{Next}
 use Rattle.pc_coord.specs.declared.next.Next.TheVariants as nexts
 use Rattle.pc_coord.specs.declared.pusher.Pusher.{Pusher}
 use Rattle.pc_coord.specs.Events.{IsTold}
-use Rattle.pc_coord.specs.Knows.{AwaitsNone, IsCalling, IsHeld, Knows, KnowsAt, MayCome, MayFinishJob, Rests, is_under_way, learned}
+use Rattle.pc_coord.specs.Knows.{AwaitsNone, HasCallDue, IsHeld, Knows, KnowsAt, MayCome, MayFinishJob, Rests, is_under_way, learned}
 use Rattle.pc_coord.specs.Pusher.{IsPusherOf, pusher_of}
 use Rattle.pc_coord.specs.Ranged.{IsRanged, ReadsInOne}
 use Rattle.pc_history.specs.declared.pair.Pair.{Pair}
@@ -124,7 +124,7 @@ some_out (m ∷ ms) e = by (some_out ms) (is_out m) refl e
     by later false is e = let a = later e in (a.0, or_right (awaits_at a.0 m) (wave_awaits a.0 ms) a.1)
 
 module _ (c : Coordination) (k : Known) (call : OpenCall) (knows : Knows c k) (due : c.due ≡ dues.Call call) where
-  at : IsCalling c k call
+  at : HasCallDue c k call
   at = subst (λ d. KnowsAt c k d) due knows.stands
 
   waits_at : (number : ℕ) → IsTrue (awaits_number number c.due) → wave_awaits number call.wave ≡ true
@@ -143,7 +143,7 @@ module _ (c : Coordination) (k : Known) (call : OpenCall) (knows : Knows c k) (d
   step_comes steps.Answered is on given = absurd on
 
   given_now : MayBeGiven c.session c.splits k at.x call.purpose call.wave (step_of call.wave)
-  given_now = step_given c.session c.clock c.begun c.splits k at.x call.purpose call.wave at.counted at.in_call {NoMemory} (Ok (step_of call.wave)) refl
+  given_now = step_given c.session c.clock c.begun c.splits k at.x call.purpose call.wave at.counted at.in_call {E = NoMemory} (Ok (step_of call.wave)) refl
 
   call_comes : MayCome c k (next_in c.txn call)
   call_comes = subst (λ txn. MayCome c k (next_in txn call)) (sym at.held) (step_comes (step_of call.wave) refl at.on given_now)

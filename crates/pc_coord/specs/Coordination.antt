@@ -1,18 +1,25 @@
 -- A coordinator as contracts see it, and what it gives next.
-use Rattle.std.specs.Prelude.{ℕ, Bool, false, Option, None, Some, List}
+use Rattle.std.specs.Prelude.{ℕ, ◌+◌, Bool, false, Option, None, Some, List, []}
+use Rattle.pc_base.specs.declared.transaction.Priority.{Priority}
+use Rattle.pc_base.specs.declared.transaction.TxnId.{TxnId}
 use Rattle.pc_call.specs.declared.call.OpenCall.{OpenCall}
 use Rattle.pc_call.specs.declared.over.Left.{Left}
 use Rattle.pc_call.specs.Opening.{reader_of}
 use Rattle.pc_coord.specs.declared.due.Due.{Due}
 use Rattle.pc_coord.specs.declared.due.Due.TheVariants as dues
+use Rattle.pc_coord.specs.declared.due.Opened.{Opened}
 use Rattle.pc_coord.specs.declared.job.Job.{Job}
 use Rattle.pc_coord.specs.declared.next.Next.{Next}
 use Rattle.pc_coord.specs.declared.next.Next.TheVariants as nexts
 use Rattle.pc_proto.specs.declared.answer.Answer.{Answer}
+use Rattle.pc_proto.specs.declared.answer.Answer.TheVariants as answers
+use Rattle.pc_proto.specs.declared.why.Why.TheVariants as whys
 use Rattle.pc_txn.specs.declared.txn.OpenTxn.{OpenTxn}
+use Rattle.pc_txn.specs.Opened.{opened_as}
 use Rattle.pc_wave.specs.declared.step.Step.{Step}
 use Rattle.pc_wave.specs.declared.step.Step.TheVariants as steps
 use Rattle.pc_wave.specs.Messages.{step_of, wave_awaits}
+use Rattle.pc_world.specs.Known.Transactions.{begun}
 
 -- A coordinator: its session and the keys at which the ranges are cut; the greatest timestamp heard or given; how many
 -- transactions were begun; the open transaction; what is due; and what is left to be done of the last transaction that ended. While an
@@ -77,6 +84,27 @@ calling call x c = record c { txn = Some x; due = dues.Call call }
 abbrev pub job_left : Option Left → Option Job
 job_left None = None
 job_left (Some l) = Some (record { meta = l.meta; staged = None; fate = l.fate; locks = l.locks })
+
+-- A transaction begins at this timestamp, which the clock gave, and its call is to be told so.
+abbrev pub beginning : Priority → ℕ → ℕ → Coordination → Coordination
+beginning priority reading ts c =
+    let id : TxnId = record { session = c.session; number = c.begun + 1 } in
+    record c { begun = c.begun + 1; txn = Some (opened_as whys.Client [] None (begun id priority reading ts)); due = dues.Tell (answers.Begun id ts) }
+
+-- The open transaction was taken out.
+abbrev pub without_txn : Coordination → Coordination
+without_txn c = record c { txn = None }
+
+-- The open call and its transaction were taken out.
+abbrev pub without_call : Coordination → Coordination
+without_call c = record c { txn = None; due = dues.Nothing }
+
+-- The open call, where there is one, with its transaction.
+abbrev pub opened_by : Option OpenTxn → Due → Option Opened
+opened_by None due = None
+opened_by (Some x) dues.Nothing = None
+opened_by (Some x) (dues.Call call) = Some (record { call = call; txn = x })
+opened_by (Some x) (dues.Tell answer) = None
 
 -- This is to be told, and then this is the open transaction, and this is left to be done.
 abbrev pub telling : Answer → Option OpenTxn → Option Job → Coordination → Coordination

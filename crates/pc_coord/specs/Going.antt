@@ -13,6 +13,7 @@ use Rattle.pc_coord.specs.declared.round.Round.{Round}
 use Rattle.pc_coord.specs.Ranged.{IsRanged}
 use Rattle.pc_coord.specs.declared.round.Round.TheVariants as rounds
 use Rattle.pc_proto.specs.declared.reply.Reply.{Reply}
+use Rattle.pc_proto.specs.declared.why.Why.{Why}
 use Rattle.pc_txn.specs.Counted.{IsCounted}
 use Rattle.pc_txn.specs.declared.txn.OpenTxn.{OpenTxn}
 use Rattle.pc_wave.specs.Messages.{wave_awaits}
@@ -24,7 +25,7 @@ use Rattle.pc_world.specs.MayTell.{is_begin}
 use Rattle.pc_world.specs.Tell.Refusal.{WasLost}
 
 -- The coordinator counts as its session does, of which each message was for one range, and nothing is left of an earlier transaction.
-pub record IsReady (c : Coordination) (k : Known) : Type 0 where
+pub record StandsReady (c : Coordination) (k : Known) : Type 0 where
   pub rising : AreRising c.splits
   pub ranged : IsRanged c.splits k
   pub counted : IsCounted c.session c.clock c.begun k
@@ -47,10 +48,14 @@ pub record HearsNow (c : Coordination) (call : OpenCall) (x : OpenTxn) (number :
   pub in_call : InCall c.splits k x call.purpose call.wave
   pub waited : wave_awaits number call.wave ≡ true
   pub heard : IsHeardTo k number reply h
-  pub ready : IsReady c (known_heard h k)
+  pub ready : StandsReady c (known_heard h k)
 
 -- Since then the round of this conflict was made beside the open call, whose transaction has this name, and ended so.
 abbrev pub HasHadRound : Round → Known → Known → TxnId → Reply → Type 0
 HasHadRound rounds.Again start k own conflict = MakesRound start k own conflict
 HasHadRound rounds.Refused start k own conflict = RefusesRound start k own conflict
 HasHadRound (rounds.Lost faults) start k own conflict = GoesOnBeside start k own × WasLost k faults
+
+-- The transaction, of which a rollback is caused by this.
+abbrev pub caused : Why → OpenTxn → OpenTxn
+caused why x = record x { cause = why }

@@ -73,7 +73,7 @@ is_under_way (steps.Blocked holder) = ⊥
 is_under_way steps.Answered = ⊥
 
 -- The messages of the open call stand beside what the session knows, and more is due of them; nothing is left of an earlier transaction.
-pub record IsCalling (c : Coordination) (k : Known) (call : OpenCall) : Type 0 where
+pub record HasCallDue (c : Coordination) (k : Known) (call : OpenCall) : Type 0 where
   pub counted : IsCounted c.session c.clock c.begun k
   pub x : OpenTxn
   pub held : c.txn ≡ Some x
@@ -99,7 +99,7 @@ pub record TellsNow (c : Coordination) (k : Known) (answer : Answer) : Type 0 wh
 -- How the coordinator stands beside what its session knows, by what is due.
 abbrev pub KnowsAt : Coordination → Known → Due → Type 0
 KnowsAt c k dues.Nothing = Rests c.session c.clock c.begun c.txn c.job k
-KnowsAt c k (dues.Call call) = IsCalling c k call
+KnowsAt c k (dues.Call call) = HasCallDue c k call
 KnowsAt c k (dues.Tell answer) = TellsNow c k answer
 
 -- The coordinator knows what its session knows, of which each message was for one range. What is due may be sent or told, and once it is, the

@@ -3,6 +3,7 @@ pub mod Beside
 pub mod Coordination
 pub mod Events
 pub mod Going
+pub mod Kinds
 pub mod Knows
 pub mod Laws
 pub mod Pusher

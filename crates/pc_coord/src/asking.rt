@@ -1,82 +1,116 @@
-ghost use Rattle.std.specs.Prelude.{◌≡◌, ℕ, false, Option, None, Some, OnOk};
+ghost use Rattle.std.specs.Prelude.{◌≡◌, ℕ, ◌+◌, ◌<◌, ◌↔◌, false, List, Option, None, Some, IfErr, IfOk, IsErr, OnErr, OnOk};
+ghost use Rattle.pc_base.specs.Clock.{clock_now};
+ghost use Rattle.pc_base.specs.declared.limits.TheConstants.{GREATEST_READING};
+ghost use Rattle.pc_base.specs.Timestamp.{greatest};
 ghost use Rattle.pc_call.specs.Fresh.{IsFresh};
 ghost use Rattle.pc_call.specs.Learned.{known_asked};
-ghost use Rattle.pc_call.specs.Serving.{write_call};
+ghost use Rattle.pc_call.specs.Serving.{InCall, write_call};
 ghost use Rattle.pc_call.specs.Suiting.{SuitsFlight};
 ghost use Rattle.pc_call.specs.Telling.{StandsOpen};
-ghost use Rattle.pc_coord.specs.Coordination.{Coordination};
-ghost use Rattle.pc_coord.specs.Going.{IsReady};
+ghost use Rattle.pc_coord.specs.Coordination.{beginning, telling, with_clock};
+ghost use Rattle.pc_coord.specs.Going.{StandsReady, caused};
 ghost use Rattle.pc_coord.specs.Knows.{Knows};
 ghost use Rattle.pc_proto.specs.declared.call.Call.TheVariants as calls;
 ghost use Rattle.pc_proto.specs.declared.why.Why.{Why};
+ghost use Rattle.pc_proto.specs.declared.why.Why.TheVariants as whys;
 ghost use Rattle.pc_world.specs.Known.{Known};
 ghost use Rattle.pc_world.specs.Known.Statements.{Statement};
 ghost use Rattle.pc_world.specs.Local.{is_outside, is_round};
 
 use crate::coordinator::Coordinator;
 use crate::due::Due;
-use pc_base::{Key, NoMemory, Priority, Span, TryCopy, TxnId, Value};
+use crate::kinds::{begins_at, told_outside};
+use pc_base::{Key, NoMemory, Priority, Span, Timestamp, TryCopy, TxnId, Value};
 use pc_call::OpenCall;
+use pc_hlc::ClockRange;
 use pc_proto::{Answer, Call, Why};
 use pc_refusals::Refusals;
 use pc_txn::OpenTxn;
+use std::alloc::Global;
 use std::mem;
 
 impl<'a> Coordinator<'a> {
     /// A call is asked where no transaction is open.
     pub(crate) fn ask_outside(&mut self, call: &Call, reading: u64) -> Result<(), NoMemory>
-        ensures knows { (k : Known) → IsReady self.old k → k.statement ≡ None → k.is_open ≡ false → self.old.txn ≡ None → is_round call.now ≡ false → OnOk result (Knows self.new (known_asked call.now reading k)) }
+        ensures knows { (k : Known) → StandsReady self.old k → k.statement ≡ None → k.is_open ≡ false → self.old.txn ≡ None → is_round call.now ≡ false → OnOk result (Knows self.new (known_asked call.now reading k)) }
         ensures session { self.new.session ≡ self.old.session }
         ensures splits { self.new.splits ≡ self.old.splits }
     {
-        match call {
-            Call::Begin(priority) => return self.begin(*priority, reading),
-            Call::Learn(_) => self.due = Due::Tell(Answer::NotYet),
-            _ => self.due = Due::Tell(Answer::NoTxn),
+        let begins = begins_at(call);
+        match begins {
+            Some(priority) => self.begin(priority, reading),
+            None => {
+                self.answer(told_outside(call));
+                Ok(())
+            }
         }
-        Ok(())
+    }
+
+    /// The call is to be told this, and nothing else changes.
+    fn answer(&mut self, answer: Answer)
+        ensures { self.new ≡ telling answer self.old.txn self.old.job self.old }
+    {
+        self.due = Due::Tell(answer);
     }
 
     /// A transaction begins at the clock's time. Refused where the session's numbers or timestamps are used up.
     fn begin(&mut self, priority: Priority, reading: u64) -> Result<(), NoMemory>
-        ensures knows { (k : Known) → IsReady self.old k → k.statement ≡ None → k.is_open ≡ false → self.old.txn ≡ None → OnOk result (Knows self.new (known_asked (calls.Begin priority) reading k)) }
+        ensures knows { (k : Known) → StandsReady self.old k → k.statement ≡ None → k.is_open ≡ false → self.old.txn ≡ None → OnOk result (Knows self.new (known_asked (calls.Begin priority) reading k)) }
         ensures session { self.new.session ≡ self.old.session }
         ensures splits { self.new.splits ≡ self.old.splits }
     {
         if self.clock.is_used_up() || self.begun == u32::MAX {
             return Err(NoMemory);
         }
-        match self.clock.now(reading) {
-            Err(fault) => {
-                self.due = Due::Tell(Answer::Clock {
-                    reading: fault.reading,
-                });
-            }
-            Ok(ts) => {
-                let number = self.begun + 1;
-                let id = TxnId {
-                    session: self.session,
-                    number,
-                };
-                self.begun = number;
-                self.txn = Some(OpenTxn::new(self.alloc, id, priority, reading, ts));
-                self.due = Due::Tell(Answer::Begun { id, ts });
-            }
+        let time = self.now(reading);
+        match time {
+            Err(fault) => self.answer(Answer::Clock {
+                reading: fault.reading,
+            }),
+            Ok(ts) => self.begin_now(priority, reading, self.begun + 1, ts),
         }
         Ok(())
     }
 
+    fn now(&mut self, reading: u64) -> Result<Timestamp, ClockRange>
+        requires { self.old.clock < greatest }
+        ensures refused { IsErr result ↔ GREATEST_READING < reading }
+        ensures fault { IfErr result (λ fault. fault.reading ≡ reading) }
+        ensures kept { OnErr result (self.new ≡ self.old) }
+        ensures value { IfOk result (λ ts. ts ≡ clock_now reading self.old.clock) }
+        ensures given { IfOk result (λ ts. self.new ≡ with_clock ts self.old) }
+    {
+        self.clock.now(reading)
+    }
+
+    /// A transaction begins at this timestamp.
+    fn begin_now(&mut self, priority: Priority, reading: u64, number: u32, ts: Timestamp)
+        requires { number ≡ self.old.begun + 1 }
+        ensures { self.new ≡ beginning priority reading ts self.old }
+    {
+        let id = TxnId {
+            session: self.session,
+            number,
+        };
+        self.begun = number;
+        self.txn = Some(OpenTxn::new(self.alloc, id, priority, reading, ts));
+        self.due = Due::Tell(Answer::Begun { id, ts });
+    }
+
     /// A call is asked while this transaction is open.
     pub(crate) fn ask_inside(&mut self, call: &Call, mut txn: OpenTxn) -> Result<(), NoMemory>
-        ensures knows { (k : Known) (reading : ℕ) → IsReady self.old k → k.statement ≡ None → StandsOpen k txn → SuitsFlight call.now txn.in_flight → is_outside call.now ≡ false → is_round call.now ≡ false → OnOk result (Knows self.new (known_asked call.now reading k)) }
+        ensures knows { (k : Known) (reading : ℕ) → StandsReady self.old k → k.statement ≡ None → StandsOpen k txn → SuitsFlight call.now txn.in_flight → is_outside call.now ≡ false → is_round call.now ≡ false → OnOk result (Knows self.new (known_asked call.now reading k)) }
         ensures session { self.new.session ≡ self.old.session }
         ensures splits { self.new.splits ≡ self.old.splits }
     {
-        let why = mem::replace(&mut txn.cause, Why::Client);
+        let why = take_cause(&mut txn);
         match call {
             Call::Get(key) => self.get(txn, key),
             Call::Scan(span) => self.scan(txn, span),
-            Call::Put(key, value) => self.write(txn, key, &Some(value.copy()?)),
+            Call::Put(key, value) => {
+                let laid = value.copy()?;
+                self.write(txn, key, &Some(laid))
+            }
             Call::Delete(key) => self.write(txn, key, &None),
             Call::Commit => self.commit(txn),
             Call::Rollback => self.roll_back(txn, why),
@@ -85,7 +119,7 @@ impl<'a> Coordinator<'a> {
     }
 
     fn get(&mut self, txn: OpenTxn, key: &Key) -> Result<(), NoMemory>
-        ensures knows { (k : Known) (s : Statement) (why : Why) → IsReady self.old k → IsFresh k txn s why → s.call ≡ calls.Get key.now → txn.in_flight ≡ None → OnOk result (Knows self.new k) }
+        ensures knows { (k : Known) (s : Statement) (why : Why) → StandsReady self.old k → IsFresh k txn s why → s.call ≡ calls.Get key.now → txn.in_flight ≡ None → OnOk result (Knows self.new k) }
         ensures session { self.new.session ≡ self.old.session }
         ensures splits { self.new.splits ≡ self.old.splits }
     {
@@ -94,7 +128,7 @@ impl<'a> Coordinator<'a> {
     }
 
     fn scan(&mut self, txn: OpenTxn, span: &Span) -> Result<(), NoMemory>
-        ensures knows { (k : Known) (s : Statement) (why : Why) → IsReady self.old k → IsFresh k txn s why → s.call ≡ calls.Scan span.now → txn.in_flight ≡ None → OnOk result (Knows self.new k) }
+        ensures knows { (k : Known) (s : Statement) (why : Why) → StandsReady self.old k → IsFresh k txn s why → s.call ≡ calls.Scan span.now → txn.in_flight ≡ None → OnOk result (Knows self.new k) }
         ensures session { self.new.session ≡ self.old.session }
         ensures splits { self.new.splits ≡ self.old.splits }
     {
@@ -104,42 +138,98 @@ impl<'a> Coordinator<'a> {
 
     /// The call writes; no value is a deletion. A write that is in flight, which is the same one, goes out again first.
     fn write(&mut self, txn: OpenTxn, key: &Key, value: &Option<Value>) -> Result<(), NoMemory>
-        ensures knows { (k : Known) (s : Statement) (why : Why) → IsReady self.old k → IsFresh k txn s why → s.call ≡ write_call key.now value.now → SuitsFlight (write_call key.now value.now) txn.in_flight → OnOk result (Knows self.new k) }
+        ensures knows { (k : Known) (s : Statement) (why : Why) → StandsReady self.old k → IsFresh k txn s why → s.call ≡ write_call key.now value.now → SuitsFlight (write_call key.now value.now) txn.in_flight → OnOk result (Knows self.new k) }
         ensures session { self.new.session ≡ self.old.session }
         ensures splits { self.new.splits ≡ self.old.splits }
     {
-        let put = match (&txn.in_flight, &txn.anchor) {
-            (Some(_), Some(anchor)) => {
-                OpenCall::write_again(self.alloc, &txn, anchor, key, value)?
-            }
-            _ => OpenCall::write(self.alloc, &txn, key, value)?,
-        };
+        let put = lay(self.alloc, &txn, key, value)?;
         self.go_on(put, txn)
     }
 
     fn commit(&mut self, txn: OpenTxn) -> Result<(), NoMemory>
-        ensures knows { (k : Known) (s : Statement) (why : Why) → IsReady self.old k → IsFresh k txn s why → s.call ≡ calls.Commit → txn.in_flight ≡ None → OnOk result (Knows self.new k) }
+        ensures knows { (k : Known) (s : Statement) (why : Why) → StandsReady self.old k → IsFresh k txn s why → s.call ≡ calls.Commit → txn.in_flight ≡ None → OnOk result (Knows self.new k) }
         ensures session { self.new.session ≡ self.old.session }
         ensures splits { self.new.splits ≡ self.old.splits }
     {
-        if txn.anchor.is_none() {
-            self.finish(OpenCall::commit_unwritten(txn));
-            return Ok(());
+        match &txn.anchor {
+            Some(_) => self.commit_written(txn),
+            None => {
+                self.finish(OpenCall::commit_unwritten(txn));
+                Ok(())
+            }
         }
+    }
+
+    fn commit_written(&mut self, txn: OpenTxn) -> Result<(), NoMemory>
+        ensures knows { (k : Known) (s : Statement) (why : Why) (anchor : List ℕ) → StandsReady self.old k → IsFresh k txn s why → s.call ≡ calls.Commit → txn.in_flight ≡ None → txn.anchor ≡ Some anchor → OnOk result (Knows self.new k) }
+        ensures session { self.new.session ≡ self.old.session }
+        ensures splits { self.new.splits ≡ self.old.splits }
+    {
         let call = OpenCall::commits(self.alloc, &txn, Refusals::new())?;
         self.go_on(call, txn)
     }
 
     fn roll_back(&mut self, txn: OpenTxn, why: Why) -> Result<(), NoMemory>
-        ensures knows { (k : Known) (s : Statement) → IsReady self.old k → IsFresh k txn s why → s.call ≡ calls.Rollback → OnOk result (Knows self.new k) }
+        ensures knows { (k : Known) (s : Statement) → StandsReady self.old k → IsFresh k txn s why → s.call ≡ calls.Rollback → OnOk result (Knows self.new k) }
         ensures session { self.new.session ≡ self.old.session }
         ensures splits { self.new.splits ≡ self.old.splits }
     {
-        if let Some(anchor) = &txn.anchor {
-            let call = OpenCall::abort(self.alloc, &txn, anchor, why)?;
-            return self.go_on(call, txn);
+        match &txn.anchor {
+            Some(_) => self.abort(txn, why),
+            None => {
+                self.finish(OpenCall::roll_back_unwritten(txn, why));
+                Ok(())
+            }
         }
-        self.finish(OpenCall::roll_back_unwritten(txn, why));
-        Ok(())
     }
+
+    fn abort(&mut self, txn: OpenTxn, why: Why) -> Result<(), NoMemory>
+        ensures knows { (k : Known) (s : Statement) → StandsReady self.old k → IsFresh k txn s why → s.call ≡ calls.Rollback → OnOk result (Knows self.new k) }
+        ensures session { self.new.session ≡ self.old.session }
+        ensures splits { self.new.splits ≡ self.old.splits }
+    {
+        let call = abort_of(self.alloc, &txn, why)?;
+        self.go_on(call, txn)
+    }
+}
+
+fn abort_of(alloc: Global, txn: &OpenTxn, why: Why) -> Result<OpenCall, NoMemory>
+    ensures stands { (splits : List (List ℕ)) (k : Known) (s : Statement) → IsFresh k txn.now s why → s.call ≡ calls.Rollback → IfOk result (λ call. InCall splits k txn.now call.purpose call.wave) }
+{
+    match &txn.anchor {
+        Some(anchor) => OpenCall::abort(alloc, txn, anchor, why),
+        None => Err(NoMemory),
+    }
+}
+
+/// The messages of a call that writes; no value is a deletion. A write that is in flight, which is the same one, goes out again first.
+fn lay(alloc: Global, txn: &OpenTxn, key: &Key, value: &Option<Value>) -> Result<OpenCall, NoMemory>
+    ensures stands { (splits : List (List ℕ)) (k : Known) (s : Statement) (why : Why) → IsFresh k txn.now s why → s.call ≡ write_call key.now value.now → SuitsFlight (write_call key.now value.now) txn.now.in_flight → IfOk result (λ call. InCall splits k txn.now call.purpose call.wave) }
+{
+    match &txn.in_flight {
+        None => OpenCall::write(alloc, txn, key, value),
+        Some(_) => lay_again(alloc, txn, key, value),
+    }
+}
+
+fn lay_again(
+    alloc: Global,
+    txn: &OpenTxn,
+    key: &Key,
+    value: &Option<Value>,
+) -> Result<OpenCall, NoMemory>
+    ensures stands { (splits : List (List ℕ)) (k : Known) (s : Statement) (why : Why) → IsFresh k txn.now s why → s.call ≡ write_call key.now value.now → txn.now.in_flight ≡ Some (record { key = key.now; value = value.now }) → IfOk result (λ call. InCall splits k txn.now call.purpose call.wave) }
+{
+    match &txn.anchor {
+        Some(anchor) => OpenCall::write_again(alloc, txn, anchor, key, value),
+        None => Err(NoMemory),
+    }
+}
+
+/// Why a rollback aborts the transaction; any call but a restart leaves it to the client.
+fn take_cause(txn: &mut OpenTxn) -> Why
+    ensures taken { result ≡ txn.old.cause }
+    ensures left { txn.new ≡ caused whys.Client txn.old }
+{
+    mem::replace(&mut txn.cause, Why::Client)
 }

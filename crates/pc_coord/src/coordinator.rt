@@ -1,7 +1,7 @@
 ghost use Rattle.std.specs.Prelude.{◌≡◌, ℕ, max, true, false, ◌==◌, ◌||◌, ◌&&◌, not, IfOk, IfSome, OnOk, Option};
 ghost use Rattle.pc_base.specs.Rising.{AreRising};
 ghost use Rattle.pc_coord.specs.Beside.{IsLaterBeside};
-ghost use Rattle.pc_coord.specs.Coordination.{Coordination, awaits_number, new_coordination, next_by, next_in, next_of, with_clock, with_nothing_due, without_job};
+ghost use Rattle.pc_coord.specs.Coordination.{Coordination, awaits_number, new_coordination, next_by, next_in, next_of, opened_by, with_clock, with_nothing_due, without_call, without_job, without_txn};
 ghost use Rattle.pc_coord.specs.declared.due.Due.TheVariants as dues;
 ghost use Rattle.pc_coord.specs.declared.next.Next.TheVariants as nexts;
 ghost use Rattle.pc_coord.specs.Events.{HearsAwaited, IsAsked, IsTold, SendsDue};
@@ -15,7 +15,7 @@ ghost use Rattle.pc_proto.specs.declared.reply.Reply.{Reply};
 ghost use Rattle.pc_proto.specs.declared.request.Request.{Request};
 ghost use Rattle.pc_world.specs.Known.{Known, learn, nothing_known};
 
-use crate::due::Due;
+use crate::due::{Due, Opened};
 use crate::job::Job;
 use crate::next::Next;
 use crate::pusher::Pusher;
@@ -105,7 +105,8 @@ impl<'a> Coordinator<'a> {
         ensures session { self.new.session ≡ self.old.session }
         ensures splits { self.new.splits ≡ self.old.splits }
     {
-        match self.txn.take() {
+        let txn = self.take_txn();
+        match txn {
             None => self.ask_outside(&call, reading),
             Some(txn) => self.ask_inside(&call, txn),
         }
@@ -137,12 +138,11 @@ impl<'a> Coordinator<'a> {
         ensures session { self.new.session ≡ self.old.session }
         ensures splits { self.new.splits ≡ self.old.splits }
     {
-        if let Some(txn) = &mut self.txn {
-            if let Due::Call(call) = &mut self.due {
-                return call.sent(txn, number);
-            }
+        let taken = self.take_open();
+        match taken {
+            None => Ok(()),
+            Some(taken) => self.send(taken, number),
         }
-        Ok(())
     }
 
     /// The reply to the message of this number, which is waited for, was heard; it was evaluated at this step of the history. Refused
@@ -153,11 +153,11 @@ impl<'a> Coordinator<'a> {
         ensures session { self.new.session ≡ self.old.session }
         ensures splits { self.new.splits ≡ self.old.splits }
     {
-        self.clock.hear(reply.last_stamp());
-        let due = mem::replace(&mut self.due, Due::Nothing);
-        match (self.txn.take(), due) {
-            (Some(txn), Due::Call(call)) => self.hear(call, txn, number, reply),
-            _ => Ok(()),
+        self.raise(reply.last_stamp());
+        let taken = self.take_open();
+        match taken {
+            None => Ok(()),
+            Some(taken) => self.hear(taken.call, taken.txn, number, reply),
         }
     }
 
@@ -169,10 +169,10 @@ impl<'a> Coordinator<'a> {
         ensures session { self.new.session ≡ self.old.session }
         ensures splits { self.new.splits ≡ self.old.splits }
     {
-        let due = mem::replace(&mut self.due, Due::Nothing);
-        match (self.txn.take(), due) {
-            (Some(txn), Due::Call(call)) => self.settle(call, txn, number, round),
-            _ => Ok(()),
+        let taken = self.take_open();
+        match taken {
+            None => Ok(()),
+            Some(taken) => self.settle(taken.call, taken.txn, number, round),
         }
     }
 
@@ -216,6 +216,24 @@ impl<'a> Coordinator<'a> {
         ensures splits { self.new.splits ≡ self.old.splits }
     {
         self.due = Due::Nothing;
+    }
+
+    fn take_txn(&mut self) -> Option<OpenTxn>
+        ensures taken { result ≡ self.old.txn }
+        ensures left { self.new ≡ without_txn self.old }
+    {
+        self.txn.take()
+    }
+
+    fn take_open(&mut self) -> Option<Opened>
+        ensures taken { result ≡ opened_by self.old.txn self.old.due }
+        ensures left { self.new ≡ without_call self.old }
+    {
+        let due = mem::replace(&mut self.due, Due::Nothing);
+        match (self.txn.take(), due) {
+            (Some(txn), Due::Call(call)) => Some(Opened { call, txn }),
+            _ => None,
+        }
     }
 
     fn next_in(&self, call: &OpenCall) -> Result<Next, NoMemory>

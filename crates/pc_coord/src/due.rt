@@ -1,5 +1,6 @@
 use pc_call::OpenCall;
 use pc_proto::Answer;
+use pc_txn::OpenTxn;
 
 /// What is due.
 #[derive(Drop)]
@@ -10,4 +11,11 @@ pub enum Due {
     Call(OpenCall),
     /// The open call is to be told this.
     Tell(Answer),
+}
+
+/// An open call and its transaction.
+#[derive(Drop)]
+pub struct Opened {
+    pub call: OpenCall,
+    pub txn: OpenTxn,
 }

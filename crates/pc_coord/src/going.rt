@@ -1,49 +1,58 @@
-ghost use Rattle.std.specs.Prelude.{◌≡◌, ℕ, Bool, true, false, ◌==◌, ◌&&◌, not, None, Some, OnOk};
+ghost use Rattle.std.specs.Prelude.{◌≡◌, ℕ, Bool, true, false, ◌==◌, ◌||◌, ◌&&◌, not, None, Some, OnOk};
 ghost use Rattle.pc_call.specs.declared.purpose.Purpose.TheVariants as purposes;
-ghost use Rattle.pc_call.specs.Finished.{MayTellOver};
-ghost use Rattle.pc_call.specs.Learned.{known_heard};
+ghost use Rattle.pc_call.specs.Learned.{known_heard, known_sent};
 ghost use Rattle.pc_call.specs.Opening.{GoesOn};
 ghost use Rattle.pc_call.specs.Rounding.{RefusesRound};
 ghost use Rattle.pc_call.specs.Serving.{InCall};
-ghost use Rattle.pc_call.specs.Telling.{MayTellOpen};
 ghost use Rattle.pc_coord.specs.Coordination.{awaits_number, calling, job_left, telling};
-ghost use Rattle.pc_coord.specs.Going.{BeginsNothing, HasHadRound, HearsNow, IsForMany, IsReady};
-ghost use Rattle.pc_coord.specs.Knows.{Knows, is_under_way};
+ghost use Rattle.pc_coord.specs.Going.{HasHadRound, HearsNow, IsForMany, StandsReady};
+ghost use Rattle.pc_coord.specs.Knows.{Knows};
 ghost use Rattle.pc_proto.specs.declared.reply.Reply.{Reply};
 ghost use Rattle.pc_proto.specs.declared.reply.Reply.TheVariants as replies;
+ghost use Rattle.pc_proto.specs.declared.request.Request.{Request};
 ghost use Rattle.pc_proto.specs.declared.view.View.TheVariants as views;
 ghost use Rattle.pc_proto.specs.declared.why.Why.{Why};
 ghost use Rattle.pc_txn.specs.Counted.{IsCounted};
 ghost use Rattle.pc_wave.specs.declared.step.Step.TheVariants as steps;
 ghost use Rattle.pc_wave.specs.Messages.{step_of, wave_awaits};
-ghost use Rattle.pc_world.specs.Known.{Known};
+ghost use Rattle.pc_world.specs.Known.{Known, next_number};
 ghost use Rattle.pc_world.specs.Known.Traffic.{Heard};
 
 use crate::coordinator::Coordinator;
-use crate::due::Due;
+use crate::due::{Due, Opened};
 use crate::job::job_of;
+use crate::kinds::{Decision, conflict_due, decision_of, status_in, written_at};
 use crate::round::Round;
 use pc_base::{NoMemory, Timestamp, TryCopy};
 use pc_call::{OpenCall, Over, Purpose, Refreshed};
-use pc_proto::{Answer, Reply, View};
+use pc_proto::{Answer, Reply};
 use pc_txn::OpenTxn;
 use pc_wave::Step;
 
 impl<'a> Coordinator<'a> {
     /// The open call goes on by what is due of these messages, or is told what they came to.
     pub(crate) fn go_on(&mut self, call: OpenCall, txn: OpenTxn) -> Result<(), NoMemory>
-        ensures knows { (k : Known) → IsReady self.old k → InCall self.old.splits k txn call.purpose call.wave → (step_of call.wave ≡ steps.Answered → IsForMany call.purpose) → OnOk result (Knows self.new k) }
+        ensures knows { (k : Known) → StandsReady self.old k → InCall self.old.splits k txn call.purpose call.wave → (step_of call.wave ≡ steps.Answered → IsForMany call.purpose) → OnOk result (Knows self.new k) }
         ensures waits { (other : ℕ) → OnOk result (awaits_number other self.new.due ≡ wave_awaits other call.wave) }
         ensures session { self.new.session ≡ self.old.session }
         ensures splits { self.new.splits ≡ self.old.splits }
     {
-        match call.step()? {
+        let step = call.step()?;
+        match step {
             Step::Answered => self.end(call, txn),
             Step::Blocked { holder } => {
                 self.tell(Answer::Blocked { holder }, txn);
                 Ok(())
             }
-            Step::Send(_) | Step::Deliver | Step::Round { .. } => {
+            Step::Send(_) => {
+                self.call(call, txn);
+                Ok(())
+            }
+            Step::Deliver => {
+                self.call(call, txn);
+                Ok(())
+            }
+            Step::Round { .. } => {
                 self.call(call, txn);
                 Ok(())
             }
@@ -52,8 +61,7 @@ impl<'a> Coordinator<'a> {
 
     /// More is due of these messages.
     fn call(&mut self, call: OpenCall, txn: OpenTxn)
-        ensures made { self.new ≡ calling call txn self.old }
-        ensures knows { (k : Known) → IsReady self.old k → InCall self.old.splits k txn call.purpose call.wave → is_under_way (step_of call.wave) → Knows self.new k }
+        ensures { self.new ≡ calling call txn self.old }
     {
         self.txn = Some(txn);
         self.due = Due::Call(call);
@@ -61,8 +69,7 @@ impl<'a> Coordinator<'a> {
 
     /// The open call is to be told this, and its transaction stays open.
     pub(crate) fn tell(&mut self, answer: Answer, txn: OpenTxn)
-        ensures made { self.new ≡ telling answer (Some txn) self.old.job self.old }
-        ensures knows { (k : Known) → IsReady self.old k → MayTellOpen self.old.splits self.old.session k answer txn → BeginsNothing k → Knows self.new k }
+        ensures { self.new ≡ telling answer (Some txn) self.old.job self.old }
     {
         self.txn = Some(txn);
         self.due = Due::Tell(answer);
@@ -70,8 +77,7 @@ impl<'a> Coordinator<'a> {
 
     /// The open call is to be told how its transaction ends.
     pub(crate) fn finish(&mut self, over: Over)
-        ensures made { self.new ≡ telling over.answer None (job_left over.left) self.old }
-        ensures knows { (k : Known) → IsReady self.old k → MayTellOver self.old.splits self.old.session k over → BeginsNothing k → Knows self.new k }
+        ensures { self.new ≡ telling over.answer None (job_left over.left) self.old }
     {
         self.txn = None;
         self.due = Due::Tell(over.answer);
@@ -79,23 +85,57 @@ impl<'a> Coordinator<'a> {
     }
 
     /// Each of these messages was answered: a read is told, and what was refreshed commits or restarts.
-    fn end(&mut self, call: OpenCall, mut txn: OpenTxn) -> Result<(), NoMemory>
-        ensures knows { (k : Known) → IsReady self.old k → InCall self.old.splits k txn call.purpose call.wave → step_of call.wave ≡ steps.Answered → IsForMany call.purpose → OnOk result (Knows self.new k) }
+    fn end(&mut self, call: OpenCall, txn: OpenTxn) -> Result<(), NoMemory>
+        ensures knows { (k : Known) → StandsReady self.old k → InCall self.old.splits k txn call.purpose call.wave → step_of call.wave ≡ steps.Answered → IsForMany call.purpose → OnOk result (Knows self.new k) }
         ensures waits { (other : ℕ) → OnOk result (awaits_number other self.new.due ≡ false) }
         ensures session { self.new.session ≡ self.old.session }
         ensures splits { self.new.splits ≡ self.old.splits }
     {
         match &call.purpose {
-            Purpose::Read => {
-                let answer = call.read(self.alloc, &mut txn)?;
-                self.tell(answer, txn);
+            Purpose::Read => self.read(call, txn),
+            Purpose::Refresh { .. } => self.refreshed(call, txn),
+            Purpose::Write { .. } | Purpose::Commit { .. } | Purpose::Abort { .. } => {
+                self.told();
+                Ok(())
             }
-            Purpose::Refresh { .. } => match call.refreshed(self.alloc, &mut txn)? {
-                Refreshed::Commit(call) => self.call(call, txn),
-                Refreshed::Restart(answer) => self.tell(answer, txn),
-            },
-            Purpose::Write { .. } | Purpose::Commit { .. } | Purpose::Abort { .. } => {}
         }
+    }
+
+    fn read(&mut self, call: OpenCall, mut txn: OpenTxn) -> Result<(), NoMemory>
+        ensures knows { (k : Known) → StandsReady self.old k → InCall self.old.splits k txn call.purpose call.wave → call.purpose ≡ purposes.Read → step_of call.wave ≡ steps.Answered → OnOk result (Knows self.new k) }
+        ensures waits { (other : ℕ) → OnOk result (awaits_number other self.new.due ≡ false) }
+        ensures session { self.new.session ≡ self.old.session }
+        ensures splits { self.new.splits ≡ self.old.splits }
+    {
+        let answer = call.read(self.alloc, &mut txn)?;
+        self.tell(answer, txn);
+        Ok(())
+    }
+
+    fn refreshed(&mut self, call: OpenCall, mut txn: OpenTxn) -> Result<(), NoMemory>
+        ensures knows { (k : Known) (refusals : ℕ) → StandsReady self.old k → InCall self.old.splits k txn call.purpose call.wave → call.purpose ≡ purposes.Refresh refusals → step_of call.wave ≡ steps.Answered → OnOk result (Knows self.new k) }
+        ensures waits { (other : ℕ) → OnOk result (awaits_number other self.new.due ≡ false) }
+        ensures session { self.new.session ≡ self.old.session }
+        ensures splits { self.new.splits ≡ self.old.splits }
+    {
+        let refreshed = call.refreshed(self.alloc, &mut txn)?;
+        match refreshed {
+            Refreshed::Commit(call) => self.call(call, txn),
+            Refreshed::Restart(answer) => self.tell(answer, txn),
+        }
+        Ok(())
+    }
+
+    /// The message that was due went out under this number.
+    pub(crate) fn send(&mut self, taken: Opened, number: u64) -> Result<(), NoMemory>
+        ensures knows { (k : Known) (range : ℕ) (request : Request) → StandsReady self.old k → InCall self.old.splits k taken.txn taken.call.purpose taken.call.wave → step_of taken.call.wave ≡ steps.Send request → number ≡ next_number k → OnOk result (Knows self.new (known_sent number range request k)) }
+        ensures waits { (request : Request) (other : ℕ) → step_of taken.call.wave ≡ steps.Send request → OnOk result (awaits_number other self.new.due ≡ (number == other || wave_awaits other taken.call.wave)) }
+        ensures session { self.new.session ≡ self.old.session }
+        ensures splits { self.new.splits ≡ self.old.splits }
+    {
+        let Opened { mut call, mut txn } = taken;
+        call.sent(&mut txn, number)?;
+        self.call(call, txn);
         Ok(())
     }
 
@@ -133,7 +173,8 @@ impl<'a> Coordinator<'a> {
         ensures session { self.new.session ≡ self.old.session }
         ensures splits { self.new.splits ≡ self.old.splits }
     {
-        call.heard(number, reply.copy()?);
+        let told = reply.copy()?;
+        call.heard(number, told);
         self.go_on(call, txn)
     }
 
@@ -146,13 +187,14 @@ impl<'a> Coordinator<'a> {
         reply: &Reply,
     ) -> Result<(), NoMemory>
         ensures knows { (k : Known) (h : Heard) (again : Bool) → HearsNow self.old call txn number reply.now k h → call.purpose ≡ purposes.Write again → OnOk result (Knows self.new (known_heard h k)) }
-        ensures waits { (k : Known) (other : ℕ) → InCall self.old.splits k txn call.purpose call.wave → wave_awaits number call.wave ≡ true → OnOk result (awaits_number other self.new.due ≡ (wave_awaits other call.wave && not (number == other))) }
+        ensures waits { (k : Known) (other : ℕ) (again : Bool) → InCall self.old.splits k txn call.purpose call.wave → call.purpose ≡ purposes.Write again → wave_awaits number call.wave ≡ true → OnOk result (awaits_number other self.new.due ≡ (wave_awaits other call.wave && not (number == other))) }
         ensures session { self.new.session ≡ self.old.session }
         ensures splits { self.new.splits ≡ self.old.splits }
     {
-        match reply {
-            Reply::Written { ts } => self.written(call, txn, *ts),
-            _ => self.come_back(call, txn, number, reply),
+        let written = written_at(reply);
+        match written {
+            Some(ts) => self.written(call, txn, ts),
+            None => self.come_back(call, txn, number, reply),
         }
     }
 
@@ -163,7 +205,8 @@ impl<'a> Coordinator<'a> {
         ensures session { self.new.session ≡ self.old.session }
         ensures splits { self.new.splits ≡ self.old.splits }
     {
-        match call.written(self.alloc, &mut txn, ts)? {
+        let next = call.written(self.alloc, &mut txn, ts)?;
+        match next {
             Some(call) => self.call(call, txn),
             None => self.tell(Answer::Written, txn),
         }
@@ -177,18 +220,14 @@ impl<'a> Coordinator<'a> {
         ensures session { self.new.session ≡ self.old.session }
         ensures splits { self.new.splits ≡ self.old.splits }
     {
-        match reply {
-            Reply::Status(View::Committed { epoch, ts, .. }) => {
-                self.finish(call.committed(txn, *epoch, *ts));
-                Ok(())
-            }
-            Reply::Status(View::Aborted { why, .. }) => {
-                self.finish(call.aborted(txn, why.copy()?));
-                Ok(())
-            }
-            Reply::Status(View::Pending { ts, .. }) => self.refused(call, txn, *ts),
-            _ => Ok(()),
+        let decision = decision_of(reply)?;
+        match decision {
+            Decision::Committed { epoch, ts } => self.finish(call.committed(txn, epoch, ts)),
+            Decision::Aborted { why } => self.finish(call.aborted(txn, why)),
+            Decision::Refused { recorded } => return self.refused(call, txn, recorded),
+            Decision::Nothing => self.told(),
         }
+        Ok(())
     }
 
     /// A commit met a record that is not final and stands at this timestamp: it is tried again there, or its call is told that it was moved.
@@ -203,7 +242,8 @@ impl<'a> Coordinator<'a> {
         ensures session { self.new.session ≡ self.old.session }
         ensures splits { self.new.splits ≡ self.old.splits }
     {
-        match call.refused(&mut txn, recorded) {
+        let refused = call.refused(&mut txn, recorded);
+        match refused {
             Some(refusals) => {
                 let call = OpenCall::commits(self.alloc, &txn, refusals)?;
                 self.go_on(call, txn)
@@ -222,8 +262,13 @@ impl<'a> Coordinator<'a> {
         ensures session { self.new.session ≡ self.old.session }
         ensures splits { self.new.splits ≡ self.old.splits }
     {
-        if let Reply::Status(view) = reply {
-            self.finish(call.rolled_back(txn, view.copy()?));
+        let status = status_in(reply)?;
+        match status {
+            Some(view) => {
+                let over = call.rolled_back(txn, &view)?;
+                self.finish(over);
+            }
+            None => self.told(),
         }
         Ok(())
     }
@@ -236,7 +281,7 @@ impl<'a> Coordinator<'a> {
         number: u64,
         round: Round,
     ) -> Result<(), NoMemory>
-        ensures knows { (start k : Known) (clock : ℕ) (conflict : Reply) → IsReady self.old k → IsCounted self.old.session clock self.old.begun start → InCall self.old.splits start txn call.purpose call.wave → step_of call.wave ≡ steps.Round number conflict → HasHadRound round start k txn.id conflict → OnOk result (Knows self.new k) }
+        ensures knows { (start k : Known) (clock : ℕ) (conflict : Reply) → StandsReady self.old k → IsCounted self.old.session clock self.old.begun start → InCall self.old.splits start txn call.purpose call.wave → step_of call.wave ≡ steps.Round number conflict → HasHadRound round start k txn.id conflict → OnOk result (Knows self.new k) }
         ensures waits { (conflict : Reply) (other : ℕ) → step_of call.wave ≡ steps.Round number conflict → OnOk result (awaits_number other self.new.due ≡ false) }
         ensures session { self.new.session ≡ self.old.session }
         ensures splits { self.new.splits ≡ self.old.splits }
@@ -256,16 +301,31 @@ impl<'a> Coordinator<'a> {
 
     /// The push of a round was refused: the call is told which transaction blocks it.
     fn refuse(&mut self, call: OpenCall, txn: OpenTxn) -> Result<(), NoMemory>
-        ensures knows { (start k : Known) (clock number : ℕ) (conflict : Reply) → IsReady self.old k → IsCounted self.old.session clock self.old.begun start → InCall self.old.splits start txn call.purpose call.wave → step_of call.wave ≡ steps.Round number conflict → RefusesRound start k txn.id conflict → OnOk result (Knows self.new k) }
+        ensures knows { (start k : Known) (clock number : ℕ) (conflict : Reply) → StandsReady self.old k → IsCounted self.old.session clock self.old.begun start → InCall self.old.splits start txn call.purpose call.wave → step_of call.wave ≡ steps.Round number conflict → RefusesRound start k txn.id conflict → OnOk result (Knows self.new k) }
         ensures waits { (other : ℕ) → OnOk result (awaits_number other self.new.due ≡ false) }
         ensures session { self.new.session ≡ self.old.session }
         ensures splits { self.new.splits ≡ self.old.splits }
     {
-        if let Step::Round { conflict, .. } = call.step()? {
-            if let Some(answer) = call.round_refused(&conflict) {
-                self.tell(answer, txn);
-            }
+        let step = call.step()?;
+        let conflict = conflict_due(step);
+        match conflict {
+            Some(conflict) => self.block(call, txn, &conflict),
+            None => self.told(),
         }
         Ok(())
+    }
+
+    /// The push in this conflict's round was refused.
+    fn block(&mut self, call: OpenCall, txn: OpenTxn, conflict: &Reply)
+        ensures knows { (start k : Known) (clock number : ℕ) → StandsReady self.old k → IsCounted self.old.session clock self.old.begun start → InCall self.old.splits start txn call.purpose call.wave → step_of call.wave ≡ steps.Round number conflict.now → RefusesRound start k txn.id conflict.now → Knows self.new k }
+        ensures waits { (other : ℕ) → awaits_number other self.new.due ≡ false }
+        ensures session { self.new.session ≡ self.old.session }
+        ensures splits { self.new.splits ≡ self.old.splits }
+    {
+        let answer = call.round_refused(conflict);
+        match answer {
+            Some(answer) => self.tell(answer, txn),
+            None => self.told(),
+        }
     }
 }

@@ -6,6 +6,7 @@ mod coordinator;
 mod due;
 mod going;
 mod job;
+mod kinds;
 mod laws;
 mod next;
 mod pusher;
@@ -18,5 +19,3 @@ pub use next::Next;
 pub use pusher::Pusher;
 pub use round::Round;
 
-#[cfg(test)]
-mod tests;

@@ -497,7 +497,7 @@ module _ (work : Workload) (rules : ActorId → ℕ → ℕ → Bool) (head : He
   heard-before before e later split =
       awaits-along head [] before
       (λ front back x inside me call reading is.
-          ((good front x (back ++ e ∷ later) (split ∙ ap (λ l. l ++ e ∷ later) inside ∙ append_assoc front (x ∷ back) (e ∷ later)) me).asks call reading is).1)
+      ((good front x (back ++ e ∷ later) (split ∙ ap (λ l. l ++ e ∷ later) inside ∙ append_assoc front (x ∷ back) (e ∷ later)) me).asks call reading is).1)
       (λ m there. absurd (contains_nil m there))
 
   -- that session is alone

@@ -88,7 +88,7 @@ module _ (head : Head) (whole : List (Entry Event)) (run : IsRun head whole) (al
         let opens : k.is_open ≡ true = (open_is k.is_open k.txns c.t c.opened).0 in
         let told = commit-answered k p.s answer commits opens p.plain in
         let row = told_by_row head the_session k (answers.Committed told.0 told.1) (subst (MayTell head.splits the_session k) told.2 may) (λ h. cc h) (λ h. cc h) in
-        let one : row.t ≡ c.t = let both = sym {b = Some row.t} row.opened ∙ c.opened in cc both in
+        let one : row.t ≡ c.t = let both = sym row.opened ∙ c.opened in cc both in
         let named : told.0 ≡ id = row.whose ∙ ap (λ (y : Txn). y.id) one ∙ c.whose in
         inl (told.1, any_last (λ (x : Entry Event). TellsCommit id told.1 x.event) history e (subst (TellsCommit id told.1) (sym (is ∙ ap events.Tell told.2)) (named, refl)))
 

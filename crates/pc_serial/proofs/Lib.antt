@@ -22,6 +22,7 @@ pub mod InTurn
 pub mod Legal
 pub mod Laid
 pub mod Maps
+pub mod OneEntry
 pub mod OneSession
 pub mod Order
 pub mod OwnDone

@@ -2,6 +2,7 @@ pub mod Alone
 pub mod FirstRow
 pub mod FirstRun
 pub mod Laws
+pub mod Making
 pub mod Plain
 pub mod QuietWire
 pub mod StagedRow

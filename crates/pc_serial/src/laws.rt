@@ -1,4 +1,5 @@
 ghost use Rattle.pc_serial.specs.Laws.{CommitsAreOrdered, CommittedOnce, HistoriesAreLegal, OneQuietSession, OneSessionRunsInTurn, SessionsGoInTurn};
+ghost use Rattle.pc_serial.specs.Making.{OneEntryCommits};
 ghost use Rattle.pc_serial.specs.Plain.{OneSessionRunsPlainly};
 
 /// A law: the committed transactions are one legal history of a map.
@@ -14,6 +15,11 @@ pub fn commits_are_ordered()
 /// A law: what was told committed stands in the commit order once.
 pub fn committed_once()
     ensures { CommittedOnce }
+{}
+
+/// A law: what makes a transaction committed is one entry, of one of four kinds.
+pub fn one_entry_commits()
+    ensures { OneEntryCommits }
 {}
 
 /// A law: of two committed transactions of one session the one that was begun first stands first.

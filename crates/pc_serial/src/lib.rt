@@ -6,7 +6,7 @@ mod laws;
 mod rows;
 
 pub use laws::{
-    commits_are_ordered, committed_once, histories_are_legal, one_quiet_session,
+    commits_are_ordered, committed_once, histories_are_legal, one_entry_commits, one_quiet_session,
     one_session_runs_in_turn, one_session_runs_plainly, sessions_go_in_turn,
 };
 pub use rows::{first_row_is_a_run, first_row_is_one_commit, staged_row_runs_plainly};

@@ -1,5 +1,6 @@
 use Rattle.std.proofs.Common.{sym, subst}
 use Rattle.pc_call.proofs.Hearing.{call_heard}
+use Rattle.pc_call.proofs.Waves.{in_one_wave}
 use Rattle.pc_call.specs.Learned.{known_heard}
 use Rattle.pc_call.specs.Serving.{InCall}
 use Rattle.pc_call.proofs.call.OpenCall.heard.Goals as goal
@@ -11,3 +12,7 @@ returns-clause-stands c = λ session clock begun splits k x h counted w waited i
 
 pub returns-clause-awaited : goal.returns-clause-awaited
 returns-clause-awaited c = λ splits k x other w waited. c.heard.ensures.awaited k other w.wave waited
+
+pub returns-clause-one_wave : goal.returns-clause-one_wave
+returns-clause-one_wave c = λ session clock begun splits k x h counted w out waited is.
+    in_one_wave session clock begun splits k x c.args.self.now.purpose c.args.self.now.wave counted w out c.args.number c.args.reply h waited is

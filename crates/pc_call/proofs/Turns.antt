@@ -1,0 +1,156 @@
+-- The refreshes of a commit go out in the order of their spans.
+use Rattle.std.proofs.Common.{◌≡◌, ℕ, ◌<◌, ◌≤◌, Bool, true, false, cond, ◌⊎◌, inl, inr, List, [], ◌∷◌, map, find, Option, None, Some, zero, suc, refl, sym, ap, ◌∙◌, subst, arith, All, Any, Contains, IsTrue}
+use Rattle.std.specs.List.Sorted.{IsStrictlySortedBy}
+use Rattle.std.specs.List.{AllByRecursion as Each}
+use Rattle.std.specs.Ordering.{is_lt}
+use Rattle.std.specs.declared.cmp.Ordering.TheVariants.{Less}
+use Rattle.std.proofs.lemmas.List.Elements.{All-cons, All-contains, All-head, All-map, All-nil, All-tail, All-weaker}
+use Rattle.std.proofs.lemmas.Option.{same_Some}
+use Rattle.pc_base.specs.declared.span.Span.{Span}
+use Rattle.pc_base.specs.declared.transaction.TxnId.{TxnId}
+use Rattle.pc_base.specs.SpanOrder.{span_cmp}
+use Rattle.pc_call.proofs.Facts.{open_is}
+use Rattle.pc_call.proofs.Restarting.{any_cons, asks, behind, same_span_of, span_of}
+use Rattle.pc_call.specs.declared.purpose.Purpose.{Purpose}
+use Rattle.pc_call.specs.declared.purpose.Purpose.TheVariants as purposes
+use Rattle.pc_call.specs.Serving.{AreReadsOf, HasGoneOut, InCall, IsRefreshGoneOut, IsSentBefore, LaysLast, LaysNext, Serves, ServesRefresh, ServesWrite}
+use Rattle.pc_lists.proofs.Anywhere.{any_head, any_later, any_of, any_weaker}
+use Rattle.pc_proto.specs.declared.call.Call.{Call}
+use Rattle.pc_proto.specs.declared.call.Call.TheVariants as calls
+use Rattle.pc_proto.specs.declared.reply.Reply.{Reply}
+use Rattle.pc_proto.specs.declared.request.Request.{Request}
+use Rattle.pc_proto.specs.declared.request.Request.TheVariants as requests
+use Rattle.pc_proto.specs.Replies.{is_conflict}
+use Rattle.pc_reads.specs.ReadsStanding.{refresh_to}
+use Rattle.pc_txn.specs.declared.txn.OpenTxn.{OpenTxn}
+use Rattle.pc_txn.specs.Opened.{own_get, own_scan}
+use Rattle.pc_wave.specs.declared.message.Message.{Message}
+use Rattle.pc_wave.specs.declared.message.Progress.{Progress}
+use Rattle.pc_wave.specs.declared.message.Progress.TheVariants as progresses
+use Rattle.pc_wave.specs.Messages.{is_to_send}
+use Rattle.pc_wave.specs.Standing.{IsAsFar, IsMessageAt, IsSentUnder, MessageStands, Pairwise}
+use Rattle.pc_world.specs.Follows.Refreshes.{AreAllAsked, IsItsRefresh, IsRefreshBefore, WasRead}
+use Rattle.pc_world.specs.Known.{Known, open_txn}
+use Rattle.pc_world.specs.Known.Traffic.{Heard, Sent}
+use Rattle.pc_world.specs.Known.Transactions.{Txn}
+use Rattle.pc_world.specs.RangeOf.{pieces}
+use Rattle.pc_world.specs.SameRequest.{IsSameRequest}
+
+every : {X : Type 0} (P : X → Type 0) → ((x : X) → P x) → (xs : List X) → All P xs
+every P all [] = All-nil P
+every P all (x ∷ xs) = All-cons P x xs (all x) (every P all xs)
+
+found_any : {X : Type 0} (test : X → Bool) (P : X → Type 0) (xs : List X) (x : X) → find test xs ≡ Some x → P x → Any P xs
+found_any test P [] x found p = absurd cc
+found_any test P (y ∷ xs) x found p = by (λ f. found_any test P xs x f p) (test y) found
+  where
+    by : (find test xs ≡ Some x → Any P xs) → (b : Bool) → cond b (Some y) (find test xs) ≡ Some x → Any P (y ∷ xs)
+    by later true f = let is : y ≡ x = cc in any_head P y xs (subst P (sym is) p)
+    by later false f = any_later P y xs (later f)
+
+module _ (id : TxnId) (from to : ℕ) where
+  -- what went out stands before the first that is to be sent
+  gone_before : (spans : List Span) (ms : List Message) (m : Message) (span earlier : Span) → map (λ m. m.request) ms ≡ map (asks id from to) spans → IsStrictlySortedBy span_cmp spans → Pairwise IsSentBefore ms → find is_to_send ms ≡ Some m
+      → m.request ≡ asks id from to span → Any (HasGoneOut (asks id from to earlier)) ms → span_cmp earlier span ≡ Less
+  unfolding IsStrictlySortedBy
+  gone_before spans [] m span earlier same sorted turn found said some = absurd cc
+  gone_before [] (y ∷ ms) m span earlier same sorted turn found said some = absurd cc
+  gone_before (one ∷ spans) (y ∷ ms) m span earlier same sorted turn found said some =
+      let first : y.request ≡ asks id from to one = cc in
+      let later : map (λ (m : Message). m.request) ms ≡ map (asks id from to) spans = cc in
+      by first later (λ f there. gone_before spans ms m span earlier later sorted.1 turn.1 f said there) (any_cons (HasGoneOut (asks id from to earlier)) y ms some) (is_to_send y) refl found
+    where
+      by : y.request ≡ asks id from to one → map (λ (m : Message). m.request) ms ≡ map (asks id from to) spans → (find is_to_send ms ≡ Some m → Any (HasGoneOut (asks id from to earlier)) ms → span_cmp earlier span ≡ Less)
+          → HasGoneOut (asks id from to earlier) y ⊎ Any (HasGoneOut (asks id from to earlier)) ms → (b : Bool) → is_to_send y ≡ b → cond b (Some y) (find is_to_send ms) ≡ Some m → span_cmp earlier span ≡ Less
+      by first later rest (inl here) true e f = let g : false ≡ true = sym here.out ∙ e in absurd cc
+      by first later rest (inl here) false e f =
+          let is : one ≡ earlier = same_span_of id from to one earlier (sym first ∙ here.asked) in
+          subst (λ s. span_cmp s span ≡ Less) is (behind id from to one span spans ms later sorted.0 (found_any is_to_send (λ (z : Message). z.request ≡ asks id from to span) ms m f said))
+      by first later rest (inr there) true e f =
+          let g = any_of (IsSentBefore y) (HasGoneOut (asks id from to earlier)) ms turn.0 there in
+          let h : false ≡ true = sym g.2.out ∙ g.1 e in
+          absurd cc
+      by first later rest (inr there) false e f = rest f there
+
+  -- The span of the first that is to be sent.
+  to_send_span : (spans : List Span) (ms : List Message) (m : Message) → map (λ m. m.request) ms ≡ map (asks id from to) spans → find is_to_send ms ≡ Some m → (span : Span) × Contains spans span × (m.request ≡ asks id from to span)
+  to_send_span spans [] m same found = absurd cc
+  to_send_span [] (y ∷ ms) m same found = absurd cc
+  to_send_span (one ∷ spans) (y ∷ ms) m same found =
+      let first : y.request ≡ asks id from to one = cc in
+      let later : map (λ (m : Message). m.request) ms ≡ map (asks id from to) spans = cc in
+      by first (to_send_span spans ms m later) (is_to_send y) found
+    where
+      by : y.request ≡ asks id from to one → (find is_to_send ms ≡ Some m → (span : Span) × Contains spans span × (m.request ≡ asks id from to span)) → (b : Bool) → cond b (Some y) (find is_to_send ms) ≡ Some m
+          → (span : Span) × Contains (one ∷ spans) span × (m.request ≡ asks id from to span)
+      by first later true f = let is : y ≡ m = cc in (one, (0, omega arith, refl), ap (λ (m : Message). m.request) (sym is) ∙ first)
+      by first later false f = let l = later f in (l.0, (suc l.1.0, omega (arith, l.1.1), l.1.2), l.2)
+
+  -- what went out with a refresh of a span is of these
+  gone_of : (other : TxnId) (low high : ℕ) (earlier : Span) (spans : List Span) (ms : List Message) → map (λ m. m.request) ms ≡ map (asks id from to) spans → Any (HasGoneOut (requests.Refresh other low high earlier)) ms → Any (HasGoneOut (asks id from to earlier)) ms
+  gone_of other low high earlier spans [] same some = absurd (omega (arith, some.2))
+  gone_of other low high earlier [] (y ∷ ms) same some = absurd cc
+  gone_of other low high earlier (one ∷ spans) (y ∷ ms) same some =
+      let first : y.request ≡ asks id from to one = cc in
+      let later : map (λ (m : Message). m.request) ms ≡ map (asks id from to) spans = cc in
+      elim (any_cons (HasGoneOut (requests.Refresh other low high earlier)) y ms some) as (λ c. Any (HasGoneOut (asks id from to earlier)) (y ∷ ms)) [
+        | inl here ↦ any_head (HasGoneOut (asks id from to earlier)) y ms (record { asked = first ∙ ap (asks id from to) (span_of one earlier (sym first ∙ here.asked)); out = here.out })
+        | inr there ↦ any_later (HasGoneOut (asks id from to earlier)) y ms (gone_of other low high earlier spans ms later there)
+      ]
+
+reads_refresh : (splits : List (List ℕ)) (k : Known) (x : OpenTxn) (call : Call) (rs : List Request) → AreReadsOf splits x call rs → All (IsItsRefresh k) rs
+reads_refresh splits k x (calls.Get key) rs e = subst (λ rs. All (IsItsRefresh k) rs) (sym e) (All-cons (IsItsRefresh k) (own_get x key) [] tt (All-nil (IsItsRefresh k)))
+reads_refresh splits k x (calls.Scan span) rs e =
+    subst (λ rs. All (IsItsRefresh k) rs) (sym e)
+    (All-map (IsItsRefresh k) (λ p. own_scan x p.1) (pieces splits span) (every (λ p. IsItsRefresh k (own_scan x p.1)) (λ p. tt) (pieces splits span)))
+reads_refresh splits k x call rs e = absurd e
+
+all_unmap : (P : Request → Type 0) (ms : List Message) → All P (map (λ m. m.request) ms) → (m : Message) → find is_to_send ms ≡ Some m → P m.request
+all_unmap P [] a m found = absurd cc
+all_unmap P (y ∷ ms) a m found = by (all_unmap P ms (All-tail P y.request (map (λ (m : Message). m.request) ms) a) m) (is_to_send y) found
+  where
+    by : (find is_to_send ms ≡ Some m → P m.request) → (b : Bool) → cond b (Some y) (find is_to_send ms) ≡ Some m → P m.request
+    by later true f = let is : y ≡ m = cc in subst (λ (m : Message). P m.request) is (All-head P y.request (map (λ (m : Message). m.request) ms) a)
+    by later false f = later f
+
+module _ (splits : List (List ℕ)) (k : Known) (x : OpenTxn) (p : Purpose) (ms : List Message) (w : InCall splits k x p ms) where
+  module _ (m : Message) (found : find is_to_send ms ≡ Some m) where
+    one_of : (other : Message) → ms ≡ other ∷ [] → other ≡ m
+    one_of other one = by (is_to_send other) (subst (λ ms. find is_to_send ms ≡ Some m) one found)
+      where
+        by : (b : Bool) → cond b (Some other) None ≡ Some m → other ≡ m
+        by true f = cc
+        by false f = absurd cc
+
+    refresh_in_turn : (n : ℕ) → ServesRefresh n k w.s w.t x ms → IsItsRefresh k m.request
+    refresh_in_turn n r =
+        let at = to_send_span x.id x.reads.ts x.write_ts x.reads.spans ms m r.asked found in
+        let writes : x.write_ts ≡ w.t.write_ts = ap (λ x. x.write_ts) w.stands.same in
+        subst (IsItsRefresh k) (sym at.2) (
+          λ t opened.
+              let same : w.t ≡ t = same_Some w.t t (sym (open_is k w.t w.open_in) ∙ opened) in
+              subst (λ (t : Txn). Any (λ r. r.span ≡ at.0) t.reads) same (All-contains (λ span. Any (λ r. r.span ≡ span) w.t.reads) x.reads.spans at.0 w.stands.reads.of_reads at.1),
+          inr (All-weaker (λ m. IsRefreshGoneOut w.t.write_ts ms m.request) (λ m. IsRefreshBefore x.write_ts at.0 m.request) (λ s out. before at.0 at.2 s.request out) k.sent_now r.sent),
+        )
+      where
+        before : (span : Span) → m.request ≡ refresh_to x.id x.reads.ts x.write_ts span → (q : Request) → IsRefreshGoneOut w.t.write_ts ms q → IsRefreshBefore x.write_ts span q
+        before span said (requests.Refresh id from to earlier) out = λ same.
+            let writes : x.write_ts ≡ w.t.write_ts = ap (λ x. x.write_ts) w.stands.same in
+            let gone = gone_of x.id x.reads.ts x.write_ts id from to earlier x.reads.spans ms r.asked (out (same ∙ writes)) in
+            ap is_lt (gone_before x.id x.reads.ts x.write_ts x.reads.spans ms m span earlier r.asked w.stands.reads.ordered r.in_turn found said gone)
+        before span said q out = tt
+
+    write_no_refresh : (again : Bool) → (r : ServesWrite again k w.s w.t x ms) → LaysNext k w.s w.t x r.key r.value again r.m ⊎ LaysLast k w.s w.t x r.key r.value again r.m → IsItsRefresh k m.request
+    write_no_refresh again r (inl l) = subst (λ (m : Message). IsItsRefresh k m.request) (one_of r.m r.one) (subst (IsItsRefresh k) (sym l.said) tt)
+    write_no_refresh again r (inr l) = subst (λ (m : Message). IsItsRefresh k m.request) (one_of r.m r.one) (subst (IsItsRefresh k) (sym l.said) tt)
+
+    -- where it is a refresh, the first message that is to be sent is of a span that was read, and behind all that went out
+    pub its_refresh : IsItsRefresh k m.request
+    its_refresh = by p refl w.serves
+      where
+        by : (q : Purpose) → p ≡ q → Serves splits k w.s w.t x q ms → IsItsRefresh k m.request
+        by purposes.Read e r = all_unmap (IsItsRefresh k) ms (reads_refresh splits k x w.s.call (map (λ (m : Message). m.request) ms) r.asked) m found
+        by (purposes.Write again) e r = write_no_refresh again r r.lays
+        by (purposes.Refresh n) e r = refresh_in_turn n r
+        by (purposes.Commit n) e r = subst (λ (m : Message). IsItsRefresh k m.request) (one_of r.m r.one) (subst (IsItsRefresh k) (sym r.said) tt)
+        by (purposes.Abort why) e r = subst (λ (m : Message). IsItsRefresh k m.request) (one_of r.m r.one) (subst (IsItsRefresh k) (sym r.said) tt)

@@ -1,0 +1,21 @@
+use Rattle.std.proofs.Common.{◌≡◌, true, false, refl, sym, ap, ◌∙◌, subst}
+use Rattle.pc_call.specs.Learned.{known_asked}
+use Rattle.pc_coord.proofs.Outside.{begun_knows, past_range, within_range}
+use Rattle.pc_coord.proofs.Steps.{calls}
+use Rattle.pc_coord.specs.Coordination.{Coordination, telling}
+use Rattle.pc_coord.specs.Knows.{Knows}
+use Rattle.pc_proto.specs.declared.answer.Answer.TheVariants as answers
+use Rattle.pc_proto.specs.declared.call.Call.TheVariants as calls
+use Rattle.pc_coord.proofs.coordinator.Coordinator.begin.Goals as goal
+
+pub returns-in-Err-clause-knows : goal.returns-in-Err-clause-knows
+returns-in-Err-clause-knows c = λ k r none closed unheld.
+    let s = c.args.self.now in
+    let made = c.answer.ensures ∙ ap (λ (m : Coordination). telling (answers.Clock c.in-Err.fault.reading) m.txn m.job m) c.in-Err.ensures.kept ∙ ap (λ n. telling (answers.Clock n) s.txn s.job s) c.in-Err.ensures.fault in
+    subst (λ n. Knows n (known_asked (calls.Begin c.args.priority) c.args.reading k)) (sym made) (past_range s k r closed unheld c.args.priority c.args.reading (c.in-Err.ensures.refused.0 refl))
+
+pub returns-in-Ok-clause-knows : goal.returns-in-Ok-clause-knows
+returns-in-Ok-clause-knows c = λ k r none closed unheld.
+    let s = c.args.self.now in
+    subst (λ n. Knows n (known_asked (calls.Begin c.args.priority) c.args.reading k)) (sym c.begin_now-in-Ok.ensures)
+    (begun_knows s c.now-time.new.self k c.args.priority c.args.reading c.in-Ok.ts r closed unheld c.in-Ok.ensures.given c.in-Ok.ensures.value (within_range c.args.reading (λ past. let e : false ≡ true = c.in-Ok.ensures.refused.1 past in absurd cc)))

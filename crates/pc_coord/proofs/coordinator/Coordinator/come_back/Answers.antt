@@ -1,0 +1,27 @@
+use Rattle.std.proofs.Common.{◌≡◌, not, ◌&&◌, ◌==◌, sym, ap, ◌∙◌, subst}
+use Rattle.pc_call.specs.Learned.{known_heard}
+use Rattle.pc_call.specs.Opening.{GoesOn}
+use Rattle.pc_coord.proofs.Onward.{many_heard}
+use Rattle.pc_coord.proofs.Steps.{in_call, on_ok}
+use Rattle.pc_coord.specs.Coordination.{awaits_number}
+use Rattle.pc_coord.specs.Going.{IsForMany}
+use Rattle.pc_wave.specs.Messages.{step_of, wave_awaits}
+use Rattle.pc_wave.specs.Standing.{IsHeardTo}
+use Rattle.pc_coord.proofs.coordinator.Coordinator.come_back.Goals as goal
+
+pub returns-clause-knows : goal.returns-clause-knows
+returns-clause-knows c = λ k heard is goes.
+    let s = c.args.self.now in
+    let call = c.args.call in
+    let told = c.in_ok-told.told in
+    let k2 = known_heard heard k in
+    let goes2 = subst (GoesOn call.purpose) (sym c.in_ok-told.ensures) goes in
+    let heard2 = subst (λ r. IsHeardTo k c.args.number r heard) (sym c.in_ok-told.ensures) is.heard in
+    let w = c.heard.ensures.stands s.session is.before s.begun s.splits k c.args.txn heard is.counted is.in_call is.waited heard2 goes2 in
+    c.go_on.ensures.knows k2 is.ready w (λ due.
+    subst IsForMany (sym (ap (λ c. c.purpose) c.heard.ensures.made)) (many_heard call.purpose c.args.number told call.wave goes2 is.waited (ap step_of (sym (ap (λ c. c.wave) c.heard.ensures.made)) ∙ due)))
+
+pub returns-clause-waits : goal.returns-clause-waits
+returns-clause-waits c = λ k other w waits.
+    on_ok c.go_on.result (awaits_number other c.go_on.new.self.due ≡ wave_awaits other c.heard.new.self.wave) (awaits_number other c.go_on.new.self.due ≡ (wave_awaits other c.args.call.wave && not (c.args.number == other)))
+    (λ e. e ∙ c.heard.ensures.awaited c.args.self.now.splits k c.args.txn other w waits) (c.go_on.ensures.waits other)

@@ -1,0 +1,28 @@
+use Rattle.std.proofs.Common.{◌≡◌, false, not, ◌&&◌, ◌==◌, ◌∙◌}
+use Rattle.pc_coord.proofs.Onward.{abort_waits, commit_waits}
+use Rattle.pc_coord.proofs.Steps.{on_ok}
+use Rattle.pc_coord.specs.Coordination.{awaits_number}
+use Rattle.pc_wave.specs.Messages.{wave_awaits}
+use Rattle.pc_coord.proofs.coordinator.Coordinator.hear.Goals as goal
+
+pub returns-in-Write-clause-knows : goal.returns-in-Write-clause-knows
+returns-in-Write-clause-knows c = λ k heard is. c.write_heard.ensures.knows k heard c.in-Write.again is c.in-Write.is
+
+pub returns-in-Write-clause-waits : goal.returns-in-Write-clause-waits
+returns-in-Write-clause-waits c = λ k other w waits. c.write_heard.ensures.waits k other c.in-Write.again w c.in-Write.is waits
+
+pub returns-in-Commit-clause-knows : goal.returns-in-Commit-clause-knows
+returns-in-Commit-clause-knows c = λ k heard is. c.commit_heard.ensures.knows k heard c.args.number c.in-Commit.refusals is c.in-Commit.is
+
+pub returns-in-Commit-clause-waits : goal.returns-in-Commit-clause-waits
+returns-in-Commit-clause-waits c = λ k other w waits.
+    on_ok c.commit_heard.result (awaits_number other c.commit_heard.new.self.due ≡ false) (awaits_number other c.commit_heard.new.self.due ≡ (wave_awaits other c.args.call.wave && not (c.args.number == other)))
+    (λ e. e ∙ commit_waits c.args.number other c.args.self.now.splits k c.args.txn c.args.call.purpose c.args.call.wave w c.in-Commit.refusals c.in-Commit.is waits) (c.commit_heard.ensures.waits other)
+
+pub returns-in-Abort-clause-knows : goal.returns-in-Abort-clause-knows
+returns-in-Abort-clause-knows c = λ k heard is. c.abort_heard.ensures.knows k heard c.args.number c.in-Abort.why is c.in-Abort.is
+
+pub returns-in-Abort-clause-waits : goal.returns-in-Abort-clause-waits
+returns-in-Abort-clause-waits c = λ k other w waits.
+    on_ok c.abort_heard.result (awaits_number other c.abort_heard.new.self.due ≡ false) (awaits_number other c.abort_heard.new.self.due ≡ (wave_awaits other c.args.call.wave && not (c.args.number == other)))
+    (λ e. e ∙ abort_waits c.args.number other c.args.self.now.splits k c.args.txn c.args.call.purpose c.args.call.wave w c.in-Abort.why c.in-Abort.is waits) (c.abort_heard.ensures.waits other)

@@ -1,0 +1,27 @@
+use Rattle.std.proofs.Common.{◌≡◌, false, not, ◌&&◌, ◌==◌, sym, ◌∙◌, subst}
+use Rattle.pc_call.specs.Opening.{GoesOn}
+use Rattle.pc_coord.proofs.Onward.{write_kind, write_waits}
+use Rattle.pc_coord.proofs.Steps.{on_ok}
+use Rattle.pc_coord.proofs.Tying.{put_met, written_reply}
+use Rattle.pc_coord.specs.Coordination.{awaits_number}
+use Rattle.pc_coord.specs.Going.{HearsNow}
+use Rattle.pc_wave.specs.Messages.{wave_awaits}
+use Rattle.pc_coord.proofs.coordinator.Coordinator.write_heard.Goals as goal
+
+pub returns-in-Some-clause-knows : goal.returns-in-Some-clause-knows
+returns-in-Some-clause-knows c = λ k heard again is writes.
+    let same = written_reply c.args.reply.now c.in-Some.ts (sym c.written_at-written.ensures ∙ c.in-Some.is) in
+    c.written.ensures.knows k heard c.args.number again (subst (λ r. HearsNow c.args.self.now c.args.call c.args.txn c.args.number r k heard) same is) writes
+
+pub returns-in-Some-clause-waits : goal.returns-in-Some-clause-waits
+returns-in-Some-clause-waits c = λ k other again w writes waits.
+    on_ok c.written.result (awaits_number other c.written.new.self.due ≡ false) (awaits_number other c.written.new.self.due ≡ (wave_awaits other c.args.call.wave && not (c.args.number == other)))
+    (λ e. e ∙ write_waits c.args.number other c.args.self.now.splits k c.args.txn c.args.call.purpose c.args.call.wave w again writes waits) (c.written.ensures.waits other)
+
+pub returns-in-None-clause-knows : goal.returns-in-None-clause-knows
+returns-in-None-clause-knows c = λ k heard again is writes.
+    let none = sym c.written_at-written.ensures ∙ c.in-None.is in
+    c.come_back.ensures.knows k heard is (subst (λ p. GoesOn p c.args.reply.now) (sym writes) (put_met c.args.txn.id c.args.reply.now (write_kind c.args.self.now c.args.call c.args.txn c.args.number c.args.reply.now k heard is again writes) none))
+
+pub returns-in-None-clause-waits : goal.returns-in-None-clause-waits
+returns-in-None-clause-waits c = λ k other again w writes waits. c.come_back.ensures.waits k other w waits

@@ -1,0 +1,2 @@
+-- What a judge keeps of the actors of a journal.
+pub mod Keeping
