@@ -5,7 +5,7 @@ use Rattle.std.proofs.lemmas.List.{append-nil, append_assoc}
 use Rattle.std.proofs.lemmas.List.Elements.{All-nil, All-push, All-weaker}
 use Rattle.std.specs.Option.{option_and_then}
 use Rattle.pc_base.specs.declared.transaction.TxnId.{TxnId}
-use Rattle.pc_coord.specs.Beside.{IsBeside, IsOfBegun}
+use Rattle.pc_coord.specs.Beside.{IsBeside}
 use Rattle.pc_coord.specs.Coordination.{Coordination}
 use Rattle.pc_coord.specs.declared.job.Job.{Job}
 use Rattle.pc_exchange.proofs.Coordinator.{IsCountedBy}
@@ -17,6 +17,7 @@ use Rattle.pc_proto.specs.declared.reply.Reply.{Reply}
 use Rattle.pc_proto.specs.declared.request.Request.{Request}
 use Rattle.pc_proto.specs.Requests.{is_about, subject_anchor}
 use Rattle.pc_proto.specs.Stamps.{fate_stamps, greatest_of, reply_stamps}
+use Rattle.pc_txn.specs.Counted.{IsOfBegun}
 use Rattle.pc_world.specs.Known.{Known, first_if, next_number, open_txn}
 use Rattle.pc_world.specs.Known.Traffic.{Heard, Sent}
 use Rattle.pc_world.specs.Known.Transactions.{Txn}

@@ -7,12 +7,12 @@ use Rattle.pc_base.specs.declared.actor.ActorId.TheVariants as actors
 use Rattle.pc_base.specs.declared.transaction.TxnId.{TxnId}
 use Rattle.pc_base.specs.declared.transaction.Who.TheVariants as whos
 use Rattle.pc_base.specs.Transaction.{same_txn}
+use Rattle.pc_call.specs.Paced.{shows_resolve, was_met, was_pushed}
+use Rattle.pc_call.specs.Sending.{IsConflictNow, read_at}
 use Rattle.pc_coord.specs.declared.pusher.Pusher.{Pusher}
 use Rattle.pc_coord.specs.declared.round.Round.TheVariants as rounds
-use Rattle.pc_coord.specs.Knows.Sending.{IsConflictNow}
-use Rattle.pc_coord.specs.Messages.{read_at}
 use Rattle.pc_coord.specs.Pusher.{IsPusherOf}
-use Rattle.pc_coord.specs.Rounds.{EndsRound, IsRefusedRound, IsSettledRound, shows_resolve, was_met, was_pushed}
+use Rattle.pc_coord.specs.Rounds.{EndsRound, IsRefusedRound, IsSettledRound}
 use Rattle.pc_exchange.proofs.Aside.{open_same}
 use Rattle.pc_exchange.proofs.Going.{not_same}
 use Rattle.pc_exchange.proofs.Pushed.{push_decides}
@@ -120,7 +120,7 @@ module _ (session : ℕ) (start : Known) (number : ℕ) (conflict : Reply) (read
   pub resolve_aside : (m : Pushing) (fate : Fate) → IsAside session start (holder_resolve m fate)
   resolve_aside m fate = record { kind = refl; begun = λ id about whose. absurd cc; other = λ t opened. refl }
 
-  module _ (undecided : (t : Txn) (ts : ℕ) → IsCommitKnown start t ts → ⊥) (k : Known) (last : ℕ) (later : IsLaterAside session start k last) (answered : All (λ m. IsTrue (is_heard k.heard_now m)) k.sent_now) (waiting : List (List Request)) where
+  module _ (k : Known) (last : ℕ) (later : IsLaterAside session start k last) (answered : All (λ m. IsTrue (is_heard k.heard_now m)) k.sent_now) (waiting : List (List Request)) where
     -- what was heard since speaks of no record of the open transaction
     heard-before : (t : Txn) → open_txn start ≡ Some t → (p : Heard → Bool) → ((h : Heard) → is_about t.id h.request ≡ false → p h ≡ false) → Any (λ h. IsTrue (p h)) k.heard → Any (λ h. IsTrue (p h)) start.heard
     heard-before t opened p none any =
@@ -130,7 +130,7 @@ module _ (session : ℕ) (start : Known) (number : ℕ) (conflict : Reply) (read
     not_decided : (t : Txn) (ts : ℕ) → IsCommitKnown k t ts → ⊥
     not_decided t ts d =
         let opened : open_txn start ≡ Some t = sym (open_same session start k last later) ∙ d.opened in
-        undecided t ts (record {
+        met.undecided t ts (record {
           opened = opened;
           asked = sym (ap call_in later.statement) ∙ d.asked;
           why = elim d.why [

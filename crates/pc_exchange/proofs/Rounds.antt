@@ -101,14 +101,14 @@ module _ {C : Type 0} (old : DeskMeaning C) (pusher : Pusher) (reading : ℕ) (c
   asked_by progresses.Push request come asks =
       subst (λ q. IsAside r.start.session start_known q × IsTimely now_known (jobs_of d.log.part.own) q) (sym asks) (
         push_aside r.start.session start_known r.start.number conflict reader r.start.met m made_it,
-        push_timely r.start.session start_known r.start.number conflict reader r.start.met r.start.undecided now_known ts r.aside (all_heard_in_call d r.goes.back) (jobs_of d.log.part.own) m made_it come,
+        push_timely r.start.session start_known r.start.number conflict reader r.start.met now_known ts r.aside (all_heard_in_call d r.goes.back) (jobs_of d.log.part.own) m made_it come,
       )
   asked_by progresses.Refused request come asks = absurd asks
   asked_by (progresses.Unsure view) request come asks = absurd come
   asked_by (progresses.Resolve fate) request come asks =
       subst (λ q. IsAside r.start.session start_known q × IsTimely now_known (jobs_of d.log.part.own) q) (sym asks) (
         resolve_aside r.start.session start_known r.start.number conflict reader r.start.met m fate,
-        resolve_timely r.start.session start_known r.start.number conflict reader r.start.met r.start.undecided now_known ts r.aside (all_heard_in_call d r.goes.back) (jobs_of d.log.part.own) m fate made_it come,
+        resolve_timely r.start.session start_known r.start.number conflict reader r.start.met now_known ts r.aside (all_heard_in_call d r.goes.back) (jobs_of d.log.part.own) m fate made_it come,
       )
   asked_by progresses.Over request come asks = absurd asks
 

@@ -1,9 +1,10 @@
 -- What a session knows after messages of conflicts' rounds and of finishing jobs alone, and how its coordinator stands beside it.
 use Rattle.std.specs.Prelude.{◌≡◌, ℕ, ◌≤◌, max, true, false, Some, List, ◌++◌, All, length}
-use Rattle.pc_coord.specs.Beside.{IsLaterBeside, IsOfBegun, is_of_round_or_job}
+use Rattle.pc_coord.specs.Beside.{IsLaterBeside, is_of_round_or_job}
 use Rattle.pc_coord.specs.Coordination.{Coordination}
 use Rattle.pc_proto.specs.declared.request.Request.{Request}
 use Rattle.pc_proto.specs.Requests.{is_about}
+use Rattle.pc_txn.specs.Counted.{IsOfBegun}
 use Rattle.pc_world.specs.Known.{Known, open_txn}
 use Rattle.pc_world.specs.Known.Traffic.{Heard, Sent}
 use Rattle.pc_world.specs.Known.Transactions.{Txn}

@@ -1,13 +1,13 @@
 -- The round of a conflict that the open call met: the holder of the intent is pushed, and the intent settled as the push came out.
 use Rattle.std.specs.Prelude.{◌≡◌, ℕ, Option, Some, List}
 use Rattle.pc_base.specs.declared.actor.ActorId.TheVariants as actors
+use Rattle.pc_call.specs.Sending.{IsConflictNow}
 use Rattle.pc_coord.specs.Coordination.{Coordination, next_of}
 use Rattle.pc_coord.specs.declared.job.Job.{Job}
 use Rattle.pc_coord.specs.declared.next.Next.TheVariants as nexts
 use Rattle.pc_coord.specs.declared.pusher.Pusher.{Pusher}
 use Rattle.pc_coord.specs.declared.round.Round.{Round}
 use Rattle.pc_coord.specs.Knows.{Knows}
-use Rattle.pc_coord.specs.Knows.Sending.{IsConflictNow}
 use Rattle.pc_coord.specs.Pusher.{IsPusherOf}
 use Rattle.pc_coord.specs.Rounds.{EndsRound}
 use Rattle.pc_desk.specs.Desk.{DeskMeaning}
@@ -17,12 +17,10 @@ use Rattle.pc_exchange.specs.Jobs.{IsFinishable}
 use Rattle.pc_history.specs.declared.pair.Pair.{Pair}
 use Rattle.pc_proto.specs.declared.event.Event.{Event}
 use Rattle.pc_proto.specs.declared.reply.Reply.{Reply}
-use Rattle.pc_world.specs.Follows.EarlyTell.{IsCommitKnown}
 use Rattle.pc_world.specs.Follows.FinishingJobs.{jobs_of}
 use Rattle.pc_world.specs.Known.{Known, known_of, reading_of}
-use Rattle.pc_world.specs.Known.Transactions.{Txn}
 
--- The session's open call, which is not decided and was asked at this reading, met this conflict, and its round is due.
+-- The session's open call, which was asked at this reading, met this conflict, and its round is due.
 pub record MayMakeRound {C : Type 0} (d : DeskMeaning C) (pusher : Pusher) (reading : ℕ) (conflict : Reply) (reader : Option ℕ) : Type 0 where
   pub back : HasAllBack d
   pub session : ℕ
@@ -31,7 +29,6 @@ pub record MayMakeRound {C : Type 0} (d : DeskMeaning C) (pusher : Pusher) (read
   pub met : IsConflictNow (known_of d.log.part.own) number conflict reader
   pub pushes : IsPusherOf (known_of d.log.part.own) (Some pusher)
   pub read : reading_of (known_of d.log.part.own) ≡ Some reading
-  pub undecided : (t : Txn) (ts : ℕ) → IsCommitKnown (known_of d.log.part.own) t ts → ⊥
 
 -- Since then the session has made the round of this conflict, which ended so, and done nothing else; this is the greatest timestamp that it
 -- heard in it. What its jobs may do they may do still.
@@ -40,7 +37,7 @@ pub record IsRoundMade (session : ℕ) (start k : Known) (conflict : Reply) (rou
   pub aside : IsLaterAside session start k ts
   pub left : (job : Job) → IsFinishable start job → IsFinishable k job
   pub beside :
-      (c : Coordination) (number : ℕ) (reader : Option ℕ) → c.session ≡ session → Knows c start → next_of c.due ≡ nexts.Conflict number conflict reader
+      (c : Coordination) (number : ℕ) (reader : Option ℕ) → c.session ≡ session → Knows c start → next_of c ≡ nexts.Conflict number conflict reader
       → MayGoOnBeside c start k ts
 
 -- The session made the round of this conflict beside its coordinator, and no job's message went out in it.

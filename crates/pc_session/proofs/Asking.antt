@@ -1,8 +1,7 @@
 -- A session once it asked a call.
-use Rattle.std.proofs.Common.{◌≡◌, ℕ, true, false, All, List, [], ◌∷◌, ◌++◌, Some, None, refl, sym, ap, subst, ◌∙◌}
+use Rattle.std.proofs.Common.{◌≡◌, ℕ, true, false, [], ◌∷◌, refl, sym, ap, subst, ◌∙◌}
 use Rattle.std.proofs.lemmas.List.Elements.{All-nil}
 use Rattle.pc_base.specs.declared.actor.ActorId.{ActorId}
-use Rattle.pc_base.specs.declared.actor.ActorId.TheVariants as actors
 use Rattle.pc_coord.specs.Coordination.{Coordination, awaits_number}
 use Rattle.pc_coord.specs.Events.{IsAsked}
 use Rattle.pc_coord.specs.Knows.{Knows}
@@ -72,12 +71,13 @@ module _ {C : Type 0} (old : SessionMeaning C) (d : DeskMeaning C) (c : Coordina
       record { left = jobs_then old.desk.log d.log event done.entered ∙ rest.waiting.left; numbers = has.numbers; each = has.left }
 
   -- the call is open
-  pub asked_open : ((k : Known) (p : Pair Event) → Knows old.coordinator k → IsAsked old.coordinator call reading k p → Knows c (learn p k)) → ((number : ℕ) → awaits_number number c.due ≡ false)
+  pub asked_open : ((k : Known) (p : Pair Event) → Knows old.coordinator k → IsAsked old.coordinator call reading k p → Knows c (learn p k))
+      → ((k : Known) (p : Pair Event) (number : ℕ) → Knows old.coordinator k → IsAsked old.coordinator call reading k p → awaits_number number c.due ≡ false)
       → c.session ≡ old.coordinator.session → c.splits ≡ old.coordinator.splits → HasOpenCall asked_then reading
   asked_open learns quiet session splits = record {
     track = done.track;
     one = one_on old.desk d old.coordinator c (p ∷ []) grown_asked rest.one session splits (subst (Knows c) (sym (known_after_it old.desk.log d.log event done.entered)) (learns k p rest.one.knows is_asked));
-    way = λ number. quiet number ∙ sym (away number);
+    way = λ number. quiet k p number rest.one.knows is_asked ∙ sym (away number);
     call = call;
     opened = ap (λ (k : Known). k.statement) known_is;
     apart = subst IsApartNow (sym known_is) (apart_asked call reading k);

@@ -1,6 +1,6 @@
 -- The messages of a session in its call: each is on its way, or was heard in the call.
-use Rattle.std.proofs.Common.{◌≡◌, ℕ, ◌+◌, ◌<◌, ◌≤◌, nat_lt, Bool, true, false, ◌&&◌, ◌||◌, ◌==◌, not, All, Contains, IsTrue, List, [], ◌∷◌, ◌++◌, length, cond, count_by, find, inl, inr, Option, None, Some, refl, sym, ap, subst, ◌∙◌, arith}
-use Rattle.std.proofs.lemmas.Bool.{eq-eqb, eqb-true}
+use Rattle.std.proofs.Common.{◌≡◌, ℕ, ◌+◌, ◌≤◌, nat_lt, Bool, true, false, ◌||◌, ◌==◌, All, Contains, IsTrue, List, [], ◌∷◌, ◌++◌, length, cond, count_by, find, inl, inr, Option, None, Some, refl, sym, ap, ◌∙◌, arith}
+use Rattle.std.proofs.lemmas.Bool.{eq-eqb}
 use Rattle.std.proofs.lemmas.Bool.Decides.{nat_tests}
 use Rattle.std.proofs.lemmas.List.{append-nil, append_assoc}
 use Rattle.std.proofs.lemmas.List.Elements.{All-contains, All-nil, All-push, All-weaker}
@@ -8,7 +8,7 @@ use Rattle.std.proofs.lemmas.List.Folds.{list_any-append}
 use Rattle.std.specs.List.{list_any}
 use Rattle.std.specs.Option.{option_map}
 use Rattle.pc_coord.specs.Coordination.{Coordination, awaits_number}
-use Rattle.pc_coord.specs.Knows.Sending.{AwaitsNone}
+use Rattle.pc_coord.specs.Knows.{AwaitsNone}
 use Rattle.pc_desk.proofs.Counting.{any_counts, counts_any, none_beyond, none_counted, said_more, said_new, sent_where_said, uncounted}
 use Rattle.pc_desk.specs.declared.answered.Answered.{Answered}
 use Rattle.pc_desk.specs.Desk.{DeskMeaning, KeepsTrack, Posted, answered_as, heard_as_number, is_on_way, posted_as, times_sent}

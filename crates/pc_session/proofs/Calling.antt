@@ -1,6 +1,6 @@
 -- A whole call of a session, from its asking and its telling.
-use Rattle.std.proofs.Common.{◌≡◌, ℕ, All, List, [], ◌∷◌, ◌++◌, Option, Some, refl, sym, ap, subst, ◌∙◌}
-use Rattle.std.proofs.lemmas.List.{append_assoc, map-append}
+use Rattle.std.proofs.Common.{◌≡◌, ℕ, [], ◌∷◌, ◌++◌, refl, ap, ◌∙◌}
+use Rattle.std.proofs.lemmas.List.{map-append}
 use Rattle.pc_exchange.proofs.Growing.{grows_both}
 use Rattle.pc_exchange.specs.Growing.{HasGrownBy}
 use Rattle.pc_history.specs.declared.pair.Pair.{Pair}
@@ -12,7 +12,7 @@ use Rattle.pc_session.proofs.Stepping.{part_whose}
 use Rattle.pc_session.specs.Calls.{HasCalled}
 use Rattle.pc_session.specs.InCall.{HasAsked, HasTold}
 use Rattle.pc_session.specs.Session.{IsAtRest, SessionMeaning}
-use Rattle.pc_turns.specs.Order.{AsksWhole, events_of}
+use Rattle.pc_turns.specs.Order.{events_of}
 
 pub has_called : {C : Type 0} (old mid new : SessionMeaning C) (call : Call) (reading : ℕ) (answer : Answer) → IsAtRest old → HasAsked old mid call reading → HasTold mid new answer → HasCalled old new call answer
 has_called old mid new call reading answer rest a t =

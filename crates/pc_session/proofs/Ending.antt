@@ -12,8 +12,8 @@ use Rattle.pc_history.specs.declared.pair.Pair.{Pair}
 use Rattle.pc_proto.specs.declared.call.Call.{Call}
 use Rattle.pc_proto.specs.declared.event.Event.{Event}
 use Rattle.pc_session.specs.Ending.{AreOfBrokenCall}
-use Rattle.pc_session.specs.InCall.{HasAsked, HasGoneInside, HasOpenCall}
-use Rattle.pc_session.specs.Session.{IsAtRest, SessionMeaning}
+use Rattle.pc_session.specs.InCall.{HasAsked, HasGoneInside}
+use Rattle.pc_session.specs.Session.{SessionMeaning}
 use Rattle.pc_turns.specs.Order.{IsInBetween, events_of}
 
 -- memory was wanted

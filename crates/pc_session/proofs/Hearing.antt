@@ -1,19 +1,16 @@
 -- A session in its call while its messages are evaluated, and their replies heard.
-use Rattle.std.proofs.Common.{◌≡◌, ℕ, ◌+◌, true, false, Bool, ◌==◌, ◌||◌, ◌&&◌, not, All, Contains, IsTrue, List, [], ◌∷◌, ◌++◌, length, Option, Some, None, refl, sym, ap, subst, ◌∙◌, arith}
+use Rattle.std.proofs.Common.{◌≡◌, ℕ, ◌+◌, true, false, Bool, ◌==◌, ◌||◌, ◌&&◌, not, Contains, List, [], ◌∷◌, length, Option, Some, refl, sym, ap, subst, ◌∙◌, arith}
 use Rattle.std.proofs.lemmas.Bool.{eq-eqb}
-use Rattle.std.proofs.lemmas.List.{append-nil}
-use Rattle.std.proofs.lemmas.List.Elements.{All-cons, All-contains, All-head, All-nil, Contains-push}
+use Rattle.std.proofs.lemmas.List.Elements.{All-cons, All-contains, All-nil, Contains-push}
 use Rattle.std.specs.List.{list_any}
-use Rattle.pc_base.specs.declared.actor.ActorId.TheVariants as actors
-use Rattle.pc_base.specs.declared.entry.Entry.{Entry}
 use Rattle.pc_coord.specs.Coordination.{Coordination, awaits_number}
 use Rattle.pc_coord.specs.Events.{HearsAwaited}
 use Rattle.pc_coord.specs.Knows.{Knows}
-use Rattle.pc_desk.proofs.Making.{added, answer_of, known_after_it}
+use Rattle.pc_desk.proofs.Making.{added, known_after_it}
 use Rattle.pc_desk.specs.declared.answered.Answered.{Answered}
 use Rattle.pc_desk.specs.Desk.{DeskMeaning, HasDelivered, HasHeardFirst, IsAnsweredBy, MayHearNow, Posted, is_on_way}
 use Rattle.pc_desk.specs.Keeping.{KeepsSessionStep}
-use Rattle.pc_desk.specs.OwnLog.{IsOwnLog, LogMeaning}
+use Rattle.pc_desk.specs.OwnLog.{LogMeaning}
 use Rattle.pc_exchange.proofs.Growing.{grows_else, grows_entered}
 use Rattle.pc_exchange.proofs.HeardKinds.{heard_kind}
 use Rattle.pc_exchange.specs.Growing.{HasGrownBy}
@@ -27,7 +24,7 @@ use Rattle.pc_session.proofs.Away.{any_there, apart_heard}
 use Rattle.pc_session.proofs.Inside.{one_on}
 use Rattle.pc_session.proofs.Jobs.{HasJobs, jobs_heard}
 use Rattle.pc_session.proofs.Keeping.{keeps_as, keeps_heard}
-use Rattle.pc_session.proofs.Knowing.{brings_it, it, jobs_then, known_heard, with_heard}
+use Rattle.pc_session.proofs.Knowing.{it, jobs_then, known_heard, with_heard}
 use Rattle.pc_session.specs.InCall.{HasGoneInside, HasOpenCall, IsApartNow}
 use Rattle.pc_session.specs.Session.{HasLeft, SessionMeaning, session_knows}
 use Rattle.pc_turns.specs.Order.{IsInBetween}

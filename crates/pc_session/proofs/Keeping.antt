@@ -3,9 +3,9 @@ use Rattle.std.proofs.Common.{◌≡◌, ℕ, Bool, false, ◌⊎◌, inl, inr, 
 use Rattle.std.proofs.lemmas.List.Elements.{All-weaker}
 use Rattle.pc_base.specs.declared.actor.ActorId.{ActorId}
 use Rattle.pc_base.specs.declared.actor.ActorId.TheVariants as actors
+use Rattle.pc_call.specs.Sending.{IsSendable}
 use Rattle.pc_coord.specs.Coordination.{Coordination}
 use Rattle.pc_coord.specs.Knows.{IsTellable}
-use Rattle.pc_coord.specs.Knows.Sending.{IsSendable}
 use Rattle.pc_desk.specs.Hearing.{MayStayUnheard}
 use Rattle.pc_desk.specs.Keeping.{KeepsAs, KeepsSessionStep}
 use Rattle.pc_proto.specs.declared.answer.Answer.{Answer}

@@ -1,5 +1,5 @@
 -- What a session knows after one more entry of its own.
-use Rattle.std.proofs.Common.{◌≡◌, ℕ, max, List, [], ◌∷◌, ◌++◌, map, fold, Option, None, Some, refl, sym, ap, ◌∙◌}
+use Rattle.std.proofs.Common.{◌≡◌, ℕ, max, List, [], ◌∷◌, ◌++◌, map, fold, Option, None, Some, refl, ap, ◌∙◌}
 use Rattle.std.proofs.lemmas.Grind.{fold-append}
 use Rattle.std.proofs.lemmas.List.{append-nil}
 use Rattle.pc_base.specs.declared.entry.Entry.{Entry}
@@ -23,7 +23,7 @@ use Rattle.pc_world.specs.Follows.FinishingJobs.{Duty, duty_after, jobs_after, j
 use Rattle.pc_world.specs.Known.{Known, known_after, known_of, learn, nothing_known, txns_told}
 use Rattle.pc_world.specs.Known.Clock.{high_told}
 use Rattle.pc_world.specs.Known.Statements.{begun_told, is_open_told}
-use Rattle.pc_world.specs.Known.Traffic.{Heard, Sent, heard_as, heard_by, request_sent}
+use Rattle.pc_world.specs.Known.Traffic.{Heard, Sent, heard_as, heard_by}
 use Rattle.pc_world.specs.Known.Transactions.{txn_heard, txn_sent}
 
 -- What a session knows once it was asked this.

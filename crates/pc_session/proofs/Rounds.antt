@@ -7,6 +7,7 @@ use Rattle.std.proofs.lemmas.List.Elements.{All-append, All-contains, All-weaker
 use Rattle.std.specs.List.{list_any}
 use Rattle.std.specs.Option.{option_map}
 use Rattle.pc_base.specs.declared.actor.ActorId.TheVariants as actors
+use Rattle.pc_call.specs.Sending.{IsConflictNow}
 use Rattle.pc_coord.specs.Beside.{IsLaterBeside}
 use Rattle.pc_coord.specs.Coordination.{Coordination, awaits_number, next_of, with_clock}
 use Rattle.pc_coord.specs.declared.job.Job.{Job}
@@ -14,7 +15,6 @@ use Rattle.pc_coord.specs.declared.next.Next.TheVariants as nexts
 use Rattle.pc_coord.specs.declared.pusher.Pusher.{Pusher}
 use Rattle.pc_coord.specs.declared.round.Round.{Round}
 use Rattle.pc_coord.specs.Knows.{Knows, messages_of_job}
-use Rattle.pc_coord.specs.Knows.Sending.{IsConflictNow}
 use Rattle.pc_coord.specs.Pusher.{IsPusherOf}
 use Rattle.pc_coord.specs.Rounds.{EndsRound}
 use Rattle.pc_desk.proofs.Counting.{counts_any, none_counted, said_more}
@@ -28,7 +28,7 @@ use Rattle.pc_lists.proofs.Lists.{all_from_contains, contains_cons, contains_nil
 use Rattle.pc_proto.specs.declared.reply.Reply.{Reply}
 use Rattle.pc_proto.specs.declared.request.Request.{Request}
 use Rattle.pc_session.proofs.Away.{any_there, front_none, none_answered, none_away, none_posted}
-use Rattle.pc_session.proofs.Due.{met_no_commit, quiet_met}
+use Rattle.pc_session.proofs.Due.{quiet_met}
 use Rattle.pc_session.proofs.Inside.{one_on}
 use Rattle.pc_session.specs.InCall.{HasGoneInside, HasOpenCall, IsApartNow}
 use Rattle.pc_session.specs.Session.{HasLeft, SessionMeaning, session_knows}
@@ -96,12 +96,12 @@ module _ {C : Type 0} (old d : DeskMeaning C) (track : KeepsTrack old) (after : 
         said_once now.sent m (subst (λ xs. Contains xs m) (sym aside.sent) (Contains-append_right k.sent aside.sent_more m there)) (after.once m.number))));
   }
 
-module _ {C : Type 0} (old : SessionMeaning C) (reading number : ℕ) (conflict : Reply) (reader : Option ℕ) (calls : HasOpenCall old reading) (due : next_of old.coordinator.due ≡ nexts.Conflict number conflict reader) (met : IsConflictNow (session_knows old) number conflict reader) where
+module _ {C : Type 0} (old : SessionMeaning C) (reading number : ℕ) (conflict : Reply) (reader : Option ℕ) (calls : HasOpenCall old reading) (due : next_of old.coordinator ≡ nexts.Conflict number conflict reader) (met : IsConflictNow (session_knows old) number conflict reader) where
   abbrev known : Known
   known = session_knows old
 
   quiet : (n : ℕ) → is_on_way n old.desk ≡ false
-  quiet n = sym (calls.way n) ∙ quiet_met old.coordinator.due number conflict reader due n
+  quiet n = sym (calls.way n) ∙ quiet_met old.coordinator number conflict reader due n
 
   -- the round may be made
   pub may_round : (pusher : Pusher) → IsPusherOf known (Some pusher) → MayMakeRound old.desk pusher reading conflict reader
@@ -113,7 +113,6 @@ module _ {C : Type 0} (old : SessionMeaning C) (reading number : ℕ) (conflict 
     met = met;
     pushes = pushes;
     read = ap reading_in calls.opened;
-    undecided = λ t ts known. met_no_commit old.coordinator (session_knows old) number conflict reader calls.one.knows due known.asked;
   }
 
   -- somebody pushes in it
@@ -142,8 +141,8 @@ module _ {C : Type 0} (old : SessionMeaning C) (reading number : ℕ) (conflict 
         let beside = made.made.beside old.coordinator number reader same-session calls.one.knows due in
         raised ∙ ap (λ n. with_clock n old.coordinator) beside.clock
 
-    c-due : next_of c.due ≡ nexts.Conflict number conflict reader
-    c-due = ap (λ (x : Coordination). next_of x.due) raised ∙ due
+    c-due : next_of c ≡ nexts.Conflict number conflict reader
+    c-due = ap next_of raised ∙ due
 
     left_on : HasLeft d.log.part.own old.jobs
     left_on = record {
@@ -153,8 +152,8 @@ module _ {C : Type 0} (old : SessionMeaning C) (reading number : ℕ) (conflict 
     }
 
     -- the call goes on
-    pub round_open : ((c' : Coordination) (start k : Known) (conflict : Reply) (reader : Option ℕ) → Knows c' start → c ≡ with_clock k.high c' → next_of c'.due ≡ nexts.Conflict number conflict reader → IsLaterBeside c' start k → EndsRound conflict round start k → Knows e k)
-        → ((conflict : Reply) (reader : Option ℕ) (other : ℕ) → next_of c.due ≡ nexts.Conflict number conflict reader → awaits_number other e.due ≡ false) → e.session ≡ c.session → e.splits ≡ c.splits → HasOpenCall round_then reading
+    pub round_open : ((c' : Coordination) (start k : Known) (conflict : Reply) (reader : Option ℕ) → Knows c' start → c ≡ with_clock k.high c' → next_of c' ≡ nexts.Conflict number conflict reader → IsLaterBeside c' start k → EndsRound conflict round start k → Knows e k)
+        → ((conflict : Reply) (reader : Option ℕ) (other : ℕ) → next_of c ≡ nexts.Conflict number conflict reader → awaits_number other e.due ≡ false) → e.session ≡ c.session → e.splits ≡ c.splits → HasOpenCall round_then reading
     round_open settles waits session splits =
         let beside = made.made.beside old.coordinator number reader same-session calls.one.knows due in
         record {

@@ -1,14 +1,13 @@
 -- A session in its call once it sent the message that its coordinator gave.
-use Rattle.std.proofs.Common.{◌≡◌, ℕ, ◌+◌, true, false, Bool, ◌==◌, ◌||◌, All, IsTrue, inl, inr, List, [], ◌∷◌, ◌++◌, Some, None, refl, sym, ap, subst, ◌∙◌, if◌then◌else◌, is_some, map, Option}
+use Rattle.std.proofs.Common.{◌≡◌, ℕ, ◌+◌, true, false, Bool, ◌==◌, ◌||◌, [], ◌∷◌, ◌++◌, Some, None, refl, sym, ap, subst, ◌∙◌, is_some, Option}
 use Rattle.std.proofs.lemmas.Bool.{eqb-true}
 use Rattle.std.proofs.lemmas.List.Elements.{All-cons, All-nil}
 use Rattle.pc_base.specs.declared.actor.ActorId.TheVariants as actors
-use Rattle.pc_base.specs.Rising.{AreRising}
+use Rattle.pc_call.specs.Sending.{IsSendable}
 use Rattle.pc_coord.specs.Coordination.{Coordination, awaits_number, next_of}
 use Rattle.pc_coord.specs.declared.next.Next.TheVariants as nexts
 use Rattle.pc_coord.specs.Events.{SendsDue}
-use Rattle.pc_coord.specs.Knows.{Knows, messages_of_job}
-use Rattle.pc_coord.specs.Knows.Sending.{AwaitsNone, IsSendable, learned}
+use Rattle.pc_coord.specs.Knows.{AwaitsNone, Knows}
 use Rattle.pc_desk.proofs.Counting.{said_new}
 use Rattle.pc_desk.proofs.Making.{added, known_after_it}
 use Rattle.pc_desk.specs.Desk.{DeskMeaning, HasSentNext, MaySendNow, is_on_way}
@@ -20,54 +19,30 @@ use Rattle.pc_history.specs.Parts.{gave}
 use Rattle.pc_proto.specs.declared.event.Event.{Event}
 use Rattle.pc_proto.specs.declared.event.Event.TheVariants as events
 use Rattle.pc_proto.specs.declared.request.Request.{Request}
-use Rattle.pc_proto.specs.declared.request.Request.TheVariants as requests
-use Rattle.pc_proto.specs.Requests.{is_refresh}
-use Rattle.pc_lists.proofs.Lists.{contains_in_map}
 use Rattle.pc_session.proofs.Away.{answered_now, apart_sent, none_heard_next, said_before}
-use Rattle.pc_session.proofs.Due.{no_refresh, puts_open}
+use Rattle.pc_session.proofs.Due.{puts_open}
 use Rattle.pc_session.proofs.Inside.{one_on}
 use Rattle.pc_session.proofs.Jobs.{HasJobs, jobs_sent}
 use Rattle.pc_session.proofs.Keeping.{keeps_as, keeps_sent, plain_for}
 use Rattle.pc_session.proofs.Knowing.{jobs_then, known_sent, of_send, with_sent}
-use Rattle.pc_session.specs.InCall.{GoesOnOrTold, HasGoneInside, HasOpenCall, IsApartNow}
+use Rattle.pc_session.specs.InCall.{HasGoneInside, HasOpenCall, IsApartNow}
 use Rattle.pc_session.specs.Session.{HasLeft, SessionMeaning, session_knows}
 use Rattle.pc_turns.specs.Order.{IsInBetween}
-use Rattle.pc_world.proofs.Pieces.{pieces-lie}
-use Rattle.pc_world.specs.Exchange.{IsAllowed}
 use Rattle.pc_world.specs.Follows.CallMessages.{IsForCall}
 use Rattle.pc_world.specs.Follows.FinishingJobs.{jobs_of, without_first}
 use Rattle.pc_world.specs.Known.{Known, known_of, learn, next_number}
 use Rattle.pc_world.specs.Known.Statements.{Statement}
 use Rattle.pc_world.specs.Known.Traffic.{Sent, request_sent}
 use Rattle.pc_world.specs.MaySend.{MaySendRow}
-use Rattle.pc_world.specs.RangeOf.{IsForOne, LiesInOne, pieces}
-use Rattle.pc_world.specs.Send.Reading.{MaySendScan}
+use Rattle.pc_world.specs.RangeOf.{IsForOne}
 
-piece-lies : (splits : List (List ℕ)) (k : Known) (id : _) (epoch seq ts : ℕ) (span : _) → AreRising splits → MaySendScan splits k id epoch seq ts span → LiesInOne splits span
-piece-lies splits k id epoch seq ts span rising may =
-    let found = contains_in_map (λ (p : ℕ × _). p.1) (pieces splits may.whole) span may.cut in
-    let lies : pieces splits found.0.1 ≡ (found.0.0, found.0.1) ∷ [] = pieces-lie splits may.whole found.0 rising found.1 in
-    (found.0.0, subst (λ s. pieces splits s ≡ (found.0.0, s) ∷ []) found.2 lies)
-
--- what a session may send, but for a refresh, is for one range
-one-range : (splits : List (List ℕ)) (session : ℕ) (k : Known) (request : Request) → AreRising splits → is_refresh request ≡ false → MaySendRow splits (actors.Session session) k request → IsForOne splits request
-one-range splits session k (requests.Scan id epoch seq ts span) rising none may = piece-lies splits k id epoch seq ts span rising may
-one-range splits session k (requests.Refresh id from to span) rising none may = absurd cc
-one-range splits session k request rising none may = tt
-
-module _ {C : Type 0} (old : SessionMeaning C) (reading : ℕ) (request : Request) (calls : HasOpenCall old reading) (due : next_of old.coordinator.due ≡ nexts.Send request)
-    (may : IsSendable old.coordinator.splits old.coordinator.session (session_knows old) request) (none : AwaitsNone old.coordinator (session_knows old) request) where
+module _ {C : Type 0} (old : SessionMeaning C) (reading : ℕ) (request : Request) (calls : HasOpenCall old reading) (due : next_of old.coordinator ≡ nexts.Send request)
+    (may : IsSendable old.coordinator.splits old.coordinator.session (session_knows old) request) (none : AwaitsNone old.coordinator (session_knows old) request) (one-range : IsForOne old.coordinator.splits request) where
   abbrev k : Known
   k = session_knows old
 
-  fresh-now : (number : ℕ) → number ≡ old.desk.sends + 1 → request_sent number (k.sent ++ record { number = number; range = 0; request = request } ∷ []) ≡ Some request
-  fresh-now number next = said_new k.sent (record { number = number; range = 0; request = request }) (none_heard_next old.desk calls.track number next).1
-
   next-is : old.desk.sends + 1 ≡ next_number k
   next-is = ap (λ n. n + 1) calls.track.counted
-
-  said-now : request_sent (next_number k) (learned (events.Send (next_number k) 0 request) k).sent ≡ Some request
-  said-now = fresh-now (next_number k) (sym next-is)
 
   -- it may go out
   pub may_go : MaySendNow old.desk.log request
@@ -76,8 +51,7 @@ module _ {C : Type 0} (old : SessionMeaning C) (reading : ℕ) (request : Reques
       record {
         allowed = record { row = subst (λ id. MaySendRow old.desk.log.head.splits id k request) (sym calls.one.whose) mine; stamps = may.stamps };
         unstaged = (plain_for may.kind.s.call request may.kind.kind).unstaged;
-        one = one-range old.desk.log.head.splits old.coordinator.session k request (subst AreRising calls.one.splits calls.one.knows.rising)
-            (no_refresh old.coordinator k request said-now may.kind calls.one.knows due) mine;
+        one = subst (λ splits. IsForOne splits request) calls.one.splits one-range;
         keeps = λ number range.
             keeps_as old.desk.log.part.id old.coordinator.session old.desk.log.pipelining (jobs_of old.desk.log.part.own) k (events.Send number range request) None calls.one.whose calls.one.unpiped
             (keeps_sent (jobs_of old.desk.log.part.own) k number range request old.coordinator.splits old.coordinator.session may
@@ -114,7 +88,7 @@ module _ {C : Type 0} (old : SessionMeaning C) (reading : ℕ) (request : Reques
 
     left_on : HasLeft d.log.part.own old.jobs
     left_on =
-        let puts = puts_open old.coordinator k request said-now may.kind calls.one.knows due in
+        let puts = puts_open k request may.own in
         let has : HasJobs old.jobs (learn p k) = jobs_sent old.jobs k p number sent.range request refl (sym learnt ∙ known_is) puts (record { numbers = calls.waiting.numbers; left = calls.waiting.each }) in
         let now : HasJobs old.jobs (known_of d.log.part.own) = subst (HasJobs old.jobs) (sym learnt) has in
         let none_left : jobs_of d.log.part.own ≡ jobs_of old.desk.log.part.own = ap jobs_of own-is ∙ (jobs_then old.desk.log sent.sent event sent.entered

@@ -1,14 +1,12 @@
 -- A session rests where it begins, and rests or has stopped after what it does.
-use Rattle.std.proofs.Common.{◌≡◌, ℕ, Bool, true, false, All, IsTrue, IfErr, IfOk, List, [], Result, Ok, Err, ◌≤◌, is_some, Some, None, refl, sym, ap, subst, ◌∙◌}
+use Rattle.std.proofs.Common.{◌≡◌, ℕ, Bool, true, false, All, IsTrue, IfErr, IfOk, List, [], Result, Ok, Err, ◌≤◌, is_some, refl, sym, ap, subst, ◌∙◌}
 use Rattle.std.proofs.lemmas.List.Elements.{All-nil}
 use Rattle.pc_base.specs.declared.actor.ActorId.TheVariants as actors
 use Rattle.pc_coord.specs.Coordination.{Coordination, new_coordination}
-use Rattle.pc_coord.specs.declared.job.Job.{Job}
 use Rattle.pc_coord.specs.Knows.{Knows}
 use Rattle.pc_desk.specs.declared.halt.Halt.{Halt}
 use Rattle.pc_desk.specs.Desk.{DeskMeaning, HasHalted, KeepsTrack}
 use Rattle.pc_exchange.specs.Jobs.{IsFinishable}
-use Rattle.pc_history.specs.declared.pair.Pair.{Pair}
 use Rattle.pc_history.specs.declared.view.Part.{Part}
 use Rattle.pc_history.specs.Parts.{newcomer, told}
 use Rattle.pc_history.specs.declared.view.Known.{Known as KnownEntry}
@@ -17,7 +15,7 @@ use Rattle.pc_proto.specs.declared.call.Call.{Call}
 use Rattle.pc_proto.specs.declared.event.Event.{Event}
 use Rattle.pc_session.specs.Calls.{HasCalled}
 use Rattle.pc_session.specs.Session.{AreOfOneSession, HasLeft, IsAtRest, RestsOrStopped, SessionMeaning}
-use Rattle.pc_session.specs.Steps.{HasMadeStep, HasStepped}
+use Rattle.pc_session.specs.Steps.{HasStepped}
 use Rattle.pc_world.specs.Known.{Known, known_of, nothing_known}
 use Rattle.pc_world.specs.Known.Transactions.{Txn}
 use Rattle.pc_world.specs.Known.Traffic.{Sent}

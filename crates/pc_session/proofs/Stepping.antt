@@ -1,5 +1,5 @@
 -- A session once it did its oldest job.
-use Rattle.std.proofs.Common.{◌≡◌, ℕ, ◌≤◌, max, All, Contains, IsTrue, List, [], ◌∷◌, ◌++◌, drop, map, None, refl, sym, ap, subst, ◌∙◌}
+use Rattle.std.proofs.Common.{◌≡◌, ℕ, ◌≤◌, max, All, Contains, IsTrue, List, ◌∷◌, drop, map, None, sym, ap, subst, ◌∙◌}
 use Rattle.std.proofs.lemmas.List.Elements.{All-contains, All-head, All-tail, All-weaker, Contains-append_right}
 use Rattle.pc_base.specs.declared.actor.ActorId.TheVariants as actors
 use Rattle.pc_coord.specs.Coordination.{Coordination, with_clock}
@@ -13,12 +13,10 @@ use Rattle.pc_exchange.specs.Jobs.{HasFinishedJob, IsFinishable, MayFinishNow}
 use Rattle.pc_history.specs.declared.pair.Pair.{Pair}
 use Rattle.pc_lists.proofs.Lists.{all_from_contains}
 use Rattle.pc_proto.specs.declared.event.Event.{Event}
-use Rattle.pc_proto.specs.declared.request.Request.{Request}
 use Rattle.pc_session.proofs.Due.{holds, idle}
 use Rattle.pc_session.proofs.Inside.{id_same, one_on}
-use Rattle.pc_session.specs.Session.{HasLeft, IsAtRest, SessionMeaning, session_knows}
+use Rattle.pc_session.specs.Session.{IsAtRest, SessionMeaning, session_knows}
 use Rattle.pc_session.specs.Steps.{HasMadeStep}
-use Rattle.pc_turns.specs.Order.{FinishesWhole}
 use Rattle.pc_world.specs.Follows.FinishingJobs.{jobs_of}
 use Rattle.pc_world.specs.Known.{Known, known_of}
 use Rattle.pc_world.specs.Known.Transactions.{Txn}

@@ -4,7 +4,7 @@ use Rattle.std.specs.Bool.{MatchBool}
 use Rattle.std.specs.Option.{option_to_list}
 use Rattle.pc_base.specs.declared.actor.ActorId.{ActorId}
 use Rattle.pc_base.specs.declared.actor.ActorId.TheVariants as actors
-use Rattle.pc_coord.specs.Coordination.{Coordination, awaits_number, next_of, with_due, without_job}
+use Rattle.pc_coord.specs.Coordination.{Coordination, awaits_number, next_of, with_nothing_due, without_job}
 use Rattle.pc_coord.specs.declared.due.Due.TheVariants as dues
 use Rattle.pc_coord.specs.declared.job.Job.{Job}
 use Rattle.pc_coord.specs.declared.next.Next.TheVariants as nexts
@@ -52,7 +52,7 @@ begins_next (answers.Begun id ts) splits session k s may =
     row.next.1
 begins_next answer splits session k s may = tt
 
-module _ {C : Type 0} (old : SessionMeaning C) (reading : ℕ) (answer : Answer) (calls : HasOpenCall old reading) (due : next_of old.coordinator.due ≡ nexts.Tell answer) (may : IsTellable old.coordinator (session_knows old) answer) where
+module _ {C : Type 0} (old : SessionMeaning C) (reading : ℕ) (answer : Answer) (calls : HasOpenCall old reading) (due : next_of old.coordinator ≡ nexts.Tell answer) (may : IsTellable old.coordinator (session_knows old) answer) where
   abbrev k : Known
   k = session_knows old
 
@@ -60,7 +60,7 @@ module _ {C : Type 0} (old : SessionMeaning C) (reading : ℕ) (answer : Answer)
   event = events.Tell answer
 
   away : (number : ℕ) → is_on_way number old.desk ≡ false
-  away number = sym (calls.way number) ∙ quiet_tell old.coordinator.due answer due number
+  away number = sym (calls.way number) ∙ quiet_tell old.coordinator answer due number
 
   -- the answer may be told
   pub may_tell : MayEnter old.desk.log event
@@ -76,7 +76,7 @@ module _ {C : Type 0} (old : SessionMeaning C) (reading : ℕ) (answer : Answer)
             (keeps_told (jobs_of l.part.own) k old.coordinator answer may (all_heard_now old.desk calls.track calls.apart away));
       }
 
-  module _ (d : DeskMeaning C) (c e : Coordination) (jobs : List Job) (done : HasDone old.desk d event) (told : c ≡ with_due dues.Nothing old.coordinator) (handed : e ≡ without_job c) (kept : jobs ≡ old.jobs ++ option_to_list c.job)
+  module _ (d : DeskMeaning C) (c e : Coordination) (jobs : List Job) (done : HasDone old.desk d event) (told : c ≡ with_nothing_due old.coordinator) (handed : e ≡ without_job c) (kept : jobs ≡ old.jobs ++ option_to_list c.job)
       (learns : (k : Known) (p : Pair Event) (answer : Answer) → Knows old.coordinator k → IsTold old.coordinator answer p → Knows c (learn p k))
       (knowing : (k : Known) → Knows c k → c.due ≡ dues.Nothing → Knows e k) (finish : (k : Known) → Knows c k → c.due ≡ dues.Nothing → IfSome c.job (MayFinishJob k)) where
     abbrev p : Pair Event

@@ -1,6 +1,6 @@
 -- What a call of a session makes.
 use Rattle.std.specs.Prelude.{◌≡◌, true, false, List}
-use Rattle.pc_coord.specs.Events.{Suits}
+use Rattle.pc_coord.specs.Suiting.{Suits}
 use Rattle.pc_coord.specs.Suiting.{SuitsNext}
 use Rattle.pc_exchange.specs.Growing.{HasGrownBy}
 use Rattle.pc_history.specs.declared.pair.Pair.{Pair}

@@ -1,5 +1,5 @@
 -- A session between its calls.
-use Rattle.std.specs.Prelude.{◌≡◌, ◌≤◌, false, is_some, None, Some, List, [], map, All, IsTrue}
+use Rattle.std.specs.Prelude.{◌≡◌, ◌≤◌, false, is_some, None, List, [], map, All, IsTrue}
 use Rattle.pc_base.specs.declared.actor.ActorId.TheVariants as actors
 use Rattle.pc_coord.specs.Coordination.{Coordination}
 use Rattle.pc_coord.specs.declared.job.Job.{Job}

@@ -136,7 +136,7 @@ impl<'a, N: Named<CommitWorld>, C: Clock, V: Wire, G: Gate> Office<'a, N, C, V, 
     /// What is due in the call that was asked at this reading.
     fn due(&mut self, reading: u64) -> Result<Next, Halt>
         requires { HasOpenCall self.old reading }
-        ensures due { IfOk result (λ next. next ≡ next_of self.new.coordinator.due) }
+        ensures due { IfOk result (λ next. next ≡ next_of self.new.coordinator) }
         ensures may { IfOk result (MayCome self.new.coordinator (session_knows self.new)) }
         ensures calls { OnOk result (HasOpenCall self.new reading) }
         ensures same { OnOk result (self.new ≡ self.old) }
@@ -153,7 +153,7 @@ impl<'a, N: Named<CommitWorld>, C: Clock, V: Wire, G: Gate> Office<'a, N, C, V, 
     /// Sends a message that the coordinator gave. It waits until the next wave.
     fn send(&mut self, reading: u64, request: Request) -> Result<Option<Answer>, Halt>
         requires calls { HasOpenCall self.old reading }
-        requires due { next_of self.old.coordinator.due ≡ nexts.Send request }
+        requires due { next_of self.old.coordinator ≡ nexts.Send request }
         requires may { MayCome self.old.coordinator (session_knows self.old) (nexts.Send request) }
         ensures ok { IfOk result (GoesOnOrTold self.old self.new reading) }
         ensures err { IfErr result (HasHalted self.old.desk self.new.desk) }
@@ -228,7 +228,7 @@ impl<'a, N: Named<CommitWorld>, C: Clock, V: Wire, G: Gate> Office<'a, N, C, V, 
         reader: Option<Timestamp>,
     ) -> Result<Option<Answer>, Halt>
         requires calls { HasOpenCall self.old reading }
-        requires due { next_of self.old.coordinator.due ≡ nexts.Conflict number conflict reader }
+        requires due { next_of self.old.coordinator ≡ nexts.Conflict number conflict reader }
         requires may { MayCome self.old.coordinator (session_knows self.old) (nexts.Conflict number conflict reader) }
         ensures ok { IfOk result (GoesOnOrTold self.old self.new reading) }
         ensures err { IfErr result (HasHalted self.old.desk self.new.desk) }
@@ -250,7 +250,7 @@ impl<'a, N: Named<CommitWorld>, C: Clock, V: Wire, G: Gate> Office<'a, N, C, V, 
     /// The open call is told its answer; what its transaction left becomes the newest job.
     fn tell(&mut self, reading: u64, answer: Answer) -> Result<Option<Answer>, Halt>
         requires calls { HasOpenCall self.old reading }
-        requires due { next_of self.old.coordinator.due ≡ nexts.Tell answer }
+        requires due { next_of self.old.coordinator ≡ nexts.Tell answer }
         requires may { MayCome self.old.coordinator (session_knows self.old) (nexts.Tell answer) }
         ensures ok { IfOk result (GoesOnOrTold self.old self.new reading) }
         ensures err { IfErr result (HasHalted self.old.desk self.new.desk) }

@@ -15,7 +15,7 @@ pub make_round-requires : goal.make_round-requires
 make_round-requires g c =
     let n = c.args.number in
     let calls = subst (λ s. HasOpenCall s c.args.reading) (sym c.self.view_is) c.requires.calls in
-    let due = subst (λ s. next_of s.coordinator.due ≡ nexts.Conflict n c.args.conflict c.args.reader) (sym c.self.view_is) c.requires.due in
+    let due = subst (λ s. next_of s.coordinator ≡ nexts.Conflict n c.args.conflict c.args.reader) (sym c.self.view_is) c.requires.due in
     let met = subst (λ s. MayCome s.coordinator (session_knows s) (nexts.Conflict n c.args.conflict c.args.reader)) (sym c.self.view_is) c.requires.may in
     may_round _ c.args.reading n c.args.conflict c.args.reader calls due met c.in-Some.pusher (c.in-Some.ensures.pushes _ n c.args.conflict c.args.reader calls.one.knows due)
 
@@ -23,7 +23,7 @@ pub returns-in-Ok-clause-ok : goal.returns-in-Ok-clause-ok
 returns-in-Ok-clause-ok g c =
     let n = c.args.number in
     let calls = subst (λ s. HasOpenCall s c.args.reading) (sym c.self.view_is) c.requires.calls in
-    let due = subst (λ s. next_of s.coordinator.due ≡ nexts.Conflict n c.args.conflict c.args.reader) (sym c.self.view_is) c.requires.due in
+    let due = subst (λ s. next_of s.coordinator ≡ nexts.Conflict n c.args.conflict c.args.reader) (sym c.self.view_is) c.requires.due in
     let met = subst (λ s. MayCome s.coordinator (session_knows s) (nexts.Conflict n c.args.conflict c.args.reader)) (sym c.self.view_is) c.requires.may in
     let made = c.in_ok-round in
     let e = c.in-Ok.ensures in (

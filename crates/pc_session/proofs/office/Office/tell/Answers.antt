@@ -16,14 +16,14 @@ use Rattle.pc_session.proofs.office.Office.tell.Goals as goal
 pub tell-requires-clause-may : goal.tell-requires-clause-may
 tell-requires-clause-may g c =
     let calls = subst (λ s. HasOpenCall s c.args.reading) (sym c.self.view_is) c.requires.calls in
-    let due = subst (λ s. next_of s.coordinator.due ≡ nexts.Tell c.args.answer) (sym c.self.view_is) c.requires.due in
+    let due = subst (λ s. next_of s.coordinator ≡ nexts.Tell c.args.answer) (sym c.self.view_is) c.requires.due in
     let may = subst (λ s. MayCome s.coordinator (session_knows s) (nexts.Tell c.args.answer)) (sym c.self.view_is) c.requires.may in
     subst (λ q. MayEnter c.self.inside.desk.log (events.Tell q)) (sym c.in-Ok.ensures) (may_tell _ c.args.reading c.args.answer calls due may)
 
 pub returns-in-Ok-take_job-clause-ok : goal.returns-in-Ok-take_job-clause-ok
 returns-in-Ok-take_job-clause-ok g c =
     let calls = subst (λ s. HasOpenCall s c.args.reading) (sym c.self.view_is) c.requires.calls in
-    let due = subst (λ s. next_of s.coordinator.due ≡ nexts.Tell c.args.answer) (sym c.self.view_is) c.requires.due in
+    let due = subst (λ s. next_of s.coordinator ≡ nexts.Tell c.args.answer) (sym c.self.view_is) c.requires.due in
     let may = subst (λ s. MayCome s.coordinator (session_knows s) (nexts.Tell c.args.answer)) (sym c.self.view_is) c.requires.may in
     let left = c.in-Ok-take_job.ensures in
     let s = c.take_job.new.self in
