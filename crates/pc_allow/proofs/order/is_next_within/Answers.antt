@@ -1,7 +1,0 @@
-use Rattle.pc_allow.proofs.order.is_next_within.Goals as goal
-
-pub returns-then-is_next : goal.returns-then-is_next
-returns-then-is_next c k calls sends = (
-  λ ok. record { next = (c.is_next.ensures k sends).0 c.if-is_next.true; stamps = (c.are_within_next.ensures k calls).0 ok },
-  λ fits. (c.are_within_next.ensures k calls).1 fits.stamps,
-)

@@ -1,6 +1,0 @@
-use Rattle.std.proofs.Common.{◌≡◌, ◌↔◌, IsTrue, sym, subst}
-use Rattle.pc_allow.proofs.Exact.{keys_decide}
-use Rattle.pc_allow.proofs.same.same_keys.Goals as goal
-
-pub returns : goal.returns
-returns c = subst (λ b. IsTrue b ↔ (c.args.one.now ≡ c.args.other.now)) (sym c.eq.ensures) (keys_decide c.args.one.now c.args.other.now)

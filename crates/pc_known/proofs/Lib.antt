@@ -1,0 +1,4 @@
+pub mod Exact
+pub mod Marked
+pub mod Numbered
+pub mod Sending
