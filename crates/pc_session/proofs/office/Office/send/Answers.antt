@@ -15,7 +15,7 @@ send-requires-clause-may g c =
     let calls = subst (λ s. HasOpenCall s c.args.reading) (sym c.self.view_is) c.requires.calls in
     let due = subst (λ s. next_of s.coordinator ≡ nexts.Send c.args.request) (sym c.self.view_is) c.requires.due in
     let may = subst (λ s. MayCome s.coordinator (session_knows s) (nexts.Send c.args.request)) (sym c.self.view_is) c.requires.may in
-    may_go _ c.args.reading c.args.request calls due may.0 may.1.0 may.1.1
+    may_go _ c.args.reading c.args.request calls due may.0 may.1 may.2
 
 pub returns-in-Ok-clause-ok : goal.returns-in-Ok-clause-ok
 returns-in-Ok-clause-ok g c =
@@ -25,8 +25,8 @@ returns-in-Ok-clause-ok g c =
     let e = c.in-Ok.ensures in
     let d = c.send.new.self in
     let n = c.in_ok-number.number in (
-      sent_open _ c.args.reading c.args.request calls due may.0 may.1.0 may.1.1 d c.sent.new.self n c.in_ok-number.ensures.ok e.knows (λ other. e.waits c.args.request other due) e.session e.splits,
-      inside_from _ c.args.self.now _ c.self.view_is (sent_goes _ c.args.reading c.args.request calls due may.0 may.1.0 may.1.1 d c.sent.new.self n c.in_ok-number.ensures.ok e.session),
+      sent_open _ c.args.reading c.args.request calls due may.0 may.1 may.2 d c.sent.new.self n c.in_ok-number.ensures.ok e.knows (λ other. e.waits c.args.request other due) e.session e.splits,
+      inside_from _ c.args.self.now _ c.self.view_is (sent_goes _ c.args.reading c.args.request calls due may.0 may.1 may.2 d c.sent.new.self n c.in_ok-number.ensures.ok e.session),
     )
 
 pub returns-in_err-number-clause-ended : goal.returns-in_err-number-clause-ended
