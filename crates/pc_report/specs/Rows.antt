@@ -6,7 +6,7 @@ use Rattle.pc_base.specs.declared.transaction.TxnId.{TxnId}
 use Rattle.pc_base.specs.Keyed.{in_order}
 use Rattle.pc_report.specs.declared.replay.Rank.{Rank}
 use Rattle.pc_report.specs.declared.rows.CommittedRow.{CommittedRow}
-use Rattle.pc_report.specs.declared.writes.Put.{Put}
+use Rattle.pc_report.specs.declared.puts.Put.{Put}
 use Rattle.pc_report.specs.declared.writes.Writes.{Writes}
 use Rattle.pc_report.specs.Writing.{puts_held}
 use Rattle.pc_world.specs.MapRun.{Map, with_value}

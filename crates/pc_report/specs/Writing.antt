@@ -1,7 +1,7 @@
 -- What each transaction wrote, kept while a history is replayed.
-use Rattle.std.specs.Prelude.{◌≡◌, ℕ, Bool, false, ◌==◌, if◌then◌else◌, Option, None, Some, List, [], ◌∷◌, ◌++◌, fold}
+use Rattle.std.specs.Prelude.{◌≡◌, ℕ, Bool, false, ◌==◌, if◌then◌else◌, Option, None, Some, List, [], fold}
 use Rattle.std.specs.BTreeMap.{get}
-use Rattle.std.specs.List.{filter_map, list_any}
+use Rattle.std.specs.List.{filter_map}
 use Rattle.std.specs.Ordering.{nat_cmp}
 use Rattle.pc_base.specs.declared.actor.ActorId.{ActorId}
 use Rattle.pc_base.specs.declared.actor.ActorId.TheVariants as actors
@@ -15,8 +15,9 @@ use Rattle.pc_proto.specs.declared.event.Event.{Event}
 use Rattle.pc_proto.specs.declared.event.Event.TheVariants as events
 use Rattle.pc_proto.specs.declared.request.Request.{Request}
 use Rattle.pc_proto.specs.declared.request.Request.TheVariants as requests
-use Rattle.pc_report.specs.declared.writes.Put.{Put}
+use Rattle.pc_report.specs.declared.puts.Put.{Put}
 use Rattle.pc_report.specs.declared.writes.Writes.{Writes}
+use Rattle.pc_report.specs.Puts.{with_new_put}
 use Rattle.pc_report.specs.Replaying.{held}
 use Rattle.pc_world.specs.Operations.{Doing, Operation, Read, ReadAll, Write, doing_after, doing_nothing, is_last_after, is_last_told, session_events}
 
@@ -36,10 +37,6 @@ is_last_of id (Some other) = same_txn other id
 
 abbrev pub is_last_in : Writes → TxnId → Bool
 is_last_in w id = is_last_of id (get nat_cmp w.last id.session)
-
--- The puts with one more, where its sequence is new.
-abbrev pub with_new_put : Put → List Put → List Put
-with_new_put put puts = if list_any (λ p. p.seq == put.seq) puts then puts else puts ++ put ∷ []
 
 -- The transaction's puts after a request of its session.
 abbrev pub puts_sent : TxnId → Request → List Put → List Put

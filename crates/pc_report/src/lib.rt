@@ -4,6 +4,7 @@
 mod laws;
 mod outcome;
 mod print;
+mod puts;
 mod replay;
 mod rows;
 mod tables;

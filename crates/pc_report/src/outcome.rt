@@ -8,12 +8,13 @@ ghost use Rattle.pc_report.specs.Rows.{commit_row, last_puts, map_with_put, map_
 ghost use Rattle.pc_world.specs.CommitOrder.{begun_in};
 ghost use Rattle.pc_world.specs.Local.{Head};
 
+use crate::puts::Put;
 use crate::replay::{Rank, Replay, replayed};
 use crate::rows::{
     CommittedRow, CommittedRows, Ending, LastWrites, MapRows, OtherRow, OtherRows, Report,
 };
 use crate::tables::insert;
-use crate::writes::{Put, Writes, written};
+use crate::writes::{Writes, written};
 use pc_base::{Entry, Items, Key, NoMemory, TryCopy, TxnId, Value};
 use pc_proto::{Answer, Event, Keys};
 use std::alloc::Global;

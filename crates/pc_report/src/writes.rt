@@ -1,28 +1,21 @@
 //! What each transaction wrote, as its session was told.
 
-ghost use Rattle.std.specs.Prelude.{◌≡◌, ◌==◌, [], IfOk, OnOk, if◌then◌else◌};
-ghost use Rattle.std.specs.List.{list_any};
+ghost use Rattle.std.specs.Prelude.{◌≡◌, [], IfOk, OnOk, if◌then◌else◌};
 ghost use Rattle.pc_base.specs.Transaction.{same_txn};
 ghost use Rattle.pc_report.specs.Replaying.{held};
-ghost use Rattle.pc_report.specs.Writing.{AreWritesOf, LastChanges, LastFollows, PutsChange, PutsFollow, is_last_in, puts_held, puts_of, puts_sent, puts_told, with_new_put};
+ghost use Rattle.pc_report.specs.Writing.{AreWritesOf, LastChanges, LastFollows, PutsChange, PutsFollow, is_last_in, puts_held, puts_of, puts_sent, puts_told};
+ghost use Rattle.pc_report.specs.Puts.{with_new_put};
 
-use pc_base::{ActorId, Entry, Items, Key, NoMemory, TryCopy, TxnId, Value};
+use crate::puts::{Put, Puts};
+use pc_base::{ActorId, Entry, NoMemory, TryCopy, TxnId};
 use pc_proto::{Answer, Event, Request};
 use std::alloc::Global;
 use std::collections::BTreeMap;
 
-/// A write of a key; no value is a deletion.
-#[derive(Drop)]
-pub(crate) struct Put {
-    pub seq: u32,
-    pub key: Key,
-    pub value: Option<Value>,
-}
-
 /// The writes of each transaction's present epoch.
 #[derive(Drop)]
 pub(crate) struct Writes {
-    puts: BTreeMap<TxnId, Items<Put>>,
+    puts: BTreeMap<TxnId, Puts>,
     /// The transaction that each session began last.
     last: BTreeMap<u32, TxnId>,
 }
@@ -121,26 +114,17 @@ impl Writes {
 
 /// Adds a put to those of a transaction, where its sequence is new.
 fn add(
-    table: &mut BTreeMap<TxnId, Items<Put>>,
+    table: &mut BTreeMap<TxnId, Puts>,
     alloc: Global,
     id: TxnId,
     put: Put,
 ) -> Result<(), NoMemory>
     ensures { OnOk result ((other : TxnId) → puts_of (held table.new other) ≡ if same_txn id other then with_new_put put (puts_of (held table.old other)) else puts_of (held table.old other)) }
 {
-    let mut puts = match table.remove(&id) {
+    let puts = match table.remove(&id) {
         Some(puts) => puts,
-        None => Items::new(alloc),
+        None => Puts::new(alloc),
     };
-    if !has_seq(&puts, put.seq) {
-        puts.add(put)?;
-    }
-    table.insert(id, puts)?;
+    table.insert(id, puts.with(put)?)?;
     Ok(())
-}
-
-fn has_seq(puts: &Items<Put>, seq: u32) -> bool
-    ensures { result ≡ list_any (λ p. p.seq == seq) puts.now }
-{
-    puts.as_slice().iter().any(|put| put.seq == seq)
 }

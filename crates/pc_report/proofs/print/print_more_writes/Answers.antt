@@ -1,9 +1,7 @@
-use Rattle.std.proofs.Common.{◌≡◌, ◌+◌, ◌∷◌, ◌++◌, take, sym, subst, arith, All}
+use Rattle.std.proofs.Common.{take, sym, subst, arith, All}
 use Rattle.std.proofs.lemmas.Grind.{common_steps}
 use Rattle.std.proofs.lemmas.List.Elements.{All-push}
-use Rattle.std.specs.List.{flat_map}
 use Rattle.pc_report.proofs.RowLists.{take_next}
-use Rattle.pc_report.specs.Report.{last_write_text}
 use Rattle.pc_report.specs.Spelled.{FitsLastWrite}
 use Rattle.pc_report.proofs.print.print_more_writes.Goals as goal
 
