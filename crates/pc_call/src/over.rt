@@ -1,7 +1,8 @@
 ghost use Rattle.std.specs.Prelude.{◌≡◌};
 ghost use Rattle.pc_call.specs.Finished.{left_at};
 
-use pc_proto::{Answer, Fate, Keys, TxnMeta};
+use pc_locks::Locks;
+use pc_proto::{Answer, Fate, TxnMeta};
 use pc_txn::OpenTxn;
 
 /// What a transaction that was decided left: its locks are to be settled with its fate, and its record removed.
@@ -9,7 +10,7 @@ use pc_txn::OpenTxn;
 pub struct Left {
     pub meta: TxnMeta,
     pub fate: Fate,
-    pub locks: Keys,
+    pub locks: Locks,
 }
 
 /// How a transaction ends: what its call is told, and what it left.
@@ -43,7 +44,7 @@ pub fn left_of(txn: OpenTxn, fate: Fate) -> Option<Left>
                 anchor,
             },
             fate,
-            locks: locks.into_list(),
+            locks,
         }),
     }
 }

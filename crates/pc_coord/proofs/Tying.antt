@@ -1,5 +1,5 @@
 -- What each step of a coordinator comes to, by what it makes of the coordinator.
-use Rattle.std.proofs.Common.{◌≡◌, ℕ, Bool, true, false, ◌||◌, ◌==◌, List, Option, Some, None, refl, sym, ap, ◌∙◌, subst, OnOk, Result}
+use Rattle.std.proofs.Common.{◌≡◌, ℕ, Bool, true, false, ◌||◌, ◌==◌, List, Option, Some, None, refl, sym, ap, ◌∙◌, subst, OnOk, Result, Ok, Err}
 use Rattle.std.specs.Option.{option_map}
 use Rattle.std.proofs.lemmas.Bool.{eq-eqb}
 use Rattle.std.proofs.lemmas.Option.{same_Some}
@@ -65,8 +65,9 @@ pub tell_ok : (c new : Coordination) (k : Known) (answer : Answer) (x : OpenTxn)
 tell_ok c new k answer x made r m none = subst (λ n. Knows n k) (sym made) (tells_knows c k answer x r m none)
 
 -- an answer is due that ends it
-pub finish_ok : (c new : Coordination) (k : Known) (over : Over) → new ≡ telling over.answer None (job_left over.left) c → StandsReady c k → MayTellOver c.splits c.session k over → BeginsNothing k → Knows new k
-finish_ok c new k over made r m none = subst (λ n. Knows n k) (sym made) (over_knows c k over r m none)
+pub finish_ok : {T E : Type 0} (result : Result T E) (c new : Coordination) (k : Known) (over : Over) → OnOk result (new ≡ telling over.answer None (job_left over.left) c) → StandsReady c k → MayTellOver c.splits c.session k over → BeginsNothing k → OnOk result (Knows new k)
+finish_ok (Ok value) c new k over made r m none = subst (λ n. Knows n k) (sym made) (over_knows c k over r m none)
+finish_ok (Err error) c new k over made r m none = tt
 
 -- more is due of the call's messages
 pub call_ok : (c new : Coordination) (k : Known) (call : OpenCall) (x : OpenTxn) → new ≡ calling call x c → StandsReady c k → InCall c.splits k x call.purpose call.wave → is_under_way (step_of call.wave) → Knows new k

@@ -153,10 +153,7 @@ impl<'a> Coordinator<'a> {
     {
         match &txn.anchor {
             Some(_) => self.commit_written(txn),
-            None => {
-                self.finish(OpenCall::commit_unwritten(txn));
-                Ok(())
-            }
+            None => self.finish(OpenCall::commit_unwritten(txn)),
         }
     }
 
@@ -176,10 +173,7 @@ impl<'a> Coordinator<'a> {
     {
         match &txn.anchor {
             Some(_) => self.abort(txn, why),
-            None => {
-                self.finish(OpenCall::roll_back_unwritten(txn, why));
-                Ok(())
-            }
+            None => self.finish(OpenCall::roll_back_unwritten(txn, why)),
         }
     }
 

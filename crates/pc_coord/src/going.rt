@@ -1,4 +1,4 @@
-ghost use Rattle.std.specs.Prelude.{◌≡◌, ℕ, Bool, true, false, ◌==◌, ◌||◌, ◌&&◌, not, None, Some, OnOk};
+ghost use Rattle.std.specs.Prelude.{◌≡◌, ℕ, Bool, true, false, ◌==◌, ◌||◌, ◌&&◌, not, None, Some, OnErr, OnOk};
 ghost use Rattle.pc_call.specs.declared.purpose.Purpose.TheVariants as purposes;
 ghost use Rattle.pc_call.specs.Learned.{known_heard, known_sent};
 ghost use Rattle.pc_call.specs.Opening.{GoesOn};
@@ -76,12 +76,17 @@ impl<'a> Coordinator<'a> {
     }
 
     /// The open call is to be told how its transaction ends.
-    pub(crate) fn finish(&mut self, over: Over)
-        ensures { self.new ≡ telling over.answer None (job_left over.left) self.old }
+    pub(crate) fn finish(&mut self, over: Over) -> Result<(), NoMemory>
+        ensures ok { OnOk result (self.new ≡ telling over.answer None (job_left over.left) self.old) }
+        ensures err { OnErr result (self.new ≡ self.old) }
+        ensures session { self.new.session ≡ self.old.session }
+        ensures splits { self.new.splits ≡ self.old.splits }
     {
+        let job = job_of(over.left)?;
         self.txn = None;
         self.due = Due::Tell(over.answer);
-        self.job = job_of(over.left);
+        self.job = job;
+        Ok(())
     }
 
     /// Each of these messages was answered: a read is told, and what was refreshed commits or restarts.
@@ -224,10 +229,12 @@ impl<'a> Coordinator<'a> {
         match decision {
             Decision::Committed { epoch, ts } => self.finish(call.committed(txn, epoch, ts)),
             Decision::Aborted { why } => self.finish(call.aborted(txn, why)),
-            Decision::Refused { recorded } => return self.refused(call, txn, recorded),
-            Decision::Nothing => self.told(),
+            Decision::Refused { recorded } => self.refused(call, txn, recorded),
+            Decision::Nothing => {
+                self.told();
+                Ok(())
+            }
         }
-        Ok(())
     }
 
     /// A commit met a record that is not final and stands at this timestamp: it is tried again there, or its call is told that it was moved.
@@ -266,11 +273,13 @@ impl<'a> Coordinator<'a> {
         match status {
             Some(view) => {
                 let over = call.rolled_back(txn, &view)?;
-                self.finish(over);
+                self.finish(over)
             }
-            None => self.told(),
+            None => {
+                self.told();
+                Ok(())
+            }
         }
-        Ok(())
     }
 
     /// The round of the conflict that the message of this number met is over.

@@ -1,7 +1,7 @@
-ghost use Rattle.std.specs.Prelude.{◌≡◌};
+ghost use Rattle.std.specs.Prelude.{◌≡◌, IfOk};
 ghost use Rattle.pc_coord.specs.Coordination.{job_left};
 
-use pc_base::Timestamp;
+use pc_base::{NoMemory, Timestamp};
 use pc_call::Left;
 use pc_proto::{Fate, Keys, TxnMeta};
 
@@ -16,16 +16,16 @@ pub struct Job {
 }
 
 /// The job of what a transaction left, if it left anything.
-pub fn job_of(left: Option<Left>) -> Option<Job>
-    ensures { result ≡ job_left left }
+pub fn job_of(left: Option<Left>) -> Result<Option<Job>, NoMemory>
+    ensures { IfOk result (λ job. job ≡ job_left left) }
 {
     match left {
-        None => None,
-        Some(Left { meta, fate, locks }) => Some(Job {
+        None => Ok(None),
+        Some(Left { meta, fate, locks }) => Ok(Some(Job {
             meta,
             staged: None,
             fate,
-            locks,
-        }),
+            locks: locks.into_list()?,
+        })),
     }
 }

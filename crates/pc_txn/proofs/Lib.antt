@@ -2,7 +2,6 @@ pub mod Commits
 pub mod Keeping
 pub mod Laying
 pub mod Lists
-pub mod Places
 pub mod Puts
 pub mod Restarts
 pub mod Rows

@@ -2,5 +2,4 @@
 pub mod Counted
 pub mod Laws
 pub mod Opened
-pub mod Place
 pub mod Standing

@@ -3,10 +3,8 @@
 
 mod flight;
 mod laws;
-mod locks;
 mod txn;
 
 pub use flight::InFlight;
 pub use laws::txn_stands_on;
-pub use locks::Locks;
 pub use txn::OpenTxn;

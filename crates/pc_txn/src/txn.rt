@@ -5,8 +5,8 @@ ghost use Rattle.pc_txn.specs.Opened.{landed_at, last_put, next_put, opened_as, 
 ghost use Rattle.pc_world.specs.Known.Transactions.{begun};
 
 use crate::flight::InFlight;
-use crate::locks::Locks;
 use pc_base::{Key, NoMemory, Priority, Span, Timestamp, TryCopy, TxnId, Value};
+use pc_locks::Locks;
 use pc_proto::{Request, TxnMeta, Why};
 use pc_reads::TxnReads;
 use std::alloc::Global;

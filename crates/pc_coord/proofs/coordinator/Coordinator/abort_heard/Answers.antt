@@ -10,7 +10,7 @@ pub returns-in_ok-over-in-Some-clause-knows : goal.returns-in_ok-over-in-Some-cl
 returns-in_ok-over-in-Some-clause-knows c = λ k heard number why is aborts.
     let s = c.args.self.now in
     let same = status_reply c.args.reply.now c.in-Some.view (sym c.in_ok-status.ensures ∙ c.in-Some.is) in
-    finish_ok s c.finish.new.self (known_heard heard k) c.in_ok-over-in-Some.over c.finish.ensures is.ready
+    finish_ok c.finish.result s c.finish.new.self (known_heard heard k) c.in_ok-over-in-Some.over c.finish.ensures.ok is.ready
     (c.in_ok-over-in-Some.ensures.over s.session is.before s.begun number s.splits k why heard is.counted is.in_call aborts is.waited (subst (λ r. IsHeardTo k number r heard) same is.heard)) (served_begins c.args.self.now.splits k c.args.txn c.args.call.purpose c.args.call.wave is.in_call)
 
 pub returns-in-None-clause-knows : goal.returns-in-None-clause-knows

@@ -11,14 +11,14 @@ pub returns-in-Committed-clause-knows : goal.returns-in-Committed-clause-knows
 returns-in-Committed-clause-knows c = λ k heard number refusals is commits.
     let s = c.args.self.now in
     let v = committed_reply c.args.reply.now c.in-Committed.epoch c.in-Committed.ts (sym c.in_ok-decision.ensures ∙ c.in-Committed.is) in
-    finish_ok s c.finish.new.self (known_heard heard k) c.committed.result c.finish.ensures is.ready
+    finish_ok c.finish.result s c.finish.new.self (known_heard heard k) c.committed.result c.finish.ensures.ok is.ready
     (c.committed.ensures.over s.session is.before s.begun number refusals s.splits k v.0 heard is.counted is.in_call commits is.waited (subst (λ r. IsHeardTo k number r heard) v.1 is.heard)) (served_begins c.args.self.now.splits k c.args.txn c.args.call.purpose c.args.call.wave is.in_call)
 
 pub returns-in-Aborted-clause-knows : goal.returns-in-Aborted-clause-knows
 returns-in-Aborted-clause-knows c = λ k heard number refusals is commits.
     let s = c.args.self.now in
     let v = aborted_reply c.args.reply.now c.in-Aborted.why (sym c.in_ok-decision.ensures ∙ c.in-Aborted.is) in
-    finish_ok s c.finish-in-Aborted.new.self (known_heard heard k) c.aborted.result c.finish-in-Aborted.ensures is.ready
+    finish_ok c.finish-in-Aborted.result s c.finish-in-Aborted.new.self (known_heard heard k) c.aborted.result c.finish-in-Aborted.ensures.ok is.ready
     (c.aborted.ensures.over s.session is.before s.begun number refusals v.0 s.splits k v.1 heard is.counted is.in_call commits is.waited (subst (λ r. IsHeardTo k number r heard) v.2 is.heard)) (served_begins c.args.self.now.splits k c.args.txn c.args.call.purpose c.args.call.wave is.in_call)
 
 pub returns-in-Refused-clause-knows : goal.returns-in-Refused-clause-knows
