@@ -29,8 +29,10 @@ use Rattle.pc_proto.specs.declared.event.Event.{Event}
 use Rattle.pc_proto.specs.declared.event.Event.TheVariants as events
 use Rattle.pc_proto.specs.declared.request.Request.{Request}
 use Rattle.pc_proto.specs.declared.request.Request.TheVariants as requests
-use Rattle.pc_runner.specs.Follows.{EachAfter, Follows, FollowsAlone, KeepsWork}
-use Rattle.pc_runner.specs.Follows.Script.{next_call}
+use Rattle.pc_desk.specs.Keeping.{EachAfter}
+use Rattle.pc_runner.specs.Follows.{Follows, FollowsAlone}
+use Rattle.pc_script.specs.Steps.{KeepsWork}
+use Rattle.pc_script.specs.Script.{next_call}
 use Rattle.pc_runner.specs.Follows.Turns.{AreTurns, CallsNext, CallsNextOf, FinishesNext, HasHeardAll, IsCall, IsJob, IsOpened, IsOver, IsTurn, IsWithin, Opens, RunOut, RunsUntil, deeds, jobs_in, own_turn, position_in}
 use Rattle.pc_runner.specs.Follows.Turns.RunsUntil.{Over, Onward}
 use Rattle.pc_runner.specs.Follows.Wire.{HearsAll, MayStayUnheard, evaluates_message, evaluations}

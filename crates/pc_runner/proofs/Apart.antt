@@ -15,7 +15,7 @@ use Rattle.pc_runner.proofs.GoingOn.{actor_there, evaluated_beside, known_beside
 use Rattle.pc_runner.proofs.Keeps.{keeps_same}
 use Rattle.pc_runner.specs.declared.session.SessionRun.{SessionRun}
 use Rattle.pc_runner.specs.Following.{HasJobs, IsFollowing, StandsBy}
-use Rattle.pc_runner.specs.Follows.Script.{Position}
+use Rattle.pc_script.specs.Script.{Position}
 use Rattle.pc_runner.specs.History.{History, IsSoundHistory, known_by, own_by}
 use Rattle.pc_runner.specs.Keeping.{KeepsSoFar}
 use Rattle.pc_runner.specs.Parts.{GoesOnBy}

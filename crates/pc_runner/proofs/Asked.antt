@@ -19,7 +19,7 @@ use Rattle.pc_work.specs.declared.workload.Workload.{Workload}
 use Rattle.pc_world.specs.Known.{Known, learn}
 use Rattle.pc_world.specs.Local.{MayAsk}
 use Rattle.pc_runner.proofs.Calling.{Calls, delivered_on, stands_on}
-use Rattle.pc_runner.proofs.Fitting.{first_of, fits_course, fits_outside, fits_suits}
+use Rattle.pc_script.proofs.Fitting.{first_of, fits_course, fits_outside, fits_suits}
 use Rattle.pc_runner.proofs.Going.{known_asked, of_ask}
 use Rattle.pc_runner.proofs.Growing.{next_pair, one_longer}
 use Rattle.pc_runner.proofs.Keeps.{keeps_on}
@@ -29,12 +29,12 @@ use Rattle.pc_runner.proofs.OnWay.{heard_asked, waits_none}
 use Rattle.pc_runner.proofs.Stepping.{step_asked}
 use Rattle.pc_runner.specs.declared.session.SessionRun.{SessionRun}
 use Rattle.pc_runner.specs.Following.{HasJobs, IsFollowing, StandsBy}
-use Rattle.pc_runner.specs.Follows.Clocks.{clock_rule}
-use Rattle.pc_runner.specs.Follows.Script.{Position, next_call}
+use Rattle.pc_script.specs.Clocks.{clock_rule}
+use Rattle.pc_script.specs.Script.{Position, next_call}
 use Rattle.pc_runner.specs.History.{History, known_by}
 use Rattle.pc_runner.specs.Journal.{HasGrown}
 use Rattle.pc_runner.specs.Keeping.{AreDelivered, KeepsSoFar, open_calls}
-use Rattle.pc_runner.specs.Suiting.{FitsCalls}
+use Rattle.pc_script.specs.Suiting.{FitsCalls}
 use Rattle.pc_runner.specs.Traffic.{HasHeard}
 
 -- Between its calls, the session by the parts of its runner.

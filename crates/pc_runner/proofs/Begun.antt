@@ -16,12 +16,12 @@ use Rattle.pc_work.specs.declared.workload.Workload.{Workload}
 use Rattle.pc_world.specs.Known.{nothing_known}
 use Rattle.pc_runner.proofs.Built.{built_few, built_items, built_rising}
 use Rattle.pc_runner.proofs.Entering.{first_history, sound_begun}
-use Rattle.pc_runner.proofs.Fitting.{opened_fits}
+use Rattle.pc_script.proofs.Fitting.{opened_fits}
 use Rattle.pc_runner.specs.Following.{HasJobs, IsLeft, StandsBy}
-use Rattle.pc_runner.specs.Follows.Script.{Position, opened}
+use Rattle.pc_script.specs.Script.{Position, opened}
 use Rattle.pc_runner.specs.History.{History, IsSoundHistory}
 use Rattle.pc_runner.specs.Keeping.{AreDelivered, IsClockOf, IsStatedBy, KeepsSoFar}
-use Rattle.pc_runner.specs.Suiting.{FitsCalls}
+use Rattle.pc_script.specs.Suiting.{FitsCalls}
 use Rattle.pc_runner.specs.Traffic.{HasHeard}
 
 -- The history before the first entry.

@@ -41,9 +41,9 @@ use Rattle.pc_runner.specs.Database.{HasEvaluated}
 use Rattle.pc_runner.specs.Following.{HasJobs}
 use Rattle.pc_runner.specs.Parts.{IsInside, TakesPart}
 use Rattle.pc_runner.specs.Exchanging.{IsExchanged, IsTimely, KeepsBeside, exchanged}
-use Rattle.pc_runner.specs.Follows.{KeepsStep}
-use Rattle.pc_runner.specs.Follows.Clocks.{clock_rule}
-use Rattle.pc_runner.specs.Follows.Script.{Position}
+use Rattle.pc_script.specs.Steps.{KeepsStep}
+use Rattle.pc_script.specs.Clocks.{clock_rule}
+use Rattle.pc_script.specs.Script.{Position}
 use Rattle.pc_runner.specs.History.{History, known_by}
 use Rattle.pc_runner.specs.Keeping.{AreDelivered}
 

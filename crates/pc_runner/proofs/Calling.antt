@@ -20,7 +20,7 @@ use Rattle.pc_runner.specs.declared.outbox.Answered.{Answered}
 use Rattle.pc_runner.specs.declared.outbox.Posted.{Posted}
 use Rattle.pc_runner.specs.declared.session.SessionRun.{SessionRun}
 use Rattle.pc_runner.specs.Following.{AreOnTheirWay, HasJobs, IsCalling, IsOpen, StandsBy}
-use Rattle.pc_runner.specs.Follows.Script.{Position}
+use Rattle.pc_script.specs.Script.{Position}
 use Rattle.pc_runner.specs.Follows.Wire.{evaluates_message, evaluations}
 use Rattle.pc_runner.specs.History.{History, known_by}
 use Rattle.pc_runner.specs.Journal.{HasGrown}

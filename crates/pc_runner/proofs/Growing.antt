@@ -25,9 +25,9 @@ use Rattle.pc_world.specs.Local.{Head, IsActorOf}
 use Rattle.pc_world.specs.Run.{protocol}
 use Rattle.pc_runner.proofs.Entering.{hear_names}
 use Rattle.pc_runner.specs.Database.{HasEvaluated, HasSent}
-use Rattle.pc_runner.specs.Follows.{EachAfter}
-use Rattle.pc_runner.specs.Follows.Clocks.{asks_in, is_ask}
-use Rattle.pc_runner.specs.Follows.Script.{moved, opened, script_position}
+use Rattle.pc_desk.specs.Keeping.{EachAfter}
+use Rattle.pc_script.specs.Clocks.{asks_in, is_ask}
+use Rattle.pc_script.specs.Script.{moved, opened, script_position}
 use Rattle.pc_runner.specs.Follows.Wire.{evaluates_message, evaluations}
 use Rattle.pc_runner.specs.History.{History, IsSoundHistory, known_by, own_by}
 use Rattle.pc_runner.specs.Journal.{HasGrown, IsAnswered, WasSent, next_entry}

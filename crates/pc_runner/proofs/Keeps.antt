@@ -19,9 +19,10 @@ use Rattle.pc_world.specs.Known.Traffic.{Heard, heard_by}
 use Rattle.pc_world.specs.Run.{protocol}
 use Rattle.pc_runner.proofs.Growing.{asks_grow, each_after_grows, jobs_grow, known_grows, next_pair, one_longer, own_same, position_grows}
 use Rattle.pc_runner.specs.Exchanging.{KeepsBeside}
-use Rattle.pc_runner.specs.Follows.{EachAfter, KeepsStep, KeepsWork}
-use Rattle.pc_runner.specs.Follows.Clocks.{asks_in, clock_rule, is_ask}
-use Rattle.pc_runner.specs.Follows.Script.{Position, moved, script_position}
+use Rattle.pc_desk.specs.Keeping.{EachAfter}
+use Rattle.pc_script.specs.Steps.{KeepsStep, KeepsWork}
+use Rattle.pc_script.specs.Clocks.{asks_in, clock_rule, is_ask}
+use Rattle.pc_script.specs.Script.{Position, moved, script_position}
 use Rattle.pc_runner.specs.History.{History, known_by, own_by}
 use Rattle.pc_runner.specs.Journal.{HasGrown}
 use Rattle.pc_runner.specs.Keeping.{IsClockOf, IsStatedBy, KeepsSoFar, open_calls}

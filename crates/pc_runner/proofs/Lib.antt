@@ -9,7 +9,6 @@ pub mod Calling
 pub mod Entering
 pub mod Evaluating
 pub mod Exchanging
-pub mod Fitting
 pub mod Going
 pub mod GoingOn
 pub mod Growing
@@ -26,7 +25,6 @@ pub mod Places
 pub mod Pushed
 pub mod Quiet
 pub mod Ranges
-pub mod Refitting
 pub mod Rounding
 pub mod Rounds
 pub mod RoundsOn

@@ -37,8 +37,8 @@ use Rattle.pc_runner.proofs.Stepping.{plain_for, step_sent}
 use Rattle.pc_runner.specs.Database.{HasSent}
 use Rattle.pc_runner.specs.declared.outbox.Posted.{Posted}
 use Rattle.pc_runner.specs.Following.{AreOnTheirWay, HasJobs, IsOpen, StandsBy}
-use Rattle.pc_runner.specs.Follows.Clocks.{clock_rule}
-use Rattle.pc_runner.specs.Follows.Script.{Position}
+use Rattle.pc_script.specs.Clocks.{clock_rule}
+use Rattle.pc_script.specs.Script.{Position}
 use Rattle.pc_runner.specs.History.{History, known_by}
 use Rattle.pc_runner.specs.Keeping.{KeepsSoFar}
 use Rattle.pc_runner.specs.Traffic.{HasHeard, IsNumbered, IsPosted, IsReplied}

@@ -16,8 +16,9 @@ use Rattle.pc_runner.proofs.Places.{get_read, get_set_other, get_set_same, same_
 use Rattle.pc_runner.proofs.Turning.{Entries}
 use Rattle.pc_runner.specs.declared.session.SessionRun.{SessionRun}
 use Rattle.pc_runner.specs.Following.{HasSameWork, IsFollowing}
-use Rattle.pc_runner.specs.Follows.Script.{Position, next_call}
-use Rattle.pc_runner.specs.Follows.Turns.{CallsNext, CallsNextOf, IsOpened, IsOver, IsTurn, items_over, jobs_in, own_turn, position_in}
+use Rattle.pc_script.specs.Script.{Position, next_call}
+use Rattle.pc_runner.specs.Follows.Turns.{CallsNext, CallsNextOf, IsOpened, IsOver, IsTurn, jobs_in, own_turn, position_in}
+use Rattle.pc_script.specs.Script.{items_over}
 use Rattle.pc_runner.specs.declared.turns.TurnsRun.{TurnsRun}
 use Rattle.pc_runner.specs.History.{History}
 use Rattle.pc_runner.specs.Parts.{GoesOnBy}

@@ -42,7 +42,7 @@ use Rattle.pc_runner.specs.History.{History, known_by, own_by}
 use Rattle.pc_runner.specs.Keeping.{IsClockOf, IsStatedBy}
 use Rattle.pc_runner.specs.Parts.{IsInside, TakesPart}
 use Rattle.pc_runner.specs.Settling.{IsAtJob, IsSettling, messages_of, with_left}
-use Rattle.pc_runner.specs.Suiting.{FitsCalls}
+use Rattle.pc_script.specs.Suiting.{FitsCalls}
 
 module _ (r : SessionRun) (h : History) (job : Job) (at : IsAtJob r h job) where
   -- The session before the job was taken.

@@ -21,8 +21,8 @@ use Rattle.pc_world.specs.Known.Traffic.{Heard}
 use Rattle.pc_world.specs.Tell.Refusal.{is_heard}
 use Rattle.pc_world.specs.Unstaged.{IsNoStage}
 use Rattle.pc_runner.specs.Exchanging.{IsTimely}
-use Rattle.pc_runner.specs.Follows.{KeepsStep}
-use Rattle.pc_runner.specs.Follows.Script.{Position, next_call}
+use Rattle.pc_script.specs.Steps.{KeepsStep}
+use Rattle.pc_script.specs.Script.{Position, next_call}
 use Rattle.pc_runner.specs.Follows.Wire.{MayStayUnheard}
 
 -- a call is asked

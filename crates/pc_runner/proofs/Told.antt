@@ -34,16 +34,16 @@ use Rattle.pc_runner.proofs.Keeps.{keeps_on}
 use Rattle.pc_runner.proofs.LeftTold.{BeginsNext, jobs_after_told, jobs_told}
 use Rattle.pc_runner.proofs.OnWay.{all_heard_now, heard_told, none_waits}
 use Rattle.pc_runner.proofs.Quiet.{quiet_tell}
-use Rattle.pc_runner.proofs.Refitting.{held_none, row_by, told_fits}
+use Rattle.pc_script.proofs.Refitting.{held_none, row_by, told_fits}
 use Rattle.pc_runner.proofs.Stepping.{step_told}
 use Rattle.pc_runner.specs.declared.outbox.Posted.{Posted}
 use Rattle.pc_runner.specs.Following.{HasJobs, StandsBy}
-use Rattle.pc_runner.specs.Follows.Clocks.{clock_rule}
-use Rattle.pc_runner.specs.Follows.Script.{Position, after_told}
+use Rattle.pc_script.specs.Clocks.{clock_rule}
+use Rattle.pc_script.specs.Script.{Position, after_told}
 use Rattle.pc_runner.specs.History.{History, known_by}
 use Rattle.pc_runner.specs.Journal.{HasGrown}
 use Rattle.pc_runner.specs.Keeping.{AreDelivered, KeepsSoFar, open_calls}
-use Rattle.pc_runner.specs.Suiting.{FitsCalls}
+use Rattle.pc_script.specs.Suiting.{FitsCalls}
 use Rattle.pc_runner.specs.Traffic.{HasHeard}
 
 -- the answer may be told to the session

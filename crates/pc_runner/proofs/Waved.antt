@@ -34,9 +34,9 @@ use Rattle.pc_runner.specs.Database.{HasEvaluated}
 use Rattle.pc_runner.specs.declared.outbox.Answered.{Answered}
 use Rattle.pc_runner.specs.declared.outbox.Posted.{Posted}
 use Rattle.pc_runner.specs.Following.{AreOnTheirWay, HasJobs, IsOpen}
-use Rattle.pc_runner.specs.Follows.{KeepsStep}
-use Rattle.pc_runner.specs.Follows.Clocks.{clock_rule}
-use Rattle.pc_runner.specs.Follows.Script.{Position}
+use Rattle.pc_script.specs.Steps.{KeepsStep}
+use Rattle.pc_script.specs.Clocks.{clock_rule}
+use Rattle.pc_script.specs.Script.{Position}
 use Rattle.pc_runner.specs.History.{History, known_by}
 use Rattle.pc_runner.specs.Journal.{HasGrown}
 use Rattle.pc_runner.specs.Keeping.{AreDelivered, KeepsSoFar}

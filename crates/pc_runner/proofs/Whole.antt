@@ -18,7 +18,7 @@ use Rattle.pc_runner.specs.declared.session.SessionRun.{SessionRun}
 use Rattle.pc_runner.specs.declared.turns.TurnsRun.{TurnsRun}
 use Rattle.pc_runner.specs.Following.{IsFollowing}
 use Rattle.pc_runner.specs.Follows.{Follows, FollowsAlone}
-use Rattle.pc_runner.specs.Follows.Script.{next_call}
+use Rattle.pc_script.specs.Script.{next_call}
 use Rattle.pc_runner.specs.Follows.Wire.{evaluations}
 use Rattle.pc_runner.specs.Traffic.{IsNumbered}
 use Rattle.pc_runner.specs.Follows.Turns.{AreTurns, IsInTurns, Opens, RunOut, stated_turns}

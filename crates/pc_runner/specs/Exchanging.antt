@@ -18,9 +18,10 @@ use Rattle.pc_world.specs.Known.Statements.{Statement}
 use Rattle.pc_world.specs.Known.Transactions.{Txn}
 use Rattle.pc_world.specs.SameRequest.{IsSameRequest}
 use Rattle.pc_runner.specs.Database.{HasEvaluated, HasSent}
-use Rattle.pc_runner.specs.Follows.{EachAfter, KeepsWork}
-use Rattle.pc_runner.specs.Follows.Clocks.{asks_in}
-use Rattle.pc_runner.specs.Follows.Script.{Position, script_position}
+use Rattle.pc_desk.specs.Keeping.{EachAfter}
+use Rattle.pc_script.specs.Steps.{KeepsWork}
+use Rattle.pc_script.specs.Clocks.{asks_in}
+use Rattle.pc_script.specs.Script.{Position, script_position}
 use Rattle.pc_runner.specs.History.{History, known_by, own_by}
 use Rattle.pc_runner.specs.Journal.{HasGrown}
 use Rattle.pc_runner.specs.Keeping.{open_calls}

@@ -13,10 +13,10 @@ use Rattle.pc_work.specs.Built.{IsBuiltItem}
 use Rattle.pc_runner.specs.declared.outbox.Answered.{Answered}
 use Rattle.pc_runner.specs.declared.outbox.Posted.{Posted}
 use Rattle.pc_runner.specs.declared.session.SessionRun.{SessionRun}
-use Rattle.pc_runner.specs.Follows.Script.{Position, next_call}
+use Rattle.pc_script.specs.Script.{Position, next_call}
 use Rattle.pc_runner.specs.History.{History, IsSoundHistory, known_by}
 use Rattle.pc_runner.specs.Keeping.{AreDelivered, KeepsSoFar}
-use Rattle.pc_runner.specs.Suiting.{AreOfOne, FitsCalls, IsCourse}
+use Rattle.pc_script.specs.Suiting.{AreOfOne, FitsCalls, IsCourse}
 use Rattle.pc_runner.specs.Traffic.{AreAnsweredFrom, ArePostedFrom, AwaitsAllBetween, HasHeard, IsPosted, IsReplied}
 
 -- The history is sound; the session is one of it, its coordinator knows what it knows, and its messages are counted.

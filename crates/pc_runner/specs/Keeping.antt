@@ -10,9 +10,10 @@ use Rattle.pc_work.specs.declared.session.SessionWork.{SessionWork}
 use Rattle.pc_work.specs.declared.workload.Workload.{Workload}
 use Rattle.pc_world.specs.Follows.FinishingJobs.{jobs_of}
 use Rattle.pc_world.specs.Known.Statements.{Statement}
-use Rattle.pc_runner.specs.Follows.{EachAfter, KeepsWork}
-use Rattle.pc_runner.specs.Follows.Clocks.{asks_in}
-use Rattle.pc_runner.specs.Follows.Script.{Position, script_position}
+use Rattle.pc_desk.specs.Keeping.{EachAfter}
+use Rattle.pc_script.specs.Steps.{KeepsWork}
+use Rattle.pc_script.specs.Clocks.{asks_in}
+use Rattle.pc_script.specs.Script.{Position, script_position}
 use Rattle.pc_runner.specs.Follows.Wire.{evaluations}
 use Rattle.pc_runner.specs.History.{History, known_by, own_by}
 

@@ -9,8 +9,6 @@ pub mod Keeping
 pub mod Parts
 pub mod Progress
 pub mod Rounding
-pub mod Script
 pub mod Settling
-pub mod Suiting
 pub mod Traffic
 pub mod Turns

@@ -13,8 +13,9 @@ use Rattle.pc_runner.specs.declared.session.SessionRun.{SessionRun}
 use Rattle.pc_runner.specs.declared.turns.TurnsRun.{TurnsRun}
 use Rattle.pc_runner.specs.Following.{IsFollowing}
 use Rattle.pc_runner.specs.Follows.{Follows}
-use Rattle.pc_runner.specs.Follows.Script.{next_call}
-use Rattle.pc_runner.specs.Follows.Turns.{IsOver, IsTurn, RunsUntil, items_over, jobs_in, own_turn}
+use Rattle.pc_script.specs.Script.{next_call}
+use Rattle.pc_runner.specs.Follows.Turns.{IsOver, IsTurn, RunsUntil, jobs_in, own_turn}
+use Rattle.pc_script.specs.Script.{items_over}
 use Rattle.pc_runner.specs.History.{History, head_of}
 
 -- The runner is that of the session of this index, and follows it in the history.

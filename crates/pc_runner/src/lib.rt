@@ -7,7 +7,6 @@ mod finish;
 mod journal;
 mod outbox;
 mod round;
-mod script;
 mod session;
 mod turns;
 

@@ -19,7 +19,7 @@ use Rattle.pc_world.specs.Known.{Known, known_of}
 use Rattle.pc_world.specs.Local.{Head}
 use Rattle.pc_world.specs.Run.{protocol}
 use Rattle.pc_world.specs.Tell.Refusal.{is_heard}
-use Rattle.pc_runner.specs.Follows.Script.{Position, next_call, script_position}
+use Rattle.pc_script.specs.Script.{Position, items_over, next_call, script_position}
 
 -- Where a session of this work is in its script after a history.
 abbrev pub position_in : Head → Workload → ℕ → SessionWork → List (Entry Event) → Position
@@ -99,10 +99,6 @@ FinishesNext head number (job ∷ jobs) before part = IsJob head number before p
 abbrev pub own_turn : ℕ → List (List Request) → Turn
 own_turn number [] = turns.Session number
 own_turn number (job ∷ jobs) = turns.Job number
-
--- How many items of a script of so many are over.
-abbrev pub items_over : ℕ → Position → ℕ
-items_over items at = items - (length at.items + min 1 (length at.calls))
 
 -- The turns that the workload states.
 abbrev pub stated_turns : Workload → List Turn

@@ -3,7 +3,7 @@ use Rattle.std.specs.Prelude.{◌≡◌, None, List}
 use Rattle.pc_history.specs.declared.pair.Pair.{Pair}
 use Rattle.pc_proto.specs.declared.event.Event.{Event}
 use Rattle.pc_world.specs.Known.{known_of}
-use Rattle.pc_runner.specs.Follows.Script.{Position, next_call}
+use Rattle.pc_script.specs.Script.{Position, next_call}
 
 -- No call is next, and none is open.
 pub record IsScriptEnd (at : Position) (own : List (Pair Event)) : Type 0 where

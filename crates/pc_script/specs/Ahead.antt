@@ -2,7 +2,7 @@
 use Rattle.std.specs.Prelude.{ℕ, Bool, List, [], ◌∷◌, drop, cond}
 use Rattle.pc_proto.specs.declared.call.Call.{Call}
 use Rattle.pc_proto.specs.declared.call.Call.TheVariants as calls
-use Rattle.pc_runner.specs.Follows.Script.{Position}
+use Rattle.pc_script.specs.Script.{Position}
 
 -- The calls that are ahead after so many: those behind them, or a rollback where the transaction is given up.
 abbrev pub ahead_of : Bool → ℕ → List Call → List Call

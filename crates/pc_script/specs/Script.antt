@@ -1,5 +1,5 @@
 -- Script: a session asks the calls of its script in order, and after a refusal some of them again.
-use Rattle.std.specs.Prelude.{◌≡◌, ℕ, zero, suc, Bool, true, false, Option, Some, List, [], ◌∷◌, ◌++◌, drop, fold, slice_get, ⊤}
+use Rattle.std.specs.Prelude.{◌≡◌, ℕ, zero, suc, ◌+◌, ◌-◌, min, Bool, true, false, Option, Some, List, [], ◌∷◌, ◌++◌, drop, fold, length, slice_get, ⊤}
 use Rattle.std.specs.List.{flat_map}
 use Rattle.pc_history.specs.declared.pair.Pair.{Pair}
 use Rattle.pc_proto.specs.declared.answer.Answer.{Answer}
@@ -89,3 +89,7 @@ script_position reruns script own = fold (λ at p. moved p.entry.event at) (open
 abbrev pub AsksNext : Position → Event → Type 0
 AsksNext at (events.Ask call reading) = next_call at ≡ Some call
 AsksNext at _ = ⊤
+
+-- How many items of a script of so many are over.
+abbrev pub items_over : ℕ → Position → ℕ
+items_over items at = items - (length at.items + min 1 (length at.calls))

@@ -1,9 +1,9 @@
 use Rattle.std.proofs.Common.{◌≡◌, ℕ, zero, suc, ◌+◌, Bool, true, false, List, [], ◌∷◌, drop, refl, ap, subst, ◌∙◌, arith}
 use Rattle.pc_proto.specs.declared.call.Call.{Call}
 use Rattle.pc_work.specs.declared.item.Item.{Item}
-use Rattle.pc_runner.specs.Follows.Script.{Position}
-use Rattle.pc_runner.specs.Script.{ahead_of, with_ahead}
-use Rattle.pc_runner.proofs.script.ScriptRun.go_on.Goals as goal
+use Rattle.pc_script.specs.Script.{Position}
+use Rattle.pc_script.specs.Ahead.{ahead_of, with_ahead}
+use Rattle.pc_script.proofs.script.ScriptRun.go_on.Goals as goal
 
 drop-suc : (n : ℕ) (xs : List Call) → drop (suc n) xs ≡ drop 1 (drop n xs)
 drop-suc zero xs = refl

@@ -1,7 +1,7 @@
 use Rattle.std.proofs.Common.{◌≡◌, ◌++◌, take}
 use Rattle.std.specs.List.{flat_map}
-use Rattle.pc_runner.specs.Follows.Script.{statement_calls}
-use Rattle.pc_runner.proofs.script.add_statements.Given as goal
+use Rattle.pc_script.specs.Script.{statement_calls}
+use Rattle.pc_script.proofs.script.add_statements.Given as goal
 
 abbrev pub invariant-loop-statement : goal.invariant-loop-statement
 invariant-loop-statement l = l.calls ≡ l.initial.calls ++ flat_map statement_calls (take l.statement-index l.statements)

@@ -9,8 +9,8 @@ use Rattle.pc_coord.specs.Knows.{IsHeld}
 use Rattle.pc_coord.specs.Suiting.{Suits}
 use Rattle.pc_proto.specs.declared.call.Call.{Call}
 use Rattle.pc_proto.specs.declared.call.Call.TheVariants as calls
-use Rattle.pc_runner.specs.Follows.Script.{Position, calls_of, end_call, opened, rerun, statement_calls}
-use Rattle.pc_runner.specs.Suiting.{AreOfOne, FitsCalls, FitsTxn, IsCallIn, IsCourse}
+use Rattle.pc_script.specs.Script.{Position, calls_of, end_call, opened, rerun, statement_calls}
+use Rattle.pc_script.specs.Suiting.{AreOfOne, FitsCalls, FitsTxn, IsCallIn, IsCourse}
 use Rattle.pc_txn.specs.declared.flight.InFlight.{InFlight}
 use Rattle.pc_txn.specs.declared.txn.OpenTxn.{OpenTxn}
 use Rattle.pc_work.specs.Built.{IsBuiltItem}

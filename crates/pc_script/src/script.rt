@@ -1,8 +1,8 @@
 ghost use Rattle.std.specs.Prelude.{◌≡◌, ◌↔◌, ◌++◌, None, IfOk, IsTrue, OnOk, drop};
 ghost use Rattle.std.specs.List.{flat_map};
-ghost use Rattle.pc_runner.specs.Follows.Script.{after_told, calls_of, next_call, opened, rerun, statement_calls};
-ghost use Rattle.pc_runner.specs.Follows.Turns.{items_over};
-ghost use Rattle.pc_runner.specs.Script.{with_ahead};
+ghost use Rattle.pc_script.specs.Script.{after_told, calls_of, next_call, opened, rerun, statement_calls};
+ghost use Rattle.pc_script.specs.Script.{items_over};
+ghost use Rattle.pc_script.specs.Ahead.{with_ahead};
 ghost use Rattle.pc_work.specs.declared.item.Item.TheVariants as items;
 
 use pc_base::{Items, NoMemory, Priority, TryCopy};
@@ -16,7 +16,7 @@ type Calls = Items<Call>;
 
 /// Where a session is in its script. Contracts see it as that position.
 #[derive(Drop)]
-pub(crate) struct ScriptRun<'a> {
+pub struct ScriptRun<'a> {
     alloc: Global,
     /// The items behind the running one.
     items: &'a [Item],
@@ -33,8 +33,8 @@ pub(crate) struct ScriptRun<'a> {
 }
 
 impl<'a> Model for ScriptRun<'a> {
-    ghost use Rattle.pc_runner.specs.Follows.Script.{Position};
-    ghost use Rattle.pc_runner.specs.Script.{ahead_of};
+    ghost use Rattle.pc_script.specs.Script.{Position};
+    ghost use Rattle.pc_script.specs.Ahead.{ahead_of};
 
     ghost Value = { Position };
 

@@ -19,9 +19,9 @@ use Rattle.pc_world.specs.MayTell.{IsLearnTold, MayTellIn, MayTellRow, is_begin,
 use Rattle.pc_world.specs.Send.Put.{AsksFor}
 use Rattle.pc_world.specs.Tell.Begin.{MayTellBegun}
 use Rattle.pc_world.specs.Tell.Data.{MayTellRows, MayTellValue, MayTellWritten}
-use Rattle.pc_runner.proofs.Fitting.{IsFree, after_begin, again_fits, behind, first_of, free_fits, opened_fits, rerun_fits}
-use Rattle.pc_runner.specs.Follows.Script.{Position, after_told, next_call, opened}
-use Rattle.pc_runner.specs.Suiting.{AreOfOne, FitsCalls, FitsTxn, IsCourse}
+use Rattle.pc_script.proofs.Fitting.{IsFree, after_begin, again_fits, behind, first_of, free_fits, opened_fits, rerun_fits}
+use Rattle.pc_script.specs.Script.{Position, after_told, next_call, opened}
+use Rattle.pc_script.specs.Suiting.{AreOfOne, FitsCalls, FitsTxn, IsCourse}
 
 pub row_by : (needs past : Bool) (none clock row : Type 0) → (none → ⊥) → (clock → ⊥) → MatchBool needs none (MatchBool past clock row) → row
 row_by true past none clock row first second is = absurd (first is)
