@@ -1,7 +1,9 @@
 //! The program: words, a source and a sink lead to the journal and the report of a workload.
 #![tactic(auto)]
 
+ghost use Rattle.std.specs.Prelude.{◌≡◌, ◌⊎◌};
 ghost use Rattle.pc_program.specs.Causes.{IsOfRun};
+ghost use Rattle.pc_program.specs.declared.status.Status.TheVariants as statuses;
 
 mod clocks;
 mod output;
@@ -11,19 +13,31 @@ mod top;
 use clocks::SystemClocks;
 use pc_io::{StdSink, StdSource};
 use pc_range::NoGate;
+use status::OUT_OF_MEMORY;
 pub use status::{Rule, Status};
 use std::process::ExitCode;
 use std::{env, io};
 pub use top::pcommit;
 
 fn main(rt: HostRuntime) -> ExitCode {
-    let status = run(&rt);
-    if let Ok(text) = status.text(rt.alloc())
-        && !text.is_empty()
-    {
+    let status = told(&rt, run(&rt));
+    ExitCode::from(status.code())
+}
+
+/// Prints the line of the status on standard error.
+///
+/// Where memory for the line cannot be had, that is the status, and its own line takes no memory.
+fn told(rt: &HostRuntime, status: Status) -> Status
+    ensures { (result ≡ status) ⊎ (result ≡ statuses.NoMemory) }
+{
+    let Ok(text) = status.text(rt.alloc()) else {
+        let _ = rt.eprintln(OUT_OF_MEMORY);
+        return Status::NoMemory;
+    };
+    if !text.is_empty() {
         let _ = rt.eprintln(text);
     }
-    ExitCode::from(status.code())
+    status
 }
 
 fn run(rt: &HostRuntime) -> Status

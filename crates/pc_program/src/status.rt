@@ -5,6 +5,9 @@ ghost use Rattle.pc_program.specs.Status.{code_of, line_of, rule_word};
 use pc_base::NoMemory;
 use std::alloc::Global;
 
+/// The line where memory ran out.
+pub(crate) const OUT_OF_MEMORY: &str = "pcommit: out of memory";
+
 /// What part of the definition of a run an entry breaks.
 #[derive(Clone, Copy, Debug, PartialEq, Eq)]
 pub enum Rule {
@@ -91,7 +94,7 @@ impl Status {
             Status::Workload { number } => refused(alloc, *number),
             Status::Journal { line } => malformed(alloc, *line),
             Status::TooLong { bytes } => too_long(alloc, *bytes),
-            Status::NoMemory => fixed(alloc, "pcommit: out of memory"),
+            Status::NoMemory => fixed(alloc, OUT_OF_MEMORY),
         }
     }
 }
