@@ -1,5 +1,5 @@
 -- One key's versions, by timestamp: what stands at a place, and where a version goes.
-use Rattle.std.proofs.Common.{◌≡◌, ℕ, zero, suc, ◌-◌, ◌<◌, ◌≤◌, Bool, true, false, nat_le, nat_lt, cond, if◌then◌else◌, List, [], ◌∷◌, length, take, filter, fold, Option, None, Some, IfSome, slice_get, slice_index_or, refl, sym, ap, subst, ◌∙◌, arith}
+use Rattle.std.proofs.Common.{◌≡◌, ℕ, zero, suc, ◌-◌, ◌<◌, ◌≤◌, Bool, true, false, ◌&&◌, nat_le, nat_lt, cond, if◌then◌else◌, List, [], ◌∷◌, length, take, filter, find, fold, Option, None, Some, IfSome, slice_get, slice_index_or, refl, sym, ap, subst, ◌∙◌, arith}
 use Rattle.std.proofs.lemmas.Cmp.{nat_list_cmp_total, tied_itself}
 use Rattle.std.proofs.lemmas.Grind.{common_steps}
 use Rattle.std.proofs.lemmas.Option.{get_or_from_slice_get, slice_get_within}
@@ -157,3 +157,44 @@ single_chain v = record { own = (refl, tt); rising = IsNonDecreasingBy-short (λ
 pub either_way : {T E : Type 0} (r : Result T E) (P : Type 0) → OnOk r P → OnErr r P → P
 either_way (Ok x) P h k = h
 either_way (Err e) P h k = k
+
+module _ (from to : ℕ) where
+  abbrev inside : Version → Bool
+  inside v = nat_lt from v.ts && nat_le v.ts to
+
+  -- A version, unless it lies too high.
+  abbrev pub unless_above : Option Version → Option Version
+  unless_above None = None
+  unless_above (Some v) = if nat_le v.ts to then Some v else None
+
+  none-inside : (low : ℕ) (xs : List Version) → to < low → Each (λ v. low ≤ v.ts) xs → find inside xs ≡ None
+  none-inside low [] h a = refl
+  none-inside low (x ∷ xs) h a =
+      let above : low ≤ x.ts = a.0 in
+      let past : nat_le x.ts to ≡ false = grind arith in
+      ap (λ b. cond (nat_lt from x.ts && b) (Some x) (find inside xs)) past ∙ by (nat_lt from x.ts) (none-inside low xs h a.1)
+    where
+      by : (b : Bool) → find inside xs ≡ None → cond (b && false) (Some x) (find inside xs) ≡ None
+      by true rest = rest
+      by false rest = rest
+
+  -- the first that lies above and not too high stands where the others end that do not lie above, or nowhere
+  pub inside_at : (xs : List Version) (place : ℕ) → IsNonDecreasingBy (λ v. v.ts) xs → place ≤ length xs → IsPartitionPoint (λ v. nat_le v.ts from ≡ true) (λ v. nat_le v.ts from ≡ false) xs place
+      → unless_above (slice_get xs place) ≡ find inside xs
+  inside_at [] zero rising low h = refl
+  inside_at [] (suc place) rising low h = absurd (omega arith)
+  inside_at (x ∷ xs) zero rising low h =
+      let high : nat_le x.ts from ≡ false = point_last (λ v. nat_le v.ts from ≡ true) (λ v. nat_le v.ts from ≡ false) x xs h in
+      let above : nat_lt from x.ts ≡ true = grind arith in
+      sym (ap (λ b. cond (b && nat_le x.ts to) (Some x) (find inside xs)) above ∙ by (nat_le x.ts to) refl)
+    where
+      by : (b : Bool) → nat_le x.ts to ≡ b → cond b (Some x) (find inside xs) ≡ cond b (Some x) None
+      by true is = refl
+      by false is =
+          let past : to < x.ts = grind arith in
+          none-inside x.ts xs past (recursion_from_All (λ w. x.ts ≤ w.ts) xs (λ k d within. rising-first x xs rising k d within))
+  inside_at (x ∷ xs) (suc place) rising low h =
+      let under : nat_le x.ts from ≡ true = point_first (λ v. nat_le v.ts from ≡ true) (λ v. nat_le v.ts from ≡ false) x xs place h in
+      let not-above : nat_lt from x.ts ≡ false = grind arith in
+      inside_at xs place (rising_rest x xs rising) (omega arith) (point_rest (λ v. nat_le v.ts from ≡ true) (λ v. nat_le v.ts from ≡ false) x xs place h)
+      ∙ sym (ap (λ b. cond (b && nat_le x.ts to) (Some x) (find inside xs)) not-above)

@@ -1,5 +1,5 @@
 -- What a read sees of each chain in a span, chain after chain.
-use Rattle.std.proofs.Common.{◌≡◌, ℕ, Bool, true, false, cond, nat_le, List, [], ◌∷◌, ◌++◌, filter, fold, map, Option, None, Some, refl, sym, ap, ◌∙◌}
+use Rattle.std.proofs.Common.{◌≡◌, ℕ, zero, suc, Bool, true, false, cond, nat_le, List, [], ◌∷◌, ◌++◌, filter, fold, map, Option, None, Some, slice_get, refl, sym, ap, subst, ◌∙◌}
 use Rattle.std.proofs.lemmas.Cmp.{nat_list_cmp_total, tied_itself}
 use Rattle.std.proofs.lemmas.List.{append_assoc, append-nil, map-append}
 use Rattle.std.proofs.lemmas.List.Elements.{filter_map-append}
@@ -19,7 +19,7 @@ use Rattle.pc_base.specs.Span.{contains, same_key}
 use Rattle.pc_base.specs.Versions.{later, visible}
 use Rattle.pc_mvcc.proofs.Joined.{Chain, all_in_chain, chain_of, filtered_twice}
 use Rattle.pc_mvcc.proofs.Spans.{keys_of_chains}
-use Rattle.pc_mvcc.specs.Chains.{AreChains, joined, with_key_of}
+use Rattle.pc_mvcc.specs.Chains.{AreChains, IsChain, joined, with_key_of}
 use Rattle.pc_mvcc.specs.VisibleIn.{visible_in}
 
 turned-less : (o : Ordering) → o ≡ Less → is_eq (ordering_reverse o) ≡ false
@@ -31,6 +31,12 @@ greater-only : (o : Ordering) → o ≡ Less → ordering_reverse o ≡ Greater
 greater-only Less h = refl
 greater-only Equal h = absurd cc
 greater-only Greater h = absurd cc
+
+-- what holds of each element holds of the one at a place
+each_at : {X : Type 0} (P : X → Type 0) (xs : List X) (i : ℕ) (x : X) → Each P xs → slice_get xs i ≡ Some x → P x
+each_at P [] i x h is = absurd cc
+each_at P (y ∷ ys) zero x h is = let same : y ≡ x = cc in subst P same h.0
+each_at P (y ∷ ys) (suc i) x h is = each_at P ys i x h.1 is
 
 -- each chain is found under its key
 found-each : (es : List Chain) → IsStrictlySortedBy (slice_cmp nat_cmp) (keys_of es) → Each (λ e. lookup (is_at (slice_cmp nat_cmp e.0)) es ≡ Some e.1) es
@@ -139,6 +145,19 @@ module _ (span : Span) (ts : ℕ) (es : List Chain) (chains : AreChains es) wher
   empty-unseen [] found = tt
   empty-unseen (f ∷ fs) found =
       (λ empty. in-chain f.0 ∙ (ap (λ (o : Option (Vec Version)). fold later None (filter (λ (v : Version). nat_le v.ts ts) (chain_of o))) found.0 ∙ ap (λ vs. fold later None (filter (λ (v : Version). nat_le v.ts ts) vs)) empty), empty-unseen fs found.1)
+
+  -- each chain of the span is one of its key
+  pub chain_at : (i : ℕ) (e : Chain) → slice_get (filter (λ e. contains span e.0) es) i ≡ Some e → IsChain e.0 e.1.items
+  chain_at i e is =
+      each_at (λ e. IsChain e.0 e.1.items) (filter (λ (e : Chain). contains span e.0) es) i e (each-kept (λ e. IsChain e.0 e.1.items) (λ e. contains span e.0) es chains.each) is
+
+  -- and what a read sees of its key stands in it
+  pub visible_at : (i : ℕ) (e : Chain) → slice_get (filter (λ e. contains span e.0) es) i ≡ Some e → visible e.0 ts (joined es) ≡ fold later None (filter (λ v. nat_le v.ts ts) e.1.items)
+  visible_at i e is =
+      in-chain e.0
+      ∙ ap (λ (o : Option (Vec Version)). fold later None (filter (λ (v : Version). nat_le v.ts ts) (chain_of o)))
+      (each_at (λ e. lookup (is_at (slice_cmp nat_cmp e.0)) es ≡ Some e.1) (filter (λ (e : Chain). contains span e.0) es) i e
+      (each-kept (λ e. lookup (is_at (slice_cmp nat_cmp e.0)) es ≡ Some e.1) (λ e. contains span e.0) es (found-each es chains.ordered)) is)
 
   -- what is seen of the span's chains is what is seen of its keys
   pub seen_in_span : filter_map (λ key. visible key ts (joined es)) (keys_of (filter (λ e. contains span e.0) es)) ≡ visible_in span ts (joined es)

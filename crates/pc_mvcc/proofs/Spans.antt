@@ -255,3 +255,21 @@ entries_of_span span low high [] bounds = refl
 entries_of_span span low high (e ∷ es) bounds =
     ap (λ b. cond b (e ∷ entries_between (slice_cmp nat_cmp) low high es) (entries_between (slice_cmp nat_cmp) low high es)) (bounds.keys e.0)
     ∙ ap (λ es. cond (contains span e.0) (e ∷ es) es) (entries_of_span span low high es bounds)
+
+module _ {X : Type 0} (test : X → Bool) where
+  -- what was not found so far is found next, or not yet
+  pub found_next : (xs : List X) (x : X) (rest : List X) → find test xs ≡ None → test x ≡ true → find test (xs ++ x ∷ rest) ≡ Some x
+  found_next [] x rest none is = ap (λ b. cond b (Some x) (find test rest)) is
+  found_next (y ∷ ys) x rest none is = by (test y) none (λ none. found_next ys x rest none is)
+    where
+      by : (b : Bool) → cond b (Some y) (find test ys) ≡ None → (find test ys ≡ None → find test (ys ++ x ∷ rest) ≡ Some x) → cond b (Some y) (find test (ys ++ x ∷ rest)) ≡ Some x
+      by true none later = absurd cc
+      by false none later = later none
+
+  pub found_none : (xs : List X) (x : X) → find test xs ≡ None → test x ≡ false → find test (xs ++ x ∷ []) ≡ None
+  found_none [] x none is = ap (λ b. cond b (Some x) None) is
+  found_none (y ∷ ys) x none is = by (test y) none (λ none. found_none ys x none is)
+    where
+      by : (b : Bool) → cond b (Some y) (find test ys) ≡ None → (find test ys ≡ None → find test (ys ++ x ∷ []) ≡ None) → cond b (Some y) (find test (ys ++ x ∷ [])) ≡ None
+      by true none later = absurd cc
+      by false none later = later none

@@ -1,7 +1,7 @@
 //! One key's versions, by timestamp.
 
 ghost use Rattle.std.specs.Prelude.{◌≡◌, ◌&&◌, ◌∷◌, [], IfOk, OnErr, OnOk, filter, find, fold, None, nat_le, nat_lt, slice_get};
-ghost use Rattle.std.specs.Option.{is_some, option_copied};
+ghost use Rattle.std.specs.Option.{option_copied};
 ghost use Rattle.std.specs.List.Sorted.{IsNonDecreasingBy};
 ghost use Rattle.pc_base.specs.Versions.{later, with_version};
 ghost use Rattle.pc_mvcc.specs.Chains.{IsChain};
@@ -30,18 +30,16 @@ pub(crate) fn latest_by(chain: &[Version], ts: Timestamp) -> Option<&Version>
 
 /// The version of the least timestamp above `from` and not above `to`.
 pub(crate) fn between(chain: &[Version], from: Timestamp, to: Timestamp) -> Option<&Version>
+    requires { IsNonDecreasingBy (λ v. v.ts) chain.now }
     ensures { option_copied result ≡ find (λ v. nat_lt from v.ts && nat_le v.ts to) chain.now }
 {
-    chain
-        .iter()
-        .find(|version| from < version.ts && version.ts <= to)
-}
-
-/// Whether a version lies above `from` and not above `to`.
-pub(crate) fn has_between(chain: &Vec<Version>, from: Timestamp, to: Timestamp) -> bool
-    ensures { result ≡ is_some (find (λ v. nat_lt from v.ts && nat_le v.ts to) chain.now.items) }
-{
-    between(chain, from, to).is_some()
+    let place = chain.partition_point(|version| version.ts <= from);
+    let version = version_at(chain, place)?;
+    if version.ts <= to {
+        Some(version)
+    } else {
+        None
+    }
 }
 
 /// The version at a place.

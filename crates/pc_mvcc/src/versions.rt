@@ -8,7 +8,7 @@ ghost use Rattle.pc_base.specs.Versions.{first_between, newest, visible, with_ve
 ghost use Rattle.pc_mvcc.specs.Chains.{IsChain, with_key_of};
 ghost use Rattle.pc_mvcc.specs.VisibleIn.{visible_in};
 
-use crate::chain::{alone, between, has_between, latest, latest_by, put};
+use crate::chain::{alone, between, latest, latest_by, put};
 use pc_base::{Key, NoMemory, Span, Timestamp, TryCopy, Version};
 use std::alloc::Global;
 use std::collections::{BTreeMap, BTreeSet};
@@ -78,11 +78,12 @@ impl Versions {
     pub fn any_in(&self, span: &Span, from: Timestamp, to: Timestamp) -> Option<&Version>
         ensures { option_copied result ≡ first_between span.now from to self.now }
     {
-        let (_, chain) = self
-            .chains
-            .range(span.bounds())
-            .find(|entry| has_between(entry.1, from, to))?;
-        between(chain, from, to)
+        for (_, chain) in self.chains.range(span.bounds()) {
+            if let Some(version) = between(chain, from, to) {
+                return Some(version);
+            }
+        }
+        None
     }
 
     /// Of each key in the span the version that a read at this timestamp sees, in the order of the keys.
@@ -90,8 +91,8 @@ impl Versions {
         ensures { IfOk result (λ seen. map (λ v. v.now) seen.items ≡ visible_in span.now ts self.now) }
     {
         let mut seen = Vec::new(self.alloc);
-        for (key, _) in self.chains.range(span.bounds()) {
-            if let Some(version) = self.visible(key, ts) {
+        for (_, chain) in self.chains.range(span.bounds()) {
+            if let Some(version) = latest_by(chain, ts) {
                 seen.push(version)?;
             }
         }
