@@ -1,0 +1,2 @@
+pub mod GoodReads
+pub mod Begun

@@ -1,0 +1,3 @@
+-- All that is kept of what an actor knows, and how it stands to that.
+pub mod Keeping
+pub mod Good

@@ -1,0 +1,107 @@
+//! How far the reads of a transaction are good, by the replies that its session heard.
+
+ghost use Rattle.std.specs.Prelude.{◌≡◌, ◌↔◌, ◌≤◌, ◌<◌, All, IsTrue};
+ghost use Rattle.pc_known.specs.Parts.{part_span};
+ghost use Rattle.pc_knowledge.specs.Good.{IsGoodJustTo, good_after_all, good_from, taken_further};
+ghost use Rattle.pc_world.specs.Known.Reads.{IsGoodAt};
+ghost use Rattle.pc_world.specs.Known.Transactions.{IsGood};
+
+use pc_base::{Timestamp, TxnId};
+use pc_known::{Hearing, Part};
+use pc_own::{OwnRead, OwnTxn, holds, part_of};
+use pc_proto::{Reply, Request};
+
+/// From where to where the reply takes a read of the span, if it is that of a refresh of a span that holds it.
+fn taken_further(id: TxnId, span: Part<'_>, hearing: &Hearing<'_>) -> Option<(Timestamp, Timestamp)>
+    ensures { result ≡ taken_further id (part_span span.entry) hearing.now.request hearing.now.reply }
+{
+    match (hearing.request, hearing.reply) {
+        (
+            Request::Refresh {
+                id: other,
+                from,
+                to,
+                span: wider,
+            },
+            Reply::Refreshed,
+        ) => {
+            if *other == id && holds(part_of(wider), span) {
+                Some((*from, *to))
+            } else {
+                None
+            }
+        }
+        _ => None,
+    }
+}
+
+/// How far a read is good that was good so far, and is taken further from where it is good already.
+fn good_from(way: Option<(Timestamp, Timestamp)>, good: Timestamp) -> Timestamp
+    ensures { result ≡ good_from way good }
+{
+    match way {
+        None => good,
+        Some((from, to)) => { if from <= good { good.max(to) } else { good } }
+    }
+}
+
+/// How far it is good after all replies in turn.
+fn good_after_all(id: TxnId, span: Part<'_>, heard: &[Hearing<'_>], good: Timestamp) -> Timestamp
+    ensures { result ≡ good_after_all id (part_span span.entry) heard.now good }
+{
+    let mut last = good;
+    for hearing in heard {
+        let way = taken_further(id, span, hearing);
+        last = good_from(way, last);
+    }
+    last
+}
+
+fn is_below(one: Timestamp, other: Timestamp) -> bool
+    ensures { IsTrue result ↔ (one < other) }
+{
+    one < other
+}
+
+fn is_by(one: Timestamp, other: Timestamp) -> bool
+    ensures { IsTrue result ↔ (one ≤ other) }
+{
+    one <= other
+}
+
+/// How far a read of the span that was made at this timestamp is good. Refreshes count in whichever order they were heard.
+pub fn good_to(id: TxnId, heard: &[Hearing<'_>], span: Part<'_>, ts: Timestamp) -> Timestamp
+    ensures { IsGoodJustTo id heard.now (part_span span.entry) ts result }
+{
+    let mut good = ts;
+    let mut next = good_after_all(id, span, heard, good);
+    'further: while is_below(good, next) {
+        good = next;
+        next = good_after_all(id, span, heard, good);
+    }
+    good
+}
+
+fn is_good_at(id: TxnId, heard: &[Hearing<'_>], ts: Timestamp, read: &OwnRead<'_>) -> bool
+    ensures { IsTrue result ↔ IsGoodAt id heard.now ts read.now }
+{
+    read.ts <= ts && ts <= good_to(id, heard, read.span, read.ts)
+}
+
+fn are_good_at(id: TxnId, heard: &[Hearing<'_>], ts: Timestamp, reads: &[OwnRead<'_>]) -> bool
+    ensures { IsTrue result ↔ All (IsGoodAt id heard.now ts) reads.now }
+{
+    for read in reads {
+        if !is_good_at(id, heard, ts, read) {
+            return false;
+        }
+    }
+    true
+}
+
+/// Whether each read of the transaction's epoch is good at this timestamp, which is not below the begin timestamp.
+pub fn is_good(heard: &[Hearing<'_>], t: &OwnTxn<'_>, ts: Timestamp) -> bool
+    ensures { IsTrue result ↔ IsGood heard.now t.now ts }
+{
+    is_by(t.begin(), ts) && are_good_at(t.id(), heard, ts, t.reads().as_slice())
+}

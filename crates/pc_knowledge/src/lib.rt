@@ -1,0 +1,12 @@
+//! All that an actor knows by its own entries, kept step by step, and what it can tell from that of views and of reads.
+#![tactic(auto)]
+
+mod good;
+mod knowledge;
+mod same;
+mod views;
+
+pub use good::{good_to, is_good};
+pub use knowledge::Knowledge;
+pub use same::{same_fate, same_finding, same_value, same_who, same_why};
+pub use views::{anchor_heard, view_in, was_aborted, was_committed};
