@@ -15,7 +15,7 @@ use Rattle.pc_desk.proofs.Going.{kept_below}
 use Rattle.pc_desk.proofs.Making.{added, hear_names_it, known_after_it, may_hear, own_after}
 use Rattle.pc_desk.proofs.Tracking.{answered_on, gives_same, track_delivered, track_done, track_heard, track_sent, unheard_yet, way_delivered, way_heard, way_sent}
 use Rattle.pc_desk.specs.declared.answered.Answered.{Answered}
-use Rattle.pc_desk.specs.Desk.{DeskMeaning, EndsWithSend, HasDelivered, HasDone, HasHeardFirst, HasKept, HasPosted, HasSentNext, IsAnsweredBy, IsDesk, IsReadyToGo, KeepsTrack, MayHearNow, Posted, WaitingMessage, answered_as, heard_as_number, posted_as, posting, times_sent, uses_by}
+use Rattle.pc_desk.specs.Desk.{DeskMeaning, EndsWithSend, HasDelivered, HasDone, HasHeardFirst, HasKept, HasPosted, HasSentNext, IsAnsweredBy, IsDesk, IsOneSent, IsReadyToGo, KeepsTrack, MayHearNow, Posted, WaitingMessage, answered_as, heard_as_number, posted_as, posting, times_sent, uses_by}
 use Rattle.pc_desk.specs.OwnLog.{HasEntered, IsOwnLog, LogMeaning, MayEnter, Took}
 use Rattle.pc_history.proofs.Callers.{knows-own, noted-at}
 use Rattle.pc_history.specs.declared.pair.Pair.{Pair}
@@ -339,6 +339,7 @@ took-at {C} old after note took track =
       once = λ n. subst (λ (k : Known). times_sent n k ≤ 1) (sym same) (track.once n);
       stages = λ n. subst (λ (k : Known). posted_as n old.posted + answered_as n old.replies + heard_as_number n k ≡ times_sent n k) (sym same) (track.stages n);
       posted = subst (λ (k : Known). All (λ m. request_sent m.number k.sent ≡ Some m.request) old.posted) (sym same) track.posted;
+      waits = subst (λ (k : Known). All (IsOneSent k.sent) old.posted) (sym same) track.waits;
       answered = All-weaker (IsAnsweredBy old.log) (IsAnsweredBy after)
           (λ a. answered_on old.log after a (ap (λ (l : LogMeaning C). l.part.id) took.told_this) (λ r said. subst (λ (k : Known). request_sent a.number k.sent ≡ Some r) (sym same) said)
           (λ x there. subst (λ ks. Contains ks x) (sym (ap (λ (l : LogMeaning C). l.part.known) took.told_this)) (Contains-append_left old.log.part.known note x there))) old.replies track.answered;

@@ -1,24 +1,22 @@
 -- An actor's list that has ended, and what became of its messages.
-use Rattle.std.proofs.Common.{◌≡◌, ℕ, ◌+◌, ◌≤◌, ◌==◌, ◌||◌, Bool, true, false, All, Contains, IsTrue, IfErr, inl, inr, List, [], ◌∷◌, ◌++◌, cond, count_by, find, length, Result, Ok, Err, Option, None, Some, refl, sym, ap, subst, ◌∙◌, arith}
+use Rattle.std.proofs.Common.{◌≡◌, ℕ, ◌<◌, ◌≤◌, ◌⊎◌, ◌==◌, ◌||◌, Bool, true, false, All, Contains, IfErr, inl, inr, List, [], ◌∷◌, length, Result, Ok, Err, refl, sym, ap, subst, ◌∙◌, arith}
 use Rattle.std.proofs.lemmas.Bool.{eq-eqb, eqb-true}
-use Rattle.std.proofs.lemmas.List.Elements.{All-contains, All-head, Contains-append_left, Contains-append_right}
+use Rattle.std.proofs.lemmas.List.Elements.{All-contains, All-head, All-tail, Contains-append_left, Contains-append_right}
 use Rattle.std.specs.List.{list_any}
-use Rattle.std.specs.Option.{option_map}
 use Rattle.pc_desk.proofs.Counting.{counts_any, none_counted, uncounted}
 use Rattle.pc_desk.specs.declared.answered.Answered.{Answered}
 use Rattle.pc_desk.specs.declared.halt.Halt.{Halt}
 use Rattle.pc_desk.specs.declared.halt.Halt.TheVariants as halts
-use Rattle.pc_desk.specs.Desk.{DeskMeaning, IsAnsweredBy, KeepsTrack, KnowsFull, Posted, answered_as, heard_as_number, posted_as, times_sent}
-use Rattle.pc_desk.specs.Ending.{EndsOnly, HasEnded, IsEndedBy, IsNotLost}
+use Rattle.pc_desk.specs.Desk.{DeskMeaning, IsAnsweredBy, HasTakenFirst, IsOneSent, KeepsTrack, Posted, as_sent, posted_as, times_sent}
+use Rattle.pc_desk.specs.Ending.{EndsOnly, HasEnded, IsEndedBy, IsNotLost, WaitsUnheard}
 use Rattle.pc_desk.specs.OwnLog.{IsHalt, LogMeaning, Took}
 use Rattle.pc_history.specs.declared.view.Known.{Known as KnownEntry}
 use Rattle.pc_history.specs.Parts.{known_entry, told}
 use Rattle.pc_lists.proofs.Lists.{all_from_contains, contains_head, contains_nil, contains_cons, contains_tail}
 use Rattle.pc_proto.specs.declared.event.Event.{Event}
-use Rattle.pc_proto.specs.declared.request.Request.{Request}
 use Rattle.pc_range.specs.Message.{IsFullNote, evaluation}
 use Rattle.pc_world.specs.Known.{Known, known_of}
-use Rattle.pc_world.specs.Known.Traffic.{Heard, Sent, request_sent}
+use Rattle.pc_world.specs.Known.Traffic.{Heard, Sent}
 use Rattle.pc_world.specs.Tell.Refusal.{is_heard}
 
 -- one that passes the test is there
@@ -42,17 +40,6 @@ any_there test (y ∷ ys) x is there = elim (contains_cons y ys x there) [
   | inl here ↦ ap (λ b. b || list_any test ys) (ap test here ∙ is)
   | inr later ↦ or_right (test y) (list_any test ys) (any_there test ys x is later)
 ]
-
--- the message that says something under a number is there
-said_there : (n : ℕ) (xs : List Sent) (r : Request) → request_sent n xs ≡ Some r → (x : Sent) × Contains xs x × (x.number ≡ n)
-said_there n [] r e = absurd cc
-said_there n (x ∷ xs) r e = by (x.number == n) refl (said_there n xs r)
-  where
-    by : (b : Bool) → (x.number == n) ≡ b → (request_sent n xs ≡ Some r → (y : Sent) × Contains xs y × (y.number ≡ n)) → (y : Sent) × Contains (x ∷ xs) y × (y.number ≡ n)
-    by true is on = (x, contains_head x xs, eqb-true x.number n is)
-    by false is on =
-        let later = on (sym (ap (λ b. option_map (λ (m : Sent). m.request) (cond b (Some x) (find (λ (m : Sent). m.number == n) xs))) is) ∙ e) in
-        (later.0, contains_tail x xs later.0 later.1, later.2)
 
 module _ {C : Type 0} (d : DeskMeaning C) (track : KeepsTrack d) where
   abbrev k : Known
@@ -85,10 +72,21 @@ module _ {C : Type 0} (d : DeskMeaning C) (track : KeepsTrack d) where
   pub not_lost : All (IsNotLost d) k.sent
   not_lost = all_from_contains (IsNotLost d) k.sent one-not-lost
 
+  -- what waits was not heard
+  waits-unheard : (m : Posted) → Contains d.posted m → is_heard k.heard (as_sent m) ≡ false
+  waits-unheard m there =
+      let waits : 1 ≤ posted_as m.number d.posted = counts_any (λ (p : Posted). p.number == m.number) d.posted (any_there (λ (p : Posted). p.number == m.number) d.posted m (eq-eqb m.number m.number refl) there) in
+      let stages = track.stages m.number in
+      let once = track.once m.number in
+      none_counted (λ (h : Heard). h.number == m.number) k.heard (omega arith)
+
+  pub all_wait : All (WaitsUnheard k) d.posted
+  all_wait = all_from_contains (WaitsUnheard k) d.posted (λ m there. record { sent = All-contains (IsOneSent k.sent) d.posted m track.waits there; unheard = waits-unheard m there })
+
 -- ---- a list that is full
 
 ended-at : {C : Type 0} (old : DeskMeaning C) (rs : List Answered) → KeepsTrack old → ◌≡◌ {A = ℕ} (length old.log.part.own) old.log.limit → HasEnded old (record old { log = record old.log { stopped = true }; replies = rs })
-ended-at old rs track full = record { known = λ x there. there; rest = refl; limit = refl; end = inl (record { long = full; each = not_lost old track }) }
+ended-at old rs track full = record { known = λ x there. there; rest = refl; limit = refl; end = inl (record { long = full; each = not_lost old track; waits = all_wait old track }) }
 
 ended-by : {C : Type 0} (P : Event → Type 0) (old : DeskMeaning C) (after : LogMeaning C) (rs : List Answered) (halt : Halt) → KeepsTrack old → IsHalt P old.log after halt → EndsOnly old (record old { log = after; replies = rs }) halt
 ended-by P old after rs halts.Stopped track (inl h) = λ going none. absurd (let e : true ≡ false = sym h.0 ∙ going in cc e)
@@ -107,51 +105,61 @@ ended_if P v old after (Err halt) same track h = ended_so P v old after v.replie
 
 -- ---- a range that is full
 
-module _ {C : Type 0} (old : DeskMeaning C) (m : Posted) (rest : List Posted) (note : List (KnownEntry Event)) (range : ℕ) (track : KeepsTrack old) (first : old.posted ≡ m ∷ rest) (full : IsFullNote range old.range_limit note) where
-  it : (x : Sent) × Contains (known_of old.log.part.own).sent x × (x.number ≡ m.number)
-  it = said_there m.number (known_of old.log.part.own).sent m.request
-      (All-head (λ (m : Posted). request_sent m.number (known_of old.log.part.own).sent ≡ Some m.request) m rest
-      (subst (All (λ (m : Posted). request_sent m.number (known_of old.log.part.own).sent ≡ Some m.request)) first track.posted))
+module _ {C : Type 0} (old : DeskMeaning C) (m : Posted) (rest : List Posted) (note : List (KnownEntry Event)) (track : KeepsTrack old) (first : old.posted ≡ m ∷ rest) (later : All (λ (p : Posted). m.number < p.number) rest) (full : IsFullNote m.range old.range_limit note) where
+  all-waited : All (WaitsUnheard (known_of old.log.part.own)) (m ∷ rest)
+  all-waited = subst (All (WaitsUnheard (known_of old.log.part.own))) first (all_wait old track)
 
-  unheard : is_heard (known_of old.log.part.own).heard it.0 ≡ false
-  unheard =
-      let waits : 1 ≤ posted_as m.number old.posted = counts_any (λ (p : Posted). p.number == m.number) old.posted
-      (any_there (λ (p : Posted). p.number == m.number) old.posted m (eq-eqb m.number m.number refl) (subst (λ l. Contains l m) (sym first) (contains_head m rest))) in
-      let stages = track.stages m.number in
-      let once = track.once m.number in
-      ap (λ n. list_any (λ (h : Heard). h.number == n) (known_of old.log.part.own).heard) it.2
-      ∙ none_counted (λ (h : Heard). h.number == m.number) (known_of old.log.part.own).heard (omega arith)
+  -- the message that its range refused
+  it-waited : WaitsUnheard (known_of old.log.part.own) m
+  it-waited = All-head (WaitsUnheard (known_of old.log.part.own)) m rest all-waited
 
-  pub ended_full : HasEnded old (record old { posted = rest; log = record old.log { part = told note old.log.part; stopped = true } })
+  -- The desk that has stopped.
+  abbrev stopped : DeskMeaning C
+  stopped = record old { posted = rest; log = record old.log { part = told note old.log.part; stopped = true } }
+
+  not_lost_now : (x : Sent) → IsNotLost old x → (x.number ≡ m.number) ⊎ IsNotLost stopped x
+  not_lost_now x (inl heard) = inr (inl heard)
+  not_lost_now x (inr (inl waits)) = elim (contains_cons m rest waits.waiting (subst (λ l. Contains l waits.waiting) first waits.there)) [
+    | inl here ↦ inl (sym (ap (λ (p : Posted). p.number) here ∙ waits.is))
+    | inr behind ↦ inr (inr (inl (record { waiting = waits.waiting; there = behind; is = waits.is })))
+  ]
+  not_lost_now x (inr (inr knows)) = inr (inr (inr (record { evaluation = knows.evaluation; knows = Contains-append_left old.log.part.known note knows.evaluation knows.knows; of_it = knows.of_it })))
+
+  pub ended_full : HasEnded old stopped
   ended_full = record {
     known = λ x there. Contains-append_left old.log.part.known note x there;
     rest = refl;
     limit = refl;
     end = inr (record {
-      range = range;
+      range = m.range;
       full = record {
         entry = known_entry full.entry full.place 0;
         knows = Contains-append_right old.log.part.known note (known_entry full.entry full.place 0) (subst (λ l. Contains l (known_entry full.entry full.place 0)) (sym full.tells) (contains_head (known_entry full.entry full.place 0) []));
         full = record { entry = full.entry; place = full.place; tells = refl; whose = full.whose; many = full.many };
       };
-      message = it.0;
-      sent = it.1;
-      unheard = unheard;
+      message = as_sent m;
+      sent = it-waited.sent;
+      goes = refl;
+      unheard = it-waited.unheard;
+      others = all_from_contains (λ (x : Sent). (x.number ≡ m.number) ⊎ IsNotLost stopped x) (known_of old.log.part.own).sent
+          (λ x there. not_lost_now x (All-contains (IsNotLost old) (known_of old.log.part.own).sent x (not_lost old track) there));
+      waits = All-tail (WaitsUnheard (known_of old.log.part.own)) m rest all-waited;
+      later = later;
     });
   }
 
 -- the desk from which the message was taken
-pub ended_at_range : {C : Type 0} (v d old : DeskMeaning C) (m : Posted) (note : List (KnownEntry Event)) (range : ℕ) → v ≡ d → KeepsTrack old → old.posted ≡ m ∷ d.posted → d ≡ record old { posted = d.posted } → IsFullNote range d.range_limit note
+pub ended_at_range : {C : Type 0} (v d old : DeskMeaning C) (m : Posted) (note : List (KnownEntry Event)) → v ≡ d → KeepsTrack old → HasTakenFirst old d m → IsFullNote m.range d.range_limit note
     → HasEnded old (record v { log = record v.log { part = told note v.log.part; stopped = true } })
-ended_at_range {C} v d old m note range same track first taken full =
-    subst (λ (x : DeskMeaning C). HasEnded old (record x { log = record x.log { part = told note x.log.part; stopped = true } })) (sym (same ∙ taken))
-    (ended_full old m d.posted note range track first (subst (λ n. IsFullNote range n note) (ap (λ (x : DeskMeaning C). x.range_limit) taken) full))
+ended_at_range {C} v d old m note same track taken full =
+    subst (λ (x : DeskMeaning C). HasEnded old (record x { log = record x.log { part = told note x.log.part; stopped = true } })) (sym (same ∙ taken.rest))
+    (ended_full old m d.posted note track taken.first taken.later (subst (λ n. IsFullNote m.range n note) (ap (λ (x : DeskMeaning C). x.range_limit) taken.rest) full))
 
 -- as its code has it
-pub ended_refused : {C : Type 0} (v d old : DeskMeaning C) (m : Posted) (note : List (KnownEntry Event)) (range : ℕ) (mid after : LogMeaning C) → v ≡ d → Took note v.log mid → after ≡ record mid { stopped = true } → KeepsTrack old → old.posted ≡ m ∷ d.posted
-    → d ≡ record old { posted = d.posted } → IsFullNote range d.range_limit note → HasEnded old (record v { log = after })
-ended_refused {C} v d old m note range mid after same took halted track first taken full =
-    subst (λ (l : LogMeaning C). HasEnded old (record v { log = l })) (sym (halted ∙ ap (λ (l : LogMeaning C). record l { stopped = true }) took.told_this)) (ended_at_range v d old m note range same track first taken full)
+pub ended_refused : {C : Type 0} (v d old : DeskMeaning C) (m : Posted) (note : List (KnownEntry Event)) (mid after : LogMeaning C) → v ≡ d → Took note v.log mid → after ≡ record mid { stopped = true } → KeepsTrack old → HasTakenFirst old d m
+    → IsFullNote m.range d.range_limit note → HasEnded old (record v { log = after })
+ended_refused {C} v d old m note mid after same took halted track taken full =
+    subst (λ (l : LogMeaning C). HasEnded old (record v { log = l })) (sym (halted ∙ ap (λ (l : LogMeaning C). record l { stopped = true }) took.told_this)) (ended_at_range v d old m note same track taken full)
 
 -- first messages were delivered, then the list ended
 pub ended_later : {C : Type 0} (old mid new : DeskMeaning C) (halt : Halt) → mid.log.stopped ≡ old.log.stopped → mid.log.stop ≡ old.log.stop → ((k : KnownEntry Event) → Contains old.log.part.known k → Contains mid.log.part.known k)

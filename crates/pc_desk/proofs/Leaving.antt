@@ -1,16 +1,19 @@
 -- What an actor knows once messages that it left were evaluated.
-use Rattle.std.proofs.Common.{◌≡◌, ℕ, All, Contains, List, [], ◌∷◌, ◌++◌, map, refl, sym, ap, subst, ◌∙◌}
+use Rattle.std.proofs.Common.{◌≡◌, ℕ, ◌<◌, All, Contains, List, [], ◌∷◌, ◌++◌, map, refl, sym, ap, subst, ◌∙◌, arith}
 use Rattle.std.proofs.lemmas.List.{append-nil, append_assoc}
-use Rattle.std.proofs.lemmas.List.Elements.{All-head, All-nil, All-push, All-tail, All-weaker, Contains-append_left, Contains-push}
+use Rattle.std.proofs.lemmas.List.Elements.{All-contains, All-head, All-map, All-nil, All-push, All-tail, All-weaker, Contains-append_left, Contains-push}
 use Rattle.pc_base.specs.declared.actor.ActorId.{ActorId}
-use Rattle.pc_desk.specs.Desk.{IsReadyToGo, Posted, WaitingMessage, waiting_as}
-use Rattle.pc_desk.specs.Rest.{HasOnlyLearnt, IsEvaluatedIn, IsFirstOf}
+use Rattle.pc_desk.specs.Desk.{DeskMeaning, HasTakenFirst, IsDesk, IsReadyToGo, Posted, WaitingMessage, waiting_as}
+use Rattle.pc_desk.specs.Rest.{HasOnlyLearnt, IsEvaluatedIn, IsFirstOf, StopsAt}
 use Rattle.pc_history.specs.declared.view.Known.{Known as KnownEntry}
 use Rattle.pc_history.specs.declared.view.Part.{Part}
 use Rattle.pc_history.specs.Meanings.{ActorMeaning}
 use Rattle.pc_history.specs.Parts.{told}
+use Rattle.pc_lists.proofs.Lists.{all_from_contains, contains_head, contains_map, contains_tail}
 use Rattle.pc_proto.specs.declared.event.Event.{Event}
 use Rattle.pc_proto.specs.declared.reply.Reply.{Reply}
+use Rattle.pc_range.specs.Cell.{IsFullAt}
+use Rattle.pc_range.specs.declared.message.ServeFault.{ServeFault}
 use Rattle.pc_range.specs.Message.{IsEvalNote, evaluation}
 use Rattle.pc_wire.specs.declared.verdict.Verdict.{Verdict}
 use Rattle.pc_world.specs.Local.{Head}
@@ -75,5 +78,33 @@ left_none splits all left before now none under =
     subst (All (IsEvaluatedIn now.part)) (sym (under.whole ∙ (ap (λ l. under.done ++ l) none ∙ append-nil under.done))) under.evaluated
 
 -- the first of the outbox is the first of what is left
-pub first_of_rest : {Y : Type 0} (g : Y → WaitingMessage) (ws rest : List Y) (y : Y) (key : ℕ) (sender : ActorId) (verdict : Verdict) (posted : Posted) → ws ≡ y ∷ rest → g y ≡ waiting_as key sender verdict posted → IsFirstOf (map g ws) (map g rest) sender posted
-first_of_rest g ws rest y key sender verdict posted whole is = record { key = key; verdict = verdict; whole = ap (map g) whole ∙ ap (λ w. w ∷ map g rest) is }
+pub first_of_rest : {Y : Type 0} (v : List WaitingMessage) (g : Y → WaitingMessage) (ws rest : List Y) (y : Y) (key : ℕ) (sender : ActorId) (verdict : Verdict) (posted : Posted) → map g ws ≡ v → ws ≡ y ∷ rest → g y ≡ waiting_as key sender verdict posted → All (λ (e : Y). key < (g e).key) rest
+    → IsFirstOf v (map g rest) sender posted
+first_of_rest v g ws rest y key sender verdict posted same whole is rises = record { key = key; verdict = verdict; whole = sym same ∙ (ap (map g) whole ∙ ap (λ w. w ∷ map g rest) is); rises = All-map (λ (w : WaitingMessage). key < w.key) g rest rises }
+
+-- the first of those that are left was refused
+pub stopped_at : {N : Type 0} (splits : List (List ℕ)) (limit : ℕ) (all left after : List WaitingMessage) (before now : ActorMeaning Head Event) (sender : ActorId) (posted : Posted) (fault : ServeFault N)
+    → IsUnderWay splits all left before now → IsFirstOf left after sender posted → IsFullAt posted.range limit fault → StopsAt limit all now.part fault
+stopped_at splits limit all left after before now sender posted fault under f full = record {
+  done = under.done;
+  refused = waiting_as f.key sender f.verdict posted;
+  behind = after;
+  whole = under.whole ∙ ap (λ l. under.done ++ l) f.whole;
+  evaluated = under.evaluated;
+  rises = f.rises;
+  full = full;
+}
+
+-- the first of the outbox was taken from it
+pub taken_first : {C Y : Type 0} (v old : DeskMeaning C) (splits : List (List ℕ)) (g : Y → WaitingMessage) (ws rest : List Y) (y : Y) → v ≡ old → v.posted ≡ map (λ x. (g x).posted) ws → ws ≡ y ∷ rest → IsDesk splits v.log (map g ws) → All (λ z. (g y).key < (g z).key) rest
+    → HasTakenFirst old (record v { posted = map (λ x. (g x).posted) rest }) (g y).posted
+taken_first {C} {Y} v old splits g ws rest y same posted whole desk rises = record {
+  first = ap (λ (d : DeskMeaning C). d.posted) (sym same) ∙ (posted ∙ ap (map (λ x. (g x).posted)) whole);
+  rest = ap (λ (d : DeskMeaning C). record d { posted = map (λ x. (g x).posted) rest }) same;
+  later = All-map (λ (p : Posted). (g y).posted.number < p.number) (λ x. (g x).posted) rest (all_from_contains (λ z. (g y).posted.number < (g z).posted.number) rest (λ z there.
+      let below : (g y).key < (g z).key = All-contains (λ x. (g y).key < (g x).key) rest z rises there in
+      omega (arith, key-is y (subst (λ l. Contains l y) (sym whole) (contains_head y rest)), key-is z (subst (λ l. Contains l z) (sym whole) (contains_tail y rest z there)))));
+}
+  where
+    key-is : (x : Y) → Contains ws x → (g x).key ≡ (g x).posted.number
+    key-is x there = (All-contains (IsReadyToGo v.log.part.id v.log.head.splits) (map g ws) (g x) desk.ready (contains_map g ws x there)).numbered

@@ -2,14 +2,14 @@
 use Rattle.std.proofs.Common.{◌≡◌, ℕ, ◌+◌, ◌-◌, ◌≤◌, nat_lt, slice_index, slice_set, Bool, true, false, ◌&&◌, ◌||◌, ◌==◌, not, All, Contains, List, [], ◌∷◌, ◌++◌, length, count_by, ◌⊎◌, inl, inr, Some, refl, sym, ap, subst, ◌∙◌, arith, length-append}
 use Rattle.std.proofs.lemmas.Bool.{eqb-true}
 use Rattle.std.proofs.lemmas.Bool.Decides.{nat_tests}
-use Rattle.std.proofs.lemmas.List.Elements.{All-contains, All-head, All-push, All-tail, All-weaker, Contains-append_left}
+use Rattle.std.proofs.lemmas.List.Elements.{All-contains, All-head, All-push, All-tail, All-weaker, Contains-append_left, Contains-push}
 use Rattle.std.proofs.Math.Seq.{set-append_seam}
 use Rattle.std.specs.List.{list_any}
 use Rattle.pc_base.specs.declared.actor.ActorId.{ActorId}
 use Rattle.pc_desk.proofs.Counting.{any_counts, none_beyond, said_more, said_new}
 use Rattle.pc_desk.proofs.Making.{added, own_after, heard_more, heard_then, known_still, message_of, reply_of, sent_still, sent_then}
 use Rattle.pc_desk.specs.declared.answered.Answered.{Answered}
-use Rattle.pc_desk.specs.Desk.{DeskMeaning, GivesOnce, IsAnsweredBy, KeepsTrack, Posted, answered_as, heard_as_number, is_on_way, posted_as, posting, times_sent}
+use Rattle.pc_desk.specs.Desk.{DeskMeaning, GivesOnce, IsAnsweredBy, IsOneSent, KeepsTrack, Posted, answered_as, heard_as_number, is_on_way, posted_as, posting, times_sent}
 use Rattle.pc_desk.specs.OwnLog.{HasEntered, IsOwnLog, LogMeaning}
 use Rattle.pc_history.specs.declared.pair.Pair.{Pair}
 use Rattle.pc_history.specs.declared.view.Known.{Known as KnownEntry}
@@ -130,6 +130,10 @@ module _ {C : Type 0} (old new : DeskMeaning C) (sent : LogMeaning C) (number ra
       | inl before ↦ says-on x.number x.request (All-contains (Says (known_of old.log.part.own).sent) old.posted x track.posted before)
       | inr now ↦ subst (Says (known_of new.log.part.own).sent) now says-now
     ]);
+    waits = all_from_contains (IsOneSent (known_of new.log.part.own).sent) new.posted (λ x there. subst (λ (xs : List Sent). IsOneSent xs x) (sym sent_is) (elim (all x there) [
+      | inl before ↦ Contains-append_left (known_of old.log.part.own).sent (m ∷ []) _ (All-contains (IsOneSent (known_of old.log.part.own).sent) old.posted x track.waits before)
+      | inr now ↦ subst (IsOneSent ((known_of old.log.part.own).sent ++ m ∷ [])) now (Contains-push (known_of old.log.part.own).sent m)
+    ]));
     answered = subst (All (IsAnsweredBy new.log)) (sym replies)
         (All-weaker (IsAnsweredBy old.log) (IsAnsweredBy new.log)
         (λ a. answered_on old.log new.log a (id ∙ ap (λ (l : LogMeaning C). l.part.id) entered.stored) (says-on a.number)
@@ -187,6 +191,7 @@ module _ {C : Type 0} (old new : DeskMeaning C) (m : Posted) (a : Answered) (tra
         subst (λ (k : Known). posted_as n new.posted + answered_as n new.replies + heard_as_number n k ≡ times_sent n k) (sym same-known)
         (omega (arith, posted-count n, replies-count n, track.stages n));
     posted = subst (λ (k : Known). All (Says k.sent) new.posted) (sym same-known) (All-tail (Says (known_of old.log.part.own).sent) m new.posted (subst (All (Says (known_of old.log.part.own).sent)) first track.posted));
+    waits = subst (λ (k : Known). All (IsOneSent k.sent) new.posted) (sym same-known) (All-tail (IsOneSent (known_of old.log.part.own).sent) m new.posted (subst (All (IsOneSent (known_of old.log.part.own).sent)) first track.waits));
     answered = subst (All (IsAnsweredBy new.log)) (sym pushed)
         (All-push (IsAnsweredBy new.log) old.replies a
         (All-weaker (IsAnsweredBy old.log) (IsAnsweredBy new.log)
@@ -247,6 +252,7 @@ module _ {C : Type 0} (old new : DeskMeaning C) (a : Answered) (track : KeepsTra
         let s : times_sent n (known_of new.log.part.own) ≡ times_sent n (known_of old.log.part.own) = ap (count_by (λ (x : Sent). x.number == n)) sent-same in
         omega (arith, heard-count n, replies-were n, track.stages n);
     posted = subst (All (Says (known_of new.log.part.own).sent)) (sym posted) (subst (λ (xs : List Sent). All (Says xs) old.posted) (sym sent-same) track.posted);
+    waits = subst (All (IsOneSent (known_of new.log.part.own).sent)) (sym posted) (subst (λ (xs : List Sent). All (IsOneSent xs) old.posted) (sym sent-same) track.waits);
     answered =
         All-weaker (IsAnsweredBy old.log) (IsAnsweredBy new.log)
         (λ x. answered_on old.log new.log x (ap (λ (l : LogMeaning C). l.part.id) entered.stored) (λ r said. subst (λ (xs : List Sent). request_sent x.number xs ≡ Some r) (sym sent-same) said)
@@ -305,6 +311,7 @@ track_done old new event track entered rest sent heard known =
           let s : times_sent n (known_of new.log.part.own) ≡ times_sent n (known_of old.log.part.own) = ap (count_by (λ (x : Sent). x.number == n)) sent in
           omega (arith, track.stages n);
       posted = subst (All (Says (known_of new.log.part.own).sent)) (sym posted) (subst (λ (xs : List Sent). All (Says xs) old.posted) (sym sent) track.posted);
+      waits = subst (All (IsOneSent (known_of new.log.part.own).sent)) (sym posted) (subst (λ (xs : List Sent). All (IsOneSent xs) old.posted) (sym sent) track.waits);
       answered = subst (All (IsAnsweredBy new.log)) (sym replies)
           (All-weaker (IsAnsweredBy old.log) (IsAnsweredBy new.log)
           (λ x. answered_on old.log new.log x (ap (λ l. l.part.id) entered.stored) (λ r said. subst (λ (xs : List Sent). request_sent x.number xs ≡ Some r) (sym sent) said)

@@ -1,5 +1,5 @@
 -- The messages of an actor on their way: each that it sent stands at one stage.
-use Rattle.std.specs.Prelude.{◌≡◌, ℕ, ◌+◌, ◌-◌, ◌≤◌, Bool, true, false, ◌&&◌, ◌||◌, ◌==◌, cond, not, ◌⊎◌, Option, None, Some, List, [], ◌∷◌, ◌++◌, length, count_by, slice_get, All, Contains, ⊤}
+use Rattle.std.specs.Prelude.{◌≡◌, ℕ, ◌+◌, ◌-◌, ◌<◌, ◌≤◌, Bool, true, false, ◌&&◌, ◌||◌, ◌==◌, cond, not, ◌⊎◌, Option, None, Some, List, [], ◌∷◌, ◌++◌, length, count_by, slice_get, All, Contains, ⊤}
 use Rattle.std.specs.List.{list_any}
 use Rattle.pc_base.specs.declared.actor.ActorId.{ActorId}
 use Rattle.pc_base.specs.declared.actor.ActorId.TheVariants as actors
@@ -23,7 +23,7 @@ use Rattle.pc_wire.specs.declared.verdict.Verdict.{Verdict}
 use Rattle.pc_wire.specs.declared.verdict.Verdict.TheVariants as verdicts
 use Rattle.pc_world.specs.Exchange.{IsAllowed}
 use Rattle.pc_world.specs.Known.{Known, known_of}
-use Rattle.pc_world.specs.Known.Traffic.{request_sent}
+use Rattle.pc_world.specs.Known.Traffic.{Sent, request_sent}
 use Rattle.pc_world.specs.Local.{Head}
 use Rattle.pc_world.specs.RangeOf.{GoesTo, IsForOne}
 use Rattle.pc_world.specs.Stamps.{AllBelowGreatest}
@@ -121,6 +121,14 @@ pub record GivesOnce (part : Part Event) : Type 0 where
   pub each : length part.given ≡ length part.own
   pub once : All (λ uses. uses ≤ 1) part.given
 
+-- A message that waits, as it was sent.
+abbrev pub as_sent : Posted → Sent
+as_sent m = record { number = m.number; range = m.range; request = m.request }
+
+-- What waits is one of the messages that were sent.
+abbrev pub IsOneSent : List Sent → Posted → Type 0
+IsOneSent sent m = Contains sent (as_sent m)
+
 -- Each message that the actor sent stands at one stage, and no other does at any: it waits to be evaluated, or its reply to be heard, or
 -- that was heard. What waits says what was sent; and of no entry more than one use was given.
 pub record KeepsTrack {C : Type 0} (d : DeskMeaning C) : Type 0 where
@@ -130,8 +138,15 @@ pub record KeepsTrack {C : Type 0} (d : DeskMeaning C) : Type 0 where
   pub once : (number : ℕ) → times_sent number (known_of d.log.part.own) ≤ 1
   pub stages : (number : ℕ) → posted_as number d.posted + answered_as number d.replies + heard_as_number number (known_of d.log.part.own) ≡ times_sent number (known_of d.log.part.own)
   pub posted : All (λ m. request_sent m.number (known_of d.log.part.own).sent ≡ Some m.request) d.posted
+  pub waits : All (IsOneSent (known_of d.log.part.own).sent) d.posted
   pub answered : All (IsAnsweredBy d.log) d.replies
   pub given : GivesOnce d.log.part
+
+-- The message of the least number was taken from those that wait, and nothing else was done.
+pub record HasTakenFirst {C : Type 0} (old new : DeskMeaning C) (m : Posted) : Type 0 where
+  pub first : old.posted ≡ m ∷ new.posted
+  pub rest : new ≡ record old { posted = new.posted }
+  pub later : All (λ p. m.number < p.number) new.posted
 
 -- The message of this number is on its way: it waits to be evaluated, or its reply to be heard.
 abbrev pub is_on_way : {C : Type 0} → ℕ → DeskMeaning C → Bool

@@ -1,14 +1,14 @@
 -- How an actor's list ends before its work does: where it has as many entries as it may have, or a range has; and what becomes of its messages
 -- then.
-use Rattle.std.specs.Prelude.{◌≡◌, ℕ, true, false, ◌⊎◌, None, Some, List, length, All, Contains, IsTrue, ⊤}
+use Rattle.std.specs.Prelude.{◌≡◌, ℕ, ◌<◌, true, false, ◌⊎◌, None, List, length, All, Contains, IsTrue, ⊤}
 use Rattle.pc_desk.specs.declared.halt.Halt.{Halt}
 use Rattle.pc_desk.specs.declared.halt.Halt.TheVariants as halts
-use Rattle.pc_desk.specs.Desk.{DeskMeaning, KnowsFull, Posted}
+use Rattle.pc_desk.specs.Desk.{DeskMeaning, KnowsFull, Posted, as_sent}
 use Rattle.pc_history.specs.declared.view.Known.{Known as KnownEntry}
 use Rattle.pc_history.specs.declared.view.Part.{Part}
 use Rattle.pc_proto.specs.declared.event.Event.{Event}
 use Rattle.pc_world.specs.Caused.{Evaluates}
-use Rattle.pc_world.specs.Known.{known_of}
+use Rattle.pc_world.specs.Known.{Known, known_of}
 use Rattle.pc_world.specs.Known.Traffic.{Sent}
 use Rattle.pc_world.specs.Tell.Refusal.{is_heard}
 
@@ -28,18 +28,29 @@ pub record KnowsEvaluation (part : Part Event) (number : ℕ) : Type 0 where
 abbrev pub IsNotLost : {C : Type 0} → DeskMeaning C → Sent → Type 0
 IsNotLost d m = IsTrue (is_heard (known_of d.log.part.own).heard m) ⊎ WaitsStill d.posted m.number ⊎ KnowsEvaluation d.log.part m.number
 
+-- What waits was sent, and no reply to it was heard.
+pub record WaitsUnheard (k : Known) (m : Posted) : Type 0 where
+  pub sent : Contains k.sent (as_sent m)
+  pub unheard : is_heard k.heard (as_sent m) ≡ false
+
 -- The list has as many entries as it may have, and no message was lost.
 pub record IsAtOwnEnd {C : Type 0} (d : DeskMeaning C) : Type 0 where
   pub long : length d.log.part.own ≡ d.log.limit
   pub each : All (IsNotLost d) (known_of d.log.part.own).sent
+  pub waits : All (WaitsUnheard (known_of d.log.part.own)) d.posted
 
--- A range has as many entries as it may have, and a message was not heard.
+-- A range has as many entries as it may have, and a message to it was not heard. No other message was lost, and those that wait to be
+-- evaluated were sent later.
 pub record IsAtFullRange {C : Type 0} (d : DeskMeaning C) : Type 0 where
   pub range : ℕ
   pub full : KnowsFull range d.range_limit d.log.part.known
   pub message : Sent
   pub sent : Contains (known_of d.log.part.own).sent message
+  pub goes : message.range ≡ range
   pub unheard : is_heard (known_of d.log.part.own).heard message ≡ false
+  pub others : All (λ m. (m.number ≡ message.number) ⊎ IsNotLost d m) (known_of d.log.part.own).sent
+  pub waits : All (WaitsUnheard (known_of d.log.part.own)) d.posted
+  pub later : All (λ p. message.number < p.number) d.posted
 
 -- The actor made no entry, and makes none from now on, since its list has ended.
 pub record HasEnded {C : Type 0} (old new : DeskMeaning C) : Type 0 where

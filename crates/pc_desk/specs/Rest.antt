@@ -1,5 +1,5 @@
 -- What an actor leaves in its outbox, and what it knows once that was evaluated.
-use Rattle.std.specs.Prelude.{◌≡◌, ℕ, List, ◌∷◌, Contains}
+use Rattle.std.specs.Prelude.{◌≡◌, ℕ, ◌<◌, List, ◌∷◌, ◌++◌, All, Contains}
 use Rattle.pc_base.specs.declared.actor.ActorId.{ActorId}
 use Rattle.pc_desk.specs.Desk.{Posted, WaitingMessage, waiting_as}
 use Rattle.pc_history.specs.declared.view.Known.{Known as KnownEntry}
@@ -7,15 +7,18 @@ use Rattle.pc_history.specs.declared.view.Part.{Part}
 use Rattle.pc_history.specs.Meanings.{ActorMeaning}
 use Rattle.pc_proto.specs.declared.event.Event.{Event}
 use Rattle.pc_proto.specs.declared.reply.Reply.{Reply}
+use Rattle.pc_range.specs.Cell.{IsFullAt}
+use Rattle.pc_range.specs.declared.message.ServeFault.{ServeFault}
 use Rattle.pc_range.specs.Message.{evaluation}
 use Rattle.pc_wire.specs.declared.verdict.Verdict.{Verdict}
 use Rattle.pc_world.specs.Local.{Head}
 
--- The message was the first of those that are left.
+-- The message was the first of those that are left; the others have greater numbers.
 pub record IsFirstOf (before after : List WaitingMessage) (sender : ActorId) (posted : Posted) : Type 0 where
   pub key : ℕ
   pub verdict : Verdict
   pub whole : before ≡ waiting_as key sender verdict posted ∷ after
+  pub rises : All (λ w. key < w.key) after
 
 -- The actor took notes, and did nothing else.
 pub record HasOnlyLearnt (before after : ActorMeaning Head Event) : Type 0 where
@@ -28,3 +31,13 @@ pub record IsEvaluatedIn (part : Part Event) (w : WaitingMessage) : Type 0 where
   pub reply : Reply
   pub place : ℕ
   pub knows : Contains part.known (record { entry = evaluation step w.posted.range part.id w.posted.number reply; place = place; uses = 0 })
+
+-- Of these messages those before one were evaluated, and that one was refused, its range being full; those behind it have greater numbers.
+pub record StopsAt {N : Type 0} (limit : ℕ) (all : List WaitingMessage) (part : Part Event) (fault : ServeFault N) : Type 0 where
+  pub done : List WaitingMessage
+  pub refused : WaitingMessage
+  pub behind : List WaitingMessage
+  pub whole : all ≡ done ++ refused ∷ behind
+  pub evaluated : All (IsEvaluatedIn part) done
+  pub rises : All (λ w. refused.key < w.key) behind
+  pub full : IsFullAt refused.posted.range limit fault

@@ -1,7 +1,7 @@
 ghost use Rattle.std.specs.Prelude.{◌≡◌, ℕ, ◌+◌, ◌-◌, ◌<◌, ◌≤◌, ◌^◌, [], ◌∷◌, length, map, All, IfErr, IfOk, IfNone, IfSome, OnErr, OnOk};
 ghost use Rattle.pc_base.specs.Rising.{AreRising};
 ghost use Rattle.pc_desk.specs.declared.halt.Halt.TheVariants as halts;
-ghost use Rattle.pc_desk.specs.Desk.{DeskMeaning, EndsWithSend, HasDelivered, HasDone, HasHalted, HasHeardFirst, HasKept, HasPosted, HasSentNext, IsReadyToGo, KeepsTrack, MayHearNow, MaySendNow, Posted, new_desk, posted_as, uses_by};
+ghost use Rattle.pc_desk.specs.Desk.{DeskMeaning, EndsWithSend, HasDelivered, HasDone, HasHalted, HasHeardFirst, HasKept, HasPosted, HasSentNext, HasTakenFirst, IsReadyToGo, KeepsTrack, MayHearNow, MaySendNow, Posted, new_desk, posted_as, uses_by};
 ghost use Rattle.pc_desk.specs.Ending.{EndsOnly};
 ghost use Rattle.pc_desk.specs.Keeping.{ReadsEach};
 ghost use Rattle.pc_desk.specs.OwnLog.{HasEntered, IsNoRange, IsOwnLog, MayEnter};
@@ -303,7 +303,7 @@ impl<'a, N: Named<CommitWorld>, C: Clock, V: Wire, G: Gate> Desk<'a, N, C, V, G>
         requires { (range : ℕ) × IsFullAt range self.old.range_limit fault }
         ensures halted { HasHalted self.old self.new result }
         ensures clock { self.new.log.clock ≡ self.old.log.clock }
-        ensures ended { (old : DeskMeaning C) (m : Posted) → KeepsTrack old → old.posted ≡ m ∷ self.old.posted → self.old ≡ record old { posted = self.old.posted } → EndsOnly old self.new result }
+        ensures ended { (old : DeskMeaning C) (m : Posted) → KeepsTrack old → HasTakenFirst old self.old m → IsFullAt m.range self.old.range_limit fault → EndsOnly old self.new result }
     {
         match fault {
             ServeFault::Full { range, last } => {

@@ -1,8 +1,7 @@
 ghost use Rattle.std.specs.Prelude.{◌≡◌, ℕ, ◌∷◌, [], map, All, IfErr, IfNone, IfSome, OnOk};
 ghost use Rattle.pc_desk.specs.Desk.{IsReadyToGo, posting, waiting_as};
-ghost use Rattle.pc_desk.specs.Rest.{HasOnlyLearnt, IsEvaluatedIn, IsFirstOf};
+ghost use Rattle.pc_desk.specs.Rest.{HasOnlyLearnt, IsEvaluatedIn, IsFirstOf, StopsAt};
 ghost use Rattle.pc_history.specs.Parts.{told, uses_left};
-ghost use Rattle.pc_range.specs.Cell.{IsFullAt};
 
 use pc_history::{Actor, Named};
 use pc_range::{CommitWorld, Gate, Message, Ranges, ReplyMsg, ServeFault};
@@ -54,7 +53,7 @@ pub fn deliver_rest<N: Named<CommitWorld>, G: Gate, R: Wait>(
     requires { All (IsReadyToGo actor.old.part.id ranges.now.splits) rest }
     ensures same { HasOnlyLearnt actor.old actor.new }
     ensures all { OnOk result (All (IsEvaluatedIn actor.new.part) rest) }
-    ensures full { IfErr result (λ fault. (range : ℕ) × IsFullAt range ranges.now.limit fault) }
+    ensures stopped { IfErr result (StopsAt ranges.now.limit rest actor.new.part) }
 {
     let mut rest = rest;
     while let Some(message) = rest.take_first() {

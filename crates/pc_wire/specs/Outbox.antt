@@ -1,5 +1,5 @@
 -- What an actor has sent and what is not yet delivered.
-use Rattle.std.specs.Prelude.{◌≡◌, ℕ, Bool, nat_le, List, ◌∷◌, Option, None, Some, find}
+use Rattle.std.specs.Prelude.{◌≡◌, ℕ, ◌<◌, Bool, nat_le, List, ◌∷◌, Option, None, Some, find, All}
 use Rattle.std.specs.BTreeMap.{is_at}
 use Rattle.std.specs.Map.{remove_entry}
 use Rattle.std.specs.Ordering.{nat_cmp}
@@ -12,10 +12,11 @@ pub record OutboxMeaning (M : Type 0) : Type 0 where
   pub waiting : List (ℕ × Waiting M)
   pub bag : List (ℕ × Stray M)
 
--- The first of those not yet delivered is this message, with this verdict; these are the others.
+-- The first of those not yet delivered is this message, with this verdict; these are the others, of greater numbers.
 pub record IsFirstWaiting {M : Type 0} (verdict : Verdict) (message : M) (waiting rest : List (ℕ × Waiting M)) : Type 0 where
   pub number : ℕ
   pub whole : waiting ≡ (number, record { verdict = verdict; message = message }) ∷ rest
+  pub rises : All (λ e. number < e.0) rest
 
 -- The stray is due once so many messages were sent.
 abbrev pub is_due_by : {M : Type 0} → ℕ → ℕ × Stray M → Bool

@@ -1,6 +1,7 @@
-use Rattle.std.proofs.Common.{map, ap}
+use Rattle.std.proofs.Common.{map, refl, ap}
 use Rattle.std.proofs.lemmas.Result.{on_ok_weaker}
 use Rattle.pc_desk.proofs.Desking.{desk_first, desk_rest, has_delivered}
+use Rattle.pc_desk.proofs.Leaving.{taken_first}
 use Rattle.pc_desk.specs.Desk.{posting}
 use Rattle.pc_history.specs.Parts.{uses_left}
 use Rattle.pc_desk.proofs.desk.Desk.deliver_first.Goals as goal
@@ -27,3 +28,8 @@ returns-in-Ok-clause-ok g c =
     on_ok_weaker c.keep.result
     (λ kept. has_delivered _ c.args.self.now c.keep.new.self _ (posting m.number m.range m.request (uses_left m.note.known)) (record { number = r.number; step = r.step; reply = r.reply }) r.note.known m.sender m.range
     c.self.view_is c.requires.track (ap (map _) c.in-Some.ensures.taken.whole) (desk_first _ _ _ _ _ _ c.in-Some.ensures.taken.whole c.self.invariant.0).whose c.in-Ok.ensures.told.0 c.in-Ok.ensures.told.1 kept) c.keep.ensures.ok
+
+pub returns-in-Err-clause-ended : goal.returns-in-Err-clause-ended
+returns-in-Err-clause-ended g c =
+    let taken = c.in-Some.ensures.taken in
+    c.refused.ensures.ended c.args.self.now _ c.requires.track (taken_first _ c.args.self.now _ _ _ _ _ c.self.view_is refl taken.whole c.self.invariant.0 taken.rises) c.in-Err.ensures.full

@@ -1,9 +1,9 @@
-use Rattle.std.proofs.Common.{ℕ, subst}
+use Rattle.std.proofs.Common.{subst}
 use Rattle.pc_desk.proofs.Ending.{ended_refused}
 use Rattle.pc_range.specs.Cell.{IsFullAt}
 use Rattle.pc_desk.proofs.desk.Desk.refused.Goals as goal
 
 pub returns-in-Full-clause-ended : goal.returns-in-Full-clause-ended
-returns-in-Full-clause-ended g c = λ old m track first taken going none.
-    let full = subst (λ f. (range : ℕ) × IsFullAt range c.args.self.now.range_limit f) c.in-Full.is c.requires in
-    ended_refused _ c.args.self.now old m c.in-Full.last.known full.0 c.take.new.self c.halt.new.self c.self.view_is c.take.ensures c.halt.ensures track first taken full.1.1
+returns-in-Full-clause-ended g c = λ old m track taken at going none.
+    let full = subst (IsFullAt m.range c.args.self.now.range_limit) c.in-Full.is at in
+    ended_refused _ c.args.self.now old m c.in-Full.last.known c.take.new.self c.halt.new.self c.self.view_is c.take.ensures c.halt.ensures track taken full.1
