@@ -20,7 +20,6 @@ use Rattle.pc_lists.proofs.Lists.{contains_nil}
 use Rattle.pc_proto.specs.declared.call.Call.{Call}
 use Rattle.pc_proto.specs.declared.event.Event.{Event}
 use Rattle.pc_proto.specs.declared.event.Event.TheVariants as events
-use Rattle.pc_proto.specs.declared.request.Request.{Request}
 use Rattle.pc_range.specs.Protocol.{unstaged_protocol}
 use Rattle.pc_world.specs.Known.{Known, known_of}
 use Rattle.pc_world.specs.Local.{Head, IsActorOf, IsLocal, MayDo}
@@ -41,11 +40,26 @@ local_does head (actors.Recoverer number) own event named client there may = rec
 local_does head (actors.Range range) own event named client there may = absurd client
 
 -- a call that is asked keeps what is asked of it
-pub ask_keeps : (id : ActorId) (pipelining : Bool) (jobs : List (List Request)) (k : Known) (call : Call) (reading : ℕ) → KeepsAs id pipelining jobs k (events.Ask call reading) None
-ask_keeps (actors.Session number) pipelining jobs k call reading =
-    record { wire = tt; early_tell = tt; early_proof = λ asked staged. tt; written = tt; puts = tt; resends = tt; calls = tt; finishes = tt; aborts = tt }
-ask_keeps (actors.Recoverer number) pipelining jobs k call reading = tt
-ask_keeps (actors.Range range) pipelining jobs k call reading = tt
+pub ask_keeps : (id : ActorId) (splits : List (List ℕ)) (pipelining : Bool) (own : List (Pair Event)) (call : Call) (reading : ℕ) → KeepsAs id splits pipelining own (events.Ask call reading) None
+ask_keeps (actors.Session number) splits pipelining own call reading = record {
+  wire = tt;
+  early_tell = tt;
+  early_proof = λ asked staged. tt;
+  written = tt;
+  puts = tt;
+  resends = tt;
+  calls = tt;
+  finishes = tt;
+  aborts = tt;
+  writes = tt;
+  refreshes = tt;
+  eighth = tt;
+  waves = tt;
+  pieces = tt;
+  refresh_wave = tt;
+}
+ask_keeps (actors.Recoverer number) splits pipelining own call reading = tt
+ask_keeps (actors.Range range) splits pipelining own call reading = tt
 
 -- what asks no call reads no clock
 pub no_ask_reads : (rule : ℕ → ℕ → Bool) (asks : ℕ) (event : Event) → is_ask event ≡ false → ReadsClock rule asks event
@@ -68,7 +82,7 @@ log_begun l there client fresh short one =
       whose = subst (λ own. All (λ (p : Pair Event). p.entry.actor ≡ l.part.id) own) (sym none) (All-nil _);
       short = short;
       within = omega arith;
-      keeps = subst (KeepsEach l.part.id l.pipelining) (sym none) tt;
+      keeps = subst (KeepsEach l.part.id l.head.splits l.pipelining) (sym none) tt;
       before_stop = λ going. subst (λ m. IfSome l.stop (λ n. m < n)) (sym n) (stop-above l.stop one);
       at_stop = subst (λ m. IfSome l.stop (λ n. m ≤ n)) (sym n) (stop-at l.stop one);
       sound = subst (λ (p : Part Event). IsSound (unstaged_protocol l.head) (knowledge p)) (sym fresh)
@@ -100,7 +114,7 @@ grown step event last spare clock l = record l { part = acted (unstaged_protocol
 
 -- one more entry of the actor
 pub log_grown : {C : Type 0} (l : LogMeaning C) (step spare : ℕ) (clock : C) (event : Event) (last : Bool) → IsOwnLog l → l.stopped ≡ false → length l.part.own < l.limit → last ≡ is_last l.stop (length l.part.own)
-    → KeepsNext l.part.id l.pipelining l.part.own event (named_by (unstaged_protocol l.head) l.part event)
+    → KeepsNext l.part.id l.head.splits l.pipelining l.part.own event (named_by (unstaged_protocol l.head) l.part event)
     → IsSound (unstaged_protocol l.head) (knowledge (acted (unstaged_protocol l.head) step event l.part))
     → StandsInHistory (unstaged_protocol l.head) (acted (unstaged_protocol l.head) step event l.part)
     → IsOwnLog (grown step event last spare clock l)
@@ -113,7 +127,7 @@ log_grown l step spare clock event last log going below is keeps sound stands =
       whose = All-push (λ (q : Pair Event). q.entry.actor ≡ l.part.id) l.part.own p log.whose refl;
       short = log.short;
       within = omega arith;
-      keeps = each_after_push (λ before q. KeepsNext l.part.id l.pipelining before q.entry.event q.named) [] l.part.own p log.keeps keeps;
+      keeps = each_after_push (λ before q. KeepsNext l.part.id l.head.splits l.pipelining before q.entry.event q.named) [] l.part.own p log.keeps keeps;
       before_stop = λ goes_on. subst (λ n. IfSome l.stop (λ s. n < s)) (sym long) (not-last l.stop (length l.part.own) (log.before_stop going) (sym is ∙ goes_on));
       at_stop = subst (λ n. IfSome l.stop (λ s. n ≤ s)) (sym long) (last-at l.stop (length l.part.own) (log.before_stop going));
       sound = sound;

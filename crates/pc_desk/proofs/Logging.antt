@@ -34,7 +34,7 @@ module _ {C : Type 0} (old ready : LogMeaning C) (actor after : ActorMeaning Hea
   as-it-was view is = sym (view ∙ is.same)
 
   log-at : (v : LogMeaning C) (spare : ℕ) → record old { spare = spare } ≡ v → old.stopped ≡ false → length old.part.own < old.limit → last ≡ is_last old.stop (length old.part.own)
-      → KeepsNext old.part.id old.pipelining old.part.own event (named_by (unstaged_protocol old.head) old.part event)
+      → KeepsNext old.part.id old.head.splits old.pipelining old.part.own event (named_by (unstaged_protocol old.head) old.part event)
       → IsOwnLog v → (left : ℕ)
       → IsSound (unstaged_protocol v.head) (knowledge (acted (unstaged_protocol v.head) step event v.part))
       → StandsInHistory (unstaged_protocol v.head) (acted (unstaged_protocol v.head) step event v.part)
@@ -45,7 +45,7 @@ module _ {C : Type 0} (old ready : LogMeaning C) (actor after : ActorMeaning Hea
       (λ l s t. log_grown (record old { spare = spare }) step left now event last l going below is keeps s t) log sound stands
 
   pub made_log : before_it ≡ ready → IsReady old ready last → IsOwnLog before_it
-      → KeepsNext old.part.id old.pipelining old.part.own event (named_by (unstaged_protocol old.head) old.part event)
+      → KeepsNext old.part.id old.head.splits old.pipelining old.part.own event (named_by (unstaged_protocol old.head) old.part event)
       → after ≡ doing step event actor → IsSound (unstaged_protocol actor.world) (knowledge after.part) → StandsInHistory (unstaged_protocol actor.world) after.part
       → IsOwnLog (after_it after)
   made_log view is log keeps did sound stands =

@@ -58,7 +58,7 @@ module _ {C : Type 0} (l : LogMeaning C) (a : Answered) (log : IsOwnLog l) (by :
 
   -- a reply that none was heard of yet may be heard
   pub may_hear : heard_as_number a.number (known_of l.part.own) ≡ 0
-      → KeepsNext l.part.id l.pipelining l.part.own (events.Hear a.number a.step) (Some answer_of)
+      → KeepsNext l.part.id l.head.splits l.pipelining l.part.own (events.Hear a.number a.step) (Some answer_of)
       → MayEnter l (events.Hear a.number a.step)
   may_hear none keeps = record {
     local = (
@@ -72,7 +72,7 @@ module _ {C : Type 0} (l : LogMeaning C) (a : Answered) (log : IsOwnLog l) (by :
     caused = (knows-it.0, answer_of, knows-it.1, knows-it.2, record { at = refl; eval = (refl, refl) });
     free = refl;
     no_ask = refl;
-    keeps = subst (λ named. KeepsNext l.part.id l.pipelining l.part.own (events.Hear a.number a.step) named) (sym hear_names_it) keeps;
+    keeps = subst (λ named. KeepsNext l.part.id l.head.splits l.pipelining l.part.own (events.Hear a.number a.step) named) (sym hear_names_it) keeps;
   }
 
 -- ---- what the actor knows then

@@ -157,7 +157,7 @@ pub record MaySendNow {C : Type 0} (l : LogMeaning C) (request : Request) : Type
   pub allowed : IsAllowed l.head.splits l.part.id (known_of l.part.own) request
   pub unstaged : IsNoStage request
   pub one : IsForOne l.head.splits request
-  pub keeps : (number range : ℕ) → KeepsNext l.part.id l.pipelining l.part.own (events.Send number range request) None
+  pub keeps : (number range : ℕ) → KeepsNext l.part.id l.head.splits l.pipelining l.part.own (events.Send number range request) None
 
 -- The actor sent this under its next number, to its range; its note, with one use, waits in the outbox.
 pub record HasSentNext {C : Type 0} (old new : DeskMeaning C) (number : ℕ) (request : Request) : Type 0 where
@@ -211,7 +211,7 @@ pub record HasDelivered {C : Type 0} (old new : DeskMeaning C) : Type 0 where
 pub record MayHearNow {C : Type 0} (d : DeskMeaning C) : Type 0 where
   pub each :
       (a : Answered) (range : ℕ) → Contains d.replies a
-      → KeepsNext d.log.part.id d.log.pipelining d.log.part.own (events.Hear a.number a.step) (Some (evaluation a.step range d.log.part.id a.number a.reply))
+      → KeepsNext d.log.part.id d.log.head.splits d.log.pipelining d.log.part.own (events.Hear a.number a.step) (Some (evaluation a.step range d.log.part.id a.number a.reply))
 
 -- The reply that had waited longest was heard.
 pub record HasHeardFirst {C : Type 0} (old new : DeskMeaning C) (a : Answered) : Type 0 where

@@ -6,41 +6,50 @@ use Rattle.pc_base.specs.declared.actor.ActorId.TheVariants as actors
 use Rattle.pc_base.specs.declared.entry.Entry.{Entry}
 use Rattle.pc_desk.specs.Asks.{ReadsClock, asks_in}
 use Rattle.pc_desk.specs.Hearing.{HearsAll}
+use Rattle.pc_desk.specs.PastEighth.{GoesNotPastEighth}
+use Rattle.pc_desk.specs.WholeScan.{HearsAllPieces}
 use Rattle.pc_history.specs.declared.pair.Pair.{Pair}
 use Rattle.pc_proto.specs.declared.event.Event.{Event}
-use Rattle.pc_proto.specs.declared.request.Request.{Request}
 use Rattle.pc_world.specs.Follows.CallMessages.{SendsForCall}
 use Rattle.pc_world.specs.Follows.EarlyProof.{ProvesNothingEarly}
 use Rattle.pc_world.specs.Follows.EarlyTell.{TellsEarly}
 use Rattle.pc_world.specs.Follows.FinishingJobs.{AbortsFirst, DoesJobs, jobs_of}
+use Rattle.pc_world.specs.Follows.OneWrite.{WritesOnce}
 use Rattle.pc_world.specs.Follows.PipelinedPuts.{HearsOnlyItsPuts, TellsWritten}
+use Rattle.pc_world.specs.Follows.Refreshes.{RefreshesInOneWave, RefreshesReads}
 use Rattle.pc_world.specs.Follows.Resends.{ResendsOnlyAnswered}
-use Rattle.pc_world.specs.Known.{Known, known_of}
+use Rattle.pc_world.specs.Follows.WaveOrder.{SendsInWave}
+use Rattle.pc_world.specs.Known.{known_of}
 use Rattle.pc_world.specs.Known.Traffic.{Heard, heard_by}
 
--- What a session's next event keeps beside its script and its clock: with these jobs that wait, by what it knows and by the reply that the
--- event brings.
-pub record KeepsSessionStep (pipelining : Bool) (jobs : List (List Request)) (k : Known) (event : Event) (h : Option Heard) : Type 0 where
-  pub wire : HearsAll pipelining k event
-  pub early_tell : TellsEarly k event
-  pub early_proof : ProvesNothingEarly k h
-  pub written : TellsWritten pipelining k event
-  pub puts : HearsOnlyItsPuts k h
-  pub resends : ResendsOnlyAnswered k event
-  pub calls : SendsForCall k event
-  pub finishes : DoesJobs k jobs event
-  pub aborts : AbortsFirst k event
+-- What a session's next event keeps beside its script and its clock, where the ranges are cut at these keys: after these entries of its own,
+-- and by the reply that the event brings.
+pub record KeepsSessionStep (splits : List (List ℕ)) (pipelining : Bool) (own : List (Pair Event)) (event : Event) (h : Option Heard) : Type 0 where
+  pub wire : HearsAll pipelining (known_of own) event
+  pub early_tell : TellsEarly (known_of own) event
+  pub early_proof : ProvesNothingEarly (known_of own) h
+  pub written : TellsWritten pipelining (known_of own) event
+  pub puts : HearsOnlyItsPuts (known_of own) h
+  pub resends : ResendsOnlyAnswered (known_of own) event
+  pub calls : SendsForCall (known_of own) event
+  pub finishes : DoesJobs (known_of own) (jobs_of own) event
+  pub aborts : AbortsFirst (known_of own) event
+  pub writes : WritesOnce (known_of own) event
+  pub refreshes : RefreshesReads (known_of own) event
+  pub eighth : GoesNotPastEighth (known_of own) event
+  pub waves : SendsInWave own event
+  pub pieces : HearsAllPieces splits (known_of own) h
+  pub refresh_wave : RefreshesInOneWave (known_of own) h
 
 -- What the next event of this actor keeps.
-abbrev pub KeepsAs : ActorId → Bool → List (List Request) → Known → Event → Option Heard → Type 0
-KeepsAs (actors.Session number) pipelining jobs k event h = KeepsSessionStep pipelining jobs k event h
-KeepsAs (actors.Recoverer number) pipelining jobs k event h = ⊤
-KeepsAs (actors.Range range) pipelining jobs k event h = ⊤
+abbrev pub KeepsAs : ActorId → List (List ℕ) → Bool → List (Pair Event) → Event → Option Heard → Type 0
+KeepsAs (actors.Session number) splits pipelining own event h = KeepsSessionStep splits pipelining own event h
+KeepsAs (actors.Recoverer number) splits pipelining own event h = ⊤
+KeepsAs (actors.Range range) splits pipelining own event h = ⊤
 
 -- The actor's next event, with the entry that it names, after these entries of its own.
-abbrev pub KeepsNext : ActorId → Bool → List (Pair Event) → Event → Option (Entry Event) → Type 0
-KeepsNext id pipelining own event named =
-    KeepsAs id pipelining (jobs_of own) (known_of own) event (heard_by event named (known_of own).sent)
+abbrev pub KeepsNext : ActorId → List (List ℕ) → Bool → List (Pair Event) → Event → Option (Entry Event) → Type 0
+KeepsNext id splits pipelining own event named = KeepsAs id splits pipelining own event (heard_by event named (known_of own).sent)
 
 module _ (P : List (Pair Event) → Pair Event → Type 0) where
   -- Each of the later pairs is so, after all that come before it.
@@ -49,8 +58,8 @@ module _ (P : List (Pair Event) → Pair Event → Type 0) where
   EachAfter before (p ∷ ps) = P before p × EachAfter (before ++ p ∷ []) ps
 
 -- Each entry of the actor's own list keeps that.
-abbrev pub KeepsEach : ActorId → Bool → List (Pair Event) → Type 0
-KeepsEach id pipelining own = EachAfter (λ before p. KeepsNext id pipelining before p.entry.event p.named) [] own
+abbrev pub KeepsEach : ActorId → List (List ℕ) → Bool → List (Pair Event) → Type 0
+KeepsEach id splits pipelining own = EachAfter (λ before p. KeepsNext id splits pipelining before p.entry.event p.named) [] own
 
 -- Each call of the list was asked at the reading that the clock's rule gives at that read.
 abbrev pub ReadsEach : (ℕ → ℕ → Bool) → List (Pair Event) → Type 0

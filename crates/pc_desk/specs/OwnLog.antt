@@ -46,7 +46,7 @@ pub record IsOwnLog {C : Type 0} (l : LogMeaning C) : Type 0 where
   pub whose : All (λ p. p.entry.actor ≡ l.part.id) l.part.own
   pub short : l.limit < 2 ^ 32
   pub within : length l.part.own ≤ l.limit
-  pub keeps : KeepsEach l.part.id l.pipelining l.part.own
+  pub keeps : KeepsEach l.part.id l.head.splits l.pipelining l.part.own
   pub before_stop : l.stopped ≡ false → IfSome l.stop (λ n. length l.part.own < n)
   pub at_stop : IfSome l.stop (λ n. length l.part.own ≤ n)
   pub sound : IsSound (unstaged_protocol l.head) (knowledge l.part)
@@ -59,7 +59,7 @@ pub record MayEnter {C : Type 0} (l : LogMeaning C) (event : Event) : Type 0 whe
   pub caused : IsCausedFor (unstaged_protocol l.head) l.part event
   pub free : spends event ≡ false
   pub no_ask : is_ask event ≡ false
-  pub keeps : KeepsNext l.part.id l.pipelining l.part.own event (named_by (unstaged_protocol l.head) l.part event)
+  pub keeps : KeepsNext l.part.id l.head.splits l.pipelining l.part.own event (named_by (unstaged_protocol l.head) l.part event)
 
 -- The list after this event, at this step.
 abbrev pub with_event : {C : Type 0} → ℕ → Event → LogMeaning C → LogMeaning C

@@ -1,5 +1,5 @@
 -- One message that is sent, evaluated and heard: what each of the three asks for, and what they come to.
-use Rattle.std.proofs.Common.{◌≡◌, ℕ, ◌+◌, ◌==◌, Bool, true, false, ◌&&◌, ◌||◌, not, ◌⊎◌, inl, inr, All, Contains, List, [], ◌∷◌, ◌++◌, length, Option, None, Some, refl, sym, ap, subst, ◌∙◌, arith}
+use Rattle.std.proofs.Common.{◌≡◌, ℕ, ◌+◌, ◌==◌, Bool, true, false, ◌&&◌, ◌||◌, not, ◌⊎◌, inl, inr, All, Any, Contains, List, [], ◌∷◌, ◌++◌, length, Option, None, Some, refl, sym, ap, subst, ◌∙◌, arith}
 use Rattle.std.proofs.lemmas.Bool.{eq-eqb, eqb-true}
 use Rattle.std.proofs.lemmas.List.Elements.{All-cons, All-nil}
 use Rattle.std.specs.List.{list_any}
@@ -7,7 +7,7 @@ use Rattle.pc_base.specs.declared.actor.ActorId.{ActorId}
 use Rattle.pc_base.specs.declared.actor.ActorId.TheVariants as actors
 use Rattle.pc_base.specs.declared.entry.Entry.{Entry}
 use Rattle.pc_desk.proofs.Counting.{said_new}
-use Rattle.pc_desk.proofs.Making.{added, sent_then}
+use Rattle.pc_desk.proofs.Making.{added, known_after_it, sent_then}
 use Rattle.pc_desk.specs.declared.answered.Answered.{Answered}
 use Rattle.pc_desk.specs.declared.halt.Halt.{Halt}
 use Rattle.pc_desk.specs.declared.halt.Halt.TheVariants as halts
@@ -28,19 +28,24 @@ use Rattle.pc_history.specs.Own.{pair}
 use Rattle.pc_history.specs.Parts.{entry_of, knowledge, named_by}
 use Rattle.pc_lists.proofs.Lists.{contains_cons, contains_head, contains_nil, contains_tail, find_none}
 use Rattle.pc_proto.specs.declared.call.Call.{Call}
+use Rattle.pc_proto.specs.declared.call.Call.TheVariants as calls
 use Rattle.pc_proto.specs.declared.event.Event.{Event}
 use Rattle.pc_proto.specs.declared.event.Event.TheVariants as events
 use Rattle.pc_proto.specs.declared.reply.Reply.{Reply}
 use Rattle.pc_proto.specs.declared.request.Request.{Request}
 use Rattle.pc_proto.specs.declared.request.Request.TheVariants as requests
-use Rattle.pc_proto.specs.Requests.{is_put}
+use Rattle.pc_proto.specs.Requests.{is_put, is_refresh, round_of}
 use Rattle.pc_range.specs.Message.{evaluation}
 use Rattle.pc_range.specs.Protocol.{unstaged_protocol}
 use Rattle.pc_world.specs.Follows.PipelinedPuts.{IsPutWaitedFor}
 use Rattle.pc_turns.specs.Order.{IsInBetween, events_of}
-use Rattle.pc_world.specs.Follows.FinishingJobs.{jobs_of}
-use Rattle.pc_world.specs.Known.{Known, known_of, next_number}
+use Rattle.pc_world.specs.Follows.CallMessages.{IsOfRound}
+use Rattle.pc_world.specs.Follows.Refreshes.{IsOfWholeRefresh}
+use Rattle.pc_world.specs.Follows.WaveOrder.{IsScanOf, SentAllPieces}
+use Rattle.pc_world.specs.Known.{Known, call_in, known_of, next_number}
+use Rattle.pc_world.specs.Known.Statements.{Statement}
 use Rattle.pc_world.specs.Known.Traffic.{Heard, Sent, heard_as, request_sent}
+use Rattle.pc_world.specs.RangeOf.{pieces}
 
 -- ---- a reply to what is no put may be heard at any time
 
@@ -48,11 +53,39 @@ waits-none : (k : Known) (call : Call) (request : Request) → is_put request �
 waits-none k call (requests.Put meta seq ts key value) none = absurd cc
 waits-none k call request none = tt
 
-hears-as : (id : ActorId) (pipelining : Bool) (jobs : List (List Request)) (k : Known) (number step : ℕ) (h : Heard) → is_put h.request ≡ false → KeepsAs id pipelining jobs k (events.Hear number step) (Some h)
-hears-as (actors.Session session) pipelining jobs k number step h none =
-    record { wire = tt; early_tell = tt; early_proof = λ asked staged. none; written = tt; puts = λ call asked. waits-none k call h.request none; resends = tt; calls = tt; finishes = tt; aborts = tt }
-hears-as (actors.Recoverer recoverer) pipelining jobs k number step h none = tt
-hears-as (actors.Range range) pipelining jobs k number step h none = tt
+whole-refresh : (k : Known) (request : Request) → is_refresh request ≡ false → IsOfWholeRefresh k request
+whole-refresh k (requests.Refresh id from to span) none = absurd cc
+whole-refresh k request none = tt
+
+-- where in a call it is of a round, nothing is asked of the call's pieces
+whole-scan : (splits : List (List ℕ)) (k : Known) (request : Request) → ((s : Statement) → k.statement ≡ Some s → IsOfRound request) → round_of request ≡ None → SentAllPieces splits k
+whole-scan splits k request round none span asked = by k.statement refl asked
+  where
+    by : (s : Option Statement) → k.statement ≡ s → call_in s ≡ Some (calls.Scan span) → All (λ p. Any (λ m. IsScanOf p.1 m.request) k.sent_now) (pieces splits span)
+    by None is e = absurd cc
+    by (Some s) is e = let r = round s is in let both : None ≡ Some r.0 = sym none ∙ r.1 in absurd cc
+
+hears-as : (id : ActorId) (splits : List (List ℕ)) (pipelining : Bool) (own : List (Pair Event)) (number step : ℕ) (h : Heard) → is_put h.request ≡ false → is_refresh h.request ≡ false
+    → ((s : Statement) → (known_of own).statement ≡ Some s → IsOfRound h.request) → KeepsAs id splits pipelining own (events.Hear number step) (Some h)
+hears-as (actors.Session session) splits pipelining own number step h none no_refresh round = record {
+  wire = tt;
+  early_tell = tt;
+  early_proof = λ asked staged. none;
+  written = tt;
+  puts = λ call asked. waits-none (known_of own) call h.request none;
+  resends = tt;
+  calls = tt;
+  finishes = tt;
+  aborts = tt;
+  writes = tt;
+  refreshes = tt;
+  eighth = tt;
+  waves = tt;
+  pieces = whole-scan splits (known_of own) h.request round;
+  refresh_wave = whole-refresh (known_of own) h.request no_refresh;
+}
+hears-as (actors.Recoverer recoverer) splits pipelining own number step h none no_refresh round = tt
+hears-as (actors.Range range) splits pipelining own number step h none no_refresh round = tt
 
 or-right : (b c : Bool) → c ≡ true → (b || c) ≡ true
 or-right true c is = refl
@@ -113,6 +146,9 @@ module _ {C : Type 0} (old mid late : DeskMeaning C) (request : Request) (number
       ∙ (ap (request_sent number) (sent_then old.log sent.sent number sent.range request sent.entered)
       ∙ said_new (known_of old.log.part.own).sent m fresh)
 
+  statement-late : (known_of late.log.part.own).statement ≡ (known_of old.log.part.own).statement
+  statement-late = ap (λ own. (known_of own).statement) own-late ∙ ap (λ (k : Known). k.statement) (known_after_it old.log sent.sent (events.Send number sent.range request) sent.entered)
+
   -- it may be heard
   pub may_hear_it : MayHearNow late
   may_hear_it = record {
@@ -120,8 +156,8 @@ module _ {C : Type 0} (old mid late : DeskMeaning C) (request : Request) (number
         let said : request_sent a.number (known_of late.log.part.own).sent ≡ Some request = ap (λ n. request_sent n (known_of late.log.part.own).sent) (replies_to_it a there) ∙ said-late in
         let h : Heard = record { number = a.number; request = request; reply = a.reply; step = a.step } in
         let brings : heard_as a.number a.step (request_sent a.number (known_of late.log.part.own).sent) (Some a.reply) ≡ Some h = ap (λ r. heard_as a.number a.step r (Some a.reply)) said in
-        subst (KeepsAs late.log.part.id late.log.pipelining (jobs_of late.log.part.own) (known_of late.log.part.own) (events.Hear a.number a.step)) (sym brings)
-        (hears-as late.log.part.id late.log.pipelining (jobs_of late.log.part.own) (known_of late.log.part.own) a.number a.step h may.no_put);
+        subst (KeepsAs late.log.part.id late.log.head.splits late.log.pipelining late.log.part.own (events.Hear a.number a.step)) (sym brings)
+        (hears-as late.log.part.id late.log.head.splits late.log.pipelining late.log.part.own a.number a.step h may.no_put may.no_refresh (λ s opened. may.round s (sym statement-late ∙ opened)));
   }
 
   module _ (new : DeskMeaning C) (a : Answered) (heard : HasHeardFirst late new a) where

@@ -72,6 +72,12 @@ module _ {C : Type 0} (l : LogMeaning C) (log : IsOwnLog l) where
       let w = answered h there in
       subst (MayAnswer h.request) (sym w.answers) (replies_are_of_their_kind l.head w.front w.range h.request (run_then h w) (unstaged_front w.front w.back (subst NothingIsStaged (sym w.whole) is_unstaged)))
 
+  -- also one that was heard in the open call
+  pub heard_now_kind : (h : Heard) → Contains (known_of l.part.own).heard_now h → MayAnswer h.request h.reply
+  heard_now_kind h there =
+      let w = answered_now h there in
+      subst (MayAnswer h.request) (sym w.answers) (replies_are_of_their_kind l.head w.front w.range h.request (run_then h w) (unstaged_front w.front w.back (subst NothingIsStaged (sym w.whole) is_unstaged)))
+
   -- and that some state of a range gives
   pub heard_possible : (h : Heard) → Contains (known_of l.part.own).heard h → IsPossibleReply h.request h.reply
   heard_possible h there =

@@ -13,3 +13,5 @@ pub mod Pushed
 pub mod Rounding
 pub mod Rounds
 pub mod Timely
+pub mod Unmet
+pub mod Waves

@@ -17,6 +17,7 @@ use Rattle.pc_exchange.proofs.Aside.{open_same}
 use Rattle.pc_exchange.proofs.Going.{not_same}
 use Rattle.pc_exchange.proofs.Pushed.{push_decides}
 use Rattle.pc_exchange.proofs.Timely.{IsTimely}
+use Rattle.pc_exchange.proofs.Unmet.{push_unmet, resolve_unmet}
 use Rattle.pc_exchange.specs.Aside.{IsAside, IsLaterAside}
 use Rattle.pc_exchange.specs.Rounding.{HasComeTo, WasPushedOnceFor}
 use Rattle.pc_lists.proofs.Counts.{count-append, count-cons, one_if}
@@ -42,6 +43,7 @@ use Rattle.pc_world.specs.Answering.{MayAnswer}
 use Rattle.pc_world.specs.Counting.{AtLeast}
 use Rattle.pc_world.specs.Exchange.{IsPossibleReply}
 use Rattle.pc_world.specs.Follows.EarlyTell.{IsCommitKnown}
+use Rattle.pc_world.specs.Follows.Eighth.{MetEighth}
 use Rattle.pc_world.specs.Follows.Resends.{HasMoreConflicts, MayGoAgain}
 use Rattle.pc_world.specs.Known.{Known, call_in, open_txn, reading_of}
 use Rattle.pc_world.specs.Known.Traffic.{Heard, Sent}
@@ -120,7 +122,7 @@ module _ (session : ℕ) (start : Known) (number : ℕ) (conflict : Reply) (read
   pub resolve_aside : (m : Pushing) (fate : Fate) → IsAside session start (holder_resolve m fate)
   resolve_aside m fate = record { kind = refl; begun = λ id about whose. absurd cc; other = λ t opened. refl }
 
-  module _ (k : Known) (last : ℕ) (later : IsLaterAside session start k last) (answered : All (λ m. IsTrue (is_heard k.heard_now m)) k.sent_now) (waiting : List (List Request)) where
+  module _ (k : Known) (last : ℕ) (later : IsLaterAside session start k last) (answered : All (λ m. IsTrue (is_heard k.heard_now m)) k.sent_now) (kinds : (h : Heard) → Contains k.heard_now h → MayAnswer h.request h.reply) (waiting : List (List Request)) where
     -- what was heard since speaks of no record of the open transaction
     heard-before : (t : Txn) → open_txn start ≡ Some t → (p : Heard → Bool) → ((h : Heard) → is_about t.id h.request ≡ false → p h ≡ false) → Any (λ h. IsTrue (p h)) k.heard → Any (λ h. IsTrue (p h)) start.heard
     heard-before t opened p none any =
@@ -142,14 +144,15 @@ module _ (session : ℕ) (start : Known) (number : ℕ) (conflict : Reply) (read
     in_call : k.statement ≡ Some met.s
     in_call = later.statement ∙ met.opened
 
-    timely : (request : Request) (id : TxnId) → round_of request ≡ Some id → HasMoreConflicts k request id → IsTimely k waiting request
-    timely request id round more = record {
+    timely : (request : Request) (id : TxnId) → round_of request ≡ Some id → (MetEighth k request → ⊥) → HasMoreConflicts k request id → IsTimely k waiting request
+    timely request id round unmet more = record {
       undecided = not_decided;
       again = λ s opened any. (
         All-weaker (λ (m : Sent). IsTrue (is_heard k.heard_now m)) (λ (m : Sent). IsSameRequest request m.request → IsTrue (is_heard k.heard_now m)) (λ m heard same. heard) k.sent_now answered,
         subst (MayGoAgain k request) (sym round) more,
       );
       kind = λ s opened. inr (id, round);
+      eighth = λ s opened. unmet;
       due = λ none. let both = sym in_call ∙ none in absurd cc;
     }
 
@@ -160,7 +163,7 @@ module _ (session : ℕ) (start : Known) (number : ℕ) (conflict : Reply) (read
         let is : id ≡ met.holder.id = ap (λ (h : TxnMeta). h.id) made.holder in
         let low : count_by (was_pushed id) start.heard_now + 1 ≤ count_by (was_met id) start.heard_now =
         subst (λ id. count_by (was_pushed id) start.heard_now + 1 ≤ count_by (was_met id) start.heard_now) (sym is) met.pushes in
-        timely (push_of m) id refl (λ n many.
+        timely (push_of m) id refl (push_unmet k kinds m) (λ n many.
         let a : n ≤ count_by (was_pushed id) k.heard_now = at_least-count (λ h. IsSameRequest (push_of m) h.request) (was_pushed id) (same_push m) n k.heard_now many in
         let b : count_by (was_pushed id) k.heard_now ≡ count_by (was_pushed id) start.heard_now = ap (count_by (was_pushed id)) same in
         let d : count_by (was_met id) k.heard_now ≡ count_by (was_met id) start.heard_now = ap (count_by (was_met id)) same in
@@ -175,7 +178,7 @@ module _ (session : ℕ) (start : Known) (number : ℕ) (conflict : Reply) (read
         subst (λ id. count_by (was_pushed id) start.heard_now + 1 ≤ count_by (was_met id) start.heard_now) (sym is) met.pushes in
         let few : count_by (shows_resolve id) start.heard_now ≤ count_by (was_pushed id) start.heard_now =
         subst (λ id. count_by (shows_resolve id) start.heard_now ≤ count_by (was_pushed id) start.heard_now) (sym is) met.resolves in
-        timely (holder_resolve m fate) id refl (λ n many.
+        timely (holder_resolve m fate) id refl (resolve_unmet k kinds m fate) (λ n many.
         let a : n ≤ count_by (shows_resolve id) k.heard_now = at_least-count (λ h. IsSameRequest (holder_resolve m fate) h.request) (shows_resolve id) (same_resolve m fate) n k.heard_now many in
         let on : (p : Heard → Bool) → count_by p k.heard_now ≡ count_by p start.heard_now + one_if (p was.push) = λ p.
         let e : count_by p k.heard_now ≡ count_by p (start.heard_now ++ was.push ∷ []) = ap (count_by p) was.more in

@@ -14,7 +14,7 @@ use Rattle.pc_exchange.proofs.Aside.{aside_none, goes_on_beside, left_still}
 use Rattle.pc_exchange.proofs.Called.{all_heard_in_call}
 use Rattle.pc_exchange.proofs.Coordinator.{counted_met}
 use Rattle.pc_exchange.proofs.Going.{answered_by, aside_by, goes_both, goes_none, heard_now_by, jobs_by, part_by, reply_by}
-use Rattle.pc_exchange.proofs.HeardKinds.{heard_begun, top_below}
+use Rattle.pc_exchange.proofs.HeardKinds.{heard_begun, heard_now_kind, top_below}
 use Rattle.pc_exchange.proofs.Messages.{left_by_exchange}
 use Rattle.pc_exchange.proofs.Rounding.{IsMade, at_changed, at_finished, at_refused, at_settled, come_on, ends_refused, ends_settled, may_push, of_conflict, push_aside, push_timely, resolve_aside, resolve_timely, round_same, sends_asks}
 use Rattle.pc_exchange.proofs.Timely.{IsTimely, may_exchange}
@@ -101,14 +101,14 @@ module _ {C : Type 0} (old : DeskMeaning C) (pusher : Pusher) (reading : ℕ) (c
   asked_by progresses.Push request come asks =
       subst (λ q. IsAside r.start.session start_known q × IsTimely now_known (jobs_of d.log.part.own) q) (sym asks) (
         push_aside r.start.session start_known r.start.number conflict reader r.start.met m made_it,
-        push_timely r.start.session start_known r.start.number conflict reader r.start.met now_known ts r.aside (all_heard_in_call d r.goes.back) (jobs_of d.log.part.own) m made_it come,
+        push_timely r.start.session start_known r.start.number conflict reader r.start.met now_known ts r.aside (all_heard_in_call d r.goes.back) (heard_now_kind d.log r.goes.back.track.log) (jobs_of d.log.part.own) m made_it come,
       )
   asked_by progresses.Refused request come asks = absurd asks
   asked_by (progresses.Unsure view) request come asks = absurd come
   asked_by (progresses.Resolve fate) request come asks =
       subst (λ q. IsAside r.start.session start_known q × IsTimely now_known (jobs_of d.log.part.own) q) (sym asks) (
         resolve_aside r.start.session start_known r.start.number conflict reader r.start.met m fate,
-        resolve_timely r.start.session start_known r.start.number conflict reader r.start.met now_known ts r.aside (all_heard_in_call d r.goes.back) (jobs_of d.log.part.own) m fate made_it come,
+        resolve_timely r.start.session start_known r.start.number conflict reader r.start.met now_known ts r.aside (all_heard_in_call d r.goes.back) (heard_now_kind d.log r.goes.back.track.log) (jobs_of d.log.part.own) m fate made_it come,
       )
   asked_by progresses.Over request come asks = absurd asks
 

@@ -10,17 +10,22 @@ use Rattle.pc_proto.specs.declared.event.Event.{Event}
 use Rattle.pc_proto.specs.declared.event.Event.TheVariants as events
 use Rattle.pc_proto.specs.declared.reply.Reply.{Reply}
 use Rattle.pc_proto.specs.declared.request.Request.{Request}
-use Rattle.pc_proto.specs.Requests.{is_put}
+use Rattle.pc_proto.specs.Requests.{is_put, is_refresh}
 use Rattle.pc_range.specs.Message.{evaluation, sending}
 use Rattle.pc_world.specs.Answering.{MayAnswer}
 use Rattle.pc_world.specs.Exchange.{IsPossibleReply}
+use Rattle.pc_world.specs.Follows.CallMessages.{IsOfRound}
 use Rattle.pc_world.specs.Known.{known_of, next_number}
+use Rattle.pc_world.specs.Known.Statements.{Statement}
 
--- The actor may send this message now, which is no put, and hear the reply: no other is on its way.
+-- The actor may send this message now, which is no put and no refresh, and in a call one of a conflict's round, and hear the reply: no other
+-- is on its way.
 pub record MayExchangeNow {C : Type 0} (d : DeskMeaning C) (request : Request) : Type 0 where
   pub back : HasAllBack d
   pub may : MaySendNow d.log request
   pub no_put : is_put request ≡ false
+  pub no_refresh : is_refresh request ≡ false
+  pub round : (s : Statement) → (known_of d.log.part.own).statement ≡ Some s → IsOfRound request
 
 -- The entry, at this step, in which the actor sends this message.
 abbrev pub sent_pair : ActorId → ℕ → ℕ → ℕ → Request → Pair Event

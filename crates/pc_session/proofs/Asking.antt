@@ -8,12 +8,13 @@ use Rattle.pc_coord.specs.Knows.{Knows}
 use Rattle.pc_desk.proofs.Making.{added, known_after_it}
 use Rattle.pc_desk.specs.Desk.{DeskMeaning, HasDone, is_on_way}
 use Rattle.pc_exchange.proofs.Growing.{grows_entered}
+use Rattle.pc_exchange.proofs.Waves.{ends_where_heard}
 use Rattle.pc_exchange.specs.Growing.{HasGrownBy}
 use Rattle.pc_history.specs.declared.pair.Pair.{Pair}
 use Rattle.pc_proto.specs.declared.call.Call.{Call}
 use Rattle.pc_proto.specs.declared.event.Event.{Event}
 use Rattle.pc_proto.specs.declared.event.Event.TheVariants as events
-use Rattle.pc_session.proofs.Away.{apart_asked, none_away}
+use Rattle.pc_session.proofs.Away.{all_heard, apart_asked, none_away}
 use Rattle.pc_session.proofs.Inside.{one_on}
 use Rattle.pc_session.proofs.Jobs.{HasJobs, jobs_asked}
 use Rattle.pc_session.proofs.Knowing.{jobs_then, known_asked, of_ask, with_asked}
@@ -21,6 +22,7 @@ use Rattle.pc_session.specs.Calls.{MayBeCalled}
 use Rattle.pc_session.specs.InCall.{HasAsked, HasOpenCall, IsApartNow}
 use Rattle.pc_session.specs.Session.{HasLeft, IsAtRest, SessionMeaning, session_knows}
 use Rattle.pc_turns.specs.Order.{IsInBetween}
+use Rattle.pc_world.specs.Follows.WaveOrder.{EndsWaves}
 use Rattle.pc_world.specs.Known.{Known, known_of, learn}
 use Rattle.pc_world.specs.Local.{IsCallOf, MayAsk}
 
@@ -84,6 +86,10 @@ module _ {C : Type 0} (old : SessionMeaning C) (d : DeskMeaning C) (c : Coordina
     kinds = λ number request on. absurd (let e : true ≡ false = sym on ∙ away number in cc e);
     waiting = left_on;
   }
+
+  -- no wave is half heard
+  pub asked_ends : EndsWaves d.log.part.own
+  asked_ends = ends_where_heard d.log.part.own (all_heard d done.track away)
 
   -- and nothing else was done
   pub asked_goes : c.session ≡ old.coordinator.session → HasAsked old asked_then call reading

@@ -13,6 +13,7 @@ use Rattle.pc_desk.specs.Keeping.{KeepsSessionStep}
 use Rattle.pc_desk.specs.OwnLog.{LogMeaning}
 use Rattle.pc_exchange.proofs.Growing.{grows_else, grows_entered}
 use Rattle.pc_exchange.proofs.HeardKinds.{heard_kind}
+use Rattle.pc_exchange.proofs.Waves.{ends_where_heard}
 use Rattle.pc_exchange.specs.Growing.{HasGrownBy}
 use Rattle.pc_history.specs.declared.pair.Pair.{Pair}
 use Rattle.pc_lists.proofs.Lists.{contains_head}
@@ -20,17 +21,18 @@ use Rattle.pc_proto.specs.declared.event.Event.{Event}
 use Rattle.pc_proto.specs.declared.event.Event.TheVariants as events
 use Rattle.pc_proto.specs.declared.request.Request.{Request}
 use Rattle.pc_range.specs.Message.{evaluation}
-use Rattle.pc_session.proofs.Away.{any_there, apart_heard}
+use Rattle.pc_session.proofs.Away.{all_heard, any_there, apart_heard, none_away}
 use Rattle.pc_session.proofs.Inside.{one_on}
 use Rattle.pc_session.proofs.Jobs.{HasJobs, jobs_heard}
 use Rattle.pc_session.proofs.Keeping.{keeps_as, keeps_heard}
 use Rattle.pc_session.proofs.Knowing.{it, jobs_then, known_heard, with_heard}
-use Rattle.pc_session.specs.InCall.{HasGoneInside, HasOpenCall, IsApartNow}
+use Rattle.pc_session.proofs.WholeWave.{whole_heard, whole_still}
+use Rattle.pc_session.specs.InCall.{HasGoneInside, HasOpenCall, IsApartNow, IsWholeOut}
 use Rattle.pc_session.specs.Session.{HasLeft, SessionMeaning, session_knows}
 use Rattle.pc_turns.specs.Order.{IsInBetween}
 use Rattle.pc_world.specs.Answering.{MayAnswer}
 use Rattle.pc_world.specs.Follows.CallMessages.{IsForCall}
-use Rattle.pc_world.specs.Follows.FinishingJobs.{jobs_of}
+use Rattle.pc_world.specs.Follows.WaveOrder.{EndsWaves}
 use Rattle.pc_world.specs.Known.{Known, known_of, learn}
 use Rattle.pc_world.specs.Known.Traffic.{Heard, heard_as, request_sent}
 
@@ -64,6 +66,10 @@ module _ {C : Type 0} (old : SessionMeaning C) (reading : ℕ) (calls : HasOpenC
     waiting = subst (λ own. HasLeft own old.jobs) (sym own_same) calls.waiting;
   }
 
+  -- the wave is as whole as it was
+  pub delivered_whole : IsWholeOut old → IsWholeOut delivered_then
+  delivered_whole whole = whole_still old delivered_then (ap (λ (l : LogMeaning C). l.head.splits) made.own) known_same (λ n on. sym (made.way n) ∙ on) whole
+
   pub delivered_goes : HasGoneInside old delivered_then
   delivered_goes = record {
     part = [];
@@ -73,6 +79,11 @@ module _ {C : Type 0} (old : SessionMeaning C) (reading : ℕ) (calls : HasOpenC
     session = refl;
     statement = ap (λ (k : Known). k.statement) known_same;
   }
+
+-- ---- all were heard
+
+pub wave_ends : {C : Type 0} (s : SessionMeaning C) (reading : ℕ) → HasOpenCall s reading → s.desk.posted ≡ [] → s.desk.replies ≡ [] → EndsWaves s.desk.log.part.own
+wave_ends s reading calls posted replies = ends_where_heard s.desk.log.part.own (all_heard s.desk calls.track (none_away s.desk posted replies))
 
 -- ---- a reply is heard
 
@@ -97,14 +108,16 @@ module _ {C : Type 0} (old : SessionMeaning C) (reading : ℕ) (calls : HasOpenC
       (by-it a there).said
 
   -- each reply that waits may be heard
-  pub may_hear_now : MayHearNow old.desk
-  may_hear_now = record {
+  pub may_hear_now : IsWholeOut old → MayHearNow old.desk
+  may_hear_now whole = record {
     each = λ a range there.
         let by = by-it a there in
         let h : Heard = record { number = a.number; request = by.request; reply = a.reply; step = a.step } in
         let brings : heard_as a.number a.step (request_sent a.number k.sent) (Some a.reply) ≡ Some h = ap (λ (r : Option Request). heard_as a.number a.step r (Some a.reply)) by.said in
-        keeps_as old.desk.log.part.id old.coordinator.session old.desk.log.pipelining (jobs_of old.desk.log.part.own) k (events.Hear a.number a.step) (heard_as a.number a.step (request_sent a.number k.sent) (Some a.reply)) calls.one.whose calls.one.unpiped
-        (subst (KeepsSessionStep false (jobs_of old.desk.log.part.own) k (events.Hear a.number a.step)) (sym brings) (keeps_heard (jobs_of old.desk.log.part.own) k a.number a.step h (for-call a there)));
+        keeps_as old.desk.log.part.id old.coordinator.session old.desk.log.head.splits old.desk.log.pipelining old.desk.log.part.own (events.Hear a.number a.step) (heard_as a.number a.step (request_sent a.number k.sent) (Some a.reply)) calls.one.whose calls.one.unpiped
+        (subst (KeepsSessionStep old.desk.log.head.splits false old.desk.log.part.own (events.Hear a.number a.step)) (sym brings)
+        (keeps_heard old.desk.log.head.splits old.desk.log.part.own a.number a.step h (for-call a there) whole.pieces
+        (whole.refreshes a.number by.request (or_right (list_any (λ (m : Posted). m.number == a.number) old.desk.posted) (list_any (λ (x : Answered). x.number == a.number) old.desk.replies) (answered-any old.desk.replies a there)) by.said)));
   }
 
   module _ (d : DeskMeaning C) (c : Coordination) (a : Answered) (heard : HasHeardFirst old.desk d a) where
@@ -187,6 +200,10 @@ module _ {C : Type 0} (old : SessionMeaning C) (reading : ℕ) (calls : HasOpenC
           record { s = is.s; opened = ap (λ (x : Known). x.statement) known_is ∙ is.opened; kind = is.kind };
       waiting = left_on;
     }
+
+    -- the wave stays whole
+    pub heard_whole : IsWholeOut old → IsWholeOut heard_then
+    heard_whole whole = whole_heard old heard_then h (ap (λ (l : LogMeaning C). l.head.splits) heard.entered.stored) known_is (λ n on. and_left (is_on_way n old.desk) (not (a.number == n)) (sym (heard.way n) ∙ on)) whole
 
     pub heard_goes : c.session ≡ old.coordinator.session → HasGoneInside old heard_then
     heard_goes session = record {

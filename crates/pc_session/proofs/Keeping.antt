@@ -8,6 +8,8 @@ use Rattle.pc_coord.specs.Coordination.{Coordination}
 use Rattle.pc_coord.specs.Knows.{IsTellable}
 use Rattle.pc_desk.specs.Hearing.{MayStayUnheard}
 use Rattle.pc_desk.specs.Keeping.{KeepsAs, KeepsSessionStep}
+use Rattle.pc_desk.specs.PastEighth.{FollowsNoEighthMove}
+use Rattle.pc_history.specs.declared.pair.Pair.{Pair}
 use Rattle.pc_proto.specs.declared.answer.Answer.{Answer}
 use Rattle.pc_proto.specs.declared.call.Call.{Call}
 use Rattle.pc_proto.specs.declared.call.Call.TheVariants as calls
@@ -16,20 +18,24 @@ use Rattle.pc_proto.specs.declared.event.Event.TheVariants as events
 use Rattle.pc_proto.specs.declared.request.Request.{Request}
 use Rattle.pc_proto.specs.declared.request.Request.TheVariants as requests
 use Rattle.pc_proto.specs.Requests.{IsPutOn, is_abort, is_commit, is_get, is_put, is_refresh, is_scan, round_of}
+use Rattle.pc_session.proofs.Lost.{tells_eighth}
 use Rattle.pc_world.specs.Follows.CallMessages.{IsFor, IsForCall}
+use Rattle.pc_world.specs.Follows.Eighth.{IsBeforeEighth}
 use Rattle.pc_world.specs.Follows.PipelinedPuts.{IsPutWaitedFor}
 use Rattle.pc_world.specs.Follows.Resends.{AreAnsweredNow, MayGoAgain}
-use Rattle.pc_world.specs.Known.{Known, call_in}
+use Rattle.pc_world.specs.Follows.Refreshes.{IsOfWholeRefresh}
+use Rattle.pc_world.specs.Follows.WaveOrder.{EndsWaves, SentAllPieces}
+use Rattle.pc_world.specs.Known.{Known, call_in, known_of}
 use Rattle.pc_world.specs.Known.Statements.{Statement}
 use Rattle.pc_world.specs.Known.Traffic.{Heard}
 use Rattle.pc_world.specs.Tell.Refusal.{is_heard}
 use Rattle.pc_world.specs.Unstaged.{IsNoStage}
 
 -- what a session's event keeps, as that of an actor
-pub keeps_as : (id : ActorId) (session : ℕ) (pipelining : Bool) (jobs : List (List Request)) (k : Known) (event : Event) (h : Option Heard) → id ≡ actors.Session session → pipelining ≡ false
-    → KeepsSessionStep false jobs k event h → KeepsAs id pipelining jobs k event h
-keeps_as id session pipelining jobs k event h whose unpiped keeps =
-    subst (λ i. KeepsAs i pipelining jobs k event h) (sym whose) (subst (λ b. KeepsSessionStep b jobs k event h) (sym unpiped) keeps)
+pub keeps_as : (id : ActorId) (session : ℕ) (splits : List (List ℕ)) (pipelining : Bool) (own : List (Pair Event)) (event : Event) (h : Option Heard) → id ≡ actors.Session session → pipelining ≡ false
+    → KeepsSessionStep splits false own event h → KeepsAs id splits pipelining own event h
+keeps_as id session splits pipelining own event h whose unpiped keeps =
+    subst (λ i. KeepsAs i splits pipelining own event h) (sym whose) (subst (λ b. KeepsSessionStep splits b own event h) (sym unpiped) keeps)
 
 -- What the coordinator's requests have in common: they are no messages of a conflict's round, and stage nothing.
 pub record IsPlainRequest (request : Request) : Type 0 where
@@ -70,19 +76,31 @@ plain_for calls.Commit request (inr is) = plain_refresh request is
 plain_for calls.Rollback request is = plain_abort request is
 plain_for call request is = absurd is
 
+-- what goes out before its eighth follows no eighth move
+moves-none : (k : Known) (request : Request) → IsBeforeEighth k request → FollowsNoEighthMove k request
+moves-none k (requests.Stage meta ts now writes locks) before = before
+moves-none k (requests.Commit meta ts locks) before = before
+moves-none k request before = tt
+
 -- a message that the coordinator gave is sent
-pub keeps_sent : (jobs : List (List Request)) (k : Known) (number range : ℕ) (request : Request) (splits : List (List ℕ)) (session : ℕ)
-    → IsSendable splits session k request → AreAnsweredNow k request → KeepsSessionStep false jobs k (events.Send number range request) None
-keeps_sent jobs k number range request splits session may answered = record {
+pub keeps_sent : (cut : List (List ℕ)) (own : List (Pair Event)) (number range : ℕ) (request : Request) (splits : List (List ℕ)) (session : ℕ)
+    → IsSendable splits session (known_of own) request → AreAnsweredNow (known_of own) request → EndsWaves own → KeepsSessionStep cut false own (events.Send number range request) None
+keeps_sent cut own number range request splits session may answered ends = record {
   wire = tt;
   early_tell = may.undecided;
   early_proof = λ _ _. tt;
   written = tt;
   puts = tt;
-  resends = λ s opened again. (answered, subst (MayGoAgain k request) (sym (plain_for may.kind.s.call request may.kind.kind).no_round) (may.again again));
+  resends = λ s opened again. (answered, subst (MayGoAgain (known_of own) request) (sym (plain_for may.kind.s.call request may.kind.kind).no_round) (may.again again));
   calls = λ s opened. inl may.kind;
   finishes = λ none. let e : Some may.kind.s ≡ None = sym may.kind.opened ∙ none in absurd cc;
   aborts = tt;
+  writes = λ s opened. may.own;
+  refreshes = may.refresh;
+  eighth = λ s opened. (may.below, moves-none (known_of own) request may.before);
+  waves = ends;
+  pieces = tt;
+  refresh_wave = tt;
 }
 
 -- a put that is answered is one for which its call waits
@@ -134,30 +152,45 @@ asked_is : (k : Known) (s : Statement) (call : Call) → k.statement ≡ Some s 
 asked_is k s call opened asked = let e : Some s.call ≡ Some call = sym (ap call_in opened) ∙ asked in cc
 
 -- a reply to such a message is heard
-pub keeps_heard : (jobs : List (List Request)) (k : Known) (number step : ℕ) (h : Heard) → IsForCall k h.request → KeepsSessionStep false jobs k (events.Hear number step) (Some h)
-keeps_heard jobs k number step h kind = record {
+pub keeps_heard : (cut : List (List ℕ)) (own : List (Pair Event)) (number step : ℕ) (h : Heard) → IsForCall (known_of own) h.request → SentAllPieces cut (known_of own) → IsOfWholeRefresh (known_of own) h.request
+    → KeepsSessionStep cut false own (events.Hear number step) (Some h)
+keeps_heard cut own number step h kind pieces whole = record {
   wire = tt;
   early_tell = tt;
-  early_proof = λ asked none. no_put h.request (subst (λ call. IsFor call h.request) (asked_is k kind.s calls.Commit kind.opened asked) kind.kind);
+  early_proof = λ asked none. no_put h.request (subst (λ call. IsFor call h.request) (asked_is (known_of own) kind.s calls.Commit kind.opened asked) kind.kind);
   written = tt;
-  puts = λ call asked. waited_for k call h.request (subst (λ call. IsFor call h.request) (asked_is k kind.s call kind.opened asked) kind.kind);
+  puts = λ call asked. waited_for (known_of own) call h.request (subst (λ call. IsFor call h.request) (asked_is (known_of own) kind.s call kind.opened asked) kind.kind);
   resends = tt;
   calls = tt;
   finishes = tt;
   aborts = tt;
+  writes = tt;
+  refreshes = tt;
+  eighth = tt;
+  waves = tt;
+  pieces = λ none. pieces;
+  refresh_wave = whole;
 }
 
 -- an answer is told
-pub keeps_told : (jobs : List (List Request)) (k : Known) (c : Coordination) (answer : Answer) → IsTellable c k answer → All (λ m. IsTrue (is_heard k.heard_now m)) k.sent_now
-    → KeepsSessionStep false jobs k (events.Tell answer) None
-keeps_told jobs k c answer may all = record {
-  wire = All-weaker (λ m. IsTrue (is_heard k.heard_now m)) (λ m. IsTrue (is_heard k.heard_now m) ⊎ MayStayUnheard false k m) (λ m h. inl h) k.sent_now all;
-  early_tell = tt;
-  early_proof = λ _ _. tt;
-  written = may.written;
-  puts = tt;
-  resends = tt;
-  calls = tt;
-  finishes = tt;
-  aborts = may.aborts;
-}
+pub keeps_told : (cut : List (List ℕ)) (own : List (Pair Event)) (c : Coordination) (answer : Answer) → IsTellable c (known_of own) answer → All (λ m. IsTrue (is_heard (known_of own).heard_now m)) (known_of own).sent_now
+    → All (λ m. IsTrue (is_heard (known_of own).heard m)) (known_of own).sent → KeepsSessionStep cut false own (events.Tell answer) None
+keeps_told cut own c answer may all ever =
+    let k = known_of own in
+    record {
+      wire = All-weaker (λ m. IsTrue (is_heard k.heard_now m)) (λ m. IsTrue (is_heard k.heard_now m) ⊎ MayStayUnheard false k m) (λ m h. inl h) k.sent_now all;
+      early_tell = tt;
+      early_proof = λ _ _. tt;
+      written = may.written;
+      puts = tt;
+      resends = tt;
+      calls = tt;
+      finishes = tt;
+      aborts = may.aborts;
+      writes = tt;
+      refreshes = may.restarts;
+      eighth = λ s opened. tells_eighth c.splits c.session k answer may.may ever s (may.eighth s opened);
+      waves = tt;
+      pieces = tt;
+      refresh_wave = tt;
+    }

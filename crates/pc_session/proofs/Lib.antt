@@ -9,8 +9,10 @@ pub mod Jobs
 pub mod JobsTold
 pub mod Keeping
 pub mod Knowing
+pub mod Lost
 pub mod Rounds
 pub mod Sending
 pub mod Standing
 pub mod Stepping
 pub mod Telling
+pub mod WholeWave

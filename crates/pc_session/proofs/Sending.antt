@@ -1,5 +1,5 @@
 -- A session in its call once it sent the message that its coordinator gave.
-use Rattle.std.proofs.Common.{◌≡◌, ℕ, ◌+◌, true, false, Bool, ◌==◌, ◌||◌, [], ◌∷◌, ◌++◌, Some, None, refl, sym, ap, subst, ◌∙◌, if◌then◌else◌, is_some, Option}
+use Rattle.std.proofs.Common.{◌≡◌, ℕ, ◌+◌, true, false, Bool, ◌==◌, ◌||◌, List, [], ◌∷◌, ◌++◌, Some, None, refl, sym, ap, subst, ◌∙◌, if◌then◌else◌, is_some, Option}
 use Rattle.std.proofs.lemmas.Bool.{eqb-true}
 use Rattle.std.proofs.lemmas.List.Elements.{All-cons, All-nil}
 use Rattle.pc_base.specs.declared.actor.ActorId.TheVariants as actors
@@ -13,6 +13,7 @@ use Rattle.pc_desk.proofs.Making.{added, known_after_it}
 use Rattle.pc_desk.specs.Desk.{DeskMeaning, HasSentNext, MaySendNow, is_on_way}
 use Rattle.pc_desk.specs.OwnLog.{LogMeaning}
 use Rattle.pc_exchange.proofs.Growing.{grows_both, grows_else, grows_entered}
+use Rattle.pc_exchange.proofs.Waves.{ends_on}
 use Rattle.pc_exchange.specs.Growing.{HasGrownBy}
 use Rattle.pc_history.specs.declared.pair.Pair.{Pair}
 use Rattle.pc_history.specs.Parts.{gave}
@@ -30,6 +31,7 @@ use Rattle.pc_session.specs.Session.{HasLeft, SessionMeaning, session_knows}
 use Rattle.pc_turns.specs.Order.{IsInBetween}
 use Rattle.pc_world.specs.Follows.CallMessages.{IsForCall}
 use Rattle.pc_world.specs.Follows.FinishingJobs.{jobs_of, without_first}
+use Rattle.pc_world.specs.Follows.WaveOrder.{EndsWaves}
 use Rattle.pc_world.specs.Known.{Known, known_of, learn, next_number}
 use Rattle.pc_world.specs.Known.Statements.{Statement}
 use Rattle.pc_world.specs.Known.Traffic.{Sent, request_sent}
@@ -37,7 +39,7 @@ use Rattle.pc_world.specs.MaySend.{MaySendRow}
 use Rattle.pc_world.specs.RangeOf.{IsForOne}
 
 module _ {C : Type 0} (old : SessionMeaning C) (reading : ℕ) (request : Request) (calls : HasOpenCall old reading) (due : next_of old.coordinator ≡ nexts.Send request)
-    (may : IsSendable old.coordinator.splits old.coordinator.session (session_knows old) request) (none : AwaitsNone old.coordinator (session_knows old) request) (one-range : IsForOne old.coordinator.splits request) where
+    (may : IsSendable old.coordinator.splits old.coordinator.session (session_knows old) request) (none : AwaitsNone old.coordinator (session_knows old) request) (one-range : IsForOne old.coordinator.splits request) (ends : EndsWaves old.desk.log.part.own) where
   abbrev k : Known
   k = session_knows old
 
@@ -53,9 +55,9 @@ module _ {C : Type 0} (old : SessionMeaning C) (reading : ℕ) (request : Reques
         unstaged = (plain_for may.kind.s.call request may.kind.kind).unstaged;
         one = subst (λ splits. IsForOne splits request) calls.one.splits one-range;
         keeps = λ number range.
-            keeps_as old.desk.log.part.id old.coordinator.session old.desk.log.pipelining (jobs_of old.desk.log.part.own) k (events.Send number range request) None calls.one.whose calls.one.unpiped
-            (keeps_sent (jobs_of old.desk.log.part.own) k number range request old.coordinator.splits old.coordinator.session may
-            (answered_now old.desk calls.track old.coordinator request calls.apart calls.way none));
+            keeps_as old.desk.log.part.id old.coordinator.session old.desk.log.head.splits old.desk.log.pipelining old.desk.log.part.own (events.Send number range request) None calls.one.whose calls.one.unpiped
+            (keeps_sent old.desk.log.head.splits old.desk.log.part.own number range request old.coordinator.splits old.coordinator.session may
+            (answered_now old.desk calls.track old.coordinator request calls.apart calls.way none) ends);
       }
 
   module _ (d : DeskMeaning C) (c : Coordination) (number : ℕ) (sent : HasSentNext old.desk d number request) where
@@ -132,6 +134,12 @@ module _ {C : Type 0} (old : SessionMeaning C) (reading : ℕ) (request : Reques
       kinds = kinds_on;
       waiting = left_on;
     }
+
+    -- and no wave is half heard
+    pub sent_ends : EndsWaves d.log.part.own
+    sent_ends =
+        let is : d.log.part.own ≡ old.desk.log.part.own ++ p ∷ [] = grown_sent.own in
+        subst EndsWaves (sym is) (ends_on old.desk.log.part.own p (λ hears. hears) (ap (λ (own : List (Pair Event)). (known_of own).heard) (sym is) ∙ ap (λ (k : Known). k.heard) known_is) ends)
 
     pub sent_goes : c.session ≡ old.coordinator.session → HasGoneInside old sent_then
     sent_goes session = record {

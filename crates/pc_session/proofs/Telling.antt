@@ -1,6 +1,5 @@
 -- A session once its call was told its answer.
-use Rattle.std.proofs.Common.{◌≡◌, ℕ, ◌+◌, true, false, Bool, All, IsTrue, List, [], ◌∷◌, ◌++◌, is_some, map, Option, Some, None, IfSome, refl, sym, ap, subst, ◌∙◌}
-use Rattle.std.specs.Bool.{MatchBool}
+use Rattle.std.proofs.Common.{◌≡◌, ℕ, ◌+◌, false, All, IsTrue, List, [], ◌∷◌, ◌++◌, is_some, map, Option, Some, None, IfSome, refl, sym, ap, subst, ◌∙◌}
 use Rattle.std.specs.Option.{option_to_list}
 use Rattle.pc_base.specs.declared.actor.ActorId.{ActorId}
 use Rattle.pc_base.specs.declared.actor.ActorId.TheVariants as actors
@@ -31,18 +30,14 @@ use Rattle.pc_session.proofs.Jobs.{HasJobs}
 use Rattle.pc_session.proofs.JobsTold.{BeginsNext, jobs_after_told, jobs_told}
 use Rattle.pc_session.proofs.Keeping.{keeps_as, keeps_told}
 use Rattle.pc_session.proofs.Knowing.{jobs_then, known_told, of_tell, with_told}
+use Rattle.pc_session.proofs.Lost.{row_by}
 use Rattle.pc_session.specs.InCall.{HasOpenCall, HasTold}
 use Rattle.pc_session.specs.Session.{HasLeft, IsAtRest, SessionMeaning, session_knows}
-use Rattle.pc_world.specs.Follows.FinishingJobs.{jobs_of, left_by, with_job}
+use Rattle.pc_world.specs.Follows.FinishingJobs.{left_by, with_job}
 use Rattle.pc_world.specs.Known.{Known, known_of, learn}
 use Rattle.pc_world.specs.Known.Statements.{Statement}
 use Rattle.pc_world.specs.MayTell.{MayTell, MayTellIn}
 use Rattle.pc_world.specs.Tell.Begin.{MayTellBegun}
-
-row_by : (needs past : Bool) (none clock row : Type 0) → (none → ⊥) → (clock → ⊥) → MatchBool needs none (MatchBool past clock row) → row
-row_by true past none clock row first second is = absurd (first is)
-row_by false true none clock row first second is = absurd (second is)
-row_by false false none clock row first second is = is
 
 -- a transaction that an answer begins is the session's next one
 begins_next : (answer : Answer) (splits : List (List ℕ)) (session : ℕ) (k : Known) (s : Statement) → MayTellIn splits (actors.Session session) k s answer → BeginsNext k.begun answer
@@ -72,8 +67,8 @@ module _ {C : Type 0} (old : SessionMeaning C) (reading : ℕ) (answer : Answer)
         caused = tt;
         free = refl;
         no_ask = refl;
-        keeps = keeps_as l.part.id old.coordinator.session l.pipelining (jobs_of l.part.own) k event None calls.one.whose calls.one.unpiped
-            (keeps_told (jobs_of l.part.own) k old.coordinator answer may (all_heard_now old.desk calls.track calls.apart away));
+        keeps = keeps_as l.part.id old.coordinator.session l.head.splits l.pipelining l.part.own event None calls.one.whose calls.one.unpiped
+            (keeps_told l.head.splits l.part.own old.coordinator answer may (all_heard_now old.desk calls.track calls.apart away) (all_heard old.desk calls.track away));
       }
 
   module _ (d : DeskMeaning C) (c e : Coordination) (jobs : List Job) (done : HasDone old.desk d event) (told : c ≡ with_nothing_due old.coordinator) (handed : e ≡ without_job c) (kept : jobs ≡ old.jobs ++ option_to_list c.job)

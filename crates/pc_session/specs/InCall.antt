@@ -13,6 +13,8 @@ use Rattle.pc_proto.specs.declared.request.Request.{Request}
 use Rattle.pc_session.specs.Session.{AreOfOneSession, HasLeft, IsAtRest, SessionMeaning, session_knows}
 use Rattle.pc_turns.specs.Order.{IsInBetween, events_of}
 use Rattle.pc_world.specs.Follows.CallMessages.{IsForCall}
+use Rattle.pc_world.specs.Follows.Refreshes.{IsOfWholeRefresh}
+use Rattle.pc_world.specs.Follows.WaveOrder.{EndsWaves, SentAllPieces}
 use Rattle.pc_world.specs.Known.{Known}
 use Rattle.pc_world.specs.Known.Statements.{Statement}
 use Rattle.pc_world.specs.Known.Traffic.{Heard, request_sent}
@@ -37,6 +39,11 @@ pub record HasOpenCall {C : Type 0} (s : SessionMeaning C) (reading : ℕ) : Typ
   pub apart : IsApartNow (session_knows s)
   pub kinds : (number : ℕ) (request : Request) → is_on_way number s.desk ≡ true → request_sent number (session_knows s).sent ≡ Some request → IsForCall (session_knows s) request
   pub waiting : HasLeft s.desk.log.part.own s.jobs
+
+-- What is on its way is a whole wave: in a scan all pieces went out, and beside a refresh those of all that was read.
+pub record IsWholeOut {C : Type 0} (s : SessionMeaning C) : Type 0 where
+  pub pieces : SentAllPieces s.desk.log.head.splits (session_knows s)
+  pub refreshes : (number : ℕ) (request : Request) → is_on_way number s.desk ≡ true → request_sent number (session_knows s).sent ≡ Some request → IsOfWholeRefresh (session_knows s) request
 
 -- In its call the session sent and heard, and did nothing else.
 pub record HasGoneInside {C : Type 0} (old new : SessionMeaning C) : Type 0 where
@@ -68,7 +75,7 @@ pub record HasTold {C : Type 0} (old new : SessionMeaning C) (answer : Answer) :
   pub suits : (s : Statement) → (session_knows old).statement ≡ Some s → SuitsNext answer s.call new.coordinator.txn
   pub rest : IsAtRest new
 
--- The call goes on, or was told this answer.
+-- The call goes on, and no wave of it is half heard; or it was told this answer.
 abbrev pub GoesOnOrTold : {C : Type 0} → SessionMeaning C → SessionMeaning C → ℕ → Option Answer → Type 0
-GoesOnOrTold old new reading None = HasOpenCall new reading × HasGoneInside old new
+GoesOnOrTold old new reading None = HasOpenCall new reading × HasGoneInside old new × EndsWaves new.desk.log.part.own
 GoesOnOrTold old new reading (Some answer) = HasTold old new answer

@@ -1,4 +1,4 @@
-ghost use Rattle.std.specs.Prelude.{◌≡◌, ◌+◌, ◌++◌, [], true, length, map, All, IfErr, IfOk, IfSome, OnOk};
+ghost use Rattle.std.specs.Prelude.{◌≡◌, ◌+◌, ◌++◌, [], true, false, length, map, All, IfErr, IfOk, IfSome, OnOk};
 ghost use Rattle.std.specs.Option.{option_to_list};
 ghost use Rattle.pc_coord.specs.Coordination.{next_of, without_job};
 ghost use Rattle.pc_coord.specs.declared.due.Due.TheVariants as dues;
@@ -11,10 +11,11 @@ ghost use Rattle.pc_desk.specs.OwnLog.{IsOwnLog};
 ghost use Rattle.pc_exchange.specs.Ending.{BreaksOff};
 ghost use Rattle.pc_session.specs.Calls.{HasCalled, MayBeCalled};
 ghost use Rattle.pc_session.specs.Ending.{AreOfBrokenCall};
-ghost use Rattle.pc_session.specs.InCall.{GoesOnOrTold, HasAsked, HasGoneInside, HasOpenCall};
+ghost use Rattle.pc_session.specs.InCall.{GoesOnOrTold, HasAsked, HasGoneInside, HasOpenCall, IsWholeOut};
 ghost use Rattle.pc_session.specs.Session.{IsAtRest, session_knows};
 ghost use Rattle.pc_session.specs.Steps.{HasStepped};
 ghost use Rattle.pc_turns.specs.Order.{IsInBetween};
+ghost use Rattle.pc_world.specs.Follows.WaveOrder.{EndsWaves};
 ghost use Rattle.pc_world.specs.Known.{Known};
 
 use pc_base::{NoMemory, Timestamp, TryCopy};
@@ -96,6 +97,7 @@ impl<'a, N: Named<CommitWorld>, C: Clock, V: Wire, G: Gate> Office<'a, N, C, V, 
         requires rest { IsAtRest self.old }
         requires may { MayBeCalled self.old call }
         ensures calls { IfOk result (HasOpenCall self.new) }
+        ensures ends { OnOk result (EndsWaves self.new.desk.log.part.own) }
         ensures asked { IfOk result (HasAsked self.old self.new call) }
         ensures err { IfErr result (HasHalted self.old.desk self.new.desk) }
         ensures ended { IfErr result (BreaksOff (AreOfBrokenCall call) self.old.desk self.new.desk) }
@@ -114,7 +116,8 @@ impl<'a, N: Named<CommitWorld>, C: Clock, V: Wire, G: Gate> Office<'a, N, C, V, 
 
     /// Does what is due. Gives the answer once it was told.
     fn go_on<R: Wait>(&mut self, rt: &R, reading: u64) -> Result<Option<Answer>, Halt>
-        requires { HasOpenCall self.old reading }
+        requires calls { HasOpenCall self.old reading }
+        requires ends { EndsWaves self.old.desk.log.part.own }
         ensures ok { IfOk result (GoesOnOrTold self.old self.new reading) }
         ensures err { IfErr result (HasHalted self.old.desk self.new.desk) }
         ensures ended { IfErr result (BreaksOff (All IsInBetween) self.old.desk self.new.desk) }
@@ -153,6 +156,7 @@ impl<'a, N: Named<CommitWorld>, C: Clock, V: Wire, G: Gate> Office<'a, N, C, V, 
     /// Sends a message that the coordinator gave. It waits until the next wave.
     fn send(&mut self, reading: u64, request: Request) -> Result<Option<Answer>, Halt>
         requires calls { HasOpenCall self.old reading }
+        requires ends { EndsWaves self.old.desk.log.part.own }
         requires due { next_of self.old.coordinator ≡ nexts.Send request }
         requires may { MayCome self.old.coordinator (session_knows self.old) (nexts.Send request) }
         ensures ok { IfOk result (GoesOnOrTold self.old self.new reading) }
@@ -169,7 +173,8 @@ impl<'a, N: Named<CommitWorld>, C: Clock, V: Wire, G: Gate> Office<'a, N, C, V, 
 
     /// A wave: the messages that wait are evaluated, and then their replies heard.
     fn wave<R: Wait>(&mut self, rt: &R, reading: u64) -> Result<Option<Answer>, Halt>
-        requires { HasOpenCall self.old reading }
+        requires calls { HasOpenCall self.old reading }
+        requires due { next_of self.old.coordinator ≡ nexts.Wave }
         ensures ok { IfOk result (GoesOnOrTold self.old self.new reading) }
         ensures err { IfErr result (HasHalted self.old.desk self.new.desk) }
         ensures ended { IfErr result (BreaksOff (All IsInBetween) self.old.desk self.new.desk) }
@@ -185,8 +190,11 @@ impl<'a, N: Named<CommitWorld>, C: Clock, V: Wire, G: Gate> Office<'a, N, C, V, 
 
     /// Has the messages that wait evaluated.
     fn deliver<R: Wait>(&mut self, rt: &R, reading: u64) -> Result<(), Halt>
-        requires { HasOpenCall self.old reading }
+        requires calls { HasOpenCall self.old reading }
+        requires whole { IsWholeOut self.old }
         ensures calls { OnOk result (HasOpenCall self.new reading) }
+        ensures whole { OnOk result (IsWholeOut self.new) }
+        ensures all { OnOk result (self.new.desk.posted ≡ []) }
         ensures goes { OnOk result (HasGoneInside self.old self.new) }
         ensures err { IfErr result (HasHalted self.old.desk self.new.desk) }
         ensures ended { IfErr result (BreaksOff (All IsInBetween) self.old.desk self.new.desk) }
@@ -197,9 +205,13 @@ impl<'a, N: Named<CommitWorld>, C: Clock, V: Wire, G: Gate> Office<'a, N, C, V, 
 
     /// Hears the reply that has waited longest. False where none waits.
     fn hear(&mut self, reading: u64) -> Result<bool, Halt>
-        requires { HasOpenCall self.old reading }
+        requires calls { HasOpenCall self.old reading }
+        requires whole { IsWholeOut self.old }
         ensures calls { OnOk result (HasOpenCall self.new reading) }
+        ensures whole { OnOk result (IsWholeOut self.new) }
         ensures goes { OnOk result (HasGoneInside self.old self.new) }
+        ensures posted { OnOk result (self.new.desk.posted ≡ self.old.desk.posted) }
+        ensures none { IfOk result (λ more. more ≡ false → self.new.desk.replies ≡ []) }
         ensures fewer { IfOk result (λ more. more ≡ true → length self.old.desk.replies ≡ length self.new.desk.replies + 1) }
         ensures err { IfErr result (HasHalted self.old.desk self.new.desk) }
         ensures ended { IfErr result (BreaksOff (All IsInBetween) self.old.desk self.new.desk) }

@@ -11,7 +11,7 @@ invariant_of-self g c =
     let event = events.Ask c.args.call c.read-reading.result in
     let was = g.C.Clock.rule i.clock in (
       made_log c.args.self.now c.ready.new.self i.actor c.act.new.self i.clock c.read-reading.new.self i.pipelining i.limit i.stop i.stopped c.in_ok-last.last c.act.result event
-          c.self.view_is c.in_ok-last.ensures.ok c.self.invariant.0 (ask_keeps c.args.self.now.part.id c.args.self.now.pipelining _ _ c.args.call c.read-reading.result) c.act.ensures.stored c.act.ensures.sound c.act.ensures.stands,
+          c.self.view_is c.in_ok-last.ensures.ok c.self.invariant.0 (ask_keeps c.args.self.now.part.id c.args.self.now.head.splits c.args.self.now.pipelining _ c.args.call c.read-reading.result) c.act.ensures.stored c.act.ensures.sound c.act.ensures.stands,
       made_reads c.args.self.now c.ready.new.self i.actor c.act.new.self i.clock c.read-reading.new.self i.pipelining i.limit i.stop i.stopped c.in_ok-last.last c.act.result event
           was (g.C.Clock.rule c.read-reading.new.self) c.read-reading.ensures.kept c.act.ensures.stored c.self.invariant.1 (subst (λ n. ReadsClock was n event) c.self.invariant.2 c.read-reading.ensures.given),
       counted_on c.args.self.now c.ready.new.self i.actor c.act.new.self i.clock c.read-reading.new.self i.pipelining i.limit i.stop i.stopped c.in_ok-last.last c.act.result event
@@ -24,7 +24,7 @@ invariant_of-self-2 g c =
     let event = events.Ask c.args.call c.read-reading.result in
     let was = g.C.Clock.rule i.clock in (
       made_log c.args.self.now c.ready.new.self i.actor c.act.new.self i.clock c.read-reading.new.self i.pipelining i.limit i.stop i.stopped c.in_ok-last.last c.act.result event
-          c.self.view_is c.in_ok-last.ensures.ok c.self.invariant.0 (ask_keeps c.args.self.now.part.id c.args.self.now.pipelining _ _ c.args.call c.read-reading.result) c.act.ensures.stored c.act.ensures.sound c.act.ensures.stands,
+          c.self.view_is c.in_ok-last.ensures.ok c.self.invariant.0 (ask_keeps c.args.self.now.part.id c.args.self.now.head.splits c.args.self.now.pipelining _ c.args.call c.read-reading.result) c.act.ensures.stored c.act.ensures.sound c.act.ensures.stands,
       made_reads c.args.self.now c.ready.new.self i.actor c.act.new.self i.clock c.read-reading.new.self i.pipelining i.limit i.stop i.stopped c.in_ok-last.last c.act.result event
           was (g.C.Clock.rule c.read-reading.new.self) c.read-reading.ensures.kept c.act.ensures.stored c.self.invariant.1 (subst (λ n. ReadsClock was n event) c.self.invariant.2 c.read-reading.ensures.given),
       counted_on c.args.self.now c.ready.new.self i.actor c.act.new.self i.clock c.read-reading.new.self i.pipelining i.limit i.stop i.stopped c.in_ok-last.last c.act.result event
@@ -38,4 +38,4 @@ returns-clause-ok g c =
     made_entry c.args.self.now c.ready.new.self i.actor c.act.new.self i.clock c.read-reading.new.self i.pipelining i.limit i.stop i.stopped c.in_ok-last.last c.act.result event
     c.self.view_is c.in_ok-last.ensures.ok c.if-last.false c.act.ensures.stored c.act.ensures.above c.act.ensures.small
     (made_log c.args.self.now c.ready.new.self i.actor c.act.new.self i.clock c.read-reading.new.self i.pipelining i.limit i.stop i.stopped c.in_ok-last.last c.act.result event
-    c.self.view_is c.in_ok-last.ensures.ok c.self.invariant.0 (ask_keeps c.args.self.now.part.id c.args.self.now.pipelining _ _ c.args.call c.read-reading.result) c.act.ensures.stored c.act.ensures.sound c.act.ensures.stands)
+    c.self.view_is c.in_ok-last.ensures.ok c.self.invariant.0 (ask_keeps c.args.self.now.part.id c.args.self.now.head.splits c.args.self.now.pipelining _ c.args.call c.read-reading.result) c.act.ensures.stored c.act.ensures.sound c.act.ensures.stands)

@@ -19,6 +19,7 @@ loop-preserved g c =
       goes.0,
       asked_on c.args.self.now c.loop.self c.go_on.new.self c.args.call reading c.loop.invariant.1 goes.1,
       ap (λ clock. g.C.Clock.rule clock) c.in_ok-answer.ensures.clock ∙ c.loop.invariant.2,
+      goes.2,
     )
 
 pub returns-in_err-answer-clause-ended : goal.returns-in_err-answer-clause-ended

@@ -1,20 +1,25 @@
 use Rattle.std.proofs.Common.{sym, subst}
 use Rattle.std.proofs.lemmas.Result.{on_ok_weaker}
-use Rattle.pc_session.proofs.Hearing.{delivered_goes, delivered_open}
+use Rattle.pc_session.proofs.Hearing.{delivered_goes, delivered_open, delivered_whole}
 use Rattle.pc_session.proofs.Inside.{inside_from}
-use Rattle.pc_session.specs.InCall.{HasOpenCall}
+use Rattle.pc_session.specs.InCall.{HasOpenCall, IsWholeOut}
 use Rattle.pc_session.proofs.Ending.{nothing_breaks_if}
 use Rattle.pc_session.proofs.office.Office.deliver.Goals as goal
 
 pub returns-clause-calls : goal.returns-clause-calls
 returns-clause-calls g c =
-    let calls = subst (λ s. HasOpenCall s c.args.reading) (sym c.self.view_is) c.requires in
+    let calls = subst (λ s. HasOpenCall s c.args.reading) (sym c.self.view_is) c.requires.calls in
     on_ok_weaker c.deliver.result (λ made. delivered_open _ c.args.reading calls c.deliver.new.self made) c.deliver.ensures.ok
 
 pub returns-clause-goes : goal.returns-clause-goes
 returns-clause-goes g c =
-    let calls = subst (λ s. HasOpenCall s c.args.reading) (sym c.self.view_is) c.requires in
+    let calls = subst (λ s. HasOpenCall s c.args.reading) (sym c.self.view_is) c.requires.calls in
     on_ok_weaker c.deliver.result (λ made. inside_from _ c.args.self.now _ c.self.view_is (delivered_goes _ c.args.reading calls c.deliver.new.self made)) c.deliver.ensures.ok
 
+pub returns-clause-whole : goal.returns-clause-whole
+returns-clause-whole g c =
+    let calls = subst (λ s. HasOpenCall s c.args.reading) (sym c.self.view_is) c.requires.calls in
+    on_ok_weaker c.deliver.result (λ made. delivered_whole _ c.args.reading calls c.deliver.new.self made (subst IsWholeOut (sym c.self.view_is) c.requires.whole)) c.deliver.ensures.ok
+
 pub returns-clause-ended : goal.returns-clause-ended
-returns-clause-ended g c = nothing_breaks_if _ c.args.self.now c.deliver.new.self c.self.view_is c.deliver.result c.requires.track c.deliver.ensures.ended
+returns-clause-ended g c = nothing_breaks_if _ c.args.self.now c.deliver.new.self c.self.view_is c.deliver.result c.requires.calls.track c.deliver.ensures.ended

@@ -1,18 +1,18 @@
 use Rattle.std.proofs.Common.{◌≡◌, [], sym, subst, IfNone, IfSome}
 use Rattle.pc_desk.specs.Desk.{HasHeardFirst}
-use Rattle.pc_session.proofs.Hearing.{heard_goes, heard_open, may_hear_now}
+use Rattle.pc_session.proofs.Hearing.{heard_goes, heard_open, heard_whole, may_hear_now}
 use Rattle.pc_session.proofs.Inside.{inside_from, inside_still}
-use Rattle.pc_session.specs.InCall.{HasOpenCall}
+use Rattle.pc_session.specs.InCall.{HasOpenCall, IsWholeOut}
 use Rattle.std.proofs.lemmas.Result.{err_from_is_err_and}
 use Rattle.pc_session.proofs.Ending.{nothing_breaks}
 use Rattle.pc_session.proofs.office.Office.hear.Goals as goal
 
 pub hear-requires-clause-may : goal.hear-requires-clause-may
-hear-requires-clause-may g c = may_hear_now _ c.args.reading (subst (λ s. HasOpenCall s c.args.reading) (sym c.self.view_is) c.requires)
+hear-requires-clause-may g c = may_hear_now _ c.args.reading (subst (λ s. HasOpenCall s c.args.reading) (sym c.self.view_is) c.requires.calls) (subst IsWholeOut (sym c.self.view_is) c.requires.whole)
 
 pub returns-in-Ok-clause-calls : goal.returns-in-Ok-clause-calls
 returns-in-Ok-clause-calls g c =
-    let calls = subst (λ s. HasOpenCall s c.args.reading) (sym c.self.view_is) c.requires in
+    let calls = subst (λ s. HasOpenCall s c.args.reading) (sym c.self.view_is) c.requires.calls in
     let a = c.in-Some.answered in
     let took = subst (λ heard. IfSome heard (HasHeardFirst c.self.inside.desk c.hear.new.self)) c.in-Some.is c.in_ok-answered.ensures.ok in
     let e = c.in-Ok.ensures in
@@ -20,10 +20,16 @@ returns-in-Ok-clause-calls g c =
 
 pub returns-in-Ok-clause-goes : goal.returns-in-Ok-clause-goes
 returns-in-Ok-clause-goes g c =
-    let calls = subst (λ s. HasOpenCall s c.args.reading) (sym c.self.view_is) c.requires in
+    let calls = subst (λ s. HasOpenCall s c.args.reading) (sym c.self.view_is) c.requires.calls in
     let a = c.in-Some.answered in
     let took = subst (λ heard. IfSome heard (HasHeardFirst c.self.inside.desk c.hear.new.self)) c.in-Some.is c.in_ok-answered.ensures.ok in
     inside_from _ c.args.self.now _ c.self.view_is (heard_goes _ c.args.reading calls c.hear.new.self c.heard.new.self a took c.in-Ok.ensures.session)
+
+pub returns-in-Ok-clause-whole : goal.returns-in-Ok-clause-whole
+returns-in-Ok-clause-whole g c =
+    let calls = subst (λ s. HasOpenCall s c.args.reading) (sym c.self.view_is) c.requires.calls in
+    let took = subst (λ heard. IfSome heard (HasHeardFirst c.self.inside.desk c.hear.new.self)) c.in-Some.is c.in_ok-answered.ensures.ok in
+    heard_whole _ c.args.reading calls c.hear.new.self c.heard.new.self c.in-Some.answered took (subst IsWholeOut (sym c.self.view_is) c.requires.whole)
 
 pub returns-in-None-clause-goes : goal.returns-in-None-clause-goes
 returns-in-None-clause-goes g c =
@@ -33,4 +39,4 @@ returns-in-None-clause-goes g c =
 pub returns-in_err-answered-clause-ended : goal.returns-in_err-answered-clause-ended
 returns-in_err-answered-clause-ended g c =
     let p = err_from_is_err_and c.from_residual.result c.from_residual.ensures.1 in
-    rw (p.1, p.2) (nothing_breaks _ c.args.self.now c.hear.new.self c.self.view_is c.in_err-answered.field-0.0 c.requires.track c.in_err-answered.ensures.ended)
+    rw (p.1, p.2) (nothing_breaks _ c.args.self.now c.hear.new.self c.self.view_is c.in_err-answered.field-0.0 c.requires.calls.track c.in_err-answered.ensures.ended)

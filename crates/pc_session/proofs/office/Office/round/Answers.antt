@@ -2,6 +2,8 @@ use Rattle.std.proofs.Common.{◌≡◌, sym, subst, All}
 use Rattle.pc_coord.specs.Coordination.{next_of}
 use Rattle.pc_coord.specs.declared.next.Next.TheVariants as nexts
 use Rattle.pc_coord.specs.Knows.{MayCome}
+use Rattle.pc_exchange.proofs.Called.{all_heard_ever}
+use Rattle.pc_exchange.proofs.Waves.{ends_where_heard}
 use Rattle.pc_session.proofs.Inside.{inside_from}
 use Rattle.pc_session.proofs.Rounds.{may_round, round_goes, round_open}
 use Rattle.pc_session.specs.InCall.{HasOpenCall}
@@ -30,6 +32,7 @@ returns-in-Ok-clause-ok g c =
       round_open _ c.args.reading n c.args.conflict c.args.reader calls due met c.make_round.new.desk c.raise.new.self c.settled.new.self made.round made.ts made.ensures.ok c.raise.ensures e.knows e.waits e.session e.splits,
       inside_from _ c.args.self.now _ c.self.view_is
           (round_goes _ c.args.reading n c.args.conflict c.args.reader calls due met c.make_round.new.desk c.raise.new.self c.settled.new.self made.round made.ts made.ensures.ok c.raise.ensures e.session),
+      ends_where_heard c.make_round.new.desk.log.part.own (all_heard_ever c.make_round.new.desk made.ensures.ok.goes.back),
     )
 
 pub returns-in_err-round-clause-ended : goal.returns-in_err-round-clause-ended

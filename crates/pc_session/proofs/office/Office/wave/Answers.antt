@@ -1,14 +1,23 @@
 use Rattle.std.proofs.Common.{◌∙◌}
+use Rattle.pc_session.proofs.Hearing.{wave_ends}
+use Rattle.pc_session.proofs.WholeWave.{whole_wave}
 use Rattle.pc_session.proofs.Inside.{inside_both}
 use Rattle.std.proofs.lemmas.Result.{err_from_is_err_and}
 use Rattle.pc_session.proofs.Ending.{inside_breaks}
 use Rattle.pc_session.proofs.office.Office.wave.Goals as goal
 
+pub deliver-requires-clause-whole : goal.deliver-requires-clause-whole
+deliver-requires-clause-whole g c = whole_wave c.args.self.now c.args.reading c.requires.calls c.requires.due
+
 pub returns-then-not-branch-clause-ok : goal.returns-then-not-branch-clause-ok
-returns-then-not-branch-clause-ok g c = (c.in_ok-hear.ensures.calls, inside_both c.args.self.now _ c.hear.new.self c.loop.invariant.1 c.in_ok-hear.ensures.goes)
+returns-then-not-branch-clause-ok g c = (
+  c.in_ok-hear.ensures.calls,
+  inside_both c.args.self.now _ c.hear.new.self c.loop.invariant.1 c.in_ok-hear.ensures.goes,
+  wave_ends c.hear.new.self c.args.reading c.in_ok-hear.ensures.calls (c.in_ok-hear.ensures.posted ∙ c.loop.invariant.3) (c.in_ok-hear.ensures.none cc),
+)
 
 pub loop-preserved : goal.loop-preserved
-loop-preserved g c = (c.in_ok-hear.ensures.calls, inside_both c.args.self.now _ c.hear.new.self c.loop.invariant.1 c.in_ok-hear.ensures.goes, c.in_ok-hear.ensures.clock ∙ c.loop.invariant.2)
+loop-preserved g c = (c.in_ok-hear.ensures.calls, inside_both c.args.self.now _ c.hear.new.self c.loop.invariant.1 c.in_ok-hear.ensures.goes, c.in_ok-hear.ensures.clock ∙ c.loop.invariant.2, c.in_ok-hear.ensures.posted ∙ c.loop.invariant.3, c.in_ok-hear.ensures.whole)
 
 pub returns-in_err-hear-clause-ended : goal.returns-in_err-hear-clause-ended
 returns-in_err-hear-clause-ended g c =

@@ -1,0 +1,11 @@
+-- A scan is one wave: no reply to a piece of it is heard before all its pieces went out. Own profile.
+use Rattle.std.specs.Prelude.{◌≡◌, ℕ, Option, None, Some, List, ⊤}
+use Rattle.pc_proto.specs.Requests.{round_of}
+use Rattle.pc_world.specs.Follows.WaveOrder.{SentAllPieces}
+use Rattle.pc_world.specs.Known.{Known}
+use Rattle.pc_world.specs.Known.Traffic.{Heard}
+
+-- Where the reply that is heard is to no message of a conflict's round, and the open call scans, all its pieces were sent in it.
+abbrev pub HearsAllPieces : List (List ℕ) → Known → Option Heard → Type 0
+HearsAllPieces splits k None = ⊤
+HearsAllPieces splits k (Some h) = round_of h.request ≡ None → SentAllPieces splits k
