@@ -61,7 +61,7 @@ has_done v old after event same sends hears free track entered =
 pub hear_may : {C : Type 0} (old : DeskMeaning C) (a : Answered) (rest : List Answered) → KeepsTrack old → MayHearNow old → old.replies ≡ a ∷ rest → MayEnter old.log (events.Hear a.number a.step)
 hear_may old a rest track may first =
     let by = All-head (IsAnsweredBy old.log) a rest (subst (All (IsAnsweredBy old.log)) first track.answered) in
-    may_hear old.log a track.log by (unheard_yet old a rest track first) (may.each a by.range (subst (λ l. Contains l a) (sym first) (contains_head a rest)))
+    may_hear old.log a track.log by (unheard_yet old a rest track first) (may.each a rest by.range first)
 
 heard-at : {C : Type 0} (old : DeskMeaning C) (after : LogMeaning C) (a : Answered) (rest : List Answered) → KeepsTrack old → old.replies ≡ a ∷ rest → HasEntered old.log after (events.Hear a.number a.step)
     → HasHeardFirst old (record old { log = after; replies = rest }) a
@@ -99,7 +99,7 @@ desk_rest splits log g ws rest y whole desk = record {
   ready = All-tail (IsReadyToGo log.part.id log.head.splits) (g y) (map g rest) (subst (λ l. All (IsReadyToGo log.part.id log.head.splits) (map g l)) whole desk.ready);
 }
 
-module _ {C : Type 0} (old new : DeskMeaning C) (rest : List Posted) (m : Posted) (a : Answered) (note : List (KnownEntry Event)) (range : ℕ) (track : KeepsTrack old) (first : old.posted ≡ m ∷ rest) (to : a.number ≡ m.number)
+module _ {C : Type 0} (old new : DeskMeaning C) (rest : List Posted) (m : Posted) (a : Answered) (note : List (KnownEntry Event)) (range : ℕ) (track : KeepsTrack old) (first : old.posted ≡ m ∷ rest) (later : All (λ (p : Posted). m.number < p.number) rest) (to : a.number ≡ m.number)
     (tells : IsEvalNote old.log.part.id m.number range a.step a.reply note) (kept : HasKept (record old { posted = rest }) new a note) where
   -- What the note tells.
   abbrev told_of : KnownEntry Event
@@ -117,6 +117,9 @@ module _ {C : Type 0} (old new : DeskMeaning C) (rest : List Posted) (m : Posted
   replies-are : new.replies ≡ old.replies ++ a ∷ []
   replies-are = ap (λ (d : DeskMeaning C). d.replies) kept.kept
 
+  later-are : All (λ (p : Posted). m.number < p.number) new.posted
+  later-are = subst (All (λ (p : Posted). m.number < p.number)) (sym (ap (λ (d : DeskMeaning C). d.posted) kept.kept)) later
+
   own-is : new.log.part.own ≡ old.log.part.own
   own-is = ap (λ (d : DeskMeaning C). d.log.part.own) kept.kept
 
@@ -124,18 +127,18 @@ module _ {C : Type 0} (old new : DeskMeaning C) (rest : List Posted) (m : Posted
   delivered-at = record {
     own = ap (λ (d : DeskMeaning C). d.log) kept.kept ∙ ap (λ ks. record old.log { part = record old.log.part { known = ks } }) (sym (ap (λ (d : DeskMeaning C). d.log.part.known) kept.kept));
     sends = ap (λ (d : DeskMeaning C). d.sends) kept.kept;
-    track = track_delivered old new m a track posted-is replies-are to own-is range tells.place kept.log (ap (λ (d : DeskMeaning C). d.sends) kept.kept) (ap (λ (d : DeskMeaning C). d.log.part.id) kept.kept) knows-more
+    track = track_delivered old new m a track posted-is replies-are to later-are own-is range tells.place kept.log (ap (λ (d : DeskMeaning C). d.sends) kept.kept) (ap (λ (d : DeskMeaning C). d.log.part.id) kept.kept) knows-more
         (λ x there. subst (λ l. Contains l x) (sym knows-more) there) (subst (λ l. Contains l told_of) (sym knows-more) (Contains-push old.log.part.known told_of)) (ap (λ (d : DeskMeaning C). d.log.part.given) kept.kept);
-    way = way_delivered old new m a track posted-is replies-are to own-is;
+    way = way_delivered old new m a track posted-is replies-are to later-are own-is;
     more = λ x there. subst (λ l. Contains l x) (sym knows-more) (Contains-append_left old.log.part.known (told_of ∷ []) x there);
     limit = ap (λ (d : DeskMeaning C). d.range_limit) kept.kept;
   }
 
-pub has_delivered : {C : Type 0} (v old new : DeskMeaning C) (rest : List Posted) (m : Posted) (a : Answered) (note : List (KnownEntry Event)) (sender : ActorId) (range : ℕ) → v ≡ old → KeepsTrack old → v.posted ≡ m ∷ rest → sender ≡ v.log.part.id → a.number ≡ m.number
+pub has_delivered : {C : Type 0} (v old new : DeskMeaning C) (rest : List Posted) (m : Posted) (a : Answered) (note : List (KnownEntry Event)) (sender : ActorId) (range : ℕ) → v ≡ old → KeepsTrack old → v.posted ≡ m ∷ rest → All (λ (p : Posted). m.number < p.number) rest → sender ≡ v.log.part.id → a.number ≡ m.number
     → IsEvalNote sender m.number range a.step a.reply note → HasKept (record v { posted = rest }) new a note → HasDelivered old new
-has_delivered v old new rest m a note sender range same track first whose to tells kept =
+has_delivered v old new rest m a note sender range same track first later whose to tells kept =
     subst (λ d. d.posted ≡ m ∷ rest → IsEvalNote d.log.part.id m.number range a.step a.reply note → HasKept (record d { posted = rest }) new a note → HasDelivered old new) (sym same)
-    (λ f t k. delivered-at old new rest m a note range track f to t k) first (subst (λ i. IsEvalNote i m.number range a.step a.reply note) whose tells) kept
+    (λ f t k. delivered-at old new rest m a note range track f later to t k) first (subst (λ i. IsEvalNote i m.number range a.step a.reply note) whose tells) kept
 
 -- nothing was delivered yet
 pub delivers_none : {C : Type 0} (d : DeskMeaning C) → KeepsTrack d → HasDelivered d d
@@ -343,6 +346,7 @@ took-at {C} old after note took track =
       answered = All-weaker (IsAnsweredBy old.log) (IsAnsweredBy after)
           (λ a. answered_on old.log after a (ap (λ (l : LogMeaning C). l.part.id) took.told_this) (λ r said. subst (λ (k : Known). request_sent a.number k.sent ≡ Some r) (sym same) said)
           (λ x there. subst (λ ks. Contains ks x) (sym (ap (λ (l : LogMeaning C). l.part.known) took.told_this)) (Contains-append_left old.log.part.known note x there))) old.replies track.answered;
+      turn = track.turn;
       given = gives_same old.log.part after.part own (ap (λ (l : LogMeaning C). l.part.given) took.told_this) track.given;
     }
 

@@ -57,6 +57,7 @@ ask_keeps (actors.Session number) splits pipelining own call reading = record {
   waves = tt;
   pieces = tt;
   refresh_wave = tt;
+  oldest = tt;
 }
 ask_keeps (actors.Recoverer number) splits pipelining own call reading = tt
 ask_keeps (actors.Range range) splits pipelining own call reading = tt

@@ -1,6 +1,7 @@
 pub mod Counting
 pub mod Entering
 pub mod Making
+pub mod Turns
 pub mod Tracking
 pub mod Logging
 pub mod Halting

@@ -1,5 +1,5 @@
 -- Each message stands at one stage still, once one more was sent, evaluated or heard.
-use Rattle.std.proofs.Common.{◌≡◌, ℕ, ◌+◌, ◌-◌, ◌≤◌, nat_lt, slice_index, slice_set, Bool, true, false, ◌&&◌, ◌||◌, ◌==◌, not, All, Contains, List, [], ◌∷◌, ◌++◌, length, count_by, ◌⊎◌, inl, inr, Some, refl, sym, ap, subst, ◌∙◌, arith, length-append}
+use Rattle.std.proofs.Common.{◌≡◌, ℕ, ◌+◌, ◌-◌, ◌<◌, ◌≤◌, nat_lt, slice_index, slice_set, Bool, true, false, ◌&&◌, ◌||◌, ◌==◌, not, All, Contains, List, [], ◌∷◌, ◌++◌, length, count_by, ◌⊎◌, inl, inr, Some, refl, sym, ap, subst, ◌∙◌, arith, length-append}
 use Rattle.std.proofs.lemmas.Bool.{eqb-true}
 use Rattle.std.proofs.lemmas.Bool.Decides.{nat_tests}
 use Rattle.std.proofs.lemmas.List.Elements.{All-contains, All-head, All-push, All-tail, All-weaker, Contains-append_left, Contains-push}
@@ -8,8 +8,9 @@ use Rattle.std.specs.List.{list_any}
 use Rattle.pc_base.specs.declared.actor.ActorId.{ActorId}
 use Rattle.pc_desk.proofs.Counting.{any_counts, none_beyond, said_more, said_new}
 use Rattle.pc_desk.proofs.Making.{added, own_after, heard_more, heard_then, known_still, message_of, reply_of, sent_still, sent_then}
+use Rattle.pc_desk.proofs.Turns.{replies_below, turn_delivered, turn_heard}
 use Rattle.pc_desk.specs.declared.answered.Answered.{Answered}
-use Rattle.pc_desk.specs.Desk.{DeskMeaning, GivesOnce, IsAnsweredBy, IsOneSent, KeepsTrack, Posted, answered_as, heard_as_number, is_on_way, posted_as, posting, times_sent}
+use Rattle.pc_desk.specs.Desk.{AreInTurn, DeskMeaning, GivesOnce, IsAnsweredBy, IsOneSent, KeepsTrack, Posted, WaitInTurn, answered_as, heard_as_number, is_on_way, posted_as, posting, times_sent}
 use Rattle.pc_desk.specs.OwnLog.{HasEntered, IsOwnLog, LogMeaning}
 use Rattle.pc_history.specs.declared.pair.Pair.{Pair}
 use Rattle.pc_history.specs.declared.view.Known.{Known as KnownEntry}
@@ -138,6 +139,14 @@ module _ {C : Type 0} (old new : DeskMeaning C) (sent : LogMeaning C) (number ra
         (All-weaker (IsAnsweredBy old.log) (IsAnsweredBy new.log)
         (λ a. answered_on old.log new.log a (id ∙ ap (λ (l : LogMeaning C). l.part.id) entered.stored) (says-on a.number)
         (λ x there. subst (λ ks. Contains ks x) (sym (known ∙ ap (λ (l : LogMeaning C). l.part.known) entered.stored)) there)) old.replies track.answered);
+    turn = record {
+      rising = subst AreInTurn (sym replies) track.turn.rising;
+      behind = all_from_contains (λ (x : Posted). All (λ (a : Answered). a.number < x.number) new.replies) new.posted (λ x there.
+      subst (All (λ (a : Answered). a.number < x.number)) (sym replies) (elim (all x there) [
+        | inl before ↦ All-contains (λ (x : Posted). All (λ (a : Answered). a.number < x.number) old.replies) old.posted x track.turn.behind before
+        | inr now ↦ subst (λ (x : Posted). All (λ (a : Answered). a.number < x.number) old.replies) now (replies_below old number track (omega (arith, next)))
+      ]));
+    };
     given = gives_one old.log.part sent.part new.log.part (added old.log sent (events.Send number range request) entered) (own_after old.log sent (events.Send number range request) entered) (ap (λ (l : LogMeaning C). l.part.given) entered.stored) gives track.given;
   }
 
@@ -164,7 +173,7 @@ module _ {C : Type 0} (old new : DeskMeaning C) (sent : LogMeaning C) (number ra
 
 -- ---- a message is evaluated
 
-module _ {C : Type 0} (old new : DeskMeaning C) (m : Posted) (a : Answered) (track : KeepsTrack old) (first : old.posted ≡ m ∷ new.posted) (pushed : new.replies ≡ old.replies ++ a ∷ []) (to : a.number ≡ m.number) (own : new.log.part.own ≡ old.log.part.own) where
+module _ {C : Type 0} (old new : DeskMeaning C) (m : Posted) (a : Answered) (track : KeepsTrack old) (first : old.posted ≡ m ∷ new.posted) (pushed : new.replies ≡ old.replies ++ a ∷ []) (to : a.number ≡ m.number) (later : All (λ (p : Posted). m.number < p.number) new.posted) (own : new.log.part.own ≡ old.log.part.own) where
   posted-count : (n : ℕ) → posted_as n old.posted ≡ one_if (m.number == n) + posted_as n new.posted
   posted-count n = ap (posted_as n) first ∙ count-cons (λ (x : Posted). x.number == n) m new.posted
 
@@ -204,6 +213,7 @@ module _ {C : Type 0} (old new : DeskMeaning C) (m : Posted) (a : Answered) (tra
           said = subst (λ (k : Known). request_sent a.number k.sent ≡ Some m.request) (sym same-known) (subst (λ n. request_sent n (known_of old.log.part.own).sent ≡ Some m.request) (sym to) first-said);
           knows = subst (λ (i : ActorId). Contains new.log.part.known (record { entry = evaluation a.step range i a.number a.reply; place = place; uses = 0 })) (sym id) there;
         }));
+    turn = subst (λ rs. WaitInTurn rs new.posted) (sym pushed) (turn_delivered m new.posted old.replies a to later (subst (WaitInTurn old.replies) first track.turn));
     given = gives_same old.log.part new.log.part own given track.given;
   }
 
@@ -258,6 +268,7 @@ module _ {C : Type 0} (old new : DeskMeaning C) (a : Answered) (track : KeepsTra
         (λ x. answered_on old.log new.log x (ap (λ (l : LogMeaning C). l.part.id) entered.stored) (λ r said. subst (λ (xs : List Sent). request_sent x.number xs ≡ Some r) (sym sent-same) said)
         (λ e there. subst (λ ks. Contains ks e) (sym (known_still old.log new.log a track.log by entered)) there)) new.replies
         (All-tail (IsAnsweredBy old.log) a new.replies (subst (All (IsAnsweredBy old.log)) first track.answered));
+    turn = subst (WaitInTurn new.replies) (sym posted) (turn_heard a new.replies old.posted (subst (λ rs. WaitInTurn rs old.posted) first track.turn));
     given = gives_none old.log.part new.log.part (added old.log new.log (events.Hear a.number a.step) entered) (own_after old.log new.log (events.Hear a.number a.step) entered) (ap (λ (l : LogMeaning C). l.part.given) entered.stored) track.given;
   }
 
@@ -316,5 +327,6 @@ track_done old new event track entered rest sent heard known =
           (All-weaker (IsAnsweredBy old.log) (IsAnsweredBy new.log)
           (λ x. answered_on old.log new.log x (ap (λ l. l.part.id) entered.stored) (λ r said. subst (λ (xs : List Sent). request_sent x.number xs ≡ Some r) (sym sent) said)
           (λ e there. subst (λ ks. Contains ks e) (sym known) there)) old.replies track.answered);
+      turn = subst (λ ps. WaitInTurn new.replies ps) (sym posted) (subst (λ rs. WaitInTurn rs old.posted) (sym replies) track.turn);
       given = gives_none old.log.part new.log.part (added old.log new.log event entered) (own_after old.log new.log event entered) (ap (λ l. l.part.given) entered.stored) track.given;
     }

@@ -129,8 +129,18 @@ as_sent m = record { number = m.number; range = m.range; request = m.request }
 abbrev pub IsOneSent : List Sent → Posted → Type 0
 IsOneSent sent m = Contains sent (as_sent m)
 
+-- The replies are to messages of rising numbers.
+abbrev pub AreInTurn : List Answered → Type 0
+AreInTurn [] = Unit {0}
+AreInTurn (a ∷ replies) = All (λ later. a.number < later.number) replies × AreInTurn replies
+
+-- The replies wait in the order of their messages' numbers, which are below those of all messages that wait to be evaluated.
+pub record WaitInTurn (replies : List Answered) (posted : List Posted) : Type 0 where
+  pub rising : AreInTurn replies
+  pub behind : All (λ m. All (λ a. a.number < m.number) replies) posted
+
 -- Each message that the actor sent stands at one stage, and no other does at any: it waits to be evaluated, or its reply to be heard, or
--- that was heard. What waits says what was sent; and of no entry more than one use was given.
+-- that was heard. What waits says what was sent, and is in turn; and of no entry more than one use was given.
 pub record KeepsTrack {C : Type 0} (d : DeskMeaning C) : Type 0 where
   pub log : IsOwnLog d.log
   pub counted : d.sends ≡ length (known_of d.log.part.own).sent
@@ -140,6 +150,7 @@ pub record KeepsTrack {C : Type 0} (d : DeskMeaning C) : Type 0 where
   pub posted : All (λ m. request_sent m.number (known_of d.log.part.own).sent ≡ Some m.request) d.posted
   pub waits : All (IsOneSent (known_of d.log.part.own).sent) d.posted
   pub answered : All (IsAnsweredBy d.log) d.replies
+  pub turn : WaitInTurn d.replies d.posted
   pub given : GivesOnce d.log.part
 
 -- The message of the least number was taken from those that wait, and nothing else was done.
@@ -210,7 +221,7 @@ pub record HasDelivered {C : Type 0} (old new : DeskMeaning C) : Type 0 where
 -- The reply that has waited longest may be heard now as the actor's work has it.
 pub record MayHearNow {C : Type 0} (d : DeskMeaning C) : Type 0 where
   pub each :
-      (a : Answered) (range : ℕ) → Contains d.replies a
+      (a : Answered) (rest : List Answered) (range : ℕ) → d.replies ≡ a ∷ rest
       → KeepsNext d.log.part.id d.log.head.splits d.log.pipelining d.log.part.own (events.Hear a.number a.step) (Some (evaluation a.step range d.log.part.id a.number a.reply))
 
 -- The reply that had waited longest was heard.

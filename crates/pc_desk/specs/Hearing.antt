@@ -1,11 +1,12 @@
--- What is heard when a call is told its answer: the replies to all messages sent in it, but with pipelining that to its own put. Own
--- profile.
-use Rattle.std.specs.Prelude.{◌≡◌, Bool, true, false, ◌⊎◌, Some, All, IsTrue, ⊤}
+-- What is heard when a call is told its answer: the replies to all messages sent in it, but with pipelining that to its own put. And replies
+-- are heard in the order of their messages. Own profile.
+use Rattle.std.specs.Prelude.{◌≡◌, Bool, true, false, ◌⊎◌, Option, None, Some, All, IsTrue, ⊤}
 use Rattle.pc_proto.specs.declared.event.Event.{Event}
 use Rattle.pc_proto.specs.declared.event.Event.TheVariants as events
+use Rattle.pc_world.specs.Follows.WaveOrder.{IsOldestUnheard}
 use Rattle.pc_world.specs.Known.{Known, open_txn}
 use Rattle.pc_world.specs.Known.Statements.{Statement}
-use Rattle.pc_world.specs.Known.Traffic.{Sent}
+use Rattle.pc_world.specs.Known.Traffic.{Heard, Sent}
 use Rattle.pc_world.specs.Known.Transactions.{Txn}
 use Rattle.pc_world.specs.Tell.Data.{IsFirstPut}
 use Rattle.pc_world.specs.Tell.Refusal.{is_heard}
@@ -28,3 +29,8 @@ abbrev pub HearsAll : Bool → Known → Event → Type 0
 HearsAll pipelining k (events.Tell answer) =
     All (λ m. IsTrue (is_heard k.heard_now m) ⊎ MayStayUnheard pipelining k m) k.sent_now
 HearsAll pipelining k _ = ⊤
+
+-- A reply that is heard is to the oldest message that was not heard, a put in flight aside.
+abbrev pub HearsOldest : Known → Option Heard → Type 0
+HearsOldest k None = ⊤
+HearsOldest k (Some h) = IsOldestUnheard k h.number

@@ -5,7 +5,7 @@ use Rattle.pc_base.specs.declared.actor.ActorId.{ActorId}
 use Rattle.pc_base.specs.declared.actor.ActorId.TheVariants as actors
 use Rattle.pc_base.specs.declared.entry.Entry.{Entry}
 use Rattle.pc_desk.specs.Asks.{ReadsClock, asks_in}
-use Rattle.pc_desk.specs.Hearing.{HearsAll}
+use Rattle.pc_desk.specs.Hearing.{HearsAll, HearsOldest}
 use Rattle.pc_desk.specs.PastEighth.{GoesNotPastEighth}
 use Rattle.pc_desk.specs.WholeScan.{HearsAllPieces}
 use Rattle.pc_history.specs.declared.pair.Pair.{Pair}
@@ -40,6 +40,7 @@ pub record KeepsSessionStep (splits : List (List ℕ)) (pipelining : Bool) (own 
   pub waves : SendsInWave own event
   pub pieces : HearsAllPieces splits (known_of own) h
   pub refresh_wave : RefreshesInOneWave (known_of own) h
+  pub oldest : HearsOldest (known_of own) h
 
 -- What the next event of this actor keeps.
 abbrev pub KeepsAs : ActorId → List (List ℕ) → Bool → List (Pair Event) → Event → Option Heard → Type 0

@@ -8,6 +8,7 @@ use Rattle.pc_base.specs.declared.actor.ActorId.TheVariants as actors
 use Rattle.pc_base.specs.declared.entry.Entry.{Entry}
 use Rattle.pc_desk.proofs.Counting.{said_new}
 use Rattle.pc_desk.proofs.Making.{added, known_after_it, sent_then}
+use Rattle.pc_desk.proofs.Turns.{oldest_waits}
 use Rattle.pc_desk.specs.declared.answered.Answered.{Answered}
 use Rattle.pc_desk.specs.declared.halt.Halt.{Halt}
 use Rattle.pc_desk.specs.declared.halt.Halt.TheVariants as halts
@@ -41,7 +42,7 @@ use Rattle.pc_world.specs.Follows.PipelinedPuts.{IsPutWaitedFor}
 use Rattle.pc_turns.specs.Order.{IsInBetween, events_of}
 use Rattle.pc_world.specs.Follows.CallMessages.{IsOfRound}
 use Rattle.pc_world.specs.Follows.Refreshes.{IsOfWholeRefresh}
-use Rattle.pc_world.specs.Follows.WaveOrder.{IsScanOf, SentAllPieces}
+use Rattle.pc_world.specs.Follows.WaveOrder.{IsOldestUnheard, IsScanOf, SentAllPieces}
 use Rattle.pc_world.specs.Known.{Known, call_in, known_of, next_number}
 use Rattle.pc_world.specs.Known.Statements.{Statement}
 use Rattle.pc_world.specs.Known.Traffic.{Heard, Sent, heard_as, request_sent}
@@ -66,8 +67,8 @@ whole-scan splits k request round none span asked = by k.statement refl asked
     by (Some s) is e = let r = round s is in let both : None ≡ Some r.0 = sym none ∙ r.1 in absurd cc
 
 hears-as : (id : ActorId) (splits : List (List ℕ)) (pipelining : Bool) (own : List (Pair Event)) (number step : ℕ) (h : Heard) → is_put h.request ≡ false → is_refresh h.request ≡ false
-    → ((s : Statement) → (known_of own).statement ≡ Some s → IsOfRound h.request) → KeepsAs id splits pipelining own (events.Hear number step) (Some h)
-hears-as (actors.Session session) splits pipelining own number step h none no_refresh round = record {
+    → ((s : Statement) → (known_of own).statement ≡ Some s → IsOfRound h.request) → IsOldestUnheard (known_of own) h.number → KeepsAs id splits pipelining own (events.Hear number step) (Some h)
+hears-as (actors.Session session) splits pipelining own number step h none no_refresh round oldest = record {
   wire = tt;
   early_tell = tt;
   early_proof = λ asked staged. none;
@@ -83,9 +84,10 @@ hears-as (actors.Session session) splits pipelining own number step h none no_re
   waves = tt;
   pieces = whole-scan splits (known_of own) h.request round;
   refresh_wave = whole-refresh (known_of own) h.request no_refresh;
+  oldest = oldest;
 }
-hears-as (actors.Recoverer recoverer) splits pipelining own number step h none no_refresh round = tt
-hears-as (actors.Range range) splits pipelining own number step h none no_refresh round = tt
+hears-as (actors.Recoverer recoverer) splits pipelining own number step h none no_refresh round oldest = tt
+hears-as (actors.Range range) splits pipelining own number step h none no_refresh round oldest = tt
 
 or-right : (b c : Bool) → c ≡ true → (b || c) ≡ true
 or-right true c is = refl
@@ -152,12 +154,13 @@ module _ {C : Type 0} (old mid late : DeskMeaning C) (request : Request) (number
   -- it may be heard
   pub may_hear_it : MayHearNow late
   may_hear_it = record {
-    each = λ a range there.
+    each = λ a rest range first.
+        let there : Contains late.replies a = subst (λ rs. Contains rs a) (sym first) (contains_head a rest) in
         let said : request_sent a.number (known_of late.log.part.own).sent ≡ Some request = ap (λ n. request_sent n (known_of late.log.part.own).sent) (replies_to_it a there) ∙ said-late in
         let h : Heard = record { number = a.number; request = request; reply = a.reply; step = a.step } in
         let brings : heard_as a.number a.step (request_sent a.number (known_of late.log.part.own).sent) (Some a.reply) ≡ Some h = ap (λ r. heard_as a.number a.step r (Some a.reply)) said in
         subst (KeepsAs late.log.part.id late.log.head.splits late.log.pipelining late.log.part.own (events.Hear a.number a.step)) (sym brings)
-        (hears-as late.log.part.id late.log.head.splits late.log.pipelining late.log.part.own a.number a.step h may.no_put may.no_refresh (λ s opened. may.round s (sym statement-late ∙ opened)));
+        (hears-as late.log.part.id late.log.head.splits late.log.pipelining late.log.part.own a.number a.step h may.no_put may.no_refresh (λ s opened. may.round s (sym statement-late ∙ opened)) (oldest_waits late a rest delivered.track first));
   }
 
   module _ (new : DeskMeaning C) (a : Answered) (heard : HasHeardFirst late new a) where

@@ -82,6 +82,7 @@ sends-as id session splits pipelining own number range request whose kind t ends
       waves = ends;
       pieces = tt;
       refresh_wave = tt;
+      oldest = tt;
     })
 
 no-stage : (request : Request) → is_of_round_or_job request ≡ true → IsNoStage request

@@ -7,6 +7,7 @@ use Rattle.pc_coord.specs.Coordination.{Coordination, awaits_number}
 use Rattle.pc_coord.specs.Events.{HearsAwaited}
 use Rattle.pc_coord.specs.Knows.{Knows}
 use Rattle.pc_desk.proofs.Making.{added, known_after_it}
+use Rattle.pc_desk.proofs.Turns.{oldest_waits}
 use Rattle.pc_desk.specs.declared.answered.Answered.{Answered}
 use Rattle.pc_desk.specs.Desk.{DeskMeaning, HasDelivered, HasHeardFirst, IsAnsweredBy, MayHearNow, Posted, is_on_way}
 use Rattle.pc_desk.specs.Keeping.{KeepsSessionStep}
@@ -110,14 +111,16 @@ module _ {C : Type 0} (old : SessionMeaning C) (reading : ℕ) (calls : HasOpenC
   -- each reply that waits may be heard
   pub may_hear_now : IsWholeOut old → MayHearNow old.desk
   may_hear_now whole = record {
-    each = λ a range there.
+    each = λ a rest range first.
+        let there : Contains old.desk.replies a = subst (λ rs. Contains rs a) (sym first) (contains_head a rest) in
         let by = by-it a there in
         let h : Heard = record { number = a.number; request = by.request; reply = a.reply; step = a.step } in
         let brings : heard_as a.number a.step (request_sent a.number k.sent) (Some a.reply) ≡ Some h = ap (λ (r : Option Request). heard_as a.number a.step r (Some a.reply)) by.said in
         keeps_as old.desk.log.part.id old.coordinator.session old.desk.log.head.splits old.desk.log.pipelining old.desk.log.part.own (events.Hear a.number a.step) (heard_as a.number a.step (request_sent a.number k.sent) (Some a.reply)) calls.one.whose calls.one.unpiped
         (subst (KeepsSessionStep old.desk.log.head.splits false old.desk.log.part.own (events.Hear a.number a.step)) (sym brings)
         (keeps_heard old.desk.log.head.splits old.desk.log.part.own a.number a.step h (for-call a there) whole.pieces
-        (whole.refreshes a.number by.request (or_right (list_any (λ (m : Posted). m.number == a.number) old.desk.posted) (list_any (λ (x : Answered). x.number == a.number) old.desk.replies) (answered-any old.desk.replies a there)) by.said)));
+        (whole.refreshes a.number by.request (or_right (list_any (λ (m : Posted). m.number == a.number) old.desk.posted) (list_any (λ (x : Answered). x.number == a.number) old.desk.replies) (answered-any old.desk.replies a there)) by.said)
+        (oldest_waits old.desk a rest calls.track first)));
   }
 
   module _ (d : DeskMeaning C) (c : Coordination) (a : Answered) (heard : HasHeardFirst old.desk d a) where

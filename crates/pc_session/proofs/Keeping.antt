@@ -24,7 +24,7 @@ use Rattle.pc_world.specs.Follows.Eighth.{IsBeforeEighth}
 use Rattle.pc_world.specs.Follows.PipelinedPuts.{IsPutWaitedFor}
 use Rattle.pc_world.specs.Follows.Resends.{AreAnsweredNow, MayGoAgain}
 use Rattle.pc_world.specs.Follows.Refreshes.{IsOfWholeRefresh}
-use Rattle.pc_world.specs.Follows.WaveOrder.{EndsWaves, SentAllPieces}
+use Rattle.pc_world.specs.Follows.WaveOrder.{EndsWaves, IsOldestUnheard, SentAllPieces}
 use Rattle.pc_world.specs.Known.{Known, call_in, known_of}
 use Rattle.pc_world.specs.Known.Statements.{Statement}
 use Rattle.pc_world.specs.Known.Traffic.{Heard}
@@ -101,6 +101,7 @@ keeps_sent cut own number range request splits session may answered ends = recor
   waves = ends;
   pieces = tt;
   refresh_wave = tt;
+  oldest = tt;
 }
 
 -- a put that is answered is one for which its call waits
@@ -152,9 +153,9 @@ asked_is : (k : Known) (s : Statement) (call : Call) → k.statement ≡ Some s 
 asked_is k s call opened asked = let e : Some s.call ≡ Some call = sym (ap call_in opened) ∙ asked in cc
 
 -- a reply to such a message is heard
-pub keeps_heard : (cut : List (List ℕ)) (own : List (Pair Event)) (number step : ℕ) (h : Heard) → IsForCall (known_of own) h.request → SentAllPieces cut (known_of own) → IsOfWholeRefresh (known_of own) h.request
+pub keeps_heard : (cut : List (List ℕ)) (own : List (Pair Event)) (number step : ℕ) (h : Heard) → IsForCall (known_of own) h.request → SentAllPieces cut (known_of own) → IsOfWholeRefresh (known_of own) h.request → IsOldestUnheard (known_of own) h.number
     → KeepsSessionStep cut false own (events.Hear number step) (Some h)
-keeps_heard cut own number step h kind pieces whole = record {
+keeps_heard cut own number step h kind pieces whole oldest = record {
   wire = tt;
   early_tell = tt;
   early_proof = λ asked none. no_put h.request (subst (λ call. IsFor call h.request) (asked_is (known_of own) kind.s calls.Commit kind.opened asked) kind.kind);
@@ -170,6 +171,7 @@ keeps_heard cut own number step h kind pieces whole = record {
   waves = tt;
   pieces = λ none. pieces;
   refresh_wave = whole;
+  oldest = oldest;
 }
 
 -- an answer is told
@@ -193,4 +195,5 @@ keeps_told cut own c answer may all ever =
       waves = tt;
       pieces = tt;
       refresh_wave = tt;
+      oldest = tt;
     }

@@ -27,7 +27,8 @@ returns-in-Ok-clause-ok g c =
     let r = c.in-Ok.reply in
     on_ok_weaker c.keep.result
     (λ kept. has_delivered _ c.args.self.now c.keep.new.self _ (posting m.number m.range m.request (uses_left m.note.known)) (record { number = r.number; step = r.step; reply = r.reply }) r.note.known m.sender m.range
-    c.self.view_is c.requires.track (ap (map _) c.in-Some.ensures.taken.whole) (desk_first _ _ _ _ _ _ c.in-Some.ensures.taken.whole c.self.invariant.0).whose c.in-Ok.ensures.told.0 c.in-Ok.ensures.told.1 kept) c.keep.ensures.ok
+    c.self.view_is c.requires.track (ap (map _) c.in-Some.ensures.taken.whole)
+    (taken_first _ c.args.self.now _ _ _ _ _ c.self.view_is refl c.in-Some.ensures.taken.whole c.self.invariant.0 c.in-Some.ensures.taken.rises).later (desk_first _ _ _ _ _ _ c.in-Some.ensures.taken.whole c.self.invariant.0).whose c.in-Ok.ensures.told.0 c.in-Ok.ensures.told.1 kept) c.keep.ensures.ok
 
 pub returns-in-Err-clause-ended : goal.returns-in-Err-clause-ended
 returns-in-Err-clause-ended g c =
