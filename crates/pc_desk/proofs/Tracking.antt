@@ -142,10 +142,10 @@ module _ {C : Type 0} (old new : DeskMeaning C) (sent : LogMeaning C) (number ra
     turn = record {
       rising = subst AreInTurn (sym replies) track.turn.rising;
       behind = all_from_contains (λ (x : Posted). All (λ (a : Answered). a.number < x.number) new.replies) new.posted (λ x there.
-      subst (All (λ (a : Answered). a.number < x.number)) (sym replies) (elim (all x there) [
-        | inl before ↦ All-contains (λ (x : Posted). All (λ (a : Answered). a.number < x.number) old.replies) old.posted x track.turn.behind before
-        | inr now ↦ subst (λ (x : Posted). All (λ (a : Answered). a.number < x.number) old.replies) now (replies_below old number track (omega (arith, next)))
-      ]));
+          subst (All (λ (a : Answered). a.number < x.number)) (sym replies) (elim (all x there) [
+            | inl before ↦ All-contains (λ (x : Posted). All (λ (a : Answered). a.number < x.number) old.replies) old.posted x track.turn.behind before
+            | inr now ↦ subst (λ (x : Posted). All (λ (a : Answered). a.number < x.number) old.replies) now (replies_below old number track (omega (arith, next)))
+          ]));
     };
     given = gives_one old.log.part sent.part new.log.part (added old.log sent (events.Send number range request) entered) (own_after old.log sent (events.Send number range request) entered) (ap (λ (l : LogMeaning C). l.part.given) entered.stored) gives track.given;
   }

@@ -29,8 +29,8 @@ turn_delivered m posted replies a to later turn =
     record {
       rising = push_turn replies a (subst (λ n. All (λ (b : Answered). b.number < n) replies) (sym to) (All-head B m posted turn.behind)) turn.rising;
       behind = all_from_contains (λ (p : Posted). All (λ (b : Answered). b.number < p.number) (replies ++ a ∷ [])) posted (λ p there.
-      All-push (λ (b : Answered). b.number < p.number) replies a (All-contains B posted p (All-tail B m posted turn.behind) there)
-      (let low : m.number < p.number = All-contains (λ (p : Posted). m.number < p.number) posted p later there in omega (arith, low, to)));
+          All-push (λ (b : Answered). b.number < p.number) replies a (All-contains B posted p (All-tail B m posted turn.behind) there)
+          (let low : m.number < p.number = All-contains (λ (p : Posted). m.number < p.number) posted p later there in omega (arith, low, to)));
     }
 
 -- the first reply was heard
@@ -93,8 +93,8 @@ oldest_waits d a rest track first = all_from_contains (λ (m : Sent). m.number <
         let n = m.number in
         let some : 1 ≤ times_sent n k = counts_any (λ (x : Sent). x.number == n) k.sent (there-sent k.sent m there) in
         let posted : posted_as n d.posted ≡ 0 = none-below (λ (p : Posted). p.number) n d.posted
-            (All-weaker (λ (p : Posted). All (λ (b : Answered). b.number < p.number) (a ∷ rest)) (λ (p : Posted). n < p.number)
-            (λ p below. let first_below : a.number < p.number = All-head (λ (b : Answered). b.number < p.number) a rest below in omega (arith, low, first_below)) d.posted turn.behind) in
+        (All-weaker (λ (p : Posted). All (λ (b : Answered). b.number < p.number) (a ∷ rest)) (λ (p : Posted). n < p.number)
+        (λ p below. let first_below : a.number < p.number = All-head (λ (b : Answered). b.number < p.number) a rest below in omega (arith, low, first_below)) d.posted turn.behind) in
         let differ : (a.number == n) ≡ false = grind (arith, nat_tests) in
         let later : answered_as n rest ≡ 0 = none-below (λ (b : Answered). b.number) n rest (All-weaker (λ (b : Answered). a.number < b.number) (λ (b : Answered). n < b.number) (λ b above. omega (arith, low, above)) rest turn.rising.0) in
         let replies : answered_as n d.replies ≡ one_if (a.number == n) + answered_as n rest = ap (answered_as n) first ∙ count-cons (λ (b : Answered). b.number == n) a rest in
