@@ -1,0 +1,6 @@
+use Rattle.std.proofs.Common.{ℕ, ◌≤◌, All, Any, IsTrue, take}
+use Rattle.pc_world.specs.Known.Writes.{IsProvedBy, Write}
+use Rattle.pc_knowledge.proofs.kinds.are_proved_by.Given as goal
+
+abbrev pub invariant-loop-write : goal.invariant-loop-write
+invariant-loop-write l = All (IsProvedBy l.ts) (take l.write-index l.writes)
