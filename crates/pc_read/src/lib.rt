@@ -20,6 +20,7 @@ mod view;
 
 pub use answer::AnswerRef;
 pub use call::CallRef;
+pub use cut::cut as cut_first;
 pub use event::{EntryRef, EventRef};
 pub use laws::{journals_are_read, journals_are_spelled, reports_are_read, reports_are_spelled};
 pub use lines::{HeadRef, LineRef, Lines, Malformed};

@@ -1,0 +1,5 @@
+pub mod Shapes
+pub mod Bodies
+pub mod Differences
+pub mod ReportText
+pub mod Found
