@@ -1,9 +1,8 @@
 -- The first line that is not as in a text that is made of lines.
-use Rattle.std.proofs.Common.{◌≡◌, ◌≢◌, ◌⊎◌, ℕ, ◌+◌, ◌<◌, ◌≤◌, true, List, [], ◌∷◌, ◌++◌, length, take, drop, length-append, Option, None, Some, refl, sym, ap, subst, ◌∙◌, append_assoc, inl, inr, arith, All, slice_get}
-use Rattle.std.specs.List.{flat_map, list_all}
+use Rattle.std.proofs.Common.{◌≡◌, ◌≢◌, ◌⊎◌, ℕ, ◌+◌, ◌<◌, true, List, [], ◌∷◌, ◌++◌, length, take, drop, length-append, None, Some, refl, sym, ap, subst, ◌∙◌, append_assoc, inl, inr, arith, slice_get}
+use Rattle.std.specs.List.{list_all}
 use Rattle.std.proofs.lemmas.List.{append-nil, drop_all, drop_more, take-append-drop, take_all, take_more}
 use Rattle.std.proofs.lemmas.Option.{get_or_from_slice_get, same_Some, slice_get_cases, slice_get_past, slice_get_within, none-some}
-use Rattle.pc_journal.specs.Side.{◌⏎◌}
 use Rattle.pc_spelling.proofs.Cuts.{cut_at}
 use Rattle.pc_spelling.specs.Bytes.{is_line_byte}
 use Rattle.pc_spelling.specs.Cutting.{cut}

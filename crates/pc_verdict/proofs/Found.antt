@@ -1,12 +1,11 @@
 -- What was read of a text, and what is found of it.
-use Rattle.std.proofs.Common.{◌≡◌, ℕ, ◌+◌, ◌^◌, ◌<◌, ◌≤◌, List, [], ◌∷◌, ◌++◌, map, length, Option, None, Some, option_map, refl, sym, ap, subst, ◌∙◌, append_assoc, inl, inr, arith, codes}
+use Rattle.std.proofs.Common.{◌≡◌, ℕ, ◌+◌, ◌^◌, ◌<◌, ◌≤◌, List, [], ◌∷◌, ◌++◌, map, length, Option, None, Some, option_map, refl, sym, ap, subst, ◌∙◌, inl, inr, arith, codes}
 use Rattle.std.specs.List.{AllByRecursion, filter_map}
 use Rattle.std.proofs.lemmas.List.{append_cancel_right, length-map}
 use Rattle.std.proofs.lemmas.List.Elements.{recursion_from_All}
 use Rattle.std.proofs.lemmas.List.Splits.{length-slice_split}
 use Rattle.std.proofs.lemmas.List.Sums.{count_by-le-length}
 use Rattle.std.proofs.Common.{◌==◌, Bor}
-use Rattle.std.proofs.lemmas.Option.{slice_get_within}
 use Rattle.pc_base.specs.declared.entry.Entry.{Entry}
 use Rattle.pc_check.specs.declared.rule.Rule.{Rule}
 use Rattle.pc_check.specs.declared.rule.Rule.TheVariants as rules_broken
@@ -15,7 +14,7 @@ use Rattle.pc_journal.specs.Journal.{journal_text}
 use Rattle.pc_journal.specs.Side.{◌⏎◌}
 use Rattle.pc_proto.specs.declared.event.Event.{Event}
 use Rattle.pc_read.proofs.Spelled.{journals_are_spelled, reports_are_spelled}
-use Rattle.pc_read.specs.Items.{Item, Head, ReportWord, Row, End, entry_items, head_items, row_items, text_lines}
+use Rattle.pc_read.specs.Items.{Item, Head, Row, End, entry_items, head_items, text_lines}
 use Rattle.pc_read.specs.ReadAsSpelled.{rows_then_end}
 use Rattle.pc_report.specs.declared.rows.Report.{Report}
 use Rattle.pc_report.specs.Report.{report_text}
@@ -25,10 +24,10 @@ use Rattle.pc_verdict.proofs.ReportText.{lines_then_end, report_made}
 use Rattle.pc_verdict.proofs.Shapes.{body_items, body_lines, entries_count, entries_shape, head_rest, parts_count}
 use Rattle.pc_verdict.specs.declared.journal.Journal.{Journal}
 use Rattle.pc_verdict.specs.declared.verdict.Verdict.TheVariants as verdicts
-use Rattle.pc_verdict.specs.Differing.{IsFirstDifference, IsMadeOf, lines_text}
-use Rattle.pc_verdict.specs.ReadAs.{IsReadAs, report_lines, row_texts}
+use Rattle.pc_verdict.specs.Differing.{IsFirstDifference, IsMadeOf}
+use Rattle.pc_verdict.specs.ReadAs.{report_lines, row_texts}
 use Rattle.pc_verdict.specs.Reading.{IsBodyOf, IsReadFrom, IsWithinGrammar, entry_in, report_line_in, row_in}
-use Rattle.pc_verdict.specs.Verdicts.{BreaksReport, BreaksRun, IsNoRun, IsRunText, IsVerdictOf}
+use Rattle.pc_verdict.specs.Verdicts.{IsVerdictOf}
 use Rattle.pc_world.specs.Local.{Head as head_of_run}
 use Rattle.pc_world.specs.Run.{IsRun}
 
@@ -125,16 +124,6 @@ module _ (bytes : List ℕ) (j : Journal) (h : IsReadFrom bytes j) where
 -- The splits of a journal that was read are few.
 pub few_splits : (j : Journal) (bytes : List ℕ) → IsReadFrom bytes j → length j.splits + 1 < 2 ^ 32
 few_splits j bytes h = (journals_are_spelled bytes j.splits j.sessions j.recoverers j.body.entries (map Row h.rows ++ (End ∷ [])) h.read.items).fitting_head.cuts.count
-
--- The place of the first broken entry has a line.
-pub line_fits : (j : Journal) (bytes : List ℕ) (entries : List (Entry Event)) (place : ℕ) (rule : Rule) → IsReadFrom bytes j → entries ≡ j.body.entries → IsFirstBroken (head_with j.splits j.sessions j.recoverers) entries place rule → place + 4 < 2 ^ 64
-line_fits j bytes entries place rule h same broken =
-    let within : place < length entries = slice_get_within entries place broken.entry broken.there in
-    omega (arith, within, ap length same, h.room)
-
-pub broken_found : (j : Journal) (bytes : List ℕ) (entries : List (Entry Event)) (place : ℕ) (rule : Rule) → IsReadFrom bytes j → entries ≡ j.body.entries → IsFirstBroken (head_with j.splits j.sessions j.recoverers) entries place rule → IsVerdictOf bytes (verdicts.NotRun (place + 4) rule)
-broken_found j bytes entries place rule h same broken =
-    found_broken bytes j h place rule (subst (λ (es : List (Entry Event)). IsFirstBroken (head_with j.splits j.sessions j.recoverers) es place rule) same broken)
 
 -- What was reported and printed of the journal.
 pub record IsPrintedOf (j : Journal) (entries : List (Entry Event)) (report : Report) (text : List ℕ) (lines : List (Bor (List ℕ))) : Type 0 where

@@ -3,3 +3,4 @@ pub mod Bodies
 pub mod Differences
 pub mod ReportText
 pub mod Found
+pub mod Unique

@@ -1,6 +1,6 @@
 -- The text of a report that has a spelling is made of lines that may stand in a report.
-use Rattle.std.proofs.Common.{◌≡◌, ℕ, Bool, true, false, ◌&&◌, ◌||◌, ◌==◌, List, [], ◌∷◌, ◌++◌, map, Option, None, Some, is_some, refl, sym, ap, ◌∙◌, append_assoc, codes, bytes_eq, All}
-use Rattle.std.specs.List.{AllByRecursion, flat_map, join_with_byte, list_all, slice_split}
+use Rattle.std.proofs.Common.{◌≡◌, ℕ, Bool, true, false, ◌||◌, ◌==◌, List, [], ◌∷◌, ◌++◌, map, Option, None, Some, is_some, refl, sym, ap, ◌∙◌, append_assoc, codes, bytes_eq, All}
+use Rattle.std.specs.List.{AllByRecursion, flat_map, list_all, slice_split}
 use Rattle.std.proofs.lemmas.List.Concat.{flat_map-append}
 use Rattle.std.proofs.lemmas.List.Elements.{All-append, All-cons, All-map, All-nil, All-weaker, recursion_from_All}
 use Rattle.std.proofs.lemmas.List.Folds.{flat_map-map}
@@ -24,7 +24,7 @@ use Rattle.pc_spelling.proofs.Numbers.{id, ts}
 use Rattle.pc_spelling.proofs.Parts.{why}
 use Rattle.pc_spelling.proofs.Readings.{joined_bytes, split_joined}
 use Rattle.pc_spelling.specs.Bytes.{is_line_byte, is_origin_byte, is_part_byte}
-use Rattle.pc_spelling.specs.Cutting.{both, cut, cut_last}
+use Rattle.pc_spelling.specs.Cutting.{both}
 use Rattle.pc_spelling.specs.Reading.{id_at, key_at, ts_at, value_bytes_at, why_at}
 use Rattle.pc_spelling.specs.ReadingReport.{are_last_writes, are_two, is_last_write, is_record_word, is_report_row, is_row_of}
 use Rattle.pc_base.specs.Key.{is_key_byte}
@@ -43,9 +43,6 @@ unfolding is_last_write
 deletion k bytes read =
     let own : list_all is_origin_byte (k ++ (45 ∷ [])) ≡ true = all_joined is_origin_byte k (45 ∷ []) (all_within keys_in_origins k bytes) refl in
     rw (cut_none is_origin_byte 61 refl (k ++ (45 ∷ [])) own, cut_last_at is_key_byte 45 refl k [] refl, read) refl
-
-some_key : (k : List ℕ) (o : Option (List ℕ)) → o ≡ Some k → is_some o ≡ true
-some_key k o e = ap is_some e
 
 a_write : (write : List ℕ × Option (List ℕ)) → FitsLastWrite write → is_last_write (last_write_text write) ≡ true
 a_write (k, None) h = deletion k (key.bytes k h.key) (ap is_some (key.again k h.key))

@@ -1,12 +1,11 @@
 -- What the items of a text are where each of them is within the grammar, and how many there are.
-use Rattle.std.proofs.Common.{◌≡◌, ℕ, ◌+◌, ◌≤◌, Bool, true, false, cond, List, [], ◌∷◌, ◌++◌, map, length, Option, None, Some, refl, sym, ap, ◌∙◌, arith, codes, bytes_eq, inl, inr}
+use Rattle.std.proofs.Common.{◌≡◌, ℕ, ◌+◌, ◌≤◌, Bool, true, false, cond, List, [], ◌∷◌, ◌++◌, map, length, Option, None, Some, refl, sym, ap, ◌∙◌, arith, codes, bytes_eq}
 use Rattle.std.specs.List.{AllByRecursion, filter_map}
 use Rattle.std.specs.Option.{option_map_or}
 use Rattle.pc_base.specs.declared.entry.Entry.{Entry}
 use Rattle.pc_proto.specs.declared.event.Event.{Event}
 use Rattle.pc_read.specs.Items.{Item, Head, Line, ReportWord, Row, End, Malformed, entry_items, head_items, over_items, row_items, second_items, third_items}
 use Rattle.pc_read.specs.JournalsAreRead.{at_lines}
-use Rattle.pc_spelling.proofs.Cuts.{chosen}
 use Rattle.pc_spelling.specs.ReadingHead.{actors_at, ranges_at}
 use Rattle.pc_spelling.specs.ReadingLines.{entry_at}
 use Rattle.pc_spelling.specs.ReadingReport.{is_report_row}

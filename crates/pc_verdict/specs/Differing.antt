@@ -1,5 +1,5 @@
 -- The first line in which two lists of lines differ. Own profile.
-use Rattle.std.specs.Prelude.{◌≡◌, ◌≢◌, ℕ, true, List, [], ◌++◌, All, slice_get, take}
+use Rattle.std.specs.Prelude.{◌≡◌, ◌≢◌, ℕ, true, List, [], All, slice_get, take}
 use Rattle.std.specs.List.{flat_map, list_all}
 use Rattle.pc_journal.specs.Side.{◌⏎◌}
 use Rattle.pc_spelling.specs.Bytes.{is_line_byte}

@@ -3,3 +3,4 @@ pub mod ReadAs
 pub mod Differing
 pub mod Verdicts
 pub mod Reading
+pub mod OneVerdict

@@ -2,7 +2,7 @@
 use Rattle.std.specs.Prelude.{◌≡◌, ℕ, List, [], ◌∷◌, ◌++◌, codes, map}
 use Rattle.pc_base.specs.declared.entry.Entry.{Entry}
 use Rattle.pc_proto.specs.declared.event.Event.{Event}
-use Rattle.pc_read.specs.Items.{Item, Head, ReportWord, Row, End, head_items, text_lines}
+use Rattle.pc_read.specs.Items.{Head, ReportWord, Row, End, head_items, text_lines}
 use Rattle.pc_read.specs.JournalsAreRead.{at_lines}
 use Rattle.pc_report.specs.declared.rows.Report.{Report}
 use Rattle.pc_report.specs.Report.{committed_text, map_text, other_text}

@@ -4,8 +4,10 @@
 mod body;
 mod differing;
 mod journal;
+mod laws;
 mod verdict;
 
 pub use body::Body;
 pub use journal::{Journal, Unread};
+pub use laws::one_verdict_is_right;
 pub use verdict::Verdict;

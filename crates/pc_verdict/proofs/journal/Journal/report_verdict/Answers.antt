@@ -1,4 +1,4 @@
-use Rattle.std.proofs.Common.{sym, ap, ◌∙◌, ◌++◌, rules}
+use Rattle.std.proofs.Common.{rules}
 use Rattle.pc_verdict.proofs.Found.{IsPrintedOf, differing_found, few_splits, run_found}
 use Rattle.pc_verdict.proofs.journal.Journal.report_verdict.Goals as goal
 
