@@ -159,7 +159,7 @@ same-reads sent h true (u ∷ txns) t e = let same : txn_heard sent h u ≡ t = 
 same-reads sent h false (u ∷ txns) t e = absurd cc
 
 refresh-still : (h : Heard) (k : Known) (request : Request) → IsOfWholeRefresh k request → IsOfWholeRefresh (with_heard h k) request
-refresh-still h k (requests.Refresh id from to span) all t opened =
+refresh-still h k (requests.Refresh id from to span) all = λ t opened.
     let was = same-reads k.sent (Some h) k.is_open k.txns t opened in
     subst (λ reads. All (λ r. Any (λ m. m.request ≡ requests.Refresh id from to r.span) k.sent_now) reads) was.reads (all was.old was.opened)
 refresh-still h k request all = tt
