@@ -39,13 +39,6 @@ impl TxnReads {
         self.ts
     }
 
-    /// The spans that it read, in order, each once.
-    pub fn spans(&self) -> &[Span]
-        ensures { result.now ≡ self.now.spans }
-    {
-        self.spans.spans()
-    }
-
     /// It was told what a get or a piece of a scan found in this span.
     pub fn read(&mut self, span: Span) -> Result<(), NoMemory>
         ensures made { OnOk result (self.new ≡ record self.old { spans = insert_key span_cmp self.old.spans span }) }
@@ -60,7 +53,7 @@ impl TxnReads {
         ensures made { result ≡ nat_lt self.now.ts to && not (length self.now.spans == 0) }
         ensures good { (id : TxnId) (heard : List Heard) (reads : List Read) → TxnReadsStand id heard reads self.now → self.now.ts ≤ to → result ≡ false → All (IsGoodAt id heard to) reads }
     {
-        self.ts < to && !self.spans.spans().is_empty()
+        self.ts < to && !self.spans.is_empty()
     }
 
     /// The refreshes of a commit at this timestamp, of each span in order.
@@ -74,8 +67,8 @@ impl TxnReads {
         ensures may { (k : Known) (t : Txn) → TxnReadsStand t.id k.heard t.reads self.now → IsCommitting k t id self.now.ts to → IfOk result (λ requests. All (MayRefresh k) requests.items) }
     {
         let mut requests = Vec::new(alloc);
-        for span in self.spans.spans() {
-            requests.push(refresh_to(id, self.ts, to, span.copy()?))?;
+        for span in self.spans.iter() {
+            requests.push(refresh_to(id, self.ts, to, span.span().copy()?))?;
         }
         Ok(requests)
     }

@@ -31,7 +31,7 @@ fn a_commit_refreshes_and_reads_on(rt: HostRuntime) -> Result<(), Fail> {
     };
     assert!(rt; unrefreshed(&reply).is_some());
     reads.restart(later);
-    assert!(rt; reads.spans().is_empty());
+    assert!(rt; reads.refreshes(alloc, id, later)?.is_empty());
     assert!(rt; reads.ts() == later);
     Ok(())
 }

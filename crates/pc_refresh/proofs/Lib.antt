@@ -1,4 +1,3 @@
 -- Why a span goes in at its place.
-pub mod Insertion
 pub mod Held
 pub mod SameSpan

@@ -4,6 +4,7 @@
 mod order;
 mod reads;
 
+pub use order::OrderedSpan;
 pub use reads::Reads;
 
 #[cfg(test)]

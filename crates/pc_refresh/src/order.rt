@@ -1,15 +1,85 @@
 ghost use Rattle.std.specs.Prelude.{◌≡◌};
+ghost use Rattle.std.proofs.Common.{rules};
+ghost use Rattle.std.specs.Cmp.{partial_order_from_own_ties, partial_order_from_total};
+ghost use Rattle.std.specs.Cmp.Rules.{comparing};
 ghost use Rattle.std.specs.Cmp.Lexicographic.{slice_cmp};
 ghost use Rattle.std.specs.Option.{option_cmp, option_copied};
-ghost use Rattle.std.specs.Ordering.{nat_cmp};
+ghost use Rattle.std.specs.Ordering.{as_partial_cmp, eq_by_cmp, nat_cmp};
 ghost use Rattle.pc_base.specs.SpanOrder.{end_cmp, rest_cmp, span_cmp, start_of};
+ghost use Rattle.pc_refresh.specs.SpanTotal.{span_total};
 
 use pc_base::{Key, Span};
 use std::cmp::Ordering;
+use std::marker::Model;
 
-/// How two spans stand: by their starts, an open one first; then one key before the keys from it on; then by their ends, an open one
+/// A span in the order of spans: by its start, an open one first; then one key before the keys from it on; then by its end, an open one
 /// last.
-pub fn span_order(one: &Span, other: &Span) -> Ordering
+#[derive(Debug, Drop)]
+pub struct OrderedSpan {
+    span: Span,
+}
+
+impl Model for OrderedSpan {
+    ghost use Rattle.pc_base.specs.declared.span.Span.{Span};
+
+    ghost Value = { Span };
+
+    ghost view = { λ s. s.span };
+}
+
+impl OrderedSpan {
+    pub(crate) fn new(span: Span) -> OrderedSpan
+        ensures { result ≡ span }
+    {
+        OrderedSpan { span }
+    }
+
+    pub fn span(&self) -> &Span
+        ensures { result.now ≡ self.now }
+    {
+        &self.span
+    }
+}
+
+impl PartialEq for OrderedSpan {
+    ghost eq = { eq_by_cmp span_cmp };
+
+    ghost laws = { Prim.search (comparing, span_total, rules) };
+
+    fn eq(&self, other: &OrderedSpan) -> bool {
+        self.cmp(other).is_eq()
+    }
+}
+
+impl Eq for OrderedSpan {
+    ghost laws = { Prim.search (comparing, span_total, rules) };
+}
+
+impl PartialOrd for OrderedSpan {
+    ghost partial_cmp = { as_partial_cmp span_cmp };
+
+    ghost laws = { partial_order_from_own_ties (partial_order_from_total span_total) (Prim.search (comparing, rules)) };
+
+    fn partial_cmp(&self, other: &OrderedSpan) -> Option<Ordering> {
+        Some(self.cmp(other))
+    }
+}
+
+impl Ord for OrderedSpan {
+    ghost cmp = { span_cmp };
+
+    ghost total = { span_total };
+
+    ghost matches_partial_cmp = { Prim.search (comparing, rules) };
+
+    ghost matches_eq = { Prim.search (comparing, rules) };
+
+    fn cmp(&self, other: &OrderedSpan) -> Ordering {
+        span_order(&self.span, &other.span)
+    }
+}
+
+fn span_order(one: &Span, other: &Span) -> Ordering
     ensures { result ≡ span_cmp one.now other.now }
 {
     match start_order(one, other) {

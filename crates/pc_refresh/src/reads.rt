@@ -1,20 +1,19 @@
-ghost use Rattle.std.specs.Prelude.{◌≡◌, false, [], Contains, OnOk, OnErr, slice_get};
-ghost use Rattle.std.specs.List.{position, position_or_len};
-ghost use Rattle.std.specs.Option.{option_map_or};
-ghost use Rattle.std.specs.Ordering.{is_eq, is_le};
+ghost use Rattle.std.specs.Prelude.{◌≡◌, ◌==◌, [], Contains, OnOk, OnErr, length};
 ghost use Rattle.std.specs.BTreeSet.{insert_key};
 ghost use Rattle.pc_base.specs.declared.span.Span.{Span};
 ghost use Rattle.pc_base.specs.SpanOrder.{span_cmp};
 
-use crate::order::span_order;
+use crate::order::OrderedSpan;
 use pc_base::{NoMemory, Span};
 use std::alloc::Global;
+use std::collections::BTreeSet;
+use std::collections::btree_set::Iter;
 use std::marker::Model;
 
 /// The spans of what was read, in order, each once.
 #[derive(Debug, Drop)]
 pub struct Reads {
-    spans: Vec<Span>,
+    spans: BTreeSet<OrderedSpan>,
 }
 
 impl Model for Reads {
@@ -23,7 +22,7 @@ impl Model for Reads {
 
     ghost Value = { List Span };
 
-    ghost view = { λ reads. reads.spans.items };
+    ghost view = { λ reads. reads.spans.keys };
 }
 
 impl Reads {
@@ -32,7 +31,7 @@ impl Reads {
         ensures { result ≡ [] }
     {
         Reads {
-            spans: Vec::new(alloc),
+            spans: BTreeSet::new(alloc),
         }
     }
 
@@ -43,18 +42,22 @@ impl Reads {
         ensures covered { OnOk result (Contains self.new span) }
         ensures kept { (other : Span) → Contains self.old other → Contains self.new other }
     {
-        let place = place_of(&self.spans, &span);
-        if !is_at(&self.spans, place, &span) {
-            self.spans.insert(place, span)?;
-        }
+        self.spans.insert(OrderedSpan::new(span))?;
         Ok(())
     }
 
-    /// The spans, in order.
-    pub fn spans(&self) -> &[Span]
-        ensures { result.now ≡ self.now }
+    /// Whether nothing was read.
+    pub fn is_empty(&self) -> bool
+        ensures { result ≡ (length self.now == 0) }
     {
-        self.spans.as_slice()
+        self.spans.len() == 0
+    }
+
+    /// The spans, in order.
+    pub fn iter(&self) -> Iter<'_, OrderedSpan>
+        ensures { result ≡ self.now }
+    {
+        self.spans.iter()
     }
 
     /// What was read is forgotten: a new epoch begins.
@@ -62,27 +65,5 @@ impl Reads {
         ensures { self.new ≡ [] }
     {
         self.spans.clear();
-    }
-}
-
-/// The first place whose span is not before this one, or the end.
-fn place_of(spans: &[Span], span: &Span) -> usize
-    ensures { result ≡ position_or_len (λ held. is_le (span_cmp span.now held)) spans.now }
-{
-    first_not_before(spans, span).unwrap_or(spans.len())
-}
-
-fn first_not_before(spans: &[Span], span: &Span) -> Option<usize>
-    ensures { result ≡ position (λ held. is_le (span_cmp span.now held)) spans.now }
-{
-    spans.iter().position(|held| span_order(span, held).is_le())
-}
-
-fn is_at(spans: &[Span], place: usize, span: &Span) -> bool
-    ensures { result ≡ option_map_or (λ held. is_eq (span_cmp span.now held)) (slice_get spans.now place) false }
-{
-    match spans.get(place) {
-        Some(held) => span_order(span, held).is_eq(),
-        None => false,
     }
 }

@@ -25,37 +25,41 @@ fn spans_stand_in_order_each_once(rt: HostRuntime) -> Result<(), Fail> {
         to: Some(key(alloc, "c")?),
     })?;
     reads.add(Span::One(key(alloc, "b")?))?;
-    let spans = reads.spans();
-    assert_eq!(rt; spans.len(), 4);
+    let mut spans = reads.iter();
     assert!(rt;
-        matches!(
-            &spans[0],
+        spans.next().is_some_and(|read| matches!(
+            read.span(),
             Span::Between {
                 from: None,
                 to: Some(_)
             }
-        )
+        ))
     );
-    assert!(rt; matches!(&spans[1], Span::One(_)));
     assert!(rt;
-        matches!(
-            &spans[2],
+        spans
+            .next()
+            .is_some_and(|read| matches!(read.span(), Span::One(_)))
+    );
+    assert!(rt;
+        spans.next().is_some_and(|read| matches!(
+            read.span(),
             Span::Between {
                 from: Some(_),
                 to: Some(_)
             }
-        )
+        ))
     );
     assert!(rt;
-        matches!(
-            &spans[3],
+        spans.next().is_some_and(|read| matches!(
+            read.span(),
             Span::Between {
                 from: Some(_),
                 to: None
             }
-        )
+        ))
     );
+    assert!(rt; spans.next().is_none());
     reads.clear();
-    assert!(rt; reads.spans().is_empty());
+    assert!(rt; reads.is_empty());
     Ok(())
 }

@@ -1,0 +1,2 @@
+-- The order in which what was read stands.
+pub mod SpanTotal
