@@ -1,0 +1,2 @@
+-- How a check ends.
+pub mod Ends
