@@ -1,0 +1,182 @@
+-- An actor's messages are settled once what it left was evaluated, up to one whose range is full.
+use Rattle.std.proofs.Common.{◌≡◌, ℕ, ◌<◌, ◌≤◌, ◌⊎◌, inl, inr, false, All, Contains, IsTrue, List, [], ◌∷◌, ◌++◌, map, refl, sym, ap, subst, ◌∙◌, arith}
+use Rattle.std.proofs.lemmas.List.Elements.{All-contains, All-nil, All-weaker, Contains-append_cases, Contains-append_left, Contains-append_right}
+use Rattle.pc_base.specs.declared.actor.ActorId.{ActorId}
+use Rattle.pc_closing.specs.Leaving.{HasSettledAll, IsSettled, KnowsHeldUp, MayLeave, WaitsOrIsSettled}
+use Rattle.pc_desk.specs.Desk.{DeskMeaning, GivesOnce, IsReadyToGo, KnowsFull, Posted, WaitingMessage, as_sent}
+use Rattle.pc_desk.specs.Ending.{IsAtFullRange, IsAtOwnEnd, IsNotLost, KnowsEvaluation, WaitsStill, WaitsUnheard}
+use Rattle.pc_desk.specs.Rest.{HasOnlyLearnt, IsEvaluatedIn}
+use Rattle.pc_history.specs.declared.view.Known.{Known as KnownEntry}
+use Rattle.pc_history.specs.declared.view.Part.{Part}
+use Rattle.pc_history.specs.Meanings.{ActorMeaning}
+use Rattle.pc_history.specs.Parts.{known_entry, told}
+use Rattle.pc_lists.proofs.Lists.{all_from_contains, contains_cons, contains_head, contains_in_map, contains_map}
+use Rattle.pc_proto.specs.declared.event.Event.{Event}
+use Rattle.pc_range.specs.Message.{IsFullNote, evaluation}
+use Rattle.pc_world.specs.Caused.{Evaluates}
+use Rattle.pc_world.specs.Known.{known_of}
+use Rattle.pc_world.specs.Known.Traffic.{Sent}
+use Rattle.pc_world.specs.Local.{Head}
+use Rattle.pc_world.specs.Tell.Refusal.{is_heard}
+
+-- ---- when a session may leave
+
+module _ {C : Type 0} (d : DeskMeaning C) (rest : List WaitingMessage) (posted : map (λ (w : WaitingMessage). w.posted) rest ≡ d.posted) (given : GivesOnce d.log.part) where
+  waits-posted : All (WaitsUnheard (known_of d.log.part.own)) d.posted → All (λ (w : WaitingMessage). WaitsUnheard (known_of d.log.part.own) w.posted) rest
+  waits-posted waits = all_from_contains (λ (w : WaitingMessage). WaitsUnheard (known_of d.log.part.own) w.posted) rest (λ w there.
+      All-contains (WaitsUnheard (known_of d.log.part.own)) d.posted w.posted waits (subst (λ l. Contains l w.posted) posted (contains_map (λ (x : WaitingMessage). x.posted) rest w there)))
+
+  not-lost : (m : Sent) → IsNotLost d m → WaitsOrIsSettled d.range_limit d.log.part rest m
+  not-lost m (inl heard) = inr (inl heard)
+  not-lost m (inr (inl waits)) = inl (subst (λ l. WaitsStill l m.number) (sym posted) waits)
+  not-lost m (inr (inr knows)) = inr (inr (inl knows))
+
+  -- all that it sent was heard
+  pub heard_may_leave : d.posted ≡ [] → All (λ m. IsTrue (is_heard (known_of d.log.part.own).heard m)) (known_of d.log.part.own).sent → MayLeave d.range_limit d.log.part rest
+  heard_may_leave none heard = record {
+    given = given;
+    waits = waits-posted (subst (All (WaitsUnheard (known_of d.log.part.own))) (sym none) (All-nil _));
+    messages = All-weaker (λ m. IsTrue (is_heard (known_of d.log.part.own).heard m)) (WaitsOrIsSettled d.range_limit d.log.part rest) (λ m h. inr (inl h)) (known_of d.log.part.own).sent heard;
+  }
+
+  -- its own list is full
+  pub own_end_may_leave : IsAtOwnEnd d → MayLeave d.range_limit d.log.part rest
+  own_end_may_leave end = record {
+    given = given;
+    waits = waits-posted end.waits;
+    messages = All-weaker (IsNotLost d) (WaitsOrIsSettled d.range_limit d.log.part rest) not-lost (known_of d.log.part.own).sent end.each;
+  }
+
+  -- a range is full
+  pub full_range_may_leave : IsAtFullRange d → MayLeave d.range_limit d.log.part rest
+  full_range_may_leave end = record {
+    given = given;
+    waits = waits-posted end.waits;
+    messages = All-weaker (λ m. (m.number ≡ end.message.number) ⊎ IsNotLost d m) (WaitsOrIsSettled d.range_limit d.log.part rest) by (known_of d.log.part.own).sent end.others;
+  }
+    where
+      by : (m : Sent) → (m.number ≡ end.message.number) ⊎ IsNotLost d m → WaitsOrIsSettled d.range_limit d.log.part rest m
+      by m (inl it) = inr (inr (inr (record {
+        front = end.message;
+        sent = end.sent;
+        no_later = omega arith;
+        unheard = end.unheard;
+        full = subst (λ range. KnowsFull range d.range_limit d.log.part.known) (sym end.goes) end.full;
+      })))
+      by m (inr kept) = not-lost m kept
+
+-- ---- what is settled stays so
+
+module _ (limit : ℕ) (old new : Part Event) (own : new.own ≡ old.own) (id : new.id ≡ old.id) (more : (k : KnownEntry Event) → Contains old.known k → Contains new.known k) where
+  knows-on : (number : ℕ) → KnowsEvaluation old number → KnowsEvaluation new number
+  knows-on number knows = record { evaluation = knows.evaluation; knows = more knows.evaluation knows.knows; of_it = subst (λ (i : ActorId). Evaluates i number knows.evaluation.entry.event) (sym id) knows.of_it }
+
+  held-on : (m : Sent) → KnowsHeldUp limit old m → KnowsHeldUp limit new m
+  held-on m held = record {
+    front = held.front;
+    sent = subst (λ o. Contains (known_of o).sent held.front) (sym own) held.sent;
+    no_later = held.no_later;
+    unheard = subst (λ o. is_heard (known_of o).heard held.front ≡ false) (sym own) held.unheard;
+    full = record { entry = held.full.entry; knows = more held.full.entry held.full.knows; full = held.full.full };
+  }
+
+  settled-on : (m : Sent) → IsSettled limit old m → IsSettled limit new m
+  settled-on m (inl heard) = inl (subst (λ o. IsTrue (is_heard (known_of o).heard m)) (sym own) heard)
+  settled-on m (inr (inl knows)) = inr (inl (knows-on m.number knows))
+  settled-on m (inr (inr held)) = inr (inr (held-on m held))
+
+-- the actor knows the evaluation of a message that was delivered
+evaluated-knows : (part : Part Event) (w : WaitingMessage) (number : ℕ) → w.posted.number ≡ number → IsEvaluatedIn part w → KnowsEvaluation part number
+evaluated-knows part w number is e = record { evaluation = known_entry (evaluation e.step w.posted.range part.id w.posted.number e.reply) e.place 0; knows = e.knows; of_it = (refl, is) }
+
+-- ---- what was left was evaluated
+
+module _ (limit : ℕ) (splits : List (List ℕ)) (old new : ActorMeaning Head Event) (rest : List WaitingMessage) (ready : All (IsReadyToGo old.part.id splits) rest) (may : MayLeave limit old.part rest) (learnt : HasOnlyLearnt old new) where
+  own-same : new.part.own ≡ old.part.own
+  own-same = ap (λ (a : ActorMeaning Head Event). a.part.own) learnt.rest
+
+  id-same : new.part.id ≡ old.part.id
+  id-same = ap (λ (a : ActorMeaning Head Event). a.part.id) learnt.rest
+
+  gives-still : GivesOnce new.part
+  gives-still = subst GivesOnce (sym (ap (λ (a : ActorMeaning Head Event). a.part) learnt.rest)) (record { each = may.given.each; once = may.given.once })
+
+  pub left_all : All (IsEvaluatedIn new.part) rest → HasSettledAll limit old.part new.part
+  left_all evaluated = record {
+    own = own-same;
+    id = id-same;
+    known = learnt.more;
+    given = gives-still;
+    settled = subst (λ o. All (IsSettled limit new.part) (known_of o).sent) (sym own-same) (All-weaker (WaitsOrIsSettled limit old.part rest) (IsSettled limit new.part) by (known_of old.part.own).sent may.messages);
+  }
+    where
+      by : (m : Sent) → WaitsOrIsSettled limit old.part rest m → IsSettled limit new.part m
+      by m (inl waits) =
+          let w = contains_in_map (λ (x : WaitingMessage). x.posted) rest waits.waiting waits.there in
+          inr (inl (evaluated-knows new.part w.0 m.number (ap (λ (p : Posted). p.number) w.2 ∙ waits.is) (All-contains (IsEvaluatedIn new.part) rest w.0 evaluated w.1)))
+      by m (inr settled) = settled-on limit old.part new.part own-same id-same learnt.more m settled
+
+  -- up to one whose range is full
+  module _ (after : ActorMeaning Head Event) (note : List (KnownEntry Event)) (done behind : List WaitingMessage) (refused : WaitingMessage) (whole : rest ≡ done ++ refused ∷ behind) (evaluated : All (IsEvaluatedIn new.part) done)
+      (rises : All (λ (w : WaitingMessage). refused.key < w.key) behind) (full : IsFullNote refused.posted.range limit note) (took : after ≡ record new { part = told note new.part }) where
+    known-is : after.part.known ≡ new.part.known ++ note
+    known-is = ap (λ (a : ActorMeaning Head Event). a.part.known) took
+
+    more-now : (k : KnownEntry Event) → Contains new.part.known k → Contains after.part.known k
+    more-now k there = subst (λ l. Contains l k) (sym known-is) (Contains-append_left new.part.known note k there)
+
+    own-now : after.part.own ≡ old.part.own
+    own-now = ap (λ (a : ActorMeaning Head Event). a.part.own) took ∙ own-same
+
+    id-now : after.part.id ≡ old.part.id
+    id-now = ap (λ (a : ActorMeaning Head Event). a.part.id) took ∙ id-same
+
+    knows-full : KnowsFull refused.posted.range limit after.part.known
+    knows-full = record {
+      entry = known_entry full.entry full.place 0;
+      knows = subst (λ l. Contains l (known_entry full.entry full.place 0)) (sym known-is)
+          (Contains-append_right new.part.known note (known_entry full.entry full.place 0) (subst (λ l. Contains l (known_entry full.entry full.place 0)) (sym full.tells) (contains_head (known_entry full.entry full.place 0) [])));
+      full = record { entry = full.entry; place = full.place; tells = refl; whose = full.whose; many = full.many };
+    }
+
+    there-refused : Contains rest refused
+    there-refused = subst (λ l. Contains l refused) (sym whole) (Contains-append_right done (refused ∷ behind) refused (contains_head refused behind))
+
+    waited : WaitsUnheard (known_of old.part.own) refused.posted
+    waited = All-contains (λ (w : WaitingMessage). WaitsUnheard (known_of old.part.own) w.posted) rest refused may.waits there-refused
+
+    held-up : (m : Sent) → refused.posted.number ≤ m.number → KnowsHeldUp limit after.part m
+    held-up m later = record {
+      front = as_sent refused.posted;
+      sent = subst (λ o. Contains (known_of o).sent (as_sent refused.posted)) (sym own-now) waited.sent;
+      no_later = later;
+      unheard = subst (λ o. is_heard (known_of o).heard (as_sent refused.posted) ≡ false) (sym own-now) waited.unheard;
+      full = knows-full;
+    }
+
+    key-is : (w : WaitingMessage) → Contains rest w → w.key ≡ w.posted.number
+    key-is w there = (All-contains (IsReadyToGo old.part.id splits) rest w ready there).numbered
+
+    pub left_till : HasSettledAll limit old.part after.part
+    left_till = record {
+      own = own-now;
+      id = id-now;
+      known = λ k there. more-now k (learnt.more k there);
+      given = subst GivesOnce (sym (ap (λ (a : ActorMeaning Head Event). a.part) took)) (record { each = gives-still.each; once = gives-still.once });
+      settled = subst (λ o. All (IsSettled limit after.part) (known_of o).sent) (sym own-now) (All-weaker (WaitsOrIsSettled limit old.part rest) (IsSettled limit after.part) by (known_of old.part.own).sent may.messages);
+    }
+      where
+        waiting : (m : Sent) (w : WaitingMessage) → Contains rest w → w.posted.number ≡ m.number → Contains done w ⊎ Contains (refused ∷ behind) w → IsSettled limit after.part m
+        waiting m w there is (inl before) =
+            inr (inl (knows-on limit new.part after.part (ap (λ (a : ActorMeaning Head Event). a.part.own) took) (ap (λ (a : ActorMeaning Head Event). a.part.id) took) more-now m.number
+            (evaluated-knows new.part w m.number is (All-contains (IsEvaluatedIn new.part) done w evaluated before))))
+        waiting m w there is (inr later) = inr (inr (held-up m (elim (contains_cons refused behind w later) [
+          | inl here ↦ (let same : refused.posted.number ≡ w.posted.number = ap (λ (x : WaitingMessage). x.posted.number) here in omega arith)
+          | inr after ↦ (let below : refused.key < w.key = All-contains (λ (x : WaitingMessage). refused.key < x.key) behind w rises after in omega (arith, key-is refused there-refused, key-is w there))
+        ])))
+
+        by : (m : Sent) → WaitsOrIsSettled limit old.part rest m → IsSettled limit after.part m
+        by m (inl waits) =
+            let w = contains_in_map (λ (x : WaitingMessage). x.posted) rest waits.waiting waits.there in
+            waiting m w.0 w.1 (ap (λ (p : Posted). p.number) w.2 ∙ waits.is) (Contains-append_cases done (refused ∷ behind) w.0 (subst (λ l. Contains l w.0) whole w.1))
+        by m (inr settled) = settled-on limit old.part after.part own-now id-now (λ k there. more-now k (learnt.more k there)) m settled

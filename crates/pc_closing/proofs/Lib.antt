@@ -1,0 +1,4 @@
+pub mod Leaving
+pub mod Serving
+pub mod Seating
+pub mod HandingIn

@@ -1,0 +1,6 @@
+-- From sessions that have finished to the one history.
+pub mod Full
+pub mod Served
+pub mod Leaving
+pub mod Opening
+pub mod Closing

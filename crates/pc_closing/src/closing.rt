@@ -1,0 +1,74 @@
+ghost use Rattle.std.specs.Prelude.{◌≡◌, ◌++◌, ◌∷◌, [], All, IfOk, OnOk};
+ghost use Rattle.pc_closing.specs.Closing.{IsClosedOver};
+ghost use Rattle.pc_closing.specs.Leaving.{AreLeavers, HasSettledAll, MayLeave};
+ghost use Rattle.pc_closing.specs.Opening.{opener_of};
+ghost use Rattle.pc_desk.specs.Desk.{IsReadyToGo};
+ghost use Rattle.pc_history.specs.declared.view.Part.{Part};
+ghost use Rattle.pc_proto.specs.declared.event.Event.{Event as Made};
+
+use pc_base::{Entry, NoMemory};
+use pc_desk::{Rest, deliver_rest};
+use pc_history::{Actor, Named, Opener};
+use pc_proto::Event;
+use pc_range::{CommitWorld, Gate, Ranges, ServeFault};
+use std::sync::Wait;
+
+/// A session that has finished: its actor, and what is still in its outbox.
+pub type Leaver<N> = (Actor<CommitWorld, N>, Rest<N>);
+
+/// Evaluates what the sessions have left in their outboxes, one session after another, and closes the history.
+pub fn close<N: Named<CommitWorld>, G: Gate, R: Wait>(
+    rt: &R,
+    opener: Opener<CommitWorld, N>,
+    ranges: Ranges<'_, N, G>,
+    leavers: Vec<Leaver<N>>,
+) -> Result<Vec<Entry<Event>>, NoMemory>
+    requires opener { opener ≡ opener_of opener.world }
+    requires ranges { ranges.splits ≡ opener.world.splits }
+    requires leavers { AreLeavers ranges.limit opener.world leavers.items }
+    ensures { IfOk result (λ entries. IsClosedOver ranges.entry.limit opener.world leavers.items entries.items) }
+{
+    let mut opener = opener;
+    for leaver in leavers {
+        leave(rt, &mut opener, &ranges, leaver)?;
+    }
+    ranges.close(&mut opener)?;
+    opener.close()
+}
+
+/// Evaluates what the session has left in its outbox, and hands its actor in.
+fn leave<N: Named<CommitWorld>, G: Gate, R: Wait>(
+    rt: &R,
+    opener: &mut Opener<CommitWorld, N>,
+    ranges: &Ranges<'_, N, G>,
+    leaver: Leaver<N>,
+) -> Result<(), NoMemory>
+    requires ready { All (IsReadyToGo leaver.0.part.id ranges.now.splits) leaver.1 }
+    requires may { MayLeave ranges.now.limit leaver.0.part leaver.1 }
+    ensures left { OnOk result ((part : Part Made) × HasSettledAll ranges.now.limit leaver.0.part part × (opener.new ≡ record opener.old { parts = opener.old.parts ++ part ∷ []; whole = opener.new.whole })) }
+{
+    let (mut actor, rest) = leaver;
+    deliver(rt, ranges, &mut actor, rest)?;
+    opener.hand_in(actor)
+}
+
+/// Evaluates what is left of the actor's messages, in the order of their numbers, up to one whose range is full.
+fn deliver<N: Named<CommitWorld>, G: Gate, R: Wait>(
+    rt: &R,
+    ranges: &Ranges<'_, N, G>,
+    actor: &mut Actor<CommitWorld, N>,
+    rest: Rest<N>,
+) -> Result<(), NoMemory>
+    requires ready { All (IsReadyToGo actor.old.part.id ranges.now.splits) rest }
+    requires may { MayLeave ranges.now.limit actor.old.part rest }
+    ensures { OnOk result (HasSettledAll ranges.now.limit actor.old.part actor.new.part) }
+{
+    match deliver_rest(rt, rest, actor, ranges) {
+        Ok(()) => Ok(()),
+        Err(ServeFault::Full { range: _, last }) => {
+            actor.take(last);
+            Ok(())
+        }
+        Err(ServeFault::NoMemory) => Err(NoMemory),
+    }
+}
