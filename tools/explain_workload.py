@@ -13,7 +13,8 @@ import sys
 MOST = 2**64 - 1
 KEY = re.compile(r"[A-Za-z0-9_/.]{1,64}")
 VALUE = re.compile(r"[!-+\--~]{0,1024}")
-READS, WRITES = ("get", "scan"), ("put", "delete")
+STATEMENTS = ("get", "scan", "put", "delete", "add")
+MOST_AMOUNT = 1_000_000_000
 
 
 class Fault(Exception):
@@ -62,7 +63,7 @@ def two(value, place):
 def statement(value, place):
     need(isinstance(value, dict) and len(value) == 1, place, "a statement is an object with one member")
     (kind, what), = value.items()
-    need(kind in READS + WRITES, place, f"there is no statement `{kind}`; it is get, scan, put or delete")
+    need(kind in STATEMENTS, place, f"there is no statement `{kind}`; it is get, scan, put, delete or add")
     place = f"{place}.{kind}"
     if kind == "put":
         two(what, place)
@@ -75,9 +76,16 @@ def statement(value, place):
             if end != "":
                 key(end, place)
         need("" in what or what[0] < what[1], place, "the first end is not below the second")
+    elif kind == "add":
+        need(isinstance(what, list) and len(what) == 2, place, "a list of a key and an amount is wanted")
+        key(what[0], f"{place}[0]")
+        amount = what[1]
+        if isinstance(amount, NoWhole) and re.fullmatch(r"-[1-9][0-9]*", amount):
+            amount = int(amount)
+        number(abs(amount) if isinstance(amount, int) else amount, f"{place}[1]", MOST_AMOUNT)
     else:
         key(what, place)
-    return kind in READS
+    return 2 if kind == "add" else 1
 
 
 def item(value, place):
@@ -85,9 +93,7 @@ def item(value, place):
     need(value.get("priority", "normal") in ("low", "normal", "high"), f"{place}.priority", "it is low, normal or high")
     need(value.get("end", "commit") in ("commit", "rollback"), f"{place}.end", "it is commit or rollback")
     listed(value["do"], f"{place}.do")
-    reads = {statement(one, f"{place}.do[{at}]") for at, one in enumerate(value["do"])}
-    need(len(reads) < 2, f"{place}.do", "a transaction reads or writes, and does not do both so far")
-    return 2 + len(value["do"])
+    return 2 + sum(statement(one, f"{place}.do[{at}]") for at, one in enumerate(value["do"]))
 
 
 def session(value, place):

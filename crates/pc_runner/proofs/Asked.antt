@@ -30,7 +30,7 @@ use Rattle.pc_runner.proofs.Stepping.{step_asked}
 use Rattle.pc_runner.specs.declared.session.SessionRun.{SessionRun}
 use Rattle.pc_runner.specs.Following.{HasJobs, IsFollowing, StandsBy}
 use Rattle.pc_script.specs.Clocks.{clock_rule}
-use Rattle.pc_script.specs.Script.{Position, next_call}
+use Rattle.pc_script.specs.Script.{Position, coming, next_call}
 use Rattle.pc_runner.specs.History.{History, known_by}
 use Rattle.pc_runner.specs.Journal.{HasGrown}
 use Rattle.pc_runner.specs.Keeping.{AreDelivered, KeepsSoFar, open_calls}
@@ -70,8 +70,8 @@ module _ (number : ℕ) (at : Position) (c : Coordination) (sends : ℕ) (h : Hi
   pub may_be_asked : MayAsk (actors.Session number) k call
   may_be_asked = record {
     none_open = none_open;
-    whose = (first_of at.ahead call (fits_course at.ahead c.txn fits.now) next).round;
-    outside = fits_outside at.ahead c.txn k call fits.now (rests c k stands.knows none_open).held next;
+    whose = (first_of (coming at) call (fits_course (coming at) c.txn fits.now) next).round;
+    outside = fits_outside (coming at) c.txn k call fits.now (rests c k stands.knows none_open).held next;
   }
 
   pub is_asked : (reading : ℕ) → c.job ≡ None → IsAsked c call reading k (next_pair number h (events.Ask call reading))
@@ -80,7 +80,7 @@ module _ (number : ℕ) (at : Position) (c : Coordination) (sends : ℕ) (h : Hi
     none_open = none_open;
     outside = may_be_asked.outside;
     no_round = may_be_asked.whose;
-    suits = fits_suits at.ahead c.txn call fits.now next;
+    suits = fits_suits (coming at) c.txn call fits.now next;
     handed = handed;
   }
 
@@ -129,7 +129,7 @@ module _ (work : Workload) (number : ℕ) (session : SessionWork) (at : Position
           next = next;
           opened = ap (λ (k : Known). k.statement) known;
           outside = λ out. ap (λ (k : Known). k.is_open) known ∙ may.outside out;
-          course = fits_course at.ahead c.txn rest.fits.now;
+          course = fits_course (coming at) c.txn rest.fits.now;
           calls = rest.fits.calls;
           items = rest.fits.items;
         };

@@ -1,5 +1,5 @@
 -- What the form of a workload says of its splits, its sessions and its turns.
-use Rattle.std.proofs.Common.{◌≡◌, ℕ, ◌+◌, ◌<◌, ◌^◌, All, IsSome, IsSomeAnd, List, [], ◌∷◌, length, slice_get, Option, Some, None, subst, arith}
+use Rattle.std.proofs.Common.{◌≡◌, ℕ, ◌+◌, ◌<◌, ◌^◌, All, IsSome, IsSomeAnd, List, length, slice_get, Option, Some, None, subst, arith}
 use Rattle.std.proofs.lemmas.List.Elements.{All-get_or}
 use Rattle.std.proofs.lemmas.Option.{get_or_from_slice_get, slice_get_within}
 use Rattle.pc_base.specs.Rising.{AreRising}

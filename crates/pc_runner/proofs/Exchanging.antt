@@ -17,6 +17,7 @@ use Rattle.pc_world.specs.Known.{Known, learn}
 use Rattle.pc_world.specs.Known.Traffic.{Heard, Sent, request_sent}
 use Rattle.pc_world.specs.Known.Transactions.{Txn, txn_heard, txn_sent}
 use Rattle.pc_world.specs.Local.{MayHear}
+use Rattle.pc_world.specs.RangeOf.{IsForOne}
 use Rattle.pc_runner.proofs.Entering.{is_answered}
 use Rattle.pc_runner.proofs.Going.{known_sent, learn_hear, of_send, reply_heard}
 use Rattle.pc_runner.proofs.Growing.{answered_now, head_same, hear_names_answer, known_grows, known_kept_by_range, next_pair}
@@ -37,6 +38,13 @@ sent-beside (requests.Push holder by level now goal) is t = refl
 sent-beside (requests.Resolve id key fate) is t = refl
 sent-beside (requests.Remove id anchor) is t = refl
 sent-beside request is t = absurd cc
+
+-- such a message is for one range
+pub for_one_beside : (splits : List (List ℕ)) (request : Request) → is_of_round_or_job request ≡ true → IsForOne splits request
+for_one_beside splits (requests.Push holder by level now goal) is = tt
+for_one_beside splits (requests.Resolve id key fate) is = tt
+for_one_beside splits (requests.Remove id anchor) is = tt
+for_one_beside splits request is = absurd cc
 
 max-zero : (n : ℕ) → max n 0 ≡ n
 max-zero n = omega arith

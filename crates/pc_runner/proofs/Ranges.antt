@@ -9,11 +9,10 @@ use Rattle.pc_base.specs.declared.actor.ActorId.TheVariants as actors
 use Rattle.pc_base.specs.declared.entry.Entry.{Entry}
 use Rattle.pc_base.specs.declared.span.Span.{Span}
 use Rattle.pc_base.specs.declared.span.Span.TheVariants.{Between, One}
-use Rattle.pc_base.specs.declared.transaction.TxnId.{TxnId}
 use Rattle.pc_base.specs.Rising.{AreRising}
 use Rattle.pc_base.specs.Span.{key_at_most}
 use Rattle.pc_history.specs.declared.pair.Pair.{Pair}
-use Rattle.pc_lists.proofs.Lists.{contains_in_map, contains_nil, length_set}
+use Rattle.pc_lists.proofs.Lists.{contains_nil, length_set}
 use Rattle.pc_proto.specs.declared.event.Event.{Event}
 use Rattle.pc_proto.specs.declared.event.Event.TheVariants as events
 use Rattle.pc_proto.specs.declared.reply.Reply.{Reply}
@@ -21,7 +20,7 @@ use Rattle.pc_proto.specs.declared.request.Request.{Request}
 use Rattle.pc_proto.specs.declared.request.Request.TheVariants as requests
 use Rattle.pc_world.proofs.Knowing.{state_other, state_same}
 use Rattle.pc_world.proofs.Kept.{run_has_room}
-use Rattle.pc_world.proofs.Pieces.{lies-at-start, pieces-lie}
+use Rattle.pc_world.proofs.Pieces.{lies-at-start}
 use Rattle.pc_world.proofs.Prefixes.{run_induction}
 use Rattle.pc_world.specs.Evaluation.{reply, state_after}
 use Rattle.pc_world.specs.Known.{Known}
@@ -31,12 +30,11 @@ use Rattle.pc_world.specs.Named.{request_in, request_named}
 use Rattle.pc_world.specs.RangeOf.{GoesTo, IsForOne, pieces, range_of, range_of_start}
 use Rattle.pc_world.specs.RangeState.{RangeState, no_state}
 use Rattle.pc_world.specs.Run.{IsRun}
-use Rattle.pc_world.specs.Send.Reading.{MaySendScan}
 use Rattle.pc_world.specs.Stamps.{HasRoom}
 use Rattle.pc_world.specs.StateOf.{state_with}
 use Rattle.pc_runner.proofs.Entering.{eval_names, first_history, sound_begun}
 use Rattle.pc_runner.proofs.Places.{get_set_other, get_set_same}
-use Rattle.pc_runner.specs.Database.{IsForOneOrRefreshes, StandBy}
+use Rattle.pc_runner.specs.Database.{StandBy}
 use Rattle.pc_runner.specs.History.{History, IsSoundHistory, state_in}
 use Rattle.pc_runner.specs.Journal.{HasGrown, WasSentTo, next_entry}
 
@@ -106,17 +104,6 @@ goes-same splits (requests.Recover id epoch ts anchor finding) a b none one othe
 goes-same splits (requests.Resolve id key fate) a b none one other = one ∙ sym other
 goes-same splits (requests.Remove id anchor) a b none one other = one ∙ sym other
 goes-same splits requests.Records a b none one other = absurd none
-
-piece-lies : (splits : List (List ℕ)) (k : Known) (id : TxnId) (epoch seq ts : ℕ) (span : Span) → AreRising splits → MaySendScan splits k id epoch seq ts span → (range : ℕ) × (pieces splits span ≡ (range, span) ∷ [])
-piece-lies splits k id epoch seq ts span rising may =
-    let found = contains_in_map (λ (p : ℕ × Span). p.1) (pieces splits may.whole) span may.cut in
-    let lies : pieces splits found.0.1 ≡ (found.0.0, found.0.1) ∷ [] = pieces-lie splits may.whole found.0 rising found.1 in
-    (found.0.0, subst (λ s. pieces splits s ≡ (found.0.0, s) ∷ []) found.2 lies)
-
--- what a session may send is for one range, but for a refresh
-pub row_for_one : (splits : List (List ℕ)) (session : ℕ) (k : Known) (request : Request) → AreRising splits → MaySendRow splits (actors.Session session) k request → IsForOneOrRefreshes splits request
-row_for_one splits session k (requests.Scan id epoch seq ts span) rising may = piece-lies splits k id epoch seq ts span rising may
-row_for_one splits session k request rising may = tt
 
 no-listing : (splits : List (List ℕ)) (session : ℕ) (k : Known) (request : Request) → MaySendRow splits (actors.Session session) k request → IsNoListing request
 no-listing splits session k requests.Records may = absurd may

@@ -5,10 +5,9 @@ use Rattle.pc_proto.specs.declared.event.Event.TheVariants as events
 use Rattle.pc_proto.specs.declared.reply.Reply.{Reply}
 use Rattle.pc_proto.specs.declared.reply.Reply.TheVariants as replies
 use Rattle.pc_proto.specs.declared.request.Request.{Request}
-use Rattle.pc_proto.specs.declared.request.Request.TheVariants as requests
 use Rattle.pc_world.specs.Answering.{MayAnswer}
 use Rattle.pc_world.specs.Exchange.{IsPossibleReply}
-use Rattle.pc_world.specs.RangeOf.{GoesTo, IsForOne}
+use Rattle.pc_world.specs.RangeOf.{GoesTo}
 use Rattle.pc_world.specs.RangeState.{RangeState}
 use Rattle.pc_runner.specs.History.{History, IsSoundHistory, known_by, state_in}
 use Rattle.pc_runner.specs.Journal.{HasGrown, HasOneMore}
@@ -18,11 +17,6 @@ pub record StandBy (states : List RangeState) (h : History) : Type 0 where
   pub sound : IsSoundHistory h
   pub many : length states ≡ length h.head.splits + 1
   pub each : (range : ℕ) → range ≤ length h.head.splits → slice_get states range ≡ Some (state_in range h)
-
--- If the request is a scan, its span lies in one range. A refresh is not built: it may be of any span.
-abbrev pub IsForOneOrRefreshes : List (List ℕ) → Request → Type 0
-IsForOneOrRefreshes splits (requests.Refresh id from to span) = ⊤
-IsForOneOrRefreshes splits request = IsForOne splits request
 
 -- The session has sent this message under this number, to its range.
 pub record HasSent (before now : History) (session number : ℕ) (request : Request) : Type 0 where

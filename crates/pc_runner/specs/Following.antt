@@ -13,10 +13,10 @@ use Rattle.pc_work.specs.Built.{IsBuiltItem}
 use Rattle.pc_runner.specs.declared.outbox.Answered.{Answered}
 use Rattle.pc_runner.specs.declared.outbox.Posted.{Posted}
 use Rattle.pc_runner.specs.declared.session.SessionRun.{SessionRun}
-use Rattle.pc_script.specs.Script.{Position, next_call}
+use Rattle.pc_script.specs.Script.{Position, coming, next_call}
 use Rattle.pc_runner.specs.History.{History, IsSoundHistory, known_by}
 use Rattle.pc_runner.specs.Keeping.{AreDelivered, KeepsSoFar}
-use Rattle.pc_script.specs.Suiting.{AreOfOne, FitsCalls, IsCourse}
+use Rattle.pc_script.specs.Suiting.{FitsCalls, IsCourse, IsPlannedIn}
 use Rattle.pc_runner.specs.Traffic.{AreAnsweredFrom, ArePostedFrom, AwaitsAllBetween, HasHeard, IsPosted, IsReplied}
 
 -- The history is sound; the session is one of it, its coordinator knows what it knows, and its messages are counted.
@@ -59,8 +59,8 @@ pub record IsOpen (at : Position) (reading : ℕ) (k : Known) : Type 0 where
   pub next : next_call at ≡ Some call
   pub opened : k.statement ≡ Some (record { call = call; reading = reading })
   pub outside : is_outside call ≡ true → k.is_open ≡ false
-  pub course : IsCourse at.ahead
-  pub calls : AreOfOne (drop 1 at.calls)
+  pub course : IsCourse (coming at)
+  pub calls : All IsPlannedIn (drop 1 at.calls)
   pub items : All IsBuiltItem at.items
 
 -- Of the messages of the open call, those up to a number were heard, the next ones were evaluated with these replies, and the last ones

@@ -7,9 +7,9 @@ ghost use Rattle.pc_world.specs.Exchange.{IsAllowed};
 ghost use Rattle.pc_world.specs.Known.{next_number};
 ghost use Rattle.pc_world.specs.Local.{IsActorOf, MayAsk, MayHear};
 ghost use Rattle.pc_world.specs.MayTell.{MayTell};
-ghost use Rattle.pc_world.specs.RangeOf.{GoesTo};
+ghost use Rattle.pc_world.specs.RangeOf.{GoesTo, IsForOne};
 ghost use Rattle.pc_world.specs.Unstaged.{IsNoStage};
-ghost use Rattle.pc_runner.specs.Database.{HasEvaluated, HasSent, IsForOneOrRefreshes};
+ghost use Rattle.pc_runner.specs.Database.{HasEvaluated, HasSent};
 ghost use Rattle.pc_runner.specs.History.{IsSoundHistory, head_of, known_by};
 ghost use Rattle.pc_runner.specs.Journal.{HasGrown, WasSent};
 
@@ -81,16 +81,15 @@ impl<'a> Database<'a> {
     }
 
     /// The session sends the message of this number, to the range that it is for.
-    ///
-    /// It is refused too for a refresh: those are not built, and one may name a span of several ranges.
     pub fn send(&mut self, session: u32, number: u64, request: &Request) -> Result<(), NoMemory>
         requires there { IsActorOf self.old.head (actors.Session session) }
         requires next { number ≡ next_number (known_by session self.old) }
         requires allowed { IsAllowed self.old.head.splits (actors.Session session) (known_by session self.old) request.now }
+        requires one { IsForOne self.old.head.splits request.now }
         requires unstaged { IsNoStage request.now }
         ensures { OnOk result (HasSent self.old self.new session number request.now) }
     {
-        let range = self.range_of(request)?;
+        let range = self.range_of(request);
         let request = request.copy()?;
         self.journal.enter(
             ActorId::Session(session),
@@ -144,15 +143,12 @@ impl<'a> Database<'a> {
     }
 
     /// The range that the request is for.
-    fn range_of(&self, request: &Request) -> Result<u32, NoMemory>
+    fn range_of(&self, request: &Request) -> u32
         requires sound { IsSoundHistory self.now }
-        requires one { IsForOneOrRefreshes self.now.head.splits request.now }
-        ensures { IfOk result (GoesTo self.now.head.splits request.now) }
+        requires one { IsForOne self.now.head.splits request.now }
+        ensures { GoesTo self.now.head.splits request.now result }
     {
-        match request {
-            Request::Refresh { .. } => Err(NoMemory),
-            _ => Ok(range_for(self.journal.splits(), request)),
-        }
+        range_for(self.journal.splits(), request)
     }
 
     /// The message's range evaluates it, and its reply is entered. Gives the entry's step.

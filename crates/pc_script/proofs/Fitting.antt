@@ -1,5 +1,5 @@
 -- A session's script beside its open transaction: which call comes next suits it, before a call and after its answer.
-use Rattle.std.proofs.Common.{◌≡◌, ℕ, zero, suc, Bool, true, false, All, List, [], ◌∷◌, drop, slice_get, Option, Some, None, IfSome, refl, sym, ap, subst, ◌∙◌}
+use Rattle.std.proofs.Common.{◌≡◌, ℕ, zero, suc, Bool, true, false, All, List, [], ◌∷◌, ◌++◌, drop, map, slice_get, Option, Some, None, IfSome, refl, sym, ap, subst, ◌∙◌}
 use Rattle.std.proofs.lemmas.List.Concat.{flat_map-cons}
 use Rattle.std.proofs.lemmas.List.Elements.{All-append, All-cons, All-head, All-nil, All-push, All-tail}
 use Rattle.std.specs.List.{flat_map}
@@ -9,8 +9,11 @@ use Rattle.pc_coord.specs.Knows.{IsHeld}
 use Rattle.pc_coord.specs.Suiting.{Suits}
 use Rattle.pc_proto.specs.declared.call.Call.{Call}
 use Rattle.pc_proto.specs.declared.call.Call.TheVariants as calls
+use Rattle.pc_script.specs.declared.planned.Planned.{Planned}
+use Rattle.pc_script.specs.declared.planned.Planned.TheVariants as plans
+use Rattle.pc_script.specs.Planned.{planned_call}
 use Rattle.pc_script.specs.Script.{Position, calls_of, end_call, opened, rerun, statement_calls}
-use Rattle.pc_script.specs.Suiting.{AreOfOne, FitsCalls, FitsTxn, IsCallIn, IsCourse}
+use Rattle.pc_script.specs.Suiting.{AreOfOne, FitsCalls, FitsTxn, IsCallIn, IsCourse, IsPlannedIn}
 use Rattle.pc_txn.specs.declared.flight.InFlight.{InFlight}
 use Rattle.pc_txn.specs.declared.txn.OpenTxn.{OpenTxn}
 use Rattle.pc_work.specs.Built.{IsBuiltItem}
@@ -22,34 +25,65 @@ use Rattle.pc_world.specs.Known.{Known}
 use Rattle.pc_world.specs.Local.{is_outside, is_round}
 
 -- the calls of an item
-end_in : (commits : Bool) → IsCallIn (end_call commits)
+end_in : (commits : Bool) → IsPlannedIn (plans.Ask (end_call commits))
 end_in true = tt
 end_in false = tt
 
-step_calls : (step : Step) → AreOfOne (statement_calls step)
-step_calls (steps.Get key) = All-cons IsCallIn (calls.Get key) [] tt (All-nil IsCallIn)
-step_calls (steps.Scan span) = All-cons IsCallIn (calls.Scan span) [] tt (All-nil IsCallIn)
-step_calls (steps.Put key value) = All-cons IsCallIn (calls.Put key value) [] tt (All-nil IsCallIn)
-step_calls (steps.Delete key) = All-cons IsCallIn (calls.Delete key) [] tt (All-nil IsCallIn)
-step_calls (steps.Add key amount) = All-nil IsCallIn
+one_planned : (p : Planned) → IsPlannedIn p → All IsPlannedIn (p ∷ [])
+one_planned p is = All-cons IsPlannedIn p [] is (All-nil IsPlannedIn)
 
-all_calls : (statements : List Step) → AreOfOne (flat_map statement_calls statements)
-all_calls [] = All-nil IsCallIn
+step_calls : (step : Step) → All IsPlannedIn (statement_calls step)
+step_calls (steps.Get key) = one_planned (plans.Ask (calls.Get key)) tt
+step_calls (steps.Scan span) = one_planned (plans.Ask (calls.Scan span)) tt
+step_calls (steps.Put key value) = one_planned (plans.Ask (calls.Put key value)) tt
+step_calls (steps.Delete key) = one_planned (plans.Ask (calls.Delete key)) tt
+step_calls (steps.Add key amount) = All-cons IsPlannedIn (plans.Ask (calls.Get key)) (plans.PutSum key amount ∷ []) tt (one_planned (plans.PutSum key amount) tt)
+
+all_calls : (statements : List Step) → All IsPlannedIn (flat_map statement_calls statements)
+all_calls [] = All-nil IsPlannedIn
 all_calls (step ∷ statements) =
-    subst AreOfOne (sym (flat_map-cons statement_calls step statements))
-    (All-append IsCallIn (statement_calls step) (flat_map statement_calls statements) (step_calls step) (all_calls statements))
+    subst (All IsPlannedIn) (sym (flat_map-cons statement_calls step statements))
+    (All-append IsPlannedIn (statement_calls step) (flat_map statement_calls statements) (step_calls step) (all_calls statements))
 
-course_of : (item : Item) → IsBuiltItem item → IsCourse (calls_of item)
-course_of (Learn id) is = absurd is
-course_of (Txn priority statements commits) is = All-push IsCallIn (flat_map statement_calls statements) (end_call commits) (all_calls statements) (end_in commits)
-
-behind_begin : (item : Item) → IsBuiltItem item → AreOfOne (drop 1 (calls_of item))
+behind_begin : (item : Item) → IsBuiltItem item → All IsPlannedIn (drop 1 (calls_of item))
 behind_begin (Learn id) is = absurd is
-behind_begin (Txn priority statements commits) is = All-push IsCallIn (flat_map statement_calls statements) (end_call commits) (all_calls statements) (end_in commits)
+behind_begin (Txn priority statements commits) is = All-push IsPlannedIn (flat_map statement_calls statements) (plans.Ask (end_call commits)) (all_calls statements) (end_in commits)
+
+-- whatever was read, planned calls of one transaction come to such calls
+planned_in : (read : Option (List ℕ)) (p : Planned) → IsPlannedIn p → IsCallIn (planned_call read p)
+planned_in read (plans.Ask call) is = is
+planned_in read (plans.PutSum key amount) is = tt
+
+was_planned : (read : Option (List ℕ)) (p : Planned) → IsCallIn (planned_call read p) → IsPlannedIn p
+was_planned read (plans.Ask call) is = is
+was_planned read (plans.PutSum key amount) is = tt
+
+pub planned_calls : (read : Option (List ℕ)) (ps : List Planned) → All IsPlannedIn ps → AreOfOne (map (planned_call read) ps)
+planned_calls read [] each = All-nil IsCallIn
+planned_calls read (p ∷ ps) each =
+    All-cons IsCallIn (planned_call read p) (map (planned_call read) ps) (planned_in read p (All-head IsPlannedIn p ps each)) (planned_calls read ps (All-tail IsPlannedIn p ps each))
+
+were_planned : (read : Option (List ℕ)) (ps : List Planned) → AreOfOne (map (planned_call read) ps) → All IsPlannedIn ps
+were_planned read [] each = All-nil IsPlannedIn
+were_planned read (p ∷ ps) each =
+    All-cons IsPlannedIn p ps (was_planned read p (All-head IsCallIn (planned_call read p) (map (planned_call read) ps) each)) (were_planned read ps (All-tail IsCallIn (planned_call read p) (map (planned_call read) ps) each))
+
+-- something else was read since
+pub reread : (one other : Option (List ℕ)) (ps : List Planned) → AreOfOne (map (planned_call one) ps) → AreOfOne (map (planned_call other) ps)
+reread one other ps each = planned_calls other ps (were_planned one ps each)
+
+-- the calls behind the first one
+pub drop_planned : (read : Option (List ℕ)) (ps : List Planned) → map (planned_call read) (drop 1 ps) ≡ drop 1 (map (planned_call read) ps)
+drop_planned read [] = refl
+drop_planned read (p ∷ ps) = refl
+
+course_of : (item : Item) → IsBuiltItem item → IsCourse (map (planned_call None) (calls_of item))
+course_of (Learn id) is = absurd is
+course_of (Txn priority statements commits) is = planned_calls None (flat_map statement_calls statements ++ plans.Ask (end_call commits) ∷ []) (behind_begin (Txn priority statements commits) is)
 
 -- at the first call of the next item no transaction is open
 pub opened_fits : (items : List Item) (reruns : ℕ) → All IsBuiltItem items → FitsCalls (opened items reruns) None
-opened_fits [] reruns built = record { items = All-nil IsBuiltItem; calls = All-nil IsCallIn; now = All-nil IsCallIn }
+opened_fits [] reruns built = record { items = All-nil IsBuiltItem; calls = All-nil IsPlannedIn; now = All-nil IsCallIn }
 opened_fits (item ∷ items) reruns built = record {
   items = All-tail IsBuiltItem item items built;
   calls = behind_begin item (All-head IsBuiltItem item items built);
@@ -124,9 +158,9 @@ after_begin (calls.Begin own ∷ later) call priority txn course next begins fre
 after_begin (first ∷ later) call priority txn course next begins free = absurd cc
 
 -- behind the first of the calls
-pub behind : (ahead : List Call) (call : Call) (txn : Option OpenTxn) → AreOfOne ahead → slice_get ahead 0 ≡ Some call → IfSome txn IsFree → FitsTxn (drop 1 ahead) txn
-behind [] call txn one next free = absurd cc
-behind (first ∷ later) call txn one next free = free_fits later txn (All-tail IsCallIn first later one) free
+pub behind : (ahead : List Call) (txn : Option OpenTxn) → AreOfOne ahead → IfSome txn IsFree → FitsTxn (drop 1 ahead) txn
+behind [] txn one free = free_fits [] txn one free
+behind (first ∷ later) txn one free = free_fits later txn (All-tail IsCallIn first later one) free
 
 rollback_suits : (w : Option InFlight) → SuitsFlight calls.Rollback w
 rollback_suits None = tt
@@ -141,7 +175,7 @@ rollback_fits (Some x) = record {
 }
 
 -- calls once more, where a rerun is left
-pub rerun_fits : (again : List Call) (left : ℕ) (at : Position) (txn : Option OpenTxn) → All IsBuiltItem at.items → AreOfOne (drop 1 at.calls) → FitsTxn again txn → FitsCalls (rerun again left at) txn
+pub rerun_fits : (again : List Planned) (left : ℕ) (at : Position) (txn : Option OpenTxn) → All IsBuiltItem at.items → All IsPlannedIn (drop 1 at.calls) → FitsTxn (map (planned_call at.read) again) txn → FitsCalls (rerun again left at) txn
 rerun_fits again zero at txn items calls fits = record { items = items; calls = calls; now = rollback_fits txn }
 rerun_fits again (suc left) at txn items calls fits = record { items = items; calls = calls; now = fits }
 

@@ -1,5 +1,5 @@
 -- A session's script goes on with its open transaction after each answer.
-use Rattle.std.proofs.Common.{◌≡◌, ℕ, Bool, true, false, ◌&&◌, not, All, List, drop, Option, Some, None, IfSome, refl, sym, ap, subst, ◌∙◌}
+use Rattle.std.proofs.Common.{◌≡◌, ℕ, Bool, true, false, ◌&&◌, not, All, List, drop, map, Option, Some, None, IfSome, refl, sym, ap, subst, ◌∙◌}
 use Rattle.std.specs.Bool.{MatchBool}
 use Rattle.pc_base.specs.declared.actor.ActorId.{ActorId}
 use Rattle.pc_call.specs.Suiting.{SuitsFlightNext}
@@ -19,9 +19,10 @@ use Rattle.pc_world.specs.MayTell.{IsLearnTold, MayTellIn, MayTellRow, is_begin,
 use Rattle.pc_world.specs.Send.Put.{AsksFor}
 use Rattle.pc_world.specs.Tell.Begin.{MayTellBegun}
 use Rattle.pc_world.specs.Tell.Data.{MayTellRows, MayTellValue, MayTellWritten}
-use Rattle.pc_script.proofs.Fitting.{IsFree, after_begin, again_fits, behind, first_of, free_fits, opened_fits, rerun_fits}
-use Rattle.pc_script.specs.Script.{Position, after_told, next_call, opened}
-use Rattle.pc_script.specs.Suiting.{AreOfOne, FitsCalls, FitsTxn, IsCourse}
+use Rattle.pc_script.proofs.Fitting.{IsFree, after_begin, again_fits, behind, drop_planned, first_of, free_fits, opened_fits, planned_calls, reread, rerun_fits}
+use Rattle.pc_script.specs.Planned.{planned_call}
+use Rattle.pc_script.specs.Script.{Position, after_told, coming, next_call, opened}
+use Rattle.pc_script.specs.Suiting.{AreOfOne, FitsCalls, FitsTxn, IsCourse, IsPlannedIn}
 
 pub row_by : (needs past : Bool) (none clock row : Type 0) → (none → ⊥) → (clock → ⊥) → MatchBool needs none (MatchBool past clock row) → row
 row_by true past none clock row first second is = absurd (first is)
@@ -72,9 +73,9 @@ module _ (splits : List (List ℕ)) (actor : ActorId) (k : Known) (s : Statement
 
 -- The open call, and what becomes of the transaction by its answer.
 pub record IsAnsweredCall (at : Position) (k : Known) (call : Call) (answer : Answer) (txn : Option OpenTxn) : Type 0 where
-  pub course : IsCourse at.ahead
+  pub course : IsCourse (coming at)
   pub items : All IsBuiltItem at.items
-  pub calls : AreOfOne (drop 1 at.calls)
+  pub calls : All IsPlannedIn (drop 1 at.calls)
   pub next : next_call at ≡ Some call
   pub outside : is_outside call ≡ true → k.is_open ≡ false
   pub suits : SuitsNext answer call txn
@@ -85,17 +86,24 @@ module _ (at : Position) (txn : Option OpenTxn) where
   next_item : All IsBuiltItem at.items → txn ≡ None → FitsCalls (opened at.items at.reruns) txn
   next_item items none = subst (FitsCalls (opened at.items at.reruns)) (sym none) (opened_fits at.items at.reruns items)
 
-  -- behind a call of a transaction that was begun
-  on_behind : (call : Call) → IsCourse at.ahead → next_call at ≡ Some call → is_outside call ≡ false → IfSome txn IsFree → FitsTxn (drop 1 at.ahead) txn
-  on_behind call course next out free = behind at.ahead call txn ((first_of at.ahead call course next).inside out) next free
+  -- behind a call of a transaction that was begun, whatever it read
+  on_behind : (read : Option (List ℕ)) (call : Call) → IsCourse (coming at) → next_call at ≡ Some call → is_outside call ≡ false → IfSome txn IsFree → FitsTxn (map (planned_call read) (drop 1 at.ahead)) txn
+  on_behind read call course next out free =
+      let inside : AreOfOne (coming at) = (first_of (coming at) call course next).inside out in
+      subst (λ ahead. FitsTxn ahead txn) (sym (drop_planned read at.ahead))
+      (behind (map (planned_call read) at.ahead) txn (reread at.read read at.ahead inside) free)
 
-  written_by : (call : Call) (key : List ℕ) (value : Option (List ℕ)) → AsksFor (Some call) key value → IsCourse at.ahead → next_call at ≡ Some call → IfSome txn IsFree → FitsTxn (drop 1 at.ahead) txn
-  written_by call key None asks course next free = let same : call ≡ calls.Delete key = cc in on_behind call course next (ap is_outside same) free
-  written_by call key (Some value) asks course next free = let same : call ≡ calls.Put key value = cc in on_behind call course next (ap is_outside same) free
+  -- behind a call that read nothing
+  on_next : (call : Call) → IsCourse (coming at) → next_call at ≡ Some call → is_outside call ≡ false → IfSome txn IsFree → FitsTxn (map (planned_call at.read) (drop 1 at.ahead)) txn
+  on_next call = on_behind at.read call
+
+  written_by : (call : Call) (key : List ℕ) (value : Option (List ℕ)) → AsksFor (Some call) key value → IsCourse (coming at) → next_call at ≡ Some call → IfSome txn IsFree → FitsTxn (map (planned_call at.read) (drop 1 at.ahead)) txn
+  written_by call key None asks course next free = let same : call ≡ calls.Delete key = cc in on_next call course next (ap is_outside same) free
+  written_by call key (Some value) asks course next free = let same : call ≡ calls.Put key value = cc in on_next call course next (ap is_outside same) free
 
   -- the same call once more
-  once_more : (k : Known) (call : Call) → IsCourse at.ahead → next_call at ≡ Some call → (is_outside call ≡ true → k.is_open ≡ false) → Suits call txn → (k.is_open ≡ false → txn ≡ None) → FitsTxn at.ahead txn
-  once_more k call course next outside suits closed = again_fits at.ahead call txn course next suits (λ out. closed (outside out))
+  once_more : (k : Known) (call : Call) → IsCourse (coming at) → next_call at ≡ Some call → (is_outside call ≡ true → k.is_open ≡ false) → Suits call txn → (k.is_open ≡ false → txn ≡ None) → FitsTxn (coming at) txn
+  once_more k call course next outside suits closed = again_fits (coming at) call txn course next suits (λ out. closed (outside out))
 
 -- after an answer that leaves no write in flight
 free_next : (answer : Answer) (call : Call) (txn : Option OpenTxn) → ((w : Option InFlight) → SuitsFlightNext answer call w → w ≡ None) → SuitsNext answer call txn → IfSome txn IsFree
@@ -112,13 +120,13 @@ pub told_fits : (answer : Answer) (at : Position) (txn : Option OpenTxn) (splits
     → FitsCalls (after_told answer at) txn
 told_fits (answers.Begun id ts) at txn splits actor k s a may =
     let row : MayTellBegun actor k s id ts = row_by _ _ (answers.Begun id ts ≡ answers.NoTxn) (answers.Begun id ts ≡ answers.Clock s.reading) (MayTellBegun actor k s id ts) (λ e. absurd cc) (λ e. absurd cc) may in
-    record { items = a.items; calls = a.calls; now = after_begin at.ahead s.call row.priority txn a.course a.next row.asked (free_next (answers.Begun id ts) s.call txn (λ w none. none) a.suits) }
+    record { items = a.items; calls = a.calls; now = subst (λ ahead. FitsTxn ahead txn) (sym (drop_planned at.read at.ahead)) (after_begin (coming at) s.call row.priority txn a.course a.next row.asked (free_next (answers.Begun id ts) s.call txn (λ w none. none) a.suits)) }
 told_fits (answers.Value value) at txn splits actor k s a may =
     let row : MayTellValue k s value = row_by _ _ (answers.Value value ≡ answers.NoTxn) (answers.Value value ≡ answers.Clock s.reading) (MayTellValue k s value) (λ e. absurd cc) (λ e. absurd cc) may in
-    record { items = a.items; calls = a.calls; now = on_behind at txn s.call a.course a.next (ap is_outside row.asked) (free_next (answers.Value value) s.call txn (λ w none. none) a.suits) }
+    record { items = a.items; calls = a.calls; now = on_behind at txn value s.call a.course a.next (ap is_outside row.asked) (free_next (answers.Value value) s.call txn (λ w none. none) a.suits) }
 told_fits (answers.Rows rows) at txn splits actor k s a may =
     let row : MayTellRows splits k s rows = row_by _ _ (answers.Rows rows ≡ answers.NoTxn) (answers.Rows rows ≡ answers.Clock s.reading) (MayTellRows splits k s rows) (λ e. absurd cc) (λ e. absurd cc) may in
-    record { items = a.items; calls = a.calls; now = on_behind at txn s.call a.course a.next (ap is_outside row.asked) (free_next (answers.Rows rows) s.call txn (λ w none. none) a.suits) }
+    record { items = a.items; calls = a.calls; now = on_next at txn s.call a.course a.next (ap is_outside row.asked) (free_next (answers.Rows rows) s.call txn (λ w none. none) a.suits) }
 told_fits answers.Written at txn splits actor k s a may =
     let row : MayTellWritten k s = row_by _ _ (answers.Written ≡ answers.NoTxn) (answers.Written ≡ answers.Clock s.reading) (MayTellWritten k s) (λ e. absurd cc) (λ e. absurd cc) may in
     let first = row.sent.4 in
@@ -130,7 +138,7 @@ told_fits (answers.Unavailable faults) at txn splits actor k s a may =
 told_fits (answers.Moved ts) at txn splits actor k s a may =
     rerun_fits at.ahead at.left at txn a.items a.calls (once_more at txn k s.call a.course a.next a.outside (again_next (answers.Moved ts) s.call txn (λ x suits. suits) a.suits) a.closed)
 told_fits (answers.Restart key ts) at txn splits actor k s a may =
-    rerun_fits (drop 1 at.calls) at.left at txn a.items a.calls (free_fits (drop 1 at.calls) txn a.calls (free_next (answers.Restart key ts) s.call txn (λ w none. none) a.suits))
+    rerun_fits (drop 1 at.calls) at.left at txn a.items a.calls (free_fits (map (planned_call at.read) (drop 1 at.calls)) txn (planned_calls at.read (drop 1 at.calls) a.calls) (free_next (answers.Restart key ts) s.call txn (λ w none. none) a.suits))
 told_fits answers.Learnt at txn splits actor k s a may =
     let row : IsLearnTold true k s.call = row_by _ _ (answers.Learnt ≡ answers.NoTxn) (answers.Learnt ≡ answers.Clock s.reading) (IsLearnTold true k s.call) (λ e. absurd cc) (λ e. absurd cc) may in
     next_item at txn a.items (a.closed (a.outside (learn_outside true k s.call row)))
@@ -143,10 +151,10 @@ told_fits (answers.Aborted why) at txn splits actor k s a may = next_item at txn
 told_fits (answers.Unknown id) at txn splits actor k s a may = next_item at txn a.items (a.closed refl)
 told_fits (answers.Clock reading) at txn splits actor k s a may = next_item at txn a.items (a.closed (a.outside (clock_begins splits actor k s reading may)))
 told_fits answers.NoTxn at txn splits actor k s a may =
-    record { items = a.items; calls = a.calls; now = subst (FitsTxn at.ahead) (sym (a.closed (none_open splits actor k s may))) a.course }
+    record { items = a.items; calls = a.calls; now = subst (FitsTxn (coming at)) (sym (a.closed (none_open splits actor k s may))) a.course }
 told_fits answers.Done at txn splits actor k s a may =
     let row : s.call ≡ calls.Round = row_by _ _ (answers.Done ≡ answers.NoTxn) (answers.Done ≡ answers.Clock s.reading) (s.call ≡ calls.Round) (λ e. absurd cc) (λ e. absurd cc) may in
-    let e : true ≡ false = sym (ap is_round row) ∙ (first_of at.ahead s.call a.course a.next).round in
+    let e : true ≡ false = sym (ap is_round row) ∙ (first_of (coming at) s.call a.course a.next).round in
     absurd cc
 
 -- where no transaction is open after an answer, the coordinator holds none

@@ -3,7 +3,9 @@ use Rattle.std.specs.Prelude.{◌≡◌, Option, None, Some, List, ◌∷◌, Al
 use Rattle.pc_call.specs.Suiting.{SuitsFlight}
 use Rattle.pc_proto.specs.declared.call.Call.{Call}
 use Rattle.pc_proto.specs.declared.call.Call.TheVariants as calls
-use Rattle.pc_script.specs.Script.{Position}
+use Rattle.pc_script.specs.declared.planned.Planned.{Planned}
+use Rattle.pc_script.specs.declared.planned.Planned.TheVariants as plans
+use Rattle.pc_script.specs.Script.{Position, coming}
 use Rattle.pc_txn.specs.declared.txn.OpenTxn.{OpenTxn}
 use Rattle.pc_work.specs.Built.{IsBuiltItem}
 
@@ -20,6 +22,11 @@ IsCallIn _ = ⊥
 -- The calls are those of one transaction that was begun.
 abbrev pub AreOfOne : List Call → Type 0
 AreOfOne ahead = All IsCallIn ahead
+
+-- The planned call is one of a transaction that was begun.
+abbrev pub IsPlannedIn : Planned → Type 0
+IsPlannedIn (plans.Ask call) = IsCallIn call
+IsPlannedIn (plans.PutSum key amount) = ⊤
 
 -- The calls are those of one transaction, from its begin or from a later one on.
 abbrev pub IsCourse : List Call → Type 0
@@ -39,5 +46,5 @@ FitsTxn ahead (Some x) = GoesOnWith ahead x
 -- transaction; and each later item is of the form that is built.
 pub record FitsCalls (at : Position) (txn : Option OpenTxn) : Type 0 where
   pub items : All IsBuiltItem at.items
-  pub calls : AreOfOne (drop 1 at.calls)
-  pub now : FitsTxn at.ahead txn
+  pub calls : All IsPlannedIn (drop 1 at.calls)
+  pub now : FitsTxn (coming at) txn

@@ -5,14 +5,15 @@ ghost use Rattle.pc_script.specs.Script.{items_over};
 ghost use Rattle.pc_script.specs.Ahead.{with_ahead};
 ghost use Rattle.pc_work.specs.declared.item.Item.TheVariants as items;
 
-use pc_base::{Items, NoMemory, Priority, TryCopy};
+use crate::planned::Planned;
+use pc_base::{Items, NoMemory, Priority, TryCopy, Value};
 use pc_proto::{Answer, Call};
 use pc_work::{Item, Script, Statement, Statements};
 use std::alloc::Global;
 use std::marker::Model;
 
-/// The calls of one item of a script, in order.
-type Calls = Items<Call>;
+/// The calls that one item of a script plans, in order.
+type Calls = Items<Planned>;
 
 /// Where a session is in its script. Contracts see it as that position.
 #[derive(Drop)]
@@ -24,6 +25,8 @@ pub struct ScriptRun<'a> {
     calls: Calls,
     /// How many of them are over.
     over: usize,
+    /// What the last get was told.
+    read: Option<Value>,
     /// Whether the transaction is rolled back in place of what is ahead.
     gives_up: bool,
     /// How many reruns each item has.
@@ -38,7 +41,7 @@ impl<'a> Model for ScriptRun<'a> {
 
     ghost Value = { Position };
 
-    ghost view = { λ s. record { items = s.items.now; calls = s.calls; ahead = ahead_of s.gives_up s.over s.calls; reruns = s.reruns; left = s.left } };
+    ghost view = { λ s. record { items = s.items.now; calls = s.calls; ahead = ahead_of s.gives_up s.over s.calls; read = s.read; reruns = s.reruns; left = s.left } };
 }
 
 impl<'a> ScriptRun<'a> {
@@ -51,6 +54,7 @@ impl<'a> ScriptRun<'a> {
             items: script.as_slice(),
             calls: Items::new(alloc),
             over: 0,
+            read: None,
             gives_up: false,
             reruns,
             left: reruns,
@@ -68,7 +72,7 @@ impl<'a> ScriptRun<'a> {
         }
         match self.calls.get(self.over) {
             None => Ok(None),
-            Some(call) => Ok(Some(call.copy()?)),
+            Some(planned) => Ok(Some(planned.call(self.alloc, &self.read)?)),
         }
     }
 
@@ -92,7 +96,12 @@ impl<'a> ScriptRun<'a> {
         ensures { OnOk result (self.new ≡ after_told answer.now self.old) }
     {
         match answer {
-            Answer::Begun { .. } | Answer::Value(_) | Answer::Rows(_) | Answer::Written => {
+            Answer::Value(value) => {
+                self.read = value.copy()?;
+                self.go_on();
+                Ok(())
+            }
+            Answer::Begun { .. } | Answer::Rows(_) | Answer::Written => {
                 self.go_on();
                 Ok(())
             }
@@ -163,6 +172,7 @@ impl<'a> ScriptRun<'a> {
             }
         };
         self.over = 0;
+        self.read = None;
         self.gives_up = false;
         self.left = self.reruns;
         Ok(())
@@ -181,7 +191,7 @@ fn item_calls(alloc: Global, item: &Item) -> Result<Calls, NoMemory>
         } => txn_calls(alloc, *priority, statements, *commits),
         Item::Learn(id) => {
             let mut calls = Items::new(alloc);
-            calls.add(Call::Learn(*id))?;
+            calls.add(Planned::Ask(Call::Learn(*id)))?;
             Ok(calls)
         }
     }
@@ -197,13 +207,13 @@ fn txn_calls(
     ensures { IfOk result (λ made. made ≡ calls_of (items.Txn priority statements.now commits)) }
 {
     let mut calls = Items::new(alloc);
-    calls.add(Call::Begin(priority))?;
+    calls.add(Planned::Ask(Call::Begin(priority)))?;
     add_statements(&mut calls, statements.as_slice())?;
-    calls.add(if commits {
+    calls.add(Planned::Ask(if commits {
         Call::Commit
     } else {
         Call::Rollback
-    })?;
+    }))?;
     Ok(calls)
 }
 
@@ -217,19 +227,22 @@ fn add_statements(calls: &mut Calls, statements: &[Statement]) -> Result<(), NoM
     Ok(())
 }
 
-/// Adds the call of the statement. An add has none, since it is not built.
+/// Adds the calls of the statement.
 fn add_statement(calls: &mut Calls, statement: &Statement) -> Result<(), NoMemory>
     ensures { OnOk result (calls.new ≡ calls.old ++ statement_calls statement.now) }
 {
     match statement {
-        Statement::Get(key) => calls.add(Call::Get(key.copy()?)),
-        Statement::Scan(span) => calls.add(Call::Scan(span.copy()?)),
+        Statement::Get(key) => calls.add(Planned::Ask(Call::Get(key.copy()?))),
+        Statement::Scan(span) => calls.add(Planned::Ask(Call::Scan(span.copy()?))),
         Statement::Put(key, value) => {
             let key = key.copy()?;
             let value = value.copy()?;
-            calls.add(Call::Put(key, value))
+            calls.add(Planned::Ask(Call::Put(key, value)))
         }
-        Statement::Delete(key) => calls.add(Call::Delete(key.copy()?)),
-        Statement::Add(..) => Ok(()),
+        Statement::Delete(key) => calls.add(Planned::Ask(Call::Delete(key.copy()?))),
+        Statement::Add(key, amount) => {
+            calls.add(Planned::Ask(Call::Get(key.copy()?)))?;
+            calls.add(Planned::PutSum(key.copy()?, *amount))
+        }
     }
 }

@@ -96,16 +96,23 @@ fn a_clock_has_a_start_and_a_step_in_their_limits(rt: HostRuntime) -> Result<(),
 }
 
 #[test]
-fn statements_all_read_or_all_write(rt: HostRuntime) -> Result<(), Fail> {
+fn statements_read_write_and_add(rt: HostRuntime) -> Result<(), Fail> {
     let alloc = rt.alloc();
     for (statements, number) in [
         ("", 0),
         ("{\"put\":[\"a\",\"\"]},{\"delete\":\"b\"}", 0),
         ("{\"get\":\"a\"},{\"scan\":[\"\",\"b\"]}", 0),
         ("{\"put\":[\"\\u0061\",\"x\"]}", 0),
-        ("{\"get\":\"a\"},{\"delete\":\"a\"}", 10),
-        ("{\"put\":[\"a\",\"x\"]},{\"scan\":[\"\",\"\"]}", 10),
-        ("{\"add\":[\"a\",1]}", 10),
+        ("{\"get\":\"a\"},{\"delete\":\"a\"}", 0),
+        ("{\"put\":[\"a\",\"x\"]},{\"scan\":[\"\",\"\"]}", 0),
+        ("{\"add\":[\"a\",1000000000]}", 0),
+        ("{\"add\":[\"a\",-1000000000]}", 0),
+        ("{\"add\":[\"a\",1000000001]}", 10),
+        ("{\"add\":[\"a\",-1000000001]}", 10),
+        ("{\"add\":[\"a\",-0]}", 10),
+        ("{\"add\":[\"a\",1.0]}", 10),
+        ("{\"add\":[\"a\",\"1\"]}", 10),
+        ("{\"add\":[\"a\"]}", 10),
         ("{\"put\":[\"a\",\"x\"]},{}", 10),
         ("{\"put\":[\"a\"]}", 10),
         ("{\"put\":[\"a\",\"x\",\"y\"]}", 10),

@@ -1,20 +1,19 @@
 -- A workload that is read is of the form that is accepted, and is run where it passes the test.
-use Rattle.std.proofs.Common.{◌≡◌, ℕ, ◌≤◌, ◌==◌, ◌&&◌, not, is_some, nat_le, IfSome, IsSomeAnd, Bool, true, false, cond, All, List, [], ◌∷◌, length, sum_by, Option, Some, None, ◌⊎◌, inl, inr, codes, refl, subst, arith}
+use Rattle.std.proofs.Common.{◌≡◌, ℕ, ◌≤◌, ◌==◌, ◌&&◌, not, is_some, nat_le, IfSome, IsSomeAnd, Bool, true, false, cond, All, List, [], ◌∷◌, length, sum_by, Option, Some, None, codes, refl, subst, arith}
 use Rattle.std.specs.List.{list_all, AllByRecursion}
-use Rattle.std.proofs.lemmas.Bool.{and_parts, or_cases, leb-true, false≢true}
+use Rattle.std.proofs.lemmas.Bool.{and_parts, leb-true, false≢true}
 use Rattle.std.proofs.lemmas.List.Elements.{All-cons, All-from_recursion, All-head, All-nil, All-tail}
 use Rattle.std.proofs.lemmas.Option.{none-some}
 use Rattle.serde_json.specs.Data.{Data, null, boolean, number, string, array, object, Items, no_items, item}
 use Rattle.serde_json.specs.Find.{get, as_bool}
 use Rattle.pc_base.specs.declared.limits.TheConstants.{LEAST_ENTRIES, MOST_ENTRIES, MOST_RERUNS, MOST_SESSIONS, MOST_SPLITS, MOST_STATEMENTS, MOST_TURNS}
 use Rattle.pc_base.specs.Rising.{AreRising, keys_rise}
-use Rattle.pc_base.specs.Span.{key_below}
 use Rattle.pc_base.specs.declared.transaction.Priority.TheVariants.{Normal}
 use Rattle.pc_work.specs.Reading.{◌>>=◌}
 use Rattle.pc_work.specs.Members.{has_only, member_if, member_or, read_or, whole_between, whole_in, whole_of, whole_up_to}
 use Rattle.pc_work.specs.Lists.{items_by, list_by}
 use Rattle.pc_work.specs.Count.{session_count}
-use Rattle.pc_work.specs.Item.{only_reads, only_writes, are_alike, item_names, item_of}
+use Rattle.pc_work.specs.Item.{item_names, item_of}
 use Rattle.pc_work.specs.Clock.{clock_of}
 use Rattle.pc_work.specs.Ending.{commits_of}
 use Rattle.pc_work.specs.Priority.{priority_of}
@@ -25,11 +24,9 @@ use Rattle.pc_work.specs.Splits.{splits_of}
 use Rattle.pc_work.specs.Turn.{is_turn_there, turn_of}
 use Rattle.pc_work.specs.Workload.{are_stated_turns, are_turns_within, is_within_limits, first_items, are_sessions, workload_names, workload_of, has_built_form, states_clock}
 use Rattle.pc_work.specs.Accepted.{HasBuiltItems, IsAccepted}
-use Rattle.pc_work.specs.Built.{IsReadStatement, IsWriteStatement, IsBuiltItem, IsBuiltSession, IsTurnOf, AreTurnsOf, IsBuilt}
+use Rattle.pc_work.specs.Built.{IsBuiltItem, IsBuiltSession, IsTurnOf, AreTurnsOf, IsBuilt}
 use Rattle.pc_work.specs.declared.item.Item.TheVariants.{Txn}
 use Rattle.pc_work.specs.declared.session.SessionWork.{SessionWork}
-use Rattle.pc_work.specs.declared.statement.Statement.{Statement}
-use Rattle.pc_work.specs.declared.statement.Statement.TheVariants.{Get, Scan, Put, Delete, Add}
 use Rattle.pc_work.specs.declared.turn.Turn.{Turn}
 use Rattle.pc_work.specs.declared.turn.Turn.TheVariants.{Session, Job, Recoverer}
 use Rattle.pc_work.specs.declared.workload.Workload.{Workload}
@@ -89,26 +86,6 @@ each_by test P says (x ∷ xs) e =
 all_by : {X : Type 0} (test : X → Bool) (P : X → Type 0) → ((x : X) → test x ≡ true → P x) → (xs : List X) → list_all test xs ≡ true → All P xs
 all_by test P says xs e = All-from_recursion P xs (each_by test P says xs e)
 
-reads : (statement : Statement) → only_reads statement ≡ true → IsReadStatement statement
-reads (Get key) e = tt
-reads (Scan span) e = tt
-reads (Put key value) e = absurd (false≢true e)
-reads (Delete key) e = absurd (false≢true e)
-reads (Add key amount) e = absurd (false≢true e)
-
-writes : (statement : Statement) → only_writes statement ≡ true → IsWriteStatement statement
-writes (Get key) e = absurd (false≢true e)
-writes (Scan span) e = absurd (false≢true e)
-writes (Put key value) e = tt
-writes (Delete key) e = tt
-writes (Add key amount) e = absurd (false≢true e)
-
-unmixed : (statements : List Statement) → are_alike statements ≡ true → All IsReadStatement statements ⊎ All IsWriteStatement statements
-unmixed statements e = elim (or_cases (list_all only_reads statements) (list_all only_writes statements) e) [
-  | inl r ↦ inl (all_by only_reads IsReadStatement reads statements r)
-  | inr w ↦ inr (all_by only_writes IsWriteStatement writes statements w)
-]
-
 item_is_built : (value : Data) → Only IsBuiltItem (item_of value)
 unfolding item_of
 item_is_built value =
@@ -117,8 +94,7 @@ item_is_built value =
     only_behind IsBuiltItem (list_by statement_of found) _ (λ statements.
     only_behind IsBuiltItem (member_or Normal priority_of (codes "priority") value) _ (λ priority.
     only_behind IsBuiltItem (member_or true commits_of (codes "end") value) _ (λ commits.
-    only_when IsBuiltItem (are_alike statements) _ (λ alike.
-    only_some IsBuiltItem (Txn priority statements commits) (unmixed statements alike)))))))
+    only_some IsBuiltItem (Txn priority statements commits) tt)))))
 
 session_is_built : (value : Data) → Only HasBuiltItems (session_of value)
 unfolding session_of

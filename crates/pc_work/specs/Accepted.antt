@@ -8,7 +8,7 @@ use Rattle.pc_work.specs.Workload.{first_items}
 use Rattle.pc_work.specs.declared.session.SessionWork.{SessionWork}
 use Rattle.pc_work.specs.declared.workload.Workload.{Workload}
 
--- Each item of the session's script is a transaction that only reads or only writes.
+-- Each item of the session's script is a transaction.
 abbrev pub HasBuiltItems : SessionWork → Type 0
 HasBuiltItems session = All IsBuiltItem session.script
 
@@ -35,7 +35,7 @@ pub record IsAccepted (work : Workload) : Type 0 where
   pub some_session : 1 ≤ length work.sessions
   -- The sessions are no more than their limit.
   pub few_sessions : length work.sessions ≤ MOST_SESSIONS
-  -- Each session states transactions that only read or only write.
+  -- Each session states transactions.
   pub sessions : All HasBuiltItems work.sessions
   -- The statements of all sessions are no more than their limit.
   pub few_statements : sum_by session_count work.sessions ≤ MOST_STATEMENTS

@@ -1,11 +1,9 @@
 -- The form of a workload that is read, as a fact about the workload itself: what runs a workload may rest on it.
-use Rattle.std.specs.Prelude.{◌≡◌, ◌≤◌, ℕ, false, List, length, sum_by, IsSome, IsSomeAnd, All, ◌⊎◌, ⊤}
+use Rattle.std.specs.Prelude.{◌≡◌, ◌≤◌, ℕ, false, List, length, sum_by, IsSome, IsSomeAnd, All, ⊤}
 use Rattle.pc_base.specs.declared.limits.TheConstants.{DEFAULT_ENTRIES, DEFAULT_TRIES, MOST_RERUNS, MOST_SESSIONS, MOST_SPLITS, MOST_STATEMENTS, MOST_TURNS}
 use Rattle.pc_base.specs.Rising.{AreRising}
 use Rattle.pc_work.specs.Count.{session_count}
 use Rattle.pc_work.specs.Workload.{first_items}
-use Rattle.pc_work.specs.declared.statement.Statement.{Statement}
-use Rattle.pc_work.specs.declared.statement.Statement.TheVariants.{Get, Scan, Put, Delete, Add}
 use Rattle.pc_work.specs.declared.item.Item.{Item}
 use Rattle.pc_work.specs.declared.item.Item.TheVariants.{Learn, Txn}
 use Rattle.pc_work.specs.declared.session.SessionWork.{SessionWork}
@@ -13,28 +11,12 @@ use Rattle.pc_work.specs.declared.turn.Turn.{Turn}
 use Rattle.pc_work.specs.declared.turn.Turn.TheVariants.{Session, Job, Recoverer}
 use Rattle.pc_work.specs.declared.workload.Workload.{Workload}
 
--- The statement reads, and writes nothing: a get or a scan.
-abbrev pub IsReadStatement : Statement → Type 0
-IsReadStatement (Get key) = ⊤
-IsReadStatement (Scan span) = ⊤
-IsReadStatement (Put key value) = ⊥
-IsReadStatement (Delete key) = ⊥
-IsReadStatement (Add key amount) = ⊥
-
--- The statement writes, and reads nothing: a put or a delete.
-abbrev pub IsWriteStatement : Statement → Type 0
-IsWriteStatement (Get key) = ⊥
-IsWriteStatement (Scan span) = ⊥
-IsWriteStatement (Put key value) = ⊤
-IsWriteStatement (Delete key) = ⊤
-IsWriteStatement (Add key amount) = ⊥
-
--- The item is a transaction whose statements all read, or all write.
+-- The item is a transaction: it reads and writes, in any mixture. Learns are not built yet.
 abbrev pub IsBuiltItem : Item → Type 0
 IsBuiltItem (Learn id) = ⊥
-IsBuiltItem (Txn priority statements commits) = All IsReadStatement statements ⊎ All IsWriteStatement statements
+IsBuiltItem (Txn priority statements commits) = ⊤
 
--- The session states its clock, and each item of its script is a transaction that only reads or only writes.
+-- The session states its clock, and each item of its script is a transaction.
 pub record IsBuiltSession (session : SessionWork) : Type 0 where
   pub clock : IsSome session.clock
   pub items : All IsBuiltItem session.script
@@ -72,7 +54,7 @@ pub record IsBuilt (work : Workload) : Type 0 where
   pub some_session : 1 ≤ length work.sessions
   -- The sessions are no more than their limit.
   pub few_sessions : length work.sessions ≤ MOST_SESSIONS
-  -- Each session states its clock, and transactions that only read or only write.
+  -- Each session states its clock, and transactions.
   pub sessions : All IsBuiltSession work.sessions
   -- The statements of all sessions are no more than their limit.
   pub few_statements : sum_by session_count work.sessions ≤ MOST_STATEMENTS

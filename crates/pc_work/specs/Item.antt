@@ -1,6 +1,5 @@
--- An item of a session's script: a transaction, which only reads or only writes, and then commits or rolls back.
-use Rattle.std.specs.Prelude.{ℕ, Bool, true, false, ◌||◌, List, [], ◌∷◌, Option, Some, None, codes, if◌then◌else◌}
-use Rattle.std.specs.List.{list_all}
+-- An item of a session's script: a transaction, which reads and writes, and then commits or rolls back.
+use Rattle.std.specs.Prelude.{ℕ, true, List, [], ◌∷◌, Option, Some, None, codes, if◌then◌else◌}
 use Rattle.serde_json.specs.Data.{Data}
 use Rattle.serde_json.specs.Find.{get}
 use Rattle.pc_base.specs.declared.transaction.Priority.TheVariants.{Normal}
@@ -10,34 +9,12 @@ use Rattle.pc_work.specs.Lists.{list_by}
 use Rattle.pc_work.specs.Priority.{priority_of}
 use Rattle.pc_work.specs.Ending.{commits_of}
 use Rattle.pc_work.specs.Statement.{statement_of}
-use Rattle.pc_work.specs.declared.statement.Statement.{Statement}
-use Rattle.pc_work.specs.declared.statement.Statement.TheVariants.{Get, Scan, Put, Delete, Add}
 use Rattle.pc_work.specs.declared.item.Item.{Item}
 use Rattle.pc_work.specs.declared.item.Item.TheVariants.{Txn}
 
 -- The names of a transaction's members, of which the statements are required.
 abbrev pub item_names : List (List ℕ)
 item_names = codes "do" ∷ codes "priority" ∷ codes "end" ∷ []
-
--- The statement reads, and writes nothing.
-abbrev pub only_reads : Statement → Bool
-only_reads (Get key) = true
-only_reads (Scan span) = true
-only_reads (Put key value) = false
-only_reads (Delete key) = false
-only_reads (Add key amount) = false
-
--- The statement writes, and reads nothing.
-abbrev pub only_writes : Statement → Bool
-only_writes (Get key) = false
-only_writes (Scan span) = false
-only_writes (Put key value) = true
-only_writes (Delete key) = true
-only_writes (Add key amount) = false
-
--- The statements all read, or all write; where there are none, they do both.
-abbrev pub are_alike : List Statement → Bool
-are_alike statements = list_all only_reads statements || list_all only_writes statements
 
 -- The item that a value states: an object with its statements, at the normal priority and committed unless it states otherwise.
 unfoldable pub item_of : Data → Option Item
@@ -46,4 +23,4 @@ item_of value = if has_only item_names value then (do
   statements ← list_by statement_of found
   priority ← member_or Normal priority_of (codes "priority") value
   commits ← member_or true commits_of (codes "end") value
-  if are_alike statements then Some (Txn priority statements commits) else None) else None
+  Some (Txn priority statements commits)) else None

@@ -1,5 +1,6 @@
 -- What bytes are as a workload, and how large a workload is.
 pub mod Accepted
+pub mod Amount
 pub mod Built
 pub mod Clock
 pub mod Count

@@ -1,12 +1,10 @@
-ghost use Rattle.std.specs.Prelude.{◌≡◌};
-ghost use Rattle.std.specs.List.{list_all};
-ghost use Rattle.pc_work.specs.Item.{only_reads, only_writes, are_alike, item_of};
+ghost use Rattle.pc_work.specs.Item.{item_of};
 
 use crate::ending::commits_or_true;
 use crate::fault::Misfit;
 use crate::json::{FromJson, has_only, list, member};
 use crate::priority::priority_or_normal;
-use crate::statement::{Statement, Statements};
+use crate::statement::Statements;
 use pc_base::{Items, Priority, TxnId};
 use serde_json::Value as Json;
 use std::alloc::Global;
@@ -38,33 +36,10 @@ impl FromJson for Item {
         let statements: Statements = list(alloc, member(json, "do")?)?;
         let priority = priority_or_normal(json, "priority")?;
         let commits = commits_or_true(json, "end")?;
-        if !are_alike(&statements) {
-            return Err(Misfit::OtherForm);
-        }
         Ok(Item::Txn {
             priority,
             statements,
             commits,
         })
     }
-}
-
-/// Whether the statements are all reads or all writes.
-fn are_alike(statements: &Statements) -> bool
-    ensures { result ≡ are_alike statements.now }
-{
-    let statements = statements.as_slice();
-    all_only_read(statements) || all_only_write(statements)
-}
-
-fn all_only_read(statements: &[Statement]) -> bool
-    ensures { result ≡ list_all only_reads statements.now }
-{
-    statements.iter().all(Statement::only_reads)
-}
-
-fn all_only_write(statements: &[Statement]) -> bool
-    ensures { result ≡ list_all only_writes statements.now }
-{
-    statements.iter().all(Statement::only_writes)
 }

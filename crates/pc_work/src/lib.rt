@@ -1,6 +1,7 @@
 //! The workload: what the sessions do, read from JSON, and the one refusal that applies where it is not accepted.
 #![tactic(auto)]
 
+mod amount;
 mod clock;
 mod count;
 mod ending;

@@ -1,9 +1,8 @@
-ghost use Rattle.std.specs.Prelude.{◌≡◌};
 ghost use Rattle.serde_json.specs.View.{view};
 ghost use Rattle.pc_work.specs.Reading.{Gives};
-ghost use Rattle.pc_work.specs.Item.{only_reads, only_writes};
-ghost use Rattle.pc_work.specs.Statement.{delete_statement, get_statement, put_statement, scan_statement, statement_of};
+ghost use Rattle.pc_work.specs.Statement.{add_statement, delete_statement, get_statement, put_statement, scan_statement, statement_of};
 
+use crate::amount::amount_of;
 use crate::fault::Misfit;
 use crate::json::{FromJson, has_only, member, pair};
 use crate::span::span_of;
@@ -18,26 +17,12 @@ pub enum Statement {
     Scan(Span),
     Put(Key, Value),
     Delete(Key),
-    /// Reads a decimal number and writes it with this added.
+    /// Reads a decimal number and writes it with this added; what is no number counts as 0.
     Add(Key, i64),
 }
 
 /// The statements of one transaction, in order.
 pub type Statements = Items<Statement>;
-
-impl Statement {
-    pub(crate) fn only_reads(&self) -> bool
-        ensures { result ≡ only_reads self.now }
-    {
-        matches!(self, Statement::Get(_) | Statement::Scan(_))
-    }
-
-    pub(crate) fn only_writes(&self) -> bool
-        ensures { result ≡ only_writes self.now }
-    {
-        matches!(self, Statement::Put(_, _) | Statement::Delete(_))
-    }
-}
 
 impl FromJson for Statement {
     ghost found_in = { statement_of };
@@ -52,6 +37,8 @@ impl FromJson for Statement {
             put(alloc, member(json, "put")?)
         } else if has_only(json, &["delete"]) {
             delete(alloc, member(json, "delete")?)
+        } else if has_only(json, &["add"]) {
+            add(alloc, member(json, "add")?)
         } else {
             Err(Misfit::OtherForm)
         }
@@ -84,4 +71,14 @@ fn delete(alloc: Global, json: &Json) -> Result<Statement, Misfit>
     ensures { Gives result (delete_statement (view json.now)) }
 {
     Ok(Statement::Delete(Key::from_json(alloc, json)?))
+}
+
+#[tactic(auto, unfolding(crate::specs::Statement::add_statement))]
+fn add(alloc: Global, json: &Json) -> Result<Statement, Misfit>
+    ensures { Gives result (add_statement (view json.now)) }
+{
+    let (key, amount) = pair(json)?;
+    let key = Key::from_json(alloc, key)?;
+    let amount = amount_of(amount)?;
+    Ok(Statement::Add(key, amount))
 }

@@ -1,6 +1,6 @@
 -- Turns: in which order calls and finishing jobs come, each of them whole. First the opening of the first session; then the turns that
 -- are stated; then each session in order to its end. Own profile.
-use Rattle.std.specs.Prelude.{◌≡◌, ℕ, ◌+◌, ◌-◌, ◌≤◌, min, Option, None, Some, List, [], ◌∷◌, ◌++◌, length, map, filter, drop, slice_get, unwrap_or, All, IsTrue, ⊤}
+use Rattle.std.specs.Prelude.{◌≡◌, ℕ, ◌+◌, ◌-◌, ◌≤◌, Option, None, Some, List, [], ◌∷◌, ◌++◌, length, map, filter, drop, slice_get, unwrap_or, All, IsTrue, ⊤}
 use Rattle.pc_base.specs.declared.actor.ActorId.{ActorId}
 use Rattle.pc_base.specs.declared.actor.ActorId.TheVariants as actors
 use Rattle.pc_base.specs.declared.entry.Entry.{Entry}

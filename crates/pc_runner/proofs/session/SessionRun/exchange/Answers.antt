@@ -1,6 +1,9 @@
 use Rattle.std.proofs.Common.{arith, ◌+◌}
-use Rattle.pc_runner.proofs.Exchanging.{may_hear, was_evaluated}
+use Rattle.pc_runner.proofs.Exchanging.{for_one_beside, may_hear, was_evaluated}
 use Rattle.pc_runner.proofs.session.SessionRun.exchange.Goals as goal
+
+pub send-requires-clause-one : goal.send-requires-clause-one
+send-requires-clause-one c = for_one_beside c.args.db.now.head.splits c.args.request.now c.requires.beside
 
 pub hear-requires-clause-may : goal.hear-requires-clause-may
 hear-requires-clause-may c =

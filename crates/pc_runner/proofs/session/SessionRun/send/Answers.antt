@@ -1,4 +1,5 @@
-use Rattle.std.proofs.Common.{◌+◌, List, [], ap, subst, sym}
+use Rattle.std.proofs.Common.{ℕ, ◌+◌, List, [], ap, subst, sym}
+use Rattle.pc_world.specs.RangeOf.{IsForOne}
 use Rattle.pc_runner.proofs.Calling.{calls_of}
 use Rattle.pc_runner.proofs.InTurn.{inside_sent}
 use Rattle.pc_runner.proofs.Sent.{calls_sent, is_allowed, is_unstaged}
@@ -17,6 +18,9 @@ pub send-requires-clause-allowed : goal.send-requires-clause-allowed
 send-requires-clause-allowed c =
     let r = c.args.self.now in
     is_allowed r.number r.coordinator r.sends c.args.db.now c.args.request c.requires.calls.stands c.requires.may.0
+
+pub send-requires-clause-one : goal.send-requires-clause-one
+send-requires-clause-one c = subst (λ (splits : List (List ℕ)). IsForOne splits c.args.request) c.requires.calls.stands.splits c.requires.may.2
 
 pub send-requires-clause-unstaged : goal.send-requires-clause-unstaged
 send-requires-clause-unstaged c = is_unstaged (known_by c.args.self.now.number c.args.db.now) c.args.request c.requires.may.0.kind

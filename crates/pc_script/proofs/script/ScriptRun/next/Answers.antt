@@ -1,0 +1,24 @@
+use Rattle.std.proofs.Common.{◌≡◌, ℕ, zero, suc, Bool, true, false, List, [], ◌∷◌, drop, map, slice_get, Option, Some, sym, ap, subst, ◌∙◌}
+use Rattle.std.specs.Option.{option_copied}
+use Rattle.pc_script.specs.Ahead.{ahead_of}
+use Rattle.pc_script.specs.declared.planned.Planned.{Planned}
+use Rattle.pc_script.specs.Planned.{planned_call}
+use Rattle.pc_script.specs.Script.{Position, next_call}
+use Rattle.pc_script.proofs.script.ScriptRun.next.Goals as goal
+
+first_planned : (read : Option (List ℕ)) (over : ℕ) (listed : List Planned) (p : Planned) → slice_get listed over ≡ Some p → slice_get (map (planned_call read) (drop over listed)) 0 ≡ Some (planned_call read p)
+first_planned read zero [] p is = absurd cc
+first_planned read (suc over) [] p is = absurd cc
+first_planned read zero (first ∷ listed) p is = let same : first ≡ p = cc in ap (λ p. Some (planned_call read p)) same
+first_planned read (suc over) (first ∷ listed) p is = first_planned read over listed p is
+
+next_planned : (gives_up : Bool) (read : Option (List ℕ)) (over : ℕ) (listed : List Planned) (p : Planned) → gives_up ≡ false → slice_get listed over ≡ Some p → slice_get (map (planned_call read) (ahead_of gives_up over listed)) 0 ≡ Some (planned_call read p)
+next_planned true read over listed p none is = absurd cc
+next_planned false read over listed p none is = first_planned read over listed p is
+
+pub returns-in_ok-call-in-Some : goal.returns-in_ok-call-in-Some
+returns-in_ok-call-in-Some c =
+    let s = c.self.inside in
+    let listed : slice_get s.calls s.over ≡ Some c.in-Some.planned.now = sym c.get.ensures ∙ ap option_copied c.in-Some.is in
+    subst (λ (at : Position). Some c.in_ok-call-in-Some.field-0 ≡ next_call at) c.self.view_is
+    (ap Some c.in_ok-call-in-Some.ensures ∙ sym (next_planned s.gives_up s.read s.over s.calls c.in-Some.planned.now c.if-self.false listed))
