@@ -18,7 +18,7 @@ use Rattle.pc_world.specs.Known.{Known, known_after, learn}
 use Rattle.pc_world.specs.Known.Clock.{high_after, top_after}
 use Rattle.pc_world.specs.Known.Traffic.{Heard, Sent, heard_as, heard_by, reply_in, request_sent}
 
-learn-by : (k : Known) (p : Pair Event) (event : Event) (named : Option (Entry Event)) → p.entry.event ≡ event → p.named ≡ named
+pub learn-by : (k : Known) (p : Pair Event) (event : Event) (named : Option (Entry Event)) → p.entry.event ≡ event → p.named ≡ named
     → learn p k ≡ known_after event (heard_by event named k.sent) (top_after event named k.top) (high_after event named k.high) k
 learn-by k p event named e n =
     let F : Event → Option (Entry Event) → Known = λ e n. known_after e (heard_by e n k.sent) (top_after e n k.top) (high_after e n k.high) k in

@@ -5,6 +5,7 @@ pub mod Dues
 pub mod Fresh
 pub mod Knowing
 pub mod Learned
+pub mod Meeting
 pub mod Onward
 pub mod Outside
 pub mod Ranged

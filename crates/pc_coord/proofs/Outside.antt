@@ -63,7 +63,7 @@ match_false : (b : Bool) (P Q : Type 0) → b ≡ false → Q → MatchBool b P 
 match_false b P Q e q = subst (λ b. MatchBool b P Q) (sym e) q
 
 -- where nothing was heard in the call, nothing was met or moved eight times
-none_heard : (k : Known) (answer : Answer) → k.heard_now ≡ [] → (s : Statement) → k.statement ≡ Some s → TellsTheEighth k s answer
+pub none_heard : (k : Known) (answer : Answer) → k.heard_now ≡ [] → (s : Statement) → k.statement ≡ Some s → TellsTheEighth k s answer
 none_heard k answer none s opened = record {
   blocked = λ not request eight. absurd (subst (λ hs. AtLeast (IsConflictOf request) MOST_CONFLICTS hs) none eight);
   moved = λ is eight. absurd (subst (λ hs. AtLeast (WasMoved k) MOST_REFUSALS hs) none eight);

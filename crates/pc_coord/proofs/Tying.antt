@@ -84,6 +84,10 @@ begins_is : (call : Call) (priority : Priority) → begins_at call ≡ Some prio
 begins_is (calls.Begin p) priority e = ap calls.Begin (same_Some p priority e)
 begins_is call priority e = absurd cc
 
+-- a learn begins nothing
+pub begins_no_learn : (call : Call) (id : TxnId) (priority : Priority) → call ≡ calls.Learn id → begins_at call ≡ Some priority → ⊥
+begins_no_learn call id priority is begins = let none : Some priority ≡ begins_at (calls.Learn id) = sym begins ∙ ap begins_at is in absurd cc
+
 -- a call that begins
 pub begins_knows : (new : Coordination) (k : Known) (call : Call) (reading : ℕ) (priority : Priority) (r : Result (Unit {0}) NoMemory) → begins_at call ≡ Some priority → OnOk r (Knows new (known_asked (calls.Begin priority) reading k)) → OnOk r (Knows new (known_asked call reading k))
 begins_knows new k call reading priority r is ok = subst (λ call. OnOk r (Knows new (known_asked call reading k))) (sym (begins_is call priority is)) ok

@@ -6,6 +6,7 @@ pub mod Going
 pub mod Kinds
 pub mod Knows
 pub mod Laws
+pub mod Meeting
 pub mod Pusher
 pub mod Ranged
 pub mod Rounds

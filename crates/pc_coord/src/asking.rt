@@ -2,12 +2,15 @@ ghost use Rattle.std.specs.Prelude.{◌≡◌, ℕ, ◌+◌, ◌<◌, ◌↔◌,
 ghost use Rattle.pc_base.specs.Clock.{clock_now};
 ghost use Rattle.pc_base.specs.declared.limits.TheConstants.{GREATEST_READING};
 ghost use Rattle.pc_base.specs.Timestamp.{greatest};
+ghost use Rattle.pc_base.specs.declared.transaction.TxnId.{TxnId};
+ghost use Rattle.pc_proto.specs.declared.answer.Answer.TheVariants as answers;
 ghost use Rattle.pc_call.specs.Fresh.{IsFresh};
 ghost use Rattle.pc_call.specs.Learned.{known_asked};
 ghost use Rattle.pc_call.specs.Serving.{InCall, write_call};
 ghost use Rattle.pc_call.specs.Suiting.{SuitsFlight};
 ghost use Rattle.pc_call.specs.Telling.{StandsOpen};
 ghost use Rattle.pc_coord.specs.Coordination.{beginning, telling, with_clock};
+ghost use Rattle.pc_coord.specs.declared.due.Due.TheVariants as dues;
 ghost use Rattle.pc_coord.specs.Going.{StandsReady, caused};
 ghost use Rattle.pc_coord.specs.Knows.{Knows};
 ghost use Rattle.pc_proto.specs.declared.call.Call.TheVariants as calls;
@@ -33,6 +36,7 @@ impl<'a> Coordinator<'a> {
     /// A call is asked where no transaction is open.
     pub(crate) fn ask_outside(&mut self, call: &Call, reading: u64) -> Result<(), NoMemory>
         ensures knows { (k : Known) → StandsReady self.old k → k.statement ≡ None → k.is_open ≡ false → self.old.txn ≡ None → is_round call.now ≡ false → OnOk result (Knows self.new (known_asked call.now reading k)) }
+        ensures learns { (id : TxnId) → call.now ≡ calls.Learn id → OnOk result (self.new.due ≡ dues.Tell answers.NotYet) }
         ensures session { self.new.session ≡ self.old.session }
         ensures splits { self.new.splits ≡ self.old.splits }
     {

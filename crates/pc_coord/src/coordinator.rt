@@ -6,10 +6,14 @@ ghost use Rattle.pc_coord.specs.declared.due.Due.TheVariants as dues;
 ghost use Rattle.pc_coord.specs.declared.next.Next.TheVariants as nexts;
 ghost use Rattle.pc_coord.specs.Events.{HearsAwaited, IsAsked, IsTold, SendsDue};
 ghost use Rattle.pc_coord.specs.Knows.{Knows, MayCome, MayFinishJob};
+ghost use Rattle.pc_coord.specs.Meeting.{MeetsCommit, meeting};
 ghost use Rattle.pc_coord.specs.Pusher.{IsPusherOf, pusher_of};
 ghost use Rattle.pc_coord.specs.Rounds.{EndsRound};
+ghost use Rattle.pc_base.specs.declared.transaction.TxnId.{TxnId};
 ghost use Rattle.pc_history.specs.declared.pair.Pair.{Pair};
 ghost use Rattle.pc_proto.specs.declared.answer.Answer.{Answer};
+ghost use Rattle.pc_proto.specs.declared.answer.Answer.TheVariants as answers;
+ghost use Rattle.pc_proto.specs.declared.call.Call.TheVariants as calls;
 ghost use Rattle.pc_proto.specs.declared.event.Event.{Event};
 ghost use Rattle.pc_proto.specs.declared.reply.Reply.{Reply};
 ghost use Rattle.pc_proto.specs.declared.request.Request.{Request};
@@ -23,7 +27,7 @@ use crate::round::Round;
 use pc_base::{NoMemory, Timestamp, TryCopy};
 use pc_call::OpenCall;
 use pc_hlc::Hlc;
-use pc_proto::{Call, Keys, Reply};
+use pc_proto::{Answer, Call, Keys, Reply};
 use pc_txn::OpenTxn;
 use pc_wave::Step;
 use std::alloc::Global;
@@ -102,6 +106,7 @@ impl<'a> Coordinator<'a> {
     pub fn ask(&mut self, call: Call, reading: u64) -> Result<(), NoMemory>
         ensures knows { (k : Known) (p : Pair Event) → Knows self.old k → IsAsked self.old call reading k p → OnOk result (Knows self.new (learn p k)) }
         ensures waits { (k : Known) (p : Pair Event) (number : ℕ) → Knows self.old k → IsAsked self.old call reading k p → OnOk result (awaits_number number self.new.due ≡ false) }
+        ensures learns { (id : TxnId) → call ≡ calls.Learn id → self.old.txn ≡ None → OnOk result (self.new.due ≡ dues.Tell answers.NotYet) }
         ensures session { self.new.session ≡ self.old.session }
         ensures splits { self.new.splits ≡ self.old.splits }
     {
@@ -182,6 +187,18 @@ impl<'a> Coordinator<'a> {
         ensures { self.new ≡ with_clock (max self.old.clock ts) self.old }
     {
         self.clock.hear(ts);
+    }
+
+    /// The commit that the open learn asks for was told to another session, at this timestamp, and the session met it: the learn is to be told so,
+    /// and the next transaction begins above that timestamp. It is to be called before `next`.
+    pub fn met(&mut self, ts: Timestamp)
+        ensures made { self.new ≡ meeting ts self.old }
+        ensures knows { (k : Known) (p : Pair Event) (id : TxnId) (step : ℕ) → Knows self.old k → MeetsCommit self.old id step ts k p → Knows self.new (learn p k) }
+        ensures session { self.new.session ≡ self.old.session }
+        ensures splits { self.new.splits ≡ self.old.splits }
+    {
+        self.clock.hear(ts);
+        self.due = Due::Tell(Answer::Learnt);
     }
 
     /// Who pushes in the rounds of the open transaction's conflicts; none where no transaction is open.

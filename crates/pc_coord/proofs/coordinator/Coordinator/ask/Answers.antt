@@ -25,3 +25,9 @@ returns-clause-waits c = λ k p number knows is.
     let held = sym c.take_txn-txn.ensures.taken ∙ c.in-Some.is in
     asked_idle c.ask_inside.new.self k c.args.call c.args.reading number c.ask_inside.result
     (asked_inside c.args.self.now c.take_txn-txn.new.self c.ask_inside.new.self k p c.args.call c.args.reading c.in-Some.txn c.ask_inside.result c.take_txn-txn.ensures.left held knows is c.ask_inside.ensures.knows)
+
+pub returns-in-None-clause-learns : goal.returns-in-None-clause-learns
+returns-in-None-clause-learns c = λ id is none. c.ask_outside.ensures.learns id is
+
+pub returns-clause-learns : goal.returns-clause-learns
+returns-clause-learns c = λ id is none. let held = sym c.take_txn-txn.ensures.taken ∙ c.in-Some.is in absurd cc
