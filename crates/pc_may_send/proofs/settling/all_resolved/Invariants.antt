@@ -1,0 +1,6 @@
+use Rattle.std.proofs.Common.{ℕ, ◌≤◌, All, Any, IsTrue, take}
+use Rattle.pc_world.specs.Send.Settling.{WasResolved}
+use Rattle.pc_may_send.proofs.settling.all_resolved.Given as goal
+
+abbrev pub invariant-loop-key : goal.invariant-loop-key
+invariant-loop-key l = All (λ key. Any (WasResolved l.id key) l.heard) (take l.key-index l.keys)

@@ -1,0 +1,143 @@
+//! Put: for the first time by the call that asks for it; again, as long as the write is not proved.
+
+ghost use Rattle.std.specs.Prelude.{◌≡◌, ◌↔◌, ◌+◌, ◌⊎◌, All, Contains, IsTrue, unwrap_or};
+ghost use Rattle.std.specs.Option.{option_copied};
+ghost use Rattle.pc_base.specs.Span.{same_key};
+ghost use Rattle.pc_knowledge.specs.Keeping.{KeepsKnowledge};
+ghost use Rattle.pc_may_send.specs.Again.{IsSentAgain, IsAnySentAgain};
+ghost use Rattle.pc_world.specs.Known.{Known};
+ghost use Rattle.pc_world.specs.Known.Transactions.{IsMetaOf, meta_of};
+ghost use Rattle.pc_world.specs.Known.Writes.{is_proved, last_seq_of};
+ghost use Rattle.pc_world.specs.Send.Put.{MaySendAgain, MaySendFirst, MaySendPut};
+
+use pc_base::{Key, Timestamp, Value};
+use pc_knowledge::{Knowledge, asks_for, same_value};
+use pc_known::fate::is_uncommitted;
+use pc_known::{is_key, number};
+use pc_own::{OwnTxn, OwnWrite};
+use pc_proto::TxnMeta;
+
+/// Whether the meta is the transaction's; its first put's key becomes the anchor.
+fn is_first_meta(t: &OwnTxn<'_>, meta: &TxnMeta, key: &Key) -> bool
+    ensures { IsTrue result ↔ (meta.now ≡ meta_of t.now (unwrap_or t.now.anchor key.now)) }
+{
+    match t.anchor() {
+        None => t.is_meta_at(meta, key),
+        Some(anchor) => t.is_meta_at(meta, anchor),
+    }
+}
+
+fn is_next_seq(t: &OwnTxn<'_>, seq: u32) -> bool
+    ensures { IsTrue result ↔ (seq ≡ last_seq_of t.now.writes + 1) }
+{
+    seq as u64 == t.writes().last_seq() as u64 + 1
+}
+
+fn is_clear(key: &Key, write: &OwnWrite<'_>) -> bool
+    ensures { IsTrue result ↔ (IsTrue (same_key write.now.key key.now) → IsTrue (is_proved write.now)) }
+{
+    write.key != key || write.is_proved()
+}
+
+/// Whether the epoch's earlier writes of the key are proved.
+fn are_proved_on(key: &Key, writes: &[OwnWrite<'_>]) -> bool
+    ensures { IsTrue result ↔ All (λ w. IsTrue (same_key w.key key.now) → IsTrue (is_proved w)) writes.now }
+{
+    writes.iter().all(|write| is_clear(key, write))
+}
+
+/// Whether the transaction may send this put for the first time.
+fn may_send_first(
+    known: &Knowledge<'_>,
+    meta: &TxnMeta,
+    seq: u32,
+    ts: Timestamp,
+    key: &Key,
+    value: Option<&Value>,
+) -> bool
+    ensures { (k : Known) → KeepsKnowledge k known.now → IsTrue result ↔ MaySendFirst k meta.now seq ts key.now (option_copied value.entry) }
+{
+    match known.open_txn() {
+        None => false,
+        Some(t) => {
+            asks_for(known.call(), key, value)
+                && is_first_meta(t, meta, key)
+                && is_next_seq(t, seq)
+                && number(ts) == t.write_ts()
+                && are_proved_on(key, t.writes().as_slice())
+                && is_uncommitted(t.id(), known.sent(), known.heard())
+        }
+    }
+}
+
+fn is_again(
+    t: &OwnTxn<'_>,
+    write: &OwnWrite<'_>,
+    seq: u32,
+    ts: Timestamp,
+    key: &Key,
+    value: Option<&Value>,
+) -> bool
+    ensures { IsTrue result ↔ IsSentAgain t.now seq ts key.now (option_copied value.entry) write.now }
+{
+    !write.is_proved()
+        && seq == write.seq
+        && is_key(key, write.key)
+        && same_value(value, write.value)
+        && (number(ts) == t.write_ts() || write.was_asked_at(ts))
+}
+
+fn is_any_again(t: &OwnTxn<'_>, seq: u32, ts: Timestamp, key: &Key, value: Option<&Value>) -> bool
+    ensures { IsTrue result ↔ IsAnySentAgain t.now seq ts key.now (option_copied value.entry) }
+{
+    t.writes()
+        .as_slice()
+        .iter()
+        .any(|write| is_again(t, write, seq, ts, key, value))
+}
+
+/// Whether the meta is the transaction's, and the put sends one of its writes again.
+fn is_put_again(
+    t: &OwnTxn<'_>,
+    meta: &TxnMeta,
+    seq: u32,
+    ts: Timestamp,
+    key: &Key,
+    value: Option<&Value>,
+) -> bool
+    ensures { IsTrue result ↔ (IsMetaOf t.now meta.now × IsAnySentAgain t.now seq ts key.now (option_copied value.entry)) }
+{
+    t.is_meta(meta) && is_any_again(t, seq, ts, key, value)
+}
+
+/// Whether a transaction of the session may send this put again.
+fn may_send_again(
+    known: &Knowledge<'_>,
+    meta: &TxnMeta,
+    seq: u32,
+    ts: Timestamp,
+    key: &Key,
+    value: Option<&Value>,
+) -> bool
+    ensures { (k : Known) → KeepsKnowledge k known.now → IsTrue result ↔ MaySendAgain k meta.now seq ts key.now (option_copied value.entry) }
+{
+    match known.own_txn(meta.id) {
+        None => false,
+        Some(t) => is_put_again(t, meta, seq, ts, key, value),
+    }
+}
+
+/// Whether the session may send this put, for the first time or again.
+pub fn may_send_put(
+    known: &Knowledge<'_>,
+    meta: &TxnMeta,
+    seq: u32,
+    ts: Timestamp,
+    key: &Key,
+    value: Option<&Value>,
+) -> bool
+    ensures { (k : Known) → KeepsKnowledge k known.now → IsTrue result ↔ MaySendPut k meta.now seq ts key.now (option_copied value.entry) }
+{
+    may_send_first(known, meta, seq, ts, key, value)
+        || may_send_again(known, meta, seq, ts, key, value)
+}
