@@ -1,0 +1,6 @@
+pub mod Alike
+pub mod Counted
+pub mod Endings
+pub mod Losses
+pub mod Telling
+pub mod Scans
