@@ -1,0 +1,2 @@
+-- What is kept to decide what an actor may do.
+pub mod Keeping
