@@ -1,0 +1,125 @@
+-- A session at the first call of its script; and from a session as its code has it.
+use Rattle.std.proofs.Common.{◌≡◌, ◌↔◌, ℕ, ◌⊎◌, inl, inr, Bool, true, false, not, All, IsTrue, List, [], ◌∷◌, map, Option, None, Result, Ok, Err, OnOk, refl, sym, ap, subst, ◌∙◌}
+use Rattle.std.proofs.lemmas.List.Elements.{All-nil, All-weaker, Contains-append_left}
+use Rattle.pc_base.specs.declared.actor.ActorId.TheVariants as actors
+use Rattle.pc_coord.specs.declared.job.Job.{Job}
+use Rattle.pc_coord.specs.Knows.{messages_of_job}
+use Rattle.pc_desk.specs.Desk.{DeskMeaning}
+use Rattle.pc_desk.specs.Ending.{IsAtFullRange, IsAtOwnEnd, IsNotLost}
+use Rattle.pc_history.specs.declared.pair.Pair.{Pair}
+use Rattle.pc_history.specs.declared.view.Known.{Known as KnownEntry}
+use Rattle.pc_history.specs.Parts.{told}
+use Rattle.pc_proto.specs.declared.event.Event.{Event}
+use Rattle.pc_script.proofs.Fitting.{opened_fits}
+use Rattle.pc_script.specs.Script.{Position, opened, script_position}
+use Rattle.pc_script.specs.Suiting.{FitsCalls}
+use Rattle.pc_scripted.proofs.Finishing.{moved_finished}
+use Rattle.pc_scripted.proofs.Resting.{idle_finishes}
+use Rattle.pc_scripted.proofs.Telling.{none_is, opened_reruns}
+use Rattle.pc_scripted.specs.Scripted.{AskInOrder, IsScripted, ScriptedMeaning, own_list, session_number}
+use Rattle.pc_scripted.specs.Taking.{FinishesInTurn, HasMoved, Move}
+use Rattle.pc_session.specs.Session.{IsAtRest, RestsOrStopped, SessionMeaning}
+use Rattle.pc_session.specs.Steps.{HasStepped}
+use Rattle.pc_txn.specs.declared.txn.OpenTxn.{OpenTxn}
+use Rattle.pc_work.specs.Built.{IsBuiltItem}
+use Rattle.pc_work.specs.declared.item.Item.{Item}
+use Rattle.pc_world.specs.Follows.FinishingJobs.{jobs_of}
+use Rattle.pc_world.specs.Known.{known_of}
+use Rattle.pc_world.specs.Known.Traffic.{Sent}
+
+-- where it is so
+pub on_ok : {X E : Type 0} (r : Result X E) (A B : Type 0) → (A → B) → OnOk r A → OnOk r B
+on_ok (Ok x) A B f a = f a
+on_ok (Err e) A B f a = tt
+
+-- from the session as its code has it
+pub moved_from : {C : Type 0} (v old new : ScriptedMeaning C) (Is : ScriptedMeaning C → Move) → v ≡ old → HasMoved (Is v) v new → HasMoved (Is old) old new
+moved_from v old new Is same moved = subst (λ s. HasMoved (Is s) s new) same moved
+
+pub begun_scripted : {C : Type 0} (session : SessionMeaning C) (script : List Item) (at : Position) (reruns : ℕ) → IsAtRest session → session.desk.log.part.own ≡ [] → session.desk.log.stop ≡ None → session.desk.log.stopped ≡ false
+    → All IsBuiltItem script → at ≡ opened script reruns → IsScripted (record { session = session; script = script; at = at })
+begun_scripted session script at reruns rest none stop going items start =
+    let id = session.desk.log.part.id in
+    let begins : at.reruns ≡ reruns = ap (λ (p : Position). p.reruns) start ∙ opened_reruns script reruns in
+    record {
+      id = rest.one.whose ∙ ap actors.Session (sym (ap session_number rest.one.whose));
+      whose = subst (All (λ (p : Pair Event). p.entry.actor ≡ actors.Session (session_number id))) (sym none) (All-nil (λ (p : Pair Event). p.entry.actor ≡ actors.Session (session_number id)));
+      unpiped = rest.one.unpiped;
+      no_stop = stop;
+      within = rest.track.log.within;
+      given = rest.track.given;
+      asks = subst (AskInOrder at.reruns script) (sym none) tt;
+      goes = λ still. record {
+        rest = rest;
+        place = start ∙ (ap (opened script) (sym begins) ∙ ap (script_position at.reruns script) (sym none));
+        fits = subst (λ (p : Position). FitsCalls p session.coordinator.txn) (sym start)
+            (subst (λ (txn : Option OpenTxn). FitsCalls (opened script reruns) txn) (sym (none_is session.coordinator.txn (rest.holds ∙ ap (λ own. (known_of own).is_open) none))) (opened_fits script reruns items));
+      };
+      ends = λ stopped. let e : true ≡ false = sym stopped ∙ going in absurd cc;
+    }
+
+-- ---- where it took a note
+
+module _ {C : Type 0} (d : DeskMeaning C) (note : List (KnownEntry Event)) where
+  abbrev taught : DeskMeaning C
+  taught = record d { log = record d.log { part = told note d.log.part } }
+
+  not_lost_still : (m : Sent) → IsNotLost d m → IsNotLost taught m
+  not_lost_still m (inl heard) = inl heard
+  not_lost_still m (inr (inl waits)) = inr (inl waits)
+  not_lost_still m (inr (inr knows)) = inr (inr (record { evaluation = knows.evaluation; knows = Contains-append_left d.log.part.known note knows.evaluation knows.knows; of_it = knows.of_it }))
+
+  ends_still : IsAtOwnEnd d ⊎ IsAtFullRange d → IsAtOwnEnd taught ⊎ IsAtFullRange taught
+  ends_still (inl end) = inl (record { long = end.long; each = All-weaker (IsNotLost d) (IsNotLost taught) not_lost_still (known_of d.log.part.own).sent end.each; waits = end.waits })
+  ends_still (inr end) = inr (record {
+    range = end.range;
+    full = record { entry = end.full.entry; knows = Contains-append_left d.log.part.known note end.full.entry end.full.knows; full = end.full.full };
+    message = end.message;
+    sent = end.sent;
+    goes = end.goes;
+    unheard = end.unheard;
+    others = All-weaker (λ m. (m.number ≡ end.message.number) ⊎ IsNotLost d m) (λ m. (m.number ≡ end.message.number) ⊎ IsNotLost taught m) other (known_of d.log.part.own).sent end.others;
+    waits = end.waits;
+    later = end.later;
+  })
+    where
+      other : (m : Sent) → (m.number ≡ end.message.number) ⊎ IsNotLost d m → (m.number ≡ end.message.number) ⊎ IsNotLost taught m
+      other m (inl it) = inl it
+      other m (inr kept) = inr (not_lost_still m kept)
+
+pub followed_scripted : {C : Type 0} (old : ScriptedMeaning C) (new : SessionMeaning C) (note : List (KnownEntry Event))
+    → new ≡ record old.session { desk = record old.session.desk { log = record old.session.desk.log { part = told note old.session.desk.log.part } } } → RestsOrStopped new → IsScripted old
+    → IsScripted (record { session = new; script = old.script; at = old.at })
+followed_scripted {C} old new note is rests scripted =
+    let P : SessionMeaning C → Type 0 = λ s. RestsOrStopped s → IsScripted (record { session = s; script = old.script; at = old.at }) in
+    subst P (sym is)
+    (λ rest. record {
+      id = scripted.id;
+      whose = scripted.whose;
+      unpiped = scripted.unpiped;
+      no_stop = scripted.no_stop;
+      within = scripted.within;
+      given = record { each = scripted.given.each; once = scripted.given.once };
+      asks = scripted.asks;
+      goes = λ going. record { rest = rest going; place = (scripted.goes going).place; fits = (scripted.goes going).fits };
+      ends = λ stopped. ends_still old.session.desk note (scripted.ends stopped);
+    }) rests
+
+-- ---- a step
+
+map_none : (jobs : List Job) → map messages_of_job jobs ≡ [] → jobs ≡ []
+map_none [] none = refl
+map_none (job ∷ jobs) none = absurd (let e : messages_of_job job ∷ map messages_of_job jobs ≡ [] = none in cc)
+
+pub jobs_so : {C : Type 0} (v old : ScriptedMeaning C) (b : Bool) → v ≡ old → IsScripted old → old.session.desk.log.stopped ≡ false → IsTrue (not b) ↔ (v.session.jobs ≡ []) → IsTrue (not b) ↔ (jobs_of (own_list old) ≡ [])
+jobs_so {C} v old b same scripted going tells =
+    let left = (scripted.goes going).rest.waiting.left in
+    let mine : v.session.jobs ≡ old.session.jobs = ap (λ (s : ScriptedMeaning C). s.session.jobs) same in
+    (λ is. left ∙ ap (map messages_of_job) (sym mine ∙ tells.0 is), λ none. tells.1 (mine ∙ map_none old.session.jobs (sym left ∙ none)))
+
+pub moved_stepped : {C : Type 0} (s : ScriptedMeaning C) (new : SessionMeaning C) (b : Bool) → IsScripted s → s.session.desk.log.stopped ≡ false → HasStepped s.session new b
+    → HasMoved (FinishesInTurn s) s (record { session = new; script = s.script; at = s.at })
+moved_stepped s new true scripted going step = moved_finished s new scripted going step
+moved_stepped {C} s new false scripted going step =
+    let none : jobs_of (own_list s) ≡ [] = (scripted.goes going).rest.waiting.left ∙ ap (map messages_of_job) step.0 in
+    subst (λ (n : SessionMeaning C). HasMoved (FinishesInTurn s) s (record { session = n; script = s.script; at = s.at })) (sym step.1) (idle_finishes s scripted none)

@@ -1,0 +1,192 @@
+-- A session whose list broke off in a call or in a job.
+use Rattle.std.proofs.Common.{◌≡◌, ℕ, ◌≤◌, inl, inr, Bool, false, true, All, List, [], ◌∷◌, ◌++◌, length, Option, Some, None, refl, sym, ap, subst, ◌∙◌}
+use Rattle.std.proofs.lemmas.List.{append-nil}
+use Rattle.std.proofs.lemmas.List.Elements.{All-append}
+use Rattle.pc_base.specs.declared.actor.ActorId.{ActorId}
+use Rattle.pc_base.specs.declared.actor.ActorId.TheVariants as actors
+use Rattle.pc_desk.specs.declared.halt.Halt.{Halt}
+use Rattle.pc_desk.specs.declared.halt.Halt.TheVariants as halts
+use Rattle.pc_desk.specs.Desk.{DeskMeaning}
+use Rattle.pc_desk.specs.Ending.{IsEndedBy}
+use Rattle.pc_desk.specs.OwnLog.{LogMeaning}
+use Rattle.pc_exchange.specs.Ending.{BreaksOff, HasBrokenOff}
+use Rattle.pc_history.specs.declared.pair.Pair.{Pair}
+use Rattle.pc_proto.specs.declared.call.Call.{Call}
+use Rattle.pc_proto.specs.declared.event.Event.{Event}
+use Rattle.pc_proto.specs.declared.request.Request.{Request}
+use Rattle.pc_script.specs.Script.{next_call, script_position}
+use Rattle.pc_scripted.proofs.Passing.{order_asked, order_between}
+use Rattle.pc_scripted.proofs.Tests.{has_ended_now, no_room, only_at_limit}
+use Rattle.pc_scripted.proofs.Turning.{asks_ended, asks_partly, finishes_ended, finishes_partly}
+use Rattle.pc_scripted.specs.Ended.{SaysFull, list_has_ended}
+use Rattle.pc_scripted.specs.Scripted.{AskInOrder, GoesOnInScript, IsScripted, ScriptedMeaning, next_in_script, own_number, own_list, session_number}
+use Rattle.pc_scripted.specs.Taking.{AsksInTurn, FinishesInTurn, HasMoved, HasMovedBy, Move}
+use Rattle.pc_session.specs.Ending.{AreOfBrokenCall}
+use Rattle.pc_session.specs.Session.{SessionMeaning}
+use Rattle.pc_turns.specs.Order.{AsksAfter, FinishesAfter, IsInBetween, events_of}
+use Rattle.pc_world.specs.Follows.FinishingJobs.{jobs_of}
+
+-- what ended the list, where memory was not wanted
+ended_off : (halt : Halt) (So : Type 0) → (halt ≡ halts.NoMemory → ⊥) → IsEndedBy halt So → So
+ended_off halts.Stopped So memory so = so
+ended_off (halts.Full actor) So memory so = so
+ended_off halts.NoMemory So memory so = absurd (memory refl)
+
+pub breaks_so : {C : Type 0} (Are : List Event → Type 0) (old new : DeskMeaning C) (halt : Halt) → old.log.stopped ≡ false → old.log.stop ≡ None → (halt ≡ halts.NoMemory → ⊥) → BreaksOff Are old new halt → HasBrokenOff Are old new
+breaks_so Are old new halt going stop memory breaks = ended_off halt (HasBrokenOff Are old new) memory (breaks going stop)
+
+module _ {C : Type 0} (Are : List Event → Type 0) (old : ScriptedMeaning C) (new : SessionMeaning C) (scripted : IsScripted old) (going : old.session.desk.log.stopped ≡ false) (b : HasBrokenOff Are old.session.desk new.desk)
+    (orders : AskInOrder old.at.reruns old.script (own_list old ++ b.part)) where
+  abbrev pub broken_then : ScriptedMeaning C
+  broken_then = record { session = new; script = old.script; at = old.at }
+
+  abbrev goes : GoesOnInScript old
+  goes = scripted.goes going
+
+  log-is : (P : LogMeaning C → Type 0) → P (record old.session.desk.log {
+    part = record old.session.desk.log.part { own = new.desk.log.part.own; given = new.desk.log.part.given; known = new.desk.log.part.known };
+    spare = new.desk.log.spare;
+    clock = new.desk.log.clock;
+    stopped = true;
+  }) → P new.desk.log
+  log-is P is = subst P (sym b.rest) is
+
+  whose-part : All (λ p. p.entry.actor ≡ actors.Session (own_number old)) b.part
+  whose-part = subst (λ (i : ActorId). All (λ (p : Pair Event). p.entry.actor ≡ i) b.part) scripted.id b.whose
+
+  same-number : own_number broken_then ≡ own_number old
+  same-number = log-is (λ l. session_number l.part.id ≡ own_number old) refl
+
+  limit-then : new.desk.log.limit ≡ old.session.desk.log.limit
+  limit-then = log-is (λ l. l.limit ≡ old.session.desk.log.limit) refl
+
+  scripted-then : IsScripted broken_then
+  scripted-then = record {
+    id = log-is (λ l. l.part.id ≡ old.session.desk.log.part.id) refl ∙ (scripted.id ∙ ap actors.Session (sym same-number));
+    whose = subst (λ n. All (λ p. p.entry.actor ≡ actors.Session n) new.desk.log.part.own) (sym same-number)
+        (subst (All (λ p. p.entry.actor ≡ actors.Session (own_number old))) (sym b.own)
+        (All-append (λ (p : Pair Event). p.entry.actor ≡ actors.Session (own_number old)) (own_list old) b.part scripted.whose whose-part));
+    unpiped = log-is (λ l. l.pipelining ≡ false) scripted.unpiped;
+    no_stop = log-is (λ l. l.stop ≡ None) scripted.no_stop;
+    within = b.within;
+    given = b.given;
+    asks = subst (AskInOrder old.at.reruns old.script) (sym b.own) orders;
+    goes = λ still. let e : true ≡ false = sym (log-is (λ l. l.stopped ≡ true) refl) ∙ still in absurd cc;
+    ends = λ stopped. b.end;
+  }
+
+  moved-by : HasMovedBy old broken_then b.part
+  moved-by = record {
+    scripted = scripted-then;
+    same = record {
+      number = same-number;
+      script = refl;
+      reruns = refl;
+      head = log-is (λ l. l.head ≡ old.session.desk.log.head) refl;
+      limit = limit-then;
+      range_limit = b.limit;
+    };
+    own = b.own;
+    whose = whose-part;
+    rises = b.rises;
+    above = b.above;
+    known = b.known;
+  }
+
+  -- the list has ended
+  ended-then : (full : ℕ → Bool) → SaysFull full new.desk → list_has_ended old.session.desk.log.limit full (own_list old ++ b.part) ≡ true
+  ended-then full says =
+      subst (λ own. list_has_ended old.session.desk.log.limit full own ≡ true) b.own
+      (subst (λ n. list_has_ended n full new.desk.log.part.own ≡ true) limit-then (has_ended_now new.desk full says b.end))
+
+  -- and if it had before, nothing was made
+  nothing-made : (full : ℕ → Bool) → list_has_ended old.session.desk.log.limit full (own_list old) ≡ true → b.part ≡ []
+  nothing-made full before =
+      no_room old.session.desk.log.limit (own_list old) b.part (only_at_limit old.session.desk.log.limit full (own_list old) goes.rest.heard before)
+      (subst (λ own. length own ≤ old.session.desk.log.limit) b.own (subst (λ n. length new.desk.log.part.own ≤ n) limit-then b.within))
+
+  -- if it had not, something was made
+  something-made : (full : ℕ → Bool) → SaysFull full new.desk → list_has_ended old.session.desk.log.limit full (own_list old) ≡ false → b.part ≡ [] → ⊥
+  something-made full says before none =
+      let now : list_has_ended old.session.desk.log.limit full (own_list old) ≡ true =
+      ap (list_has_ended old.session.desk.log.limit full) (sym (append-nil (own_list old)) ∙ ap (λ p. own_list old ++ p) (sym none)) ∙ ended-then full says in
+      let e : true ≡ false = sym now ∙ before in
+      absurd cc
+
+  moved-so : (Is : Move) → ((full : ℕ → Bool) → SaysFull full new.desk → Is (list_has_ended old.session.desk.log.limit full) (own_list old) b.part) → HasMoved Is old broken_then
+  moved-so Is is = record { part = b.part; by = moved-by; is = is }
+
+-- in a call
+module _ {C : Type 0} (old : ScriptedMeaning C) (new : SessionMeaning C) (call : Call) (scripted : IsScripted old) (going : old.session.desk.log.stopped ≡ false) (next : next_call old.at ≡ Some call)
+    (b : HasBrokenOff (AreOfBrokenCall call) old.session.desk new.desk) where
+  next-here : next_call (script_position old.at.reruns old.script (own_list old)) ≡ Some call
+  next-here = ap next_call (sym (scripted.goes going).place) ∙ next
+
+  order-by : (part : List (Pair Event)) → AreOfBrokenCall call (events_of part) → AskInOrder old.at.reruns old.script (own_list old ++ part)
+  order-by [] are = subst (AskInOrder old.at.reruns old.script) (sym (append-nil (own_list old))) scripted.asks
+  order-by (p ∷ ps) (inl none) = absurd (let e : p.entry.event ∷ events_of ps ≡ [] = none in cc)
+  order-by (p ∷ ps) (inr asked) = order_asked old.at.reruns old.script (own_list old) (p ∷ ps) call asked.reading asked.between scripted.asks asked.begins asked.within next-here
+
+  abbrev ended-by : (ℕ → Bool) → List (Pair Event) → Bool
+  ended-by full = list_has_ended old.session.desk.log.limit full
+
+  abbrev next-by : ℕ → List (Pair Event) → Option Call
+  next-by = next_in_script old.at.reruns old.script
+
+  orders : AskInOrder old.at.reruns old.script (own_list old ++ b.part)
+  orders = order-by b.part b.are
+
+  no-events : (part : List (Pair Event)) → events_of part ≡ [] → part ≡ []
+  no-events [] none = refl
+  no-events (p ∷ ps) none = absurd (let e : p.entry.event ∷ events_of ps ≡ [] = none in cc)
+
+  partly : (full : ℕ → Bool) → SaysFull full new.desk → ended-by full (own_list old) ≡ false → AreOfBrokenCall call (events_of b.part) → AsksAfter next-by (ended-by full) (own_number old) (own_list old) b.part
+  partly full says on (inl none) = absurd (something-made (AreOfBrokenCall call) old new scripted going b orders full says on (no-events b.part none))
+  partly full says on (inr asked) =
+      asks_partly next-by (ended-by full) (own_number old) (own_list old) b.part on call next-here
+      (record { whose = whose-part (AreOfBrokenCall call) old new scripted going b orders; reading = asked.reading; between = asked.between; begins = asked.begins; within = asked.within })
+      (ended-then (AreOfBrokenCall call) old new scripted going b orders full says)
+
+  asks-so : (full : ℕ → Bool) → SaysFull full new.desk → (e : Bool) → ended-by full (own_list old) ≡ e → AsksAfter next-by (ended-by full) (own_number old) (own_list old) b.part
+  asks-so full says true is =
+      asks_ended next-by (ended-by full) (own_number old) (own_list old) b.part is (nothing-made (AreOfBrokenCall call) old new scripted going b orders full is)
+  asks-so full says false is = partly full says is b.are
+
+  pub moved_broken_call : HasMoved (AsksInTurn old) old (record { session = new; script = old.script; at = old.at })
+  moved_broken_call =
+      moved-so (AreOfBrokenCall call) old new scripted going b orders (AsksInTurn old)
+      (λ full says. asks-so full says (ended-by full (own_list old)) refl)
+
+-- in a job
+module _ {C : Type 0} (old : ScriptedMeaning C) (new : SessionMeaning C) (scripted : IsScripted old) (going : old.session.desk.log.stopped ≡ false)
+    (b : HasBrokenOff (All IsInBetween) old.session.desk new.desk) where
+  abbrev ended-at : (ℕ → Bool) → List (Pair Event) → Bool
+  ended-at full = list_has_ended old.session.desk.log.limit full
+
+  abbrev next-at : ℕ → List (Pair Event) → Option Call
+  next-at = next_in_script old.at.reruns old.script
+
+  orders-then : AskInOrder old.at.reruns old.script (own_list old ++ b.part)
+  orders-then = order_between old.at.reruns old.script (own_list old) b.part scripted.asks b.are
+
+  finishes-so : (full : ℕ → Bool) → SaysFull full new.desk → (job : List Request) (jobs : List (List Request)) → jobs_of (own_list old) ≡ job ∷ jobs → (e : Bool) → ended-at full (own_list old) ≡ e
+      → FinishesAfter next-at (ended-at full) (own_number old) (own_list old) b.part
+  finishes-so full says job jobs waits true is =
+      finishes_ended next-at (ended-at full) (own_number old) (own_list old) b.part is (nothing-made (All IsInBetween) old new scripted going b orders-then full is)
+  finishes-so full says job jobs waits false is =
+      finishes_partly next-at (ended-at full) (own_number old) (own_list old) b.part is job jobs waits
+      (record { whose = whose-part (All IsInBetween) old new scripted going b orders-then; within = b.are })
+      (ended-then (All IsInBetween) old new scripted going b orders-then full says)
+
+  pub moved_broken_job : (job : List Request) (jobs : List (List Request)) → jobs_of (own_list old) ≡ job ∷ jobs → HasMoved (FinishesInTurn old) old (record { session = new; script = old.script; at = old.at })
+  moved_broken_job job jobs waits =
+      moved-so (All IsInBetween) old new scripted going b orders-then (FinishesInTurn old)
+      (λ full says. finishes-so full says job jobs waits (ended-at full (own_list old)) refl)
+
+  -- where a job waited
+  pub moved_broken_step : (jobs_of (own_list old) ≡ [] → ⊥) → HasMoved (FinishesInTurn old) old (record { session = new; script = old.script; at = old.at })
+  moved_broken_step some = by (jobs_of (own_list old)) refl
+    where
+      by : (jobs : List (List Request)) → jobs_of (own_list old) ≡ jobs → HasMoved (FinishesInTurn old) old (record { session = new; script = old.script; at = old.at })
+      by [] none = absurd (some none)
+      by (job ∷ jobs) waits = moved_broken_job job jobs waits

@@ -1,0 +1,210 @@
+-- A session that goes by itself, one turn after another.
+use Rattle.std.proofs.Common.{◌≡◌, ◌↔◌, ℕ, inl, inr, Bool, true, false, not, ◌||◌, is_some, nat_le, length, IsTrue, cond, All, Contains, List, [], ◌∷◌, ◌++◌, Option, None, Some, refl, sym, ap, subst, ◌∙◌}
+use Rattle.std.proofs.lemmas.Bool.{false≢true}
+use Rattle.std.proofs.lemmas.List.{append-nil, append_assoc}
+use Rattle.std.proofs.lemmas.List.Elements.{All-append, All-head, All-tail}
+use Rattle.pc_base.specs.declared.actor.ActorId.TheVariants as actors
+use Rattle.pc_desk.specs.Desk.{DeskMeaning, KnowsFull}
+use Rattle.pc_desk.specs.OwnLog.{LogMeaning}
+use Rattle.pc_exchange.proofs.Growing.{grows_both}
+use Rattle.pc_exchange.specs.Growing.{HasGrownBy}
+use Rattle.pc_history.proofs.Ids.{same_id-equal}
+use Rattle.pc_history.specs.declared.pair.Pair.{Pair}
+use Rattle.pc_history.specs.declared.view.Known.{Known as KnownEntry}
+use Rattle.pc_history.specs.Own.{same_id}
+use Rattle.pc_proto.specs.declared.call.Call.{Call}
+use Rattle.pc_proto.specs.declared.event.Event.{Event}
+use Rattle.pc_proto.specs.declared.request.Request.{Request}
+use Rattle.pc_script.specs.Script.{items_over, next_call}
+use Rattle.pc_scripted.proofs.Resting.{moved_by_none}
+use Rattle.pc_scripted.proofs.Tests.{has_ended_now}
+use Rattle.pc_scripted.specs.Ended.{SaysFull, list_has_ended}
+use Rattle.pc_scripted.specs.Scripted.{IsScripted, ScriptedMeaning, next_in_script, own_number, own_list}
+use Rattle.pc_scripted.specs.Taking.{AsksInTurn, FinishesInTurn, TakesNextAlone, GoesUntil, HasMoved, HasMovedBy, IsSameScripted, SaysWhetherDone, TakesOne, are_items_over, is_script_over}
+use Rattle.pc_turns.specs.Order.{AsksAfter, FinishesAfter, IsTakenIn, entries_by, turn_by_itself}
+use Rattle.pc_turns.specs.Order.GoesByItself.{Ended, Onwards, Passed}
+use Rattle.pc_work.specs.declared.item.Item.{Item}
+use Rattle.pc_world.specs.Follows.FinishingJobs.{jobs_of}
+
+-- whose entries are all one session's
+pub all_mine : (number : ℕ) (own : List (Pair Event)) → All (λ p. p.entry.actor ≡ actors.Session number) own → entries_by number own ≡ own
+all_mine number [] whose = refl
+all_mine number (p ∷ ps) whose =
+    let first : same_id (actors.Session number) p.entry.actor ≡ true = same_id-equal (actors.Session number) p.entry.actor (sym (All-head (λ (q : Pair Event). q.entry.actor ≡ actors.Session number) p ps whose)) in
+    ap (λ b. cond b (p ∷ entries_by number ps) (entries_by number ps)) first
+    ∙ ap (λ qs. p ∷ qs) (all_mine number ps (All-tail (λ (q : Pair Event). q.entry.actor ≡ actors.Session number) p ps whose))
+
+-- it forgot nothing of full ranges
+pub says_before : {C : Type 0} (full : ℕ → Bool) (old new : DeskMeaning C) → new.range_limit ≡ old.range_limit → ((k : KnownEntry Event) → Contains old.log.part.known k → Contains new.log.part.known k) → SaysFull full new → SaysFull full old
+says_before full old new same more says range knows =
+    says range (subst (λ n. KnowsFull range n new.log.part.known) (sym same) (record { entry = knows.entry; knows = more knows.entry knows.knows; full = knows.full }))
+
+module _ {C : Type 0} (old mid new : ScriptedMeaning C) (p q : List (Pair Event)) (a : HasMovedBy old mid p) (b : HasMovedBy mid new q) where
+  abbrev log-of : ScriptedMeaning C → LogMeaning C
+  log-of s = record old.session.desk.log { part = record old.session.desk.log.part { own = own_list s; known = s.session.desk.log.part.known } }
+
+  both : HasGrownBy (log-of old) (log-of new) (p ++ q)
+  both =
+      grows_both (log-of old) (log-of mid) (log-of new) p q (record { own = a.own; rises = a.rises; above = a.above; known = a.known; rest = refl })
+      (record { own = b.own; rises = b.rises; above = b.above; known = b.known; rest = refl })
+
+  -- one part behind another
+  pub moved_both : HasMovedBy old new (p ++ q)
+  moved_both = record {
+    scripted = b.scripted;
+    same = record {
+      number = b.same.number ∙ a.same.number;
+      script = b.same.script ∙ a.same.script;
+      reruns = b.same.reruns ∙ a.same.reruns;
+      head = b.same.head ∙ a.same.head;
+      limit = b.same.limit ∙ a.same.limit;
+      range_limit = b.same.range_limit ∙ a.same.range_limit;
+    };
+    own = both.own;
+    whose = All-append (λ (r : Pair Event). r.entry.actor ≡ actors.Session (own_number old)) p q a.whose (subst (λ n. All (λ (r : Pair Event). r.entry.actor ≡ actors.Session n) q) a.same.number b.whose);
+    rises = both.rises;
+    above = both.above;
+    known = both.known;
+  }
+
+-- the turn of a session that goes by itself
+taken_one : (next : ℕ → List (Pair Event) → Option Call) (ended : List (Pair Event) → Bool) (number : ℕ) (jobs : List (List Request)) (before part : List (Pair Event)) → TakesOne next ended number jobs (entries_by number before) part
+    → IsTakenIn next ended (turn_by_itself number jobs) before part
+taken_one next ended number [] before part takes = takes
+taken_one next ended number (job ∷ jobs) before part takes = takes
+
+-- What a session has done by itself so far, until its own entries pass the test: whatever it does behind that, it does with that.
+pub record HasGoneSoFar {C : Type 0} (test : List (Pair Event) → Bool) (old new : ScriptedMeaning C) : Type 0 where
+  pub part : List (Pair Event)
+  pub by : HasMovedBy old new part
+  pub on : (full : ℕ → Bool) → SaysFull full new.session.desk → (rest : List (Pair Event)) → GoesUntil old test (list_has_ended old.session.desk.log.limit full) (own_list old ++ part) rest
+      → GoesUntil old test (list_has_ended old.session.desk.log.limit full) (own_list old) (part ++ rest)
+
+pub gone_nothing : {C : Type 0} (test : List (Pair Event) → Bool) (s : ScriptedMeaning C) → IsScripted s → HasGoneSoFar test s s
+gone_nothing test s scripted = record {
+  part = [];
+  by = moved_by_none s scripted;
+  on = λ full says rest goes. subst (λ before. GoesUntil s test (list_has_ended s.session.desk.log.limit full) before rest) (append-nil (own_list s)) goes;
+}
+
+module _ {C : Type 0} (test : List (Pair Event) → Bool) (old mid : ScriptedMeaning C) (gone : HasGoneSoFar test old mid) where
+  abbrev number : ℕ
+  number = own_number old
+
+  abbrev next : ℕ → List (Pair Event) → Option Call
+  next = next_in_script old.at.reruns old.script
+
+  abbrev ended : (ℕ → Bool) → List (Pair Event) → Bool
+  ended full = list_has_ended old.session.desk.log.limit full
+
+  abbrev before : List (Pair Event)
+  before = own_list old ++ gone.part
+
+  mine : entries_by number before ≡ own_list mid
+  mine =
+      ap (entries_by number) (sym gone.by.own)
+      ∙ all_mine number (own_list mid) (subst (λ n. All (λ (r : Pair Event). r.entry.actor ≡ actors.Session n) (own_list mid)) gone.by.same.number gone.by.scripted.whose)
+
+  module _ (new : ScriptedMeaning C) (more : HasMoved (TakesNextAlone mid) mid new) (not_yet : SaysWhetherDone test mid false) where
+    takes-as : (full : ℕ → Bool) → SaysFull full new.session.desk → TakesOne next (ended full) number (jobs_of (own_list mid)) (own_list mid) more.part
+    takes-as full says =
+        let T : ℕ → List Item → ℕ → ℕ → Type 0 = λ reruns script limit n. TakesOne (next_in_script reruns script) (list_has_ended limit full) n (jobs_of (own_list mid)) (own_list mid) more.part in
+        subst (λ r. T r old.script old.session.desk.log.limit number) gone.by.same.reruns
+        (subst (λ s. T mid.at.reruns s old.session.desk.log.limit number) gone.by.same.script
+        (subst (λ l. T mid.at.reruns mid.script l number) gone.by.same.limit
+        (subst (λ n. T mid.at.reruns mid.script mid.session.desk.log.limit n) gone.by.same.number (more.is full says))))
+
+    taken : (full : ℕ → Bool) → SaysFull full new.session.desk → IsTakenIn next (ended full) (turn_by_itself number (jobs_of (entries_by number before))) before more.part
+    taken full says =
+        taken_one next (ended full) number (jobs_of (entries_by number before)) before more.part
+        (subst (λ own. TakesOne next (ended full) number (jobs_of own) own more.part) (sym mine) (takes-as full says))
+
+    still : jobs_of (entries_by number before) ≡ [] → test (entries_by number before) ≡ true → ⊥
+    still none passed = not_yet.1 (ap jobs_of (sym mine) ∙ none) (ap test (sym mine) ∙ passed)
+
+    -- one more turn
+    pub gone_on : HasGoneSoFar test old new
+    gone_on = record {
+      part = gone.part ++ more.part;
+      by = moved_both old mid new gone.part more.part gone.by more.by;
+      on = λ full says rest goes.
+          subst (λ part. GoesUntil old test (ended full) (own_list old) part) (sym (append_assoc gone.part more.part rest))
+          (gone.on full (says_before full mid.session.desk new.session.desk more.by.same.range_limit more.by.known says) (more.part ++ rest)
+          (Onwards before more.part rest still (taken full says) (subst (λ b. GoesUntil old test (ended full) b rest) (sym (append_assoc (own_list old) gone.part more.part)) goes)));
+    }
+
+  over-by : (full : ℕ → Bool) → SaysFull full mid.session.desk → SaysWhetherDone test mid true → GoesUntil old test (ended full) before []
+  over-by full says (inl stopped) =
+      Ended before
+      (subst (λ own. list_has_ended old.session.desk.log.limit full own ≡ true) (sym mine)
+      (subst (λ l. list_has_ended l full (own_list mid) ≡ true) gone.by.same.limit (has_ended_now mid.session.desk full says (gone.by.scripted.ends stopped))))
+  over-by full says (inr done) = Passed before (ap jobs_of mine ∙ done.0) (ap test mine ∙ done.1)
+
+  -- there is nothing more to do
+  pub gone_all : SaysWhetherDone test mid true → HasMoved (GoesUntil old test) old mid
+  gone_all done = record {
+    part = gone.part;
+    by = gone.by;
+    is = λ full says. subst (λ part. GoesUntil old test (ended full) (own_list old) part) (append-nil gone.part) (gone.on full says [] (over-by full says done));
+  }
+
+-- the one turn of a session that goes by itself
+pub takes_job : (x : ℕ → List (Pair Event) → Option Call) (e : List (Pair Event) → Bool) (n : ℕ) (jobs : List (List Request)) (own part : List (Pair Event)) → (jobs ≡ [] → ⊥) → FinishesAfter x e n own part
+    → TakesOne x e n jobs own part
+takes_job x e n [] own part some finishes = absurd (some refl)
+takes_job x e n (job ∷ jobs) own part some finishes = finishes
+
+pub takes_call : (x : ℕ → List (Pair Event) → Option Call) (e : List (Pair Event) → Bool) (n : ℕ) (jobs : List (List Request)) (own part : List (Pair Event)) → jobs ≡ [] → AsksAfter x e n own part
+    → TakesOne x e n jobs own part
+takes_call x e n [] own part none asks = asks
+takes_call x e n (job ∷ jobs) own part none asks = absurd cc
+
+module _ {C : Type 0} (old new : ScriptedMeaning C) where
+  pub alone_by_job : (jobs_of (own_list old) ≡ [] → ⊥) → HasMoved (FinishesInTurn old) old new → HasMoved (TakesNextAlone old) old new
+  alone_by_job some moved = record {
+    part = moved.part;
+    by = moved.by;
+    is = λ full says. takes_job (next_in_script old.at.reruns old.script) (list_has_ended old.session.desk.log.limit full) (own_number old) (jobs_of (own_list old)) (own_list old) moved.part some (moved.is full says);
+  }
+
+  pub alone_by_call : jobs_of (own_list old) ≡ [] → HasMoved (AsksInTurn old) old new → HasMoved (TakesNextAlone old) old new
+  alone_by_call none moved = record {
+    part = moved.part;
+    by = moved.by;
+    is = λ full says. takes_call (next_in_script old.at.reruns old.script) (list_has_ended old.session.desk.log.limit full) (own_number old) (jobs_of (own_list old)) (own_list old) moved.part none (moved.is full says);
+  }
+
+-- what is done, and what is not
+pub is_done : {C : Type 0} (test : List (Pair Event) → Bool) (s : ScriptedMeaning C) (job passed : Bool) → s.session.desk.log.stopped ≡ false → IsTrue (not job) ↔ (jobs_of (own_list s) ≡ []) → test (own_list s) ≡ passed → job ≡ false
+    → SaysWhetherDone test s passed
+is_done test s job true going jobs says none = inr (jobs.0 (ap not none), says)
+is_done test s job false going jobs says none = (going, λ no is. absurd (false≢true (sym says ∙ is)))
+
+pub job_waits : {C : Type 0} (test : List (Pair Event) → Bool) (s : ScriptedMeaning C) (job : Bool) → s.session.desk.log.stopped ≡ false → IsTrue (not job) ↔ (jobs_of (own_list s) ≡ []) → job ≡ true → SaysWhetherDone test s false
+job_waits test s job going jobs some = (going, λ none is. absurd (false≢true (sym (ap not some) ∙ jobs.1 none)))
+
+pub some_job : (job : Bool) (jobs : List (List Request)) → IsTrue (not job) ↔ (jobs ≡ []) → job ≡ true → jobs ≡ [] → ⊥
+some_job job jobs tells some none = absurd (false≢true (sym (ap not some) ∙ tells.1 none))
+
+-- the script's place is what the own list says
+pub past_so : {C : Type 0} (s : ScriptedMeaning C) (items : ℕ) (b : Bool) → IsScripted s → s.session.desk.log.stopped ≡ false → b ≡ (not (is_some (next_call s.at)) || nat_le items (items_over (length s.script) s.at))
+    → are_items_over items s.at.reruns s.script (own_list s) ≡ b
+past_so s items b scripted going is = ap (λ at. not (is_some (next_call at)) || nat_le items (items_over (length s.script) at)) (sym (scripted.goes going).place) ∙ sym is
+
+pub past_is : (o : Option Call) (over past : Bool) → IsTrue over ↔ (o ≡ None) → (over || past) ≡ (not (is_some o) || past)
+past_is None over past tells = ap (λ b. b || past) (tells.1 refl)
+past_is (Some call) true past tells = let none : Some call ≡ None = tells.0 refl in absurd cc
+past_is (Some call) false past tells = refl
+
+pub over_so : {C : Type 0} (s : ScriptedMeaning C) (b : Bool) → IsScripted s → s.session.desk.log.stopped ≡ false → IsTrue b ↔ (next_call s.at ≡ None) → is_script_over s.at.reruns s.script (own_list s) ≡ b
+over_so s b scripted going tells = ap (λ at. not (is_some (next_call at))) (sym (scripted.goes going).place) ∙ by b (next_call s.at) tells
+  where
+    by : (b : Bool) (o : Option Call) → IsTrue b ↔ (o ≡ None) → not (is_some o) ≡ b
+    by true None tells = refl
+    by true (Some call) tells = let none : Some call ≡ None = tells.0 refl in absurd cc
+    by false None tells = absurd (false≢true (tells.1 refl))
+    by false (Some call) tells = refl
+
+-- the loop's test is that of the session as it began
+pub told_of_old : {C : Type 0} (test : ℕ → List Item → List (Pair Event) → Bool) (old mid : ScriptedMeaning C) (b : Bool) → IsSameScripted old mid → SaysWhetherDone (test mid.at.reruns mid.script) mid b → SaysWhetherDone (test old.at.reruns old.script) mid b
+told_of_old test old mid b same says = subst (λ r. SaysWhetherDone (test r old.script) mid b) same.reruns (subst (λ sc. SaysWhetherDone (test mid.at.reruns sc) mid b) same.script says)

@@ -1,0 +1,12 @@
+pub mod Passing
+pub mod Tests
+pub mod Turning
+pub mod Telling
+pub mod Asking
+pub mod Breaking
+pub mod Finishing
+pub mod Resting
+pub mod Beginning
+pub mod Going
+pub mod Joining
+pub mod Working

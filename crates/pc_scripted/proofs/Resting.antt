@@ -1,0 +1,63 @@
+-- A session that made nothing, or took a note.
+use Rattle.std.proofs.Common.{◌≡◌, ℕ, ◌<◌, Bool, true, false, All, [], None, refl, sym, ap, ◌∙◌}
+use Rattle.std.proofs.lemmas.List.{append-nil}
+use Rattle.std.proofs.lemmas.List.Elements.{All-nil}
+use Rattle.pc_base.specs.declared.actor.ActorId.TheVariants as actors
+use Rattle.pc_base.specs.declared.entry.Entry.{Entry}
+use Rattle.pc_history.specs.declared.pair.Pair.{Pair}
+use Rattle.pc_history.specs.Parts.{knowledge}
+use Rattle.pc_proto.specs.declared.event.Event.{Event}
+use Rattle.pc_scripted.proofs.Tests.{has_ended_now}
+use Rattle.pc_scripted.proofs.Turning.{asks_ended, asks_none, finishes_ended, finishes_none}
+use Rattle.pc_scripted.specs.Ended.{SaysFull, list_has_ended}
+use Rattle.pc_scripted.specs.Scripted.{IsScripted, ScriptedMeaning, next_in_script, own_number, own_list}
+use Rattle.pc_scripted.specs.Taking.{AsksInTurn, FinishesInTurn, HasMoved, HasMovedBy, IsSameScripted}
+use Rattle.pc_script.specs.Script.{next_call}
+use Rattle.pc_world.specs.Follows.FinishingJobs.{jobs_of}
+
+module _ {C : Type 0} (s : ScriptedMeaning C) (scripted : IsScripted s) where
+  pub same_scripted : IsSameScripted s s
+  same_scripted = record { number = refl; script = refl; reruns = refl; head = refl; limit = refl; range_limit = refl }
+
+  -- nothing
+  pub moved_by_none : HasMovedBy s s []
+  moved_by_none = record {
+    scripted = scripted;
+    same = same_scripted;
+    own = sym (append-nil (own_list s));
+    whose = All-nil (λ (p : Pair Event). p.entry.actor ≡ actors.Session (own_number s));
+    rises = tt;
+    above = All-nil (λ (p : Pair Event). All (λ (e : Entry Event). e.step < p.entry.step) (knowledge s.session.desk.log.part));
+    known = λ k there. there;
+  }
+
+  ended-now : s.session.desk.log.stopped ≡ true → (full : ℕ → Bool) → SaysFull full s.session.desk → list_has_ended s.session.desk.log.limit full (own_list s) ≡ true
+  ended-now stopped full says = has_ended_now s.session.desk full says (scripted.ends stopped)
+
+  pub stopped_asks : s.session.desk.log.stopped ≡ true → HasMoved (AsksInTurn s) s s
+  stopped_asks stopped = record {
+    part = [];
+    by = moved_by_none;
+    is = λ full says. asks_ended (next_in_script s.at.reruns s.script) (list_has_ended s.session.desk.log.limit full) (own_number s) (own_list s) [] (ended-now stopped full says) refl;
+  }
+
+  pub stopped_finishes : s.session.desk.log.stopped ≡ true → HasMoved (FinishesInTurn s) s s
+  stopped_finishes stopped = record {
+    part = [];
+    by = moved_by_none;
+    is = λ full says. finishes_ended (next_in_script s.at.reruns s.script) (list_has_ended s.session.desk.log.limit full) (own_number s) (own_list s) [] (ended-now stopped full says) refl;
+  }
+
+  pub over_asks : s.session.desk.log.stopped ≡ false → next_call s.at ≡ None → HasMoved (AsksInTurn s) s s
+  over_asks going none = record {
+    part = [];
+    by = moved_by_none;
+    is = λ full says. asks_none (next_in_script s.at.reruns s.script) (list_has_ended s.session.desk.log.limit full) (own_number s) (own_list s) (ap next_call (sym (scripted.goes going).place) ∙ none);
+  }
+
+  pub idle_finishes : jobs_of (own_list s) ≡ [] → HasMoved (FinishesInTurn s) s s
+  idle_finishes none = record {
+    part = [];
+    by = moved_by_none;
+    is = λ full says. finishes_none (next_in_script s.at.reruns s.script) (list_has_ended s.session.desk.log.limit full) (own_number s) (own_list s) none;
+  }

@@ -1,0 +1,91 @@
+-- When a session's list has ended.
+use Rattle.std.proofs.Common.{◌≡◌, ℕ, ◌<◌, ◌≤◌, ◌⊎◌, inl, inr, Bool, true, false, ◌&&◌, ◌||◌, ◌==◌, not, All, Contains, IsTrue, List, [], ◌∷◌, ◌++◌, length, length-append, refl, sym, ap, ◌∙◌, arith}
+use Rattle.std.proofs.lemmas.List.Elements.{All-cons, All-head, All-nil, All-tail}
+use Rattle.std.specs.List.{list_any}
+use Rattle.pc_desk.specs.Desk.{DeskMeaning}
+use Rattle.pc_desk.specs.Ending.{IsAtFullRange, IsAtOwnEnd}
+use Rattle.pc_history.specs.declared.pair.Pair.{Pair}
+use Rattle.pc_lists.proofs.Lists.{contains_cons, contains_nil}
+use Rattle.pc_proto.specs.declared.event.Event.{Event}
+use Rattle.pc_scripted.specs.Ended.{SaysFull, list_has_ended, waits_for_one_of}
+use Rattle.pc_world.specs.Known.{Known, known_of}
+use Rattle.pc_world.specs.Known.Traffic.{Sent}
+use Rattle.pc_world.specs.Tell.Refusal.{is_heard}
+
+any_there : {X : Type 0} (p : X → Bool) (xs : List X) (x : X) → Contains xs x → p x ≡ true → list_any p xs ≡ true
+any_there p [] x there is = absurd (contains_nil x there)
+any_there p (y ∷ ys) x there is =
+    elim (contains_cons y ys x there) [
+      | inl same ↦ ap (λ b. b || list_any p ys) (ap p same ∙ is)
+      | inr later ↦ ap (λ b. p y || b) (any_there p ys x later is) ∙ or_true (p y)
+    ]
+  where
+    or_true : (b : Bool) → (b || true) ≡ true
+    or_true true = refl
+    or_true false = refl
+
+none_any : {X : Type 0} (p : X → Bool) (xs : List X) → All (λ x. p x ≡ false) xs → list_any p xs ≡ false
+none_any p [] none = refl
+none_any p (x ∷ xs) none = ap (λ b. b || list_any p xs) (All-head (λ x. p x ≡ false) x xs none) ∙ none_any p xs (All-tail (λ x. p x ≡ false) x xs none)
+
+eqb_same : (m n : ℕ) → m ≡ n → (m == n) ≡ true
+eqb_same m n same = grind (arith, same)
+
+eqb_other : (m n : ℕ) → m < n → (m == n) ≡ false
+eqb_other m n less = grind (arith, less)
+
+both_false : (a b : Bool) → b ≡ true → (a && not b) ≡ false
+both_false true true e = refl
+both_false true false e = absurd cc
+both_false false b e = refl
+
+-- where each message was heard, no session waits
+pub waits_for_none : (full : ℕ → Bool) (k : Known) → All (λ m. IsTrue (is_heard k.heard m)) k.sent → waits_for_one_of full k ≡ false
+waits_for_none full k heard = none_any (λ m. full m.range && not (is_heard k.heard m)) k.sent (each k.sent heard)
+  where
+    each : (sent : List Sent) → All (λ m. IsTrue (is_heard k.heard m)) sent → All (λ m. (full m.range && not (is_heard k.heard m)) ≡ false) sent
+    each [] all = All-nil (λ m. (full m.range && not (is_heard k.heard m)) ≡ false)
+    each (m ∷ ms) all =
+        All-cons (λ m. (full m.range && not (is_heard k.heard m)) ≡ false) m ms (both_false (full m.range) (is_heard k.heard m) (true_is (is_heard k.heard m) (All-head (λ m. IsTrue (is_heard k.heard m)) m ms all)))
+        (each ms (All-tail (λ m. IsTrue (is_heard k.heard m)) m ms all))
+      where
+        true_is : (b : Bool) → IsTrue b → b ≡ true
+        true_is b is = is
+
+module _ (limit : ℕ) (full : ℕ → Bool) (own : List (Pair Event)) (heard : All (λ m. IsTrue (is_heard (known_of own).heard m)) (known_of own).sent) where
+  -- a session at rest goes on exactly below its limit
+  pub not_ended : length own < limit → list_has_ended limit full own ≡ false
+  not_ended less = ap (λ b. b || waits_for_one_of full (known_of own)) (eqb_other (length own) limit less) ∙ waits_for_none full (known_of own) heard
+
+  pub only_at_limit : list_has_ended limit full own ≡ true → length own ≡ limit
+  only_at_limit ended = by (length own == limit) refl
+    where
+      by : (b : Bool) → (length own == limit) ≡ b → length own ≡ limit
+      by true e = grind (arith, e)
+      by false e =
+          let w : waits_for_one_of full (known_of own) ≡ true = sym (ap (λ b. b || waits_for_one_of full (known_of own)) e) ∙ ended in
+          let no : true ≡ false = sym w ∙ waits_for_none full (known_of own) heard in
+          absurd cc
+
+-- a session whose list has ended
+pub has_ended_now : {C : Type 0} (d : DeskMeaning C) (full : ℕ → Bool) → SaysFull full d → IsAtOwnEnd d ⊎ IsAtFullRange d → list_has_ended d.log.limit full d.log.part.own ≡ true
+has_ended_now d full says (inl own) = ap (λ b. b || waits_for_one_of full (known_of d.log.part.own)) (eqb_same (length d.log.part.own) d.log.limit own.long)
+has_ended_now d full says (inr range) =
+    let k = known_of d.log.part.own in
+    let here : full range.message.range ≡ true = ap full range.goes ∙ says range.range range.full in
+    let waits : waits_for_one_of full k ≡ true =
+    any_there (λ m. full m.range && not (is_heard k.heard m)) k.sent range.message range.sent (ap (λ b. b && not (is_heard k.heard range.message)) here ∙ ap not range.unheard) in
+    ap (λ b. length d.log.part.own == d.log.limit || b) waits ∙ or_true (length d.log.part.own == d.log.limit)
+  where
+    or_true : (b : Bool) → (b || true) ≡ true
+    or_true true = refl
+    or_true false = refl
+
+-- a part for which there is no room
+pub no_room : (limit : ℕ) (own part : List (Pair Event)) → length own ≡ limit → length (own ++ part) ≤ limit → part ≡ []
+no_room limit own [] long within = refl
+no_room limit own (p ∷ ps) long within = absurd (let l = length-append own (p ∷ ps) in omega arith)
+
+pub some_room : (limit : ℕ) (own part : List (Pair Event)) → (part ≡ [] → ⊥) → length (own ++ part) ≤ limit → length own < limit
+some_room limit own [] some within = absurd (some refl)
+some_room limit own (p ∷ ps) some within = let l = length-append own (p ∷ ps) in omega arith

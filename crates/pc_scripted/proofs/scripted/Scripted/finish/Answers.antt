@@ -1,0 +1,14 @@
+use Rattle.std.proofs.Common.{[], sym, ap, subst, ◌∙◌}
+use Rattle.pc_desk.specs.Keeping.{EachAfter}
+use Rattle.pc_script.specs.Steps.{KeepsWork}
+use Rattle.pc_scripted.proofs.Working.{keeps_work}
+use Rattle.pc_scripted.specs.Scripted.{IsScripted, own_list}
+use Rattle.pc_scripted.specs.Taking.{DoesWork}
+use Rattle.pc_scripted.proofs.scripted.Scripted.finish.Goals as goal
+
+pub returns-clause-keeps : goal.returns-clause-keeps
+returns-clause-keeps g c = λ work session rule does same.
+    let scripted = subst (λ s. IsScripted s) (sym c.self.view_is) c.requires in
+    subst (λ s. EachAfter (KeepsWork work session rule) [] (own_list s)) c.self.view_is
+    (keeps_work work session rule (g.C.Clock.rule c.self.inside.session.desk.log.clock) _ _ scripted c.finish.ensures.log scripted.id c.finish.ensures.reads (subst (λ s. DoesWork work session s) (sym c.self.view_is) does)
+    (ap (λ s. g.C.Clock.rule s.session.desk.log.clock) c.self.view_is ∙ same))

@@ -1,0 +1,7 @@
+use Rattle.std.proofs.Common.{◌≡◌}
+use Rattle.pc_scripted.proofs.Going.{HasGoneSoFar}
+use Rattle.pc_scripted.specs.Taking.{is_script_over}
+use Rattle.pc_scripted.proofs.scripted.Scripted.run_to_end.Given as goal
+
+abbrev pub invariant-loop : goal.invariant-loop
+invariant-loop g l = HasGoneSoFar (is_script_over l.fn.self.at.reruns l.fn.self.script) l.fn.self l.self × (g.C.Clock.rule l.self.session.desk.log.clock ≡ g.C.Clock.rule l.fn.self.session.desk.log.clock)

@@ -1,0 +1,94 @@
+-- What a session with its script takes at its turns.
+use Rattle.std.specs.Prelude.{◌≡◌, ℕ, Bool, true, false, nat_le, is_some, not, ◌||◌, ◌⊎◌, Option, None, List, [], ◌∷◌, ◌++◌, length, All, Contains}
+use Rattle.pc_base.specs.declared.actor.ActorId.TheVariants as actors
+use Rattle.pc_history.specs.declared.pair.Pair.{Pair}
+use Rattle.pc_history.specs.declared.view.Known.{Known as KnownEntry}
+use Rattle.pc_history.specs.Parts.{knowledge}
+use Rattle.pc_proto.specs.declared.event.Event.{Event}
+use Rattle.pc_proto.specs.declared.call.Call.{Call}
+use Rattle.pc_proto.specs.declared.request.Request.{Request}
+use Rattle.pc_script.specs.Script.{items_over, next_call, script_position}
+use Rattle.pc_scripted.specs.Ended.{SaysFull, list_has_ended}
+use Rattle.pc_scripted.specs.Scripted.{IsScripted, ScriptedMeaning, next_in_script, own_number, own_list}
+use Rattle.pc_turns.specs.Clients.{RisesFrom}
+use Rattle.pc_turns.specs.Laws.{AreAboveKnown}
+use Rattle.pc_turns.specs.Order.{AsksAfter, FinishesAfter, GoesByItself, entries_by}
+use Rattle.pc_work.specs.declared.item.Item.{Item}
+use Rattle.pc_work.specs.declared.session.SessionWork.{SessionWork}
+use Rattle.pc_work.specs.declared.workload.Workload.{Workload}
+use Rattle.pc_world.specs.Follows.FinishingJobs.{jobs_of}
+
+-- The session, its script and its limits are the same.
+pub record IsSameScripted {C : Type 0} (old new : ScriptedMeaning C) : Type 0 where
+  pub number : own_number new ≡ own_number old
+  pub script : new.script ≡ old.script
+  pub reruns : new.at.reruns ≡ old.at.reruns
+  pub head : new.session.desk.log.head ≡ old.session.desk.log.head
+  pub limit : new.session.desk.log.limit ≡ old.session.desk.log.limit
+  pub range_limit : new.session.desk.range_limit ≡ old.session.desk.range_limit
+
+-- The session made these entries, whose steps rise, above those of all that it stored or knew. It forgot nothing, and goes by its script
+-- still.
+pub record HasMovedBy {C : Type 0} (old new : ScriptedMeaning C) (part : List (Pair Event)) : Type 0 where
+  pub scripted : IsScripted new
+  pub same : IsSameScripted old new
+  pub own : own_list new ≡ own_list old ++ part
+  pub whose : All (λ p. p.entry.actor ≡ actors.Session (own_number old)) part
+  pub rises : RisesFrom 0 part
+  pub above : AreAboveKnown (knowledge old.session.desk.log.part) part
+  pub known : (k : KnownEntry Event) → Contains old.session.desk.log.part.known k → Contains new.session.desk.log.part.known k
+
+-- What may be said of entries that a session made after others, where a test says which lists have ended.
+abbrev pub Move : Type 1
+Move = (List (Pair Event) → Bool) → List (Pair Event) → List (Pair Event) → Type 0
+
+-- The session made some entries, and nothing else, of which this is so, whichever ranges are full beside those that it knows to be.
+pub record HasMoved {C : Type 0} (Is : Move) (old new : ScriptedMeaning C) : Type 0 where
+  pub part : List (Pair Event)
+  pub by : HasMovedBy old new part
+  pub is : (full : ℕ → Bool) → SaysFull full new.session.desk → Is (list_has_ended old.session.desk.log.limit full) (own_list old) part
+
+-- The part is the oldest of these jobs where one waits, else the session's next call.
+abbrev pub TakesOne : (ℕ → List (Pair Event) → Option Call) → (List (Pair Event) → Bool) → ℕ → List (List Request) → List (Pair Event) → List (Pair Event) → Type 0
+TakesOne next ended number [] mine part = AsksAfter next ended number mine part
+TakesOne next ended number (job ∷ jobs) mine part = FinishesAfter next ended number mine part
+
+module _ {C : Type 0} (s : ScriptedMeaning C) where
+  -- The session asks its script's next call, and is told its answer.
+  abbrev pub AsksInTurn : Move
+  AsksInTurn ended mine part = AsksAfter (next_in_script s.at.reruns s.script) ended (own_number s) mine part
+
+  -- The session does its oldest job.
+  abbrev pub FinishesInTurn : Move
+  FinishesInTurn ended mine part = FinishesAfter (next_in_script s.at.reruns s.script) ended (own_number s) mine part
+
+  -- The session does its oldest job where one waits, else it asks its script's next call.
+  abbrev pub TakesNextAlone : Move
+  TakesNextAlone ended mine part = TakesOne (next_in_script s.at.reruns s.script) ended (own_number s) (jobs_of mine) mine part
+
+  -- The session goes by itself until its own entries pass the test.
+  abbrev pub GoesUntil : (List (Pair Event) → Bool) → Move
+  GoesUntil test ended mine part = GoesByItself (next_in_script s.at.reruns s.script) ended (own_number s) (λ order. test (entries_by (own_number s) order)) mine part
+
+-- After these own entries the script is over.
+abbrev pub is_script_over : ℕ → List Item → List (Pair Event) → Bool
+is_script_over reruns script own = not (is_some (next_call (script_position reruns script own)))
+
+-- After these own entries so many items of the script are over, or all of it.
+abbrev pub are_items_over : ℕ → ℕ → List Item → List (Pair Event) → Bool
+are_items_over items reruns script own = is_script_over reruns script own || nat_le items (items_over (length script) (script_position reruns script own))
+
+-- The session's list has ended, or its script is over.
+pub record IsRunOut {C : Type 0} (s : ScriptedMeaning C) : Type 0 where
+  pub over : s.session.desk.log.stopped ≡ false → next_call s.at ≡ None
+
+-- The session has nothing more to do: its list has ended, or no job waits and its own entries pass the test.
+abbrev pub SaysWhetherDone : {C : Type 0} → (List (Pair Event) → Bool) → ScriptedMeaning C → Bool → Type 0
+SaysWhetherDone test s true = (s.session.desk.log.stopped ≡ true) ⊎ ((jobs_of (own_list s) ≡ []) × (test (own_list s) ≡ true))
+SaysWhetherDone test s false = (s.session.desk.log.stopped ≡ false) × (jobs_of (own_list s) ≡ [] → test (own_list s) ≡ true → ⊥)
+
+-- The session's script is that of this work, and so is how often it may ask again.
+pub record DoesWork {C : Type 0} (work : Workload) (session : SessionWork) (s : ScriptedMeaning C) : Type 0 where
+  pub unpiped : work.pipelining ≡ false
+  pub script : session.script ≡ s.script
+  pub reruns : work.reruns ≡ s.at.reruns

@@ -1,0 +1,283 @@
+ghost use Rattle.std.specs.Prelude.{◌≡◌, ◌↔◌, ℕ, ◌-◌, ◌||◌, [], Bool, false, length, map, is_some, nat_le, not, All, IfNone, IfOk, IfSome, IsTrue, OnOk, None, Some};
+ghost use Rattle.pc_desk.specs.declared.halt.Halt.TheVariants as halts;
+ghost use Rattle.pc_desk.specs.Desk.{IsReadyToGo};
+ghost use Rattle.pc_desk.specs.Keeping.{EachAfter};
+ghost use Rattle.pc_desk.specs.OwnLog.{IsOwnLog};
+ghost use Rattle.pc_history.specs.Parts.{noted, told};
+ghost use Rattle.pc_script.specs.Clocks.{clock_rule};
+ghost use Rattle.pc_script.specs.Script.{after_told, items_over, next_call, opened};
+ghost use Rattle.pc_script.specs.Steps.{KeepsWork};
+ghost use Rattle.pc_scripted.specs.Scripted.{IsScripted, own_list};
+ghost use Rattle.pc_scripted.specs.Taking.{AsksInTurn, DoesWork, FinishesInTurn, TakesNextAlone, GoesUntil, HasMoved, IsRunOut, SaysWhetherDone, are_items_over, is_script_over};
+ghost use Rattle.pc_session.specs.Session.{IsAtRest};
+ghost use Rattle.pc_work.specs.Built.{IsBuiltItem};
+ghost use Rattle.pc_work.specs.declared.session.SessionWork.{SessionWork};
+ghost use Rattle.pc_work.specs.declared.workload.Workload.{Workload};
+ghost use Rattle.pc_world.specs.Follows.FinishingJobs.{jobs_of};
+
+use pc_base::NoMemory;
+use pc_clock::Clock;
+use pc_desk::{Halt, Rest};
+use pc_history::{Actor, Named, Note};
+use pc_proto::{Answer, Call};
+use pc_range::{CommitWorld, Gate};
+use pc_script::ScriptRun;
+use pc_session::Session;
+use pc_wire::Wire;
+use pc_work::Script;
+use std::alloc::Global;
+use std::marker::Model;
+use std::sync::Wait;
+
+/// One session with its script. It asks the script's calls in order, some of them again where they were refused, and does its jobs.
+///
+/// Once its list has ended it takes nothing more. After want of memory nothing is promised of it.
+#[derive(Drop)]
+pub struct Scripted<'a, N: Named<CommitWorld>, C: Clock, V: Wire, G> {
+    session: Session<'a, N, C, V, G>,
+    script: &'a Script,
+    run: ScriptRun<'a>,
+}
+
+impl<'a, N: Named<CommitWorld>, C: Clock, V: Wire, G> Model for Scripted<'a, N, C, V, G> {
+    ghost use Rattle.pc_scripted.specs.Scripted.{ScriptedMeaning};
+
+    ghost Value = { ScriptedMeaning C };
+
+    ghost view = { λ s. record { session = s.session; script = s.script.now; at = s.run } };
+}
+
+impl<'a, N: Named<CommitWorld>, C: Clock + Drop, V: Wire + Drop, G: Gate> Scripted<'a, N, C, V, G> {
+    /// A session at the first call of its script, each item of which has so many reruns.
+    pub fn new(
+        alloc: Global,
+        session: Session<'a, N, C, V, G>,
+        script: &'a Script,
+        reruns: u32,
+    ) -> Result<Scripted<'a, N, C, V, G>, NoMemory>
+        requires rests { IsAtRest session }
+        requires fresh { session.desk.log.part.own ≡ [] }
+        requires no_stop { session.desk.log.stop ≡ None }
+        requires going { session.desk.log.stopped ≡ false }
+        requires items { All IsBuiltItem script.now }
+        ensures scripted { IfOk result IsScripted }
+        ensures made { IfOk result (λ s. s ≡ record { session = session.entry; script = script.now; at = opened script.now reruns }) }
+    {
+        Ok(Scripted {
+            session,
+            script,
+            run: ScriptRun::new(alloc, script, reruns)?,
+        })
+    }
+
+    /// Whether its list has ended.
+    pub fn has_stopped(&self) -> bool
+        ensures { result ≡ self.now.session.desk.log.stopped }
+    {
+        self.session.has_stopped()
+    }
+
+    /// How many entries its list has.
+    pub fn len(&self) -> usize
+        ensures { result ≡ length (own_list self.now) }
+    {
+        self.session.len()
+    }
+
+    /// A note of its last entry, without uses. None where it has no entry.
+    pub fn mark(&mut self) -> Result<Option<Note<CommitWorld, N>>, NoMemory>
+        ensures note { IfOk result (λ mark. IfSome mark (λ n. n.known ≡ noted (length (own_list self.old) - 1) 0 self.old.session.desk.log.part)) }
+        ensures none { IfOk result (λ mark. IfNone mark (own_list self.old ≡ [])) }
+        ensures same { self.new ≡ self.old }
+    {
+        self.session.mark()
+    }
+
+    /// Knows the entry of a mark from now on, so that its later entries stand after that one.
+    pub fn follow(&mut self, mark: Note<CommitWorld, N>)
+        ensures took { self.new ≡ record self.old { session = record self.old.session { desk = record self.old.session.desk { log = record self.old.session.desk.log { part = told mark.known self.old.session.desk.log.part } } } } }
+        ensures scripted { IsScripted self.old → IsScripted self.new }
+    {
+        self.session.follow(mark);
+    }
+
+    /// Asks the script's next call, and is told its answer; nothing where the script is over or the list has ended.
+    pub fn turn<R: Wait>(&mut self, rt: &R) -> Result<(), NoMemory>
+        requires { IsScripted self.old }
+        ensures ok { OnOk result (HasMoved (AsksInTurn self.old) self.old self.new) }
+        ensures rule { C.rule self.new.session.desk.log.clock ≡ C.rule self.old.session.desk.log.clock }
+    {
+        if self.has_stopped() {
+            return Ok(());
+        }
+        match self.next()? {
+            Some(call) => self.call(rt, call),
+            None => Ok(()),
+        }
+    }
+
+    /// The call that comes next. None at the script's end.
+    fn next(&self) -> Result<Option<Call>, NoMemory>
+        ensures { IfOk result (λ call. call ≡ next_call self.now.at) }
+    {
+        self.run.next()
+    }
+
+    /// Asks the call, which comes next, and is told its answer.
+    fn call<R: Wait>(&mut self, rt: &R, call: Call) -> Result<(), NoMemory>
+        requires scripted { IsScripted self.old }
+        requires going { self.old.session.desk.log.stopped ≡ false }
+        requires next { next_call self.old.at ≡ Some call }
+        ensures ok { OnOk result (HasMoved (AsksInTurn self.old) self.old self.new) }
+        ensures rule { C.rule self.new.session.desk.log.clock ≡ C.rule self.old.session.desk.log.clock }
+    {
+        match self.session.call(rt, call) {
+            Ok(answer) => go_on_by(&mut self.run, answer),
+            Err(halt) => unless_memory(halt),
+        }
+    }
+
+    /// Does its oldest job; nothing where none waits or the list has ended.
+    pub fn finish_job<R: Wait>(&mut self, rt: &R) -> Result<(), NoMemory>
+        requires { IsScripted self.old }
+        ensures ok { OnOk result (HasMoved (FinishesInTurn self.old) self.old self.new) }
+        ensures rule { C.rule self.new.session.desk.log.clock ≡ C.rule self.old.session.desk.log.clock }
+    {
+        if self.has_stopped() {
+            return Ok(());
+        }
+        if !self.has_job() {
+            return Ok(());
+        }
+        self.step(rt)
+    }
+
+    /// Does its oldest job, where one waits.
+    fn step<R: Wait>(&mut self, rt: &R) -> Result<(), NoMemory>
+        requires scripted { IsScripted self.old }
+        requires going { self.old.session.desk.log.stopped ≡ false }
+        requires some { jobs_of (own_list self.old) ≡ [] → ⊥ }
+        ensures ok { OnOk result (HasMoved (FinishesInTurn self.old) self.old self.new) }
+        ensures rule { C.rule self.new.session.desk.log.clock ≡ C.rule self.old.session.desk.log.clock }
+    {
+        let _stepped = match self.session.step(rt) {
+            Ok(stepped) => stepped,
+            Err(halt) => return unless_memory(halt),
+        };
+        Ok(())
+    }
+
+    /// Whether a job waits.
+    fn has_job(&self) -> bool
+        requires scripted { IsScripted self.now }
+        requires going { self.now.session.desk.log.stopped ≡ false }
+        ensures { IsTrue (not result) ↔ (jobs_of (own_list self.now) ≡ []) }
+    {
+        self.session.has_job()
+    }
+
+    /// Whether so many items of its script are over, or all of it.
+    fn is_past(&self, items: usize) -> bool
+        ensures { result ≡ (not (is_some (next_call self.now.at)) || nat_le items (items_over (length self.now.script) self.now.at)) }
+    {
+        self.run.is_over() || items <= self.run.items_over(self.script.len())
+    }
+
+    /// Whether its script is over.
+    fn is_over(&self) -> bool
+        ensures { IsTrue result ↔ (next_call self.now.at ≡ None) }
+    {
+        self.run.is_over()
+    }
+
+    /// What it does by itself: its oldest job where one waits, else its script's next call.
+    fn go_on<R: Wait>(&mut self, rt: &R) -> Result<(), NoMemory>
+        requires scripted { IsScripted self.old }
+        requires going { self.old.session.desk.log.stopped ≡ false }
+        ensures ok { OnOk result (HasMoved (TakesNextAlone self.old) self.old self.new) }
+        ensures rule { C.rule self.new.session.desk.log.clock ≡ C.rule self.old.session.desk.log.clock }
+    {
+        if self.has_job() {
+            self.finish_job(rt)
+        } else {
+            self.turn(rt)
+        }
+    }
+
+    /// Goes on by itself until so many items of its script are over, or all of it, and no job waits; or until its list has ended.
+    pub fn open<R: Wait>(&mut self, rt: &R, items: usize) -> Result<(), NoMemory>
+        requires { IsScripted self.old }
+        ensures ok { OnOk result (HasMoved (GoesUntil self.old (are_items_over items self.old.at.reruns self.old.script)) self.old self.new) }
+        ensures rule { C.rule self.new.session.desk.log.clock ≡ C.rule self.old.session.desk.log.clock }
+    {
+        for _ in rt.forever() {
+            if self.is_opened(items) {
+                return Ok(());
+            }
+            self.go_on(rt)?;
+        }
+        unreachable!()
+    }
+
+    /// Goes on by itself until its script is over and no job waits, or its list has ended.
+    pub fn run_to_end<R: Wait>(&mut self, rt: &R) -> Result<(), NoMemory>
+        requires { IsScripted self.old }
+        ensures ok { OnOk result (HasMoved (GoesUntil self.old (is_script_over self.old.at.reruns self.old.script)) self.old self.new) }
+        ensures over { OnOk result (IsRunOut self.new) }
+        ensures rule { C.rule self.new.session.desk.log.clock ≡ C.rule self.old.session.desk.log.clock }
+    {
+        for _ in rt.forever() {
+            if self.is_run_out() {
+                return Ok(());
+            }
+            self.go_on(rt)?;
+        }
+        unreachable!()
+    }
+
+    /// Whether it has nothing more to do before so many items are over.
+    fn is_opened(&self, items: usize) -> bool
+        requires { IsScripted self.now }
+        ensures { SaysWhetherDone (are_items_over items self.now.at.reruns self.now.script) self.now result }
+    {
+        self.has_stopped() || !self.has_job() && self.is_past(items)
+    }
+
+    /// Whether it has nothing more to do.
+    fn is_run_out(&self) -> bool
+        requires { IsScripted self.now }
+        ensures told { SaysWhetherDone (is_script_over self.now.at.reruns self.now.script) self.now result }
+        ensures over { IsTrue result → IsRunOut self.now }
+    {
+        self.has_stopped() || !self.has_job() && self.is_over()
+    }
+
+    /// Its actor, to be handed in, and what is still in its outbox: nothing, unless its list has ended.
+    pub fn finish(self) -> (Actor<CommitWorld, N>, Rest<N>)
+        requires { IsScripted self }
+        ensures actor { (result.0.world ≡ self.entry.session.desk.log.head) × (result.0.part ≡ self.entry.session.desk.log.part) }
+        ensures log { IsOwnLog self.entry.session.desk.log }
+        ensures rest { map (λ w. w.posted) result.1 ≡ self.entry.session.desk.posted }
+        ensures ready { All (IsReadyToGo self.entry.session.desk.log.part.id self.entry.session.desk.log.head.splits) result.1 }
+        ensures keeps { (work : Workload) (session : SessionWork) (rule : ℕ → ℕ → Bool) → DoesWork work session self.entry → C.rule self.entry.session.desk.log.clock ≡ clock_rule session.clock rule → EachAfter (KeepsWork work session rule) [] (own_list self.entry) }
+    {
+        self.session.finish()
+    }
+}
+
+/// The script goes on by the answer that its call was told.
+fn go_on_by(run: &mut ScriptRun<'_>, answer: Answer) -> Result<(), NoMemory>
+    ensures { OnOk result (run.new ≡ after_told answer run.old) }
+{
+    run.told(&answer)
+}
+
+/// Want of memory is an error; that a list has ended is none.
+fn unless_memory(halt: Halt) -> Result<(), NoMemory>
+    ensures { OnOk result (halt ≡ halts.NoMemory → ⊥) }
+{
+    match halt {
+        Halt::NoMemory => Err(NoMemory),
+        Halt::Stopped | Halt::Full { .. } => Ok(()),
+    }
+}
