@@ -10,6 +10,7 @@ use Rattle.pc_journal.specs.ToldRows.{AllTellBare}
 use Rattle.pc_proto.specs.declared.event.Event.{Event}
 use Rattle.pc_report.specs.declared.rows.Report.{Report}
 use Rattle.pc_report.specs.ReportOf.{IsRunOver, report_of}
+use Rattle.pc_report.specs.Spelled.{FitsReport}
 use Rattle.pc_runner.specs.Follows.{Follows}
 use Rattle.pc_serial.proofs.AloneRunsPlainly.{one_session_runs_plainly}
 use Rattle.pc_serial.proofs.Legal.{is-legal, is-ordered}
@@ -60,15 +61,16 @@ run_over work entries reported run same = record { head = head_in work; cut = re
 pub output_of : {V E : Type 0} (r : Result V E) (items : V → List ℕ) (work : Workload) (rules : ActorId → ℕ → ℕ → Bool) (entries reported printed : List (Entry Event)) (report : Report)
     → IsBuilt work → IsRun (head_in work) entries → Follows work rules (head_in work) entries
     → reported ≡ entries → printed ≡ entries → ((head : Head) → head.splits ≡ work.splits → report ≡ report_of head reported)
-    → IfOk r (λ out. items out ≡ output_text work printed report) → OnOk r (FitsKeys work.splits) → OnOk r (AllTellBare printed → FitsEntries printed)
+    → IfOk r (λ out. items out ≡ output_text work printed report) → OnOk r (FitsKeys work.splits) → OnOk r (AllTellBare printed → FitsEntries printed) → OnOk r (FitsReport report)
     → IfOk r (λ out. IsOutput work rules (items out))
-output_of (Ok out) items work rules entries reported printed report built run follows same_one same_two is text keys spelled =
+output_of (Ok out) items work rules entries reported printed report built run follows same_one same_two is text keys spelled fits =
     let right : report ≡ report_of (head_in work) entries = is (head_in work) refl ∙ ap (report_of (head_in work)) same_one in
     record {
       entries = entries;
       is = is_run_of work rules entries run follows;
       head = head_fits work built keys;
       spelled = subst FitsEntries same_two (spelled (subst AllTellBare (sym same_two) (runs_tell_bare (head_in work) entries run)));
+      report_spelled = subst FitsReport right fits;
       whole = text ∙ ap (λ es. output_text work es report) same_two ∙ ap (output_text work entries) right;
     }
-output_of (Err e) items work rules entries reported printed report built run follows same_one same_two is text keys spelled = tt
+output_of (Err e) items work rules entries reported printed report built run follows same_one same_two is text keys spelled fits = tt

@@ -3,3 +3,4 @@ pub mod Ends
 pub mod Headline
 pub mod OneAlone
 pub mod PlainReport
+pub mod Accepted

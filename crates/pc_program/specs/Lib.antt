@@ -3,3 +3,4 @@ pub mod Output
 pub mod Causes
 pub mod OfOne
 pub mod PlainReport
+pub mod OutputsAreAccepted

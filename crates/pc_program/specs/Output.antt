@@ -9,6 +9,7 @@ use Rattle.pc_proto.specs.declared.event.Event.{Event}
 use Rattle.pc_report.specs.declared.rows.Report.{Report}
 use Rattle.pc_report.specs.Report.{report_text}
 use Rattle.pc_report.specs.ReportOf.{report_of}
+use Rattle.pc_report.specs.Spelled.{FitsReport}
 use Rattle.pc_runner.specs.Follows.{Follows}
 use Rattle.pc_runner.specs.History.{head_of}
 use Rattle.pc_serial.specs.Laws.{OrdersCommits}
@@ -43,10 +44,11 @@ pub record IsRunOf (work : Workload) (rules : ActorId → ℕ → ℕ → Bool) 
   pub plain : IsOfOne work → RunsPlainly (head_in work) entries
   pub reported : IsOfOne work → ReportsPlainly (head_in work) entries
 
--- The text is the journal and the report of one such history. Its head and the history have a spelling, so that it is the journal of no other.
+-- The text is the journal and the report of one such history. Its head, the history and the report have a spelling, so that it is the journal of no other.
 pub record IsOutput (work : Workload) (rules : ActorId → ℕ → ℕ → Bool) (text : List ℕ) : Type 0 where
   pub entries : List (Entry Event)
   pub is : IsRunOf work rules entries
   pub head : FitsHead work.splits (length work.sessions) 0
   pub spelled : FitsEntries entries
+  pub report_spelled : FitsReport (report_of (head_in work) entries)
   pub whole : text ≡ output_text work entries (report_of (head_in work) entries)

@@ -6,11 +6,13 @@ ghost use Rattle.pc_program.specs.Causes.{IsOfRun};
 ghost use Rattle.pc_program.specs.declared.status.Status.TheVariants as statuses;
 
 mod clocks;
+mod laws;
 mod output;
 mod status;
 mod top;
 
 use clocks::SystemClocks;
+pub use laws::outputs_are_accepted;
 use pc_io::{StdSink, StdSource};
 use pc_range::NoGate;
 use status::OUT_OF_MEMORY;

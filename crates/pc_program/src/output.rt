@@ -2,6 +2,7 @@ ghost use Rattle.std.specs.Prelude.{◌≡◌, IfOk, OnOk};
 ghost use Rattle.pc_journal.specs.Fits.{FitsKeys};
 ghost use Rattle.pc_journal.specs.FitsJournal.{FitsEntries};
 ghost use Rattle.pc_journal.specs.ToldRows.{AllTellBare};
+ghost use Rattle.pc_report.specs.Spelled.{FitsReport};
 ghost use Rattle.pc_work.specs.Built.{IsBuilt};
 ghost use Rattle.pc_program.specs.Output.{IsOutput, output_text};
 
@@ -40,6 +41,7 @@ fn print_output(
     ensures text { IfOk result (λ out. out.items ≡ output_text work.now entries.now report.now) }
     ensures keys { OnOk result (FitsKeys work.now.splits) }
     ensures spelled { OnOk result (AllTellBare entries.now → FitsEntries entries.now) }
+    ensures reported { OnOk result (FitsReport report.now) }
 {
     let mut out = Vec::new(alloc);
     let sessions = work.sessions.len() as u32;

@@ -11,4 +11,4 @@ pub returns : goal.returns
 returns g c =
     output_of c.print_output.result (λ out. out.items) c.args.work.now _ c.in_ok-entries.entries.items c.deref.result.now c.deref-2.result.now c.in_ok-report.report
     c.requires c.in_ok-entries.ensures.run c.in_ok-entries.ensures.follows c.deref.ensures.value c.deref-2.ensures.value c.in_ok-report.ensures
-    c.print_output.ensures.text c.print_output.ensures.keys c.print_output.ensures.spelled
+    c.print_output.ensures.text c.print_output.ensures.keys c.print_output.ensures.spelled c.print_output.ensures.reported
