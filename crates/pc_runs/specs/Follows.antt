@@ -1,0 +1,42 @@
+-- When a history follows its workload: its head is the workload's; the sessions' calls and jobs come in its turns, or each session's by itself
+-- on threads; and in each session's own list the calls are the script's, the readings the clock's, the messages are those of its calls and
+-- go over a quiet wire, what is over is finished, and the list goes on to the script's end, unless it or a range has as many entries as it
+-- may have. Own profile.
+use Rattle.std.specs.Prelude.{◌≡◌, ℕ, ◌-◌, ◌≤◌, ◌⊎◌, Bool, true, Some, List, [], length, slice_get}
+use Rattle.pc_base.specs.declared.actor.ActorId.{ActorId}
+use Rattle.pc_base.specs.declared.actor.ActorId.TheVariants as actors
+use Rattle.pc_base.specs.declared.entry.Entry.{Entry}
+use Rattle.pc_closing.specs.Full.{range_is_full}
+use Rattle.pc_closing.specs.Served.{AreServed}
+use Rattle.pc_desk.specs.Keeping.{EachAfter, KeepsEach}
+use Rattle.pc_history.specs.declared.pair.Pair.{Pair}
+use Rattle.pc_history.specs.Own.{own}
+use Rattle.pc_proto.specs.declared.event.Event.{Event}
+use Rattle.pc_runs.specs.Order.{GoAsStated}
+use Rattle.pc_script.specs.End.{IsScriptEnd}
+use Rattle.pc_script.specs.Script.{script_position}
+use Rattle.pc_script.specs.Steps.{KeepsWork}
+use Rattle.pc_scripted.specs.Ended.{list_has_ended}
+use Rattle.pc_turns.specs.Clients.{client_pairs}
+use Rattle.pc_work.specs.declared.session.SessionWork.{SessionWork}
+use Rattle.pc_work.specs.declared.workload.Workload.{Workload}
+use Rattle.pc_world.specs.Known.{known_of}
+use Rattle.pc_world.specs.Local.{Head}
+use Rattle.pc_world.specs.Run.{protocol}
+
+-- A session's own list follows its work: at each step, on the wire, and at its end; this says which ranges are full.
+pub record FollowsByItself (work : Workload) (session : SessionWork) (rule : ℕ → ℕ → Bool) (full : ℕ → Bool) (actor : ActorId) (list : List (Pair Event)) (history : List (Entry Event)) : Type 0 where
+  pub steps : EachAfter (KeepsWork work session rule) [] list
+  pub keeps : KeepsEach actor work.splits work.pipelining list
+  pub wire : AreServed full actor history (known_of list)
+  pub end : IsScriptEnd (script_position work.reruns session.script list) list ⊎ (list_has_ended work.limit full list ≡ true)
+
+-- The history follows the workload, where these are the rules of the clocks that were handed in.
+pub record FollowsWork (work : Workload) (rules : ActorId → ℕ → ℕ → Bool) (head : Head) (history : List (Entry Event)) : Type 0 where
+  pub splits : head.splits ≡ work.splits
+  pub sessions : head.sessions ≡ length work.sessions
+  pub recoverers : head.recoverers ≡ 0
+  pub order : GoAsStated work (range_is_full work.limit head history) work.turns (length work.sessions) (client_pairs head history)
+  pub each :
+      (number : ℕ) (session : SessionWork) → 1 ≤ number → slice_get work.sessions (number - 1) ≡ Some session
+      → FollowsByItself work session (rules (actors.Session number)) (range_is_full work.limit head history) (actors.Session number) (own (protocol head) (actors.Session number) history) history

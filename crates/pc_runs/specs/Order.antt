@@ -1,0 +1,37 @@
+-- In which order the sessions of a workload ask their calls and do their jobs: in the turns that it states, or on threads where it states
+-- none. Own profile.
+use Rattle.std.specs.Prelude.{ℕ, ◌-◌, Bool, true, Option, None, Some, List, slice_get}
+use Rattle.pc_history.specs.declared.pair.Pair.{Pair}
+use Rattle.pc_proto.specs.declared.call.Call.{Call}
+use Rattle.pc_proto.specs.declared.event.Event.{Event}
+use Rattle.pc_script.specs.Script.{next_call, script_position}
+use Rattle.pc_scripted.specs.Ended.{list_has_ended}
+use Rattle.pc_scripted.specs.Taking.{are_items_over}
+use Rattle.pc_turns.specs.Order.{GoInTurns, GoOnThreads, entries_by}
+use Rattle.pc_work.specs.declared.session.SessionWork.{SessionWork}
+use Rattle.pc_work.specs.declared.turn.Turn.{Turn}
+use Rattle.pc_work.specs.declared.workload.Workload.{Workload}
+
+-- The call that comes next in a session's script, after its own list; none where the workload has no such session.
+abbrev pub next_of_work : ℕ → Option SessionWork → List (Pair Event) → Option Call
+next_of_work reruns None own = None
+next_of_work reruns (Some session) own = next_call (script_position reruns session.script own)
+
+-- The call that the session of this number asks next, after its own list.
+abbrev pub next_in_work : Workload → ℕ → List (Pair Event) → Option Call
+next_in_work work number own = next_of_work work.reruns (slice_get work.sessions (number - 1)) own
+
+-- After the first session's own entries among these, as many items of its script are over as the opening has.
+abbrev pub is_opening_over : ℕ → ℕ → Option SessionWork → List (Pair Event) → Bool
+is_opening_over opening reruns None order = true
+is_opening_over opening reruns (Some session) order = are_items_over opening reruns session.script (entries_by 1 order)
+
+-- The workload's opening is over after these entries.
+abbrev pub is_work_opened : Workload → List (Pair Event) → Bool
+is_work_opened work order = is_opening_over work.opening work.reruns (slice_get work.sessions 0) order
+
+module _ (work : Workload) (full : ℕ → Bool) where
+  -- The clients' entries go in these turns, or on threads where no turns are stated; this says which ranges are full.
+  abbrev pub GoAsStated : Option (List Turn) → ℕ → List (Pair Event) → Type 0
+  GoAsStated (Some stated) sessions order = GoInTurns (next_in_work work) (list_has_ended work.limit full) (is_work_opened work) stated sessions order
+  GoAsStated None sessions order = GoOnThreads (next_in_work work) (list_has_ended work.limit full) (is_work_opened work) sessions order
