@@ -1,0 +1,2 @@
+pub mod OneAlone
+pub mod OneInOrder

@@ -1,0 +1,3 @@
+-- One session alone in a workload.
+pub mod Laws
+pub mod OneSession
