@@ -17,6 +17,16 @@ use pc_known::{is_key, number};
 use pc_own::{OwnTxn, OwnWrite};
 use pc_proto::TxnMeta;
 
+/// A put that is to be sent.
+#[derive(Drop)]
+pub struct Put<'a> {
+    pub meta: &'a TxnMeta,
+    pub seq: u32,
+    pub ts: Timestamp,
+    pub key: &'a Key,
+    pub value: Option<&'a Value>,
+}
+
 /// Whether the meta is the transaction's; its first put's key becomes the anchor.
 fn is_first_meta(t: &OwnTxn<'_>, meta: &TxnMeta, key: &Key) -> bool
     ensures { IsTrue result ↔ (meta.now ≡ meta_of t.now (unwrap_or t.now.anchor key.now)) }
@@ -47,97 +57,61 @@ fn are_proved_on(key: &Key, writes: &[OwnWrite<'_>]) -> bool
 }
 
 /// Whether the transaction may send this put for the first time.
-fn may_send_first(
-    known: &Knowledge<'_>,
-    meta: &TxnMeta,
-    seq: u32,
-    ts: Timestamp,
-    key: &Key,
-    value: Option<&Value>,
-) -> bool
-    ensures { (k : Known) → KeepsKnowledge k known.now → IsTrue result ↔ MaySendFirst k meta.now seq ts key.now (option_copied value.entry) }
+fn may_send_first(known: &Knowledge<'_>, put: &Put<'_>) -> bool
+    ensures { (k : Known) → KeepsKnowledge k known.now → IsTrue result ↔ MaySendFirst k put.now.meta.now put.now.seq put.now.ts put.now.key.now (option_copied put.now.value) }
 {
     match known.open_txn() {
         None => false,
         Some(t) => {
-            asks_for(known.call(), key, value)
-                && is_first_meta(t, meta, key)
-                && is_next_seq(t, seq)
-                && number(ts) == t.write_ts()
-                && are_proved_on(key, t.writes().as_slice())
+            asks_for(known.call(), put.key, put.value)
+                && is_first_meta(t, put.meta, put.key)
+                && is_next_seq(t, put.seq)
+                && number(put.ts) == t.write_ts()
+                && are_proved_on(put.key, t.writes().as_slice())
                 && is_uncommitted(t.id(), known.sent(), known.heard())
         }
     }
 }
 
-fn is_again(
-    t: &OwnTxn<'_>,
-    write: &OwnWrite<'_>,
-    seq: u32,
-    ts: Timestamp,
-    key: &Key,
-    value: Option<&Value>,
-) -> bool
-    ensures { IsTrue result ↔ IsSentAgain t.now seq ts key.now (option_copied value.entry) write.now }
+fn is_again(t: &OwnTxn<'_>, write: &OwnWrite<'_>, put: &Put<'_>) -> bool
+    ensures { IsTrue result ↔ IsSentAgain t.now put.now.seq put.now.ts put.now.key.now (option_copied put.now.value) write.now }
 {
     !write.is_proved()
-        && seq == write.seq
-        && is_key(key, write.key)
-        && same_value(value, write.value)
-        && (number(ts) == t.write_ts() || write.was_asked_at(ts))
+        && put.seq == write.seq
+        && is_key(put.key, write.key)
+        && same_value(put.value, write.value)
+        && (number(put.ts) == t.write_ts() || write.was_asked_at(put.ts))
 }
 
-fn is_any_again(t: &OwnTxn<'_>, seq: u32, ts: Timestamp, key: &Key, value: Option<&Value>) -> bool
-    ensures { IsTrue result ↔ IsAnySentAgain t.now seq ts key.now (option_copied value.entry) }
+fn is_any_again(t: &OwnTxn<'_>, put: &Put<'_>) -> bool
+    ensures { IsTrue result ↔ IsAnySentAgain t.now put.now.seq put.now.ts put.now.key.now (option_copied put.now.value) }
 {
     t.writes()
         .as_slice()
         .iter()
-        .any(|write| is_again(t, write, seq, ts, key, value))
+        .any(|write| is_again(t, write, put))
 }
 
 /// Whether the meta is the transaction's, and the put sends one of its writes again.
-fn is_put_again(
-    t: &OwnTxn<'_>,
-    meta: &TxnMeta,
-    seq: u32,
-    ts: Timestamp,
-    key: &Key,
-    value: Option<&Value>,
-) -> bool
-    ensures { IsTrue result ↔ (IsMetaOf t.now meta.now × IsAnySentAgain t.now seq ts key.now (option_copied value.entry)) }
+fn is_put_again(t: &OwnTxn<'_>, put: &Put<'_>) -> bool
+    ensures { IsTrue result ↔ (IsMetaOf t.now put.now.meta.now × IsAnySentAgain t.now put.now.seq put.now.ts put.now.key.now (option_copied put.now.value)) }
 {
-    t.is_meta(meta) && is_any_again(t, seq, ts, key, value)
+    t.is_meta(put.meta) && is_any_again(t, put)
 }
 
 /// Whether a transaction of the session may send this put again.
-fn may_send_again(
-    known: &Knowledge<'_>,
-    meta: &TxnMeta,
-    seq: u32,
-    ts: Timestamp,
-    key: &Key,
-    value: Option<&Value>,
-) -> bool
-    ensures { (k : Known) → KeepsKnowledge k known.now → IsTrue result ↔ MaySendAgain k meta.now seq ts key.now (option_copied value.entry) }
+fn may_send_again(known: &Knowledge<'_>, put: &Put<'_>) -> bool
+    ensures { (k : Known) → KeepsKnowledge k known.now → IsTrue result ↔ MaySendAgain k put.now.meta.now put.now.seq put.now.ts put.now.key.now (option_copied put.now.value) }
 {
-    match known.own_txn(meta.id) {
+    match known.own_txn(put.meta.id) {
         None => false,
-        Some(t) => is_put_again(t, meta, seq, ts, key, value),
+        Some(t) => is_put_again(t, put),
     }
 }
 
 /// Whether the session may send this put, for the first time or again.
-pub fn may_send_put(
-    known: &Knowledge<'_>,
-    meta: &TxnMeta,
-    seq: u32,
-    ts: Timestamp,
-    key: &Key,
-    value: Option<&Value>,
-) -> bool
-    ensures { (k : Known) → KeepsKnowledge k known.now → IsTrue result ↔ MaySendPut k meta.now seq ts key.now (option_copied value.entry) }
+pub fn may_send_put(known: &Knowledge<'_>, put: &Put<'_>) -> bool
+    ensures { (k : Known) → KeepsKnowledge k known.now → IsTrue result ↔ MaySendPut k put.now.meta.now put.now.seq put.now.ts put.now.key.now (option_copied put.now.value) }
 {
-    may_send_first(known, meta, seq, ts, key, value)
-        || may_send_again(known, meta, seq, ts, key, value)
+    may_send_first(known, put) || may_send_again(known, put)
 }

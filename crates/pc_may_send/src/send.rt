@@ -1,5 +1,5 @@
-ghost use Rattle.std.specs.Prelude.{◌≡◌, ◌↔◌, ◌+◌, ◌<◌, ◌^◌, IfOk, IsTrue, false, length};
-ghost use Rattle.pc_proto.specs.Requests.{is_scan};
+ghost use Rattle.std.specs.Prelude.{◌≡◌, ◌↔◌, ◌+◌, ◌<◌, ◌^◌, IfOk, IsSome, IsTrue, None, false, length};
+ghost use Rattle.pc_proto.specs.Requests.{is_scan, round_of, subject};
 ghost use Rattle.pc_knowledge.specs.Keeping.{KeepsKnowledge};
 ghost use Rattle.pc_world.specs.Known.{Known};
 ghost use Rattle.pc_world.specs.MaySend.{MaySend, MaySendRecords, MaySendRow};
@@ -8,7 +8,7 @@ use crate::beat::{may_send_abort, may_send_beat};
 use crate::call::asks_round;
 use crate::commit::may_send_commit;
 use crate::push::may_send_push;
-use crate::put::may_send_put;
+use crate::put::{Put, may_send_put};
 use crate::reading::{may_send_get, may_send_scan};
 use crate::recovery::{may_send_query, may_send_recover};
 use crate::refresh::may_send_refresh;
@@ -83,15 +83,87 @@ fn may_send_row_of(splits: &Keys, actor: ActorId, known: &Knowledge<'_>, request
             ts,
             key,
         } => may_send_get(known, *id, *epoch, *seq, *ts, key),
-        Request::Scan { .. } => false,
         Request::Put {
             meta,
             seq,
             ts,
             key,
             value,
-        } => may_send_put(known, meta, *seq, *ts, key, value.as_ref()),
+        } => {
+            let put = Put {
+                meta,
+                seq: *seq,
+                ts: *ts,
+                key,
+                value: value.as_ref(),
+            };
+            may_send_put(known, &put)
+        }
         Request::Refresh { id, from, to, span } => may_send_refresh(known, *id, *from, *to, span),
+        Request::Push { .. }
+        | Request::Query { .. }
+        | Request::Recover { .. }
+        | Request::Resolve { .. } => may_send_in_round(splits, actor, known, request),
+        Request::Beat { .. }
+        | Request::Stage { .. }
+        | Request::Commit { .. }
+        | Request::Abort { .. }
+        | Request::Remove { .. } => may_send_to_record(splits, actor, known, request),
+        Request::Scan { .. } => false,
+        Request::Records => may_send_records(actor, known),
+    }
+}
+
+/// The same of a message of a conflict's round.
+fn may_send_in_round(
+    splits: &Keys,
+    actor: ActorId,
+    known: &Knowledge<'_>,
+    request: &Request,
+) -> bool
+    requires { IsSome (round_of request.now) }
+    ensures { (k : Known) → KeepsKnowledge k known.now → IsTrue result ↔ MaySendRow splits.now actor k request.now }
+{
+    match request {
+        Request::Push {
+            holder,
+            by,
+            level,
+            now,
+            goal,
+        } => may_send_push(actor, known, holder, *by, *level, *now, *goal),
+        Request::Query {
+            id,
+            epoch,
+            seq,
+            ts,
+            key,
+            by,
+        } => may_send_query(actor, known, *id, *epoch, *seq, *ts, key, *by),
+        Request::Recover {
+            id,
+            epoch,
+            ts,
+            anchor,
+            finding,
+        } => may_send_recover(actor, known, *id, *epoch, *ts, anchor, finding),
+        Request::Resolve { id, fate, .. } => may_send_resolve(known, *id, *fate),
+        _ => unreachable!(),
+    }
+}
+
+/// The same of a request that speaks of a record and is of no round.
+fn may_send_to_record(
+    splits: &Keys,
+    actor: ActorId,
+    known: &Knowledge<'_>,
+    request: &Request,
+) -> bool
+    requires about { IsSome (subject request.now) }
+    requires of_no_round { round_of request.now ≡ None }
+    ensures { (k : Known) → KeepsKnowledge k known.now → IsTrue result ↔ MaySendRow splits.now actor k request.now }
+{
+    match request {
         Request::Beat { meta, ts, now } => may_send_beat(known, meta, *ts, *now),
         Request::Stage {
             meta,
@@ -118,31 +190,8 @@ fn may_send_row_of(splits: &Keys, actor: ActorId, known: &Knowledge<'_>, request
             may_send_commit(known, &commit)
         }
         Request::Abort { meta, why, locks } => may_send_abort(known, meta, why, locks),
-        Request::Push {
-            holder,
-            by,
-            level,
-            now,
-            goal,
-        } => may_send_push(actor, known, holder, *by, *level, *now, *goal),
-        Request::Query {
-            id,
-            epoch,
-            seq,
-            ts,
-            key,
-            by,
-        } => may_send_query(actor, known, *id, *epoch, *seq, *ts, key, *by),
-        Request::Recover {
-            id,
-            epoch,
-            ts,
-            anchor,
-            finding,
-        } => may_send_recover(actor, known, *id, *epoch, *ts, anchor, finding),
-        Request::Resolve { id, fate, .. } => may_send_resolve(known, *id, *fate),
         Request::Remove { id, anchor } => may_send_remove(known, *id, anchor),
-        Request::Records => may_send_records(actor, known),
+        _ => unreachable!(),
     }
 }
 

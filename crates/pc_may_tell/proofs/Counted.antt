@@ -2,6 +2,7 @@
 use Rattle.std.proofs.Common.{◌≡◌, ◌↔◌, ◌+◌, ◌-◌, ◌<◌, ◌≤◌, ◌==◌, ◌⊎◌, ℕ, zero, suc, drop, length, slice_index_or, ap, ◌∙◌, add-one, Bool, true, false, if◌then◌else◌, List, [], ◌∷◌, refl, sym, subst, inl, inr, arith, All, IsTrue}
 use Rattle.std.proofs.lemmas.Bool.{eqb-true}
 use Rattle.std.proofs.lemmas.List.Elements.{All-cons, All-head, All-nil, All-tail}
+use Rattle.pc_known.proofs.Exact.{both}
 use Rattle.pc_world.specs.Counting.{AtLeast, LastIs}
 
 pub drop_next : {X : Type 0} (n : ℕ) (xs : List X) (x : X) → n < length xs → x ≡ slice_index_or xs n x → drop n xs ≡ x ∷ drop (n + 1) xs
@@ -78,3 +79,33 @@ module _ {X : Type 0} (P : X → Type 0) where
     -- behind the last
     pub none_after : (last : Bool) → IsTrue last ↔ LastFrom last []
     none_after last = (λ h. inr (h, All-nil (λ y. P y → ⊥)), λ h. elim h [ inl later ↦ absurd later | inr before ↦ before.0 ])
+
+-- ---- a loop over all of them
+
+module _ {X : Type 0} (P : X → Type 0) (all : List X) (i : ℕ) where
+  module _ (x : X) (met : Bool) (here : i < length all) (is : x ≡ slice_index_or all i x) (so : IsTrue met ↔ P x) where
+    -- the loop that counts them
+    pub counted_next : {R : Type 0} (left after : ℕ) → after ≡ (if met then left - 1 else left) → AtLeast P left (drop i all) ↔ R → AtLeast P after (drop (i + 1) all) ↔ R
+    counted_next {R} left after count so_far =
+        let step : AtLeast P (if met then left - 1 else left) (drop (i + 1) all) ↔ AtLeast P left (drop i all) =
+        subst (λ xs. AtLeast P (if met then left - 1 else left) (drop (i + 1) all) ↔ AtLeast P left xs) (sym (drop_next i all x here is)) (counted P left x (drop (i + 1) all) met so) in
+        let next : AtLeast P after (drop (i + 1) all) ↔ AtLeast P left (drop i all) =
+        subst (λ n. AtLeast P n (drop (i + 1) all) ↔ AtLeast P left (drop i all)) (sym count) step in
+        both next so_far
+
+    -- the loop that looks for the last of them
+    pub last_next : (Q : X → Type 0) {R : Type 0} (last this after : Bool) → IsTrue this ↔ Q x → after ≡ (if met then this else last) → LastFrom P Q last (drop i all) ↔ R
+        → LastFrom P Q after (drop (i + 1) all) ↔ R
+    last_next Q {R} last this after fits find so_far =
+        let step : LastFrom P Q (if met then this else last) (drop (i + 1) all) ↔ LastFrom P Q last (drop i all) =
+        subst (λ xs. LastFrom P Q (if met then this else last) (drop (i + 1) all) ↔ LastFrom P Q last xs) (sym (drop_next i all x here is)) (last_from P Q last met this x (drop (i + 1) all) so fits) in
+        let next : LastFrom P Q after (drop (i + 1) all) ↔ LastFrom P Q last (drop i all) =
+        subst (λ b. LastFrom P Q b (drop (i + 1) all) ↔ LastFrom P Q last (drop i all)) (sym find) step in
+        both next so_far
+
+  module _ (end : length all ≤ i) where
+    pub counted_all : {R : Type 0} (left : ℕ) → AtLeast P left (drop i all) ↔ R → IsTrue (left == 0) ↔ R
+    counted_all left so_far = both (subst (λ xs. IsTrue (left == 0) ↔ AtLeast P left xs) (sym (drop_end i all end)) (none_left P left)) so_far
+
+    pub last_of_all : (Q : X → Type 0) {R : Type 0} (last : Bool) → LastFrom P Q last (drop i all) ↔ R → IsTrue last ↔ R
+    last_of_all Q last so_far = both (subst (λ xs. IsTrue last ↔ LastFrom P Q last xs) (sym (drop_end i all end)) (none_after P Q last)) so_far

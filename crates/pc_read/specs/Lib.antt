@@ -1,6 +1,7 @@
 -- What a borrowed value of the reader stands for.
 pub mod Given
 pub mod Items
+pub mod Kinds
 pub mod Left
 pub mod Lines
 pub mod Lists

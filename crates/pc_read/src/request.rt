@@ -1,5 +1,6 @@
-ghost use Rattle.std.specs.Prelude.{◌≡◌, IfOk, IsSome, Some};
+ghost use Rattle.std.specs.Prelude.{◌≡◌, IfOk, IsSome, Some, true};
 ghost use Rattle.pc_read.specs.Given.{StandsFor};
+ghost use Rattle.pc_read.specs.Kinds.{is_holder_ref, is_read_ref, is_record_ref};
 ghost use Rattle.pc_read.specs.Lines.{own_request};
 ghost use Rattle.pc_proto.specs.declared.request.Request.TheVariants as requests;
 ghost use Rattle.pc_spelling.specs.Cutting.{◌&◌, made};
@@ -351,6 +352,39 @@ impl<'a> RequestRef<'a> {
         ensures { IfOk result (λ made. own_request self.now ≡ Some made) }
     {
         match self {
+            RequestRef::Get { .. } | RequestRef::Scan { .. } | RequestRef::Refresh { .. } => {
+                self.owned_read(alloc)
+            }
+            RequestRef::Put {
+                meta,
+                seq,
+                ts,
+                key,
+                value,
+            } => owned_put(alloc, meta, *seq, *ts, key, *value),
+            RequestRef::Push { .. } | RequestRef::Query { .. } | RequestRef::Recover { .. } =>
+                self.owned_of_holder(alloc),
+            RequestRef::Resolve { id, key, fate } => Ok(Request::Resolve {
+                id: *id,
+                key: text::owned_key(alloc, key)?,
+                fate: *fate,
+            }),
+            RequestRef::Beat { .. }
+            | RequestRef::Stage { .. }
+            | RequestRef::Commit { .. }
+            | RequestRef::Abort { .. }
+            | RequestRef::Remove { .. } => self.owned_to_record(alloc),
+            RequestRef::Records => Ok(Request::Records),
+        }
+    }
+
+    /// The same of one that reads, or reads again.
+    fn owned_read(&self, alloc: Global) -> Result<Request, NoMemory>
+        requires own { IsSome (own_request self.now) }
+        requires kind { is_read_ref self.now ≡ true }
+        ensures { IfOk result (λ made. own_request self.now ≡ Some made) }
+    {
+        match self {
             RequestRef::Get {
                 id,
                 epoch,
@@ -377,33 +411,23 @@ impl<'a> RequestRef<'a> {
                 ts: *ts,
                 span: span.span(alloc)?,
             }),
-            RequestRef::Put {
-                meta,
-                seq,
-                ts,
-                key,
-                value,
-            } => owned_put(alloc, meta, *seq, *ts, key, *value),
             RequestRef::Refresh { id, from, to, span } => Ok(Request::Refresh {
                 id: *id,
                 from: *from,
                 to: *to,
                 span: span.span(alloc)?,
             }),
-            RequestRef::Beat { meta, ts, now } => Ok(Request::Beat {
-                meta: meta.meta(alloc)?,
-                ts: *ts,
-                now: *now,
-            }),
-            RequestRef::Stage {
-                meta,
-                ts,
-                now,
-                writes,
-                locks,
-            } => owned_stage(alloc, meta, *ts, *now, writes, locks),
-            RequestRef::Commit { meta, ts, locks } => owned_commit(alloc, meta, *ts, locks),
-            RequestRef::Abort { meta, why, locks } => owned_abort(alloc, meta, why, locks),
+            _ => unreachable!(),
+        }
+    }
+
+    /// The same of one that pushes, queries or recovers the holder of an intent.
+    fn owned_of_holder(&self, alloc: Global) -> Result<Request, NoMemory>
+        requires own { IsSome (own_request self.now) }
+        requires kind { is_holder_ref self.now ≡ true }
+        ensures { IfOk result (λ made. own_request self.now ≡ Some made) }
+    {
+        match self {
             RequestRef::Push {
                 holder,
                 by,
@@ -439,16 +463,36 @@ impl<'a> RequestRef<'a> {
                 anchor,
                 finding,
             } => owned_recover(alloc, *id, *epoch, *ts, anchor, finding),
-            RequestRef::Resolve { id, key, fate } => Ok(Request::Resolve {
-                id: *id,
-                key: text::owned_key(alloc, key)?,
-                fate: *fate,
+            _ => unreachable!(),
+        }
+    }
+
+    /// The same of one that speaks of the record of the session's own transaction, or removes one.
+    fn owned_to_record(&self, alloc: Global) -> Result<Request, NoMemory>
+        requires own { IsSome (own_request self.now) }
+        requires kind { is_record_ref self.now ≡ true }
+        ensures { IfOk result (λ made. own_request self.now ≡ Some made) }
+    {
+        match self {
+            RequestRef::Beat { meta, ts, now } => Ok(Request::Beat {
+                meta: meta.meta(alloc)?,
+                ts: *ts,
+                now: *now,
             }),
+            RequestRef::Stage {
+                meta,
+                ts,
+                now,
+                writes,
+                locks,
+            } => owned_stage(alloc, meta, *ts, *now, writes, locks),
+            RequestRef::Commit { meta, ts, locks } => owned_commit(alloc, meta, *ts, locks),
+            RequestRef::Abort { meta, why, locks } => owned_abort(alloc, meta, why, locks),
             RequestRef::Remove { id, anchor } => Ok(Request::Remove {
                 id: *id,
                 anchor: text::owned_key(alloc, anchor)?,
             }),
-            RequestRef::Records => Ok(Request::Records),
+            _ => unreachable!(),
         }
     }
 }

@@ -6,8 +6,8 @@ use Rattle.pc_may_send.proofs.put.may_send_again.Goals as goal
 
 pub returns-in-Some : goal.returns-in-Some
 returns-in-Some c k keeps =
-    both c.is_put_again.ensures (put_again k c.args.meta.now c.args.seq c.args.ts c.args.key.now (option_copied c.args.value) c.in-Some.t.now (c.in-Some.ensures k keeps))
+    both c.is_put_again.ensures (put_again k c.args.put.now.meta.now c.args.put.now.seq c.args.put.now.ts c.args.put.now.key.now (option_copied c.args.put.now.value) c.in-Some.t.now (c.in-Some.ensures k keeps))
 
 pub returns-in-None : goal.returns-in-None
 returns-in-None c k keeps =
-    (λ h. absurd cc, λ m. absurd (no_put_again k c.args.meta.now c.args.seq c.args.ts c.args.key.now (option_copied c.args.value) (c.in-None.ensures k keeps) m))
+    (λ h. absurd cc, λ m. absurd (no_put_again k c.args.put.now.meta.now c.args.put.now.seq c.args.put.now.ts c.args.put.now.key.now (option_copied c.args.put.now.value) (c.in-None.ensures k keeps) m))
