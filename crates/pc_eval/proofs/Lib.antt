@@ -2,3 +2,4 @@ pub mod KeysAndRows
 pub mod OnRecord
 pub mod Room
 pub mod Seen
+mod Coming

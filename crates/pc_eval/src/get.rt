@@ -6,10 +6,9 @@ ghost use Rattle.std.specs.Option.{option_copied};
 ghost use Rattle.pc_world.specs.Evaluation.{reply, state_after};
 ghost use Rattle.pc_world.specs.Evaluation.Get.{found_at, get_blocker, own_value, version_found};
 
-use crate::put::conflict;
 use crate::state::RangeState;
 use pc_base::{Key, NoMemory, Timestamp, TryCopy, TxnId, Value, Version};
-use pc_intent::{Intent, value_by};
+use pc_intent::{Intent, conflict, value_by};
 use pc_proto::{Origin, Reply, Request};
 
 impl RangeState {

@@ -18,21 +18,28 @@ impl RangeState {
         ensures after { OnOk result (self.new ≡ state_after (Request.Resolve id key.now fate) self.old) }
         ensures err { OnErr result (self.new ≡ self.old) }
     {
-        let Some(own) = self.intents.own_at(id, key) else {
-            return Ok(Reply::Resolved);
-        };
         match fate {
-            Fate::Committed { epoch, ts } => {
-                let version = version_of(own, id, key, epoch, ts)?;
-                self.keep(version)?;
-                self.intents.settle(key, id);
-            }
+            Fate::Committed { epoch, ts } => self.settle(id, key, epoch, ts)?,
             Fate::Aborted => {
                 self.intents.settle(key, id);
             }
             Fate::Pending { ts } => self.intents.move_up(key, id, ts),
         }
         Ok(Reply::Resolved)
+    }
+
+    /// A committed transaction's intent becomes a version, or goes.
+    fn settle(&mut self, id: TxnId, key: &Key, epoch: u32, ts: Timestamp) -> Result<(), NoMemory>
+        ensures ok { OnOk result (self.new ≡ state_after (Request.Resolve id key.now (Fate.Committed epoch ts)) self.old) }
+        ensures err { OnErr result (self.new ≡ self.old) }
+    {
+        let Some(own) = self.intents.own_at(id, key) else {
+            return Ok(());
+        };
+        let version = version_of(own, id, key, epoch, ts)?;
+        self.keep(version)?;
+        self.intents.take(key);
+        Ok(())
     }
 
     /// Keeps what became of an intent, if it became something.

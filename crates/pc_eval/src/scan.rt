@@ -9,9 +9,9 @@ ghost use Rattle.pc_mvcc.specs.VisibleIn.{visible_in};
 ghost use Rattle.pc_world.specs.Evaluation.{reply, state_after};
 ghost use Rattle.pc_world.specs.Evaluation.Scan.{keys_in, row_found, rows_in};
 
-use crate::put::conflict;
 use crate::state::RangeState;
 use pc_base::{Items, Key, NoMemory, Span, Timestamp, TryCopy, TxnId, Value, Version};
+use pc_intent::conflict;
 use pc_proto::{Origin, Reply, Request, Rows};
 use std::collections::BTreeSet;
 

@@ -2,3 +2,4 @@ pub mod Folds
 mod FirstOther
 mod Laying
 mod InSpan
+mod Putting

@@ -1,10 +1,12 @@
-ghost use Rattle.std.specs.Prelude.{◌≡◌, IfOk, OnOk, OnErr, Some};
+ghost use Rattle.std.specs.Prelude.{◌≡◌, IfOk, OnOk, OnErr, Some, false};
 ghost use Rattle.std.specs.Option.{option_copied};
+ghost use Rattle.pc_intent.specs.Coming.{comes_to, intent_then, stands_already};
 ghost use Rattle.pc_intent.specs.WithWrite.{with_write};
 ghost use Rattle.pc_proto.specs.Intents.{fresh, last_seq, last_value, later_write, value_by};
+ghost use Rattle.pc_world.specs.Evaluation.Put.{is_overtaken_by, put_change, put_reply};
 
-use pc_base::{Items, NoMemory, Timestamp, Value};
-use pc_proto::{Intent, TxnMeta};
+use pc_base::{Items, Key, NoMemory, Timestamp, TryCopy, Value};
+use pc_proto::{Intent, Reply, TxnMeta};
 use std::alloc::Global;
 
 /// A write's sequence and what it says.
@@ -57,6 +59,53 @@ fn later_write<'a>(best: Option<&'a Write>, write: &'a Write) -> Option<&'a Writ
     }
 }
 
+/// What a put comes to at a key where this intent stands. Where the write stands already, it wants no memory.
+pub(crate) fn put_there(
+    alloc: Global,
+    intent: &mut Intent,
+    meta: &TxnMeta,
+    seq: u32,
+    ts: Timestamp,
+    key: &Key,
+    value: &Option<Value>,
+) -> Result<Reply, NoMemory>
+    ensures reply { IfOk result (λ made. made ≡ put_reply key.now (comes_to meta.now seq ts value.now (Some intent.old))) }
+    ensures after { OnOk result (intent.new ≡ intent_then (put_change (comes_to meta.now seq ts value.now (Some intent.old))) intent.old) }
+    ensures err { OnErr result (intent.new ≡ intent.old) }
+    ensures stands { OnErr result (stands_already meta.now seq intent.old ≡ false) }
+{
+    if intent.meta.id != meta.id {
+        return conflict(intent, key);
+    }
+    if is_overtaken_by(meta, seq, intent) {
+        return Ok(Reply::Written { ts: intent.ts });
+    }
+    let ts = ts.max(intent.ts);
+    add_write(alloc, intent, meta.copy()?, seq, ts, value.copy()?)?;
+    Ok(Reply::Written { ts })
+}
+
+/// Another's intent stands in the way.
+pub fn conflict(other: &Intent, key: &Key) -> Result<Reply, NoMemory>
+    ensures { IfOk result (λ made. made ≡ Reply.Conflict other.now.meta other.now.ts key.now) }
+{
+    let holder = other.meta.copy()?;
+    let key = key.copy()?;
+    Ok(Reply::Conflict {
+        holder,
+        ts: other.ts,
+        key,
+    })
+}
+
+/// Whether the transaction's own intent is of a later epoch, or has this sequence or a later one already.
+fn is_overtaken_by(meta: &TxnMeta, seq: u32, own: &Intent) -> bool
+    ensures { result ≡ is_overtaken_by meta.now seq own.now }
+{
+    let (epoch, at) = (meta.epoch, own.meta.epoch);
+    epoch < at || at == epoch && seq <= last_seq(own)
+}
+
 /// Adds a write to the transaction's own intent, or begins the intent anew where it is of another epoch.
 pub(crate) fn add_write(
     alloc: Global,
@@ -76,6 +125,19 @@ pub(crate) fn add_write(
         *intent = fresh(alloc, meta, seq, ts, value)?;
     }
     Ok(())
+}
+
+/// A new intent of a copy of one write.
+pub(crate) fn first(
+    alloc: Global,
+    meta: &TxnMeta,
+    seq: u32,
+    ts: Timestamp,
+    value: &Option<Value>,
+) -> Result<Intent, NoMemory>
+    ensures { IfOk result (λ made. made ≡ fresh meta.now seq ts value.now) }
+{
+    fresh(alloc, meta.copy()?, seq, ts, value.copy()?)
 }
 
 /// A new intent of one write.

@@ -1,4 +1,4 @@
-ghost use Rattle.std.specs.Prelude.{◌≡◌, [], IfNone, MatchOption, None, OnErr, OnOk, OnSome, filter, fold, map, max};
+ghost use Rattle.std.specs.Prelude.{◌≡◌, [], IfNone, IfOk, MatchOption, None, OnErr, OnOk, OnSome, filter, fold, map, max};
 ghost use Rattle.std.specs.BTreeMap.{insert_entry};
 ghost use Rattle.std.specs.BTreeSet.{insert_key};
 ghost use Rattle.std.specs.Cmp.Lexicographic.{slice_cmp};
@@ -7,12 +7,15 @@ ghost use Rattle.std.specs.Option.{option_copied, option_map};
 ghost use Rattle.std.specs.Ordering.{nat_cmp};
 ghost use Rattle.pc_base.specs.Keyed.{without};
 ghost use Rattle.pc_base.specs.Span.{contains, same_key};
+ghost use Rattle.pc_intent.specs.Coming.{comes_to};
 ghost use Rattle.pc_intent.specs.WithWrite.{with_write};
 ghost use Rattle.pc_proto.specs.Intents.{first_other, intent_at, other_at, own_at};
+ghost use Rattle.pc_world.specs.Evaluation.IntentChange.{intents_with};
+ghost use Rattle.pc_world.specs.Evaluation.Put.{put_change, put_reply};
 
-use crate::intent::{add_write, fresh};
+use crate::intent::{add_write, first, fresh, put_there};
 use pc_base::{Key, NoMemory, Span, Timestamp, TryCopy, TxnId, Value};
-use pc_proto::{Intent, TxnMeta};
+use pc_proto::{Intent, Reply, TxnMeta};
 use std::alloc::Global;
 use std::collections::{BTreeMap, BTreeSet};
 use std::marker::Model;
@@ -121,6 +124,26 @@ impl Intents {
         }
     }
 
+    /// Lays a copy of a write where no other transaction's intent stands and no later write of the transaction has overtaken it,
+    /// not below this timestamp nor the own intent's, and answers as a range does.
+    pub fn put(
+        &mut self,
+        meta: &TxnMeta,
+        seq: u32,
+        ts: Timestamp,
+        key: &Key,
+        value: &Option<Value>,
+    ) -> Result<Reply, NoMemory>
+        ensures reply { IfOk result (λ made. made ≡ put_reply key.now (comes_to meta.now seq ts value.now (intent_at key.now self.old))) }
+        ensures after { OnOk result (self.new ≡ intents_with key.now (put_change (comes_to meta.now seq ts value.now (intent_at key.now self.old))) self.old) }
+        ensures err { OnErr result (self.new ≡ self.old) }
+    {
+        let alloc = self.alloc;
+        let place = self.entries.entry(key.copy()?)?;
+        let intent = place.or_try_insert_with(|| first(alloc, meta, seq, ts, value))?;
+        put_there(alloc, intent, meta, seq, ts, key, value)
+    }
+
     /// Moves the transaction's own intent at a key up to this timestamp, where it lies below.
     pub fn move_up(&mut self, key: &Key, id: TxnId, ts: Timestamp)
         ensures { MatchOption (own_at id key.now self.old) (self.new ≡ self.old) (λ own. self.new ≡ insert_entry (slice_cmp nat_cmp) self.old key.now (record own { ts = max own.ts ts })) }
@@ -141,6 +164,14 @@ impl Intents {
         ensures absent { IfNone result (self.new ≡ self.old) }
     {
         self.own_at(id, key)?;
+        self.entries.remove(key)
+    }
+
+    /// Takes the intent at a key away, whose ever it is, and gives it.
+    pub fn take(&mut self, key: &Key) -> Option<Intent>
+        ensures taken { result ≡ intent_at key.now self.old }
+        ensures left { self.new ≡ without same_key key.now self.old }
+    {
         self.entries.remove(key)
     }
 }

@@ -4,6 +4,6 @@
 mod intent;
 mod intents;
 
-pub use intent::{last_seq, last_value, value_by};
+pub use intent::{conflict, last_seq, last_value, value_by};
 pub use intents::Intents;
 pub use pc_proto::{History, Intent};

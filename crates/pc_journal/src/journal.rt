@@ -19,7 +19,17 @@ pub fn print_event(entry: &Entry<Event>, out: &mut Vec<u8>) -> Result<(), NoMemo
     ensures err { OnErr result (out.new.items ≡ out.old.items) }
 {
     let mut line = Vec::new(*out.allocator());
-    entry.print(&mut line)?;
+    print_by(&mut line, entry, out)
+}
+
+/// Appends the line as a whole, which is first printed into this one.
+fn print_by(line: &mut Vec<u8>, entry: &Entry<Event>, out: &mut Vec<u8>) -> Result<(), NoMemory>
+    ensures ok { OnOk result (out.new.items ≡ out.old.items ++ entry_line entry.now) }
+    ensures spelled { OnOk result (FitsWhereBare entry.now) }
+    ensures err { OnErr result (out.new.items ≡ out.old.items) }
+{
+    line.clear();
+    entry.print(line)?;
     line.push(b'\n')?;
     one(line.as_slice(), out)
 }
@@ -83,8 +93,9 @@ fn print_lines(entries: &[Entry<Event>], out: &mut Vec<u8>) -> Result<(), NoMemo
     ensures spelled { OnOk result (All FitsWhereBare entries.now) }
     ensures err { OnErr result (AppendsPart out.old.items (flat_map entry_line entries.now) out.new.items) }
 {
+    let mut line = Vec::new(*out.allocator());
     for entry in entries {
-        print_event(entry, out)?;
+        print_by(&mut line, entry, out)?;
     }
     Ok(())
 }

@@ -4,6 +4,7 @@ ghost use Rattle.pc_journal.specs.Fits.{Fits32, Fits64, FitsTimestamp};
 ghost use Rattle.pc_journal.specs.Number.{ts_text, reading_text};
 
 use crate::text::{Text, then};
+use itoa::Buffer;
 use pc_base::{NoMemory, Timestamp};
 
 impl Text for u64 {
@@ -12,9 +13,8 @@ impl Text for u64 {
     ghost spelled = { Fits64 };
 
     fn print(&self, out: &mut Vec<u8>) -> Result<(), NoMemory> {
-        let number = *self;
-        let digits = format!(in *out.allocator(); "{number}")?;
-        out.extend_from_slice(digits.as_bytes())?;
+        let mut digits = Buffer::new();
+        out.extend_from_slice(digits.format(*self).as_bytes())?;
         Ok(())
     }
 }

@@ -15,10 +15,13 @@ use Rattle.std.specs.List.{AllByRecursion as Each}
 use Rattle.std.specs.List.Sorted.{IsStrictlySortedBy}
 use Rattle.std.specs.Map.{keys_of, lookup, set_value}
 use Rattle.std.specs.Ordering.{is_eq, is_lt, match_ordering, nat_cmp, ordering_then}
+use Rattle.std.specs.Option.{unwrap_or}
 use Rattle.pc_base.proofs.Entries.{sorted_inserted}
+use Rattle.pc_base.proofs.KeyTables.{key_written}
 use Rattle.pc_base.specs.declared.version.Version.{Version}
 use Rattle.pc_base.specs.Span.{same_key}
 use Rattle.pc_base.specs.Versions.{version_cmp, with_version}
+use Rattle.pc_mvcc.proofs.Rising.{no_chain}
 use Rattle.pc_mvcc.specs.Chains.{AreChains, IsChain, joined}
 
 abbrev pub Chain : Type 0
@@ -272,3 +275,44 @@ joined_same test old new (e ∷ es) found same = by (test e.0) found (λ later. 
     by : (b : Bool) → cond b (Some e.1) (lookup test es) ≡ Some old → (lookup test es ≡ Some old → joined (set_value test es new) ≡ joined es) → joined (cond b ((e.0, new) ∷ es) (e ∷ set_value test es new)) ≡ e.1.items ++ joined es
     by true found rest = let is : e.1 ≡ old = cc in ap (λ xs. xs ++ joined es) (same ∙ ap (λ (c : Vec Version). c.items) (sym is))
     by false found rest = ap (λ xs. e.1.items ++ xs) (rest found)
+
+-- a chain without versions, where there is none of its key, changes nothing
+joined-empty : (key : List ℕ) (new : Vec Version) (es : List Chain) → lookup (is_at (slice_cmp nat_cmp key)) es ≡ None → new.items ≡ [] → joined (insert_entry (slice_cmp nat_cmp) es key new) ≡ joined es
+joined-empty key new [] absent empty = ap (λ xs. xs ++ []) empty
+joined-empty key new (e ∷ es) absent empty = by (slice_cmp nat_cmp key e.0) absent (λ later. joined-empty key new es later empty)
+  where
+    by : (o : Ordering) → cond (is_eq o) (Some e.1) (lookup (is_at (slice_cmp nat_cmp key)) es) ≡ None → (lookup (is_at (slice_cmp nat_cmp key)) es ≡ None → joined (insert_entry (slice_cmp nat_cmp) es key new) ≡ joined es)
+        → joined (match_ordering o ((key, new) ∷ e ∷ es) ((e.0, new) ∷ es) (e ∷ insert_entry (slice_cmp nat_cmp) es key new)) ≡ e.1.items ++ joined es
+    by Less absent rest = ap (λ xs. xs ++ (e.1.items ++ joined es)) empty
+    by Equal absent rest = absurd cc
+    by Greater absent rest = ap (λ xs. e.1.items ++ xs) (rest absent)
+
+module _ (v : Version) (new : Vec Version) (es : List Chain) (chains : AreChains es) where
+  -- the chain of the version's key with it, be it the first or not: the version is in its place among all
+  pub placed : new.items ≡ with_version (chain_of (lookup (is_at (slice_cmp nat_cmp v.key)) es)) v → joined (insert_entry (slice_cmp nat_cmp) es v.key new) ≡ with_version (joined es) v
+  placed grown = by (lookup (is_at (slice_cmp nat_cmp v.key)) es) refl grown
+    where
+      by : (o : Option (Vec Version)) → lookup (is_at (slice_cmp nat_cmp v.key)) es ≡ o → new.items ≡ with_version (chain_of o) v → joined (insert_entry (slice_cmp nat_cmp) es v.key new) ≡ with_version (joined es) v
+      by None is grown = placed_first v new es chains is grown
+      by (Some old) is grown = ap joined (sym (key_written v.key es old new chains.ordered is)) ∙ placed_there v old new es chains is grown
+
+  -- the chain of the version's key as it was changes nothing
+  pub left_as_it_was : new.items ≡ chain_of (lookup (is_at (slice_cmp nat_cmp v.key)) es) → joined (insert_entry (slice_cmp nat_cmp) es v.key new) ≡ joined es
+  left_as_it_was same = by (lookup (is_at (slice_cmp nat_cmp v.key)) es) refl same
+    where
+      by : (o : Option (Vec Version)) → lookup (is_at (slice_cmp nat_cmp v.key)) es ≡ o → new.items ≡ chain_of o → joined (insert_entry (slice_cmp nat_cmp) es v.key new) ≡ joined es
+      by None is same = joined-empty v.key new es is same
+      by (Some old) is same = ap joined (sym (key_written v.key es old new chains.ordered is)) ∙ joined_same (is_at (slice_cmp nat_cmp v.key)) old new es is same
+
+-- what stands under a key, where something does, is a chain
+pub chain_there : (key : List ℕ) (es : List Chain) → AreChains es → IsChain key (chain_of (lookup (is_at (slice_cmp nat_cmp key)) es))
+chain_there key es chains = by (lookup (is_at (slice_cmp nat_cmp key)) es) refl
+  where
+    by : (o : Option (Vec Version)) → lookup (is_at (slice_cmp nat_cmp key)) es ≡ o → IsChain key (chain_of o)
+    by None is = no_chain key
+    by (Some chain) is = chain_found key es chain chains is
+
+-- a chain, or else one without versions
+pub versions_there : (there : Option (Vec Version)) (otherwise : Vec Version) → otherwise.items ≡ [] → ◌≡◌ {A = List Version} (unwrap_or there otherwise).items (chain_of there)
+versions_there None otherwise empty = empty
+versions_there (Some chain) otherwise empty = refl

@@ -9,8 +9,6 @@ use Rattle.std.specs.Cmp.Lexicographic.{slice_cmp}
 use Rattle.std.specs.declared.cmp.Ordering.TheVariants.{Equal}
 use Rattle.std.specs.List.{AllByRecursion as Each, insert}
 use Rattle.std.specs.List.Sorted.{IsNonDecreasingBy, IsPartitionPoint}
-use Rattle.std.specs.Prelude.{OnErr, OnOk, Result}
-use Rattle.std.specs.Prelude.{Ok, Err}
 use Rattle.std.specs.Ordering.{is_lt, nat_cmp, ordering_then}
 use Rattle.pc_base.proofs.VersionOrder.{each_with_version}
 use Rattle.pc_base.specs.declared.version.Version.{Version}
@@ -149,14 +147,9 @@ chain_with v xs place h low point = record {
       (λ k d behind inside. let over : nat_le (slice_index_or xs k d).ts v.ts ≡ false = point.1 k d behind inside in grind arith);
 }
 
--- one version is a chain
-pub single_chain : (v : Version) → IsChain v.key (v ∷ [])
-single_chain v = record { own = (refl, tt); rising = IsNonDecreasingBy-short (λ w. w.ts) (v ∷ []) (omega arith) }
-
--- what is so after an Ok and after an Err is so
-pub either_way : {T E : Type 0} (r : Result T E) (P : Type 0) → OnOk r P → OnErr r P → P
-either_way (Ok x) P h k = h
-either_way (Err e) P h k = k
+-- no version is a chain
+pub no_chain : (key : List ℕ) → IsChain key []
+no_chain key = record { own = tt; rising = IsNonDecreasingBy-short (λ w. w.ts) [] (omega arith) }
 
 module _ (from to : ℕ) where
   abbrev inside : Version → Bool

@@ -1,13 +1,12 @@
 //! One key's versions, by timestamp.
 
-ghost use Rattle.std.specs.Prelude.{◌≡◌, ◌&&◌, ◌∷◌, [], IfOk, OnErr, OnOk, filter, find, fold, None, nat_le, nat_lt, slice_get};
+ghost use Rattle.std.specs.Prelude.{◌≡◌, ◌&&◌, OnErr, OnOk, filter, find, fold, None, nat_le, nat_lt, slice_get};
 ghost use Rattle.std.specs.Option.{option_copied};
 ghost use Rattle.std.specs.List.Sorted.{IsNonDecreasingBy};
 ghost use Rattle.pc_base.specs.Versions.{later, with_version};
 ghost use Rattle.pc_mvcc.specs.Chains.{IsChain};
 
 use pc_base::{NoMemory, Timestamp, Version};
-use std::alloc::Global;
 
 /// The version of the greatest timestamp.
 pub(crate) fn latest(chain: &[Version]) -> Option<&Version>
@@ -34,12 +33,7 @@ pub(crate) fn between(chain: &[Version], from: Timestamp, to: Timestamp) -> Opti
     ensures { option_copied result ≡ find (λ v. nat_lt from v.ts && nat_le v.ts to) chain.now }
 {
     let place = chain.partition_point(|version| version.ts <= from);
-    let version = version_at(chain, place)?;
-    if version.ts <= to {
-        Some(version)
-    } else {
-        None
-    }
+    version_at(chain, place).filter(|version| version.ts <= to)
 }
 
 /// The version at a place.
@@ -59,13 +53,4 @@ pub(crate) fn put(chain: &mut Vec<Version>, version: Version) -> Result<(), NoMe
     let place = chain.partition_point(|kept| kept.ts <= version.ts);
     chain.insert(place, version)?;
     Ok(())
-}
-
-/// A chain of one version.
-pub(crate) fn alone(alloc: Global, version: Version) -> Result<Vec<Version>, NoMemory>
-    ensures { IfOk result (λ made. made.items ≡ version ∷ []) }
-{
-    let mut chain = Vec::new(alloc);
-    chain.push(version)?;
-    Ok(chain)
 }

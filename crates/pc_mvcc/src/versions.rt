@@ -8,7 +8,7 @@ ghost use Rattle.pc_base.specs.Versions.{first_between, newest, visible, with_ve
 ghost use Rattle.pc_mvcc.specs.Chains.{IsChain, with_key_of};
 ghost use Rattle.pc_mvcc.specs.VisibleIn.{visible_in};
 
-use crate::chain::{alone, between, latest, latest_by, put};
+use crate::chain::{between, latest, latest_by, put};
 use pc_base::{Key, NoMemory, Span, Timestamp, TryCopy, Version};
 use std::alloc::Global;
 use std::collections::{BTreeMap, BTreeSet};
@@ -49,15 +49,10 @@ impl Versions {
         ensures ok { OnOk result (self.new ≡ with_version self.old version) }
         ensures err { OnErr result (self.new ≡ self.old) }
     {
-        match self.chains.get_mut(&version.key) {
-            Some(chain) => put(chain, version),
-            None => {
-                let key = version.key.copy()?;
-                let chain = alone(self.alloc, version)?;
-                self.chains.insert(key, chain)?;
-                Ok(())
-            }
-        }
+        let alloc = self.alloc;
+        let place = self.chains.entry(version.key.copy()?)?;
+        let chain = place.or_insert(Vec::new(alloc));
+        put(chain, version)
     }
 
     /// The key's version of the greatest timestamp.

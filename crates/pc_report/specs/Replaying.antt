@@ -29,7 +29,6 @@ use Rattle.pc_world.specs.Local.{Head}
 use Rattle.pc_world.specs.Named.{names, request_named}
 use Rattle.pc_world.specs.RangeOf.{range_of}
 use Rattle.pc_world.specs.RangeState.{RangeState, no_state}
-use Rattle.pc_world.specs.Run.{IsRun}
 use Rattle.pc_world.specs.Stamps.{HasRoom}
 
 -- The first value, or else the second.
@@ -52,11 +51,6 @@ Holds table said = (id : TxnId) → held table id ≡ said id
 -- A table after an event that tells something of transactions: each keeps what it had first.
 abbrev pub Notes : {A : Type 0} → (TxnId → Event → Option A) → BTreeMap TxnId A → Event → BTreeMap TxnId A → Type 0
 Notes said old event new = (id : TxnId) → held new id ≡ first_of (held old id) (said id event)
-
--- The entries are a run of some actors.
-pub record IsSomeRun (entries : List (Entry Event)) : Type 0 where
-  pub head : Head
-  pub run : IsRun head entries
 
 -- The request of the message that an event evaluates, after these entries.
 abbrev pub asked_in : List (Entry Event) → Event → Option Request

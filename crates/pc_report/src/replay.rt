@@ -1,15 +1,15 @@
 //! Replays a history once: what its ranges become, and when each transaction is committed.
 
-ghost use Rattle.std.specs.Prelude.{◌≡◌, ◌+◌, ◌^◌, ◌<◌, ◌++◌, ◌∷◌, ◌&&◌, [], IfOk, OnOk, length, slice_get};
+ghost use Rattle.std.specs.Prelude.{◌≡◌, ◌+◌, ◌^◌, ◌<◌, ◌++◌, ◌∷◌, [], IfOk, OnOk, length, slice_get};
 ghost use Rattle.std.specs.List.{list_all};
 ghost use Rattle.std.specs.Option.{option_copied};
-ghost use Rattle.pc_history.specs.Own.{same_id};
 ghost use Rattle.pc_proto.specs.Table.{place_of};
 ghost use Rattle.pc_report.specs.Ordering.{rank_in};
 ghost use Rattle.pc_report.specs.ReportOf.{IsRunOver, ending_at, ending_by, rolled_back_in, told_ending};
-ghost use Rattle.pc_report.specs.Replaying.{AreBlank, HasRoomAt, HasRoomFor, IsReplayOf, IsSomeRun, Notes, after_eval, commit_kept, states_after, asked_in, commit_of_place, committed_one, ending_in, is_present_in, touched, touched_by_send, touched_in};
+ghost use Rattle.pc_report.specs.Replaying.{AreBlank, HasRoomAt, HasRoomFor, IsReplayOf, Notes, after_eval, commit_kept, states_after, asked_in, commit_of_place, committed_one, ending_in, is_present_in, touched, touched_by_send, touched_in};
+ghost use Rattle.pc_sent.specs.Sending.{AreSendsOf};
 ghost use Rattle.pc_world.specs.Committed.{commit_by, committed_in, key_sent};
-ghost use Rattle.pc_world.specs.Named.{is_send_of, request_in};
+ghost use Rattle.pc_world.specs.Named.{request_in};
 ghost use Rattle.pc_world.specs.RangeOf.{range_of};
 
 use crate::rows::Ending;
@@ -17,6 +17,7 @@ use crate::tables::keep_first;
 use pc_base::{ActorId, Entry, Key, NoMemory, Timestamp, TryCopy, TxnId};
 use pc_eval::RangeState;
 use pc_proto::{Answer, Event, Keys, Record, Request, Standing, Status, Why};
+use pc_sent::Sent;
 use pc_world::range_of;
 use std::alloc::Global;
 use std::collections::BTreeMap;
@@ -54,9 +55,11 @@ pub(crate) fn replayed(
     ensures { IfOk result (IsReplayOf splits.now entries.now) }
 {
     let mut replay = Replay::new(alloc, splits)?;
+    let mut sent = Sent::new(alloc);
     for (done, entry) in entries.iter().enumerate() {
         let (before, _) = entries.split_at(done);
-        replay.follow(splits, before, entry)?;
+        replay.follow(splits, &sent, before, entry)?;
+        sent.add(before, entry)?;
     }
     Ok(replay)
 }
@@ -79,10 +82,12 @@ impl Replay {
     fn follow(
         &mut self,
         splits: &Keys,
+        sent: &Sent,
         before: &[Entry<Event>],
         entry: &Entry<Event>,
     ) -> Result<(), NoMemory>
         requires few { length splits.now + 1 < 2 ^ 32 }
+        requires sent { AreSendsOf before.now sent.now }
         requires so_far { IsReplayOf splits.now before.now self.old }
         requires run { IsRunOver splits.now (before.now ++ entry.now ∷ []) }
         ensures { OnOk result (IsReplayOf splits.now (before.now ++ entry.now ∷ []) self.new) }
@@ -91,7 +96,7 @@ impl Replay {
         note_anchor(&mut self.anchors, &entry.event)?;
         note_told(&mut self.told, &entry.event)?;
         note_rolled_back(&mut self.rolled_back, &entry.event)?;
-        let asked = asked(before, &entry.event);
+        let asked = asked(sent, before, &entry.event);
         evaluate(&mut self.states, entry.actor, asked)?;
         let Some(id) = self.committed_of(splits, touched_in(asked, &entry.event)) else {
             return Ok(());
@@ -200,26 +205,16 @@ fn note_rolled_back(table: &mut BTreeMap<TxnId, Why>, event: &Event) -> Result<(
     Ok(())
 }
 
-/// The request that an evaluation answers. It was sent shortly before, so the search begins at the end.
-fn asked<'a>(before: &'a [Entry<Event>], event: &Event) -> Option<&'a Request>
-    requires { IsSomeRun before.now }
+/// The request that an evaluation answers.
+fn asked<'a>(sent: &Sent, before: &'a [Entry<Event>], event: &Event) -> Option<&'a Request>
+    requires { AreSendsOf before.now sent.now }
     ensures { option_copied result ≡ asked_in before.now event.now }
 {
     let Event::Eval { actor, number, .. } = event else {
         return None;
     };
-    let sent = before
-        .iter()
-        .rev()
-        .find(|entry| is_send(entry, *actor, *number))?;
-    request_of(&sent.event)
-}
-
-fn is_send(entry: &Entry<Event>, actor: ActorId, number: u64) -> bool
-    ensures { result ≡ (same_id actor entry.now.actor && is_send_of number entry.now.event) }
-{
-    entry.actor == actor
-        && matches!(&entry.event, Event::Send { number: own, .. } if *own == number)
+    let entry = sent.entry(before, *actor, *number)?;
+    request_of(&entry.event)
 }
 
 fn request_of(event: &Event) -> Option<&Request>

@@ -7,5 +7,5 @@ use Rattle.pc_journal.proofs.journal.print_lines.Goals as goal
 pub loop-entry-preserved : goal.loop-entry-preserved
 loop-entry-preserved c = record {
   text = grind (arith, common_steps);
-  spelled = All-more FitsWhereBare c.args.entries.now c.loop-entry.entry-index c.entry-item.result c.loop-entry-test.true c.loop-entry.invariant.spelled (subst FitsWhereBare c.entry-item.is c.in_ok-print_event.ensures.spelled);
+  spelled = All-more FitsWhereBare c.args.entries.now c.loop-entry.entry-index c.entry-item.result c.loop-entry-test.true c.loop-entry.invariant.spelled (subst FitsWhereBare c.entry-item.is c.in_ok-print_by.ensures.spelled);
 }

@@ -1,15 +1,8 @@
-use Rattle.std.proofs.Common.{◌≡◌, ◌+◌, [], ◌∷◌, length, None, Some, refl, sym, ap, subst, ◌∙◌, arith}
+use Rattle.std.proofs.Common.{◌≡◌, ◌+◌, length, None, Some, refl, sym, ap, subst, ◌∙◌, arith}
 use Rattle.pc_report.proofs.Following.{followed, points_grow, points_stay, room}
 use Rattle.pc_report.specs.Replaying.{HasRoomFor, asked_in, commit_kept, committed_one, states_after, touched_in}
 use Rattle.pc_report.specs.declared.replay.Replay.{Replay}
-use Rattle.pc_world.proofs.Prefixes.{run_front}
 use Rattle.pc_report.proofs.replay.Replay.follow.Goals as goal
-
-pub asked-asked-requires : goal.asked-asked-requires
-asked-asked-requires c = record {
-  head = c.requires.run.head;
-  run = run_front c.requires.run.head c.args.before.now (c.args.entry.now ∷ []) c.requires.run.run;
-}
 
 pub evaluate-requires : goal.evaluate-requires
 evaluate-requires c =

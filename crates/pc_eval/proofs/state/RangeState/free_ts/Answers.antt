@@ -2,7 +2,7 @@ use Rattle.std.proofs.Common.{subst, sym}
 use Rattle.pc_eval.proofs.Room.{versions_have_room}
 use Rattle.pc_world.specs.RangeState.{RangeState}
 use Rattle.pc_world.specs.Stamps.{AllBelowGreatest, state_stamps}
-use Rattle.pc_eval.proofs.state.RangeState.write_ts.Goals as goal
+use Rattle.pc_eval.proofs.state.RangeState.free_ts.Goals as goal
 
 pub above_newest-unwritten-requires : goal.above_newest-unwritten-requires
 above_newest-unwritten-requires c =
