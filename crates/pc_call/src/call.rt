@@ -15,7 +15,7 @@ ghost use Rattle.pc_txn.specs.Opened.{landed_at};
 ghost use Rattle.pc_txn.specs.declared.txn.OpenTxn.{OpenTxn};
 ghost use Rattle.pc_wave.specs.Standing.{IsHeardTo};
 ghost use Rattle.pc_wave.specs.declared.step.Step.TheVariants as steps;
-ghost use Rattle.pc_wave.specs.Messages.{awaits_at, back_with, conflicts_at, first_changed, goes_again, is_to_send, message_to_send, step_of, wave_awaits};
+ghost use Rattle.pc_wave.specs.Messages.{awaits_at, back_with, conflicts_at, first_changed, goes_again, is_to_send, message_to_send, sent_under, step_of, wave_awaits};
 ghost use Rattle.pc_world.specs.Follows.Refreshes.{RefreshesInOneWave};
 ghost use Rattle.pc_world.specs.Known.{Known, next_number};
 ghost use Rattle.pc_world.specs.Known.Traffic.{Heard};
@@ -62,6 +62,7 @@ impl OpenCall {
 
     /// The message that was due went out under this number, the session's next one.
     pub fn sent(&mut self, txn: &mut OpenTxn, number: u64) -> Result<(), NoMemory>
+        ensures made { OnOk result (self.new ≡ record self.old { wave = first_changed is_to_send (sent_under number) self.old.wave }) }
         ensures stands { (session clock begun range : ℕ) (splits : List (List ℕ)) (k : Known) (request : Request) → IsCounted session clock begun k → InCall splits k txn.old self.old.purpose self.old.wave → step_of self.old.wave ≡ steps.Send request → number ≡ next_number k → OnOk result (InCall splits (known_sent number range request k) txn.new self.new.purpose self.new.wave) }
         ensures awaited { (request : Request) (other : ℕ) → step_of self.old.wave ≡ steps.Send request → OnOk result (wave_awaits other self.new.wave ≡ (number == other || wave_awaits other self.old.wave)) }
     {

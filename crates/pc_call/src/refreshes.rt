@@ -58,6 +58,7 @@ fn first_met(wave: &Wave) -> Result<Option<(Key, Timestamp)>, NoMemory>
 
 fn restart(txn: &mut OpenTxn, key: Key, ts: Timestamp) -> Result<Refreshed, NoMemory>
     ensures told { IfOk result (λ made. made ≡ refreshes.Restart (answers.Restart key ts)) }
+    ensures alone { IfOk result IsToSendAlone }
     ensures anew { OnOk result (txn.new ≡ restarted_by key ts txn.old) }
 {
     let told = key.copy()?;

@@ -1,5 +1,6 @@
 pub mod Awaited
 pub mod Beside
+pub mod Coming
 pub mod Counting
 pub mod Dues
 pub mod Fresh

@@ -124,10 +124,10 @@ one_waits number other ms m one waits = by (awaits_at other m) refl (number == o
     by false is e same = sym (ap (λ b. b && not (number == other)) (other_is ∙ is))
     by true is e same = sym (ap (λ e. wave_awaits other ms && not e) (awaits_both number other m here is) ∙ and_false (wave_awaits other ms) false refl)
 
-served_write : (splits : List (List ℕ)) (k : Known) (x : OpenTxn) (p : Purpose) (ms : List Message) (w : InCall splits k x p ms) (again : Bool) → p ≡ purposes.Write again → ServesWrite again k w.s w.t x ms
+pub served_write : (splits : List (List ℕ)) (k : Known) (x : OpenTxn) (p : Purpose) (ms : List Message) (w : InCall splits k x p ms) (again : Bool) → p ≡ purposes.Write again → ServesWrite again k w.s w.t x ms
 served_write splits k x p ms w again e = subst (λ q. Serves splits k w.s w.t x q ms) e w.serves
 
-served_commit : (splits : List (List ℕ)) (k : Known) (x : OpenTxn) (p : Purpose) (ms : List Message) (w : InCall splits k x p ms) (n : ℕ) → p ≡ purposes.Commit n → ServesCommit n k w.s w.t x ms
+pub served_commit : (splits : List (List ℕ)) (k : Known) (x : OpenTxn) (p : Purpose) (ms : List Message) (w : InCall splits k x p ms) (n : ℕ) → p ≡ purposes.Commit n → ServesCommit n k w.s w.t x ms
 served_commit splits k x p ms w n e = subst (λ q. Serves splits k w.s w.t x q ms) e w.serves
 
 served_abort : (splits : List (List ℕ)) (k : Known) (x : OpenTxn) (p : Purpose) (ms : List Message) (w : InCall splits k x p ms) (why : Why) → p ≡ purposes.Abort why → ServesAbort why k w.s w.t x ms

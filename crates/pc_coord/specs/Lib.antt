@@ -1,5 +1,6 @@
 -- The coordinator of a session's transactions.
 pub mod Beside
+pub mod Coming
 pub mod Coordination
 pub mod Events
 pub mod Going

@@ -1,8 +1,10 @@
-ghost use Rattle.std.specs.Prelude.{◌≡◌, ℕ, max, true, false, ◌==◌, ◌||◌, ◌&&◌, not, IfOk, IfSome, OnOk, Option};
+ghost use Rattle.std.specs.Prelude.{◌≡◌, ℕ, max, true, false, ◌==◌, ◌||◌, ◌&&◌, not, IfOk, IfSome, OnOk, Option, Some};
 ghost use Rattle.pc_base.specs.Rising.{AreRising};
 ghost use Rattle.pc_coord.specs.Beside.{IsLaterBeside};
+ghost use Rattle.pc_coord.specs.Coming.{ComesOf, ComesOfRound};
 ghost use Rattle.pc_coord.specs.Coordination.{Coordination, awaits_number, new_coordination, next_by, next_in, next_of, opened_by, with_clock, with_nothing_due, without_call, without_job, without_txn};
 ghost use Rattle.pc_coord.specs.declared.due.Due.TheVariants as dues;
+ghost use Rattle.pc_coord.specs.declared.due.Opened.{Opened};
 ghost use Rattle.pc_coord.specs.declared.next.Next.TheVariants as nexts;
 ghost use Rattle.pc_coord.specs.Events.{HearsAwaited, IsAsked, IsTold, SendsDue};
 ghost use Rattle.pc_coord.specs.Knows.{Knows, MayCome, MayFinishJob};
@@ -17,6 +19,8 @@ ghost use Rattle.pc_proto.specs.declared.call.Call.TheVariants as calls;
 ghost use Rattle.pc_proto.specs.declared.event.Event.{Event};
 ghost use Rattle.pc_proto.specs.declared.reply.Reply.{Reply};
 ghost use Rattle.pc_proto.specs.declared.request.Request.{Request};
+ghost use Rattle.pc_wave.specs.declared.step.Step.TheVariants as steps;
+ghost use Rattle.pc_wave.specs.Messages.{awaits_at, back_with, first_changed, is_to_send, sent_under, step_of};
 ghost use Rattle.pc_world.specs.Known.{Known, learn, nothing_known};
 
 use crate::due::{Due, Opened};
@@ -140,6 +144,7 @@ impl<'a> Coordinator<'a> {
     pub fn sent(&mut self, number: u64) -> Result<(), NoMemory>
         ensures knows { (k : Known) (p : Pair Event) (range : ℕ) (request : Request) → Knows self.old k → SendsDue self.old number range request k p → OnOk result (Knows self.new (learn p k)) }
         ensures waits { (request : Request) (other : ℕ) → next_of self.old ≡ nexts.Send request → OnOk result (awaits_number other self.new.due ≡ (number == other || awaits_number other self.old.due)) }
+        ensures comes { (o : Opened) → opened_by self.old.txn self.old.due ≡ Some o → OnOk result (self.new.due ≡ dues.Call (record o.call { wave = first_changed is_to_send (sent_under number) o.call.wave })) }
         ensures session { self.new.session ≡ self.old.session }
         ensures splits { self.new.splits ≡ self.old.splits }
     {
@@ -155,6 +160,7 @@ impl<'a> Coordinator<'a> {
     pub fn heard(&mut self, number: u64, step: u64, reply: &Reply) -> Result<(), NoMemory>
         ensures knows { (k : Known) (p : Pair Event) → Knows self.old k → HearsAwaited self.old number step reply.now k p → OnOk result (Knows self.new (learn p k)) }
         ensures waits { (k : Known) (other : ℕ) → Knows self.old k → awaits_number number self.old.due ≡ true → OnOk result (awaits_number other self.new.due ≡ (awaits_number other self.old.due && not (number == other))) }
+        ensures comes { (k : Known) (p : Pair Event) (o : Opened) → Knows self.old k → HearsAwaited self.old number step reply.now k p → opened_by self.old.txn self.old.due ≡ Some o → OnOk result (ComesOf (first_changed (awaits_at number) (back_with number reply.now) o.call.wave) self.new.due) }
         ensures session { self.new.session ≡ self.old.session }
         ensures splits { self.new.splits ≡ self.old.splits }
     {
@@ -171,6 +177,7 @@ impl<'a> Coordinator<'a> {
     pub fn settled(&mut self, number: u64, round: Round) -> Result<(), NoMemory>
         ensures knows { (c : Coordination) (start k : Known) (conflict : Reply) (reader : Option ℕ) → Knows c start → self.old ≡ with_clock k.high c → next_of c ≡ nexts.Conflict number conflict reader → IsLaterBeside c start k → EndsRound conflict round start k → OnOk result (Knows self.new k) }
         ensures waits { (conflict : Reply) (reader : Option ℕ) (other : ℕ) → next_of self.old ≡ nexts.Conflict number conflict reader → OnOk result (awaits_number other self.new.due ≡ false) }
+        ensures comes { (o : Opened) (conflict : Reply) → opened_by self.old.txn self.old.due ≡ Some o → step_of o.call.wave ≡ steps.Round number conflict → OnOk result (ComesOfRound round number conflict o.call.wave self.new.due) }
         ensures session { self.new.session ≡ self.old.session }
         ensures splits { self.new.splits ≡ self.old.splits }
     {

@@ -1,20 +1,27 @@
-ghost use Rattle.std.specs.Prelude.{◌≡◌, ℕ, Bool, true, false, ◌==◌, ◌||◌, ◌&&◌, not, None, Some, OnErr, OnOk};
+ghost use Rattle.std.specs.Prelude.{◌≡◌, ℕ, Bool, true, false, ◌==◌, ◌||◌, ◌&&◌, not, List, None, Some, OnErr, OnOk};
+ghost use Rattle.std.specs.List.{list_any};
+ghost use Rattle.pc_base.specs.declared.transaction.TxnId.{TxnId};
 ghost use Rattle.pc_call.specs.declared.purpose.Purpose.TheVariants as purposes;
 ghost use Rattle.pc_call.specs.Learned.{known_heard, known_sent};
 ghost use Rattle.pc_call.specs.Opening.{GoesOn};
 ghost use Rattle.pc_call.specs.Rounding.{RefusesRound};
 ghost use Rattle.pc_call.specs.Serving.{InCall};
+ghost use Rattle.pc_coord.specs.Coming.{ComesOf, ComesOfRound};
 ghost use Rattle.pc_coord.specs.Coordination.{awaits_number, calling, job_left, telling};
+ghost use Rattle.pc_coord.specs.declared.due.Due.TheVariants as dues;
 ghost use Rattle.pc_coord.specs.Going.{HasHadRound, HearsNow, IsForMany, StandsReady};
 ghost use Rattle.pc_coord.specs.Knows.{Knows};
+ghost use Rattle.pc_proto.specs.declared.answer.Answer.TheVariants as answers;
 ghost use Rattle.pc_proto.specs.declared.reply.Reply.{Reply};
 ghost use Rattle.pc_proto.specs.declared.reply.Reply.TheVariants as replies;
 ghost use Rattle.pc_proto.specs.declared.request.Request.{Request};
 ghost use Rattle.pc_proto.specs.declared.view.View.TheVariants as views;
 ghost use Rattle.pc_proto.specs.declared.why.Why.{Why};
+ghost use Rattle.pc_proto.specs.Replies.{holder_in};
 ghost use Rattle.pc_txn.specs.Counted.{IsCounted};
 ghost use Rattle.pc_wave.specs.declared.step.Step.TheVariants as steps;
-ghost use Rattle.pc_wave.specs.Messages.{step_of, wave_awaits};
+ghost use Rattle.pc_wave.specs.declared.message.Message.{Message};
+ghost use Rattle.pc_wave.specs.Messages.{awaits_at, back_with, first_changed, is_in_conflict, is_to_send, sent_under, step_of, wave_awaits};
 ghost use Rattle.pc_world.specs.Known.{Known, next_number};
 ghost use Rattle.pc_world.specs.Known.Traffic.{Heard};
 
@@ -34,6 +41,7 @@ impl<'a> Coordinator<'a> {
     pub(crate) fn go_on(&mut self, call: OpenCall, txn: OpenTxn) -> Result<(), NoMemory>
         ensures knows { (k : Known) → StandsReady self.old k → InCall self.old.splits k txn call.purpose call.wave → (step_of call.wave ≡ steps.Answered → IsForMany call.purpose) → OnOk result (Knows self.new k) }
         ensures waits { (other : ℕ) → OnOk result (awaits_number other self.new.due ≡ wave_awaits other call.wave) }
+        ensures comes { OnOk result (ComesOf call.wave self.new.due) }
         ensures session { self.new.session ≡ self.old.session }
         ensures splits { self.new.splits ≡ self.old.splits }
     {
@@ -93,6 +101,7 @@ impl<'a> Coordinator<'a> {
     fn end(&mut self, call: OpenCall, txn: OpenTxn) -> Result<(), NoMemory>
         ensures knows { (k : Known) → StandsReady self.old k → InCall self.old.splits k txn call.purpose call.wave → step_of call.wave ≡ steps.Answered → IsForMany call.purpose → OnOk result (Knows self.new k) }
         ensures waits { (other : ℕ) → OnOk result (awaits_number other self.new.due ≡ false) }
+        ensures comes { step_of call.wave ≡ steps.Answered → OnOk result (ComesOf call.wave self.new.due) }
         ensures session { self.new.session ≡ self.old.session }
         ensures splits { self.new.splits ≡ self.old.splits }
     {
@@ -109,6 +118,7 @@ impl<'a> Coordinator<'a> {
     fn read(&mut self, call: OpenCall, mut txn: OpenTxn) -> Result<(), NoMemory>
         ensures knows { (k : Known) → StandsReady self.old k → InCall self.old.splits k txn call.purpose call.wave → call.purpose ≡ purposes.Read → step_of call.wave ≡ steps.Answered → OnOk result (Knows self.new k) }
         ensures waits { (other : ℕ) → OnOk result (awaits_number other self.new.due ≡ false) }
+        ensures comes { OnOk result (ComesOf call.wave self.new.due) }
         ensures session { self.new.session ≡ self.old.session }
         ensures splits { self.new.splits ≡ self.old.splits }
     {
@@ -120,6 +130,7 @@ impl<'a> Coordinator<'a> {
     fn refreshed(&mut self, call: OpenCall, mut txn: OpenTxn) -> Result<(), NoMemory>
         ensures knows { (k : Known) (refusals : ℕ) → StandsReady self.old k → InCall self.old.splits k txn call.purpose call.wave → call.purpose ≡ purposes.Refresh refusals → step_of call.wave ≡ steps.Answered → OnOk result (Knows self.new k) }
         ensures waits { (other : ℕ) → OnOk result (awaits_number other self.new.due ≡ false) }
+        ensures comes { list_any is_in_conflict call.wave ≡ false → OnOk result (ComesOf call.wave self.new.due) }
         ensures session { self.new.session ≡ self.old.session }
         ensures splits { self.new.splits ≡ self.old.splits }
     {
@@ -135,6 +146,7 @@ impl<'a> Coordinator<'a> {
     pub(crate) fn send(&mut self, taken: Opened, number: u64) -> Result<(), NoMemory>
         ensures knows { (k : Known) (range : ℕ) (request : Request) → StandsReady self.old k → InCall self.old.splits k taken.txn taken.call.purpose taken.call.wave → step_of taken.call.wave ≡ steps.Send request → number ≡ next_number k → OnOk result (Knows self.new (known_sent number range request k)) }
         ensures waits { (request : Request) (other : ℕ) → step_of taken.call.wave ≡ steps.Send request → OnOk result (awaits_number other self.new.due ≡ (number == other || wave_awaits other taken.call.wave)) }
+        ensures comes { OnOk result (self.new.due ≡ dues.Call (record taken.call { wave = first_changed is_to_send (sent_under number) taken.call.wave })) }
         ensures session { self.new.session ≡ self.old.session }
         ensures splits { self.new.splits ≡ self.old.splits }
     {
@@ -154,6 +166,7 @@ impl<'a> Coordinator<'a> {
     ) -> Result<(), NoMemory>
         ensures knows { (k : Known) (h : Heard) → HearsNow self.old call txn number reply.now k h → OnOk result (Knows self.new (known_heard h k)) }
         ensures waits { (k : Known) (other : ℕ) → InCall self.old.splits k txn call.purpose call.wave → wave_awaits number call.wave ≡ true → OnOk result (awaits_number other self.new.due ≡ (wave_awaits other call.wave && not (number == other))) }
+        ensures comes { (k : Known) (h : Heard) → HearsNow self.old call txn number reply.now k h → OnOk result (ComesOf (first_changed (awaits_at number) (back_with number reply.now) call.wave) self.new.due) }
         ensures session { self.new.session ≡ self.old.session }
         ensures splits { self.new.splits ≡ self.old.splits }
     {
@@ -175,6 +188,7 @@ impl<'a> Coordinator<'a> {
     ) -> Result<(), NoMemory>
         ensures knows { (k : Known) (h : Heard) → HearsNow self.old call txn number reply.now k h → GoesOn call.purpose reply.now → OnOk result (Knows self.new (known_heard h k)) }
         ensures waits { (k : Known) (other : ℕ) → InCall self.old.splits k txn call.purpose call.wave → wave_awaits number call.wave ≡ true → OnOk result (awaits_number other self.new.due ≡ (wave_awaits other call.wave && not (number == other))) }
+        ensures comes { OnOk result (ComesOf (first_changed (awaits_at number) (back_with number reply.now) call.wave) self.new.due) }
         ensures session { self.new.session ≡ self.old.session }
         ensures splits { self.new.splits ≡ self.old.splits }
     {
@@ -193,6 +207,7 @@ impl<'a> Coordinator<'a> {
     ) -> Result<(), NoMemory>
         ensures knows { (k : Known) (h : Heard) (again : Bool) → HearsNow self.old call txn number reply.now k h → call.purpose ≡ purposes.Write again → OnOk result (Knows self.new (known_heard h k)) }
         ensures waits { (k : Known) (other : ℕ) (again : Bool) → InCall self.old.splits k txn call.purpose call.wave → call.purpose ≡ purposes.Write again → wave_awaits number call.wave ≡ true → OnOk result (awaits_number other self.new.due ≡ (wave_awaits other call.wave && not (number == other))) }
+        ensures comes { (k : Known) (h : Heard) (again : Bool) → HearsNow self.old call txn number reply.now k h → call.purpose ≡ purposes.Write again → OnOk result (ComesOf (first_changed (awaits_at number) (back_with number reply.now) call.wave) self.new.due) }
         ensures session { self.new.session ≡ self.old.session }
         ensures splits { self.new.splits ≡ self.old.splits }
     {
@@ -207,6 +222,7 @@ impl<'a> Coordinator<'a> {
     fn written(&mut self, call: OpenCall, mut txn: OpenTxn, ts: Timestamp) -> Result<(), NoMemory>
         ensures knows { (k : Known) (h : Heard) (number : ℕ) (again : Bool) → HearsNow self.old call txn number (replies.Written ts) k h → call.purpose ≡ purposes.Write again → OnOk result (Knows self.new (known_heard h k)) }
         ensures waits { (other : ℕ) → OnOk result (awaits_number other self.new.due ≡ false) }
+        ensures comes { (messages : List Message) → list_any is_in_conflict messages ≡ false → OnOk result (ComesOf messages self.new.due) }
         ensures session { self.new.session ≡ self.old.session }
         ensures splits { self.new.splits ≡ self.old.splits }
     {
@@ -222,6 +238,7 @@ impl<'a> Coordinator<'a> {
     fn commit_heard(&mut self, call: OpenCall, txn: OpenTxn, reply: &Reply) -> Result<(), NoMemory>
         ensures knows { (k : Known) (h : Heard) (number refusals : ℕ) → HearsNow self.old call txn number reply.now k h → call.purpose ≡ purposes.Commit refusals → OnOk result (Knows self.new (known_heard h k)) }
         ensures waits { (other : ℕ) → OnOk result (awaits_number other self.new.due ≡ false) }
+        ensures comes { (messages : List Message) → list_any is_in_conflict messages ≡ false → OnOk result (ComesOf messages self.new.due) }
         ensures session { self.new.session ≡ self.old.session }
         ensures splits { self.new.splits ≡ self.old.splits }
     {
@@ -246,6 +263,7 @@ impl<'a> Coordinator<'a> {
     ) -> Result<(), NoMemory>
         ensures knows { (k : Known) (h : Heard) (number epoch refusals : ℕ) → HearsNow self.old call txn number (replies.Status (views.Pending epoch recorded)) k h → call.purpose ≡ purposes.Commit refusals → OnOk result (Knows self.new (known_heard h k)) }
         ensures waits { (other : ℕ) → OnOk result (awaits_number other self.new.due ≡ false) }
+        ensures comes { (messages : List Message) → list_any is_in_conflict messages ≡ false → OnOk result (ComesOf messages self.new.due) }
         ensures session { self.new.session ≡ self.old.session }
         ensures splits { self.new.splits ≡ self.old.splits }
     {
@@ -266,6 +284,7 @@ impl<'a> Coordinator<'a> {
     fn abort_heard(&mut self, call: OpenCall, txn: OpenTxn, reply: &Reply) -> Result<(), NoMemory>
         ensures knows { (k : Known) (h : Heard) (number : ℕ) (why : Why) → HearsNow self.old call txn number reply.now k h → call.purpose ≡ purposes.Abort why → OnOk result (Knows self.new (known_heard h k)) }
         ensures waits { (other : ℕ) → OnOk result (awaits_number other self.new.due ≡ false) }
+        ensures comes { (messages : List Message) (why : Why) → call.purpose ≡ purposes.Abort why → OnOk result (ComesOf messages self.new.due) }
         ensures session { self.new.session ≡ self.old.session }
         ensures splits { self.new.splits ≡ self.old.splits }
     {
@@ -292,6 +311,7 @@ impl<'a> Coordinator<'a> {
     ) -> Result<(), NoMemory>
         ensures knows { (start k : Known) (clock : ℕ) (conflict : Reply) → StandsReady self.old k → IsCounted self.old.session clock self.old.begun start → InCall self.old.splits start txn call.purpose call.wave → step_of call.wave ≡ steps.Round number conflict → HasHadRound round start k txn.id conflict → OnOk result (Knows self.new k) }
         ensures waits { (conflict : Reply) (other : ℕ) → step_of call.wave ≡ steps.Round number conflict → OnOk result (awaits_number other self.new.due ≡ false) }
+        ensures comes { (conflict : Reply) → step_of call.wave ≡ steps.Round number conflict → OnOk result (ComesOfRound round number conflict call.wave self.new.due) }
         ensures session { self.new.session ≡ self.old.session }
         ensures splits { self.new.splits ≡ self.old.splits }
     {
@@ -312,6 +332,7 @@ impl<'a> Coordinator<'a> {
     fn refuse(&mut self, call: OpenCall, txn: OpenTxn) -> Result<(), NoMemory>
         ensures knows { (start k : Known) (clock number : ℕ) (conflict : Reply) → StandsReady self.old k → IsCounted self.old.session clock self.old.begun start → InCall self.old.splits start txn call.purpose call.wave → step_of call.wave ≡ steps.Round number conflict → RefusesRound start k txn.id conflict → OnOk result (Knows self.new k) }
         ensures waits { (other : ℕ) → OnOk result (awaits_number other self.new.due ≡ false) }
+        ensures comes { (number : ℕ) (conflict : Reply) (holder : TxnId) → step_of call.wave ≡ steps.Round number conflict → holder_in conflict ≡ Some holder → OnOk result (self.new.due ≡ dues.Tell (answers.Blocked holder)) }
         ensures session { self.new.session ≡ self.old.session }
         ensures splits { self.new.splits ≡ self.old.splits }
     {
@@ -328,6 +349,7 @@ impl<'a> Coordinator<'a> {
     fn block(&mut self, call: OpenCall, txn: OpenTxn, conflict: &Reply)
         ensures knows { (start k : Known) (clock number : ℕ) → StandsReady self.old k → IsCounted self.old.session clock self.old.begun start → InCall self.old.splits start txn call.purpose call.wave → step_of call.wave ≡ steps.Round number conflict.now → RefusesRound start k txn.id conflict.now → Knows self.new k }
         ensures waits { (other : ℕ) → awaits_number other self.new.due ≡ false }
+        ensures comes { (holder : TxnId) → holder_in conflict.now ≡ Some holder → self.new.due ≡ dues.Tell (answers.Blocked holder) }
         ensures session { self.new.session ≡ self.old.session }
         ensures splits { self.new.splits ≡ self.old.splits }
     {

@@ -53,6 +53,7 @@ ask_keeps (actors.Session number) splits pipelining own call reading = record {
   aborts = tt;
   writes = tt;
   refreshes = tt;
+  rounds = tt;
   eighth = tt;
   waves = tt;
   pieces = tt;

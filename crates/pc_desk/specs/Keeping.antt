@@ -6,18 +6,19 @@ use Rattle.pc_base.specs.declared.actor.ActorId.TheVariants as actors
 use Rattle.pc_base.specs.declared.entry.Entry.{Entry}
 use Rattle.pc_desk.specs.Asks.{ReadsClock, asks_in}
 use Rattle.pc_desk.specs.Hearing.{HearsAll, HearsOldest}
-use Rattle.pc_desk.specs.PastEighth.{GoesNotPastEighth}
 use Rattle.pc_desk.specs.WholeScan.{HearsAllPieces}
 use Rattle.pc_history.specs.declared.pair.Pair.{Pair}
 use Rattle.pc_proto.specs.declared.event.Event.{Event}
 use Rattle.pc_world.specs.Follows.CallMessages.{SendsForCall}
 use Rattle.pc_world.specs.Follows.EarlyProof.{ProvesNothingEarly}
 use Rattle.pc_world.specs.Follows.EarlyTell.{TellsEarly}
+use Rattle.pc_world.specs.Follows.Eighth.{StopsAtEighth}
 use Rattle.pc_world.specs.Follows.FinishingJobs.{AbortsFirst, DoesJobs, jobs_of}
 use Rattle.pc_world.specs.Follows.OneWrite.{WritesOnce}
 use Rattle.pc_world.specs.Follows.PipelinedPuts.{HearsOnlyItsPuts, TellsWritten}
 use Rattle.pc_world.specs.Follows.Refreshes.{RefreshesInOneWave, RefreshesReads}
 use Rattle.pc_world.specs.Follows.Resends.{ResendsOnlyAnswered}
+use Rattle.pc_world.specs.Follows.Rounds.{KeepsRounds}
 use Rattle.pc_world.specs.Follows.WaveOrder.{SendsInWave}
 use Rattle.pc_world.specs.Known.{known_of}
 use Rattle.pc_world.specs.Known.Traffic.{Heard, heard_by}
@@ -36,7 +37,8 @@ pub record KeepsSessionStep (splits : List (List ℕ)) (pipelining : Bool) (own 
   pub aborts : AbortsFirst (known_of own) event
   pub writes : WritesOnce (known_of own) event
   pub refreshes : RefreshesReads (known_of own) event
-  pub eighth : GoesNotPastEighth (known_of own) event
+  pub rounds : KeepsRounds (known_of own) event
+  pub eighth : StopsAtEighth (known_of own) event
   pub waves : SendsInWave own event
   pub pieces : HearsAllPieces splits (known_of own) h
   pub refresh_wave : RefreshesInOneWave (known_of own) h

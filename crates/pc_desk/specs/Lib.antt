@@ -1,7 +1,6 @@
 -- The own list of an actor that is no range, and its messages on their way.
 pub mod Asks
 pub mod Hearing
-pub mod PastEighth
 pub mod WholeScan
 pub mod Keeping
 pub mod OwnLog

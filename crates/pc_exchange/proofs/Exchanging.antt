@@ -80,6 +80,7 @@ hears-as (actors.Session session) splits pipelining own number step h none no_re
   aborts = tt;
   writes = tt;
   refreshes = tt;
+  rounds = tt;
   eighth = tt;
   waves = tt;
   pieces = whole-scan splits (known_of own) h.request round;

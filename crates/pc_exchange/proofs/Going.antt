@@ -1,5 +1,5 @@
 -- A desk goes on by one exchange after another.
-use Rattle.std.proofs.Common.{◌≡◌, ℕ, max, Bool, true, false, All, List, [], ◌∷◌, ◌++◌, map, refl, sym, ap, ◌∙◌, subst}
+use Rattle.std.proofs.Common.{◌≡◌, ℕ, ◌+◌, max, Bool, true, false, is_some, All, List, [], ◌∷◌, ◌++◌, map, refl, sym, ap, ◌∙◌, subst}
 use Rattle.std.proofs.lemmas.List.{map-append}
 use Rattle.std.proofs.lemmas.List.Elements.{All-append, All-nil, All-push}
 use Rattle.pc_base.specs.declared.transaction.TxnId.{TxnId}
@@ -9,26 +9,29 @@ use Rattle.pc_desk.specs.Desk.{DeskMeaning}
 use Rattle.pc_exchange.proofs.Aside.{aside_on}
 use Rattle.pc_exchange.proofs.Called.{next_unsent}
 use Rattle.pc_exchange.proofs.Growing.{grows_both, grows_none}
+use Rattle.pc_exchange.proofs.InTurn.{passing_more}
 use Rattle.pc_exchange.proofs.Knowing.{answered_then, exchange_is, known_then, with_exchange}
 use Rattle.pc_exchange.proofs.Messages.{jobs_then, left_by_exchange}
 use Rattle.pc_exchange.specs.Aside.{IsAside, IsLaterAside}
 use Rattle.pc_exchange.specs.Exchange.{WasExchanged, heard_pair, sent_pair}
 use Rattle.pc_exchange.specs.Growing.{HasGoneBeside, HasAllBack}
 use Rattle.pc_history.specs.declared.pair.Pair.{Pair}
+use Rattle.pc_lists.proofs.Counts.{one_if}
 use Rattle.pc_lists.proofs.Same.{same_txn-is}
 use Rattle.pc_proto.specs.declared.event.Event.{Event}
 use Rattle.pc_proto.specs.declared.reply.Reply.{Reply}
 use Rattle.pc_proto.specs.declared.request.Request.{Request}
 use Rattle.pc_proto.specs.declared.request.Request.TheVariants as requests
-use Rattle.pc_proto.specs.Requests.{is_put_by}
+use Rattle.pc_proto.specs.Requests.{goal_in, is_put_by}
 use Rattle.pc_proto.specs.Stamps.{greatest_of, reply_stamps}
 use Rattle.pc_resolve.specs.ResolveKnows.{WasAnsweredToIt, sends_put_by}
 use Rattle.pc_resolve.specs.Resolving.{Resolving}
 use Rattle.pc_turns.specs.Order.{IsInBetween}
 use Rattle.pc_world.specs.Exchange.{WasAnswered}
 use Rattle.pc_world.specs.Follows.FinishingJobs.{jobs_of}
+use Rattle.pc_world.specs.Follows.Rounds.{rounds_begun}
 use Rattle.pc_world.specs.Known.{Known, known_of, next_number}
-use Rattle.pc_world.specs.Known.Traffic.{Heard}
+use Rattle.pc_world.specs.Known.Traffic.{Heard, Sent}
 
 -- by nothing
 pub goes_none : {C : Type 0} (d : DeskMeaning C) → HasAllBack d → HasGoneBeside d d []
@@ -89,6 +92,12 @@ module _ {C : Type 0} (d new : DeskMeaning C) (request : Request) (reply : Reply
     -- what was heard in the open call
     pub heard_now_by : is_of_round_or_job request ≡ true → (known_of new.log.part.own).heard_now ≡ (known_of d.log.part.own).heard_now ++ reply_by x ∷ []
     heard_now_by is = ap (λ (k : Known). k.heard_now) (known_by_it is)
+
+    -- and how many rounds were begun in it
+    pub rounds_by : is_of_round_or_job request ≡ true → rounds_begun (known_of new.log.part.own) ≡ rounds_begun (known_of d.log.part.own) + one_if (is_some (goal_in request))
+    rounds_by is =
+        ap rounds_begun (known_by_it is)
+        ∙ passing_more (λ (m : Sent). is_some (goal_in m.request)) (known_of d.log.part.own).sent_now (record { number = number_of; range = x.range; request = request })
 
     -- the reply was heard to it
     pub answered_by : WasAnswered (known_of d.log.part.own) (known_of new.log.part.own) request reply

@@ -7,6 +7,7 @@ pub mod Finishing
 pub mod Going
 pub mod Growing
 pub mod HeardKinds
+pub mod InTurn
 pub mod Knowing
 pub mod Messages
 pub mod Pushed

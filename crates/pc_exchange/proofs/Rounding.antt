@@ -1,5 +1,5 @@
 -- A conflict's round, step by step: each of its messages may be sent when it is due, and what was heard is what its machine stands at.
-use Rattle.std.proofs.Common.{◌≡◌, ℕ, zero, suc, ◌+◌, ◌≤◌, Bool, true, false, ◌&&◌, inl, inr, List, [], ◌∷◌, ◌++◌, All, Any, Contains, Option, Some, None, IfSome, IsTrue, refl, sym, ap, ◌∙◌, subst, arith, count_by}
+use Rattle.std.proofs.Common.{◌≡◌, ℕ, zero, suc, ◌+◌, ◌≤◌, Bool, true, false, ◌&&◌, inl, inr, List, [], ◌∷◌, ◌++◌, All, Any, Contains, Option, Some, None, IfSome, IsTrue, refl, sym, ap, ◌∙◌, subst, arith, count_by, is_some}
 use Rattle.std.proofs.lemmas.List.{append_assoc}
 use Rattle.std.proofs.lemmas.List.Elements.{All-cons, All-contains, All-nil, All-weaker, Contains-append_cases}
 use Rattle.std.specs.Option.{option_map_or}
@@ -15,11 +15,13 @@ use Rattle.pc_coord.specs.Pusher.{IsPusherOf}
 use Rattle.pc_coord.specs.Rounds.{EndsRound, IsRefusedRound, IsSettledRound}
 use Rattle.pc_exchange.proofs.Aside.{open_same}
 use Rattle.pc_exchange.proofs.Going.{not_same}
+use Rattle.pc_exchange.proofs.InTurn.{push_in_turn, resolve_in_turn}
 use Rattle.pc_exchange.proofs.Pushed.{push_decides}
 use Rattle.pc_exchange.proofs.Timely.{IsTimely}
 use Rattle.pc_exchange.proofs.Unmet.{push_unmet, resolve_unmet}
 use Rattle.pc_exchange.specs.Aside.{IsAside, IsLaterAside}
-use Rattle.pc_exchange.specs.Rounding.{HasComeTo, WasPushedOnceFor}
+use Rattle.pc_exchange.specs.InTurn.{IsNextRound}
+use Rattle.pc_exchange.specs.Rounding.{HasComeTo, WasPushedOnceFor, pushes_sent}
 use Rattle.pc_lists.proofs.Counts.{count-append, count-cons, one_if}
 use Rattle.pc_lists.proofs.Same.{same_txn-self}
 use Rattle.pc_proto.specs.declared.fate.Fate.{Fate}
@@ -38,13 +40,14 @@ use Rattle.pc_proto.specs.Views.{fate_after, is_committed_at, is_staging_at}
 use Rattle.pc_push.specs.declared.progress.Progress.{Progress}
 use Rattle.pc_push.specs.declared.progress.Progress.TheVariants as progresses
 use Rattle.pc_push.specs.PushKnows.{Asks, AsksAt, MayPush}
-use Rattle.pc_push.specs.Pushing.{Pushing, goal_of, holder_resolve, push_of, resolve_or, round_after, round_due, round_heard}
+use Rattle.pc_push.specs.Pushing.{Pushing, goal_of, holder_resolve, progress_after_push, push_of, resolve_or, round_after, round_due, round_heard}
 use Rattle.pc_world.specs.Answering.{MayAnswer}
 use Rattle.pc_world.specs.Counting.{AtLeast}
 use Rattle.pc_world.specs.Exchange.{IsPossibleReply}
 use Rattle.pc_world.specs.Follows.EarlyTell.{IsCommitKnown}
-use Rattle.pc_world.specs.Follows.Eighth.{MetEighth}
+use Rattle.pc_world.specs.Follows.Eighth.{IsBeforeEighth, MetEighth}
 use Rattle.pc_world.specs.Follows.Resends.{HasMoreConflicts, MayGoAgain}
+use Rattle.pc_world.specs.Follows.Rounds.{IsInItsRound, rounds_begun}
 use Rattle.pc_world.specs.Known.{Known, call_in, open_txn, reading_of}
 use Rattle.pc_world.specs.Known.Traffic.{Heard, Sent}
 use Rattle.pc_world.specs.Known.Transactions.{Txn}
@@ -144,8 +147,8 @@ module _ (session : ℕ) (start : Known) (number : ℕ) (conflict : Reply) (read
     in_call : k.statement ≡ Some met.s
     in_call = later.statement ∙ met.opened
 
-    timely : (request : Request) (id : TxnId) → round_of request ≡ Some id → (MetEighth k request → ⊥) → HasMoreConflicts k request id → IsTimely k waiting request
-    timely request id round unmet more = record {
+    timely : (request : Request) (id : TxnId) → round_of request ≡ Some id → (MetEighth k request → ⊥) → IsInItsRound k request × IsBeforeEighth k request → HasMoreConflicts k request id → IsTimely k waiting request
+    timely request id round unmet turn more = record {
       undecided = not_decided;
       again = λ s opened any. (
         All-weaker (λ (m : Sent). IsTrue (is_heard k.heard_now m)) (λ (m : Sent). IsSameRequest request m.request → IsTrue (is_heard k.heard_now m)) (λ m heard same. heard) k.sent_now answered,
@@ -153,32 +156,35 @@ module _ (session : ℕ) (start : Known) (number : ℕ) (conflict : Reply) (read
       );
       kind = λ s opened. inr (id, round);
       eighth = λ s opened. unmet;
+      in_turn = λ s opened. turn;
       due = λ none. let both = sym in_call ∙ none in absurd cc;
     }
 
     -- more conflicts with the holder were heard than pushes of it
-    pub push_timely : (m : Pushing) → IsMade m → k.heard_now ≡ start.heard_now → IsTimely k waiting (push_of m)
-    push_timely m made same =
+    pub push_timely : (m : Pushing) → IsMade m → IsNextRound start met.h → m.goal ≡ goal_for met.h.request → rounds_begun k ≡ rounds_begun start → k.heard_now ≡ start.heard_now → IsTimely k waiting (push_of m)
+    push_timely m made next aims begun same =
         let id = m.holder.id in
         let is : id ≡ met.holder.id = ap (λ (h : TxnMeta). h.id) made.holder in
         let low : count_by (was_pushed id) start.heard_now + 1 ≤ count_by (was_met id) start.heard_now =
         subst (λ id. count_by (was_pushed id) start.heard_now + 1 ≤ count_by (was_met id) start.heard_now) (sym is) met.pushes in
-        timely (push_of m) id refl (push_unmet k kinds m) (λ n many.
+        let turn = push_in_turn start k met.h next met.holder met.ts met.key (met.told ∙ met.is) m made.holder aims same begun in
+        timely (push_of m) id refl (push_unmet k kinds m) turn (λ n many.
         let a : n ≤ count_by (was_pushed id) k.heard_now = at_least-count (λ h. IsSameRequest (push_of m) h.request) (was_pushed id) (same_push m) n k.heard_now many in
         let b : count_by (was_pushed id) k.heard_now ≡ count_by (was_pushed id) start.heard_now = ap (count_by (was_pushed id)) same in
         let d : count_by (was_met id) k.heard_now ≡ count_by (was_met id) start.heard_now = ap (count_by (was_met id)) same in
         count-at_least (λ h. IsTrue (is_conflict_with id h.reply)) (was_met id) (λ h is. is) (n + 1) k.heard_now (omega (arith, a, b, d, low)))
 
     -- and than settlings of its intents
-    pub resolve_timely : (m : Pushing) (fate : Fate) → IsMade m → WasPushedOnceFor m.holder.id m.goal fate start k → IsTimely k waiting (holder_resolve m fate)
-    resolve_timely m fate made was =
+    pub resolve_timely : (m : Pushing) (fate : Fate) → IsMade m → IsNextRound start met.h → m.key ≡ met.key → rounds_begun k ≡ rounds_begun start + 1 → WasPushedOnceFor m.holder.id m.goal fate start k → IsTimely k waiting (holder_resolve m fate)
+    resolve_timely m fate made next where_is begun was =
         let id = m.holder.id in
         let is : id ≡ met.holder.id = ap (λ (h : TxnMeta). h.id) made.holder in
         let low : count_by (was_pushed id) start.heard_now + 1 ≤ count_by (was_met id) start.heard_now =
         subst (λ id. count_by (was_pushed id) start.heard_now + 1 ≤ count_by (was_met id) start.heard_now) (sym is) met.pushes in
         let few : count_by (shows_resolve id) start.heard_now ≤ count_by (was_pushed id) start.heard_now =
         subst (λ id. count_by (shows_resolve id) start.heard_now ≤ count_by (was_pushed id) start.heard_now) (sym is) met.resolves in
-        timely (holder_resolve m fate) id refl (resolve_unmet k kinds m fate) (λ n many.
+        let turn = resolve_in_turn start k met.h next met.holder met.ts met.key (met.told ∙ met.is) m fate made.holder where_is was begun in
+        timely (holder_resolve m fate) id refl (resolve_unmet k kinds m fate) (turn, tt) (λ n many.
         let a : n ≤ count_by (shows_resolve id) k.heard_now = at_least-count (λ h. IsSameRequest (holder_resolve m fate) h.request) (shows_resolve id) (same_resolve m fate) n k.heard_now many in
         let on : (p : Heard → Bool) → count_by p k.heard_now ≡ count_by p start.heard_now + one_if (p was.push) = λ p.
         let e : count_by p k.heard_now ≡ count_by p (start.heard_now ++ was.push ∷ []) = ap (count_by p) was.more in
@@ -188,7 +194,7 @@ module _ (session : ℕ) (start : Known) (number : ℕ) (conflict : Reply) (read
 
 -- ---- the machine's beginning
 
-goal_reads : (request : Request) → goal_of (read_at request) ≡ goal_for request
+pub goal_reads : (request : Request) → goal_of (read_at request) ≡ goal_for request
 goal_reads (requests.Get id epoch seq ts key) = refl
 goal_reads (requests.Scan id epoch seq ts span) = refl
 goal_reads request = refl
@@ -293,15 +299,40 @@ module _ (m : Pushing) (start k later : Known) (h : Heard) (more : later.heard_n
   pub come_on : HasComeTo m.progress m start k → Asks m h.request → MayAnswer h.request h.reply → IsPossibleReply h.request h.reply → HasComeTo (round_after h.reply m).progress (round_after h.reply m) start later
   come_on come asks may is = on_itself m.progress h.reply (come_by m.progress come asks may is)
 
--- it stays the round of its conflict
-same_round : (p : Progress) (reply : Reply) (m : Pushing) → ((round_heard p reply m).holder ≡ m.holder) × ((round_heard p reply m).key ≡ m.key)
-same_round progresses.Push reply m = (refl, refl)
-same_round progresses.Refused reply m = (refl, refl)
-same_round (progresses.Unsure view) reply m = (refl, refl)
-same_round (progresses.Resolve fate) reply m = (refl, refl)
-same_round progresses.Over reply m = (refl, refl)
+-- ---- the pushes that it sent
 
-pub round_same : (reply : Reply) (m : Pushing) → ((round_after reply m).holder ≡ m.holder) × ((round_after reply m).key ≡ m.key)
+pushes_after_status : (fate : Option Fate) → (fate ≡ None → ⊥) → pushes_sent (resolve_or fate progresses.Push) ≡ 1
+pushes_after_status None some = absurd (some refl)
+pushes_after_status (Some fate) some = refl
+
+pushes_after : (m : Pushing) (reply : Reply) → MayAnswer (push_of m) reply → IsPossibleReply (push_of m) reply → pushes_sent (progress_after_push m.goal reply) ≡ 1
+pushes_after m (replies.Status view) may is = pushes_after_status (fate_after m.goal view) (push_decides m view is)
+pushes_after m (replies.Refused view) may is = refl
+pushes_after m reply may is = absurd may
+
+pushes_by : (p : Progress) (start k : Known) (m : Pushing) (request : Request) (reply : Reply) → HasComeTo p m start k → AsksAt p m request → MayAnswer request reply → IsPossibleReply request reply
+    → pushes_sent (round_heard p reply m).progress ≡ pushes_sent p + one_if (is_some (goal_in request))
+pushes_by progresses.Push start k m request reply come asks may is =
+    pushes_after m reply (subst (λ q. MayAnswer q reply) asks may) (subst (λ q. IsPossibleReply q reply) asks is) ∙ ap (λ q. 0 + one_if (is_some (goal_in q))) (sym asks)
+pushes_by progresses.Refused start k m request reply come asks may is = absurd asks
+pushes_by (progresses.Unsure view) start k m request reply come asks may is = absurd come
+pushes_by (progresses.Resolve fate) start k m request reply come asks may is = ap (λ q. 1 + one_if (is_some (goal_in q))) (sym asks)
+pushes_by progresses.Over start k m request reply come asks may is = absurd asks
+
+-- after each message it counts one more if that was a push
+pub pushes_on : (start k : Known) (m : Pushing) (request : Request) (reply : Reply) → HasComeTo m.progress m start k → Asks m request → MayAnswer request reply → IsPossibleReply request reply
+    → pushes_sent (round_after reply m).progress ≡ pushes_sent m.progress + one_if (is_some (goal_in request))
+pushes_on start k m request reply come asks may is = pushes_by m.progress start k m request reply come asks may is
+
+-- it stays the round of its conflict
+same_round : (p : Progress) (reply : Reply) (m : Pushing) → ((round_heard p reply m).holder ≡ m.holder) × ((round_heard p reply m).key ≡ m.key) × ((round_heard p reply m).goal ≡ m.goal)
+same_round progresses.Push reply m = (refl, refl, refl)
+same_round progresses.Refused reply m = (refl, refl, refl)
+same_round (progresses.Unsure view) reply m = (refl, refl, refl)
+same_round (progresses.Resolve fate) reply m = (refl, refl, refl)
+same_round progresses.Over reply m = (refl, refl, refl)
+
+pub round_same : (reply : Reply) (m : Pushing) → ((round_after reply m).holder ≡ m.holder) × ((round_after reply m).key ≡ m.key) × ((round_after reply m).goal ≡ m.goal)
 round_same reply m = same_round m.progress reply m
 
 -- ---- its end
@@ -336,6 +367,15 @@ at_finished p m start k is come = absurd cc
 pub at_settled : (p : Progress) (m : Pushing) (view : View) (start k : Known) → round_due p m ≡ machine.Settled view → HasComeTo p m start k → ⊥
 at_settled (progresses.Unsure met) m view start k is come = come
 at_settled p m view start k is come = cc
+
+-- at its end one push was sent
+pub one_refused : (p : Progress) (m : Pushing) (id : TxnId) → round_due p m ≡ machine.Refused id → pushes_sent p ≡ 1
+one_refused progresses.Push m id is = absurd cc
+one_refused p m id is = refl
+
+pub one_finished : (p : Progress) (m : Pushing) → round_due p m ≡ machine.Finished → pushes_sent p ≡ 1
+one_finished progresses.Push m is = absurd cc
+one_finished p m is = refl
 
 pub at_changed : (p : Progress) (m : Pushing) (view : View) → round_due p m ≡ machine.Changed view → ⊥
 at_changed progresses.Push m view is = cc

@@ -1,5 +1,5 @@
 -- A session makes a conflict's round: how it begins, what each exchange of its machine leaves, and how it ends.
-use Rattle.std.proofs.Common.{◌≡◌, ℕ, ◌≤◌, ◌<◌, max, true, List, [], ◌∷◌, ◌++◌, Option, Some, None, IfSome, refl, sym, ap, ◌∙◌, subst, arith}
+use Rattle.std.proofs.Common.{◌≡◌, ℕ, ◌+◌, ◌≤◌, ◌<◌, max, true, List, [], ◌∷◌, ◌++◌, Option, Some, None, IfSome, refl, sym, ap, ◌∙◌, subst, arith}
 use Rattle.pc_base.specs.declared.actor.ActorId.{ActorId}
 use Rattle.pc_base.specs.declared.actor.ActorId.TheVariants as actors
 use Rattle.pc_base.specs.declared.transaction.TxnId.{TxnId}
@@ -13,15 +13,15 @@ use Rattle.pc_desk.specs.Desk.{DeskMeaning}
 use Rattle.pc_exchange.proofs.Aside.{aside_none, goes_on_beside, left_still}
 use Rattle.pc_exchange.proofs.Called.{all_heard_in_call}
 use Rattle.pc_exchange.proofs.Coordinator.{counted_met}
-use Rattle.pc_exchange.proofs.Going.{answered_by, aside_by, goes_both, goes_none, heard_now_by, jobs_by, part_by, reply_by}
+use Rattle.pc_exchange.proofs.Going.{answered_by, aside_by, goes_both, goes_none, heard_now_by, jobs_by, part_by, reply_by, rounds_by}
 use Rattle.pc_exchange.proofs.HeardKinds.{heard_begun, heard_now_kind, top_below}
 use Rattle.pc_exchange.proofs.Messages.{left_by_exchange}
-use Rattle.pc_exchange.proofs.Rounding.{IsMade, at_changed, at_finished, at_refused, at_settled, come_on, ends_refused, ends_settled, may_push, of_conflict, push_aside, push_timely, resolve_aside, resolve_timely, round_same, sends_asks}
+use Rattle.pc_exchange.proofs.Rounding.{IsMade, at_changed, at_finished, at_refused, at_settled, come_on, ends_refused, ends_settled, goal_reads, may_push, of_conflict, one_finished, one_refused, push_aside, push_timely, pushes_on, resolve_aside, resolve_timely, round_same, sends_asks}
 use Rattle.pc_exchange.proofs.Timely.{IsTimely, may_exchange}
 use Rattle.pc_exchange.specs.Aside.{IsAside, IsLaterAside}
 use Rattle.pc_exchange.specs.Exchange.{MayExchangeNow, WasExchanged}
 use Rattle.pc_exchange.specs.Growing.{HasGoneBeside}
-use Rattle.pc_exchange.specs.Rounding.{HasComeTo, IsRoundUnderWay}
+use Rattle.pc_exchange.specs.Rounding.{HasComeTo, IsRoundUnderWay, pushes_sent}
 use Rattle.pc_exchange.specs.Rounds.{HasMadeRoundOf, MayMakeRound}
 use Rattle.pc_history.specs.declared.pair.Pair.{Pair}
 use Rattle.pc_proto.specs.declared.event.Event.{Event}
@@ -40,6 +40,7 @@ use Rattle.pc_push.specs.PushKnows.{Asks, AsksAt, MayPush, PushKnows, RoundMayCo
 use Rattle.pc_push.specs.Pushing.{IsStart, Pushing, goal_of, round_after, round_next as next_due}
 use Rattle.pc_world.specs.Exchange.{IsAllowed, IsPossibleReply, WasAnswered}
 use Rattle.pc_world.specs.Follows.FinishingJobs.{jobs_of}
+use Rattle.pc_world.specs.Follows.Rounds.{rounds_begun}
 use Rattle.pc_world.specs.Known.{Known, known_of}
 
 module _ {C : Type 0} (old : DeskMeaning C) (pusher : Pusher) (reading : ℕ) (conflict : Reply) (reader : Option ℕ) (start : MayMakeRound old pusher reading conflict reader) where
@@ -53,6 +54,9 @@ module _ {C : Type 0} (old : DeskMeaning C) (pusher : Pusher) (reading : ℕ) (c
       by : (reader : Option ℕ) → IfSome reader (λ ts. ts ≤ (known_of old.log.part.own).top) → IfSome reader (λ ts. ts < greatest)
       by None low = tt
       by (Some ts) low = let top = top_below old.log start.back.track.log in omega (arith, low, top)
+
+  plus_none : (n : ℕ) → n + 0 ≡ n
+  plus_none n = omega arith
 
   -- it begins
   pub round_begins : (m : Pushing) → IsStart conflict (whos.Txn pusher.id) pusher.level reading reader m
@@ -74,6 +78,8 @@ module _ {C : Type 0} (old : DeskMeaning C) (pusher : Pusher) (reading : ℕ) (c
         come = subst (λ p. HasComeTo p m k k) (sym (ap (λ (m : Pushing). m.progress) made)) refl;
         holder = holder;
         key = ap (λ (m : Pushing). m.key) made;
+        aims = ap (λ (m : Pushing). m.goal) made ∙ (ap goal_of met.reads ∙ goal_reads met.h.request);
+        begun = sym (ap (λ (p : Progress). rounds_begun k + pushes_sent p) (ap (λ (m : Pushing). m.progress) made) ∙ plus_none (rounds_begun k));
       }
 
 module _ {C : Type 0} (old : DeskMeaning C) (pusher : Pusher) (reading : ℕ) (conflict : Reply) (reader : Option ℕ) (m : Pushing) (d : DeskMeaning C) (ts : ℕ) (r : IsRoundUnderWay old pusher reading conflict reader m d ts) where
@@ -97,20 +103,23 @@ module _ {C : Type 0} (old : DeskMeaning C) (pusher : Pusher) (reading : ℕ) (c
         (ap (λ id. id.session) (sym id) ∙ mine));
   }
 
-  asked_by : (p : Progress) (request : Request) → HasComeTo p m start_known now_known → AsksAt p m request → IsAside r.start.session start_known request × IsTimely now_known (jobs_of d.log.part.own) request
-  asked_by progresses.Push request come asks =
+  plus_nothing : (n : ℕ) → n + 0 ≡ n
+  plus_nothing n = omega arith
+
+  asked_by : (p : Progress) (request : Request) → HasComeTo p m start_known now_known → rounds_begun now_known ≡ rounds_begun start_known + pushes_sent p → AsksAt p m request → IsAside r.start.session start_known request × IsTimely now_known (jobs_of d.log.part.own) request
+  asked_by progresses.Push request come begun asks =
       subst (λ q. IsAside r.start.session start_known q × IsTimely now_known (jobs_of d.log.part.own) q) (sym asks) (
         push_aside r.start.session start_known r.start.number conflict reader r.start.met m made_it,
-        push_timely r.start.session start_known r.start.number conflict reader r.start.met now_known ts r.aside (all_heard_in_call d r.goes.back) (heard_now_kind d.log r.goes.back.track.log) (jobs_of d.log.part.own) m made_it come,
+        push_timely r.start.session start_known r.start.number conflict reader r.start.met now_known ts r.aside (all_heard_in_call d r.goes.back) (heard_now_kind d.log r.goes.back.track.log) (jobs_of d.log.part.own) m made_it r.start.next r.aims (begun ∙ plus_nothing (rounds_begun start_known)) come,
       )
-  asked_by progresses.Refused request come asks = absurd asks
-  asked_by (progresses.Unsure view) request come asks = absurd come
-  asked_by (progresses.Resolve fate) request come asks =
+  asked_by progresses.Refused request come begun asks = absurd asks
+  asked_by (progresses.Unsure view) request come begun asks = absurd come
+  asked_by (progresses.Resolve fate) request come begun asks =
       subst (λ q. IsAside r.start.session start_known q × IsTimely now_known (jobs_of d.log.part.own) q) (sym asks) (
         resolve_aside r.start.session start_known r.start.number conflict reader r.start.met m fate,
-        resolve_timely r.start.session start_known r.start.number conflict reader r.start.met now_known ts r.aside (all_heard_in_call d r.goes.back) (heard_now_kind d.log r.goes.back.track.log) (jobs_of d.log.part.own) m fate made_it come,
+        resolve_timely r.start.session start_known r.start.number conflict reader r.start.met now_known ts r.aside (all_heard_in_call d r.goes.back) (heard_now_kind d.log r.goes.back.track.log) (jobs_of d.log.part.own) m fate made_it r.start.next r.key begun come,
       )
-  asked_by progresses.Over request come asks = absurd asks
+  asked_by progresses.Over request come begun asks = absurd asks
 
   -- what it gives to be sent is what it asks for
   pub given_asks : (given : MachineNext) (request : Request) → given ≡ next_due m → given ≡ machine.Send request → Asks m request
@@ -121,7 +130,7 @@ module _ {C : Type 0} (old : DeskMeaning C) (pusher : Pusher) (reading : ℕ) (c
       → ((splits : List (List ℕ)) (actor : ActorId) (start k : Known) → PushKnows actor start k m → RoundMayCome splits actor start k m given) → MayExchangeNow d request
   round_asks given request due is may =
       let asks = given_asks given request due is in
-      let both = asked_by m.progress request r.come asks in
+      let both = asked_by m.progress request r.come r.begun asks in
       let allowed : IsAllowed d.log.head.splits (actors.Session r.start.session) now_known request =
       subst (RoundMayCome d.log.head.splits (actors.Session r.start.session) start_known now_known m) is (may d.log.head.splits (actors.Session r.start.session) start_known now_known r.knows) in
       may_exchange d r.start.session request r.goes.back whose both.0.kind allowed both.1
@@ -135,7 +144,7 @@ module _ {C : Type 0} (old : DeskMeaning C) (pusher : Pusher) (reading : ℕ) (c
         → ((actor : ActorId) (start k later : Known) (request : Request) → PushKnows actor start k m → Asks m request → WasAnswered k later request reply → IsPossibleReply request reply → PushKnows actor start later next)
         → IsRoundUnderWay old pusher reading conflict reader next new (max ts (greatest_of (reply_stamps reply)))
     round_on made knows =
-        let aside = (asked_by m.progress request r.come asks).0 in
+        let aside = (asked_by m.progress request r.come r.begun asks).0 in
         let same = round_same reply m in
         let k = known_of new.log.part.own in
         record {
@@ -149,18 +158,25 @@ module _ {C : Type 0} (old : DeskMeaning C) (pusher : Pusher) (reading : ℕ) (c
               (come_on m start_known now_known k (reply_by d new request reply x) (heard_now_by d new request reply r.goes.back x aside.kind) r.come asks x.kind x.possible);
           holder = ap (λ (m : Pushing). m.holder) made ∙ (same.0 ∙ r.holder);
           key = ap (λ (m : Pushing). m.key) made ∙ (same.1 ∙ r.key);
+          aims = ap (λ (m : Pushing). m.goal) made ∙ (same.2 ∙ r.aims);
+          begun =
+              let sent = rounds_by d new request reply r.goes.back x aside.kind in
+              let more = pushes_on start_known now_known m request reply r.come asks x.kind x.possible in
+              let is : pushes_sent next.progress ≡ pushes_sent (round_after reply m).progress = ap (λ (m : Pushing). pushes_sent m.progress) made in
+              omega (arith, sent, more, is, r.begun);
         }
 
   -- ---- its end
 
-  made_round : (round : Round) → EndsRound conflict round start_known now_known → HasMadeRoundOf old d conflict round ts
-  made_round round ends = record {
+  made_round : (round : Round) → EndsRound conflict round start_known now_known → pushes_sent m.progress ≡ 1 → HasMadeRoundOf old d conflict round ts
+  made_round round ends one = record {
     session = r.start.session;
     whose = r.start.whose;
     part = r.part;
     goes = r.goes;
     made = record {
       ends = ends;
+      begun = r.begun ∙ ap (λ n. rounds_begun start_known + n) one;
       aside = r.aside;
       left = left_still r.start.session start_known now_known ts r.aside;
       beside = λ c number reader same knows next. goes_on_beside r.start.session start_known now_known ts r.aside c same (counted_met c start_known number conflict reader knows next);
@@ -174,6 +190,7 @@ module _ {C : Type 0} (old : DeskMeaning C) (pusher : Pusher) (reading : ℕ) (c
       made_round rounds.Refused
       (ends_refused conflict m start_known now_known (of_conflict conflict m r.start.met.holder r.start.met.ts r.start.met.key r.start.met.is r.holder r.key)
       (at_refused m.progress m id start_known now_known (sym due ∙ is) r.come))
+      (one_refused m.progress m id (sym due ∙ is))
 
   -- or its intent was settled
   pub round_settled : (given : MachineNext) → given ≡ next_due m → given ≡ machine.Finished → HasMadeRoundOf old d conflict rounds.Again ts
@@ -181,6 +198,7 @@ module _ {C : Type 0} (old : DeskMeaning C) (pusher : Pusher) (reading : ℕ) (c
       made_round rounds.Again
       (ends_settled conflict m start_known now_known (of_conflict conflict m r.start.met.holder r.start.met.ts r.start.met.key r.start.met.is r.holder r.key)
       (at_finished m.progress m start_known now_known (sym due ∙ is) r.come))
+      (one_finished m.progress m (sym due ∙ is))
 
   -- it asks for no recovery
   pub never_settled : (given : MachineNext) (view : View) → given ≡ next_due m → given ≡ machine.Settled view → ⊥

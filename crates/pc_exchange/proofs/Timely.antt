@@ -6,7 +6,6 @@ use Rattle.pc_base.specs.declared.transaction.TxnId.{TxnId}
 use Rattle.pc_coord.specs.Beside.{is_of_round_or_job}
 use Rattle.pc_desk.specs.Desk.{DeskMeaning, MaySendNow}
 use Rattle.pc_desk.specs.Keeping.{KeepsAs}
-use Rattle.pc_desk.specs.PastEighth.{FollowsNoEighthMove}
 use Rattle.pc_exchange.proofs.Called.{all_heard_ever}
 use Rattle.pc_exchange.proofs.Waves.{ends_where_heard}
 use Rattle.pc_exchange.specs.Exchange.{MayExchangeNow}
@@ -22,11 +21,12 @@ use Rattle.pc_proto.specs.Requests.{is_put, is_refresh, round_of}
 use Rattle.pc_world.specs.Exchange.{IsAllowed}
 use Rattle.pc_world.specs.Follows.CallMessages.{IsFor, IsForCall, IsOfRound}
 use Rattle.pc_world.specs.Follows.EarlyTell.{IsCommitKnown}
-use Rattle.pc_world.specs.Follows.Eighth.{MetEighth}
+use Rattle.pc_world.specs.Follows.Eighth.{IsBeforeEighth, MetEighth}
 use Rattle.pc_world.specs.Follows.FinishingJobs.{IsDue, jobs_of}
 use Rattle.pc_world.specs.Follows.OneWrite.{IsItsPut}
 use Rattle.pc_world.specs.Follows.Refreshes.{IsItsRefresh}
 use Rattle.pc_world.specs.Follows.Resends.{AreAnsweredNow, MayGoAgain}
+use Rattle.pc_world.specs.Follows.Rounds.{IsInItsRound}
 use Rattle.pc_world.specs.Follows.WaveOrder.{EndsWaves}
 use Rattle.pc_world.specs.Known.{Known, known_of}
 use Rattle.pc_world.specs.Known.Statements.{Statement}
@@ -36,13 +36,14 @@ use Rattle.pc_world.specs.SameRequest.{IsSameRequest}
 use Rattle.pc_world.specs.Unstaged.{IsNoStage}
 
 -- The message goes out when its session's work has it: in no call that is decided; in a call again only once all of the same were answered
--- and where it may go again, for it, or as one of a conflict's round, and not past its eighth conflict; and between calls where it is the next
--- one of the oldest job.
+-- and where it may go again, for it, or as one of a conflict's round in its turn, and not past its eighth conflict; and between calls where it is
+-- the next one of the oldest job.
 pub record IsTimely (k : Known) (jobs : List (List Request)) (request : Request) : Type 0 where
   pub undecided : (t : Txn) (ts : ℕ) → IsCommitKnown k t ts → ⊥
   pub again : (s : Statement) → k.statement ≡ Some s → Any (λ m. IsSameRequest request m.request) k.sent_now → AreAnsweredNow k request × MayGoAgain k request (round_of request)
   pub kind : (s : Statement) → k.statement ≡ Some s → IsForCall k request ⊎ IsOfRound request
   pub eighth : (s : Statement) → k.statement ≡ Some s → MetEighth k request → ⊥
+  pub in_turn : (s : Statement) → k.statement ≡ Some s → IsInItsRound k request × IsBeforeEighth k request
   pub due : k.statement ≡ None → IsDue k jobs request
 
 its-put : (k : Known) (request : Request) → is_of_round_or_job request ≡ true → IsItsPut k request
@@ -56,12 +57,6 @@ its-refresh k (requests.Push holder by level now goal) is = tt
 its-refresh k (requests.Resolve id key fate) is = tt
 its-refresh k (requests.Remove id anchor) is = tt
 its-refresh k request is = absurd cc
-
-moves-none : (k : Known) (request : Request) → is_of_round_or_job request ≡ true → FollowsNoEighthMove k request
-moves-none k (requests.Push holder by level now goal) is = tt
-moves-none k (requests.Resolve id key fate) is = tt
-moves-none k (requests.Remove id anchor) is = tt
-moves-none k request is = absurd cc
 
 sends-as : (id : ActorId) (session : ℕ) (splits : List (List ℕ)) (pipelining : Bool) (own : List (Pair Event)) (number range : ℕ) (request : Request) → id ≡ actors.Session session → is_of_round_or_job request ≡ true → IsTimely (known_of own) (jobs_of own) request → EndsWaves own
     → KeepsAs id splits pipelining own (events.Send number range request) None
@@ -78,7 +73,8 @@ sends-as id session splits pipelining own number range request whose kind t ends
       aborts = tt;
       writes = λ s opened. its-put (known_of own) request kind;
       refreshes = its-refresh (known_of own) request kind;
-      eighth = λ s opened. (t.eighth s opened, moves-none (known_of own) request kind);
+      rounds = λ s opened. (t.in_turn s opened).0;
+      eighth = λ s opened. (t.eighth s opened, (t.in_turn s opened).1);
       waves = ends;
       pieces = tt;
       refresh_wave = tt;

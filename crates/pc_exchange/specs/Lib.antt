@@ -4,6 +4,7 @@ pub mod Ending
 pub mod Exchange
 pub mod Finishing
 pub mod Growing
+pub mod InTurn
 pub mod Jobs
 pub mod Rounding
 pub mod Rounds

@@ -1,5 +1,5 @@
 -- How far a conflict's round has come.
-use Rattle.std.specs.Prelude.{◌≡◌, ℕ, Option, Some, List, [], ◌∷◌, ◌++◌, IsTrue}
+use Rattle.std.specs.Prelude.{◌≡◌, ℕ, ◌+◌, Option, Some, List, [], ◌∷◌, ◌++◌, IsTrue}
 use Rattle.pc_base.specs.declared.actor.ActorId.TheVariants as actors
 use Rattle.pc_base.specs.declared.transaction.TxnId.{TxnId}
 use Rattle.pc_coord.specs.declared.pusher.Pusher.{Pusher}
@@ -22,8 +22,10 @@ use Rattle.pc_push.specs.declared.progress.Progress.TheVariants as progresses
 use Rattle.pc_push.specs.PushKnows.{PushKnows}
 use Rattle.pc_push.specs.Pushing.{Pushing}
 use Rattle.pc_world.specs.Follows.FinishingJobs.{jobs_of}
+use Rattle.pc_world.specs.Follows.Rounds.{rounds_begun}
 use Rattle.pc_world.specs.Known.{Known, known_of}
 use Rattle.pc_world.specs.Known.Traffic.{Heard}
+use Rattle.pc_world.specs.Send.Push.{goal_for}
 
 -- Since then the transaction was pushed for this goal, which was answered by a status that leaves this fate, and nothing else was heard.
 pub record WasPushedOnceFor (id : TxnId) (goal : Goal) (fate : Fate) (start k : Known) : Type 0 where
@@ -43,6 +45,11 @@ HasComeTo (progresses.Unsure view) m start k = ⊥
 HasComeTo (progresses.Resolve fate) m start k = WasPushedOnceFor m.holder.id m.goal fate start k
 HasComeTo progresses.Over m start k = IsSettledRound m.holder.id m.key start k
 
+-- How many pushes a machine that stands so has sent.
+abbrev pub pushes_sent : Progress → ℕ
+pushes_sent progresses.Push = 0
+pushes_sent _ = 1
+
 -- The round is being made by this machine: these entries were made for it, and this is the greatest timestamp that was heard in them.
 pub record IsRoundUnderWay {C : Type 0} (old : DeskMeaning C) (pusher : Pusher) (reading : ℕ) (conflict : Reply) (reader : Option ℕ) (m : Pushing) (new : DeskMeaning C) (ts : ℕ) : Type 0 where
   pub start : MayMakeRound old pusher reading conflict reader
@@ -54,3 +61,5 @@ pub record IsRoundUnderWay {C : Type 0} (old : DeskMeaning C) (pusher : Pusher) 
   pub come : HasComeTo m.progress m (known_of old.log.part.own) (known_of new.log.part.own)
   pub holder : m.holder ≡ start.met.holder
   pub key : m.key ≡ start.met.key
+  pub aims : m.goal ≡ goal_for start.met.h.request
+  pub begun : rounds_begun (known_of new.log.part.own) ≡ rounds_begun (known_of old.log.part.own) + pushes_sent m.progress

@@ -1,5 +1,5 @@
 -- The round of a conflict that the open call met: the holder of the intent is pushed, and the intent settled as the push came out.
-use Rattle.std.specs.Prelude.{◌≡◌, ℕ, Option, Some, List}
+use Rattle.std.specs.Prelude.{◌≡◌, ℕ, ◌+◌, Option, Some, List}
 use Rattle.pc_base.specs.declared.actor.ActorId.TheVariants as actors
 use Rattle.pc_call.specs.Sending.{IsConflictNow}
 use Rattle.pc_coord.specs.Coordination.{Coordination, next_of}
@@ -13,14 +13,16 @@ use Rattle.pc_coord.specs.Rounds.{EndsRound}
 use Rattle.pc_desk.specs.Desk.{DeskMeaning}
 use Rattle.pc_exchange.specs.Aside.{IsLaterAside, MayGoOnBeside}
 use Rattle.pc_exchange.specs.Growing.{HasGoneBeside, HasAllBack}
+use Rattle.pc_exchange.specs.InTurn.{IsNextRound}
 use Rattle.pc_exchange.specs.Jobs.{IsFinishable}
 use Rattle.pc_history.specs.declared.pair.Pair.{Pair}
 use Rattle.pc_proto.specs.declared.event.Event.{Event}
 use Rattle.pc_proto.specs.declared.reply.Reply.{Reply}
 use Rattle.pc_world.specs.Follows.FinishingJobs.{jobs_of}
+use Rattle.pc_world.specs.Follows.Rounds.{rounds_begun}
 use Rattle.pc_world.specs.Known.{Known, known_of, reading_of}
 
--- The session's open call, which was asked at this reading, met this conflict, and its round is due.
+-- The session's open call, which was asked at this reading, met this conflict, and its round is due: it is the next one.
 pub record MayMakeRound {C : Type 0} (d : DeskMeaning C) (pusher : Pusher) (reading : ℕ) (conflict : Reply) (reader : Option ℕ) : Type 0 where
   pub back : HasAllBack d
   pub session : ℕ
@@ -29,11 +31,13 @@ pub record MayMakeRound {C : Type 0} (d : DeskMeaning C) (pusher : Pusher) (read
   pub met : IsConflictNow (known_of d.log.part.own) number conflict reader
   pub pushes : IsPusherOf (known_of d.log.part.own) (Some pusher)
   pub read : reading_of (known_of d.log.part.own) ≡ Some reading
+  pub next : IsNextRound (known_of d.log.part.own) met.h
 
--- Since then the session has made the round of this conflict, which ended so, and done nothing else; this is the greatest timestamp that it
--- heard in it. What its jobs may do they may do still.
+-- Since then the session has made the round of this conflict, which ended so, and done nothing else: it sent one push. This is the greatest
+-- timestamp that it heard in it. What its jobs may do they may do still.
 pub record IsRoundMade (session : ℕ) (start k : Known) (conflict : Reply) (round : Round) (ts : ℕ) : Type 0 where
   pub ends : EndsRound conflict round start k
+  pub begun : rounds_begun k ≡ rounds_begun start + 1
   pub aside : IsLaterAside session start k ts
   pub left : (job : Job) → IsFinishable start job → IsFinishable k job
   pub beside :

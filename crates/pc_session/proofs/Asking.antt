@@ -18,6 +18,7 @@ use Rattle.pc_session.proofs.Away.{all_heard, apart_asked, none_away}
 use Rattle.pc_session.proofs.Inside.{one_on}
 use Rattle.pc_session.proofs.Jobs.{HasJobs, jobs_asked}
 use Rattle.pc_session.proofs.Knowing.{jobs_then, known_asked, of_ask, with_asked}
+use Rattle.pc_session.proofs.TurnsOn.{asked_turn}
 use Rattle.pc_session.specs.Calls.{MayBeCalled}
 use Rattle.pc_session.specs.InCall.{HasAsked, HasOpenCall, IsApartNow}
 use Rattle.pc_session.specs.Session.{HasLeft, IsAtRest, SessionMeaning, session_knows}
@@ -85,6 +86,8 @@ module _ {C : Type 0} (old : SessionMeaning C) (d : DeskMeaning C) (c : Coordina
     apart = subst IsApartNow (sym known_is) (apart_asked call reading k);
     kinds = λ number request on. absurd (let e : true ≡ false = sym on ∙ away number in cc e);
     waiting = left_on;
+    turn =
+        asked_turn c (known_of d.log.part.own) (subst (Knows c) (sym (known_after_it old.desk.log d.log event done.entered)) (learns k p rest.one.knows is_asked)) (ap (λ (k : Known). k.sent_now) known_is) (ap (λ (k : Known). k.heard_now) known_is);
   }
 
   -- no wave is half heard

@@ -51,6 +51,15 @@ quiet_tell c answer next number = by c.due next
     by (dues.Tell told) e = refl
     by (dues.Call call) e = absurd (tells_in c.txn call answer e)
 
+-- and it is what is due
+pub tell_due : (c : Coordination) (answer : Answer) → next_of c ≡ nexts.Tell answer → c.due ≡ dues.Tell answer
+tell_due c answer next = by c.due next
+  where
+    by : (due : Due) → next_at c.txn due ≡ nexts.Tell answer → due ≡ dues.Tell answer
+    by dues.Nothing e = absurd cc
+    by (dues.Tell told) e = let same : told ≡ answer = cc in ap dues.Tell same
+    by (dues.Call call) e = absurd (tells_in c.txn call answer e)
+
 no_wait : (number : ℕ) (progress : Progress) → progress_out progress ≡ false → progress_awaits number progress ≡ false
 no_wait number progresses.ToSend none = refl
 no_wait number (progresses.Sent sent) none = absurd cc

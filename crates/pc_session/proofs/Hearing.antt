@@ -1,15 +1,18 @@
 -- A session in its call while its messages are evaluated, and their replies heard.
-use Rattle.std.proofs.Common.{◌≡◌, ℕ, ◌+◌, true, false, Bool, ◌==◌, ◌||◌, ◌&&◌, not, Contains, List, [], ◌∷◌, length, Option, Some, refl, sym, ap, subst, ◌∙◌, arith}
-use Rattle.std.proofs.lemmas.Bool.{eq-eqb}
-use Rattle.std.proofs.lemmas.List.Elements.{All-cons, All-contains, All-nil, Contains-push}
+use Rattle.std.proofs.Common.{◌≡◌, ℕ, ◌+◌, ◌<◌, ◌≤◌, true, false, Bool, ◌==◌, ◌||◌, ◌&&◌, not, inl, inr, All, Contains, List, [], ◌∷◌, length, Option, Some, None, refl, sym, ap, subst, ◌∙◌, arith}
+use Rattle.std.proofs.lemmas.Bool.{eq-eqb, eqb-true}
+use Rattle.std.proofs.lemmas.List.{append-nil}
+use Rattle.std.proofs.lemmas.List.Elements.{All-cons, All-contains, All-head, All-nil, Contains-push}
 use Rattle.std.specs.List.{list_any}
-use Rattle.pc_coord.specs.Coordination.{Coordination, awaits_number}
+use Rattle.pc_coord.specs.Coming.{ComesOf}
+use Rattle.pc_coord.specs.Coordination.{Coordination, awaits_number, opened_by}
+use Rattle.pc_coord.specs.declared.due.Opened.{Opened}
 use Rattle.pc_coord.specs.Events.{HearsAwaited}
 use Rattle.pc_coord.specs.Knows.{Knows}
 use Rattle.pc_desk.proofs.Making.{added, known_after_it}
 use Rattle.pc_desk.proofs.Turns.{oldest_waits}
 use Rattle.pc_desk.specs.declared.answered.Answered.{Answered}
-use Rattle.pc_desk.specs.Desk.{DeskMeaning, HasDelivered, HasHeardFirst, IsAnsweredBy, MayHearNow, Posted, is_on_way}
+use Rattle.pc_desk.specs.Desk.{DeskMeaning, HasDelivered, HasHeardFirst, IsAnsweredBy, KeepsTrack, MayHearNow, Posted, WaitInTurn, is_on_way}
 use Rattle.pc_desk.specs.Keeping.{KeepsSessionStep}
 use Rattle.pc_desk.specs.OwnLog.{LogMeaning}
 use Rattle.pc_exchange.proofs.Growing.{grows_else, grows_entered}
@@ -17,20 +20,26 @@ use Rattle.pc_exchange.proofs.HeardKinds.{heard_kind}
 use Rattle.pc_exchange.proofs.Waves.{ends_where_heard}
 use Rattle.pc_exchange.specs.Growing.{HasGrownBy}
 use Rattle.pc_history.specs.declared.pair.Pair.{Pair}
-use Rattle.pc_lists.proofs.Lists.{contains_head}
+use Rattle.pc_lists.proofs.Lists.{contains_cons, contains_head, contains_tail}
 use Rattle.pc_proto.specs.declared.event.Event.{Event}
 use Rattle.pc_proto.specs.declared.event.Event.TheVariants as events
 use Rattle.pc_proto.specs.declared.request.Request.{Request}
+use Rattle.pc_proto.specs.Requests.{goal_in}
 use Rattle.pc_range.specs.Message.{evaluation}
 use Rattle.pc_session.proofs.Away.{all_heard, any_there, apart_heard, none_away}
+use Rattle.pc_session.proofs.InTurn.{AreHeardOnce, heard_once}
 use Rattle.pc_session.proofs.Inside.{one_on}
 use Rattle.pc_session.proofs.Jobs.{HasJobs, jobs_heard}
-use Rattle.pc_session.proofs.Keeping.{keeps_as, keeps_heard}
+use Rattle.pc_session.proofs.Keeping.{keeps_as, keeps_heard, no_goal, plain_for}
 use Rattle.pc_session.proofs.Knowing.{it, jobs_then, known_heard, with_heard}
+use Rattle.pc_session.proofs.TurnsOn.{heard_silent, heard_turn}
 use Rattle.pc_session.proofs.WholeWave.{whole_heard, whole_still}
 use Rattle.pc_session.specs.InCall.{HasGoneInside, HasOpenCall, IsApartNow, IsWholeOut}
+use Rattle.pc_session.specs.InTurn.{KeepsTurn}
 use Rattle.pc_session.specs.Session.{HasLeft, SessionMeaning, session_knows}
 use Rattle.pc_turns.specs.Order.{IsInBetween}
+use Rattle.pc_wave.specs.Messages.{awaits_at, back_with, first_changed}
+use Rattle.pc_wave.specs.Standing.{HasMore, IsHeardTo}
 use Rattle.pc_world.specs.Answering.{MayAnswer}
 use Rattle.pc_world.specs.Follows.CallMessages.{IsForCall}
 use Rattle.pc_world.specs.Follows.WaveOrder.{EndsWaves}
@@ -65,11 +74,12 @@ module _ {C : Type 0} (old : SessionMeaning C) (reading : ℕ) (calls : HasOpenC
     kinds = λ n q on said.
         subst (λ k. IsForCall k q) (sym known_same) (calls.kinds n q (sym (made.way n) ∙ on) (ap (λ (k : Known). request_sent n k.sent) (sym known_same) ∙ said));
     waiting = subst (λ own. HasLeft own old.jobs) (sym own_same) calls.waiting;
+    turn = subst (λ k. KeepsTurn k old.coordinator.due) (sym known_same) calls.turn;
   }
 
   -- the wave is as whole as it was
   pub delivered_whole : IsWholeOut old → IsWholeOut delivered_then
-  delivered_whole whole = whole_still old delivered_then (ap (λ (l : LogMeaning C). l.head.splits) made.own) known_same (λ n on. sym (made.way n) ∙ on) whole
+  delivered_whole whole = whole_still old delivered_then (ap (λ (l : LogMeaning C). l.head.splits) made.own) known_same (λ n on. sym (made.way n) ∙ on) refl whole
 
   pub delivered_goes : HasGoneInside old delivered_then
   delivered_goes = record {
@@ -87,6 +97,39 @@ pub wave_ends : {C : Type 0} (s : SessionMeaning C) (reading : ℕ) → HasOpenC
 wave_ends s reading calls posted replies = ends_where_heard s.desk.log.part.own (all_heard s.desk calls.track (none_away s.desk posted replies))
 
 -- ---- a reply is heard
+
+any_gives : {X : Type 0} (G : Type 0) (test : X → Bool) (xs : List X) → ((x : X) → Contains xs x → test x ≡ true → G) → list_any test xs ≡ true → G
+any_gives G test [] on e = absurd cc
+any_gives G test (x ∷ xs) on e = by (test x) refl (any_gives G test xs (λ y there is. on y (contains_tail x xs y there) is)) e
+  where
+    by : (b : Bool) → test x ≡ b → (list_any test xs ≡ true → G) → (b || list_any test xs) ≡ true → G
+    by true is later e = on x (contains_head x xs) is
+    by false not later e = later e
+
+-- no older message is on its way than that whose reply has waited longest
+least_on_way : {C : Type 0} (d : DeskMeaning C) (a : Answered) (rest : List Answered) → KeepsTrack d → d.replies ≡ a ∷ rest → (n : ℕ) → is_on_way n d ≡ true → a.number ≤ n
+least_on_way d a rest track first n on = by (list_any (λ (m : Posted). m.number == n) d.posted) refl on
+  where
+    turn : WaitInTurn (a ∷ rest) d.posted
+    turn = subst (λ rs. WaitInTurn rs d.posted) first track.turn
+
+    posted : (m : Posted) → Contains d.posted m → (m.number == n) ≡ true → a.number ≤ n
+    posted m there is =
+        let low : a.number < m.number = All-head (λ (b : Answered). b.number < m.number) a rest (All-contains (λ (m : Posted). All (λ (b : Answered). b.number < m.number) (a ∷ rest)) d.posted m turn.behind there) in
+        let same : m.number ≡ n = eqb-true m.number n is in
+        omega (arith, low, same)
+
+    answered : (b : Answered) → Contains (a ∷ rest) b → (b.number == n) ≡ true → a.number ≤ n
+    answered b there is =
+        let same : b.number ≡ n = eqb-true b.number n is in
+        elim (contains_cons a rest b there) [
+          | inl here ↦ let it : a.number ≡ b.number = ap (λ (x : Answered). x.number) here in omega (arith, same, it)
+          | inr later ↦ let low : a.number < b.number = All-contains (λ (b : Answered). a.number < b.number) rest b turn.rising.0 later in omega (arith, same, low)
+        ]
+
+    by : (e : Bool) → list_any (λ (m : Posted). m.number == n) d.posted ≡ e → (e || list_any (λ (b : Answered). b.number == n) d.replies) ≡ true → a.number ≤ n
+    by true is e = any_gives (a.number ≤ n) (λ (m : Posted). m.number == n) d.posted posted is
+    by false not e = any_gives (a.number ≤ n) (λ (b : Answered). b.number == n) (a ∷ rest) answered (subst (λ rs. list_any (λ (b : Answered). b.number == n) rs ≡ true) first e)
 
 or_right : (a b : Bool) → b ≡ true → (a || b) ≡ true
 or_right true b e = refl
@@ -187,11 +230,38 @@ module _ {C : Type 0} (old : SessionMeaning C) (reading : ℕ) (calls : HasOpenC
     and_left true y e = refl
     and_left false y e = e
 
+    -- What the coordinator says of what is due then.
+    abbrev Comes : Type 0
+    Comes =
+        (k : Known) (p : Pair Event) (o : Opened) → Knows old.coordinator k → HearsAwaited old.coordinator a.number a.step a.reply k p → opened_by old.coordinator.txn old.coordinator.due ≡ Some o
+        → ComesOf (first_changed (awaits_at a.number) (back_with a.number a.reply) o.call.wave) c.due
+
+    heard_to : IsHeardTo k a.number a.reply h
+    heard_to = record { numbered = refl; asked = by.said; told = refl; kind = kind by.request by.said }
+
+    more : HasMore k (known_of d.log.part.own) [] (h ∷ [])
+    more = record {
+      sent = ap (λ (x : Known). x.sent) known_is ∙ sym (append-nil k.sent);
+      sent_now = ap (λ (x : Known). x.sent_now) known_is ∙ sym (append-nil k.sent_now);
+      heard = ap (λ (x : Known). x.heard) known_is;
+      heard_now = ap (λ (x : Known). x.heard_now) known_is;
+    }
+
+    plain : goal_in by.request ≡ None
+    unfolding by by-it
+    plain = let kind = for-call a there-first in no_goal by.request (plain_for kind.s.call by.request kind.kind).no_round
+
+    least : (n : ℕ) → awaits_number n old.coordinator.due ≡ true → a.number ≤ n
+    least n waits = least_on_way old.desk a d.replies calls.track heard.first n (sym (calls.way n) ∙ waits)
+
+    once : AreHeardOnce (known_of d.log.part.own)
+    once = heard_once d heard.track (subst IsApartNow (sym known_is) (apart_heard h k calls.apart))
+
     -- the call goes on
     pub heard_open : ((k : Known) (p : Pair Event) → Knows old.coordinator k → HearsAwaited old.coordinator a.number a.step a.reply k p → Knows c (learn p k))
         → ((k : Known) (other : ℕ) → Knows old.coordinator k → awaits_number a.number old.coordinator.due ≡ true → awaits_number other c.due ≡ (awaits_number other old.coordinator.due && not (a.number == other)))
-        → c.session ≡ old.coordinator.session → c.splits ≡ old.coordinator.splits → HasOpenCall heard_then reading
-    heard_open learns waits session splits = record {
+        → c.session ≡ old.coordinator.session → c.splits ≡ old.coordinator.splits → IsWholeOut old → Comes → HasOpenCall heard_then reading
+    heard_open learns waits session splits whole comes = record {
       track = heard.track;
       one = one_on old.desk d old.coordinator c (p ∷ []) grown_heard calls.one session splits (subst (Knows c) (sym learnt) (learns k p calls.one.knows hears-awaited));
       way = λ n. waits k n calls.one.knows waited ∙ (ap (λ b. b && not (a.number == n)) (calls.way n) ∙ sym (heard.way n));
@@ -202,11 +272,17 @@ module _ {C : Type 0} (old : SessionMeaning C) (reading : ℕ) (calls : HasOpenC
           let is = calls.kinds n q (and_left (is_on_way n old.desk) (not (a.number == n)) (sym (heard.way n) ∙ on)) (ap (λ (x : Known). request_sent n x.sent) (sym known_is) ∙ said) in
           record { s = is.s; opened = ap (λ (x : Known). x.statement) known_is ∙ is.opened; kind = is.kind };
       waiting = left_on;
+      turn =
+          heard_turn old.coordinator c k (known_of d.log.part.own) h calls.one.knows calls.turn waited heard_to more plain (whole.silent a.number on-way) least once (λ o opened. comes k p o calls.one.knows hears-awaited opened) (ap (λ (x : Known). x.sent_now) known_is);
     }
 
     -- the wave stays whole
-    pub heard_whole : IsWholeOut old → IsWholeOut heard_then
-    heard_whole whole = whole_heard old heard_then h (ap (λ (l : LogMeaning C). l.head.splits) heard.entered.stored) known_is (λ n on. and_left (is_on_way n old.desk) (not (a.number == n)) (sym (heard.way n) ∙ on)) whole
+    pub heard_whole : ((k : Known) (other : ℕ) → Knows old.coordinator k → awaits_number a.number old.coordinator.due ≡ true → awaits_number other c.due ≡ (awaits_number other old.coordinator.due && not (a.number == other))) → Comes → IsWholeOut old → IsWholeOut heard_then
+    heard_whole waits comes whole =
+        whole_heard old heard_then h (ap (λ (l : LogMeaning C). l.head.splits) heard.entered.stored) known_is (λ n on. and_left (is_on_way n old.desk) (not (a.number == n)) (sym (heard.way n) ∙ on))
+        (λ n on.
+        heard_silent old.coordinator c k (known_of d.log.part.own) h calls.one.knows calls.turn waited heard_to more plain (whole.silent a.number on-way) least once (λ o opened. comes k p o calls.one.knows hears-awaited opened) (ap (λ (x : Known). x.sent_now) known_is) n
+        (waits k n calls.one.knows waited ∙ (ap (λ b. b && not (a.number == n)) (calls.way n) ∙ (sym (heard.way n) ∙ on)))) whole
 
     pub heard_goes : c.session ≡ old.coordinator.session → HasGoneInside old heard_then
     heard_goes session = record {

@@ -8,7 +8,6 @@ use Rattle.pc_coord.specs.Coordination.{Coordination}
 use Rattle.pc_coord.specs.Knows.{IsTellable}
 use Rattle.pc_desk.specs.Hearing.{MayStayUnheard}
 use Rattle.pc_desk.specs.Keeping.{KeepsAs, KeepsSessionStep}
-use Rattle.pc_desk.specs.PastEighth.{FollowsNoEighthMove}
 use Rattle.pc_history.specs.declared.pair.Pair.{Pair}
 use Rattle.pc_proto.specs.declared.answer.Answer.{Answer}
 use Rattle.pc_proto.specs.declared.call.Call.{Call}
@@ -17,13 +16,14 @@ use Rattle.pc_proto.specs.declared.event.Event.{Event}
 use Rattle.pc_proto.specs.declared.event.Event.TheVariants as events
 use Rattle.pc_proto.specs.declared.request.Request.{Request}
 use Rattle.pc_proto.specs.declared.request.Request.TheVariants as requests
-use Rattle.pc_proto.specs.Requests.{IsPutOn, is_abort, is_commit, is_get, is_put, is_refresh, is_scan, round_of}
+use Rattle.pc_proto.specs.Requests.{IsPutOn, goal_in, is_abort, is_commit, is_get, is_put, is_refresh, is_scan, round_of}
 use Rattle.pc_session.proofs.Lost.{tells_eighth}
 use Rattle.pc_world.specs.Follows.CallMessages.{IsFor, IsForCall}
-use Rattle.pc_world.specs.Follows.Eighth.{IsBeforeEighth}
+use Rattle.pc_world.specs.Follows.Eighth.{TellsFirstBlock}
 use Rattle.pc_world.specs.Follows.PipelinedPuts.{IsPutWaitedFor}
 use Rattle.pc_world.specs.Follows.Resends.{AreAnsweredNow, MayGoAgain}
 use Rattle.pc_world.specs.Follows.Refreshes.{IsOfWholeRefresh}
+use Rattle.pc_world.specs.Follows.Rounds.{AreConflictsOver, IsInItsRound}
 use Rattle.pc_world.specs.Follows.WaveOrder.{EndsWaves, IsOldestUnheard, SentAllPieces}
 use Rattle.pc_world.specs.Known.{Known, call_in, known_of}
 use Rattle.pc_world.specs.Known.Statements.{Statement}
@@ -41,6 +41,11 @@ keeps_as id session splits pipelining own event h whose unpiped keeps =
 pub record IsPlainRequest (request : Request) : Type 0 where
   pub no_round : round_of request ≡ None
   pub unstaged : IsNoStage request
+
+-- such a request is no push
+pub no_goal : (request : Request) → round_of request ≡ None → goal_in request ≡ None
+no_goal (requests.Push holder by level now goal) none = absurd cc
+no_goal request none = refl
 
 plain_get : (request : Request) → IsTrue (is_get request) → IsPlainRequest request
 plain_get (requests.Get id epoch seq ts key) is = record { no_round = refl; unstaged = tt }
@@ -76,16 +81,18 @@ plain_for calls.Commit request (inr is) = plain_refresh request is
 plain_for calls.Rollback request is = plain_abort request is
 plain_for call request is = absurd is
 
--- what goes out before its eighth follows no eighth move
-moves-none : (k : Known) (request : Request) → IsBeforeEighth k request → FollowsNoEighthMove k request
-moves-none k (requests.Stage meta ts now writes locks) before = before
-moves-none k (requests.Commit meta ts locks) before = before
-moves-none k request before = tt
+-- what is no message of a round goes out in turn where no conflict is left
+in-turn : (k : Known) (request : Request) → round_of request ≡ None → AreConflictsOver k → IsInItsRound k request
+in-turn k (requests.Push holder by level now goal) plain over = absurd cc
+in-turn k (requests.Resolve id key fate) plain over = absurd cc
+in-turn k (requests.Query id epoch seq ts key by) plain over = absurd cc
+in-turn k (requests.Recover id epoch ts anchor finding) plain over = absurd cc
+in-turn k request plain over = λ again. over
 
 -- a message that the coordinator gave is sent
 pub keeps_sent : (cut : List (List ℕ)) (own : List (Pair Event)) (number range : ℕ) (request : Request) (splits : List (List ℕ)) (session : ℕ)
-    → IsSendable splits session (known_of own) request → AreAnsweredNow (known_of own) request → EndsWaves own → KeepsSessionStep cut false own (events.Send number range request) None
-keeps_sent cut own number range request splits session may answered ends = record {
+    → IsSendable splits session (known_of own) request → AreAnsweredNow (known_of own) request → AreConflictsOver (known_of own) → EndsWaves own → KeepsSessionStep cut false own (events.Send number range request) None
+keeps_sent cut own number range request splits session may answered over ends = record {
   wire = tt;
   early_tell = may.undecided;
   early_proof = λ _ _. tt;
@@ -97,7 +104,8 @@ keeps_sent cut own number range request splits session may answered ends = recor
   aborts = tt;
   writes = λ s opened. may.own;
   refreshes = may.refresh;
-  eighth = λ s opened. (may.below, moves-none (known_of own) request may.before);
+  rounds = λ s opened. in-turn (known_of own) request (plain_for may.kind.s.call request may.kind.kind).no_round over;
+  eighth = λ s opened. (may.below, may.before);
   waves = ends;
   pieces = tt;
   refresh_wave = tt;
@@ -167,6 +175,7 @@ keeps_heard cut own number step h kind pieces whole oldest = record {
   aborts = tt;
   writes = tt;
   refreshes = tt;
+  rounds = tt;
   eighth = tt;
   waves = tt;
   pieces = λ none. pieces;
@@ -175,9 +184,9 @@ keeps_heard cut own number step h kind pieces whole oldest = record {
 }
 
 -- an answer is told
-pub keeps_told : (cut : List (List ℕ)) (own : List (Pair Event)) (c : Coordination) (answer : Answer) → IsTellable c (known_of own) answer → All (λ m. IsTrue (is_heard (known_of own).heard_now m)) (known_of own).sent_now
+pub keeps_told : (cut : List (List ℕ)) (own : List (Pair Event)) (c : Coordination) (answer : Answer) → IsTellable c (known_of own) answer → TellsFirstBlock (known_of own) answer → All (λ m. IsTrue (is_heard (known_of own).heard_now m)) (known_of own).sent_now
     → All (λ m. IsTrue (is_heard (known_of own).heard m)) (known_of own).sent → KeepsSessionStep cut false own (events.Tell answer) None
-keeps_told cut own c answer may all ever =
+keeps_told cut own c answer may first all ever =
     let k = known_of own in
     record {
       wire = All-weaker (λ m. IsTrue (is_heard k.heard_now m)) (λ m. IsTrue (is_heard k.heard_now m) ⊎ MayStayUnheard false k m) (λ m h. inl h) k.sent_now all;
@@ -191,7 +200,8 @@ keeps_told cut own c answer may all ever =
       aborts = may.aborts;
       writes = tt;
       refreshes = may.restarts;
-      eighth = λ s opened. tells_eighth c.splits c.session k answer may.may ever s (may.eighth s opened);
+      rounds = tt;
+      eighth = λ s opened. (tells_eighth c.splits c.session k answer may.may ever s (may.eighth s opened), first);
       waves = tt;
       pieces = tt;
       refresh_wave = tt;

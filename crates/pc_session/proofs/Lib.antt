@@ -4,6 +4,7 @@ pub mod Calling
 pub mod Due
 pub mod Ending
 pub mod Hearing
+pub mod InTurn
 pub mod Inside
 pub mod Jobs
 pub mod JobsTold
@@ -15,4 +16,6 @@ pub mod Sending
 pub mod Standing
 pub mod Stepping
 pub mod Telling
+pub mod TurnsOn
+pub mod WaveTurns
 pub mod WholeWave

@@ -9,7 +9,9 @@ use Rattle.std.specs.Option.{option_map}
 use Rattle.pc_base.specs.declared.actor.ActorId.TheVariants as actors
 use Rattle.pc_call.specs.Sending.{IsConflictNow}
 use Rattle.pc_coord.specs.Beside.{IsLaterBeside}
-use Rattle.pc_coord.specs.Coordination.{Coordination, awaits_number, next_of, with_clock}
+use Rattle.pc_coord.specs.Coming.{ComesOfRound}
+use Rattle.pc_coord.specs.Coordination.{Coordination, awaits_number, next_of, opened_by, with_clock}
+use Rattle.pc_coord.specs.declared.due.Opened.{Opened}
 use Rattle.pc_coord.specs.declared.job.Job.{Job}
 use Rattle.pc_coord.specs.declared.next.Next.TheVariants as nexts
 use Rattle.pc_coord.specs.declared.pusher.Pusher.{Pusher}
@@ -29,9 +31,13 @@ use Rattle.pc_proto.specs.declared.reply.Reply.{Reply}
 use Rattle.pc_proto.specs.declared.request.Request.{Request}
 use Rattle.pc_session.proofs.Away.{any_there, front_none, none_answered, none_away, none_posted}
 use Rattle.pc_session.proofs.Due.{quiet_met}
+use Rattle.pc_session.proofs.InTurn.{AreHeardOnce, heard_once}
 use Rattle.pc_session.proofs.Inside.{one_on}
+use Rattle.pc_session.proofs.TurnsOn.{next_round, round_turn}
 use Rattle.pc_session.specs.InCall.{HasGoneInside, HasOpenCall, IsApartNow}
 use Rattle.pc_session.specs.Session.{HasLeft, SessionMeaning, session_knows}
+use Rattle.pc_wave.specs.declared.step.Step.TheVariants as steps
+use Rattle.pc_wave.specs.Messages.{step_of}
 use Rattle.pc_world.specs.Follows.FinishingJobs.{jobs_of}
 use Rattle.pc_world.specs.Known.{Known, known_of, reading_in}
 use Rattle.pc_world.specs.Known.Statements.{Statement}
@@ -103,6 +109,9 @@ module _ {C : Type 0} (old : SessionMeaning C) (reading number : ℕ) (conflict 
   quiet : (n : ℕ) → is_on_way n old.desk ≡ false
   quiet n = sym (calls.way n) ∙ quiet_met old.coordinator number conflict reader due n
 
+  once : AreHeardOnce known
+  once = heard_once old.desk calls.track calls.apart
+
   -- the round may be made
   pub may_round : (pusher : Pusher) → IsPusherOf known (Some pusher) → MayMakeRound old.desk pusher reading conflict reader
   may_round pusher pushes = record {
@@ -113,6 +122,7 @@ module _ {C : Type 0} (old : SessionMeaning C) (reading number : ℕ) (conflict 
     met = met;
     pushes = pushes;
     read = ap reading_in calls.opened;
+    next = next_round old.coordinator known number conflict reader calls.one.knows calls.turn due met once;
   }
 
   -- somebody pushes in it
@@ -153,8 +163,9 @@ module _ {C : Type 0} (old : SessionMeaning C) (reading number : ℕ) (conflict 
 
     -- the call goes on
     pub round_open : ((c' : Coordination) (start k : Known) (conflict : Reply) (reader : Option ℕ) → Knows c' start → c ≡ with_clock k.high c' → next_of c' ≡ nexts.Conflict number conflict reader → IsLaterBeside c' start k → EndsRound conflict round start k → Knows e k)
-        → ((conflict : Reply) (reader : Option ℕ) (other : ℕ) → next_of c ≡ nexts.Conflict number conflict reader → awaits_number other e.due ≡ false) → e.session ≡ c.session → e.splits ≡ c.splits → HasOpenCall round_then reading
-    round_open settles waits session splits =
+        → ((conflict : Reply) (reader : Option ℕ) (other : ℕ) → next_of c ≡ nexts.Conflict number conflict reader → awaits_number other e.due ≡ false) → e.session ≡ c.session → e.splits ≡ c.splits
+        → ((o : Opened) (conflict : Reply) → opened_by c.txn c.due ≡ Some o → step_of o.call.wave ≡ steps.Round number conflict → ComesOfRound round number conflict o.call.wave e.due) → HasOpenCall round_then reading
+    round_open settles waits session splits comes =
         let beside = made.made.beside old.coordinator number reader same-session calls.one.knows due in
         record {
           track = track-later;
@@ -166,6 +177,10 @@ module _ {C : Type 0} (old : SessionMeaning C) (reading number : ℕ) (conflict 
           apart = apart_aside old.desk d calls.track track-later made.session ts made.made.aside calls.apart;
           kinds = λ n q on. absurd (let e : true ≡ false = sym on ∙ away n in cc e);
           waiting = left_on;
+          turn =
+              round_turn old.coordinator known number conflict reader calls.one.knows calls.turn due met once e later round made.made.begun made.made.ends beside.later
+              (heard_once d track-later (apart_aside old.desk d calls.track track-later made.session ts made.made.aside calls.apart))
+              (λ o met opened step. comes o met (ap (λ (x : Coordination). opened_by x.txn x.due) raised ∙ opened) step);
         }
 
     pub round_goes : e.session ≡ c.session → HasGoneInside old round_then

@@ -4,7 +4,9 @@ use Rattle.std.proofs.lemmas.Bool.{eqb-true}
 use Rattle.std.proofs.lemmas.List.Elements.{All-cons, All-nil}
 use Rattle.pc_base.specs.declared.actor.ActorId.TheVariants as actors
 use Rattle.pc_call.specs.Sending.{IsSendable}
-use Rattle.pc_coord.specs.Coordination.{Coordination, awaits_number, next_of}
+use Rattle.pc_coord.specs.Coordination.{Coordination, awaits_number, next_of, opened_by}
+use Rattle.pc_coord.specs.declared.due.Due.TheVariants as dues
+use Rattle.pc_coord.specs.declared.due.Opened.{Opened}
 use Rattle.pc_coord.specs.declared.next.Next.TheVariants as nexts
 use Rattle.pc_coord.specs.Events.{SendsDue}
 use Rattle.pc_coord.specs.Knows.{AwaitsNone, Knows}
@@ -24,11 +26,13 @@ use Rattle.pc_session.proofs.Away.{answered_now, apart_sent, none_heard_next, sa
 use Rattle.pc_session.proofs.Due.{puts_open}
 use Rattle.pc_session.proofs.Inside.{one_on}
 use Rattle.pc_session.proofs.Jobs.{HasJobs, jobs_sent}
-use Rattle.pc_session.proofs.Keeping.{keeps_as, keeps_sent, plain_for}
+use Rattle.pc_session.proofs.Keeping.{keeps_as, keeps_sent, no_goal, plain_for}
 use Rattle.pc_session.proofs.Knowing.{jobs_then, known_sent, of_send, with_sent}
+use Rattle.pc_session.proofs.TurnsOn.{over_now, sent_turn}
 use Rattle.pc_session.specs.InCall.{HasGoneInside, HasOpenCall, IsApartNow}
 use Rattle.pc_session.specs.Session.{HasLeft, SessionMeaning, session_knows}
 use Rattle.pc_turns.specs.Order.{IsInBetween}
+use Rattle.pc_wave.specs.Messages.{first_changed, is_to_send, sent_under}
 use Rattle.pc_world.specs.Follows.CallMessages.{IsForCall}
 use Rattle.pc_world.specs.Follows.FinishingJobs.{jobs_of, without_first}
 use Rattle.pc_world.specs.Follows.WaveOrder.{EndsWaves}
@@ -57,7 +61,7 @@ module _ {C : Type 0} (old : SessionMeaning C) (reading : ℕ) (request : Reques
         keeps = λ number range.
             keeps_as old.desk.log.part.id old.coordinator.session old.desk.log.head.splits old.desk.log.pipelining old.desk.log.part.own (events.Send number range request) None calls.one.whose calls.one.unpiped
             (keeps_sent old.desk.log.head.splits old.desk.log.part.own number range request old.coordinator.splits old.coordinator.session may
-            (answered_now old.desk calls.track old.coordinator request calls.apart calls.way none) ends);
+            (answered_now old.desk calls.track old.coordinator request calls.apart calls.way none) (over_now old.coordinator k request calls.one.knows due calls.turn) ends);
       }
 
   module _ (d : DeskMeaning C) (c : Coordination) (number : ℕ) (sent : HasSentNext old.desk d number request) where
@@ -123,8 +127,9 @@ module _ {C : Type 0} (old : SessionMeaning C) (reading : ℕ) (request : Reques
     -- the call goes on
     pub sent_open : ((k : Known) (p : Pair Event) (range : ℕ) (request : Request) → Knows old.coordinator k → SendsDue old.coordinator number range request k p → Knows c (learn p k))
         → ((other : ℕ) → awaits_number other c.due ≡ (number == other || awaits_number other old.coordinator.due)) → c.session ≡ old.coordinator.session → c.splits ≡ old.coordinator.splits
+        → ((o : Opened) → opened_by old.coordinator.txn old.coordinator.due ≡ Some o → c.due ≡ dues.Call (record o.call { wave = first_changed is_to_send (sent_under number) o.call.wave }))
         → HasOpenCall sent_then reading
-    sent_open learns waits session splits = record {
+    sent_open learns waits session splits comes = record {
       track = sent.track;
       one = one_on old.desk d old.coordinator c (p ∷ []) grown_sent calls.one session splits (subst (Knows c) (sym learnt) (learns k p sent.range request calls.one.knows sends-due));
       way = λ n. waits n ∙ (ap (λ b. number == n || b) (calls.way n) ∙ sym (sent.way n));
@@ -133,6 +138,9 @@ module _ {C : Type 0} (old : SessionMeaning C) (reading : ℕ) (request : Reques
       apart = (let fresh = none_heard_next old.desk calls.track number sent.next in subst IsApartNow (sym known_is) (apart_sent number sent.range request k fresh.0 fresh.1 calls.apart));
       kinds = kinds_on;
       waiting = left_on;
+      turn =
+          sent_turn old.coordinator k request calls.one.knows due calls.turn (known_of d.log.part.own) c number sent.range (ap (λ (x : Known). x.sent_now) known_is) (ap (λ (x : Known). x.heard_now) known_is)
+          (no_goal request (plain_for may.kind.s.call request may.kind.kind).no_round) (sent.next ∙ next-is) comes;
     }
 
     -- and no wave is half heard

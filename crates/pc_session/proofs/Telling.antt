@@ -24,7 +24,7 @@ use Rattle.pc_proto.specs.declared.event.Event.{Event}
 use Rattle.pc_proto.specs.declared.event.Event.TheVariants as events
 use Rattle.pc_range.specs.Protocol.{unstaged_protocol}
 use Rattle.pc_session.proofs.Away.{all_heard, all_heard_now, none_answered, none_posted}
-use Rattle.pc_session.proofs.Due.{holds, quiet_tell}
+use Rattle.pc_session.proofs.Due.{holds, quiet_tell, tell_due}
 use Rattle.pc_session.proofs.Inside.{one_on}
 use Rattle.pc_session.proofs.Jobs.{HasJobs}
 use Rattle.pc_session.proofs.JobsTold.{BeginsNext, jobs_after_told, jobs_told}
@@ -32,6 +32,7 @@ use Rattle.pc_session.proofs.Keeping.{keeps_as, keeps_told}
 use Rattle.pc_session.proofs.Knowing.{jobs_then, known_told, of_tell, with_told}
 use Rattle.pc_session.proofs.Lost.{row_by}
 use Rattle.pc_session.specs.InCall.{HasOpenCall, HasTold}
+use Rattle.pc_session.specs.InTurn.{KeepsTurn}
 use Rattle.pc_session.specs.Session.{HasLeft, IsAtRest, SessionMeaning, session_knows}
 use Rattle.pc_world.specs.Follows.FinishingJobs.{left_by, with_job}
 use Rattle.pc_world.specs.Known.{Known, known_of, learn}
@@ -68,7 +69,7 @@ module _ {C : Type 0} (old : SessionMeaning C) (reading : ℕ) (answer : Answer)
         free = refl;
         no_ask = refl;
         keeps = keeps_as l.part.id old.coordinator.session l.head.splits l.pipelining l.part.own event None calls.one.whose calls.one.unpiped
-            (keeps_told l.head.splits l.part.own old.coordinator answer may (all_heard_now old.desk calls.track calls.apart away) (all_heard old.desk calls.track away));
+            (keeps_told l.head.splits l.part.own old.coordinator answer may (subst (KeepsTurn k) (tell_due old.coordinator answer due) calls.turn) (all_heard_now old.desk calls.track calls.apart away) (all_heard old.desk calls.track away));
       }
 
   module _ (d : DeskMeaning C) (c e : Coordination) (jobs : List Job) (done : HasDone old.desk d event) (told : c ≡ with_nothing_due old.coordinator) (handed : e ≡ without_job c) (kept : jobs ≡ old.jobs ++ option_to_list c.job)

@@ -10,7 +10,7 @@ use Rattle.pc_call.specs.declared.purpose.Purpose.{Purpose}
 use Rattle.pc_call.specs.declared.purpose.Purpose.TheVariants as purposes
 use Rattle.pc_call.specs.Opening.{reader_of}
 use Rattle.pc_call.specs.Serving.{AreReadsOf, Serves, write_call}
-use Rattle.pc_coord.specs.Coordination.{awaits_number, next_at, next_by, next_in, next_of}
+use Rattle.pc_coord.specs.Coordination.{Coordination, awaits_number, next_at, next_by, next_in, next_of}
 use Rattle.pc_coord.specs.declared.due.Due.{Due}
 use Rattle.pc_coord.specs.declared.due.Due.TheVariants as dues
 use Rattle.pc_coord.specs.declared.next.Next.TheVariants as nexts
@@ -25,6 +25,7 @@ use Rattle.pc_proto.specs.declared.request.Request.TheVariants as requests
 use Rattle.pc_proto.specs.Replies.{holder_in}
 use Rattle.pc_session.proofs.Knowing.{with_heard}
 use Rattle.pc_session.specs.InCall.{HasOpenCall, IsWholeOut}
+use Rattle.pc_session.specs.InTurn.{SendsNoMore}
 use Rattle.pc_session.specs.Session.{SessionMeaning, session_knows}
 use Rattle.pc_txn.specs.declared.txn.OpenTxn.{OpenTxn}
 use Rattle.pc_txn.specs.Opened.{own_scan}
@@ -126,6 +127,7 @@ module _ {C : Type 0} (s : SessionMeaning C) (reading : ℕ) (calls_are : HasOpe
             subst (λ splits. All (λ p. Any (λ m. IsScanOf p.1 m.request) known.sent_now) (pieces splits span)) calls_are.one.splits
             (pieces-out known at.x (pieces c.splits span) call.wave (scan-serves c.splits known w.s w.t at.x call.purpose call.wave span same w.serves) w.wave.stand out);
         refreshes = λ number request on said. asked number request (sym (ap (awaits_number number) is) ∙ (calls_are.way number ∙ on)) said;
+        silent = λ number on. subst SendsNoMore (sym is) out;
       }
     where
       asked : (number : ℕ) (request : Request) → wave_awaits number call.wave ≡ true → request_sent number known.sent ≡ Some request → IsOfWholeRefresh known request
@@ -142,10 +144,11 @@ module _ {C : Type 0} (s : SessionMeaning C) (reading : ℕ) (calls_are : HasOpe
   whole_wave due = whole-by s.coordinator.due refl calls_are.one.knows.stands due
 
 -- it is so where nothing was sent or heard since
-pub whole_still : {C : Type 0} (s t : SessionMeaning C) → t.desk.log.head.splits ≡ s.desk.log.head.splits → session_knows t ≡ session_knows s → ((n : ℕ) → is_on_way n t.desk ≡ true → is_on_way n s.desk ≡ true) → IsWholeOut s → IsWholeOut t
-whole_still s t splits known way w = record {
+pub whole_still : {C : Type 0} (s t : SessionMeaning C) → t.desk.log.head.splits ≡ s.desk.log.head.splits → session_knows t ≡ session_knows s → ((n : ℕ) → is_on_way n t.desk ≡ true → is_on_way n s.desk ≡ true) → t.coordinator ≡ s.coordinator → IsWholeOut s → IsWholeOut t
+whole_still s t splits known way same w = record {
   pieces = subst (λ cut. SentAllPieces cut (session_knows t)) (sym splits) (subst (SentAllPieces s.desk.log.head.splits) (sym known) w.pieces);
   refreshes = λ n q on said. subst (λ k. IsOfWholeRefresh k q) (sym known) (w.refreshes n q (way n on) (ap (λ (k : Known). request_sent n k.sent) (sym known) ∙ said));
+  silent = λ n on. subst (λ (c : Coordination). SendsNoMore c.due) (sym same) (w.silent n (way n on));
 }
 
 record HasSameReads (is_open : Bool) (txns : List Txn) (t : Txn) : Type 0 where
@@ -165,9 +168,11 @@ refresh-still h k (requests.Refresh id from to span) all = λ t opened.
 refresh-still h k request all = tt
 
 -- and where a reply was heard
-pub whole_heard : {C : Type 0} (s t : SessionMeaning C) (h : Heard) → t.desk.log.head.splits ≡ s.desk.log.head.splits → session_knows t ≡ with_heard h (session_knows s) → ((n : ℕ) → is_on_way n t.desk ≡ true → is_on_way n s.desk ≡ true) → IsWholeOut s → IsWholeOut t
-whole_heard s t h splits known way w = record {
+pub whole_heard : {C : Type 0} (s t : SessionMeaning C) (h : Heard) → t.desk.log.head.splits ≡ s.desk.log.head.splits → session_knows t ≡ with_heard h (session_knows s) → ((n : ℕ) → is_on_way n t.desk ≡ true → is_on_way n s.desk ≡ true) → ((n : ℕ) → is_on_way n t.desk ≡ true → SendsNoMore t.coordinator.due)
+    → IsWholeOut s → IsWholeOut t
+whole_heard s t h splits known way silent w = record {
   pieces = subst (λ cut. SentAllPieces cut (session_knows t)) (sym splits) (subst (SentAllPieces s.desk.log.head.splits) (sym known) w.pieces);
   refreshes = λ n q on said.
       subst (λ k. IsOfWholeRefresh k q) (sym known) (refresh-still h (session_knows s) q (w.refreshes n q (way n on) (ap (λ (k : Known). request_sent n k.sent) (sym known) ∙ said)));
+  silent = silent;
 }

@@ -10,6 +10,7 @@ use Rattle.pc_proto.specs.declared.call.Call.{Call}
 use Rattle.pc_proto.specs.declared.event.Event.{Event}
 use Rattle.pc_proto.specs.declared.event.Event.TheVariants as events
 use Rattle.pc_proto.specs.declared.request.Request.{Request}
+use Rattle.pc_session.specs.InTurn.{KeepsTurn, SendsNoMore}
 use Rattle.pc_session.specs.Session.{AreOfOneSession, HasLeft, IsAtRest, SessionMeaning, session_knows}
 use Rattle.pc_turns.specs.Order.{IsInBetween, events_of}
 use Rattle.pc_world.specs.Follows.CallMessages.{IsForCall}
@@ -28,8 +29,8 @@ pub record IsApartNow (k : Known) : Type 0 where
   pub apart : All (λ m. is_heard before m ≡ false) k.sent_now
   pub said : All (λ m. request_sent m.number k.sent ≡ Some m.request) k.sent_now
 
--- The session is in a call that was asked at this reading: its coordinator waits for just the messages that are on their way, and these are
--- for the call.
+-- The session is in a call that was asked at this reading: its coordinator waits for just the messages that are on their way, these are for the
+-- call, and its conflicts have their rounds in turn.
 pub record HasOpenCall {C : Type 0} (s : SessionMeaning C) (reading : ℕ) : Type 0 where
   pub track : KeepsTrack s.desk
   pub one : AreOfOneSession s.desk s.coordinator
@@ -39,11 +40,13 @@ pub record HasOpenCall {C : Type 0} (s : SessionMeaning C) (reading : ℕ) : Typ
   pub apart : IsApartNow (session_knows s)
   pub kinds : (number : ℕ) (request : Request) → is_on_way number s.desk ≡ true → request_sent number (session_knows s).sent ≡ Some request → IsForCall (session_knows s) request
   pub waiting : HasLeft s.desk.log.part.own s.jobs
+  pub turn : KeepsTurn (session_knows s) s.coordinator.due
 
--- What is on its way is a whole wave: in a scan all pieces went out, and beside a refresh those of all that was read.
+-- What is on its way is a whole wave: in a scan all pieces went out, and beside a refresh those of all that was read; and none is to be sent.
 pub record IsWholeOut {C : Type 0} (s : SessionMeaning C) : Type 0 where
   pub pieces : SentAllPieces s.desk.log.head.splits (session_knows s)
   pub refreshes : (number : ℕ) (request : Request) → is_on_way number s.desk ≡ true → request_sent number (session_knows s).sent ≡ Some request → IsOfWholeRefresh (session_knows s) request
+  pub silent : (number : ℕ) → is_on_way number s.desk ≡ true → SendsNoMore s.coordinator.due
 
 -- In its call the session sent and heard, and did nothing else.
 pub record HasGoneInside {C : Type 0} (old new : SessionMeaning C) : Type 0 where

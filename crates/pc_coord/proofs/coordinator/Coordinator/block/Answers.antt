@@ -1,7 +1,12 @@
-use Rattle.std.proofs.Common.{sym, ◌∙◌, subst, IfSome}
+use Rattle.std.proofs.Common.{sym, ◌∙◌, subst, IfSome, ◌≡◌, Some, None, ap}
 use Rattle.pc_call.specs.Telling.{MayTellOpen}
 use Rattle.pc_coord.proofs.Knowing.{served_begins}
 use Rattle.pc_coord.proofs.Tying.{refused_holder, tell_ok}
+use Rattle.std.proofs.lemmas.Option.{same_Some}
+use Rattle.std.specs.Option.{option_map}
+use Rattle.pc_coord.specs.Coordination.{Coordination}
+use Rattle.pc_coord.specs.declared.due.Due.TheVariants as dues
+use Rattle.pc_proto.specs.declared.answer.Answer.TheVariants as answers
 use Rattle.pc_coord.proofs.coordinator.Coordinator.block.Goals as goal
 
 pub returns-in-Some-clause-knows : goal.returns-in-Some-clause-knows
@@ -13,3 +18,13 @@ returns-in-Some-clause-knows c = λ start k clock number r counted w due refused
 
 pub returns-in-None-clause-knows : goal.returns-in-None-clause-knows
 returns-in-None-clause-knows c = λ start k clock number r counted w due refused. absurd (refused_holder start k c.args.txn.id c.args.conflict.now c.round_refused-answer.result refused c.in-None.is c.round_refused-answer.ensures.blocked)
+
+pub returns-in-Some-clause-comes : goal.returns-in-Some-clause-comes
+returns-in-Some-clause-comes c = λ holder is.
+    let answer = same_Some c.in-Some.answer (answers.Blocked holder) (sym c.in-Some.is ∙ (c.round_refused-answer.ensures.blocked ∙ ap (option_map answers.Blocked) is)) in
+    ap (λ (n : Coordination). n.due) c.tell.ensures ∙ ap dues.Tell answer
+
+pub returns-in-None-clause-comes : goal.returns-in-None-clause-comes
+returns-in-None-clause-comes c = λ holder is.
+    let none : None ≡ Some (answers.Blocked holder) = sym c.in-None.is ∙ (c.round_refused-answer.ensures.blocked ∙ ap (option_map answers.Blocked) is) in
+    absurd cc

@@ -1,10 +1,14 @@
-use Rattle.std.proofs.Common.{sym, ◌∙◌, subst}
+use Rattle.std.proofs.Common.{sym, ◌∙◌, subst, ap}
 use Rattle.pc_call.specs.Learned.{known_heard}
 use Rattle.pc_coord.proofs.Knowing.{served_begins}
 use Rattle.pc_coord.proofs.Onward.{commit_kind}
 use Rattle.pc_coord.proofs.Tying.{aborted_reply, committed_reply, decided, finish_ok, refused_reply}
 use Rattle.pc_coord.specs.Going.{HearsNow}
 use Rattle.pc_wave.specs.Standing.{IsHeardTo}
+use Rattle.pc_call.specs.declared.over.Over.{Over}
+use Rattle.pc_coord.proofs.Coming.{finished_comes}
+use Rattle.pc_coord.specs.Coming.{IsBlockOf}
+use Rattle.pc_proto.specs.declared.answer.Answer.{Answer}
 use Rattle.pc_coord.proofs.coordinator.Coordinator.commit_heard.Goals as goal
 
 pub returns-in-Committed-clause-knows : goal.returns-in-Committed-clause-knows
@@ -30,3 +34,14 @@ pub returns-in-Nothing-clause-knows : goal.returns-in-Nothing-clause-knows
 returns-in-Nothing-clause-knows c = λ k heard number refusals is commits.
     let kind = commit_kind c.args.self.now c.args.call c.args.txn number c.args.reply.now k heard is refusals commits in
     absurd (decided kind.0 kind.1 c.args.reply.now kind.2 (sym c.in_ok-decision.ensures ∙ c.in-Nothing.is))
+
+pub returns-in-Committed-clause-comes : goal.returns-in-Committed-clause-comes
+returns-in-Committed-clause-comes c = λ messages none.
+    finished_comes c.finish.result messages c.finish.new.self c.args.self.now c.committed.result c.finish.ensures.ok (subst (IsBlockOf messages) (sym (ap (λ (o : Over). o.answer) c.committed.ensures.made)) tt)
+
+pub returns-in-Aborted-clause-comes : goal.returns-in-Aborted-clause-comes
+returns-in-Aborted-clause-comes c = λ messages none.
+    finished_comes c.finish-in-Aborted.result messages c.finish-in-Aborted.new.self c.args.self.now c.aborted.result c.finish-in-Aborted.ensures.ok (subst (IsBlockOf messages) (sym (ap (λ (o : Over). o.answer) c.aborted.ensures.made)) tt)
+
+pub returns-in-Refused-clause-comes : goal.returns-in-Refused-clause-comes
+returns-in-Refused-clause-comes c = λ messages none. c.refused.ensures.comes messages none

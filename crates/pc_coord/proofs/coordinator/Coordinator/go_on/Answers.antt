@@ -1,4 +1,4 @@
-use Rattle.std.proofs.Common.{◌≡◌, false, sym, ap, ◌∙◌, subst}
+use Rattle.std.proofs.Common.{◌≡◌, false, sym, ap, ◌∙◌, subst, Some, inl, refl}
 use Rattle.pc_call.specs.Giving.{MayBeGiven}
 use Rattle.pc_coord.proofs.Dues.{answered_idle, blocked_idle}
 use Rattle.pc_coord.proofs.Knowing.{served_begins}
@@ -8,6 +8,8 @@ use Rattle.pc_coord.specs.Coordination.{awaits_number}
 use Rattle.pc_coord.specs.Knows.{is_under_way}
 use Rattle.pc_wave.specs.Messages.{wave_awaits}
 use Rattle.pc_proto.specs.declared.answer.Answer.TheVariants as answers
+use Rattle.pc_coord.proofs.Coming.{called_comes, told_comes}
+use Rattle.pc_coord.specs.Coming.{ComesOf}
 use Rattle.pc_coord.proofs.coordinator.Coordinator.go_on.Goals as goal
 
 pub returns-in-Answered-clause-knows : goal.returns-in-Answered-clause-knows
@@ -52,3 +54,18 @@ returns-in-Round-clause-knows c = λ k r w many.
 
 pub returns-in-Round-clause-waits : goal.returns-in-Round-clause-waits
 returns-in-Round-clause-waits c = λ other. ap (λ c. awaits_number other c.due) c.call-in-Round.ensures
+
+pub returns-in-Answered-clause-comes : goal.returns-in-Answered-clause-comes
+returns-in-Answered-clause-comes c = c.end.ensures.comes (sym c.in_ok-step.ensures.due ∙ c.in-Answered.is)
+
+pub returns-in-Blocked-clause-comes : goal.returns-in-Blocked-clause-comes
+returns-in-Blocked-clause-comes c = told_comes c.args.call.wave c.tell.new.self c.args.self.now (answers.Blocked c.in-Blocked.holder) (Some c.args.txn) c.args.self.now.job c.tell.ensures (sym c.in_ok-step.ensures.due ∙ c.in-Blocked.is)
+
+pub returns-in-Send-clause-comes : goal.returns-in-Send-clause-comes
+returns-in-Send-clause-comes c = called_comes c.args.call.wave c.call.new.self c.args.self.now c.args.call c.args.txn c.call.ensures (inl refl)
+
+pub returns-in-Deliver-clause-comes : goal.returns-in-Deliver-clause-comes
+returns-in-Deliver-clause-comes c = called_comes c.args.call.wave c.call-in-Deliver.new.self c.args.self.now c.args.call c.args.txn c.call-in-Deliver.ensures (inl refl)
+
+pub returns-in-Round-clause-comes : goal.returns-in-Round-clause-comes
+returns-in-Round-clause-comes c = called_comes c.args.call.wave c.call-in-Round.new.self c.args.self.now c.args.call c.args.txn c.call-in-Round.ensures (inl refl)

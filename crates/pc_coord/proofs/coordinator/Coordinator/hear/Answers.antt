@@ -3,6 +3,8 @@ use Rattle.pc_coord.proofs.Onward.{abort_waits, commit_waits}
 use Rattle.pc_coord.proofs.Steps.{on_ok}
 use Rattle.pc_coord.specs.Coordination.{awaits_number}
 use Rattle.pc_wave.specs.Messages.{wave_awaits}
+use Rattle.pc_coord.proofs.Coming.{committed_none}
+use Rattle.pc_wave.specs.Messages.{awaits_at, back_with, first_changed}
 use Rattle.pc_coord.proofs.coordinator.Coordinator.hear.Goals as goal
 
 pub returns-in-Write-clause-knows : goal.returns-in-Write-clause-knows
@@ -26,3 +28,18 @@ pub returns-in-Abort-clause-waits : goal.returns-in-Abort-clause-waits
 returns-in-Abort-clause-waits c = λ k other w waits.
     on_ok c.abort_heard.result (awaits_number other c.abort_heard.new.self.due ≡ false) (awaits_number other c.abort_heard.new.self.due ≡ (wave_awaits other c.args.call.wave && not (c.args.number == other)))
     (λ e. e ∙ abort_waits c.args.number other c.args.self.now.splits k c.args.txn c.args.call.purpose c.args.call.wave w c.in-Abort.why c.in-Abort.is waits) (c.abort_heard.ensures.waits other)
+
+pub returns-in-Read-clause-comes : goal.returns-in-Read-clause-comes
+returns-in-Read-clause-comes c = λ k heard is. c.come_back.ensures.comes
+
+pub returns-in-Write-clause-comes : goal.returns-in-Write-clause-comes
+returns-in-Write-clause-comes c = λ k heard is. c.write_heard.ensures.comes k heard c.in-Write.again is c.in-Write.is
+
+pub returns-in-Commit-clause-comes : goal.returns-in-Commit-clause-comes
+returns-in-Commit-clause-comes c = λ k heard is.
+    c.commit_heard.ensures.comes (first_changed (awaits_at c.args.number) (back_with c.args.number c.args.reply.now) c.args.call.wave)
+    (committed_none c.args.self.now c.args.call c.args.txn c.args.number c.args.reply.now k heard is c.in-Commit.refusals c.in-Commit.is)
+
+pub returns-in-Abort-clause-comes : goal.returns-in-Abort-clause-comes
+returns-in-Abort-clause-comes c = λ k heard is.
+    c.abort_heard.ensures.comes (first_changed (awaits_at c.args.number) (back_with c.args.number c.args.reply.now) c.args.call.wave) c.in-Abort.why c.in-Abort.is

@@ -1,4 +1,4 @@
-use Rattle.std.proofs.Common.{◌≡◌, max, not, ◌&&◌, ◌==◌, None, sym, ap, ◌∙◌, subst, OnOk}
+use Rattle.std.proofs.Common.{◌≡◌, max, not, ◌&&◌, ◌==◌, None, sym, ap, ◌∙◌, subst, OnOk, Some}
 use Rattle.pc_call.specs.Serving.{InCall}
 use Rattle.pc_coord.proofs.Steps.{h, heard_is, hears, in_call}
 use Rattle.pc_coord.proofs.Tying.{opened_is, waits_open}
@@ -6,6 +6,10 @@ use Rattle.pc_coord.specs.Coordination.{Coordination, awaits_number, opened_by, 
 use Rattle.pc_coord.specs.Going.{HearsNow}
 use Rattle.pc_coord.specs.Knows.{Knows}
 use Rattle.pc_coord.specs.declared.due.Due.TheVariants as dues
+use Rattle.pc_coord.specs.Coming.{ComesOf}
+use Rattle.std.proofs.lemmas.Option.{same_Some}
+use Rattle.pc_coord.specs.declared.due.Opened.{Opened}
+use Rattle.pc_wave.specs.Messages.{awaits_at, back_with, first_changed}
 use Rattle.pc_coord.proofs.coordinator.Coordinator.heard.Goals as goal
 
 pub returns-in-Some-clause-knows : goal.returns-in-Some-clause-knows
@@ -48,3 +52,21 @@ returns-in-None-clause-waits c = λ k other knows waits.
     let taken = c.take_open-taken.ensures.taken ∙ ap (λ (c : Coordination). opened_by c.txn c.due) c.raise.ensures in
     let mid : c.take_open-taken.new.self ≡ without_call (with_clock n old) = c.take_open-taken.ensures.left ∙ ap without_call c.raise.ensures in
     absurd (waits_open old k c.args.number knows waits (sym taken ∙ c.in-None.is))
+
+pub returns-in-Some-clause-comes : goal.returns-in-Some-clause-comes
+returns-in-Some-clause-comes c = λ k p o knows is opened.
+    let old = c.args.self.now in
+    let n = max old.clock c.last_stamp.result in
+    let taken = c.take_open-taken.ensures.taken ∙ ap (λ (c : Coordination). opened_by c.txn c.due) c.raise.ensures in
+    let mid : c.take_open-taken.new.self ≡ without_call (with_clock n old) = c.take_open-taken.ensures.left ∙ ap without_call c.raise.ensures in
+    let same : c.in-Some.taken ≡ o = same_Some c.in-Some.taken o (sym c.in-Some.is ∙ (taken ∙ opened)) in
+    let q = c.in-Some.taken in
+    let at = opened_is old q (sym taken ∙ c.in-Some.is) in
+    let hh = h old k q.txn q.call knows at.1 at.0 p c.args.number c.args.step c.args.reply.now is in
+    let now = hears old k q.txn q.call knows at.1 at.0 p c.args.number c.args.step c.args.reply.now is n None dues.Nothing (ap (max old.clock) c.last_stamp.ensures) in
+    subst (λ (o : Opened). OnOk c.hear.result (ComesOf (first_changed (awaits_at c.args.number) (back_with c.args.number c.args.reply.now) o.call.wave) c.hear.new.self.due)) same
+    (c.hear.ensures.comes k hh (subst (λ n. HearsNow n q.call q.txn c.args.number c.args.reply.now k hh) (sym mid) now))
+
+pub returns-in-None-clause-comes : goal.returns-in-None-clause-comes
+returns-in-None-clause-comes c = λ k p o knows is opened.
+    let e : None ≡ Some o = sym c.in-None.is ∙ ((c.take_open-taken.ensures.taken ∙ ap (λ (c : Coordination). opened_by c.txn c.due) c.raise.ensures) ∙ opened) in absurd cc

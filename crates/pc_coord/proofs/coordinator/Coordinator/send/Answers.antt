@@ -4,6 +4,8 @@ use Rattle.pc_coord.proofs.Steps.{awaits_way}
 use Rattle.pc_coord.proofs.Tying.{call_ok, ready_sent, self_or}
 use Rattle.pc_coord.specs.Coordination.{awaits_number}
 use Rattle.pc_wave.specs.Messages.{wave_awaits}
+use Rattle.pc_coord.specs.Coordination.{Coordination}
+use Rattle.pc_coord.specs.declared.due.Due.TheVariants as dues
 use Rattle.pc_coord.proofs.coordinator.Coordinator.send.Goals as goal
 
 pub returns-clause-knows : goal.returns-clause-knows
@@ -15,3 +17,6 @@ returns-clause-knows c = λ k range request r w step next.
 
 pub returns-clause-waits : goal.returns-clause-waits
 returns-clause-waits c = λ request other step. ap (λ c. awaits_number other c.due) c.call.ensures ∙ c.in_ok-sent.ensures.awaited request other step
+
+pub returns-clause-comes : goal.returns-clause-comes
+returns-clause-comes c = ap (λ (n : Coordination). n.due) c.call.ensures ∙ ap dues.Call c.in_ok-sent.ensures.made

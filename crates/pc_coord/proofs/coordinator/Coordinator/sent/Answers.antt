@@ -1,4 +1,4 @@
-use Rattle.std.proofs.Common.{◌≡◌, ◌||◌, ◌==◌, sym, ap, ◌∙◌, subst, OnOk}
+use Rattle.std.proofs.Common.{◌≡◌, ◌||◌, ◌==◌, sym, ap, ◌∙◌, subst, OnOk, None, Some}
 use Rattle.pc_call.specs.Serving.{InCall}
 use Rattle.pc_coord.proofs.Learned.{learn_sent}
 use Rattle.pc_coord.proofs.Steps.{calls, in_call, sends_step}
@@ -6,6 +6,10 @@ use Rattle.pc_coord.proofs.Tying.{opened_is, sends_open}
 use Rattle.pc_coord.specs.Coordination.{awaits_number, without_call}
 use Rattle.pc_coord.specs.Going.{StandsReady}
 use Rattle.pc_coord.specs.Knows.{Knows}
+use Rattle.std.proofs.lemmas.Option.{same_Some}
+use Rattle.pc_coord.specs.declared.due.Due.TheVariants as dues
+use Rattle.pc_coord.specs.declared.due.Opened.{Opened}
+use Rattle.pc_wave.specs.Messages.{first_changed, is_to_send, sent_under}
 use Rattle.pc_coord.proofs.coordinator.Coordinator.sent.Goals as goal
 
 pub returns-in-Some-clause-knows : goal.returns-in-Some-clause-knows
@@ -34,3 +38,11 @@ returns-in-None-clause-knows c = λ k p range request knows is. absurd (sends_op
 
 pub returns-in-None-clause-waits : goal.returns-in-None-clause-waits
 returns-in-None-clause-waits c = λ request other next. absurd (sends_open c.args.self.now request next (sym c.take_open-taken.ensures.taken ∙ c.in-None.is))
+
+pub returns-in-Some-clause-comes : goal.returns-in-Some-clause-comes
+returns-in-Some-clause-comes c = λ o opened.
+    let same : c.in-Some.taken ≡ o = same_Some c.in-Some.taken o (sym c.in-Some.is ∙ (c.take_open-taken.ensures.taken ∙ opened)) in
+    subst (λ (o : Opened). OnOk c.send.result (c.send.new.self.due ≡ dues.Call (record o.call { wave = first_changed is_to_send (sent_under c.args.number) o.call.wave }))) same c.send.ensures.comes
+
+pub returns-in-None-clause-comes : goal.returns-in-None-clause-comes
+returns-in-None-clause-comes c = λ o opened. let e : None ≡ Some o = sym c.in-None.is ∙ (c.take_open-taken.ensures.taken ∙ opened) in absurd cc

@@ -1,4 +1,4 @@
-use Rattle.std.proofs.Common.{◌≡◌, Some, None, sym, ap, ◌∙◌, subst}
+use Rattle.std.proofs.Common.{◌≡◌, Some, None, sym, ap, ◌∙◌, subst, OnOk}
 use Rattle.pc_call.specs.Serving.{InCall}
 use Rattle.pc_coord.proofs.Steps.{calls, had_round, in_call, round_step, settles}
 use Rattle.pc_coord.proofs.Tying.{opened_is, rounds_open}
@@ -6,6 +6,11 @@ use Rattle.pc_coord.specs.Coordination.{Coordination, opened_by, with_clock, wit
 use Rattle.pc_coord.specs.Going.{StandsReady}
 use Rattle.pc_txn.specs.Counted.{IsCounted}
 use Rattle.pc_coord.specs.declared.due.Due.TheVariants as dues
+use Rattle.pc_coord.specs.Coming.{ComesOfRound}
+use Rattle.std.proofs.lemmas.Option.{same_Some}
+use Rattle.pc_coord.specs.declared.due.Opened.{Opened}
+use Rattle.pc_wave.specs.declared.step.Step.TheVariants as steps
+use Rattle.pc_wave.specs.Messages.{step_of}
 use Rattle.pc_coord.proofs.coordinator.Coordinator.settled.Goals as goal
 
 pub returns-in-Some-clause-knows : goal.returns-in-Some-clause-knows
@@ -34,3 +39,12 @@ returns-in-None-clause-knows c = λ before start k conflict reader knows heard n
 pub returns-in-None-clause-waits : goal.returns-in-None-clause-waits
 returns-in-None-clause-waits c = λ conflict reader other next.
     absurd (rounds_open c.args.self.now c.args.number conflict reader next (sym c.take_open-taken.ensures.taken ∙ c.in-None.is))
+
+pub returns-in-Some-clause-comes : goal.returns-in-Some-clause-comes
+returns-in-Some-clause-comes c = λ o conflict opened due.
+    let same : c.in-Some.taken ≡ o = same_Some c.in-Some.taken o (sym c.in-Some.is ∙ (c.take_open-taken.ensures.taken ∙ opened)) in
+    subst (λ (o : Opened). OnOk c.settle.result (ComesOfRound c.args.round c.args.number conflict o.call.wave c.settle.new.self.due)) same
+    (c.settle.ensures.comes conflict (subst (λ (o : Opened). step_of o.call.wave ≡ steps.Round c.args.number conflict) (sym same) due))
+
+pub returns-in-None-clause-comes : goal.returns-in-None-clause-comes
+returns-in-None-clause-comes c = λ o conflict opened due. let e : None ≡ Some o = sym c.in-None.is ∙ (c.take_open-taken.ensures.taken ∙ opened) in absurd cc

@@ -1,4 +1,4 @@
-use Rattle.std.proofs.Common.{◌≡◌, false, not, ◌&&◌, ◌==◌, sym, ◌∙◌, subst}
+use Rattle.std.proofs.Common.{◌≡◌, false, not, ◌&&◌, ◌==◌, sym, ◌∙◌, subst, ap}
 use Rattle.pc_call.specs.Opening.{GoesOn}
 use Rattle.pc_coord.proofs.Onward.{write_kind, write_waits}
 use Rattle.pc_coord.proofs.Steps.{on_ok}
@@ -6,6 +6,9 @@ use Rattle.pc_coord.proofs.Tying.{put_met, written_reply}
 use Rattle.pc_coord.specs.Coordination.{awaits_number}
 use Rattle.pc_coord.specs.Going.{HearsNow}
 use Rattle.pc_wave.specs.Messages.{wave_awaits}
+use Rattle.pc_coord.proofs.Coming.{written_none}
+use Rattle.pc_proto.specs.Replies.{is_conflict}
+use Rattle.pc_wave.specs.Messages.{awaits_at, back_with, first_changed}
 use Rattle.pc_coord.proofs.coordinator.Coordinator.write_heard.Goals as goal
 
 pub returns-in-Some-clause-knows : goal.returns-in-Some-clause-knows
@@ -25,3 +28,12 @@ returns-in-None-clause-knows c = λ k heard again is writes.
 
 pub returns-in-None-clause-waits : goal.returns-in-None-clause-waits
 returns-in-None-clause-waits c = λ k other again w writes waits. c.come_back.ensures.waits k other w waits
+
+pub returns-in-Some-clause-comes : goal.returns-in-Some-clause-comes
+returns-in-Some-clause-comes c = λ k heard again is writes.
+    let same = written_reply c.args.reply.now c.in-Some.ts (sym c.written_at-written.ensures ∙ c.in-Some.is) in
+    c.written.ensures.comes (first_changed (awaits_at c.args.number) (back_with c.args.number c.args.reply.now) c.args.call.wave)
+    (written_none c.args.self.now c.args.call c.args.txn c.args.number c.args.reply.now k heard is again writes (ap is_conflict same))
+
+pub returns-in-None-clause-comes : goal.returns-in-None-clause-comes
+returns-in-None-clause-comes c = λ k heard again is writes. c.come_back.ensures.comes

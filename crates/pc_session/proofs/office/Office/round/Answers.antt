@@ -29,7 +29,7 @@ returns-in-Ok-clause-ok g c =
     let met = subst (λ s. MayCome s.coordinator (session_knows s) (nexts.Conflict n c.args.conflict c.args.reader)) (sym c.self.view_is) c.requires.may in
     let made = c.in_ok-round in
     let e = c.in-Ok.ensures in (
-      round_open _ c.args.reading n c.args.conflict c.args.reader calls due met c.make_round.new.desk c.raise.new.self c.settled.new.self made.round made.ts made.ensures.ok c.raise.ensures e.knows e.waits e.session e.splits,
+      round_open _ c.args.reading n c.args.conflict c.args.reader calls due met c.make_round.new.desk c.raise.new.self c.settled.new.self made.round made.ts made.ensures.ok c.raise.ensures e.knows e.waits e.session e.splits e.comes,
       inside_from _ c.args.self.now _ c.self.view_is
           (round_goes _ c.args.reading n c.args.conflict c.args.reader calls due met c.make_round.new.desk c.raise.new.self c.settled.new.self made.round made.ts made.ensures.ok c.raise.ensures e.session),
       ends_where_heard c.make_round.new.desk.log.part.own (all_heard_ever c.make_round.new.desk made.ensures.ok.goes.back),

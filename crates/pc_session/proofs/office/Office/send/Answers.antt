@@ -28,7 +28,7 @@ returns-in-Ok-clause-ok g c =
     let e = c.in-Ok.ensures in
     let d = c.send.new.self in
     let n = c.in_ok-number.number in (
-      sent_open _ c.args.reading c.args.request calls due may.0 may.1 may.2 ends d c.sent.new.self n c.in_ok-number.ensures.ok e.knows (λ other. e.waits c.args.request other due) e.session e.splits,
+      sent_open _ c.args.reading c.args.request calls due may.0 may.1 may.2 ends d c.sent.new.self n c.in_ok-number.ensures.ok e.knows (λ other. e.waits c.args.request other due) e.session e.splits e.comes,
       inside_from _ c.args.self.now _ c.self.view_is (sent_goes _ c.args.reading c.args.request calls due may.0 may.1 may.2 ends d c.sent.new.self n c.in_ok-number.ensures.ok e.session),
       sent_ends _ c.args.reading c.args.request calls due may.0 may.1 may.2 ends d c.sent.new.self n c.in_ok-number.ensures.ok,
     )

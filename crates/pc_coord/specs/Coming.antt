@@ -1,0 +1,38 @@
+-- What comes of the messages of an open call: what is due once they stand so.
+use Rattle.std.specs.Prelude.{◌≡◌, ℕ, true, false, ◌⊎◌, Some, List, All, ⊤}
+use Rattle.std.specs.List.{list_any}
+use Rattle.pc_base.specs.declared.transaction.TxnId.{TxnId}
+use Rattle.pc_coord.specs.declared.due.Due.{Due}
+use Rattle.pc_coord.specs.declared.due.Due.TheVariants as dues
+use Rattle.pc_coord.specs.declared.round.Round.{Round}
+use Rattle.pc_coord.specs.declared.round.Round.TheVariants as rounds
+use Rattle.pc_proto.specs.declared.answer.Answer.{Answer}
+use Rattle.pc_proto.specs.declared.answer.Answer.TheVariants as answers
+use Rattle.pc_proto.specs.declared.reply.Reply.{Reply}
+use Rattle.pc_proto.specs.Replies.{holder_in}
+use Rattle.pc_wave.specs.declared.message.Message.{Message}
+use Rattle.pc_wave.specs.declared.step.Step.TheVariants as steps
+use Rattle.pc_wave.specs.Messages.{conflicts_at, first_changed, goes_again, is_in_conflict, is_to_send, step_of}
+
+-- The messages are all to be sent.
+abbrev pub AreUnsent : List Message → Type 0
+AreUnsent messages = All (λ m. is_to_send m ≡ true) messages
+
+-- If the answer says that a holder blocks the call, that is what is due of these messages.
+abbrev pub IsBlockOf : List Message → Answer → Type 0
+IsBlockOf messages (answers.Blocked holder) = step_of messages ≡ steps.Blocked holder
+IsBlockOf messages _ = ⊤
+
+-- The call goes on by these messages; or by new ones, all to be sent, where no conflict of these waits for its round; or it is to be told its
+-- answer, and that a holder blocks it only where that is due of these. That nothing is due is said elsewhere.
+abbrev pub ComesOf : List Message → Due → Type 0
+ComesOf messages dues.Nothing = ⊤
+ComesOf messages (dues.Call call) = (call.wave ≡ messages) ⊎ (AreUnsent call.wave × (list_any is_in_conflict messages ≡ false))
+ComesOf messages (dues.Tell answer) = IsBlockOf messages answer
+
+-- What comes of the round of this conflict, which the message of this number met: the message is to be sent again; where the push was refused,
+-- the call is to be told that the holder blocks it; and where a message was lost so often, that.
+abbrev pub ComesOfRound : Round → ℕ → Reply → List Message → Due → Type 0
+ComesOfRound rounds.Again number conflict messages due = ComesOf (first_changed (conflicts_at number) goes_again messages) due
+ComesOfRound rounds.Refused number conflict messages due = (holder : TxnId) → holder_in conflict ≡ Some holder → due ≡ dues.Tell (answers.Blocked holder)
+ComesOfRound (rounds.Lost faults) number conflict messages due = due ≡ dues.Tell (answers.Unavailable faults)

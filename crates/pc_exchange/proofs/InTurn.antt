@@ -1,0 +1,269 @@
+-- The rounds of a call's conflicts in turn: what more was heard takes nothing from those that are over, and the messages of the next one go
+-- out in their places.
+use Rattle.std.proofs.Common.{◌≡◌, ℕ, zero, suc, ◌+◌, ◌<◌, Bool, true, false, ◌⊎◌, inl, inr, List, [], ◌∷◌, ◌++◌, Option, Some, None, All, Any, Contains, refl, sym, ap, ◌∙◌, subst, arith, count_by, drop, filter, is_some, length, slice_get, take}
+use Rattle.std.proofs.lemmas.List.{append-nil, append_assoc, take-append-drop}
+use Rattle.std.proofs.lemmas.List.Elements.{filter-append}
+use Rattle.std.proofs.lemmas.List.Sums.{length-filter}
+use Rattle.std.proofs.lemmas.Option.{same_Some}
+use Rattle.pc_base.specs.declared.limits.TheConstants.{MOST_CONFLICTS}
+use Rattle.pc_base.specs.declared.transaction.TxnId.{TxnId}
+use Rattle.pc_coord.specs.Rounds.{IsRefusedRound, IsSettledRound}
+use Rattle.pc_exchange.specs.InTurn.{IsNextRound, pushes_answered}
+use Rattle.pc_exchange.specs.Rounding.{WasPushedOnceFor}
+use Rattle.pc_lists.proofs.Anywhere.{any_head, any_kept, any_last}
+use Rattle.pc_lists.proofs.Counts.{count-cons, count-push, one_if}
+use Rattle.pc_lists.proofs.Lists.{get_append}
+use Rattle.pc_proto.specs.declared.fate.Fate.{Fate}
+use Rattle.pc_proto.specs.declared.fate.Goal.{Goal}
+use Rattle.pc_proto.specs.declared.meta.TxnMeta.{TxnMeta}
+use Rattle.pc_proto.specs.declared.reply.Reply.{Reply}
+use Rattle.pc_proto.specs.declared.reply.Reply.TheVariants as replies
+use Rattle.pc_proto.specs.declared.request.Request.{Request}
+use Rattle.pc_proto.specs.Replies.{is_conflict}
+use Rattle.pc_proto.specs.Requests.{goal_in, is_push_of}
+use Rattle.pc_push.specs.Pushing.{Pushing, holder_resolve, push_of}
+use Rattle.pc_wave.proofs.Lists.{at_least-kept}
+use Rattle.pc_world.specs.Counting.{AtLeast}
+use Rattle.pc_world.specs.Follows.Eighth.{IsBeforeEighth, IsBelowEighth, MetEighth}
+use Rattle.pc_world.specs.Follows.Resends.{WasDone}
+use Rattle.pc_world.specs.Follows.Rounds.{AreRoundsOver, BeginsRound, IsConflictAt, IsFateOfRound, IsInItsRound, IsInRound, IsRoundOver, LeavesFate, conflicts_now, rounds_begun}
+use Rattle.pc_world.specs.Known.{Known}
+use Rattle.pc_world.specs.Known.Traffic.{Heard, Sent}
+use Rattle.pc_world.specs.Send.Push.{goal_for}
+use Rattle.pc_world.specs.Send.Settling.{ResolvedTo}
+use Rattle.pc_world.specs.Tell.Refusal.{IsConflictOf}
+
+-- ---- lists
+
+module _ {X : Type 0} (p : X → Bool) where
+  split_none : (before : List X) (y : X) (after : List X) → [] ≡ before ++ (y ∷ after) → ⊥
+  split_none [] y after e = cc
+  split_none (z ∷ before) y after e = cc
+
+  by_counts : (xs before : List X) (x y : X) (after : List X) → xs ++ (x ∷ []) ≡ before ++ (y ∷ after) → p y ≡ true → count_by p xs ≡ count_by p before → after ≡ []
+  by_counts [] [] x y after e is same = let t : [] ≡ after = cc in sym t
+  by_counts [] (w ∷ before) x y after e is same = let t : [] ≡ before ++ (y ∷ after) = cc in absurd (split_none before y after t)
+  by_counts (z ∷ xs) [] x y after e is same =
+      let h : z ≡ y = cc in
+      let a = count-cons p z xs in
+      let b : one_if (p z) ≡ 1 = ap one_if (ap p h ∙ is) in
+      absurd (omega (arith, a, b, same))
+  by_counts (z ∷ xs) (w ∷ before) x y after e is same =
+      let h : z ≡ w = cc in
+      let t : xs ++ (x ∷ []) ≡ before ++ (y ∷ after) = cc in
+      let a = count-cons p z xs in
+      let b = count-cons p w before in
+      let d : one_if (p z) ≡ one_if (p w) = ap (λ v. one_if (p v)) h in
+      by_counts xs before x y after t is (omega (arith, a, b, d, same))
+
+  -- nothing stands behind one that passes, where as many pass before it as before the last
+  pub last_of : (xs before : List X) (x y : X) (after : List X) → xs ++ (x ∷ []) ≡ before ++ (y ∷ after) → p y ≡ true → length (filter p xs) ≡ length (filter p before) → after ≡ []
+  last_of xs before x y after e is same = by_counts xs before x y after e is (sym (length-filter p xs) ∙ (same ∙ length-filter p before))
+
+  -- how many pass with one more
+  pub passing_more : (xs : List X) (x : X) → length (filter p (xs ++ (x ∷ []))) ≡ length (filter p xs) + one_if (p x)
+  passing_more xs x = length-filter p (xs ++ (x ∷ [])) ∙ (count-push p xs x ∙ ap (λ n. n + one_if (p x)) (sym (length-filter p xs)))
+
+  module _ (P : X → Type 0) where
+    -- as many are so of all as of those that pass
+    pub at_least-filter : (n : ℕ) (xs : List X) → AtLeast P n (filter p xs) → AtLeast P n xs
+    at_least-filter zero xs h = tt
+    at_least-filter (suc n) [] h = h
+    at_least-filter (suc n) (x ∷ xs) h = by (p x) refl (at_least-filter n xs) (at_least-filter (suc n) xs)
+      where
+        by : (b : Bool) → p x ≡ b → (AtLeast P n (filter p xs) → AtLeast P n xs) → (AtLeast P (suc n) (filter p xs) → AtLeast P (suc n) xs) → AtLeast P (suc n) (x ∷ xs)
+        by true is less later = on (subst (AtLeast P (suc n)) passes h)
+          where
+            passes : filter p (x ∷ xs) ≡ x ∷ filter p xs
+            passes = cc
+
+            on : AtLeast P (suc n) (x ∷ filter p xs) → AtLeast P (suc n) (x ∷ xs)
+            on (inl (first, rest)) = inl (first, less rest)
+            on (inr rest) = inr (later rest)
+        by false not less later = let fails : filter p (x ∷ xs) ≡ filter p xs = cc in inr (later (subst (AtLeast P (suc n)) fails h))
+
+-- ---- rounds that are over
+
+done_more : (id : TxnId) (key : List ℕ) (goal : Goal) (reply : Reply) (later more : List Heard) → WasDone id key goal reply later → WasDone id key goal reply (later ++ more)
+done_more id key goal (replies.Status view) later more done = record { fate = done.fate; left = done.left; settled = any_kept (ResolvedTo id key done.fate) later more done.settled }
+done_more id key goal (replies.Unsure view) later more done = record {
+  before = done.before;
+  recovery = done.recovery;
+  after = done.after ++ more;
+  whole = ap (λ l. l ++ more) done.whole ∙ append_assoc done.before (done.recovery ∷ done.after) more;
+  view = done.view;
+  shown = done.shown;
+  settled = λ fate final. any_kept (ResolvedTo id key fate) done.after more (done.settled fate final);
+}
+done_more id key goal reply later more done = absurd done
+
+any_nothing : {X : Type 0} (P : X → Type 0) → Any P [] → ⊥
+any_nothing P (k, x, there, is, h) = absurd (omega arith)
+
+none_recovered : (before : List Heard) (recovery : Heard) (after : List Heard) → [] ≡ before ++ (recovery ∷ after) → ⊥
+none_recovered before recovery after e = split_none (λ h. true) before recovery after e
+
+done_none : (id : TxnId) (key : List ℕ) (goal : Goal) (reply : Reply) → WasDone id key goal reply [] → ⊥
+done_none id key goal (replies.Status view) done = any_nothing (ResolvedTo id key done.fate) done.settled
+done_none id key goal (replies.Unsure view) done = none_recovered done.before done.recovery done.after done.whole
+done_none id key goal reply done = done
+
+module _ (k later : Known) (more : List Heard) (heard : later.heard_now ≡ k.heard_now ++ more) where
+  pub conflicts_more : conflicts_now later ≡ conflicts_now k ++ filter (λ h. is_conflict h.reply) more
+  conflicts_more = ap (filter (λ (h : Heard). is_conflict h.reply)) heard ∙ filter-append (λ (h : Heard). is_conflict h.reply) k.heard_now more
+
+  -- each conflict keeps its place
+  pub conflict_more : (place : ℕ) (holder : TxnMeta) (key : List ℕ) → IsConflictAt k place holder key → IsConflictAt later place holder key
+  conflict_more place holder key at = record {
+    conflict = at.conflict;
+    ts = at.ts;
+    placed = ap (λ l. slice_get l place) conflicts_more ∙ get_append (conflicts_now k) (filter (λ h. is_conflict h.reply) more) place at.conflict at.placed;
+    met = at.met;
+  }
+
+  -- a round that is over stays so
+  pub over_more : (place : ℕ) → IsRoundOver k place → IsRoundOver later place
+  over_more place o = record {
+    before = o.before;
+    push = o.push;
+    after = o.after ++ more;
+    whole = heard ∙ (ap (λ l. l ++ more) o.whole ∙ append_assoc o.before (o.push ∷ o.after) more);
+    placed = o.placed;
+    holder = o.holder;
+    key = o.key;
+    of = conflict_more place o.holder o.key o.of;
+    goal = o.goal;
+    aims = o.aims;
+    done = done_more o.holder.id o.key o.goal o.push.reply o.after more o.done;
+  }
+
+  -- all do, where no further one was begun
+  pub all_over_more : rounds_begun later ≡ rounds_begun k → AreRoundsOver k → AreRoundsOver later
+  all_over_more begun over place low = over_more place (over place (subst (λ n. place < n) begun low))
+
+-- ---- the next round
+
+module _ (start k : Known) (conflict : Heard) (next : IsNextRound start conflict) (holder : TxnMeta) (ts : ℕ) (key : List ℕ) (met : conflict.reply ≡ replies.Conflict holder ts key) where
+  pub conflict_at : IsConflictAt start (rounds_begun start) holder key
+  conflict_at = record { conflict = conflict; ts = ts; placed = next.placed; met = met }
+
+  -- its push goes out in its place
+  pub push_in_turn : (m : Pushing) → m.holder ≡ holder → m.goal ≡ goal_for conflict.request → k.heard_now ≡ start.heard_now → rounds_begun k ≡ rounds_begun start → IsInItsRound k (push_of m) × IsBeforeEighth k (push_of m)
+  push_in_turn m whose aims same begun = (
+    record {
+      key = key;
+      next = record {
+        conflict = conflict;
+        ts = ts;
+        placed = ap (λ n. slice_get (conflicts_now k) n) begun ∙ (ap (λ l. slice_get l (rounds_begun start)) (ap (filter (λ (h : Heard). is_conflict h.reply)) same) ∙ next.placed);
+        met = met ∙ ap (λ (h : TxnMeta). replies.Conflict h ts key) (sym whose);
+      };
+      over = all_over_more start k [] none begun next.over;
+      aims = aims;
+    },
+    below,
+  )
+    where
+      none : k.heard_now ≡ start.heard_now ++ []
+      none = same ∙ sym (append-nil start.heard_now)
+
+      below : IsBelowEighth k
+      below other placed eight =
+          let at : slice_get (conflicts_now start) (rounds_begun start) ≡ Some other =
+          sym (ap (λ l. slice_get l (rounds_begun start)) (ap (filter (λ (h : Heard). is_conflict h.reply)) same)) ∙ (ap (λ n. slice_get (conflicts_now k) n) (sym begun) ∙ placed) in
+          let it : other ≡ conflict = same_Some other conflict (sym at ∙ next.placed) in
+          let all : AtLeast (IsConflictOf other.request) MOST_CONFLICTS (conflicts_now k) =
+          subst (AtLeast (IsConflictOf other.request) MOST_CONFLICTS) (take-append-drop (rounds_begun k + 1) (conflicts_now k))
+          (at_least-kept (IsConflictOf other.request) MOST_CONFLICTS (take (rounds_begun k + 1) (conflicts_now k)) (drop (rounds_begun k + 1) (conflicts_now k)) eight) in
+          let ever : AtLeast (IsConflictOf other.request) MOST_CONFLICTS k.heard_now = at_least-filter (λ (h : Heard). is_conflict h.reply) (IsConflictOf other.request) MOST_CONFLICTS k.heard_now all in
+          next.below (subst (λ (h : Heard). AtLeast (IsConflictOf h.request) MOST_CONFLICTS start.heard_now) it (subst (AtLeast (IsConflictOf other.request) MOST_CONFLICTS) same ever))
+
+  -- so does what settles its intent
+  pub resolve_in_turn : (m : Pushing) (fate : Fate) → m.holder ≡ holder → m.key ≡ key → WasPushedOnceFor m.holder.id m.goal fate start k → rounds_begun k ≡ rounds_begun start + 1 → IsInItsRound k (holder_resolve m fate)
+  resolve_in_turn m fate whose where_is was begun = (
+    record {
+      place = rounds_begun start;
+      last = begun;
+      holder = holder;
+      of = subst (λ l. IsConflictAt k (rounds_begun start) holder l) (sym where_is) (conflict_more start k (was.push ∷ []) was.more (rounds_begun start) holder key conflict_at);
+      whose = ap (λ (h : TxnMeta). h.id) (sym whose);
+      goes_on = not_over;
+    },
+    record {
+      before = start.heard_now;
+      push = was.push;
+      after = [];
+      whole = was.more;
+      last = ap (λ n. n + 1) next.answered ∙ sym begun;
+      goal = m.goal;
+      aims = was.aims;
+      left = subst (λ reply. LeavesFate m.holder.id m.goal reply [] fate) (sym was.told) was.left;
+    },
+  )
+    where
+      not_over : IsRoundOver k (rounds_begun start) → ⊥
+      not_over o =
+          let none : o.after ≡ [] = last_of (λ (h : Heard). is_some (goal_in h.request)) start.heard_now o.before was.push o.push o.after (sym was.more ∙ o.whole) (ap is_some o.aims) (next.answered ∙ sym o.placed) in
+          done_none o.holder.id o.key o.goal o.push.reply (subst (WasDone o.holder.id o.key o.goal o.push.reply) none o.done)
+
+  -- ---- its end
+
+  module _ (begun : rounds_begun k ≡ rounds_begun start + 1) where
+    -- once its intent was settled, it is over as those before it are
+    module _ (round : IsSettledRound holder.id key start k) where
+      it_is_over : IsRoundOver k (rounds_begun start)
+      it_is_over = record {
+        before = start.heard_now;
+        push = round.push;
+        after = round.resolve ∷ [];
+        whole = round.more;
+        placed = next.answered;
+        holder = holder;
+        key = key;
+        of = conflict_more start k (round.push ∷ (round.resolve ∷ [])) round.more (rounds_begun start) holder key conflict_at;
+        goal = round.goal;
+        aims = round.aims;
+        done = subst (λ reply. WasDone holder.id key round.goal reply (round.resolve ∷ [])) (sym round.told)
+            (record { fate = round.fate; left = round.left; settled = any_head (ResolvedTo holder.id key round.fate) round.resolve [] round.resolved });
+      }
+
+      pub settled_over : AreRoundsOver k
+      settled_over place low = by_place (below place (rounds_begun start) (subst (λ n. place < n) begun low))
+        where
+          below : (m n : ℕ) → m < n + 1 → (m < n) ⊎ (m ≡ n)
+          below zero zero l = inr refl
+          below zero (suc n) l = inl (omega arith)
+          below (suc m) zero l = absurd (omega arith)
+          below (suc m) (suc n) l = elim (below m n (omega arith)) [ inl less ↦ inl (omega arith) | inr same ↦ inr (ap suc same) ]
+
+          by_place : (place < rounds_begun start) ⊎ (place ≡ rounds_begun start) → IsRoundOver k place
+          by_place (inl less) = over_more start k (round.push ∷ (round.resolve ∷ [])) round.more place (next.over place less)
+          by_place (inr same) = subst (IsRoundOver k) (sym same) it_is_over
+
+      is_push : is_some (goal_in round.push.request) ≡ true
+      is_push = ap is_some round.aims
+
+      no_push : is_some (goal_in round.resolve.request) ≡ false
+      no_push = ap (λ r. is_some (goal_in r)) round.resolved.asked
+
+      -- each push was answered
+      pub settled_answered : pushes_answered k ≡ rounds_begun k
+      settled_answered =
+          let P : Heard → Bool = λ h. is_some (goal_in h.request) in
+          let whole : k.heard_now ≡ (start.heard_now ++ (round.push ∷ [])) ++ (round.resolve ∷ []) = round.more ∙ sym (append_assoc start.heard_now (round.push ∷ []) (round.resolve ∷ [])) in
+          let a = passing_more P start.heard_now round.push in
+          let b = passing_more P (start.heard_now ++ (round.push ∷ [])) round.resolve in
+          let d : pushes_answered k ≡ length (filter P ((start.heard_now ++ (round.push ∷ [])) ++ (round.resolve ∷ []))) = ap (λ l. length (filter P l)) whole in
+          let e : one_if (P round.push) ≡ 1 = ap one_if is_push in
+          let f : one_if (P round.resolve) ≡ 0 = ap one_if no_push in
+          let g : pushes_answered start ≡ rounds_begun start = next.answered in
+          omega (arith, a, b, d, e, f, g, begun)
+
+      -- and no further conflict was met
+      pub settled_conflicts : conflicts_now k ≡ conflicts_now start
+      settled_conflicts =
+          let Q : Heard → Bool = λ h. is_conflict h.reply in
+          let a : Q round.push ≡ false = ap is_conflict round.told in
+          let b : Q round.resolve ≡ false = ap is_conflict round.resolved.told in
+          let none : filter Q (round.push ∷ (round.resolve ∷ [])) ≡ [] = cc in
+          conflicts_more start k (round.push ∷ (round.resolve ∷ [])) round.more ∙ (ap (λ l. conflicts_now start ++ l) none ∙ append-nil (conflicts_now start))

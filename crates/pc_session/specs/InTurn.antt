@@ -1,0 +1,63 @@
+-- The conflicts of an open call have their rounds in the order in which they were heard, which is that of the call's messages.
+use Rattle.std.specs.Prelude.{◌≡◌, ℕ, ◌<◌, true, false, List, [], ◌∷◌, ◌++◌, length, map, All, ⊤}
+use Rattle.std.specs.List.{flat_map, list_any}
+use Rattle.pc_coord.specs.declared.due.Due.{Due}
+use Rattle.pc_coord.specs.declared.due.Due.TheVariants as dues
+use Rattle.pc_exchange.specs.InTurn.{pushes_answered}
+use Rattle.pc_wave.specs.declared.message.Message.{Message}
+use Rattle.pc_wave.specs.declared.message.Progress.{Progress}
+use Rattle.pc_wave.specs.declared.message.Progress.TheVariants as progresses
+use Rattle.pc_wave.specs.Messages.{is_in_conflict, is_out, is_to_send}
+use Rattle.pc_wave.specs.Standing.{Pairwise}
+use Rattle.pc_world.specs.Follows.Eighth.{TellsFirstBlock}
+use Rattle.pc_world.specs.Follows.Rounds.{AreRoundsOver, conflicts_now, rounds_begun}
+use Rattle.pc_world.specs.Known.{Known}
+use Rattle.pc_world.specs.Known.Traffic.{Heard}
+
+-- The number under which a message met the conflict that waits for its round.
+abbrev pub number_met : Progress → List ℕ
+number_met (progresses.Met number conflict) = number ∷ []
+number_met _ = []
+
+-- The numbers under which the messages met the conflicts that wait for their rounds, in the order of the messages.
+abbrev pub numbers_met : List Message → List ℕ
+numbers_met messages = flat_map (λ m. number_met m.progress) messages
+
+-- How far a message may be behind one that is so far: the messages of a wave go out from the first on, and come back from the first on.
+abbrev pub MayStandBehind : Progress → Progress → Type 0
+MayStandBehind progresses.ToSend (progresses.Sent number) = ⊥
+MayStandBehind (progresses.Sent before) (progresses.Sent number) = before < number
+MayStandBehind (progresses.Sent before) (progresses.Met number conflict) = ⊥
+MayStandBehind _ _ = ⊤
+
+-- So far are two messages of a wave, the first standing before the other.
+abbrev pub GoesBefore : Message → Message → Type 0
+GoesBefore one other = MayStandBehind one.progress other.progress
+
+-- Where one is waited for and one has met a conflict, none is to be sent.
+abbrev pub AreApart : List Message → Type 0
+AreApart messages = list_any is_out messages ≡ true → list_any is_in_conflict messages ≡ true → All (λ m. is_to_send m ≡ false) messages
+
+-- Of the conflicts that were heard in the call, these have had their rounds, which are over, and those wait: they are the ones that the call's
+-- messages have met, in the order of the messages.
+pub record HasRoundsInTurn (k : Known) (messages : List Message) : Type 0 where
+  pub done : List Heard
+  pub waiting : List Heard
+  pub conflicts : conflicts_now k ≡ done ++ waiting
+  pub begun : rounds_begun k ≡ length done
+  pub answered : pushes_answered k ≡ rounds_begun k
+  pub over : AreRoundsOver k
+  pub numbers : map (λ h. h.number) waiting ≡ numbers_met messages
+  pub order : Pairwise GoesBefore messages
+  pub apart : AreApart messages
+
+-- The open call keeps that; or the answer that is due names the holder that blocks it first.
+abbrev pub KeepsTurn : Known → Due → Type 0
+KeepsTurn k dues.Nothing = ⊤
+KeepsTurn k (dues.Call call) = HasRoundsInTurn k call.wave
+KeepsTurn k (dues.Tell answer) = TellsFirstBlock k answer
+
+-- No message of the call is to be sent.
+abbrev pub SendsNoMore : Due → Type 0
+SendsNoMore (dues.Call call) = All (λ m. is_to_send m ≡ false) call.wave
+SendsNoMore _ = ⊤
