@@ -15,6 +15,7 @@ KEY = re.compile(r"[A-Za-z0-9_/.]{1,64}")
 VALUE = re.compile(r"[!-+\--~]{0,1024}")
 STATEMENTS = ("get", "scan", "put", "delete", "add")
 MOST_AMOUNT = 1_000_000_000
+LEARNT = re.compile(r"([1-9][0-9]*)\.([1-9][0-9]*)")
 
 
 class Fault(Exception):
@@ -88,7 +89,18 @@ def statement(value, place):
     return 2 if kind == "add" else 1
 
 
-def item(value, place):
+def learn(value, place, sessions):
+    members(value, place, ("learn",), ("learn",))
+    named = isinstance(value["learn"], str) and LEARNT.fullmatch(value["learn"])
+    need(named and all(int(number) < 2**32 for number in named.groups()), f"{place}.learn",
+         "it is a string of two numbers from 1 to 4294967295 with a point between, without leading zeros")
+    need(int(named[1]) <= sessions, f"{place}.learn", f"there is no session {named[1]}")
+    return 1
+
+
+def item(value, place, sessions):
+    if isinstance(value, dict) and "learn" in value:
+        return learn(value, place, sessions)
     members(value, place, ("do", "priority", "end"), ("do",))
     need(value.get("priority", "normal") in ("low", "normal", "high"), f"{place}.priority", "it is low, normal or high")
     need(value.get("end", "commit") in ("commit", "rollback"), f"{place}.end", "it is commit or rollback")
@@ -96,13 +108,13 @@ def item(value, place):
     return 2 + sum(statement(one, f"{place}.do[{at}]") for at, one in enumerate(value["do"]))
 
 
-def session(value, place):
+def session(value, place, sessions):
     members(value, place, ("clock", "script"), ("clock", "script"))
     members(value["clock"], f"{place}.clock", ("start", "step"), ("start", "step"))
     for name in ("start", "step"):
         number(value["clock"][name], f"{place}.clock.{name}")
     listed(value["script"], f"{place}.script")
-    return sum(item(one, f"{place}.script[{at}]") for at, one in enumerate(value["script"]))
+    return sum(item(one, f"{place}.script[{at}]", sessions) for at, one in enumerate(value["script"]))
 
 
 def workload(value):
@@ -113,7 +125,7 @@ def workload(value):
     need(value["pipelining"] is False, "pipelining", "it is false so far")
     listed(value["sessions"], "sessions")
     need(1 <= len(value["sessions"]) <= 64, "sessions", "there are 1 to 64")
-    counts = [session(one, f"sessions[{at}]") for at, one in enumerate(value["sessions"])]
+    counts = [session(one, f"sessions[{at}]", len(value["sessions"])) for at, one in enumerate(value["sessions"])]
     need(sum(counts) <= 100_000, "sessions", "there are more than 100,000 statements")
     splits = value.get("splits", [])
     listed(splits, "splits")

@@ -131,7 +131,6 @@ module _ (work : Workload) (number : ℕ) (session : SessionWork) (at : Position
           outside = λ out. ap (λ (k : Known). k.is_open) known ∙ may.outside out;
           course = fits_course (coming at) c.txn rest.fits.now;
           calls = rest.fits.calls;
-          items = rest.fits.items;
         };
         way = record {
           last = sends;

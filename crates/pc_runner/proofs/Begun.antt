@@ -14,7 +14,7 @@ use Rattle.pc_work.specs.Built.{IsBuilt}
 use Rattle.pc_work.specs.declared.session.SessionWork.{SessionWork}
 use Rattle.pc_work.specs.declared.workload.Workload.{Workload}
 use Rattle.pc_world.specs.Known.{nothing_known}
-use Rattle.pc_runner.proofs.Built.{built_few, built_items, built_rising}
+use Rattle.pc_runner.proofs.Built.{built_few, built_rising}
 use Rattle.pc_runner.proofs.Entering.{first_history, sound_begun}
 use Rattle.pc_script.proofs.Fitting.{opened_fits}
 use Rattle.pc_runner.specs.Following.{HasJobs, IsLeft, StandsBy}
@@ -86,4 +86,4 @@ pub begun_fits : (work : Workload) (number : ℕ) (session : SessionWork) (c : C
 begun_fits work number session c at stated knows start =
     subst (λ (p : Position). FitsCalls p c.txn) (sym start)
     (subst (λ (txn : Option OpenTxn). FitsCalls (opened session.script work.reruns) txn) (sym (new_closed c knows))
-    (opened_fits session.script work.reruns (built_items work (number - 1) session stated.built stated.listed)))
+    (opened_fits session.script work.reruns))

@@ -3,7 +3,7 @@ use Rattle.std.proofs.Common.{◌≡◌, ℕ, ◌+◌, ◌<◌, ◌^◌, All, Is
 use Rattle.std.proofs.lemmas.List.Elements.{All-get_or}
 use Rattle.std.proofs.lemmas.Option.{get_or_from_slice_get, slice_get_within}
 use Rattle.pc_base.specs.Rising.{AreRising}
-use Rattle.pc_work.specs.Built.{AreTurnsOf, IsBuilt, IsBuiltItem, IsBuiltSession, IsTurnOf}
+use Rattle.pc_work.specs.Built.{AreTurnsOf, IsBuilt, IsBuiltSession, IsTurnOf}
 use Rattle.pc_work.specs.declared.session.SessionWork.{SessionWork}
 use Rattle.pc_work.specs.declared.turn.Turn.{Turn}
 use Rattle.pc_work.specs.declared.workload.Workload.{Workload}
@@ -17,18 +17,14 @@ pub built_few : (work : Workload) → IsBuilt work → length work.splits + 1 < 
 built_few work built = let few = built.few_splits in omega arith
 
 -- each session is of the form that is built
-pub built_session : (work : Workload) (index : ℕ) (session : SessionWork) → IsBuilt work → slice_get work.sessions index ≡ Some session → IsBuiltSession session
+pub built_session : (work : Workload) (index : ℕ) (session : SessionWork) → IsBuilt work → slice_get work.sessions index ≡ Some session → IsBuiltSession (length work.sessions) session
 built_session work index session built listed =
-    subst IsBuiltSession (get_or_from_slice_get work.sessions index session session listed)
-    (All-get_or IsBuiltSession work.sessions index session (slice_get_within work.sessions index session listed) built.sessions)
+    subst (IsBuiltSession (length work.sessions)) (get_or_from_slice_get work.sessions index session session listed)
+    (All-get_or (IsBuiltSession (length work.sessions)) work.sessions index session (slice_get_within work.sessions index session listed) built.sessions)
 
 -- so it states its clock
 pub built_clock : (work : Workload) (index : ℕ) (session : SessionWork) → IsBuilt work → slice_get work.sessions index ≡ Some session → IsSome session.clock
 built_clock work index session built listed = (built_session work index session built listed).clock
-
--- and each of its items only reads or only writes
-pub built_items : (work : Workload) (index : ℕ) (session : SessionWork) → IsBuilt work → slice_get work.sessions index ≡ Some session → All IsBuiltItem session.script
-built_items work index session built listed = (built_session work index session built listed).items
 
 -- a session's number is one of 32 bits
 pub built_number : (work : Workload) (index : ℕ) (session : SessionWork) → IsBuilt work → slice_get work.sessions index ≡ Some session → index < 64

@@ -82,7 +82,7 @@ stands_beside number c sends h g actor event stands grown differ =
 -- the call is open still where its statement is, and its transaction is as it was
 pub open_on : (at : Position) (reading : ℕ) (k next : Known) → next.statement ≡ k.statement → next.is_open ≡ k.is_open → IsOpen at reading k → IsOpen at reading next
 open_on at reading k next statement is_open o =
-    record { call = o.call; next = o.next; opened = statement ∙ o.opened; outside = λ out. is_open ∙ o.outside out; course = o.course; calls = o.calls; items = o.items }
+    record { call = o.call; next = o.next; opened = statement ∙ o.opened; outside = λ out. is_open ∙ o.outside out; course = o.course; calls = o.calls }
 
 -- an entry that evaluates none of the session's messages
 pub delivered_on : (number delivered : ℕ) (h g : History) (actor : ActorId) (event : Event) → AreDelivered number delivered h → HasGrown h g actor event → ((sent : ℕ) → evaluates_message (actors.Session number) sent event ≡ false)

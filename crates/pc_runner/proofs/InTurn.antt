@@ -4,6 +4,7 @@ use Rattle.std.proofs.lemmas.List.Elements.{All-append, All-cons, All-nil}
 use Rattle.pc_base.specs.declared.actor.ActorId.{ActorId}
 use Rattle.pc_base.specs.declared.actor.ActorId.TheVariants as actors
 use Rattle.pc_base.specs.declared.entry.Entry.{Entry}
+use Rattle.pc_base.specs.declared.transaction.TxnId.{TxnId}
 use Rattle.pc_proto.specs.declared.answer.Answer.{Answer}
 use Rattle.pc_proto.specs.declared.call.Call.{Call}
 use Rattle.pc_proto.specs.declared.event.Event.{Event}
@@ -48,6 +49,9 @@ module _ (number : ℕ) where
 
   pub inside_heard : (h g : History) (own step : ℕ) → HasGrown h g me (events.Hear own step) → TakesPart number h g (IsInside number)
   inside_heard h g own step grown = inside_own h g (events.Hear own step) grown tt tt
+
+  pub inside_met : (h g : History) (id : TxnId) (step : ℕ) → HasGrown h g me (events.Meet id step) → TakesPart number h g (IsInside number)
+  inside_met h g id step grown = inside_own h g (events.Meet id step) grown tt tt
 
   pub inside_evaluated : (h g : History) (own : ℕ) (request : Request) (step : ℕ) (told : Reply) → HasEvaluated h g number own request step told → TakesPart number h g (IsInside number)
   inside_evaluated h g own request step told done =

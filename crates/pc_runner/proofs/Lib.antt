@@ -6,6 +6,7 @@ pub mod Beside
 pub mod Besides
 pub mod Built
 pub mod Calling
+pub mod CommitTable
 pub mod Entering
 pub mod Evaluating
 pub mod Exchanging
@@ -14,11 +15,13 @@ pub mod GoingOn
 pub mod Growing
 pub mod Holding
 pub mod InTurn
+pub mod Inside
 pub mod Keeps
 pub mod Lasts
 pub mod Learning
 pub mod Left
 pub mod LeftTold
+pub mod Meeting
 pub mod OnWay
 pub mod OwnPuts
 pub mod Places
@@ -35,6 +38,7 @@ pub mod Settling
 pub mod SettlingOn
 pub mod Stepping
 pub mod Told
+pub mod Truly
 pub mod Turning
 pub mod Waved
 pub mod Whole

@@ -1,6 +1,7 @@
 -- What each event of a session keeps of its workload.
 use Rattle.std.proofs.Common.{◌≡◌, ℕ, Bool, false, ◌⊎◌, inl, inr, List, Some, None, All, IsTrue, refl, sym, ap, subst, ◌∙◌}
 use Rattle.std.proofs.lemmas.List.Elements.{All-weaker}
+use Rattle.pc_base.specs.declared.transaction.TxnId.{TxnId}
 use Rattle.pc_call.specs.Sending.{IsSendable}
 use Rattle.pc_coord.specs.Coordination.{Coordination}
 use Rattle.pc_coord.specs.Knows.{IsTellable}
@@ -30,6 +31,11 @@ pub step_asked : (pipelining : Bool) (rule : ℕ → ℕ → Bool) (asks : ℕ) 
     → KeepsStep pipelining rule asks at jobs k (events.Ask call reading) None
 step_asked pipelining rule asks at jobs k call reading right next =
     record { clock = right; script = next; wire = tt; early_tell = tt; early_proof = λ _ _. tt; written = tt; puts = tt; resends = tt; calls = tt; finishes = tt; aborts = tt }
+
+-- a commit is met
+pub step_met : (pipelining : Bool) (rule : ℕ → ℕ → Bool) (asks : ℕ) (at : Position) (jobs : List (List Request)) (k : Known) (id : TxnId) (step : ℕ) → KeepsStep pipelining rule asks at jobs k (events.Meet id step) None
+step_met pipelining rule asks at jobs k id step =
+    record { clock = tt; script = tt; wire = tt; early_tell = tt; early_proof = λ _ _. tt; written = tt; puts = tt; resends = tt; calls = tt; finishes = tt; aborts = tt }
 
 -- What the coordinator's requests have in common: they are no messages of a conflict's round, and stage nothing.
 pub record IsPlainRequest (request : Request) : Type 0 where

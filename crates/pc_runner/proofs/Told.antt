@@ -1,7 +1,8 @@
 -- A session once its call was told its answer.
-use Rattle.std.proofs.Common.{◌≡◌, ℕ, ◌+◌, ◌≤◌, All, List, [], ◌++◌, length, map, Option, Some, IfSome, IsTrue, refl, sym, ap, subst, ◌∙◌, arith}
+use Rattle.std.proofs.Common.{◌≡◌, ℕ, ◌+◌, ◌≤◌, true, false, All, List, [], ◌++◌, length, map, Option, Some, IfSome, IsTrue, refl, sym, ap, subst, ◌∙◌, arith}
 use Rattle.std.proofs.lemmas.List.{nil_from_length}
 use Rattle.std.proofs.Math.Nat.{add-zero}
+use Rattle.std.specs.List.{list_any}
 use Rattle.std.specs.Option.{option_to_list}
 use Rattle.pc_base.specs.declared.actor.ActorId.TheVariants as actors
 use Rattle.pc_coord.proofs.Knowing.{rests}
@@ -14,16 +15,19 @@ use Rattle.pc_coord.specs.Events.{IsTold}
 use Rattle.pc_coord.specs.Knows.{IsTellable, Knows, MayFinishJob, messages_of_job}
 use Rattle.pc_history.specs.declared.pair.Pair.{Pair}
 use Rattle.pc_proto.specs.declared.answer.Answer.{Answer}
+use Rattle.pc_base.specs.declared.transaction.TxnId.{TxnId}
+use Rattle.pc_base.specs.Transaction.{same_txn}
 use Rattle.pc_proto.specs.declared.answer.Answer.TheVariants as answers
+use Rattle.pc_proto.specs.declared.call.Call.TheVariants as calls
 use Rattle.pc_proto.specs.declared.event.Event.{Event}
 use Rattle.pc_proto.specs.declared.event.Event.TheVariants as events
 use Rattle.pc_clock.specs.Stepped.{SteppedState}
 use Rattle.pc_work.specs.declared.session.SessionWork.{SessionWork}
 use Rattle.pc_work.specs.declared.workload.Workload.{Workload}
-use Rattle.pc_world.specs.Known.{Known, learn}
+use Rattle.pc_world.specs.Known.{Known, call_in, call_of, learn}
 use Rattle.pc_world.specs.Known.Statements.{Statement}
 use Rattle.pc_world.specs.Local.{is_outside}
-use Rattle.pc_world.specs.MayTell.{MayTell, MayTellIn}
+use Rattle.pc_world.specs.MayTell.{IsLearnTold, MayTell, MayTellIn}
 use Rattle.pc_world.specs.Tell.Begin.{MayTellBegun}
 use Rattle.pc_world.specs.Tell.Refusal.{is_heard}
 use Rattle.pc_runner.proofs.Asked.{Rests}
@@ -37,7 +41,9 @@ use Rattle.pc_runner.proofs.Quiet.{quiet_tell}
 use Rattle.pc_script.proofs.Refitting.{held_none, row_by, told_fits}
 use Rattle.pc_runner.proofs.Stepping.{step_told}
 use Rattle.pc_runner.specs.declared.outbox.Posted.{Posted}
+use Rattle.pc_runner.specs.Commits.{MeetsWhatWasTold}
 use Rattle.pc_runner.specs.Following.{HasJobs, StandsBy}
+use Rattle.pc_script.specs.Learning.{LearnsTruly}
 use Rattle.pc_script.specs.Clocks.{clock_rule}
 use Rattle.pc_script.specs.Script.{Position, after_told}
 use Rattle.pc_runner.specs.History.{History, known_by}
@@ -52,6 +58,19 @@ may_be_told number c sends h answer stands may =
     let k = known_by number h in
     let mine : MayTell c.splits (actors.Session number) k answer = subst (λ n. MayTell c.splits (actors.Session n) k answer) stands.session may.may in
     subst (λ splits. MayTell splits (actors.Session number) k answer) stands.splits mine
+
+-- a learn is told truly, where it has met what was told
+pub truly_told : (number : ℕ) (h : History) (answer : Answer) → MayTell h.head.splits (actors.Session number) (known_by number h) answer → MeetsWhatWasTold number h → LearnsTruly (known_by number h) h.entries (events.Tell answer)
+truly_told number h answers.NotYet may meets =
+    let k = known_by number h in
+    λ id asked told.
+    let row : IsLearnTold false k may.s.call = row_by _ _ (answers.NotYet ≡ answers.NoTxn) (answers.NotYet ≡ answers.Clock may.s.reading) (IsLearnTold false k may.s.call) (λ e. absurd cc) (λ e. absurd cc) may.told in
+    let called : Some may.s.call ≡ Some (calls.Learn id) = sym (ap call_in may.opened) ∙ asked in
+    let same : may.s.call ≡ calls.Learn id = cc in
+    let unmet : list_any (λ other. same_txn other id) k.met_now ≡ false = subst (IsLearnTold false k) same row in
+    let e : true ≡ false = sym (meets id asked told) ∙ unmet in
+    absurd cc
+truly_told number h answer may meets = tt
 
 -- a transaction that an answer begins is the session's next one
 begins_next : (answer : Answer) (splits : List (List ℕ)) (session : ℕ) (k : Known) (s : Statement) → MayTellIn splits (actors.Session session) k s answer → BeginsNext k.begun answer
@@ -118,7 +137,6 @@ module _ (work : Workload) (number : ℕ) (session : SessionWork) (at : Position
       (record {
         course = o.course;
         calls = o.calls;
-        items = o.items;
         next = o.next ∙ ap Some call_is;
         outside = λ out. o.outside (ap is_outside call_is ∙ out);
         suits = may.suits s may.may.opened;

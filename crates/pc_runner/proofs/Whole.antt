@@ -88,13 +88,14 @@ in_turns a b c d running fresh opened taken out =
           (later c d (λ x w. RunOut x w 1 w.sessions c.database.entries out.part) taken.running out.running out.work out.is);
     }
 
-follows : (t : TurnsRun) (rules : ActorId → ℕ → ℕ → Bool) → IsRunning t → IsInTurns t.database.head t.work.now t.database.entries → AreOver (length t.work.now.sessions) t
+follows : (t : TurnsRun) (rules : ActorId → ℕ → ℕ → Bool) → IsRunning t → IsInTurns t.database.head t.work.now t.database.entries → AreOver (length t.work.now.sessions) t → IsSoundHistory t.database
     → Follows t.work.now rules t.database.head t.database.entries
-follows t rules running turns over = record {
+follows t rules running turns over sound = record {
   splits = ap (λ (x : Head). x.splits) running.head;
   sessions = ap (λ (x : Head). x.sessions) running.head;
   recoverers = ap (λ (x : Head). x.recoverers) running.head;
   turns = turns;
+  learns = sound.learns;
   each = each_follows t rules running over;
 }
 
@@ -111,6 +112,6 @@ whole work a b c d entries running states fresh opened taken out over sound is =
     (subst (λ (w : Workload). IsWholeRun w d.database.entries) same
     (record {
       run = subst (λ (x : Head). IsRun x d.database.entries) out.running.head sound.run;
-      follows = λ rules. subst (λ (x : Head). Follows d.work.now rules x d.database.entries) out.running.head (follows d rules out.running turns over);
+      follows = λ rules. subst (λ (x : Head). Follows d.work.now rules x d.database.entries) out.running.head (follows d rules out.running turns over sound);
       unstaged = sound.unstaged;
     }))

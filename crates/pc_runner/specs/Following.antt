@@ -9,7 +9,6 @@ use Rattle.pc_proto.specs.declared.call.Call.{Call}
 use Rattle.pc_world.specs.Known.{Known, open_txn}
 use Rattle.pc_world.specs.Known.Transactions.{Txn}
 use Rattle.pc_world.specs.Local.{IsActorOf, is_outside}
-use Rattle.pc_work.specs.Built.{IsBuiltItem}
 use Rattle.pc_runner.specs.declared.outbox.Answered.{Answered}
 use Rattle.pc_runner.specs.declared.outbox.Posted.{Posted}
 use Rattle.pc_runner.specs.declared.session.SessionRun.{SessionRun}
@@ -52,8 +51,8 @@ pub record IsFollowing (r : SessionRun) (h : History) : Type 0 where
   pub outbox : r.outbox.items ≡ []
   pub fits : FitsCalls r.script r.coordinator.txn
 
--- The call that comes next in the script is open since this reading, a begin or a learn where no transaction is; each later item is of
--- the form that is built, and the calls behind the running one's begin are of one transaction.
+-- The call that comes next in the script is open since this reading, a begin or a learn where no transaction is; and the calls behind the
+-- running item's begin are of one transaction.
 pub record IsOpen (at : Position) (reading : ℕ) (k : Known) : Type 0 where
   pub call : Call
   pub next : next_call at ≡ Some call
@@ -61,7 +60,6 @@ pub record IsOpen (at : Position) (reading : ℕ) (k : Known) : Type 0 where
   pub outside : is_outside call ≡ true → k.is_open ≡ false
   pub course : IsCourse (coming at)
   pub calls : All IsPlannedIn (drop 1 at.calls)
-  pub items : All IsBuiltItem at.items
 
 -- Of the messages of the open call, those up to a number were heard, the next ones were evaluated with these replies, and the last ones
 -- wait; the coordinator waits for these and those.

@@ -1,6 +1,6 @@
--- When a history follows its workload: its head is the workload's; calls and finishing jobs come in its turns; and in each session's own
--- list the calls are the script's, the readings the clock's, the messages are those of its calls and go over a quiet wire, what is over is finished, and the list
--- goes on to the script's end. Own profile.
+-- When a history follows its workload: its head is the workload's; calls and finishing jobs come in its turns; a learn is told whether its
+-- commit was told before; and in each session's own list the calls are the script's, the readings the clock's, the messages are those of
+-- its calls and go over a quiet wire, what is over is finished, and the list goes on to the script's end. Own profile.
 use Rattle.std.specs.Prelude.{◌≡◌, ℕ, ◌-◌, ◌≤◌, Bool, Option, Some, List, [], length, slice_get}
 use Rattle.pc_base.specs.declared.actor.ActorId.{ActorId}
 use Rattle.pc_base.specs.declared.actor.ActorId.TheVariants as actors
@@ -15,6 +15,7 @@ use Rattle.pc_world.specs.Known.{known_of}
 use Rattle.pc_world.specs.Local.{Head}
 use Rattle.pc_world.specs.Run.{protocol}
 use Rattle.pc_script.specs.End.{IsScriptEnd}
+use Rattle.pc_script.specs.Learning.{AllLearnTruly}
 use Rattle.pc_script.specs.Script.{script_position}
 use Rattle.pc_script.specs.Steps.{KeepsWork}
 use Rattle.pc_runner.specs.Follows.Turns.{IsInTurns}
@@ -34,6 +35,7 @@ pub record Follows (work : Workload) (rules : ActorId → ℕ → ℕ → Bool) 
   pub sessions : head.sessions ≡ length work.sessions
   pub recoverers : head.recoverers ≡ 0
   pub turns : IsInTurns head work history
+  pub learns : AllLearnTruly head history
   pub each :
       (number : ℕ) (session : SessionWork) → 1 ≤ number → slice_get work.sessions (number - 1) ≡ Some session
       → FollowsAlone work session (rules (actors.Session number)) (actors.Session number) (own (protocol head) (actors.Session number) history) history

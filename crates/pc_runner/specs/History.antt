@@ -6,6 +6,7 @@ use Rattle.pc_base.specs.Rising.{AreRising}
 use Rattle.pc_history.specs.declared.pair.Pair.{Pair}
 use Rattle.pc_history.specs.Own.{own}
 use Rattle.pc_proto.specs.declared.event.Event.{Event}
+use Rattle.pc_script.specs.Learning.{AllLearnTruly}
 use Rattle.pc_world.specs.Known.{Known, known_of}
 use Rattle.pc_world.specs.Local.{Head}
 use Rattle.pc_world.specs.RangeState.{RangeState}
@@ -34,11 +35,12 @@ state_in range h = state_of (own (protocol h.head) (actors.Range range) h.entrie
 abbrev pub head_of : List (List ℕ) → ℕ → Head
 head_of splits sessions = record { splits = splits; sessions = sessions; recoverers = 0 }
 
--- The history is a run whose steps are numbers of 64 bits, in which nothing is staged; its ranges are cut at rising keys and
--- numbered by 32 bits.
+-- The history is a run whose steps are numbers of 64 bits, in which nothing is staged and each learn is told truly; its ranges are cut at
+-- rising keys and numbered by 32 bits.
 pub record IsSoundHistory (h : History) : Type 0 where
   pub run : IsRun h.head h.entries
   pub short : length h.entries ≤ 2 ^ 64
   pub unstaged : NothingIsStaged h.entries
+  pub learns : AllLearnTruly h.head h.entries
   pub rising : AreRising h.head.splits
   pub few : length h.head.splits + 1 < 2 ^ 32

@@ -1,4 +1,5 @@
 pub mod Beside
+pub mod Commits
 pub mod Database
 pub mod Exchanging
 pub mod Following

@@ -1,20 +1,24 @@
-ghost use Rattle.std.specs.Prelude.{◌≡◌, ◌+◌, ◌^◌, ◌<◌, [], Any, IfOk, OnOk, length};
+ghost use Rattle.std.specs.Prelude.{◌≡◌, ◌+◌, ◌^◌, ◌<◌, [], Any, IfNone, IfOk, IfSome, OnOk, Some, length};
 ghost use Rattle.pc_base.specs.declared.actor.ActorId.TheVariants as actors;
 ghost use Rattle.pc_base.specs.Rising.{AreRising};
+ghost use Rattle.pc_proto.specs.declared.call.Call.TheVariants as calls;
 ghost use Rattle.pc_proto.specs.declared.reply.Reply.{Reply as Answered};
-ghost use Rattle.pc_world.specs.Caused.{IsEvalOf};
+ghost use Rattle.pc_script.specs.Learning.{LearnsTruly, WasCommitTold};
+ghost use Rattle.pc_world.specs.Caused.{IsCommittedTold, IsEvalOf};
 ghost use Rattle.pc_world.specs.Exchange.{IsAllowed};
-ghost use Rattle.pc_world.specs.Known.{next_number};
+ghost use Rattle.pc_world.specs.Known.{call_of, next_number};
 ghost use Rattle.pc_world.specs.Local.{IsActorOf, MayAsk, MayHear};
 ghost use Rattle.pc_world.specs.MayTell.{MayTell};
 ghost use Rattle.pc_world.specs.RangeOf.{GoesTo, IsForOne};
 ghost use Rattle.pc_world.specs.Unstaged.{IsNoStage};
+ghost use Rattle.pc_runner.specs.Commits.{IsCommitTelling};
 ghost use Rattle.pc_runner.specs.Database.{HasEvaluated, HasSent};
 ghost use Rattle.pc_runner.specs.History.{IsSoundHistory, head_of, known_by};
 ghost use Rattle.pc_runner.specs.Journal.{HasGrown, WasSent};
 
+use crate::commits::CommitTold;
 use crate::journal::Journal;
-use pc_base::{ActorId, Entry, NoMemory, TryCopy};
+use pc_base::{ActorId, Entry, NoMemory, TryCopy, TxnId};
 use pc_eval::RangeState;
 use pc_proto::{Answer, Call, Event, Keys, Reply, Request};
 use pc_world::range_for;
@@ -135,10 +139,31 @@ impl<'a> Database<'a> {
     pub fn tell(&mut self, session: u32, answer: Answer) -> Result<(), NoMemory>
         requires there { IsActorOf self.old.head (actors.Session session) }
         requires may { MayTell self.old.head.splits (actors.Session session) (known_by session self.old) answer }
+        requires learns { LearnsTruly (known_by session self.old) self.old.entries (Event.Tell answer) }
         ensures { OnOk result (HasGrown self.old self.new (actors.Session session) (Event.Tell answer)) }
     {
+        self.journal.tell(ActorId::Session(session), answer)?;
+        Ok(())
+    }
+
+    /// Where the transaction was told committed, if it was.
+    pub fn commit_told(&self, id: TxnId) -> Option<CommitTold>
+        ensures told { IfSome result (λ told. Any (IsCommitTelling id told) self.now.entries) }
+        ensures untold { IfNone result (WasCommitTold id self.now.entries → ⊥) }
+    {
+        self.journal.commit_told(id)
+    }
+
+    /// The session's open learn meets the commit of its transaction, which was told at this step.
+    pub fn meet(&mut self, session: u32, id: TxnId, step: u64) -> Result<(), NoMemory>
+        requires there { IsActorOf self.old.head (actors.Session session) }
+        requires asked { call_of (known_by session self.old) ≡ Some (calls.Learn id) }
+        requires unmet { (known_by session self.old).met_now ≡ [] }
+        requires told { Any (IsCommittedTold id step) self.old.entries }
+        ensures { OnOk result (HasGrown self.old self.new (actors.Session session) (Event.Meet id step)) }
+    {
         self.journal
-            .enter(ActorId::Session(session), Event::Tell(answer))?;
+            .enter(ActorId::Session(session), Event::Meet { id, step })?;
         Ok(())
     }
 

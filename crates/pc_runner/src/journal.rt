@@ -1,18 +1,23 @@
-ghost use Rattle.std.specs.Prelude.{◌≡◌, [], IfOk, OnErr, OnOk, slice_get};
+ghost use Rattle.std.specs.Prelude.{◌≡◌, [], Any, IfNone, IfOk, IfSome, None, OnErr, OnOk, slice_get};
 ghost use Rattle.pc_base.specs.declared.actor.ActorId.TheVariants as actors;
 ghost use Rattle.pc_history.specs.History.{MayFollow};
+ghost use Rattle.pc_script.specs.Learning.{LearnsTruly, WasCommitTold};
+ghost use Rattle.pc_world.specs.After.{known_at};
 ghost use Rattle.pc_world.specs.Evaluation.{reply, state_after};
 ghost use Rattle.pc_world.specs.Known.Traffic.{reply_in, reply_named};
 ghost use Rattle.pc_world.specs.Run.{protocol};
 ghost use Rattle.pc_world.specs.Stamps.{HasRoom};
 ghost use Rattle.pc_world.specs.Unstaged.{IsNoStage, OnSent};
+ghost use Rattle.pc_runner.specs.Commits.{IsCommitTelling, commit_told_in};
 ghost use Rattle.pc_runner.specs.History.{IsSoundHistory, head_of};
-ghost use Rattle.pc_runner.specs.Journal.{HasOneMore, next_entry};
+ghost use Rattle.pc_runner.specs.Journal.{HasGrown, HasOneMore, next_entry};
 
-use pc_base::{ActorId, Entry, NoMemory, TryCopy};
+use crate::commits::{CommitTold, keep_commit};
+use pc_base::{ActorId, Entry, NoMemory, TryCopy, TxnId};
 use pc_eval::RangeState;
-use pc_proto::{Event, Keys, Reply, Request};
+use pc_proto::{Answer, Event, Keys, Reply, Request};
 use std::alloc::Global;
+use std::collections::BTreeMap;
 use std::marker::Model;
 
 /// The history so far. Contracts see it as its actors and its entries.
@@ -21,14 +26,21 @@ pub(crate) struct Journal<'a> {
     splits: &'a Keys,
     sessions: usize,
     entries: Vec<Entry<Event>>,
+    /// Where each commit was told.
+    commits: BTreeMap<TxnId, CommitTold>,
 }
 
 impl<'a> Model for Journal<'a> {
+    ghost use Rattle.std.specs.BTreeMap.{get};
+    ghost use Rattle.pc_base.specs.Transaction.{txn_cmp};
+    ghost use Rattle.pc_runner.specs.Commits.{AreCommitsTold};
     ghost use Rattle.pc_runner.specs.History.{History, head_of};
 
     ghost Value = { History };
 
     ghost view = { λ s. record { head = head_of s.splits.now s.sessions; entries = s.entries.items } };
+
+    ghost invariant = { λ s. AreCommitsTold (get txn_cmp s.commits) s.entries.items };
 }
 
 impl<'a> Journal<'a> {
@@ -40,6 +52,7 @@ impl<'a> Journal<'a> {
             splits,
             sessions,
             entries: Vec::new(alloc),
+            commits: BTreeMap::new(alloc),
         }
     }
 
@@ -67,17 +80,46 @@ impl<'a> Journal<'a> {
         }
     }
 
-    /// The actor does this next. Gives the entry's step.
+    /// Where the transaction was told committed, if it was.
+    pub fn commit_told(&self, id: TxnId) -> Option<CommitTold>
+        ensures told { IfSome result (λ told. Any (IsCommitTelling id told) self.now.entries) }
+        ensures untold { IfNone result (WasCommitTold id self.now.entries → ⊥) }
+    {
+        self.commits.get(&id).copied()
+    }
+
+    /// The actor does this next, which tells nobody a commit. Gives the entry's step.
     pub fn enter(&mut self, actor: ActorId, event: Event) -> Result<u64, NoMemory>
         requires sound { IsSoundHistory self.old }
         requires may { MayFollow (protocol self.old.head) self.old.entries (next_entry self.old actor event) }
         requires unstaged { OnSent IsNoStage event }
+        requires learns { LearnsTruly (known_at self.old.head actor self.old.entries) self.old.entries event }
+        requires no_commit { commit_told_in event ≡ None }
         ensures ok { IfOk result (λ step. HasOneMore step self.old self.new actor event) }
         ensures err { OnErr result (self.new ≡ self.old) }
     {
         let step = self.entries.len() as u64;
         self.entries.push(Entry { step, actor, event })?;
         Ok(step)
+    }
+
+    /// The actor's open call is told this.
+    pub fn tell(&mut self, actor: ActorId, answer: Answer) -> Result<(), NoMemory>
+        requires sound { IsSoundHistory self.old }
+        requires may { MayFollow (protocol self.old.head) self.old.entries (next_entry self.old actor (Event.Tell answer)) }
+        requires learns { LearnsTruly (known_at self.old.head actor self.old.entries) self.old.entries (Event.Tell answer) }
+        ensures ok { OnOk result (HasGrown self.old self.new actor (Event.Tell answer)) }
+        ensures err { OnErr result (self.new ≡ self.old) }
+    {
+        let step = self.entries.len() as u64;
+        self.entries.reserve(1)?;
+        keep_commit(&mut self.commits, &answer, step)?;
+        self.entries.push_reserved(Entry {
+            step,
+            actor,
+            event: Event::Tell(answer),
+        });
+        Ok(())
     }
 
     /// The range evaluates the session's message of this number: it becomes what the request makes of it, and its reply is

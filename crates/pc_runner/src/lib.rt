@@ -1,6 +1,7 @@
 //! Runs a workload in turns: the sessions' scripts against the ranges, in one order that the workload decides.
 #![tactic(auto)]
 
+mod commits;
 mod database;
 mod exchange;
 mod finish;

@@ -2,6 +2,9 @@ ghost use Rattle.std.specs.Prelude.{◌≡◌, ◌↔◌, IfOk, OnOk, IsSome, Is
 ghost use Rattle.pc_coord.specs.Coordination.{next_of};
 ghost use Rattle.pc_coord.specs.declared.next.Next.TheVariants as nexts;
 ghost use Rattle.pc_coord.specs.Knows.{MayCome};
+ghost use Rattle.pc_base.specs.declared.transaction.TxnId.{TxnId};
+ghost use Rattle.pc_proto.specs.declared.call.Call.TheVariants as calls;
+ghost use Rattle.pc_runner.specs.Commits.{IsLearnOpen, MeetsWhatWasTold};
 ghost use Rattle.pc_runner.specs.Following.{HasSameWork, IsCalling, IsFollowing, IsInCall};
 ghost use Rattle.pc_script.specs.Script.{next_call};
 ghost use Rattle.pc_runner.specs.Follows.Turns.{CallsNext, IsCall};
@@ -9,10 +12,12 @@ ghost use Rattle.pc_runner.specs.History.{head_of, known_by};
 ghost use Rattle.pc_runner.specs.Keeping.{IsClockOf, IsStatedBy};
 ghost use Rattle.pc_runner.specs.Parts.{IsInside, IsUntold, TakesPart};
 ghost use Rattle.pc_runner.specs.Progress.{IsAfterStep};
+ghost use Rattle.pc_world.specs.Known.{call_of};
 
+use crate::commits::learnt_by;
 use crate::database::Database;
 use crate::outbox::{Answered, Posted};
-use pc_base::NoMemory;
+use pc_base::{NoMemory, TxnId};
 use pc_clock::{Clock, Stepped};
 use pc_coord::{Coordinator, Job, Next};
 use pc_proto::{Answer, Call, Request};
@@ -125,11 +130,46 @@ impl<'a> SessionRun<'a> {
         Err(NoMemory)
     }
 
-    /// Asks the call, at the next reading of the clock.
+    /// Asks the call. A learn meets the commit of its transaction at once, where anyone was told of that.
     fn ask(&mut self, db: &mut Database<'_>, call: Call) -> Result<(), NoMemory>
         requires follows { IsFollowing self.old db.old }
         requires next { next_call self.old.script ≡ Some call }
         ensures calls { OnOk result (IsInCall self.new db.new) }
+        ensures meets { OnOk result (MeetsWhatWasTold self.new.number db.new) }
+        ensures part { OnOk result (TakesPart self.old.number db.old db.new (IsUntold self.old.number)) }
+        ensures same { OnOk result (HasSameWork self.old self.new) }
+    {
+        let learns = learnt_by(&call);
+        self.open(db, call)?;
+        if let Some(id) = learns {
+            self.learn(db, id)?;
+        }
+        Ok(())
+    }
+
+    /// The open learn meets the commit of its transaction, where anyone was told of that.
+    fn learn(&mut self, db: &mut Database<'_>, id: TxnId) -> Result<(), NoMemory>
+        requires calls { IsInCall self.old db.old }
+        requires opened { IsLearnOpen id self.old.coordinator (known_by self.old.number db.old) }
+        ensures calls { OnOk result (IsInCall self.new db.new) }
+        ensures meets { OnOk result (MeetsWhatWasTold self.new.number db.new) }
+        ensures part { OnOk result (TakesPart self.old.number db.old db.new (IsInside self.old.number)) }
+        ensures same { OnOk result (HasSameWork self.old self.new) }
+    {
+        if let Some(told) = db.commit_told(id) {
+            db.meet(self.number, id, told.step)?;
+            self.coordinator.met(told.ts);
+        }
+        Ok(())
+    }
+
+    /// Opens the call, at the next reading of the clock.
+    fn open(&mut self, db: &mut Database<'_>, call: Call) -> Result<(), NoMemory>
+        requires follows { IsFollowing self.old db.old }
+        requires next { next_call self.old.script ≡ Some call }
+        ensures calls { OnOk result (IsInCall self.new db.new) }
+        ensures asked { OnOk result (call_of (known_by self.old.number db.new) ≡ Some call) }
+        ensures learns { (id : TxnId) → call ≡ calls.Learn id → OnOk result (IsLearnOpen id self.new.coordinator (known_by self.old.number db.new)) }
         ensures part { OnOk result (TakesPart self.old.number db.old db.new (IsUntold self.old.number)) }
         ensures same { OnOk result (HasSameWork self.old self.new) }
     {
@@ -141,7 +181,8 @@ impl<'a> SessionRun<'a> {
 
     /// Does what is due.
     fn step(&mut self, db: &mut Database<'_>) -> Result<Progress, NoMemory>
-        requires { IsInCall self.old db.old }
+        requires calls { IsInCall self.old db.old }
+        requires meets { MeetsWhatWasTold self.old.number db.old }
         ensures after { IfOk result (IsAfterStep self.old.number db.old self.new db.new) }
         ensures same { OnOk result (HasSameWork self.old self.new) }
     {
@@ -231,6 +272,7 @@ impl<'a> SessionRun<'a> {
     /// The open call is told its answer, and the script goes on by it; what the transaction left becomes the newest job.
     fn tell(&mut self, db: &mut Database<'_>, answer: Answer) -> Result<Progress, NoMemory>
         requires calls { IsInCall self.old db.old }
+        requires meets { MeetsWhatWasTold self.old.number db.old }
         requires due { next_of self.old.coordinator ≡ nexts.Tell answer }
         requires may { MayCome self.old.coordinator (known_by self.old.number db.old) (nexts.Tell answer) }
         ensures after { IfOk result (IsAfterStep self.old.number db.old self.new db.new) }

@@ -4,6 +4,7 @@ use Rattle.std.proofs.lemmas.List.Concat.{flat_map-cons}
 use Rattle.std.proofs.lemmas.List.Elements.{All-append, All-cons, All-head, All-nil, All-push, All-tail}
 use Rattle.std.specs.List.{flat_map}
 use Rattle.pc_base.specs.declared.transaction.Priority.{Priority}
+use Rattle.pc_base.specs.declared.transaction.TxnId.{TxnId}
 use Rattle.pc_call.specs.Suiting.{SuitsFlight}
 use Rattle.pc_coord.specs.Knows.{IsHeld}
 use Rattle.pc_coord.specs.Suiting.{Suits}
@@ -16,7 +17,6 @@ use Rattle.pc_script.specs.Script.{Position, calls_of, end_call, opened, rerun, 
 use Rattle.pc_script.specs.Suiting.{AreOfOne, FitsCalls, FitsTxn, IsCallIn, IsCourse, IsPlannedIn}
 use Rattle.pc_txn.specs.declared.flight.InFlight.{InFlight}
 use Rattle.pc_txn.specs.declared.txn.OpenTxn.{OpenTxn}
-use Rattle.pc_work.specs.Built.{IsBuiltItem}
 use Rattle.pc_work.specs.declared.item.Item.{Item}
 use Rattle.pc_work.specs.declared.item.Item.TheVariants.{Learn, Txn}
 use Rattle.pc_work.specs.declared.statement.Statement.{Statement as Step}
@@ -45,9 +45,9 @@ all_calls (step ∷ statements) =
     subst (All IsPlannedIn) (sym (flat_map-cons statement_calls step statements))
     (All-append IsPlannedIn (statement_calls step) (flat_map statement_calls statements) (step_calls step) (all_calls statements))
 
-behind_begin : (item : Item) → IsBuiltItem item → All IsPlannedIn (drop 1 (calls_of item))
-behind_begin (Learn id) is = absurd is
-behind_begin (Txn priority statements commits) is = All-push IsPlannedIn (flat_map statement_calls statements) (plans.Ask (end_call commits)) (all_calls statements) (end_in commits)
+behind_begin : (item : Item) → All IsPlannedIn (drop 1 (calls_of item))
+behind_begin (Learn id) = All-nil IsPlannedIn
+behind_begin (Txn priority statements commits) = All-push IsPlannedIn (flat_map statement_calls statements) (plans.Ask (end_call commits)) (all_calls statements) (end_in commits)
 
 -- whatever was read, planned calls of one transaction come to such calls
 planned_in : (read : Option (List ℕ)) (p : Planned) → IsPlannedIn p → IsCallIn (planned_call read p)
@@ -77,18 +77,14 @@ pub drop_planned : (read : Option (List ℕ)) (ps : List Planned) → map (plann
 drop_planned read [] = refl
 drop_planned read (p ∷ ps) = refl
 
-course_of : (item : Item) → IsBuiltItem item → IsCourse (map (planned_call None) (calls_of item))
-course_of (Learn id) is = absurd is
-course_of (Txn priority statements commits) is = planned_calls None (flat_map statement_calls statements ++ plans.Ask (end_call commits) ∷ []) (behind_begin (Txn priority statements commits) is)
+course_of : (item : Item) → IsCourse (map (planned_call None) (calls_of item))
+course_of (Learn id) = refl
+course_of (Txn priority statements commits) = planned_calls None (flat_map statement_calls statements ++ plans.Ask (end_call commits) ∷ []) (behind_begin (Txn priority statements commits))
 
 -- at the first call of the next item no transaction is open
-pub opened_fits : (items : List Item) (reruns : ℕ) → All IsBuiltItem items → FitsCalls (opened items reruns) None
-opened_fits [] reruns built = record { items = All-nil IsBuiltItem; calls = All-nil IsPlannedIn; now = All-nil IsCallIn }
-opened_fits (item ∷ items) reruns built = record {
-  items = All-tail IsBuiltItem item items built;
-  calls = behind_begin item (All-head IsBuiltItem item items built);
-  now = course_of item (All-head IsBuiltItem item items built);
-}
+pub opened_fits : (items : List Item) (reruns : ℕ) → FitsCalls (opened items reruns) None
+opened_fits [] reruns = record { calls = All-nil IsPlannedIn; now = All-nil IsCallIn }
+opened_fits (item ∷ items) reruns = record { calls = behind_begin item; now = course_of item }
 
 -- a call of a transaction that was begun
 not_round : (call : Call) → IsCallIn call → is_round call ≡ false
@@ -103,9 +99,10 @@ not_outside call is = refl
 no_begin : (ahead : List Call) → AreOfOne ahead → IsCourse ahead
 no_begin [] one = one
 no_begin (calls.Begin priority ∷ later) one = let is : IsCallIn (calls.Begin priority) = All-head IsCallIn (calls.Begin priority) later one in absurd is
+no_begin (calls.Learn id ∷ later) one = let is : IsCallIn (calls.Learn id) = All-head IsCallIn (calls.Learn id) later one in absurd is
 no_begin (call ∷ later) one = one
 
--- The call that comes first: a begin, or one of a transaction that was begun.
+-- The call that comes first: a begin or a learn, or one of a transaction that was begun.
 pub record IsFirstOf (ahead : List Call) (call : Call) : Type 0 where
   pub round : is_round call ≡ false
   pub inside : is_outside call ≡ false → AreOfOne ahead
@@ -114,6 +111,9 @@ pub first_of : (ahead : List Call) (call : Call) → IsCourse ahead → slice_ge
 first_of [] call course next = absurd cc
 first_of (calls.Begin priority ∷ later) call course next =
     let same : calls.Begin priority ≡ call = cc in
+    record { round = sym (ap is_round same); inside = λ e. let t : true ≡ false = ap is_outside same ∙ e in absurd cc }
+first_of (calls.Learn id ∷ later) call course next =
+    let same : calls.Learn id ≡ call = cc in
     record { round = sym (ap is_round same); inside = λ e. let t : true ≡ false = ap is_outside same ∙ e in absurd cc }
 first_of (first ∷ later) call course next =
     let same : first ≡ call = cc in
@@ -134,7 +134,7 @@ one_outside (first ∷ later) call one next =
     let same : first ≡ call = cc in
     sym (ap is_outside same) ∙ not_outside first (All-head IsCallIn first later one)
 
--- a begin is next only where no transaction is open
+-- a begin or a learn is next only where no transaction is open
 pub fits_outside : (ahead : List Call) (txn : Option OpenTxn) (k : Known) (call : Call) → FitsTxn ahead txn → IsHeld txn k → slice_get ahead 0 ≡ Some call → is_outside call ≡ true → k.is_open ≡ false
 fits_outside ahead None k call fits held next out = held
 fits_outside ahead (Some x) k call fits held next out = let e : true ≡ false = sym out ∙ one_outside ahead call fits.inside next in absurd cc
@@ -150,6 +150,11 @@ free_suits call w none = subst (SuitsFlight call) (sym none) tt
 pub free_fits : (ahead : List Call) (txn : Option OpenTxn) → AreOfOne ahead → IfSome txn IsFree → FitsTxn ahead txn
 free_fits ahead None one free = no_begin ahead one
 free_fits ahead (Some x) one free = record { inside = one; first = λ call next. free_suits call x.in_flight free }
+
+-- a learn is next only where no transaction is open
+pub learns_outside : (ahead : List Call) (txn : Option OpenTxn) (id : TxnId) → FitsTxn ahead txn → slice_get ahead 0 ≡ Some (calls.Learn id) → txn ≡ None
+learns_outside ahead None id fits next = refl
+learns_outside ahead (Some x) id fits next = let e : true ≡ false = one_outside ahead (calls.Learn id) fits.inside next in absurd cc
 
 -- goes on behind the first call
 pub after_begin : (ahead : List Call) (call : Call) (priority : Priority) (txn : Option OpenTxn) → IsCourse ahead → slice_get ahead 0 ≡ Some call → call ≡ calls.Begin priority → IfSome txn IsFree → FitsTxn (drop 1 ahead) txn
@@ -175,9 +180,9 @@ rollback_fits (Some x) = record {
 }
 
 -- calls once more, where a rerun is left
-pub rerun_fits : (again : List Planned) (left : ℕ) (at : Position) (txn : Option OpenTxn) → All IsBuiltItem at.items → All IsPlannedIn (drop 1 at.calls) → FitsTxn (map (planned_call at.read) again) txn → FitsCalls (rerun again left at) txn
-rerun_fits again zero at txn items calls fits = record { items = items; calls = calls; now = rollback_fits txn }
-rerun_fits again (suc left) at txn items calls fits = record { items = items; calls = calls; now = fits }
+pub rerun_fits : (again : List Planned) (left : ℕ) (at : Position) (txn : Option OpenTxn) → All IsPlannedIn (drop 1 at.calls) → FitsTxn (map (planned_call at.read) again) txn → FitsCalls (rerun again left at) txn
+rerun_fits again zero at txn calls fits = record { calls = calls; now = rollback_fits txn }
+rerun_fits again (suc left) at txn calls fits = record { calls = calls; now = fits }
 
 -- the call once more
 pub again_fits : (ahead : List Call) (call : Call) (txn : Option OpenTxn) → IsCourse ahead → slice_get ahead 0 ≡ Some call → Suits call txn → (is_outside call ≡ true → txn ≡ None) → FitsTxn ahead txn

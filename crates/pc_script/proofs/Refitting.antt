@@ -11,7 +11,6 @@ use Rattle.pc_proto.specs.declared.call.Call.{Call}
 use Rattle.pc_proto.specs.declared.call.Call.TheVariants as calls
 use Rattle.pc_txn.specs.declared.flight.InFlight.{InFlight}
 use Rattle.pc_txn.specs.declared.txn.OpenTxn.{OpenTxn}
-use Rattle.pc_work.specs.Built.{IsBuiltItem}
 use Rattle.pc_world.specs.Known.{Known}
 use Rattle.pc_world.specs.Known.Statements.{Statement, is_open_told}
 use Rattle.pc_world.specs.Local.{is_outside, is_round}
@@ -74,7 +73,6 @@ module _ (splits : List (List ℕ)) (actor : ActorId) (k : Known) (s : Statement
 -- The open call, and what becomes of the transaction by its answer.
 pub record IsAnsweredCall (at : Position) (k : Known) (call : Call) (answer : Answer) (txn : Option OpenTxn) : Type 0 where
   pub course : IsCourse (coming at)
-  pub items : All IsBuiltItem at.items
   pub calls : All IsPlannedIn (drop 1 at.calls)
   pub next : next_call at ≡ Some call
   pub outside : is_outside call ≡ true → k.is_open ≡ false
@@ -83,8 +81,8 @@ pub record IsAnsweredCall (at : Position) (k : Known) (call : Call) (answer : An
 
 module _ (at : Position) (txn : Option OpenTxn) where
   -- the next item, where no transaction is open
-  next_item : All IsBuiltItem at.items → txn ≡ None → FitsCalls (opened at.items at.reruns) txn
-  next_item items none = subst (FitsCalls (opened at.items at.reruns)) (sym none) (opened_fits at.items at.reruns items)
+  next_item : txn ≡ None → FitsCalls (opened at.items at.reruns) txn
+  next_item none = subst (FitsCalls (opened at.items at.reruns)) (sym none) (opened_fits at.items at.reruns)
 
   -- behind a call of a transaction that was begun, whatever it read
   on_behind : (read : Option (List ℕ)) (call : Call) → IsCourse (coming at) → next_call at ≡ Some call → is_outside call ≡ false → IfSome txn IsFree → FitsTxn (map (planned_call read) (drop 1 at.ahead)) txn
@@ -120,38 +118,38 @@ pub told_fits : (answer : Answer) (at : Position) (txn : Option OpenTxn) (splits
     → FitsCalls (after_told answer at) txn
 told_fits (answers.Begun id ts) at txn splits actor k s a may =
     let row : MayTellBegun actor k s id ts = row_by _ _ (answers.Begun id ts ≡ answers.NoTxn) (answers.Begun id ts ≡ answers.Clock s.reading) (MayTellBegun actor k s id ts) (λ e. absurd cc) (λ e. absurd cc) may in
-    record { items = a.items; calls = a.calls; now = subst (λ ahead. FitsTxn ahead txn) (sym (drop_planned at.read at.ahead)) (after_begin (coming at) s.call row.priority txn a.course a.next row.asked (free_next (answers.Begun id ts) s.call txn (λ w none. none) a.suits)) }
+    record { calls = a.calls; now = subst (λ ahead. FitsTxn ahead txn) (sym (drop_planned at.read at.ahead)) (after_begin (coming at) s.call row.priority txn a.course a.next row.asked (free_next (answers.Begun id ts) s.call txn (λ w none. none) a.suits)) }
 told_fits (answers.Value value) at txn splits actor k s a may =
     let row : MayTellValue k s value = row_by _ _ (answers.Value value ≡ answers.NoTxn) (answers.Value value ≡ answers.Clock s.reading) (MayTellValue k s value) (λ e. absurd cc) (λ e. absurd cc) may in
-    record { items = a.items; calls = a.calls; now = on_behind at txn value s.call a.course a.next (ap is_outside row.asked) (free_next (answers.Value value) s.call txn (λ w none. none) a.suits) }
+    record { calls = a.calls; now = on_behind at txn value s.call a.course a.next (ap is_outside row.asked) (free_next (answers.Value value) s.call txn (λ w none. none) a.suits) }
 told_fits (answers.Rows rows) at txn splits actor k s a may =
     let row : MayTellRows splits k s rows = row_by _ _ (answers.Rows rows ≡ answers.NoTxn) (answers.Rows rows ≡ answers.Clock s.reading) (MayTellRows splits k s rows) (λ e. absurd cc) (λ e. absurd cc) may in
-    record { items = a.items; calls = a.calls; now = on_next at txn s.call a.course a.next (ap is_outside row.asked) (free_next (answers.Rows rows) s.call txn (λ w none. none) a.suits) }
+    record { calls = a.calls; now = on_next at txn s.call a.course a.next (ap is_outside row.asked) (free_next (answers.Rows rows) s.call txn (λ w none. none) a.suits) }
 told_fits answers.Written at txn splits actor k s a may =
     let row : MayTellWritten k s = row_by _ _ (answers.Written ≡ answers.NoTxn) (answers.Written ≡ answers.Clock s.reading) (MayTellWritten k s) (λ e. absurd cc) (λ e. absurd cc) may in
     let first = row.sent.4 in
-    record { items = a.items; calls = a.calls; now = written_by at txn s.call first.key first.value first.asked a.course a.next (free_next answers.Written s.call txn (λ w none. none) a.suits) }
+    record { calls = a.calls; now = written_by at txn s.call first.key first.value first.asked a.course a.next (free_next answers.Written s.call txn (λ w none. none) a.suits) }
 told_fits (answers.Blocked holder) at txn splits actor k s a may =
-    rerun_fits at.ahead at.left at txn a.items a.calls (once_more at txn k s.call a.course a.next a.outside (again_next (answers.Blocked holder) s.call txn (λ x suits. suits) a.suits) a.closed)
+    rerun_fits at.ahead at.left at txn a.calls (once_more at txn k s.call a.course a.next a.outside (again_next (answers.Blocked holder) s.call txn (λ x suits. suits) a.suits) a.closed)
 told_fits (answers.Unavailable faults) at txn splits actor k s a may =
-    rerun_fits at.ahead at.left at txn a.items a.calls (once_more at txn k s.call a.course a.next a.outside (again_next (answers.Unavailable faults) s.call txn (λ x suits. suits) a.suits) a.closed)
+    rerun_fits at.ahead at.left at txn a.calls (once_more at txn k s.call a.course a.next a.outside (again_next (answers.Unavailable faults) s.call txn (λ x suits. suits) a.suits) a.closed)
 told_fits (answers.Moved ts) at txn splits actor k s a may =
-    rerun_fits at.ahead at.left at txn a.items a.calls (once_more at txn k s.call a.course a.next a.outside (again_next (answers.Moved ts) s.call txn (λ x suits. suits) a.suits) a.closed)
+    rerun_fits at.ahead at.left at txn a.calls (once_more at txn k s.call a.course a.next a.outside (again_next (answers.Moved ts) s.call txn (λ x suits. suits) a.suits) a.closed)
 told_fits (answers.Restart key ts) at txn splits actor k s a may =
-    rerun_fits (drop 1 at.calls) at.left at txn a.items a.calls (free_fits (map (planned_call at.read) (drop 1 at.calls)) txn (planned_calls at.read (drop 1 at.calls) a.calls) (free_next (answers.Restart key ts) s.call txn (λ w none. none) a.suits))
+    rerun_fits (drop 1 at.calls) at.left at txn a.calls (free_fits (map (planned_call at.read) (drop 1 at.calls)) txn (planned_calls at.read (drop 1 at.calls) a.calls) (free_next (answers.Restart key ts) s.call txn (λ w none. none) a.suits))
 told_fits answers.Learnt at txn splits actor k s a may =
     let row : IsLearnTold true k s.call = row_by _ _ (answers.Learnt ≡ answers.NoTxn) (answers.Learnt ≡ answers.Clock s.reading) (IsLearnTold true k s.call) (λ e. absurd cc) (λ e. absurd cc) may in
-    next_item at txn a.items (a.closed (a.outside (learn_outside true k s.call row)))
+    next_item at txn (a.closed (a.outside (learn_outside true k s.call row)))
 told_fits answers.NotYet at txn splits actor k s a may =
     let row : IsLearnTold false k s.call = row_by _ _ (answers.NotYet ≡ answers.NoTxn) (answers.NotYet ≡ answers.Clock s.reading) (IsLearnTold false k s.call) (λ e. absurd cc) (λ e. absurd cc) may in
-    next_item at txn a.items (a.closed (a.outside (learn_outside false k s.call row)))
-told_fits (answers.Committed id ts) at txn splits actor k s a may = next_item at txn a.items (a.closed refl)
-told_fits (answers.RolledBack id why) at txn splits actor k s a may = next_item at txn a.items (a.closed refl)
-told_fits (answers.Aborted why) at txn splits actor k s a may = next_item at txn a.items (a.closed refl)
-told_fits (answers.Unknown id) at txn splits actor k s a may = next_item at txn a.items (a.closed refl)
-told_fits (answers.Clock reading) at txn splits actor k s a may = next_item at txn a.items (a.closed (a.outside (clock_begins splits actor k s reading may)))
+    next_item at txn (a.closed (a.outside (learn_outside false k s.call row)))
+told_fits (answers.Committed id ts) at txn splits actor k s a may = next_item at txn (a.closed refl)
+told_fits (answers.RolledBack id why) at txn splits actor k s a may = next_item at txn (a.closed refl)
+told_fits (answers.Aborted why) at txn splits actor k s a may = next_item at txn (a.closed refl)
+told_fits (answers.Unknown id) at txn splits actor k s a may = next_item at txn (a.closed refl)
+told_fits (answers.Clock reading) at txn splits actor k s a may = next_item at txn (a.closed (a.outside (clock_begins splits actor k s reading may)))
 told_fits answers.NoTxn at txn splits actor k s a may =
-    record { items = a.items; calls = a.calls; now = subst (FitsTxn (coming at)) (sym (a.closed (none_open splits actor k s may))) a.course }
+    record { calls = a.calls; now = subst (FitsTxn (coming at)) (sym (a.closed (none_open splits actor k s may))) a.course }
 told_fits answers.Done at txn splits actor k s a may =
     let row : s.call ≡ calls.Round = row_by _ _ (answers.Done ≡ answers.NoTxn) (answers.Done ≡ answers.Clock s.reading) (s.call ≡ calls.Round) (λ e. absurd cc) (λ e. absurd cc) may in
     let e : true ≡ false = sym (ap is_round row) ∙ (first_of (coming at) s.call a.course a.next).round in

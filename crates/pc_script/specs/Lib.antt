@@ -1,6 +1,7 @@
 pub mod Ahead
 pub mod Clocks
 pub mod End
+pub mod Learning
 pub mod Planned
 pub mod Script
 pub mod Steps

@@ -1,5 +1,5 @@
 -- How a session's script stands beside its open transaction: the call that comes next suits it.
-use Rattle.std.specs.Prelude.{◌≡◌, Option, None, Some, List, ◌∷◌, All, ⊤, drop, slice_get}
+use Rattle.std.specs.Prelude.{◌≡◌, Option, None, Some, List, [], ◌∷◌, All, ⊤, drop, slice_get}
 use Rattle.pc_call.specs.Suiting.{SuitsFlight}
 use Rattle.pc_proto.specs.declared.call.Call.{Call}
 use Rattle.pc_proto.specs.declared.call.Call.TheVariants as calls
@@ -7,7 +7,6 @@ use Rattle.pc_script.specs.declared.planned.Planned.{Planned}
 use Rattle.pc_script.specs.declared.planned.Planned.TheVariants as plans
 use Rattle.pc_script.specs.Script.{Position, coming}
 use Rattle.pc_txn.specs.declared.txn.OpenTxn.{OpenTxn}
-use Rattle.pc_work.specs.Built.{IsBuiltItem}
 
 -- A call of a transaction that was begun: a statement, or its end.
 abbrev pub IsCallIn : Call → Type 0
@@ -28,9 +27,10 @@ abbrev pub IsPlannedIn : Planned → Type 0
 IsPlannedIn (plans.Ask call) = IsCallIn call
 IsPlannedIn (plans.PutSum key amount) = ⊤
 
--- The calls are those of one transaction, from its begin or from a later one on.
+-- The calls are those of one transaction, from its begin or from a later one on; or a learn alone.
 abbrev pub IsCourse : List Call → Type 0
 IsCourse (calls.Begin priority ∷ later) = AreOfOne later
+IsCourse (calls.Learn id ∷ later) = later ≡ []
 IsCourse ahead = AreOfOne ahead
 
 -- The open transaction goes on by these calls, and the first of them suits it.
@@ -42,9 +42,8 @@ abbrev pub FitsTxn : List Call → Option OpenTxn → Type 0
 FitsTxn ahead None = IsCourse ahead
 FitsTxn ahead (Some x) = GoesOnWith ahead x
 
--- The calls ahead go on with the open transaction, or begin one where none is open; those behind the running item's begin are of one
--- transaction; and each later item is of the form that is built.
+-- The calls ahead go on with the open transaction, or begin one or learn where none is open; and those behind the running item's begin are
+-- of one transaction.
 pub record FitsCalls (at : Position) (txn : Option OpenTxn) : Type 0 where
-  pub items : All IsBuiltItem at.items
   pub calls : All IsPlannedIn (drop 1 at.calls)
   pub now : FitsTxn (coming at) txn

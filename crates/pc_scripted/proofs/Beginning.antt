@@ -21,7 +21,6 @@ use Rattle.pc_scripted.specs.Taking.{FinishesInTurn, HasMoved, Move}
 use Rattle.pc_session.specs.Session.{IsAtRest, RestsOrStopped, SessionMeaning}
 use Rattle.pc_session.specs.Steps.{HasStepped}
 use Rattle.pc_txn.specs.declared.txn.OpenTxn.{OpenTxn}
-use Rattle.pc_work.specs.Built.{IsBuiltItem}
 use Rattle.pc_work.specs.declared.item.Item.{Item}
 use Rattle.pc_world.specs.Follows.FinishingJobs.{jobs_of}
 use Rattle.pc_world.specs.Known.{known_of}
@@ -37,8 +36,8 @@ pub moved_from : {C : Type 0} (v old new : ScriptedMeaning C) (Is : ScriptedMean
 moved_from v old new Is same moved = subst (λ s. HasMoved (Is s) s new) same moved
 
 pub begun_scripted : {C : Type 0} (session : SessionMeaning C) (script : List Item) (at : Position) (reruns : ℕ) → IsAtRest session → session.desk.log.part.own ≡ [] → session.desk.log.stop ≡ None → session.desk.log.stopped ≡ false
-    → All IsBuiltItem script → at ≡ opened script reruns → IsScripted (record { session = session; script = script; at = at })
-begun_scripted session script at reruns rest none stop going items start =
+    → at ≡ opened script reruns → IsScripted (record { session = session; script = script; at = at })
+begun_scripted session script at reruns rest none stop going start =
     let id = session.desk.log.part.id in
     let begins : at.reruns ≡ reruns = ap (λ (p : Position). p.reruns) start ∙ opened_reruns script reruns in
     record {
@@ -53,7 +52,7 @@ begun_scripted session script at reruns rest none stop going items start =
         rest = rest;
         place = start ∙ (ap (opened script) (sym begins) ∙ ap (script_position at.reruns script) (sym none));
         fits = subst (λ (p : Position). FitsCalls p session.coordinator.txn) (sym start)
-            (subst (λ (txn : Option OpenTxn). FitsCalls (opened script reruns) txn) (sym (none_is session.coordinator.txn (rest.holds ∙ ap (λ own. (known_of own).is_open) none))) (opened_fits script reruns items));
+            (subst (λ (txn : Option OpenTxn). FitsCalls (opened script reruns) txn) (sym (none_is session.coordinator.txn (rest.holds ∙ ap (λ own. (known_of own).is_open) none))) (opened_fits script reruns));
       };
       ends = λ stopped. let e : true ≡ false = sym stopped ∙ going in absurd cc;
     }

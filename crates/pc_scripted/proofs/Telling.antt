@@ -127,7 +127,6 @@ fits_told old new at call answer part whole told rest after whose grown fits nex
     ap (λ own. (known_of own).is_open) grown ∙ (open_told own part call whole.reading whole.between answer (whole.whole ∙ ap (λ a. events.Ask call whole.reading ∷ (whole.between ++ events.Tell a ∷ [])) told) whole.within ∙ ap (is_open_told answer) (sym w.open_then)) in
     told_fits answer at new.coordinator.txn new.desk.log.head.splits (actors.Session old.coordinator.session) w.k w.s (record {
       course = fits_course (coming at) old.coordinator.txn fits.now;
-      items = fits.items;
       calls = fits.calls;
       next = next ∙ ap Some (sym w.asked);
       outside = λ out. w.open_then ∙ may.outside (sym (ap is_outside w.asked) ∙ out);

@@ -10,7 +10,6 @@ ghost use Rattle.pc_script.specs.Steps.{KeepsWork};
 ghost use Rattle.pc_scripted.specs.Scripted.{IsScripted, own_list};
 ghost use Rattle.pc_scripted.specs.Taking.{AsksInTurn, DoesWork, FinishesInTurn, TakesNextAlone, GoesUntil, HasMoved, IsRunOut, SaysWhetherDone, are_items_over, is_script_over};
 ghost use Rattle.pc_session.specs.Session.{IsAtRest};
-ghost use Rattle.pc_work.specs.Built.{IsBuiltItem};
 ghost use Rattle.pc_work.specs.declared.session.SessionWork.{SessionWork};
 ghost use Rattle.pc_work.specs.declared.workload.Workload.{Workload};
 ghost use Rattle.pc_world.specs.Follows.FinishingJobs.{jobs_of};
@@ -59,7 +58,6 @@ impl<'a, N: Named<CommitWorld>, C: Clock + Drop, V: Wire + Drop, G: Gate> Script
         requires fresh { session.desk.log.part.own ≡ [] }
         requires no_stop { session.desk.log.stop ≡ None }
         requires going { session.desk.log.stopped ≡ false }
-        requires items { All IsBuiltItem script.now }
         ensures scripted { IfOk result IsScripted }
         ensures made { IfOk result (λ s. s ≡ record { session = session.entry; script = script.now; at = opened script.now reruns }) }
     {

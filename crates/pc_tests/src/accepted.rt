@@ -144,7 +144,7 @@ fn a_key_has_at_most_64_letters(rt: HostRuntime) -> Result<(), Fail> {
 }
 
 #[test]
-fn a_script_has_any_number_of_transactions(rt: HostRuntime) -> Result<(), Fail> {
+fn a_script_has_any_number_of_transactions_and_learns(rt: HostRuntime) -> Result<(), Fail> {
     let alloc = rt.alloc();
     for (session, number) in [
         ("\"script\":[]", 0),
@@ -152,7 +152,18 @@ fn a_script_has_any_number_of_transactions(rt: HostRuntime) -> Result<(), Fail> 
             "\"script\":[{\"do\":[]},{\"do\":[],\"priority\":\"high\",\"end\":\"rollback\"}]",
             0,
         ),
-        ("\"script\":[{\"do\":[]},{\"learn\":\"1.1\"}]", 10),
+        ("\"script\":[{\"do\":[]},{\"learn\":\"1.1\"}]", 0),
+        ("\"script\":[{\"learn\":\"1.4294967295\"}]", 0),
+        ("\"script\":[{\"learn\":\"2.1\"}]", 10),
+        ("\"script\":[{\"learn\":\"1.0\"}]", 10),
+        ("\"script\":[{\"learn\":\"0.1\"}]", 10),
+        ("\"script\":[{\"learn\":\"1.01\"}]", 10),
+        ("\"script\":[{\"learn\":\"1.4294967296\"}]", 10),
+        ("\"script\":[{\"learn\":\"1.1.1\"}]", 10),
+        ("\"script\":[{\"learn\":\"1\"}]", 10),
+        ("\"script\":[{\"learn\":\"\"}]", 10),
+        ("\"script\":[{\"learn\":1.1}]", 10),
+        ("\"script\":[{\"learn\":\"1.1\",\"do\":[]}]", 10),
         ("\"script\":[{\"priority\":\"high\"}]", 10),
         ("\"script\":{}", 10),
         ("\"script\":[],\"stop\":1", 10),
@@ -163,6 +174,20 @@ fn a_script_has_any_number_of_transactions(rt: HostRuntime) -> Result<(), Fail> 
             "{{\"version\":1,\"pipelining\":false,\"turns\":[],\"sessions\":[{{\"clock\":{{\"start\":10,\"step\":1}},{session}}}]}}"
         )?;
         assert_eq!(rt; number_of(alloc, text.as_bytes())?, number, "{session}");
+    }
+    Ok(())
+}
+
+/// A workload without turns is accepted where none of its sessions learns, though it is not run yet.
+#[test]
+fn a_learn_stands_in_stated_turns(rt: HostRuntime) -> Result<(), Fail> {
+    let alloc = rt.alloc();
+    for (item, accepted) in [("{\"do\":[]}", true), ("{\"learn\":\"1.1\"}", false)] {
+        let text = format!(in alloc;
+            "{{\"version\":1,\"pipelining\":false,\"sessions\":[{{\"script\":[{item}]}}]}}"
+        )?;
+        let read = Workload::read_accepted(alloc, text.as_bytes());
+        assert_eq!(rt; read.is_ok(), accepted, "{item}");
     }
     Ok(())
 }

@@ -4,9 +4,13 @@
 #[cfg(test)]
 mod accepted;
 #[cfg(test)]
+mod coordinator;
+#[cfg(test)]
 mod evaluation;
 #[cfg(test)]
 mod intents;
+#[cfg(test)]
+mod learning;
 #[cfg(test)]
 mod limits;
 #[cfg(test)]

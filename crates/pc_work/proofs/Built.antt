@@ -8,24 +8,19 @@ use Rattle.serde_json.specs.Data.{Data, null, boolean, number, string, array, ob
 use Rattle.serde_json.specs.Find.{get, as_bool}
 use Rattle.pc_base.specs.declared.limits.TheConstants.{LEAST_ENTRIES, MOST_ENTRIES, MOST_RERUNS, MOST_SESSIONS, MOST_SPLITS, MOST_STATEMENTS, MOST_TURNS}
 use Rattle.pc_base.specs.Rising.{AreRising, keys_rise}
-use Rattle.pc_base.specs.declared.transaction.Priority.TheVariants.{Normal}
 use Rattle.pc_work.specs.Reading.{◌>>=◌}
 use Rattle.pc_work.specs.Members.{has_only, member_if, member_or, read_or, whole_between, whole_in, whole_of, whole_up_to}
 use Rattle.pc_work.specs.Lists.{items_by, list_by}
 use Rattle.pc_work.specs.Count.{session_count}
-use Rattle.pc_work.specs.Item.{item_names, item_of}
-use Rattle.pc_work.specs.Clock.{clock_of}
-use Rattle.pc_work.specs.Ending.{commits_of}
-use Rattle.pc_work.specs.Priority.{priority_of}
-use Rattle.pc_work.specs.Statement.{statement_of}
 use Rattle.pc_work.specs.Texts.{key_of}
-use Rattle.pc_work.specs.Session.{session_names, session_of}
+use Rattle.pc_work.specs.Session.{session_of}
 use Rattle.pc_work.specs.Splits.{splits_of}
 use Rattle.pc_work.specs.Turn.{is_turn_there, turn_of}
-use Rattle.pc_work.specs.Workload.{are_stated_turns, are_turns_within, is_within_limits, first_items, are_sessions, workload_names, workload_of, has_built_form, states_clock}
-use Rattle.pc_work.specs.Accepted.{HasBuiltItems, IsAccepted}
-use Rattle.pc_work.specs.Built.{IsBuiltItem, IsBuiltSession, IsTurnOf, AreTurnsOf, IsBuilt}
-use Rattle.pc_work.specs.declared.item.Item.TheVariants.{Txn}
+use Rattle.pc_work.specs.Workload.{are_stated_turns, are_turns_within, is_item_there, is_script_there, is_within_limits, first_items, are_sessions, workload_names, workload_of, has_built_form, states_clock}
+use Rattle.pc_work.specs.Accepted.{HasItemsOf, HasTransactions, IsAccepted, IsTransaction}
+use Rattle.pc_work.specs.Built.{IsItemOf, IsBuiltSession, IsTurnOf, AreTurnsOf, IsBuilt}
+use Rattle.pc_work.specs.declared.item.Item.{Item}
+use Rattle.pc_work.specs.declared.item.Item.TheVariants.{Learn, Txn}
 use Rattle.pc_work.specs.declared.session.SessionWork.{SessionWork}
 use Rattle.pc_work.specs.declared.turn.Turn.{Turn}
 use Rattle.pc_work.specs.declared.turn.Turn.TheVariants.{Session, Job, Recoverer}
@@ -86,24 +81,30 @@ each_by test P says (x ∷ xs) e =
 all_by : {X : Type 0} (test : X → Bool) (P : X → Type 0) → ((x : X) → test x ≡ true → P x) → (xs : List X) → list_all test xs ≡ true → All P xs
 all_by test P says xs e = All-from_recursion P xs (each_by test P says xs e)
 
-item_is_built : (value : Data) → Only IsBuiltItem (item_of value)
-unfolding item_of
-item_is_built value =
-    only_when IsBuiltItem (has_only item_names value) _ (λ named.
-    only_behind IsBuiltItem (get (codes "do") value) _ (λ found.
-    only_behind IsBuiltItem (list_by statement_of found) _ (λ statements.
-    only_behind IsBuiltItem (member_or Normal priority_of (codes "priority") value) _ (λ priority.
-    only_behind IsBuiltItem (member_or true commits_of (codes "end") value) _ (λ commits.
-    only_some IsBuiltItem (Txn priority statements commits) tt)))))
+-- Each learn may stand where it does.
+item_is_there : (sessions : ℕ) (turns : Option (List Turn)) (item : Item) → is_item_there sessions turns item ≡ true → IsItemOf sessions item
+item_is_there sessions turns (Learn id) e =
+    let both = and_parts (is_some turns) (nat_le 1 id.session && nat_le id.session sessions) e in
+    let ends = and_parts (nat_le 1 id.session) (nat_le id.session sessions) both.1 in
+    (leb-true 1 id.session ends.0, leb-true id.session sessions ends.1)
+item_is_there sessions turns (Txn priority statements commits) e = tt
 
-session_is_built : (value : Data) → Only HasBuiltItems (session_of value)
-unfolding session_of
-session_is_built value =
-    only_when HasBuiltItems (has_only session_names value) _ (λ named.
-    only_behind HasBuiltItems (member_if clock_of (codes "clock") value) _ (λ clock.
-    only_behind HasBuiltItems (get (codes "script") value) _ (λ found.
-    only_known (All IsBuiltItem) HasBuiltItems (list_by item_of found) _ (list_only IsBuiltItem item_of item_is_built found) (λ script items.
-    only_some HasBuiltItems (record { script = script; clock = clock }) items))))
+items_are_there : (sessions : List SessionWork) (turns : Option (List Turn)) → list_all (is_script_there (length sessions) turns) sessions ≡ true → All (HasItemsOf (length sessions)) sessions
+items_are_there sessions turns e =
+    all_by (is_script_there (length sessions) turns) (HasItemsOf (length sessions))
+    (λ session items. all_by (is_item_there (length sessions) turns) (IsItemOf (length sessions)) (item_is_there (length sessions) turns) session.script items) sessions e
+
+no_learn : (sessions : ℕ) (item : Item) → is_item_there sessions None item ≡ true → IsTransaction item
+no_learn sessions (Learn id) e = absurd (false≢true e)
+no_learn sessions (Txn priority statements commits) e = tt
+
+none_learn : (sessions : List SessionWork) → list_all (is_script_there (length sessions) None) sessions ≡ true → All HasTransactions sessions
+none_learn sessions e =
+    all_by (is_script_there (length sessions) None) HasTransactions
+    (λ session items. all_by (is_item_there (length sessions) None) IsTransaction (no_learn (length sessions)) session.script items) sessions e
+
+none_learnt : (sessions : List SessionWork) (turns : Option (List Turn)) → list_all (is_script_there (length sessions) turns) sessions ≡ true → turns ≡ None → All HasTransactions sessions
+none_learnt sessions turns e none = none_learn sessions (subst (λ turns. list_all (is_script_there (length sessions) turns) sessions ≡ true) none e)
 
 -- The splits rise, and are no more than the limit.
 record AreSplits (splits : List (List ℕ)) : Type 0 where
@@ -160,10 +161,11 @@ abbrev made : List (List ℕ) → ℕ → ℕ → ℕ → Option (List Turn) →
 made splits limit reruns opening turns sessions = record { version = 1; pipelining = false; splits = splits; limit = limit; tries = 4; reruns = reruns; opening = opening; sessions = sessions; turns = turns }
 
 made_is_accepted : (version : ℕ) (pipelining : Bool) (splits : List (List ℕ)) (limit reruns opening : ℕ) (turns : Option (List Turn)) (sessions : List SessionWork) → is_within_limits version pipelining opening sessions turns ≡ true
-    → AreSplits splits → IsBetween LEAST_ENTRIES MOST_ENTRIES limit → reruns ≤ MOST_RERUNS → All HasBuiltItems sessions → IsAccepted (made splits limit reruns opening turns sessions)
-made_is_accepted version pipelining splits limit reruns opening turns sessions e cut bounds few each =
-    let all_but_opening = and_parts (version == 1 && not pipelining && are_sessions sessions && are_turns_within sessions turns) (nat_le opening (first_items sessions)) e in
-    let all_but_turns = and_parts (version == 1 && not pipelining && are_sessions sessions) (are_turns_within sessions turns) all_but_opening.0 in
+    → AreSplits splits → IsBetween LEAST_ENTRIES MOST_ENTRIES limit → reruns ≤ MOST_RERUNS → IsAccepted (made splits limit reruns opening turns sessions)
+made_is_accepted version pipelining splits limit reruns opening turns sessions e cut bounds few =
+    let all_but_opening = and_parts (version == 1 && not pipelining && are_sessions sessions && are_turns_within sessions turns && list_all (is_script_there (length sessions) turns) sessions) (nat_le opening (first_items sessions)) e in
+    let all_but_learns = and_parts (version == 1 && not pipelining && are_sessions sessions && are_turns_within sessions turns) (list_all (is_script_there (length sessions) turns) sessions) all_but_opening.0 in
+    let all_but_turns = and_parts (version == 1 && not pipelining && are_sessions sessions) (are_turns_within sessions turns) all_but_learns.0 in
     let all_but_sessions = and_parts (version == 1 && not pipelining) (are_sessions sessions) all_but_turns.0 in
     let counted = and_parts (nat_le 1 (length sessions) && nat_le (length sessions) MOST_SESSIONS) (nat_le (sum_by session_count sessions) MOST_STATEMENTS) all_but_sessions.1 in
     let bounded = and_parts (nat_le 1 (length sessions)) (nat_le (length sessions) MOST_SESSIONS) counted.0 in
@@ -178,7 +180,8 @@ made_is_accepted version pipelining splits limit reruns opening turns sessions e
       opening = leb-true opening (first_items sessions) all_but_opening.1;
       some_session = leb-true 1 (length sessions) bounded.0;
       few_sessions = leb-true (length sessions) MOST_SESSIONS bounded.1;
-      sessions = each;
+      sessions = items_are_there sessions turns all_but_learns.1;
+      learns = none_learnt sessions turns all_but_learns.1;
       few_statements = leb-true (sum_by session_count sessions) MOST_STATEMENTS counted.1;
       turns = stated_turns_are_there sessions turns all_but_turns.1;
     }
@@ -199,9 +202,9 @@ only_accepted value =
     only_behind IsAccepted (member_or 0 whole_of (codes "opening") value) _ (λ opening.
     only_behind IsAccepted (member_if (list_by turn_of) (codes "turns") value) _ (λ turns.
     only_behind IsAccepted (get (codes "sessions") value) _ (λ found.
-    only_known (All HasBuiltItems) IsAccepted (list_by session_of found) _ (list_only HasBuiltItems session_of session_is_built found) (λ sessions each.
+    only_behind IsAccepted (list_by session_of found) _ (λ sessions.
     only_when IsAccepted (is_within_limits version pipelining opening sessions turns) _ (λ within.
-    only_some IsAccepted (made splits limit reruns opening turns sessions) (made_is_accepted version pipelining splits limit reruns opening turns sessions within rising between few each)))))))))))))
+    only_some IsAccepted (made splits limit reruns opening turns sessions) (made_is_accepted version pipelining splits limit reruns opening turns sessions within rising between few)))))))))))))
 
 -- The workload that a JSON value states is of the form that is accepted.
 pub value_is_accepted : (value : Data) (work : Workload) → workload_of value ≡ Some work → IsAccepted work
@@ -211,12 +214,12 @@ some_turns : (sessions : ℕ) (turns : Option (List Turn)) → is_some turns ≡
 some_turns sessions None e each = absurd (false≢true e)
 some_turns sessions (Some turns) e each = each
 
-with_clocks : (sessions : List SessionWork) → list_all states_clock sessions ≡ true → All HasBuiltItems sessions → All IsBuiltSession sessions
-with_clocks [] e each = All-nil IsBuiltSession
-with_clocks (session ∷ sessions) e each =
+with_clocks : (count : ℕ) (sessions : List SessionWork) → list_all states_clock sessions ≡ true → All (HasItemsOf count) sessions → All (IsBuiltSession count) sessions
+with_clocks count [] e each = All-nil (IsBuiltSession count)
+with_clocks count (session ∷ sessions) e each =
     let both = and_parts (states_clock session) (list_all states_clock sessions) e in
-    let first : IsBuiltSession session = record { clock = both.0; items = All-head HasBuiltItems session sessions each } in
-    All-cons IsBuiltSession session sessions first (with_clocks sessions both.1 (All-tail HasBuiltItems session sessions each))
+    let first : IsBuiltSession count session = record { clock = both.0; items = All-head (HasItemsOf count) session sessions each } in
+    All-cons (IsBuiltSession count) session sessions first (with_clocks count sessions both.1 (All-tail (HasItemsOf count) session sessions each))
 
 same_number : (n m : ℕ) → (n == m) ≡ true → n ≡ m
 same_number n m e = grind arith
@@ -237,7 +240,7 @@ passes work accepted e =
       opening = accepted.opening;
       some_session = accepted.some_session;
       few_sessions = accepted.few_sessions;
-      sessions = with_clocks work.sessions both.1 accepted.sessions;
+      sessions = with_clocks (length work.sessions) work.sessions both.1 accepted.sessions;
       few_statements = accepted.few_statements;
       turns = some_turns (length work.sessions) work.turns first.1 accepted.turns;
     }

@@ -20,6 +20,13 @@ held some value (Err fault) is_some h =
     let past : (value < 2 ^ 32) → ⊥ = λ below. h (is_some, below) in
     omega arith
 
+-- What `parse` answers to a number: what the text spells, where that is of 32 bits.
+pub digits_parsed : {E : Type 0} (text : List ℕ) (parsed : Result ℕ E) → is_number text ≡ true → ParsesUnsigned 32 10 text parsed → OkIff parsed ((0 < length text) × (digits_value 10 text < 2 ^ 32)) (digits_value 10 text)
+digits_parsed text parsed e parses =
+    let parts = and_parts (nat_le 1 (length text) && list_all is_ascii_digit text) (length text == 1 || not (slice_index text 0 == 48)) e in
+    let both = and_parts (nat_le 1 (length text)) (list_all is_ascii_digit text) parts.0 in
+    parse_digits own 32 text parsed parses both.1
+
 -- What `parse` answers, held at the greatest number, is the number that the text spells.
 pub number_parsed : {E : Type 0} (text : List ℕ) (parsed : Result ℕ E) → is_number text ≡ true → ParsesUnsigned 32 10 text parsed → Some (result_unwrap_or parsed (2 ^ 32 - 1)) ≡ number_in text
 unfolding number_in
@@ -27,6 +34,6 @@ number_parsed text parsed e parses =
     let parts = and_parts (nat_le 1 (length text) && list_all is_ascii_digit text) (length text == 1 || not (slice_index text 0 == 48)) e in
     let both = and_parts (nat_le 1 (length text)) (list_all is_ascii_digit text) parts.0 in
     let some : 0 < length text = leb-true 1 (length text) both.0 in
-    let is : result_unwrap_or parsed (2 ^ 32 - 1) ≡ min (digits_value 10 text) (2 ^ 32 - 1) = held (length text) (digits_value 10 text) parsed some (parse_digits own 32 text parsed parses both.1) in
+    let is : result_unwrap_or parsed (2 ^ 32 - 1) ≡ min (digits_value 10 text) (2 ^ 32 - 1) = held (length text) (digits_value 10 text) parsed some (digits_parsed text parsed e parses) in
     let spelled : cond (is_number text) (Some (min (digits_value 10 text) (2 ^ 32 - 1))) None ≡ Some (min (digits_value 10 text) (2 ^ 32 - 1)) = ap (λ test. cond test (Some (min (digits_value 10 text) (2 ^ 32 - 1))) None) e in
     ap Some is ∙ sym spelled

@@ -1,5 +1,6 @@
 pub mod Built
 pub mod Digits
+pub mod Learns
 pub mod Loop
 pub mod Names
 pub mod Opening

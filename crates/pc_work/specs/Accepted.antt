@@ -1,16 +1,27 @@
 -- The form of a workload that is accepted, as a fact about the workload itself: what runs it may rest on it, once all such workloads are run.
-use Rattle.std.specs.Prelude.{◌≡◌, ◌≤◌, false, length, sum_by, IfSome, All}
+use Rattle.std.specs.Prelude.{◌≡◌, ◌≤◌, ℕ, false, length, sum_by, IfSome, None, All, ⊤}
 use Rattle.pc_base.specs.declared.limits.TheConstants.{DEFAULT_TRIES, LEAST_ENTRIES, MOST_ENTRIES, MOST_RERUNS, MOST_SESSIONS, MOST_SPLITS, MOST_STATEMENTS}
 use Rattle.pc_base.specs.Rising.{AreRising}
-use Rattle.pc_work.specs.Built.{AreTurnsOf, IsBuiltItem}
+use Rattle.pc_work.specs.Built.{AreTurnsOf, IsItemOf}
 use Rattle.pc_work.specs.Count.{session_count}
 use Rattle.pc_work.specs.Workload.{first_items}
+use Rattle.pc_work.specs.declared.item.Item.{Item}
+use Rattle.pc_work.specs.declared.item.Item.TheVariants.{Learn, Txn}
 use Rattle.pc_work.specs.declared.session.SessionWork.{SessionWork}
 use Rattle.pc_work.specs.declared.workload.Workload.{Workload}
 
+-- Each learn of the session's script names one of so many sessions.
+abbrev pub HasItemsOf : ℕ → SessionWork → Type 0
+HasItemsOf sessions session = All (IsItemOf sessions) session.script
+
+-- The item is a transaction.
+abbrev pub IsTransaction : Item → Type 0
+IsTransaction (Learn id) = ⊥
+IsTransaction (Txn priority statements commits) = ⊤
+
 -- Each item of the session's script is a transaction.
-abbrev pub HasBuiltItems : SessionWork → Type 0
-HasBuiltItems session = All IsBuiltItem session.script
+abbrev pub HasTransactions : SessionWork → Type 0
+HasTransactions session = All IsTransaction session.script
 
 -- A workload that is read is without pipelining, its numbers, sessions and turns are within their limits, and what it cannot state is at its
 -- default.
@@ -35,8 +46,10 @@ pub record IsAccepted (work : Workload) : Type 0 where
   pub some_session : 1 ≤ length work.sessions
   -- The sessions are no more than their limit.
   pub few_sessions : length work.sessions ≤ MOST_SESSIONS
-  -- Each session states transactions.
-  pub sessions : All HasBuiltItems work.sessions
+  -- Each learn names a session that is there.
+  pub sessions : All (HasItemsOf (length work.sessions)) work.sessions
+  -- Where no turns are stated, nothing is learnt.
+  pub learns : work.turns ≡ None → All HasTransactions work.sessions
   -- The statements of all sessions are no more than their limit.
   pub few_statements : sum_by session_count work.sessions ≤ MOST_STATEMENTS
   -- Where turns are stated, each is that of a session that is there, or of its finishing job.

@@ -11,15 +11,15 @@ use Rattle.pc_work.specs.declared.turn.Turn.{Turn}
 use Rattle.pc_work.specs.declared.turn.Turn.TheVariants.{Session, Job, Recoverer}
 use Rattle.pc_work.specs.declared.workload.Workload.{Workload}
 
--- The item is a transaction: it reads and writes, in any mixture. Learns are not built yet.
-abbrev pub IsBuiltItem : Item → Type 0
-IsBuiltItem (Learn id) = ⊥
-IsBuiltItem (Txn priority statements commits) = ⊤
+-- Among so many sessions, a learn names one that is there.
+abbrev pub IsItemOf : ℕ → Item → Type 0
+IsItemOf sessions (Learn id) = (1 ≤ id.session) × (id.session ≤ sessions)
+IsItemOf sessions (Txn priority statements commits) = ⊤
 
--- The session states its clock, and each item of its script is a transaction.
-pub record IsBuiltSession (session : SessionWork) : Type 0 where
+-- The session states its clock, and each learn of its script names one of so many sessions.
+pub record IsBuiltSession (sessions : ℕ) (session : SessionWork) : Type 0 where
   pub clock : IsSome session.clock
-  pub items : All IsBuiltItem session.script
+  pub items : All (IsItemOf sessions) session.script
 
 -- The turn is that of one of so many sessions, or of its finishing job.
 abbrev pub IsTurnOf : ℕ → Turn → Type 0
@@ -54,8 +54,8 @@ pub record IsBuilt (work : Workload) : Type 0 where
   pub some_session : 1 ≤ length work.sessions
   -- The sessions are no more than their limit.
   pub few_sessions : length work.sessions ≤ MOST_SESSIONS
-  -- Each session states its clock, and transactions.
-  pub sessions : All IsBuiltSession work.sessions
+  -- Each session states its clock, and its learns name sessions that are there.
+  pub sessions : All (IsBuiltSession (length work.sessions)) work.sessions
   -- The statements of all sessions are no more than their limit.
   pub few_statements : sum_by session_count work.sessions ≤ MOST_STATEMENTS
   -- Turns are stated, and each is that of a session that is there, or of its finishing job.

@@ -6,6 +6,7 @@ pub mod Clock
 pub mod Count
 pub mod Ending
 pub mod Item
+pub mod Learn
 pub mod Lists
 pub mod Members
 pub mod Number

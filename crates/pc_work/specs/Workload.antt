@@ -1,5 +1,5 @@
 -- What bytes are as a workload, and where they are none. A workload is without pipelining; where it states no turns, its sessions run on
--- threads, and a session that states no clock reads the one that is handed in.
+-- threads, which learn nothing, and a session that states no clock reads the one that is handed in.
 use Rattle.std.specs.Prelude.{ℕ, ◌==◌, Bool, true, false, ◌&&◌, not, List, [], ◌∷◌, length, sum_by, nat_le, Option, Some, None, is_some, IsSome, Result, Ok, Err, codes, option_and_then, IsUtf8, if◌then◌else◌}
 use Rattle.std.specs.List.{list_all}
 use Rattle.serde_json.specs.Data.{Data}
@@ -15,6 +15,8 @@ use Rattle.pc_work.specs.Splits.{splits_of}
 use Rattle.pc_work.specs.Turn.{is_turn_there, turn_of}
 use Rattle.pc_work.specs.declared.fault.WorkFault.{WorkFault}
 use Rattle.pc_work.specs.declared.fault.WorkFault.TheVariants as faults
+use Rattle.pc_work.specs.declared.item.Item.{Item}
+use Rattle.pc_work.specs.declared.item.Item.TheVariants.{Learn, Txn}
 use Rattle.pc_work.specs.declared.session.SessionWork.{SessionWork}
 use Rattle.pc_work.specs.declared.turn.Turn.{Turn}
 use Rattle.pc_work.specs.declared.workload.Workload.{Workload}
@@ -42,10 +44,20 @@ abbrev pub are_turns_within : List SessionWork → Option (List Turn) → Bool
 are_turns_within sessions None = true
 are_turns_within sessions (Some turns) = are_stated_turns sessions turns
 
--- Version 1 without pipelining, and sessions, turns and an opening within their limits.
+-- A learn stands in stated turns alone, and names one of so many sessions.
+abbrev pub is_item_there : ℕ → Option (List Turn) → Item → Bool
+is_item_there sessions turns (Learn id) = is_some turns && (nat_le 1 id.session && nat_le id.session sessions)
+is_item_there sessions turns (Txn priority statements commits) = true
+
+-- Among so many sessions, each learn of this one may stand there.
+abbrev pub is_script_there : ℕ → Option (List Turn) → SessionWork → Bool
+is_script_there sessions turns session = list_all (is_item_there sessions turns) session.script
+
+-- Version 1 without pipelining; sessions, turns and an opening within their limits; and learns only where they may stand.
 abbrev pub is_within_limits : ℕ → Bool → ℕ → List SessionWork → Option (List Turn) → Bool
 is_within_limits version pipelining opening sessions turns =
-    version == 1 && not pipelining && are_sessions sessions && are_turns_within sessions turns && nat_le opening (first_items sessions)
+    version == 1 && not pipelining && are_sessions sessions && are_turns_within sessions turns
+    && list_all (is_script_there (length sessions) turns) sessions && nat_le opening (first_items sessions)
 
 -- The workload that a JSON value states: what is absent is at its default.
 unfoldable pub workload_of : Data → Option Workload

@@ -9,6 +9,8 @@ mod fault;
 mod item;
 mod json;
 mod keys;
+mod learn;
+mod number;
 mod priority;
 mod session;
 mod span;

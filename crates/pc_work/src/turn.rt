@@ -1,11 +1,10 @@
 ghost use Rattle.std.specs.Prelude.{◌≡◌};
-ghost use Rattle.std.specs.Char.{is_ascii_digit};
-ghost use Rattle.std.specs.List.{list_all};
-ghost use Rattle.pc_work.specs.Number.{is_number, number_in};
+ghost use Rattle.pc_work.specs.Number.{number_in};
 ghost use Rattle.pc_work.specs.Turn.{is_turn_there, turn_in, turn_of};
 
 use crate::fault::Misfit;
 use crate::json::FromJson;
+use crate::number::is_number;
 use pc_base::Items;
 use serde_json::Value as Json;
 use std::alloc::Global;
@@ -67,16 +66,4 @@ fn number_in(text: &str) -> Option<u32>
         return None;
     }
     Some(text.parse().unwrap_or(u32::MAX))
-}
-
-fn is_number(text: &[u8]) -> bool
-    ensures { result ≡ is_number text.now }
-{
-    !text.is_empty() && are_digits(text) && (text.len() == 1 || text[0] != b'0')
-}
-
-fn are_digits(text: &[u8]) -> bool
-    ensures { result ≡ list_all is_ascii_digit text.now }
-{
-    text.iter().all(u8::is_ascii_digit)
 }

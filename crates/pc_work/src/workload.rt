@@ -1,4 +1,4 @@
-ghost use Rattle.std.specs.Prelude.{◌≡◌, ◌↔◌, ◌⊎◌, ℕ, IsOk, IsSome, IsTrue, IfOk, IsErrOf, Some};
+ghost use Rattle.std.specs.Prelude.{◌≡◌, ◌↔◌, ◌⊎◌, ℕ, IsOk, IsSome, IsTrue, IfOk, IsErrOf, Some, length};
 ghost use Rattle.std.specs.List.{list_all};
 ghost use Rattle.serde_json.specs.View.{view};
 ghost use Rattle.pc_base.specs.declared.limits.TheConstants.{MOST_RERUNS};
@@ -8,7 +8,7 @@ ghost use Rattle.pc_work.specs.Built.{IsBuilt};
 ghost use Rattle.pc_work.specs.Lists.{list_by};
 ghost use Rattle.pc_work.specs.Members.{has_only, member_if, member_or, whole_between, whole_of, whole_up_to};
 ghost use Rattle.pc_work.specs.Turn.{is_turn_there, turn_of};
-ghost use Rattle.pc_work.specs.Workload.{are_stated_turns, are_turns_within, is_within_limits, workload_names, first_items, are_sessions, workload_of, IsJson, workload_in, UnlessMemory, accepted_in, has_built_form, states_clock};
+ghost use Rattle.pc_work.specs.Workload.{are_stated_turns, are_turns_within, is_script_there, is_within_limits, workload_names, first_items, are_sessions, workload_of, IsJson, workload_in, UnlessMemory, accepted_in, has_built_form, states_clock};
 
 use crate::count::Counted;
 use crate::fault::{Misfit, WorkFault};
@@ -201,7 +201,7 @@ fn opening_or_default(json: &Json, name: &str) -> Result<u64, Misfit>
     }
 }
 
-/// Version 1 without pipelining, and sessions, turns and an opening within their limits.
+/// Version 1 without pipelining; sessions, turns and an opening within their limits; and learns only where they may stand.
 fn is_within(
     version: u64,
     pipelining: bool,
@@ -215,7 +215,29 @@ fn is_within(
         && !pipelining
         && are_sessions(sessions)
         && are_turns_within(sessions, turns)
+        && are_scripts_there(sessions, turns)
         && opening <= first_items(sessions)
+}
+
+/// Whether each learn may stand where it does.
+fn are_scripts_there(sessions: &Sessions, turns: &Option<Turns>) -> bool
+    ensures { result ≡ list_all (is_script_there (length sessions.now) turns.now) sessions.now }
+{
+    sessions
+        .as_slice()
+        .iter()
+        .all(|session| is_script_there(session, sessions.len(), turns))
+}
+
+/// Whether each learn of the session may stand where it does, among so many sessions.
+fn is_script_there(session: &SessionWork, sessions: usize, turns: &Option<Turns>) -> bool
+    ensures { result ≡ is_script_there sessions turns.now session.now }
+{
+    session
+        .script
+        .as_slice()
+        .iter()
+        .all(|item| item.is_there(sessions, turns))
 }
 
 /// How many items the first session has.

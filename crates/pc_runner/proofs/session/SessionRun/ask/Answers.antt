@@ -1,34 +1,34 @@
-use Rattle.std.proofs.Common.{List, [], subst, sym}
-use Rattle.pc_runner.proofs.Asked.{calls_asked, may_be_asked, rests_of}
-use Rattle.pc_runner.proofs.InTurn.{untold_asked}
-use Rattle.pc_runner.specs.declared.outbox.Posted.{Posted}
-use Rattle.pc_runner.specs.Following.{AreOnTheirWay}
+use Rattle.std.proofs.Common.{◌≡◌, ℕ, Some, sym, subst, ◌∙◌}
+use Rattle.pc_proto.specs.declared.call.Call.TheVariants as calls
+use Rattle.pc_world.specs.Known.{call_of}
+use Rattle.pc_runner.proofs.CommitTable.{learns_none, learns_of}
+use Rattle.pc_runner.proofs.InTurn.{untold_further}
+use Rattle.pc_runner.specs.Commits.{IsLearnOpen}
+use Rattle.pc_runner.specs.History.{known_by}
+use Rattle.pc_runner.specs.Parts.{IsInside, TakesPart}
 use Rattle.pc_runner.proofs.session.SessionRun.ask.Goals as goal
 
-pub ask-requires-clause-there : goal.ask-requires-clause-there
-ask-requires-clause-there c = c.requires.follows.stands.there
+pub learn-requires-clause-opened : goal.learn-requires-clause-opened
+learn-requires-clause-opened c =
+    let open_is = c.in_ok-open.ensures in
+    let id = c.in-Some.id in
+    subst (λ (n : ℕ). IsLearnOpen id c.open.new.self.coordinator (known_by n c.open.new.db)) (sym open_is.same.number) (open_is.learns id (learns_of c.args.call id (sym c.learnt_by-learns.ensures ∙ c.in-Some.is)))
 
-pub ask-requires-clause-may : goal.ask-requires-clause-may
-ask-requires-clause-may c =
-    let r = c.args.self.now in
-    let f = c.requires.follows in
-    may_be_asked r.number r.script r.coordinator r.sends c.args.db.now c.args.call f.stands f.idle f.fits c.requires.next
+pub returns-in_ok-learn-clause-part : goal.returns-in_ok-learn-clause-part
+returns-in_ok-learn-clause-part c =
+    let open_is = c.in_ok-open.ensures in
+    untold_further c.args.self.now.number c.args.db.now c.open.new.db c.learn.new.db open_is.part
+    (subst (λ (n : ℕ). TakesPart n c.open.new.db c.learn.new.db (IsInside n)) open_is.same.number c.in_ok-learn.ensures.part)
 
-pub returns-clause-calls : goal.returns-clause-calls
-returns-clause-calls c =
-    let r = c.args.self.now in
-    let clock = c.read-self.ensures in
-    let asked = c.in_ok-ask-2.ensures in
-    let calls = calls_asked r.work.now r.number r.session.now r.script r.clock c.read-self.new.self r.jobs.items c.args.db.now c.ask.new.self c.args.call c.read-self.result
-    r.coordinator c.ask-2.new.self r.sends (rests_of r c.args.db.now c.requires.follows) c.in_ok-ask.ensures c.requires.next
-    clock.given clock.counted clock.start clock.step asked.knows asked.waits asked.session asked.splits in
-    record {
-      stands = calls.stands;
-      keeps = calls.keeps;
-      jobs = calls.jobs_left;
-      open_now = calls.open_now;
-      way = subst (λ (l : List Posted). AreOnTheirWay r.number c.ask-2.new.self r.sends [] l c.ask.new.self) (sym c.requires.follows.outbox) calls.way;
-    }
+pub returns-in_ok-learn-clause-same : goal.returns-in_ok-learn-clause-same
+returns-in_ok-learn-clause-same c =
+    let one = c.in_ok-open.ensures.same in
+    let two = c.in_ok-learn.ensures.same in
+    record { number = two.number ∙ one.number; work = two.work ∙ one.work; session = two.session ∙ one.session }
 
-pub returns-clause-part : goal.returns-clause-part
-returns-clause-part c = untold_asked c.args.self.now.number c.args.db.now c.ask.new.self c.args.call c.read-self.result c.in_ok-ask.ensures
+pub returns-in_default-clause-meets : goal.returns-in_default-clause-meets
+returns-in_default-clause-meets c =
+    let open_is = c.in_ok-open.ensures in
+    λ id asked told.
+    let same = subst (λ (n : ℕ). call_of (known_by n c.open.new.db) ≡ Some (calls.Learn id)) open_is.same.number asked in
+    absurd (learns_none c.args.call id (sym c.learnt_by-learns.ensures ∙ c.in_default.is) (sym open_is.asked ∙ same))

@@ -1,4 +1,6 @@
-use Rattle.std.proofs.Common.{ℕ, subst, ◌∙◌}
+use Rattle.std.proofs.Common.{ℕ, sym, subst, ◌∙◌}
+use Rattle.pc_runner.proofs.Inside.{meets_on}
+use Rattle.pc_runner.specs.Commits.{MeetsWhatWasTold}
 use Rattle.pc_runner.proofs.InTurn.{call_told, untold_further}
 use Rattle.pc_runner.specs.declared.session.Progress.{Progress}
 use Rattle.pc_runner.specs.Parts.{IsInside, IsTelling, TakesPart}
@@ -13,10 +15,12 @@ loop-preserved c =
     let n = c.args.self.now.number in
     let same = c.loop.invariant.2 in
     let after = subst (λ (p : Progress). IsAfterStep r.number h c.step.new.self g p) c.in-Goes.is c.in_ok-step.ensures.after in
-    let now = c.in_ok-step.ensures.same in (
+    let now = c.in_ok-step.ensures.same in
+    let meets = meets_on c.loop.self.number h g after.0.stands.sound after.1 c.loop.invariant.3 in (
       after.0,
       untold_further n c.args.db.now h g c.loop.invariant.1 (subst (λ (n : ℕ). TakesPart n h g (IsInside n)) same.number after.1),
       record { number = now.number ∙ same.number; work = now.work ∙ same.work; session = now.session ∙ same.session },
+      subst (λ n. MeetsWhatWasTold n g) (sym now.number) meets,
     )
 
 pub returns-in-Told-clause-part : goal.returns-in-Told-clause-part

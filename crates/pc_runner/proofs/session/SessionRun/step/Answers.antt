@@ -8,10 +8,10 @@ pub send-requires-clause-may : goal.send-requires-clause-may
 send-requires-clause-may c =
     let r = c.args.self.now in
     let k = known_by r.number c.args.db.now in
-    subst (λ (next : Next). MayCome r.coordinator k next) c.in-Send.is (c.in_ok-request.ensures.may k c.requires.stands.knows)
+    subst (λ (next : Next). MayCome r.coordinator k next) c.in-Send.is (c.in_ok-request.ensures.may k c.requires.calls.stands.knows)
 
 pub round-requires-clause-may : goal.round-requires-clause-may
 round-requires-clause-may c =
     let r = c.args.self.now in
     let k = known_by r.number c.args.db.now in
-    subst (λ (next : Next). MayCome r.coordinator k next) c.in-Conflict.is (c.in_ok-request.ensures.may k c.requires.stands.knows)
+    subst (λ (next : Next). MayCome r.coordinator k next) c.in-Conflict.is (c.in_ok-request.ensures.may k c.requires.calls.stands.knows)

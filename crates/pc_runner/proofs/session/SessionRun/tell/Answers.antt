@@ -5,7 +5,7 @@ use Rattle.pc_coord.specs.declared.job.Job.{Job}
 use Rattle.pc_runner.proofs.Asked.{following_of}
 use Rattle.pc_runner.proofs.Calling.{calls_of}
 use Rattle.pc_runner.proofs.InTurn.{telling_told}
-use Rattle.pc_runner.proofs.Told.{following_told, may_be_told, none_out}
+use Rattle.pc_runner.proofs.Told.{following_told, may_be_told, none_out, truly_told}
 use Rattle.pc_runner.proofs.session.SessionRun.tell.Goals as goal
 
 pub tell-requires-clause-there : goal.tell-requires-clause-there
@@ -15,6 +15,12 @@ pub tell-requires-clause-may : goal.tell-requires-clause-may
 tell-requires-clause-may c =
     let r = c.args.self.now in
     may_be_told r.number r.coordinator r.sends c.args.db.now c.args.answer c.requires.calls.stands c.requires.may
+
+pub tell-requires-clause-learns : goal.tell-requires-clause-learns
+tell-requires-clause-learns c =
+    let r = c.args.self.now in
+    let h = c.args.db.now in
+    truly_told r.number h c.args.answer (may_be_told r.number r.coordinator r.sends h c.args.answer c.requires.calls.stands c.requires.may) c.requires.meets
 
 pub returns-in_ok-push_back-clause-after : goal.returns-in_ok-push_back-clause-after
 returns-in_ok-push_back-clause-after c =
