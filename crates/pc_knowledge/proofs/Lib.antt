@@ -1,2 +1,3 @@
 pub mod GoodReads
 pub mod Begun
+pub mod Raised

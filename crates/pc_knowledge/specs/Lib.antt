@@ -1,3 +1,4 @@
 -- All that is kept of what an actor knows, and how it stands to that.
+pub mod Asking
 pub mod Keeping
 pub mod Good

@@ -1,19 +1,23 @@
-ghost use Rattle.std.specs.Prelude.{◌≡◌, ◌↔◌, cond, map, OnOk, Contains, Some};
+ghost use Rattle.std.specs.Prelude.{◌≡◌, ◌↔◌, cond, map, OnOk, Contains, IsTrue, Some};
 ghost use Rattle.std.specs.Option.{option_copied};
+ghost use Rattle.pc_files.specs.Filing.{KeepsFiles, deciding_of, puts_by, replies_of};
 ghost use Rattle.pc_history.specs.Own.{pair};
 ghost use Rattle.pc_known.specs.Calls.{BeginsNext, KeepsCalls};
 ghost use Rattle.pc_known.specs.Heards.{KeepsHeards};
 ghost use Rattle.pc_known.specs.Sends.{KeepsSends, SendsNext};
+ghost use Rattle.pc_knowledge.specs.Asking.{deciding_asked};
 ghost use Rattle.pc_knowledge.specs.Keeping.{KeepsKnowledge};
 ghost use Rattle.pc_own.specs.Numbered.{AreBegunInOrder};
 ghost use Rattle.pc_world.specs.Known.{Known, call_of, learn, next_number, nothing_known, open_txn, priority_asked, reading_of, told_first, txn_begun, txns_after, txns_told};
 ghost use Rattle.pc_world.specs.Known.Traffic.{replies_to};
 ghost use Rattle.pc_world.specs.Known.Transactions.{Txn, txn_heard};
+ghost use Rattle.pc_world.specs.StageFate.{IsUncommitted};
 
 use pc_base::{Entry, NoMemory, Priority, Timestamp, TxnId};
+use pc_files::Files;
 use pc_known::{Calls, Heards, Hearing, Message, Open, Sends};
 use pc_own::{OwnTxn, Txns};
-use pc_proto::{Answer, Call, Event};
+use pc_proto::{Answer, Call, Event, Request};
 use std::alloc::Global;
 
 /// All that a session or recoverer knows by its own entries.
@@ -23,6 +27,7 @@ pub struct Knowledge<'a> {
     calls: Calls<'a>,
     sends: Sends<'a>,
     heards: Heards<'a>,
+    files: Files<'a>,
     txns: Txns<'a>,
 }
 
@@ -36,6 +41,7 @@ impl<'a> Knowledge<'a> {
             calls: Calls::new(alloc),
             sends: Sends::new(alloc),
             heards: Heards::new(alloc),
+            files: Files::new(alloc),
             txns: Txns::new(alloc),
         }
     }
@@ -100,6 +106,34 @@ impl<'a> Knowledge<'a> {
         self.heards.now()
     }
 
+    /// The stages and commits of the transaction that were sent.
+    pub fn deciding(&self, id: TxnId) -> &[Message<'a>]
+        ensures { (k : Known) → KeepsKnowledge k self.now → result.now ≡ deciding_of id k.sent }
+    {
+        self.files.deciding(id)
+    }
+
+    /// The puts of the transaction that were sent.
+    pub fn puts(&self, id: TxnId) -> &[Message<'a>]
+        ensures { (k : Known) → KeepsKnowledge k self.now → result.now ≡ puts_by id k.sent }
+    {
+        self.files.puts(id)
+    }
+
+    /// The replies that were heard to requests that name the transaction.
+    pub fn replies(&self, id: TxnId) -> &[Hearing<'a>]
+        ensures { (k : Known) → KeepsKnowledge k self.now → result.now ≡ replies_of id k.heard }
+    {
+        self.files.replies(id)
+    }
+
+    /// Whether every stage of the transaction is dead, and every commit refused.
+    pub fn is_uncommitted(&self, id: TxnId) -> bool
+        ensures { (k : Known) → KeepsKnowledge k self.now → IsTrue result ↔ IsUncommitted id k.sent k.heard }
+    {
+        self.files.is_uncommitted(id)
+    }
+
     /// The open transaction, if there is one.
     pub fn open_txn(&self) -> Option<&OwnTxn<'a>>
         ensures { (k : Known) → KeepsKnowledge k self.now → option_copied result ≡ open_txn k }
@@ -130,9 +164,11 @@ impl<'a> Knowledge<'a> {
             &self.calls,
             &self.sends,
             &self.heards,
+            &self.files,
             &entry.event,
             heard.as_ref(),
         )?;
+        self.files.learn(&entry.event, heard.as_ref())?;
         self.sends.learn(&entry.event, heard.as_ref())?;
         self.heards.learn(&entry.event, heard)?;
         self.calls.learn(entry, named)
@@ -146,29 +182,36 @@ fn learn_txns<'a>(
     calls: &Calls<'a>,
     sends: &Sends<'a>,
     heards: &Heards<'a>,
+    files: &Files<'a>,
     event: &'a Event,
     heard: Option<&Hearing<'a>>,
 ) -> Result<(), NoMemory>
-    ensures { (k : Known) → KeepsCalls k calls.now → KeepsSends k sends.now → KeepsHeards k heards.now → txns.old ≡ k.txns → AreBegunInOrder k.txns → OnOk result (txns.new ≡ txns_after event.now (option_copied heard.entry) k) }
+    ensures { (k : Known) → KeepsCalls k calls.now → KeepsSends k sends.now → KeepsHeards k heards.now → KeepsFiles k files.now → txns.old ≡ k.txns → AreBegunInOrder k.txns → OnOk result (txns.new ≡ txns_after event.now (option_copied heard.entry) k) }
 {
     match event {
         Event::Send { request, .. } => txns.send(request),
-        Event::Hear { .. } => hear(txns, sends.messages(), heard),
+        Event::Hear { .. } => hear(txns, files, heard),
         Event::Tell(answer) => tell(txns, alloc, calls, sends, heards, answer),
         _ => Ok(()),
     }
 }
 
-fn hear(
-    txns: &mut Txns<'_>,
-    sent: &[Message<'_>],
-    heard: Option<&Hearing<'_>>,
-) -> Result<(), NoMemory>
-    ensures { AreBegunInOrder txns.old → OnOk result (txns.new ≡ map (txn_heard sent.now (option_copied heard.entry)) txns.old) }
+fn hear(txns: &mut Txns<'_>, files: &Files<'_>, heard: Option<&Hearing<'_>>) -> Result<(), NoMemory>
+    ensures { (k : Known) → KeepsFiles k files.now → AreBegunInOrder txns.old → OnOk result (txns.new ≡ map (txn_heard k.sent (option_copied heard.entry)) txns.old) }
 {
     match heard {
         None => Ok(()),
-        Some(hearing) => txns.hear(sent, hearing),
+        Some(hearing) => txns.hear(deciding_asked(files, hearing.request), hearing),
+    }
+}
+
+/// The stages and commits of the transaction that a query asks about, if the request is one.
+fn deciding_asked<'b, 'a>(files: &'b Files<'a>, request: &Request) -> &'b [Message<'a>]
+    ensures { (k : Known) → KeepsFiles k files.now → result.now ≡ deciding_asked request.now k.sent }
+{
+    match request {
+        Request::Query { id, .. } => files.deciding(*id),
+        _ => &[],
     }
 }
 

@@ -9,7 +9,6 @@ ghost use Rattle.pc_world.specs.Send.Beat.{MaySendBeat};
 use crate::call::asks_rollback;
 use pc_base::Timestamp;
 use pc_knowledge::{Knowledge, is_own_cause};
-use pc_known::fate::is_uncommitted;
 use pc_known::number;
 use pc_proto::{Keys, TxnMeta, Why};
 
@@ -32,7 +31,7 @@ pub fn may_send_abort(known: &Knowledge<'_>, meta: &TxnMeta, why: &Why, locks: &
         Some(t) => {
             asks_rollback(known.call())
                 && t.is_meta(meta)
-                && is_uncommitted(t.id(), known.sent(), known.heard())
+                && known.is_uncommitted(t.id())
                 && is_own_cause(why, t.restart())
                 && t.locks().are(locks)
         }

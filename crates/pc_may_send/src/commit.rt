@@ -167,7 +167,7 @@ fn is_decided(sent: &[Message<'_>], heard: &[Hearing<'_>], t: &OwnTxn<'_>, ts: T
 fn is_decided_now(known: &Knowledge<'_>, t: &OwnTxn<'_>, ts: Timestamp) -> bool
     ensures { (k : Known) → KeepsKnowledge k known.now → IsTrue result ↔ IsReadyToCommit k.sent k.heard ts t.now }
 {
-    is_decided(known.sent(), known.heard(), t, ts)
+    is_decided(known.deciding(t.id()), known.replies(t.id()), t, ts)
 }
 
 /// Whether the session knows by itself that its own transaction may commit at this timestamp.
@@ -180,7 +180,7 @@ fn may_decide(known: &Knowledge<'_>, t: &OwnTxn<'_>, ts: Timestamp) -> bool
 fn was_committed_so(known: &Knowledge<'_>, t: &OwnTxn<'_>, ts: Timestamp) -> bool
     ensures { (k : Known) → KeepsKnowledge k known.now → IsTrue result ↔ WasCommitted k.heard t.now.id ts }
 {
-    was_committed(known.heard(), t.id(), ts)
+    was_committed(known.replies(t.id()), t.id(), ts)
 }
 
 fn may_commit_at(known: &Knowledge<'_>, t: &OwnTxn<'_>, ts: Timestamp) -> bool

@@ -12,7 +12,6 @@ ghost use Rattle.pc_world.specs.Send.Put.{MaySendAgain, MaySendFirst, MaySendPut
 
 use pc_base::{Key, Timestamp, Value};
 use pc_knowledge::{Knowledge, asks_for, same_value};
-use pc_known::fate::is_uncommitted;
 use pc_known::{is_key, number};
 use pc_own::{OwnTxn, OwnWrite};
 use pc_proto::TxnMeta;
@@ -68,7 +67,7 @@ fn may_send_first(known: &Knowledge<'_>, put: &Put<'_>) -> bool
                 && is_next_seq(t, put.seq)
                 && number(put.ts) == t.write_ts()
                 && are_proved_on(put.key, t.writes().as_slice())
-                && is_uncommitted(t.id(), known.sent(), known.heard())
+                && known.is_uncommitted(t.id())
         }
     }
 }

@@ -8,10 +8,10 @@ ghost use Rattle.pc_knowledge.specs.Keeping.{KeepsKnowledge};
 ghost use Rattle.pc_may_send.specs.Listed.{HasFoundAll, HasListed, HasMissed, IsRefusedHere};
 ghost use Rattle.pc_proto.specs.Replies.{is_conflict_with};
 ghost use Rattle.pc_world.specs.Known.{Known, open_txn};
-ghost use Rattle.pc_world.specs.Known.Transactions.{Txn};
+ghost use Rattle.pc_world.specs.Known.Transactions.{Txn, has_staged};
 ghost use Rattle.pc_world.specs.Send.Recovery.{IsBlockedWrite, IsOwnName, IsRefusedAfter, MayFind, MaySendQuery, MaySendRecover, MetStaging, QueryOfListed, QueryOfOwn, WasFound, WasMissed, WasStaging, put_met, was_refused};
 
-use crate::settling::is_anchor;
+use crate::settling::is_own_anchor;
 use pc_base::limits::MOST_CONFLICTS;
 use pc_base::{ActorId, Key, Timestamp, TxnId, Who};
 use pc_knowledge::{Knowledge, is_push_of, is_put_of, same_who, some_refused};
@@ -101,7 +101,7 @@ fn is_query_of_listed(
 ) -> bool
     ensures { (k : Known) → KeepsKnowledge k known.now → IsTrue result ↔ QueryOfListed k id epoch seq ts key.now }
 {
-    some_has_listed(id, epoch, seq, ts, key, known.heard())
+    some_has_listed(id, epoch, seq, ts, key, known.replies(id))
 }
 
 /// Whether a put of this write met an intent.
@@ -165,6 +165,20 @@ fn is_blocked_write(heard_now: &[Hearing<'_>], id: TxnId, epoch: u32, seq: u32) 
         || count_met(id, epoch, seq, heard_now) >= MOST_CONFLICTS as usize
 }
 
+/// Whether the transaction staged this write at this timestamp.
+fn was_staged(
+    known: &Knowledge<'_>,
+    id: TxnId,
+    epoch: u32,
+    seq: u32,
+    ts: Timestamp,
+    key: &Key,
+) -> bool
+    ensures { (k : Known) → KeepsKnowledge k known.now → result ≡ has_staged k.sent id epoch ts key.now seq }
+{
+    has_staged(known.deciding(id), id, epoch, ts, key, seq)
+}
+
 /// Whether, in an open call, the write is one of the open transaction's own stage, and is blocked.
 fn is_query_of_own(
     known: &Knowledge<'_>,
@@ -179,7 +193,7 @@ fn is_query_of_own(
     match (known.statement(), known.open_txn()) {
         (Some(_), Some(t)) => {
             id == t.id()
-                && has_staged(known.sent(), id, epoch, ts, key, seq)
+                && was_staged(known, id, epoch, seq, ts, key)
                 && is_blocked_write(known.heard_now(), id, epoch, seq)
         }
         _ => false,
@@ -407,7 +421,7 @@ fn may_miss(
 ) -> bool
     ensures { (k : Known) → KeepsKnowledge k known.now → IsTrue result ↔ (IsOwnName actor k by × Any (HasMissed k.heard id epoch ts key.now by) k.heard) }
 {
-    is_own_name(actor, known, by) && was_some_missed(id, epoch, ts, key, by, known.heard())
+    is_own_name(actor, known, by) && was_some_missed(id, epoch, ts, key, by, known.replies(id))
 }
 
 /// Whether the actor may have found this of the writes of a STAGING record that it met.
@@ -422,7 +436,7 @@ fn may_find(
     ensures { (k : Known) → KeepsKnowledge k known.now → IsTrue result ↔ ((writes : List (List ℕ × ℕ)) × WasStaging k.heard id epoch ts writes × MayFind actor k id epoch ts writes finding.now) }
 {
     match finding {
-        Finding::All => were_all_found(id, epoch, ts, known.heard()),
+        Finding::All => were_all_found(id, epoch, ts, known.replies(id)),
         Finding::Missing { key, by } => may_miss(actor, known, id, epoch, ts, key, *by),
     }
 }
@@ -439,5 +453,5 @@ pub fn may_send_recover(
 ) -> bool
     ensures { (k : Known) → KeepsKnowledge k known.now → IsTrue result ↔ MaySendRecover actor k id epoch ts anchor.now finding.now }
 {
-    is_anchor(id, anchor, known.heard()) && may_find(actor, known, id, epoch, ts, finding)
+    is_own_anchor(known, id, anchor) && may_find(actor, known, id, epoch, ts, finding)
 }

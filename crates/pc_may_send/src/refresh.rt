@@ -123,6 +123,6 @@ pub fn may_send_refresh(
 {
     match known.open_txn() {
         None => false,
-        Some(t) => is_refresh_in(known.call(), t, known.heard(), id, from, to, span),
+        Some(t) => is_refresh_in(known.call(), t, known.replies(t.id()), id, from, to, span),
     }
 }

@@ -74,7 +74,7 @@ fn some_shows_fate(id: TxnId, fate: Fate, heard: &[Hearing<'_>]) -> bool
 pub fn may_send_resolve(known: &Knowledge<'_>, id: TxnId, fate: Fate) -> bool
     ensures { (k : Known) → KeepsKnowledge k known.now → IsTrue result ↔ MaySendResolve k id fate }
 {
-    some_shows_fate(id, fate, known.heard())
+    some_shows_fate(id, fate, known.replies(id))
 }
 
 /// Whether the intent at the key was settled for this transaction.
@@ -188,7 +188,7 @@ fn is_some_settled_by<'b>(replies: &[Hearing<'b>], heard: &[Hearing<'b>], id: Tx
         .any(|hearing| is_settled_by(heard, id, hearing))
 }
 
-pub(crate) fn is_anchor(id: TxnId, anchor: &Key, heard: &[Hearing<'_>]) -> bool
+fn is_anchor(id: TxnId, anchor: &Key, heard: &[Hearing<'_>]) -> bool
     ensures { IsTrue result ↔ (anchor_heard id heard.now ≡ Some anchor.now) }
 {
     match anchor_heard(id, heard) {
@@ -197,11 +197,18 @@ pub(crate) fn is_anchor(id: TxnId, anchor: &Key, heard: &[Hearing<'_>]) -> bool
     }
 }
 
+/// Whether this is the transaction's anchor, as it was heard.
+pub(crate) fn is_own_anchor(known: &Knowledge<'_>, id: TxnId, anchor: &Key) -> bool
+    ensures { (k : Known) → KeepsKnowledge k known.now → IsTrue result ↔ (anchor_heard id k.heard ≡ Some anchor.now) }
+{
+    is_anchor(id, anchor, known.replies(id))
+}
+
 /// Whether the actor may send this removal of the transaction's record.
 pub fn may_send_remove(known: &Knowledge<'_>, id: TxnId, anchor: &Key) -> bool
     ensures { (k : Known) → KeepsKnowledge k known.now → IsTrue result ↔ MaySendRemove k id anchor.now }
 {
-    is_anchor(id, anchor, known.heard()) && is_settled(known, id)
+    is_own_anchor(known, id, anchor) && is_settled(known, id)
 }
 
 fn are_own_resolved(heard: &[Hearing<'_>], id: TxnId, locks: &Locks<'_>) -> bool
@@ -228,7 +235,7 @@ fn is_other_settled<'b>(heard: &[Hearing<'b>], id: TxnId) -> bool
 fn is_settled(known: &Knowledge<'_>, id: TxnId) -> bool
     ensures { (k : Known) → KeepsKnowledge k known.now → IsTrue result ↔ IsSettledFor k id }
 {
-    let replies = known.heard();
+    let replies = known.replies(id);
     match known.own_txn(id) {
         Some(t) => is_own_settled(replies, id, t.locks()),
         None => is_other_settled(replies, id),

@@ -171,7 +171,7 @@ fn is_new_stage(
 fn is_new_stage_now(known: &Knowledge<'_>, t: &OwnTxn<'_>, stage: &Stage<'_>) -> bool
     ensures { (k : Known) → KeepsKnowledge k known.now → IsTrue result ↔ IsNewStage k.sent k.heard t.now stage.now }
 {
-    is_new_stage(t, known.sent(), known.heard(), stage)
+    is_new_stage(t, known.deciding(t.id()), known.replies(t.id()), stage)
 }
 
 /// Whether the open call is a commit at the stage's reading.
@@ -233,7 +233,10 @@ fn may_send_stage_again(known: &Knowledge<'_>, stage: &Stage<'_>) -> bool
 {
     match known.own_txn(stage.meta.id) {
         None => false,
-        Some(t) => is_stage_again(t, stage, known.sent(), known.heard()),
+        Some(t) => {
+            let id = stage.meta.id;
+            is_stage_again(t, stage, known.deciding(id), known.replies(id))
+        },
     }
 }
 

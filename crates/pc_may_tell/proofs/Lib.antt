@@ -3,5 +3,7 @@ pub mod Counted
 pub mod Endings
 pub mod EqualRequests
 pub mod Losses
+pub mod Narrowed
+pub mod PutBefore
 pub mod Telling
 pub mod Scans

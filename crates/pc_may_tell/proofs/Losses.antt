@@ -5,7 +5,8 @@ use Rattle.pc_base.specs.declared.transaction.TxnId.{TxnId}
 use Rattle.pc_base.specs.Transaction.{same_txn}
 use Rattle.pc_lists.proofs.Same.{same_txn-is}
 use Rattle.pc_may_tell.proofs.Alike.{lost_once}
-use Rattle.pc_may_tell.specs.Losing.{IsUnprovedIn, put_by}
+use Rattle.pc_files.specs.Filing.{put_by}
+use Rattle.pc_may_tell.specs.Losing.{IsUnprovedIn}
 use Rattle.pc_proto.specs.declared.call.Call.TheVariants as calls
 use Rattle.pc_proto.specs.declared.request.Request.{Request}
 use Rattle.pc_proto.specs.declared.request.Request.TheVariants as requests

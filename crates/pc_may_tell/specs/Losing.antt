@@ -1,8 +1,6 @@
 -- Which message was lost.
-use Rattle.std.specs.Prelude.{ℕ, ◌⊎◌, Option, None, Some, List, Any, IsTrue, not, reverse}
+use Rattle.std.specs.Prelude.{ℕ, ◌⊎◌, List, Any, IsTrue, not, reverse}
 use Rattle.pc_proto.specs.declared.request.Request.{Request}
-use Rattle.pc_base.specs.declared.transaction.TxnId.{TxnId}
-use Rattle.pc_proto.specs.declared.request.Request.TheVariants as requests
 use Rattle.pc_proto.specs.Requests.{is_put_of}
 use Rattle.pc_world.specs.Known.{Known}
 use Rattle.pc_world.specs.Known.Traffic.{Sent}
@@ -19,8 +17,3 @@ IsUnprovedIn t request = Any (λ w. IsTrue (not (is_proved w)) × IsTrue (is_put
 pub record WasSentLost (k : Known) (faults : ℕ) (m : Sent) : Type 0 where
   pub lost : AreLastLost k.heard m (reverse k.sent) faults
   pub whose : Any (IsSameMessage m) k.sent_now ⊎ IsUnprovedPut k.txns m
-
--- The transaction that the request puts a write of, if it is a put.
-abbrev pub put_by : Request → Option TxnId
-put_by (requests.Put meta seq ts key value) = Some meta.id
-put_by _ = None

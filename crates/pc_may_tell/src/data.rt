@@ -4,10 +4,10 @@ ghost use Rattle.std.specs.Prelude.{◌≡◌, ◌↔◌, Any, IsTrue};
 ghost use Rattle.std.specs.List.{list_any};
 ghost use Rattle.std.specs.Option.{option_copied};
 ghost use Rattle.pc_knowledge.specs.Keeping.{KeepsKnowledge};
-ghost use Rattle.pc_may_tell.specs.Heard.{HasValueNow, IsFirstAfter, IsGetCall};
+ghost use Rattle.pc_may_tell.specs.Heard.{HasValueNow, IsFirstAfter, IsGetCall, is_put_before};
 ghost use Rattle.pc_proto.specs.Requests.{is_put_of};
 ghost use Rattle.pc_world.specs.Known.{Known};
-ghost use Rattle.pc_world.specs.Tell.Data.{IsValueOf, MayTellValue, MayTellWritten, was_sent_now};
+ghost use Rattle.pc_world.specs.Tell.Data.{IsValueOf, MayTellValue, MayTellWritten, sent_before, was_sent_now};
 
 use pc_base::{TxnId, Value};
 use pc_knowledge::{Knowledge, asks_for, is_put_of, same_value};
@@ -62,22 +62,35 @@ pub(crate) fn may_tell_value(known: &Knowledge<'_>, call: &Open<'_>, value: Opti
     is_get(call) && was_value_heard(known, value)
 }
 
-fn was_put(before: &[Message<'_>], id: TxnId, epoch: u32, seq: u32) -> bool
-    ensures { result ≡ list_any (λ other. is_put_of id epoch seq other.request) before.now }
+fn is_put_before(sends: &Sends<'_>, id: TxnId, epoch: u32, seq: u32, message: &Message<'_>) -> bool
+    ensures { result ≡ is_put_before sends.now id epoch seq message.now }
 {
-    before
-        .iter()
-        .any(|message| is_put_of(id, epoch, seq, message.request))
+    !sends.was_sent_now(message.number) && is_put_of(id, epoch, seq, message.request)
+}
+
+fn some_is_put_before(
+    sends: &Sends<'_>,
+    id: TxnId,
+    epoch: u32,
+    seq: u32,
+    puts: &[Message<'_>],
+) -> bool
+    ensures { result ≡ list_any (is_put_before sends.now id epoch seq) puts.now }
+{
+    puts.iter()
+        .any(|message| is_put_before(sends, id, epoch, seq, message))
+}
+
+/// Whether a put of this write was sent before the last call was asked.
+fn was_put(known: &Knowledge<'_>, id: TxnId, epoch: u32, seq: u32) -> bool
+    ensures { (k : Known) → KeepsKnowledge k known.now → result ≡ list_any (λ other. is_put_of id epoch seq other.request) (sent_before k) }
+{
+    some_is_put_before(known.sends(), id, epoch, seq, known.puts(id))
 }
 
 /// Whether the message is a put of the call's write, under a sequence that was not sent before the call.
-fn is_first_after(
-    before: &[Message<'_>],
-    call: &Call,
-    t: &OwnTxn<'_>,
-    message: &Message<'_>,
-) -> bool
-    ensures { IsTrue result ↔ IsFirstAfter before.now call.now t.now message.now }
+fn is_first_after(known: &Knowledge<'_>, call: &Call, t: &OwnTxn<'_>, message: &Message<'_>) -> bool
+    ensures { (k : Known) → KeepsKnowledge k known.now → IsTrue result ↔ IsFirstAfter (sent_before k) call.now t.now message.now }
 {
     match message.request {
         Request::Put {
@@ -90,23 +103,23 @@ fn is_first_after(
             meta.id == t.id()
                 && t.is_epoch(meta.epoch)
                 && asks_for(Some(call), key, value.as_ref())
-                && !was_put(before, meta.id, meta.epoch, *seq)
+                && !was_put(known, meta.id, meta.epoch, *seq)
         }
         _ => false,
     }
 }
 
 fn some_is_first_after(
-    before: &[Message<'_>],
+    known: &Knowledge<'_>,
     call: &Call,
     t: &OwnTxn<'_>,
     messages: &[Message<'_>],
 ) -> bool
-    ensures { IsTrue result ↔ Any (IsFirstAfter before.now call.now t.now) messages.now }
+    ensures { (k : Known) → KeepsKnowledge k known.now → IsTrue result ↔ Any (IsFirstAfter (sent_before k) call.now t.now) messages.now }
 {
     messages
         .iter()
-        .any(|message| is_first_after(before, call, t, message))
+        .any(|message| is_first_after(known, call, t, message))
 }
 
 /// Whether the call may be told that it has written.
@@ -116,8 +129,8 @@ pub(crate) fn may_tell_written(known: &Knowledge<'_>, call: &Open<'_>) -> bool
     match known.open_txn() {
         None => false,
         Some(t) => {
-            let (before, now) = known.sends().halves();
-            some_is_first_after(before, call.call, t, now)
+            let (_, now) = known.sends().halves();
+            some_is_first_after(known, call.call, t, now)
         }
     }
 }

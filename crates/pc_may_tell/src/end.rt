@@ -16,7 +16,6 @@ use pc_base::{Key, Timestamp, TxnId};
 use pc_knowledge::{
     Knowledge, are_proved_by, is_good, is_own_cause, view_in, was_aborted, was_committed,
 };
-use pc_known::fate::is_uncommitted;
 use pc_known::{Hearing, Open, is_about, is_key};
 use pc_own::{OwnTxn, Writes};
 use pc_proto::{Call, Reply, View, Why};
@@ -114,7 +113,7 @@ pub(crate) fn may_tell_committed(
 {
     match known.open_txn() {
         None => false,
-        Some(t) => is_committed(call, t, known.heard(), id, ts),
+        Some(t) => is_committed(call, t, known.replies(t.id()), id, ts),
     }
 }
 
@@ -198,13 +197,20 @@ pub(crate) fn may_tell_rolled_back(
     }
 }
 
+/// Whether a view of the transaction was heard by which it was aborted for this cause.
+fn was_aborted_ever(known: &Knowledge<'_>, t: &OwnTxn<'_>, why: &Why) -> bool
+    ensures { (k : Known) → KeepsKnowledge k known.now → IsTrue result ↔ WasAborted k.heard t.now.id why.now }
+{
+    was_own_aborted(known.replies(t.id()), t, why)
+}
+
 /// Whether the call may be told that its transaction was aborted for this cause.
 pub(crate) fn may_tell_aborted(known: &Knowledge<'_>, why: &Why) -> bool
     ensures { (k : Known) → KeepsKnowledge k known.now → IsTrue result ↔ MayTellAborted k why.now }
 {
     match known.open_txn() {
         None => false,
-        Some(t) => was_aborted(known.heard(), t.id(), why),
+        Some(t) => was_aborted_ever(known, t, why),
     }
 }
 
@@ -239,7 +245,7 @@ pub(crate) fn may_tell_restart(
         Some(t) => {
             matches!(call.call, Call::Commit)
                 && some_unrefreshed(key, ts, known.heard_now())
-                && is_uncommitted(t.id(), known.sent(), known.heard())
+                && known.is_uncommitted(t.id())
         }
     }
 }

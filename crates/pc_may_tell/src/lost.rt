@@ -5,7 +5,7 @@ ghost use Rattle.pc_proto.specs.Requests.{is_put_of};
 ghost use Rattle.pc_world.specs.Known.Writes.{is_proved};
 ghost use Rattle.pc_known.specs.Sends.{KeepsSends};
 ghost use Rattle.pc_knowledge.specs.Keeping.{KeepsKnowledge};
-ghost use Rattle.pc_may_tell.specs.Losing.{IsUnprovedIn, WasSentLost, put_by};
+ghost use Rattle.pc_may_tell.specs.Losing.{IsUnprovedIn, WasSentLost};
 ghost use Rattle.pc_world.specs.Known.{Known};
 ghost use Rattle.pc_world.specs.Known.Transactions.{Txn};
 ghost use Rattle.pc_world.specs.StageFate.{IsCommitWith, IsDead, IsStageWith, SomeCommit, SomeStage, WasCommitRefused};
@@ -16,6 +16,7 @@ use crate::end::is_commit_of;
 use crate::refusal::{is_uncommitted_in, left_after};
 use crate::same::is_same_message;
 use pc_base::TxnId;
+use pc_files::put_by;
 use pc_knowledge::{Knowledge, is_put_of};
 use pc_known::fate::{Commit, Stage};
 use pc_known::{Hearing, Message, Open, Sends};
@@ -78,16 +79,6 @@ fn is_unproved_in(t: &OwnTxn<'_>, request: &Request) -> bool
         .any(|write| is_unproved_put(t, write, request))
 }
 
-/// The transaction that the request puts a write of, if it is a put.
-fn put_by(request: &Request) -> Option<TxnId>
-    ensures { result ≡ put_by request.now }
-{
-    match request {
-        Request::Put { meta, .. } => Some(meta.id),
-        _ => None,
-    }
-}
-
 /// Whether the actor has a transaction of this id, and the request puts one of its writes that is not proved.
 fn is_unproved_of(known: &Knowledge<'_>, id: TxnId, request: &Request) -> bool
     ensures { (k : Known) → KeepsKnowledge k known.now → IsTrue result ↔ ((t : Txn) × (Contains k.txns t × (t.id ≡ id)) × IsUnprovedIn t request.now) }
@@ -124,8 +115,8 @@ fn was_sent_lost(known: &Knowledge<'_>, message: &Message<'_>, faults: u32) -> b
     ensures { (k : Known) → KeepsKnowledge k known.now → IsTrue result ↔ WasSentLost k faults message.now }
 {
     let (_, now) = known.sends().halves();
-    are_last_lost(known.sends(), message, known.sent(), faults)
-        && (is_one_of(message, now) || is_own_unproved_put(known, message))
+    (is_one_of(message, now) || is_own_unproved_put(known, message))
+        && are_last_lost(known.sends(), message, known.sent(), faults)
 }
 
 fn some_was_sent_lost(known: &Knowledge<'_>, messages: &[Message<'_>], faults: u32) -> bool
@@ -217,7 +208,7 @@ fn is_doubtful(id: TxnId, sent: &[Message<'_>], heard: &[Hearing<'_>]) -> bool
 fn may_have_committed(known: &Knowledge<'_>, id: TxnId) -> bool
     ensures { (k : Known) → KeepsKnowledge k known.now → IsTrue result ↔ MayHaveCommitted k id }
 {
-    is_doubtful(id, known.sent(), known.heard())
+    is_doubtful(id, known.deciding(id), known.replies(id))
 }
 
 fn is_lost_in_doubt(known: &Knowledge<'_>, id: TxnId) -> bool

@@ -16,7 +16,6 @@ use crate::same::is_same_request;
 use pc_base::limits::{MOST_CONFLICTS, MOST_REFUSALS};
 use pc_base::{Timestamp, TxnId};
 use pc_knowledge::{Knowledge, some_refused};
-use pc_known::fate::is_uncommitted;
 use pc_known::{Hearing, Open, Sends, is_undecided, number};
 use pc_own::status_ts;
 use pc_proto::{Call, Reply, Request};
@@ -26,7 +25,7 @@ pub(crate) fn is_uncommitted_in(known: &Knowledge<'_>, call: &Call) -> bool
     ensures { (k : Known) → KeepsKnowledge k known.now → IsTrue result ↔ IsUncommittedIn k call.now }
 {
     match (call, known.open_txn()) {
-        (Call::Commit, Some(t)) => is_uncommitted(t.id(), known.sent(), known.heard()),
+        (Call::Commit, Some(t)) => known.is_uncommitted(t.id()),
         (Call::Commit, None) => false,
         _ => true,
     }
@@ -248,7 +247,7 @@ fn is_open_uncommitted(known: &Knowledge<'_>) -> bool
 {
     match known.open_txn() {
         None => false,
-        Some(t) => is_uncommitted(t.id(), known.sent(), known.heard()),
+        Some(t) => known.is_uncommitted(t.id()),
     }
 }
 

@@ -1,6 +1,7 @@
 use Rattle.std.proofs.Common.{◌≡◌, Option, ap, subst, ◌∙◌}
 use Rattle.std.proofs.lemmas.Result.{on_ok_weaker}
 use Rattle.std.specs.Option.{option_copied}
+use Rattle.pc_files.specs.Filing.{KeepsFiles}
 use Rattle.pc_known.specs.Calls.{BeginsNext}
 use Rattle.pc_known.specs.Heards.{KeepsHeards}
 use Rattle.pc_knowledge.proofs.Begun.{so_many_after}
@@ -18,17 +19,20 @@ returns c k keeps next =
     let h : c.heard_by-heard.result ≡ heard_by event named k.sent = c.heard_by-heard.ensures k keeps.sends in
     let begins : BeginsNext k.begun event = subst (λ n. BeginsNext n event) keeps.calls.begun c.requires in
     let txns : c.learn_txns.new.txns ≡ txns_after event (heard_by event named k.sent) k =
-    c.in_ok-learn_txns.ensures k keeps.calls keeps.sends keeps.heards keeps.txns keeps.numbered ∙ ap (λ o. txns_after event o k) (c.as_ref.ensures.value ∙ h) in
-    let heards : KeepsHeards (known_after event (heard_by event named k.sent) top high k) c.learn-2.new.self =
-    subst (λ o. KeepsHeards (known_after event o top high k) c.learn-2.new.self) h (c.in_ok-learn-2.ensures k top high keeps.heards) in
+    c.in_ok-learn_txns.ensures k keeps.calls keeps.sends keeps.heards keeps.files keeps.txns keeps.numbered ∙ ap (λ o. txns_after event o k) (c.as_ref.ensures.value ∙ h) in
+    let heards : KeepsHeards (known_after event (heard_by event named k.sent) top high k) c.learn-3.new.self =
+    subst (λ o. KeepsHeards (known_after event o top high k) c.learn-3.new.self) h (c.in_ok-learn-3.ensures k top high keeps.heards) in
+    let files : KeepsFiles (known_after event (heard_by event named k.sent) top high k) c.learn.new.self =
+    subst (λ o. KeepsFiles (known_after event o top high k) c.learn.new.self) (c.as_ref-2.ensures.value ∙ h) (c.in_ok-learn.ensures k top high keeps.files) in
     let many = so_many_after event (heard_by event named k.sent) k begins keeps.numbered keeps.counted in
-    on_ok_weaker c.learn-3.result
+    on_ok_weaker c.learn-4.result
     (λ calls. record {
       calls = calls;
-      sends = c.in_ok-learn.ensures k named top high keeps.sends (c.as_ref-2.ensures.value ∙ h) next;
+      sends = c.in_ok-learn-2.ensures k named top high keeps.sends (c.as_ref-3.ensures.value ∙ h) next;
       heards = heards;
+      files = files;
       txns = txns;
       numbered = many.0;
       counted = many.1;
     })
-    (c.learn-3.ensures k keeps.calls)
+    (c.learn-4.ensures k keeps.calls)

@@ -1,0 +1,2 @@
+-- How what was sent and heard is filed.
+pub mod Filing

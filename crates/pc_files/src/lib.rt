@@ -1,0 +1,10 @@
+//! What an actor sent and heard, filed by transaction, so that a rule looks only at what speaks of its own.
+#![tactic(auto)]
+
+mod filed;
+mod files;
+mod named;
+
+pub use filed::Filed;
+pub use files::Files;
+pub use named::put_by;
