@@ -1,0 +1,2 @@
+-- Both ends of a workload's run.
+pub mod SessionClock

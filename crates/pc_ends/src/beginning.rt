@@ -1,0 +1,122 @@
+ghost use Rattle.std.specs.Prelude.{◌≡◌, ◌+◌, ◌<◌, All, IfOk, OnOk, Some, [], length, slice_get};
+ghost use Rattle.pc_base.specs.declared.actor.ActorId.TheVariants as actors;
+ghost use Rattle.pc_closing.specs.Opening.{AreSeatedFor, IsSeatedFor, opener_of};
+ghost use Rattle.pc_ends.specs.SessionClock.{session_rule};
+ghost use Rattle.pc_runs.specs.Runners.{AreRunners, HaveClocks, IsRunnerIn, head_in_work};
+ghost use Rattle.pc_script.specs.Clocks.{clock_rule};
+ghost use Rattle.pc_scripted.specs.Scripted.{own_list};
+ghost use Rattle.pc_work.specs.Accepted.{IsAccepted};
+ghost use Rattle.pc_work.specs.declared.session.SessionWork.{SessionWork as Work};
+
+use crate::session_clock::{SessionClock, clock_for};
+use pc_base::{NoMemory, TryCopy};
+use pc_clock::Clocks;
+use pc_closing::{Opened, open};
+use pc_history::{Actor, Blank, Named};
+use pc_range::{CommitWorld, Gate, Ranges};
+use pc_scripted::Scripted;
+use pc_session::Session;
+use pc_wire::Quiet;
+use pc_work::Workload;
+use std::alloc::Global;
+
+/// A session of a workload with its script, over a quiet wire.
+pub type Runner<'a, N, C, G> = Scripted<'a, N, SessionClock<C>, Quiet, G>;
+
+/// The table of the workload's history.
+pub fn blank_of(alloc: Global, work: &Workload) -> Result<Blank<CommitWorld>, NoMemory>
+    requires { IsAccepted work.now }
+    ensures { IfOk result (λ b. b.world ≡ head_in_work work.now) }
+{
+    let world = CommitWorld::new(work.splits.copy()?, work.sessions.len() as u32, 0);
+    Blank::new(alloc, world)
+}
+
+/// Seats the workload's ranges and sessions.
+pub fn open_work<'a, N: Named<CommitWorld>, G: Gate>(
+    alloc: Global,
+    blank: Blank<CommitWorld>,
+    work: &Workload,
+    gate: &'a G,
+) -> Result<Opened<'a, N, G>, NoMemory>
+    requires named { (blank.table ≡ N.table) × (N.world ≡ Some blank.world) }
+    requires world { blank.world ≡ head_in_work work.now }
+    requires accepted { IsAccepted work.now }
+    ensures opener { IfOk result (λ o. o.opener ≡ opener_of (head_in_work work.now)) }
+    ensures ranges { IfOk result (λ o. o.ranges ≡ record { splits = work.now.splits; limit = work.now.limit }) }
+    ensures actors { IfOk result (λ o. AreSeatedFor (head_in_work work.now) (length work.now.sessions) o.actors.items) }
+{
+    let sessions = work.sessions.len() as u32;
+    open(
+        alloc,
+        blank,
+        work.splits.copy()?,
+        sessions,
+        work.limit,
+        gate,
+    )
+}
+
+/// The workload's sessions, each at the first call of its script.
+pub fn begin<'a, N: Named<CommitWorld>, M: Clocks, G: Gate>(
+    alloc: Global,
+    work: &'a Workload,
+    clocks: &mut M,
+    ranges: &'a Ranges<'a, N, G>,
+    actors: Vec<Actor<CommitWorld, N>>,
+) -> Result<Vec<Runner<'a, N, M::Clock, G>>, NoMemory>
+where
+    M::Clock: Drop,
+    requires accepted { IsAccepted work.now }
+    requires ranges { ranges.now ≡ record { splits = work.now.splits; limit = work.now.limit } }
+    requires actors { AreSeatedFor (head_in_work work.now) (length work.now.sessions) actors.items }
+    ensures runners { IfOk result (λ r. AreRunners work.now r.items) }
+    ensures fresh { IfOk result (λ r. All (λ s. own_list s ≡ []) r.items) }
+    ensures clocks { IfOk result (λ r. HaveClocks (session_rule M.Clock.rule) (M.rules clocks.old) work.now r.items) }
+{
+    let mut runners = Vec::new(alloc);
+    for actor in actors {
+        let runner = begin_next(alloc, work, clocks, ranges, actor, runners.len())?;
+        runners.push(runner)?;
+    }
+    Ok(runners)
+}
+
+/// The session of this index, from 0.
+fn begin_next<'a, N: Named<CommitWorld>, M: Clocks, G: Gate>(
+    alloc: Global,
+    work: &'a Workload,
+    clocks: &mut M,
+    ranges: &'a Ranges<'a, N, G>,
+    actor: Actor<CommitWorld, N>,
+    index: usize,
+) -> Result<Runner<'a, N, M::Clock, G>, NoMemory>
+where
+    M::Clock: Drop,
+    requires accepted { IsAccepted work.now }
+    requires there { index < length work.now.sessions }
+    requires ranges { ranges.now ≡ record { splits = work.now.splits; limit = work.now.limit } }
+    requires seated { IsSeatedFor (head_in_work work.now) (index + 1) actor }
+    ensures runner { IfOk result (IsRunnerIn work.now index) }
+    ensures fresh { IfOk result (λ s. own_list s ≡ []) }
+    ensures clock { IfOk result (λ s. (session : Work) → slice_get work.now.sessions index ≡ Some session →
+        session_rule M.Clock.rule s.session.desk.log.clock ≡ clock_rule session.clock (M.rules clocks.old (actors.Session (index + 1)))) }
+    ensures kept { M.rules clocks.new ≡ M.rules clocks.old }
+{
+    let stated = &work.sessions.as_slice()[index];
+    let number = index as u32 + 1;
+    let clock = clock_for(clocks, stated.clock, number);
+    let session = Session::new(
+        alloc,
+        number,
+        actor,
+        ranges,
+        clock,
+        Quiet::new(),
+        work.tries,
+        work.pipelining,
+        work.limit,
+        None,
+    );
+    Scripted::new(alloc, session, &stated.script, work.reruns)
+}
