@@ -1,5 +1,6 @@
 #!/usr/bin/env bash
-# Checks the built program from outside: each example gives what stands beside it, and each way to fail ends with its status and its line.
+# Checks the built program from outside: each example gives what stands beside it, which is a run with its report, and each way to fail ends with its status
+# and its line.
 # The last line counts: 'N passed, M failed'.
 set -u
 cd "$(dirname "$0")/.."
@@ -13,6 +14,12 @@ fail() {
     echo "program: $1"
 }
 
+# call WORD..: runs the program with these words on standard input.
+call() {
+    "$binary" "$@" >"$output" 2>"$errors"
+    status=$?
+}
+
 # ends NAME STATUS LINE: what ran last ended with this status and wrote this line, or none, to standard error.
 ends() {
     if [ "$status" -eq "$2" ] && [ "$(cat "$errors")" = "$3" ]; then
@@ -22,13 +29,22 @@ ends() {
     fi
 }
 
+# judged NAME STATUS LINE: what was checked last ended so, and `run` was written exactly where it is a run.
+judged() {
+    ends "$1" "$2" "$3"
+    local wanted=
+    [ "$2" -eq 0 ] && wanted=run
+    [ "$(cat "$output")" = "$wanted" ] || fail "$1: '$(cat "$output")' in place of '$wanted'"
+}
+
 if [ ! -x "$binary" ]; then
     fail "it is not there: $binary"
     echo "$passed passed, $failed failed"
     exit 1
 fi
 errors=$(mktemp)
-trap 'rm -f "$errors"' EXIT
+output=$(mktemp)
+trap 'rm -f "$errors" "$output"' EXIT
 
 if command -v cmp >/dev/null; then
     for workload in examples/*.json; do
@@ -40,33 +56,63 @@ if command -v cmp >/dev/null; then
     done
 fi
 
-first=examples/first-commit.json
-"$binary" run <"$first" >/dev/null 2>"$errors"
-status=$?
+usage='pcommit: usage: pcommit run|check|make --number N'
+first=examples/first-commit
+call run <"$first.json"
 ends 'a whole run' 0 ''
-"$binary" </dev/null >/dev/null 2>"$errors"
-status=$?
-ends 'no word' 2 'pcommit: usage: pcommit run|check|make --number N'
-"$binary" walk <"$first" >/dev/null 2>"$errors"
-status=$?
-ends 'another word' 2 'pcommit: usage: pcommit run|check|make --number N'
-"$binary" run </ >/dev/null 2>"$errors"
-status=$?
+call </dev/null
+ends 'no word' 2 "$usage"
+call walk <"$first.json"
+ends 'another word' 2 "$usage"
+call run check <"$first.json"
+ends 'two words' 2 "$usage"
+call check --number 1 <"$first.expected"
+ends 'a number with check' 2 "$usage"
+call --help </dev/null
+ends 'a call for help' 2 "$usage"
+call run </
 ends 'an input that cannot be read' 3 'pcommit: read failed'
+call check </
+ends 'a journal that cannot be read' 3 'pcommit: read failed'
 if [ -c /dev/full ]; then
-    "$binary" run <"$first" >/dev/full 2>"$errors"
+    "$binary" run <"$first.json" >/dev/full 2>"$errors"
     status=$?
     ends 'a full output' 4 'pcommit: write failed after 0 bytes'
+    "$binary" check <"$first.expected" >/dev/full 2>"$errors"
+    status=$?
+    ends 'a full output of a check' 4 'pcommit: write failed after 0 bytes'
 fi
-printf x | "$binary" run >/dev/null 2>"$errors"
-status=$?
+call run < <(printf x)
 ends 'no JSON' 5 'pcommit: workload refused: W1'
-printf '{}' | "$binary" run >/dev/null 2>"$errors"
-status=$?
+call run < <(printf '{}')
 ends 'no workload' 5 'pcommit: workload refused: W10'
-head -c 16777217 /dev/zero | "$binary" run >/dev/null 2>"$errors"
-status=$?
+call run < <(head -c 16777217 /dev/zero)
 ends 'an input that is too long' 7 'pcommit: more than 16777216 bytes'
+call check < <(head -c 268435457 /dev/zero)
+ends 'a journal that is too long' 7 'pcommit: more than 268435456 bytes'
+
+for journal in examples/*.expected; do
+    call check <"$journal"
+    judged "$journal" 0 ''
+done
+call check < <(sed 's/^4 r0 eval s1 1 written 10.0$/4 r0 eval s1 1 written 10.1/' "$first.expected")
+judged 'a changed reply' 1 'pcommit: not a run: line 8, rule eval'
+call check < <(sed 's/^2 s1 ask/3 s1 ask/' "$first.expected")
+judged 'a changed step' 1 'pcommit: not a run: line 6, rule step'
+call check < <(sed 's/^actors 1 0$/actors 0 0/' "$first.expected")
+judged 'a missing actor' 1 'pcommit: not a run: line 4, rule actor'
+call check < <(sed 's/^map a=x$/map a=y/' "$first.expected")
+judged 'a changed report' 1 'pcommit: not a run: line 24, rule report'
+call check < <(sed 's/^map a=x$/&\nmap b=x/' "$first.expected")
+judged 'a report with a line too many' 1 'pcommit: not a run: line 25, rule report'
+call check < <(sed '$d' "$first.expected")
+judged 'a report without its end' 6 'pcommit: journal malformed: line 25'
+call check < <(sed 's/^end$/ends/' "$first.expected")
+judged 'another last line' 6 'pcommit: journal malformed: line 25'
+call check < <(sed '8,$d' "$first.expected"; printf '4 r0 eva')
+judged 'a journal that is cut' 6 'pcommit: journal malformed: line 8'
+call check </dev/null
+judged 'no journal' 6 'pcommit: journal malformed: line 1'
 
 echo "$passed passed, $failed failed"
 [ "$failed" -eq 0 ]

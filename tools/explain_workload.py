@@ -53,8 +53,12 @@ def listed(value, place):
     need(isinstance(value, list), place, "a list is wanted")
 
 
+def is_text(value):
+    return isinstance(value, str) and not isinstance(value, NoWhole)
+
+
 def key(value, place):
-    need(isinstance(value, str) and KEY.fullmatch(value), place, "a key is a string of 1 to 64 letters, digits, `_`, `/` or `.`")
+    need(is_text(value) and KEY.fullmatch(value), place, "a key is a string of 1 to 64 letters, digits, `_`, `/` or `.`")
 
 
 def two(value, place):
@@ -69,7 +73,7 @@ def statement(value, place):
     if kind == "put":
         two(what, place)
         key(what[0], f"{place}[0]")
-        need(isinstance(what[1], str) and VALUE.fullmatch(what[1]), f"{place}[1]",
+        need(is_text(what[1]) and VALUE.fullmatch(what[1]), f"{place}[1]",
              "a value is a string of at most 1,024 printable ASCII characters other than space and comma")
     elif kind == "scan":
         two(what, place)
@@ -91,7 +95,7 @@ def statement(value, place):
 
 def learn(value, place, sessions):
     members(value, place, ("learn",), ("learn",))
-    named = isinstance(value["learn"], str) and LEARNT.fullmatch(value["learn"])
+    named = is_text(value["learn"]) and LEARNT.fullmatch(value["learn"])
     need(named and all(int(number) < 2**32 for number in named.groups()), f"{place}.learn",
          "it is a string of two numbers from 1 to 4294967295 with a point between, without leading zeros")
     need(int(named[1]) <= sessions, f"{place}.learn", f"there is no session {named[1]}")
@@ -138,7 +142,7 @@ def workload(value):
     listed(value["turns"], "turns")
     need(len(value["turns"]) <= 1_000_000, "turns", "there are at most 1,000,000")
     for at, one in enumerate(value["turns"]):
-        named = isinstance(one, str) and re.fullmatch(r"[sb]([1-9][0-9]*)", one)
+        named = is_text(one) and re.fullmatch(r"[sb]([1-9][0-9]*)", one)
         need(named and int(named[1]) <= len(value["sessions"]), f"turns[{at}]", f"`{one}` is no sN or bN of a session that is there")
 
 

@@ -4,7 +4,7 @@ use Rattle.pc_base.specs.declared.actor.ActorId.{ActorId}
 use Rattle.pc_io.specs.Reading.{IsAllOf}
 use Rattle.pc_program.specs.declared.status.Status.{Status}
 use Rattle.pc_program.specs.declared.status.Status.TheVariants as statuses
-use Rattle.pc_program.specs.Causes.{HasWritten, HasWrittenOf, IfDone, IfRead, IfWriteFault, IsAfterReading, IsFront, IsWhole}
+use Rattle.pc_program.specs.Causes.{HasWritten, HasWrittenOf, IfDone, IfRead, IfWriteFault, IsFront, IsWhole}
 use Rattle.pc_work.specs.declared.workload.Workload.{Workload}
 use Rattle.pc_work.specs.Workload.{workload_in}
 
@@ -24,16 +24,10 @@ carried (statuses.Journal line) left bytes P all p = of_all left bytes P all p
 carried (statuses.TooLong count) left bytes P all p = tt
 carried statuses.NoMemory left bytes P all p = tt
 
--- What comes after reading is not that the input was too long.
-pub not_long : (status : Status) (count : ℕ) (left : Option (List ℕ)) (Takes : List ℕ → Type 0) (Long W : Type 0) → IsAfterReading status → IfSome left (λ there. Long ↔ Takes there) → ¬ Long → IfSome left (λ there. W → ((status ≡ statuses.TooLong count) ↔ Takes there))
-not_long status count None Takes Long W after cause short = tt
-not_long status count (Some there) Takes Long W after cause short =
-    λ w. (λ e. absurd (subst IsAfterReading e after), λ taken. absurd (short (cause.1 taken)))
-
--- Where the premise does not hold.
-pub unless : (left : Option (List ℕ)) (W : Type 0) (X : List ℕ → Type 0) → ¬ W → IfSome left (λ there. W → X there)
-unless None W X h = tt
-unless (Some there) W X h = λ w. absurd (h w)
+-- Where neither of two says that the input was too long, what is known of the one holds of the other.
+pub neither_long : (left : Option (List ℕ)) (Takes : List ℕ → Type 0) (Long Told : Type 0) → IfSome left (λ there. Long ↔ Takes there) → ¬ Long → ¬ Told → IfSome left (λ there. Told ↔ Takes there)
+neither_long None Takes Long Told cause short untold = tt
+neither_long (Some there) Takes Long Told cause short untold = (λ told. absurd (untold told), λ taken. absurd (short (cause.1 taken)))
 
 module _ (rules : ActorId → ℕ → ℕ → Bool) (old new : Option (List ℕ)) where
   -- What was written of this workload was written of the one that the bytes state.

@@ -1,5 +1,5 @@
-pub mod OneWord
 pub mod Ends
+pub mod ExactVerdicts
 pub mod Headline
 pub mod OneAlone
 pub mod PlainReport

@@ -1,5 +1,5 @@
 -- When the program ends in which way. Own profile.
-use Rattle.std.specs.Prelude.{◌≡◌, ℕ, ◌<◌, Bool, List, [], ◌∷◌, length, take, Option, Some, IfSome, ⊤, codes}
+use Rattle.std.specs.Prelude.{◌≡◌, ℕ, ◌<◌, Bool, List, length, take, Option, Some, IfSome, ⊤}
 use Rattle.std.specs.Io.KnownBytes.{Appends}
 use Rattle.pc_base.specs.declared.actor.ActorId.{ActorId}
 use Rattle.pc_program.specs.declared.status.Status.{Status}
@@ -7,10 +7,6 @@ use Rattle.pc_program.specs.declared.status.Status.TheVariants as statuses
 use Rattle.pc_program.specs.Output.{IsOutput}
 use Rattle.pc_work.specs.declared.workload.Workload.{Workload}
 use Rattle.pc_work.specs.Workload.{workload_in}
-
--- The words are the one word `run`.
-abbrev pub AskForRun : List (List ℕ) → Type 0
-AskForRun words = words ≡ codes "run" ∷ []
 
 -- The fact holds where the source was read to its end, and where the answer comes from what it gave.
 abbrev pub IfRead : Status → Type 0 → Type 0
@@ -96,17 +92,29 @@ IfDone (statuses.Journal line) fact = ⊤
 IfDone (statuses.TooLong bytes) fact = ⊤
 IfDone statuses.NoMemory fact = ⊤
 
--- The status is one that a run of a workload ends with: nothing checks a journal yet.
+-- The status is one that a run of a workload ends with: it judges no journal.
 abbrev pub IsOfRun : Status → Type 0
 IsOfRun (statuses.NotRun line rule) = ⊥
+IsOfRun statuses.Usage = ⊥
 IsOfRun (statuses.Journal line) = ⊥
 IsOfRun statuses.Done = ⊤
-IsOfRun statuses.Usage = ⊤
 IsOfRun statuses.ReadFault = ⊤
 IsOfRun (statuses.WriteFault written) = ⊤
 IsOfRun (statuses.Workload number) = ⊤
 IsOfRun (statuses.TooLong bytes) = ⊤
 IsOfRun statuses.NoMemory = ⊤
+
+-- The status is one that the check of a journal ends with: it reads no workload.
+abbrev pub IsOfCheck : Status → Type 0
+IsOfCheck statuses.Usage = ⊥
+IsOfCheck (statuses.Workload number) = ⊥
+IsOfCheck statuses.Done = ⊤
+IsOfCheck (statuses.NotRun line rule) = ⊤
+IsOfCheck statuses.ReadFault = ⊤
+IsOfCheck (statuses.WriteFault written) = ⊤
+IsOfCheck (statuses.Journal line) = ⊤
+IsOfCheck (statuses.TooLong bytes) = ⊤
+IsOfCheck statuses.NoMemory = ⊤
 
 -- These bytes are the whole text.
 abbrev pub IsWhole : List ℕ → List ℕ → Type 0

@@ -1,8 +1,8 @@
 -- How the ways in which the program ends are numbered and told. Own profile.
 use Rattle.std.specs.Prelude.{ℕ, ◌-◌, List, [], ◌++◌, codes}
 use Rattle.std.specs.Fmt.{decimal}
-use Rattle.pc_program.specs.declared.status.Rule.{Rule}
-use Rattle.pc_program.specs.declared.status.Rule.TheVariants as rules
+use Rattle.pc_check.specs.declared.rule.Rule.{Rule}
+use Rattle.pc_check.specs.declared.rule.Rule.TheVariants as rules_broken
 use Rattle.pc_program.specs.declared.status.Status.{Status}
 use Rattle.pc_program.specs.declared.status.Status.TheVariants as statuses
 
@@ -20,15 +20,15 @@ code_of statuses.NoMemory = 8
 
 -- A rule in one word.
 abbrev pub rule_word : Rule → List ℕ
-rule_word rules.Step = codes "step"
-rule_word rules.Actor = codes "actor"
-rule_word rules.Ask = codes "ask"
-rule_word rules.Send = codes "send"
-rule_word rules.Eval = codes "eval"
-rule_word rules.Hear = codes "hear"
-rule_word rules.Tell = codes "tell"
-rule_word rules.Meet = codes "meet"
-rule_word rules.Report = codes "report"
+rule_word rules_broken.Step = codes "step"
+rule_word rules_broken.Actor = codes "actor"
+rule_word rules_broken.Ask = codes "ask"
+rule_word rules_broken.Send = codes "send"
+rule_word rules_broken.Eval = codes "eval"
+rule_word rules_broken.Hear = codes "hear"
+rule_word rules_broken.Tell = codes "tell"
+rule_word rules_broken.Meet = codes "meet"
+rule_word rules_broken.Report = codes "report"
 
 -- The line on standard error; there is none where all went well.
 abbrev pub line_of : Status → List ℕ

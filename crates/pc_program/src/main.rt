@@ -1,13 +1,14 @@
-//! The program: words, a source and a sink lead to the journal and the report of a workload.
+//! The program: its words name a mode, in which it runs a workload or checks the journal of a run.
 #![tactic(auto)]
 
 ghost use Rattle.std.specs.Prelude.{◌≡◌, ◌⊎◌};
-ghost use Rattle.pc_program.specs.Causes.{IsOfRun};
 ghost use Rattle.pc_program.specs.declared.status.Status.TheVariants as statuses;
 
+mod check;
 mod clocks;
 mod laws;
 mod output;
+mod run;
 mod status;
 mod top;
 
@@ -22,7 +23,7 @@ use std::{env, io};
 pub use top::pcommit;
 
 fn main(rt: HostRuntime) -> ExitCode {
-    let status = told(&rt, run(&rt));
+    let status = told(&rt, call(&rt));
     ExitCode::from(status.code())
 }
 
@@ -42,9 +43,8 @@ fn told(rt: &HostRuntime, status: Status) -> Status
     status
 }
 
-fn run(rt: &HostRuntime) -> Status
-    ensures { IsOfRun result }
-{
+/// How the program ends on the words, the streams and the clock of the system.
+fn call(rt: &HostRuntime) -> Status {
     let words = match words(rt) {
         Ok(words) => words,
         Err(error) if error.kind() == io::ErrorKind::OutOfMemory => return Status::NoMemory,

@@ -3,51 +3,37 @@ ghost use Rattle.std.specs.Fmt.{decimal};
 ghost use Rattle.pc_program.specs.Status.{code_of, line_of, rule_word};
 
 use pc_base::NoMemory;
+pub use pc_check::Rule;
 use std::alloc::Global;
 
 /// The line where memory ran out.
 pub(crate) const OUT_OF_MEMORY: &str = "pcommit: out of memory";
 
-/// What part of the definition of a run an entry breaks.
-#[derive(Clone, Copy, Debug, PartialEq, Eq)]
-pub enum Rule {
-    Step,
-    Actor,
-    Ask,
-    Send,
-    Eval,
-    Hear,
-    Tell,
-    Meet,
-    Report,
-}
-
-impl Rule {
-    fn word(self) -> &'static str
-        ensures { result.now ≡ rule_word self }
-    {
-        match self {
-            Rule::Step => "step",
-            Rule::Actor => "actor",
-            Rule::Ask => "ask",
-            Rule::Send => "send",
-            Rule::Eval => "eval",
-            Rule::Hear => "hear",
-            Rule::Tell => "tell",
-            Rule::Meet => "meet",
-            Rule::Report => "report",
-        }
+/// The rule in one word.
+fn word_of(rule: Rule) -> &'static str
+    ensures { result.now ≡ rule_word rule }
+{
+    match rule {
+        Rule::Step => "step",
+        Rule::Actor => "actor",
+        Rule::Ask => "ask",
+        Rule::Send => "send",
+        Rule::Eval => "eval",
+        Rule::Hear => "hear",
+        Rule::Tell => "tell",
+        Rule::Meet => "meet",
+        Rule::Report => "report",
     }
 }
 
 /// How a call of the program ended.
 #[derive(Clone, Copy, Debug, PartialEq, Eq)]
 pub enum Status {
-    /// The output was written whole.
+    /// The mode's output was written whole.
     Done,
-    /// The journal is no run with its report: this line breaks this rule. Nothing answers this yet.
+    /// The journal is no run with its report: this line is the first that breaks a rule, and this is the rule.
     NotRun { line: u64, rule: Rule },
-    /// The words are none that the program knows.
+    /// The words name no mode.
     Usage,
     /// The source failed.
     ReadFault,
@@ -55,7 +41,7 @@ pub enum Status {
     WriteFault { written: usize },
     /// The bytes are no workload, for the reason of this number.
     Workload { number: u8 },
-    /// This line of the journal is outside the grammar. Nothing answers this yet.
+    /// This line of the journal is the first that is outside the grammar.
     Journal { line: u64 },
     /// The input is longer than is allowed; so many bytes of it were read, one more than the limit.
     TooLong { bytes: usize },
@@ -109,7 +95,7 @@ fn not_run(alloc: Global, line: u64, rule: Rule) -> Result<String, NoMemory>
     ensures { IfOk result (λ text. string_bytes text ≡ line_of (Status.NotRun line rule)) }
 {
     let mut text = at_line(alloc, line)?;
-    text.push_str(rule.word())?;
+    text.push_str(word_of(rule))?;
     Ok(text)
 }
 

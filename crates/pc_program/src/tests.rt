@@ -116,12 +116,13 @@ fn is_no_use<'a>(alloc: Global, words: &'a [&'a str]) -> Result<bool, Fail> {
 
 #[test]
 fn other_words_are_no_use(rt: HostRuntime) -> Result<(), Fail> {
-    let unknown = ["walk"];
     let none: [&str; 0] = [];
-    let twice = ["run", "run"];
-    assert!(rt; is_no_use(rt.alloc(), &unknown)?);
     assert!(rt; is_no_use(rt.alloc(), &none)?);
-    assert!(rt; is_no_use(rt.alloc(), &twice)?);
+    assert!(rt; is_no_use(rt.alloc(), &["walk"])?);
+    assert!(rt; is_no_use(rt.alloc(), &["make"])?);
+    assert!(rt; is_no_use(rt.alloc(), &["--help"])?);
+    assert!(rt; is_no_use(rt.alloc(), &["run", "check"])?);
+    assert!(rt; is_no_use(rt.alloc(), &["check", "--number", "1"])?);
     Ok(())
 }
 
@@ -194,5 +195,101 @@ fn one_byte_more_than_the_limit_is_too_long(rt: HostRuntime) -> Result<(), Fail>
     let text = status.text(rt.alloc()).ok().ok_or("memory")?;
     assert_eq!(rt; text.as_str(), "pcommit: more than 16777216 bytes");
     assert_eq!(rt; status.code(), 7);
+    Ok(())
+}
+
+/// How mode check ends on this text, and what the sink took.
+fn checked(alloc: Global, text: &str, room: usize) -> Result<(Status, Vec<u8>), Fail> {
+    let case = Case {
+        words: &["check"],
+        input: text,
+        failing_reads: &[],
+        room,
+        failing_writes: &[],
+    };
+    ended(alloc, &case)
+}
+
+/// Whether mode check says of what the row writes that it is a run with its report.
+fn is_accepted(alloc: Global, row: &Row) -> Result<bool, Fail> {
+    let text = String::from_utf8(row.output.to_vec(alloc)?)
+        .ok()
+        .ok_or("text")?;
+    let (status, taken) = checked(alloc, text.as_str(), 4096)?;
+    Ok(status == Status::Done && taken.as_slice() == b"run\n".as_slice())
+}
+
+#[test]
+fn what_each_worked_row_writes_is_a_run_with_its_report(rt: HostRuntime) -> Result<(), Fail> {
+    for row in ROWS.as_slice() {
+        assert!(rt; is_accepted(rt.alloc(), row)?, "{}", row.name);
+    }
+    Ok(())
+}
+
+/// Whether mode check ends so on this text, with this line and nothing written.
+fn ends_so(alloc: Global, text: &str, wanted: Status, line: &str) -> Result<bool, Fail> {
+    let (status, taken) = checked(alloc, text, 4096)?;
+    let told = status.text(alloc).ok().ok_or("memory")?;
+    Ok(status == wanted && told.as_str() == line && taken.is_empty())
+}
+
+#[test]
+fn the_first_line_that_is_wrong_is_told(rt: HostRuntime) -> Result<(), Fail> {
+    let step = "journal 1\nranges 1\nactors 1 0\n1 s1 ask begin normal @10\nreport\nend\n";
+    let actor = "journal 1\nranges 1\nactors 1 0\n0 s2 ask begin normal @10\nreport\nend\n";
+    let tell =
+        "journal 1\nranges 1\nactors 1 0\n0 s1 ask begin normal @10\n1 s1 tell begun 1.1 11.0\nreport\nopen 1.1 none\nend\n";
+    let report =
+        "journal 1\nranges 1\nactors 1 0\n0 s1 ask begin normal @10\n1 s1 tell begun 1.1 10.0\nreport\nopen 1.1 pending\nend\n";
+    let cut = "journal 1\nranges 1\nactors 1 0\nreport\n";
+    let cases = [
+        (
+            step,
+            not_run(4, Rule::Step),
+            "pcommit: not a run: line 4, rule step",
+        ),
+        (
+            actor,
+            not_run(4, Rule::Actor),
+            "pcommit: not a run: line 4, rule actor",
+        ),
+        (
+            tell,
+            not_run(5, Rule::Tell),
+            "pcommit: not a run: line 5, rule tell",
+        ),
+        (
+            report,
+            not_run(7, Rule::Report),
+            "pcommit: not a run: line 7, rule report",
+        ),
+        (
+            cut,
+            Status::Journal { line: 5 },
+            "pcommit: journal malformed: line 5",
+        ),
+        (
+            "",
+            Status::Journal { line: 1 },
+            "pcommit: journal malformed: line 1",
+        ),
+    ];
+    for (text, wanted, line) in cases {
+        assert!(rt; ends_so(rt.alloc(), text, wanted, line)?, "{line}");
+    }
+    Ok(())
+}
+
+fn not_run(line: u64, rule: Rule) -> Status {
+    Status::NotRun { line, rule }
+}
+
+#[test]
+fn no_run_is_told_where_its_line_is_not_written(rt: HostRuntime) -> Result<(), Fail> {
+    let text = "journal 1\nranges 1\nactors 1 0\nreport\nend\n";
+    let (status, taken) = checked(rt.alloc(), text, 2)?;
+    assert_eq!(rt; status, Status::WriteFault { written: 2 });
+    assert_eq!(rt; taken.as_slice(), b"ru".as_slice());
     Ok(())
 }

@@ -1,25 +1,29 @@
-ghost use Rattle.std.specs.Prelude.{◌≡◌, ℕ, ◌+◌, ◌<◌, ◌↔◌, ◌⊎◌, IsTrue, IsSome, IfSome, codes, length, map, take, string_bytes};
-ghost use Rattle.std.specs.Io.KnownBytes.{Appends};
+ghost use Rattle.std.specs.Prelude.{◌≡◌, ◌↔◌, None, Some, map, string_bytes};
 ghost use Rattle.pc_base.specs.Counts.{saturating_next};
-ghost use Rattle.pc_io.specs.Reading.{HasNoneLeft, TakesAtMost, TakesExactly};
-ghost use Rattle.pc_program.specs.Causes.{AskForRun, HasBegunWriting, HasWritten, HasWrittenOf, IfDone, IfRead, IfRefused, IfWriteFault, IsAfterReading, IsFront, IsOfRun, IsWhole, UnlessWriteFault, UnlessWriting};
-ghost use Rattle.pc_work.specs.Built.{IsBuilt};
-ghost use Rattle.pc_work.specs.Workload.{IsJson, workload_in};
+ghost use Rattle.pc_io.specs.Reading.{HasNoneLeft};
+ghost use Rattle.pc_program.specs.Causes.{IfRead, IfWriteFault, UnlessWriteFault, UnlessWriting};
+ghost use Rattle.pc_program.specs.Limits.{KeepsLimit, input_limit};
+ghost use Rattle.pc_program.specs.ModeCheck.{HasChecked};
+ghost use Rattle.pc_program.specs.ModeRun.{HasRun};
+ghost use Rattle.pc_words.specs.declared.Mode.{Mode as asked};
+ghost use Rattle.pc_words.specs.declared.Mode.TheVariants as modes;
+ghost use Rattle.pc_words.specs.Forms.{mode_in};
 
-use crate::output::output;
+use crate::check::check_journal;
+use crate::run::run_workload;
 use crate::status::Status;
 use pc_base::NoMemory;
-use pc_base::limits::INPUT_BYTES;
 use pc_clock::Clocks;
-use pc_io::{ReadFault, Sink, Source, read_all, write_all};
+use pc_io::{Sink, Source};
 use pc_range::Gate;
-use pc_work::{WorkFault, Workload};
+use pc_words::{Mode, mode_of};
 use std::alloc::Global;
 
-/// The whole program: reads a workload from the source, runs it, and writes its journal and report to the sink.
+/// The whole program, in the mode that its words ask for.
 ///
-/// The words are those behind the program's name. The clocks and the gate are not called yet: each session has a clock
-/// that the workload states.
+/// Mode run reads a workload from the source, runs it, and writes its journal and report to the sink; mode check reads such an output, and
+/// writes the line `run` where it is a run with its report. The words are those behind the program's name. The clocks and the gate are not
+/// called yet: each session has a clock that the workload states.
 pub fn pcommit<S: Source, K: Sink, M: Clocks, G: Gate>(
     alloc: Global,
     words: &[String],
@@ -28,9 +32,9 @@ pub fn pcommit<S: Source, K: Sink, M: Clocks, G: Gate>(
     clocks: &mut M,
     gate: &G,
 ) -> Status
-    // Usage comes exactly where the words are not the one word `run`, and nothing is read then.
-    ensures usage { (result ≡ Status.Usage) ↔ ¬ (AskForRun (map string_bytes words.now)) }
-    ensures usage_reads_nothing { result ≡ Status.Usage → source.new ≡ source.old }
+    // Usage comes exactly where the words name no mode, unless memory ran out; nothing is read then.
+    ensures usage { ¬ (result ≡ Status.NoMemory) → ((result ≡ Status.Usage) ↔ (mode_in (map string_bytes words.now) ≡ None)) }
+    ensures usage_reads_nothing { mode_in (map string_bytes words.now) ≡ None → source.new ≡ source.old }
 
     // A fault is answered exactly where a call of the object that was handed in failed, and the first failure ends it.
     ensures read_fault { result ≡ Status.ReadFault → S.faults source.new ≡ saturating_next (S.faults source.old) }
@@ -38,113 +42,22 @@ pub fn pcommit<S: Source, K: Sink, M: Clocks, G: Gate>(
     ensures write_fault { IfWriteFault result (λ written. K.faults sink.new ≡ saturating_next (K.faults sink.old)) }
     ensures write_count { UnlessWriteFault result (K.faults sink.new ≡ K.faults sink.old) }
 
-    // Too long exactly where one byte more than the limit was read; else the source was read to its end.
-    ensures too_long { IfSome (S.left source.old) (λ left. AskForRun (map string_bytes words.now) →
-        ((result ≡ Status.TooLong (INPUT_BYTES + 1)) ↔ TakesExactly (INPUT_BYTES + 1) left (S.left source.new))) }
-    ensures too_long_by_one { (bytes : ℕ) → result ≡ Status.TooLong bytes → bytes ≡ INPUT_BYTES + 1 }
+    // The input is read to its end, unless it is longer than the mode allows.
+    ensures limit { (mode : asked) → mode_in (map string_bytes words.now) ≡ Some mode →
+        KeepsLimit (input_limit mode) result (S.left source.old) (S.left source.new) }
     ensures read_whole { IfRead result (HasNoneLeft (S.left source.old) (S.left source.new)) }
-    ensures read_most { TakesAtMost (INPUT_BYTES + 1) (S.left source.old) (S.left source.new) }
 
-    // The bytes decide what becomes of the workload: no JSON, another form, or accepted and run.
-    ensures no_json { IfRead result (IfSome (S.left source.old) (λ bytes.
-        (result ≡ Status.Workload 1) ↔ ¬ (IsJson bytes))) }
-    ensures other_form { IfRead result (IfSome (S.left source.old) (λ bytes.
-        (result ≡ Status.Workload 10) ↔ (IsJson bytes × (workload_in bytes ≡ None)))) }
-    ensures accepted { IfRead result (IfSome (S.left source.old) (λ bytes.
-        HasBegunWriting result ↔ (IsJson bytes × IsSome (workload_in bytes)))) }
-
-    ensures refused { IfRefused result (λ number. (number ≡ 1) ⊎ (number ≡ 10)) }
-
-    // Done is the whole output behind what the sink had taken; a write fault is a part of it. Else nothing was written.
-    ensures done { IfDone result (HasWritten (M.rules clocks.old) (S.left source.old) (K.taken sink.old) (K.taken sink.new) IsWhole) }
-    ensures part { IfWriteFault result (λ written.
-        HasWritten (M.rules clocks.old) (S.left source.old) (K.taken sink.old) (K.taken sink.new) (IsFront written)) }
+    // What the input is found to be, and what is written. Where neither mode comes to its writing, nothing is.
+    ensures run { mode_in (map string_bytes words.now) ≡ Some modes.Run →
+        HasRun result (M.rules clocks.old) (S.left source.old) (K.taken sink.old) (K.taken sink.new) }
+    ensures check { mode_in (map string_bytes words.now) ≡ Some modes.Check →
+        HasChecked result (S.left source.old) (K.taken sink.old) (K.taken sink.new) }
     ensures unwritten { UnlessWriting result (sink.new ≡ sink.old) }
-    ensures kind { IsOfRun result }
 {
-    if !are_run(words) {
-        return Status::Usage;
-    }
-    match read_all(alloc, source, INPUT_BYTES) {
-        Ok(bytes) => run(alloc, &bytes, sink, clocks, gate),
-        Err(ReadFault::Failed) => Status::ReadFault,
-        Err(ReadFault::TooLong { bytes }) => Status::TooLong { bytes },
-        Err(ReadFault::NoMemory) => Status::NoMemory,
-    }
-}
-
-fn are_run(words: &[String]) -> bool
-    ensures { IsTrue result ↔ AskForRun (map string_bytes words.now) }
-{
-    words.len() == 1 && is_run(words[0].as_str())
-}
-
-fn is_run(word: &str) -> bool
-    ensures { IsTrue result ↔ (word.now ≡ codes "run") }
-{
-    word == "run"
-}
-
-/// Runs the workload that the bytes state.
-fn run<K: Sink, M: Clocks, G: Gate>(
-    alloc: Global,
-    bytes: &[u8],
-    sink: &mut K,
-    clocks: &mut M,
-    gate: &G,
-) -> Status
-    ensures no_json { IfRead result ((result ≡ Status.Workload 1) ↔ ¬ (IsJson bytes.now)) }
-    ensures other_form { IfRead result ((result ≡ Status.Workload 10) ↔ (IsJson bytes.now × (workload_in bytes.now ≡ None))) }
-    ensures accepted { IfRead result (HasBegunWriting result ↔ (IsJson bytes.now × IsSome (workload_in bytes.now))) }
-    ensures done { IfDone result (HasWritten (M.rules clocks.old) (Some bytes.now) (K.taken sink.old) (K.taken sink.new) IsWhole) }
-    ensures part { IfWriteFault result (λ written. HasWritten (M.rules clocks.old) (Some bytes.now) (K.taken sink.old) (K.taken sink.new) (IsFront written)) }
-    ensures write_fault { IfWriteFault result (λ written. K.faults sink.new ≡ saturating_next (K.faults sink.old)) }
-    ensures write_count { UnlessWriteFault result (K.faults sink.new ≡ K.faults sink.old) }
-    ensures unwritten { UnlessWriting result (sink.new ≡ sink.old) }
-    ensures refused { IfRefused result (λ number. (number ≡ 1) ⊎ (number ≡ 10)) }
-    ensures kind { IsAfterReading result }
-{
-    match Workload::read(alloc, bytes) {
-        Ok(work) => write_output(alloc, &work, sink, clocks, gate),
-        Err(WorkFault::Refused { number }) => Status::Workload { number },
-        Err(WorkFault::NoMemory) => Status::NoMemory,
-    }
-}
-
-/// Makes the whole output, and then writes it.
-fn write_output<K: Sink, M: Clocks, G: Gate>(
-    alloc: Global,
-    work: &Workload,
-    sink: &mut K,
-    clocks: &mut M,
-    gate: &G,
-) -> Status
-    requires { IsBuilt work.now }
-    ensures done { IfDone result (HasWrittenOf work.now (M.rules clocks.old) (K.taken sink.old) (K.taken sink.new) IsWhole) }
-    ensures part { IfWriteFault result (λ written. HasWrittenOf work.now (M.rules clocks.old) (K.taken sink.old) (K.taken sink.new) (IsFront written)) }
-    ensures write_fault { IfWriteFault result (λ written. K.faults sink.new ≡ saturating_next (K.faults sink.old)) }
-    ensures write_count { UnlessWriteFault result (K.faults sink.new ≡ K.faults sink.old) }
-    ensures unwritten { UnlessWriting result (sink.new ≡ sink.old) }
-    ensures kind { (result ≡ Status.NoMemory) ⊎ HasBegunWriting result }
-{
-    match output(alloc, work, clocks, gate) {
-        Ok(out) => write_whole(sink, &out),
+    match mode_of(alloc, words) {
+        Ok(Some(Mode::Run)) => run_workload(alloc, source, sink, clocks, gate),
+        Ok(Some(Mode::Check)) => check_journal(alloc, source, sink),
+        Ok(None) => Status::Usage,
         Err(NoMemory) => Status::NoMemory,
-    }
-}
-
-fn write_whole<K: Sink>(sink: &mut K, out: &[u8]) -> Status
-    ensures done { IfDone result (Appends (K.taken sink.old) (K.taken sink.new) out.now) }
-    ensures part { IfWriteFault result (λ written. Appends (K.taken sink.old) (K.taken sink.new) (take written out.now)) }
-    ensures short { IfWriteFault result (λ written. written < length out.now) }
-    ensures write_fault { IfWriteFault result (λ written. K.faults sink.new ≡ saturating_next (K.faults sink.old)) }
-    ensures write_count { UnlessWriteFault result (K.faults sink.new ≡ K.faults sink.old) }
-    ensures kind { HasBegunWriting result }
-{
-    match write_all(sink, out) {
-        Ok(()) => Status::Done,
-        Err(stop) => Status::WriteFault {
-            written: stop.written,
-        },
     }
 }

@@ -4,8 +4,6 @@
 #[cfg(test)]
 mod accepted;
 #[cfg(test)]
-mod coordinator;
-#[cfg(test)]
 mod evaluation;
 #[cfg(test)]
 mod intents;

@@ -1,44 +1,34 @@
-use Rattle.std.proofs.Common.{◌≡◌, ◌↔◌, None, IsSome, map, string_bytes, Global, rules, subst, sym}
-use Rattle.pc_io.specs.Reading.{IsAllOf, TakesExactly}
-use Rattle.pc_program.specs.declared.status.Status.TheVariants as statuses
-use Rattle.pc_program.specs.Causes.{AskForRun, HasBegunWriting}
-use Rattle.pc_program.proofs.Ends.{carried, done_carried, not_long, part_carried, unless}
-use Rattle.pc_work.specs.Workload.{IsJson, workload_in}
+use Rattle.std.proofs.Common.{◌≡◌, Some, subst, sym}
+use Rattle.pc_program.proofs.ExactVerdicts.{malformed_exactly, no_run_exactly, run_exactly}
+use Rattle.pc_program.specs.Limits.{KeepsLimit, input_limit}
+use Rattle.pc_words.specs.declared.Mode.TheVariants as modes
 use Rattle.pc_program.proofs.top.pcommit.Goals as goal
 
-pub returns-then-not-are_run-clause-too_long : goal.returns-then-not-are_run-clause-too_long
-returns-then-not-are_run-clause-too_long g c =
-    let other : AskForRun (map (string_bytes {Z = Global}) c.args.words.now) → ⊥ = search rules in
-    unless (g.S.Source.left c.args.source.now) _ _ other
+pub returns-in-Ok-Some-Run-clause-limit : goal.returns-in-Ok-Some-Run-clause-limit
+returns-in-Ok-Some-Run-clause-limit g c mode asked =
+    let same : mode ≡ modes.Run = cc (c.in-Ok-Some-Run.ensures, asked) in
+    subst (λ m. KeepsLimit (input_limit m) c.run_workload.result (g.S.Source.left c.args.source.now) (g.S.Source.left c.run_workload.new.source)) (sym same) (record {
+      too_long = c.run_workload.ensures.too_long;
+      too_long_by_one = c.run_workload.ensures.too_long_by_one;
+      read_most = c.run_workload.ensures.read_most;
+    })
 
-pub returns-in-Ok-clause-too_long : goal.returns-in-Ok-clause-too_long
-returns-in-Ok-clause-too_long g c =
-    not_long c.run.result 16777217 (g.S.Source.left c.args.source.now) (λ left. TakesExactly 16777217 left (g.S.Source.left c.read_all.new.source)) _ _
-    c.run.ensures.kind c.in-Ok.ensures.too_long (λ e. cc)
+pub returns-in-Ok-Some-Check-clause-limit : goal.returns-in-Ok-Some-Check-clause-limit
+returns-in-Ok-Some-Check-clause-limit g c mode asked =
+    let same : mode ≡ modes.Check = cc (c.in-Ok-Some-Check.ensures, asked) in
+    subst (λ m. KeepsLimit (input_limit m) c.check_journal.result (g.S.Source.left c.args.source.now) (g.S.Source.left c.check_journal.new.source)) (sym same) (record {
+      too_long = c.check_journal.ensures.too_long;
+      too_long_by_one = c.check_journal.ensures.too_long_by_one;
+      read_most = c.check_journal.ensures.read_most;
+    })
 
-pub returns-in-Ok-clause-other_form : goal.returns-in-Ok-clause-other_form
-returns-in-Ok-clause-other_form g c =
-    carried c.run.result (g.S.Source.left c.args.source.now) c.deref.result.now (λ bytes. (c.run.result ≡ statuses.Workload 10) ↔ (IsJson bytes × (workload_in bytes ≡ None)))
-    (subst (IsAllOf (g.S.Source.left c.args.source.now)) (sym c.deref.ensures.value) c.in-Ok.ensures.ok) c.run.ensures.other_form
-
-pub returns-in-Ok-clause-accepted : goal.returns-in-Ok-clause-accepted
-returns-in-Ok-clause-accepted g c =
-    carried c.run.result (g.S.Source.left c.args.source.now) c.deref.result.now (λ bytes. HasBegunWriting c.run.result ↔ (IsJson bytes × IsSome (workload_in bytes)))
-    (subst (IsAllOf (g.S.Source.left c.args.source.now)) (sym c.deref.ensures.value) c.in-Ok.ensures.ok) c.run.ensures.accepted
-
-pub returns-in-Ok-clause-no_json : goal.returns-in-Ok-clause-no_json
-returns-in-Ok-clause-no_json g c =
-    carried c.run.result (g.S.Source.left c.args.source.now) c.deref.result.now (λ bytes. (c.run.result ≡ statuses.Workload 1) ↔ ¬ (IsJson bytes))
-    (subst (IsAllOf (g.S.Source.left c.args.source.now)) (sym c.deref.ensures.value) c.in-Ok.ensures.ok) c.run.ensures.no_json
-
-pub returns-in-Ok-clause-done : goal.returns-in-Ok-clause-done
-returns-in-Ok-clause-done g c =
-    done_carried (g.M.Clocks.rules c.args.clocks.now) (g.K.Sink.taken c.args.sink.now) (g.K.Sink.taken c.run.new.sink)
-    (g.S.Source.left c.args.source.now) c.deref.result.now (subst (IsAllOf (g.S.Source.left c.args.source.now)) (sym c.deref.ensures.value) c.in-Ok.ensures.ok)
-    c.run.result c.run.ensures.done
-
-pub returns-in-Ok-clause-part : goal.returns-in-Ok-clause-part
-returns-in-Ok-clause-part g c =
-    part_carried (g.M.Clocks.rules c.args.clocks.now) (g.K.Sink.taken c.args.sink.now) (g.K.Sink.taken c.run.new.sink)
-    (g.S.Source.left c.args.source.now) c.deref.result.now (subst (IsAllOf (g.S.Source.left c.args.source.now)) (sym c.deref.ensures.value) c.in-Ok.ensures.ok)
-    c.run.result c.run.ensures.part
+pub returns-in-Ok-Some-Check-clause-check : goal.returns-in-Ok-Some-Check-clause-check
+returns-in-Ok-Some-Check-clause-check g c asked = record {
+  run = run_exactly c.check_journal.result (g.S.Source.left c.args.source.now) c.check_journal.ensures.kind c.check_journal.ensures.verdict;
+  not_run = no_run_exactly c.check_journal.result (g.S.Source.left c.args.source.now) c.check_journal.ensures.kind c.check_journal.ensures.verdict;
+  malformed = malformed_exactly c.check_journal.result (g.S.Source.left c.args.source.now) c.check_journal.ensures.kind c.check_journal.ensures.verdict;
+  done = c.check_journal.ensures.done;
+  part = c.check_journal.ensures.part;
+  short = c.check_journal.ensures.short;
+  kind = c.check_journal.ensures.kind;
+}

@@ -1,5 +1,5 @@
 use Rattle.pc_program.proofs.Ends.{done_of, part_of}
-use Rattle.pc_program.proofs.top.run.Goals as goal
+use Rattle.pc_program.proofs.run.run_bytes.Goals as goal
 
 pub returns-in-Ok-clause-done : goal.returns-in-Ok-clause-done
 returns-in-Ok-clause-done g c =
