@@ -14,37 +14,42 @@ import sys
 import tempfile
 
 CHECKS = 3
-KEYS = 2000
-MOST_STATEMENTS = 100_000
+KEYS = 4000
+PUTS = 40
+MOST_TRANSACTIONS = 100_000 // (PUTS + 3)
 
 
-def text(prefix, number, length):
-    return (prefix + "%06d" % number).ljust(length, "x")
+def key_of(number, length):
+    return ("k%06d" % number).ljust(min(length, 64), "x")
 
 
-def transaction(first, puts, length):
+def value_of(number, length):
+    return ("v%06d" % number).ljust(length, "x")
+
+
+def transaction(first, length):
     """A read, and puts on keys from this one on."""
-    keys = [(first + 7 * n) % KEYS for n in range(puts)]
-    do = [{"get": text("k", keys[0], length)}]
-    do += [{"put": [text("k", key, length), text("v", key, length)]} for key in keys]
+    keys = [(first + 7 * n) % KEYS for n in range(PUTS)]
+    do = [{"get": key_of(keys[0], length)}]
+    do += [{"put": [key_of(key, length), value_of(key, length)]} for key in keys]
     return {"do": do}
 
 
 def one_session(transactions, length):
-    """One session, ten puts in each transaction."""
-    script = [transaction(11 * t, 10, length) for t in range(transactions)]
+    """One session."""
+    script = [transaction(11 * t, length) for t in range(transactions)]
     return {"version": 1, "pipelining": False, "turns": [], "sessions": [{"clock": {"start": 10, "step": 1}, "script": script}]}
 
 
 def eight_sessions(transactions, length):
-    """Eight sessions in turns over four ranges, ten puts in each transaction, each session on keys of its own."""
+    """Eight sessions in turns over four ranges, each on keys of its own."""
     sessions = []
     for s in range(8):
         own = KEYS // 8
-        script = [transaction(s * own + 11 * t % (own - 70), 10, length) for t in range(transactions // 8)]
+        script = [transaction(s * own + 11 * t % (own - 7 * PUTS), length) for t in range(transactions // 8)]
         sessions.append({"clock": {"start": 10 + s, "step": 1}, "script": script})
-    splits = [text("k", KEYS * part // 4, length) for part in (1, 2, 3)]
-    turns = [word % (s + 1) for _ in range(14 * transactions // 8) for s in range(8) for word in ("s%d", "b%d")]
+    splits = [key_of(KEYS * part // 4, length) for part in (1, 2, 3)]
+    turns = [word % (s + 1) for _ in range((PUTS + 4) * transactions // 8) for s in range(8) for word in ("s%d", "b%d")]
     return {"version": 1, "pipelining": False, "splits": splits, "turns": turns, "sessions": sessions}
 
 
@@ -73,14 +78,13 @@ def journal(binary, made, transactions, length, folder):
 
 
 def journal_of(binary, made, megabytes, folder):
-    """A journal of about so many megabytes: a small one says how much a transaction writes, by the length of its keys."""
-    wanted = megabytes * 1_000_000
+    """A journal of about so many megabytes, as far as a workload may have so many statements. A small one says how much a transaction writes."""
     for length in (8, 16, 32, 64):
         each = os.path.getsize(journal(binary, made, 80, length, folder)) / 80
-        transactions = round(wanted / each / 8) * 8
-        if transactions * 13 <= MOST_STATEMENTS:
+        transactions = max(8, round(megabytes * 1_000_000 / each / 8) * 8)
+        if transactions <= MOST_TRANSACTIONS:
             break
-    return journal(binary, made, max(transactions, 8), length, folder)
+    return journal(binary, made, min(transactions, MOST_TRANSACTIONS // 8 * 8), length, folder)
 
 
 def main():
