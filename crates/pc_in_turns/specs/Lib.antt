@@ -1,0 +1,4 @@
+-- How the sessions of a workload go in turns: what each does when it moves, what they have made so far, and what they have made in the end.
+pub mod Task
+pub mod Moving
+pub mod InTurns

@@ -1,0 +1,108 @@
+-- Sessions that move one after another: the order of the entries that they have made so far, and how it grows. Own profile.
+use Rattle.std.specs.Prelude.{◌≡◌, ◌≢◌, ℕ, ◌+◌, ◌<◌, Bool, Some, List, [], ◌∷◌, ◌++◌, length, map, slice_get, slice_set, Contains}
+use Rattle.pc_base.specs.declared.actor.ActorId.{ActorId}
+use Rattle.pc_history.specs.declared.pair.Pair.{Pair}
+use Rattle.pc_history.specs.declared.view.Known.{Known as KnownEntry}
+use Rattle.pc_history.specs.Parts.{told, told_entries}
+use Rattle.pc_in_turns.specs.declared.task.Task.{Task}
+use Rattle.pc_in_turns.specs.declared.task.Task.TheVariants as tasks
+use Rattle.pc_in_turns.specs.Task.{EndsWithTask}
+use Rattle.pc_proto.specs.declared.event.Event.{Event}
+use Rattle.pc_runs.specs.Order.{is_work_opened, next_in_work}
+use Rattle.pc_runs.specs.Runners.{AreRunners, HaveClocks, SaysAllFull}
+use Rattle.pc_scripted.specs.Ended.{list_has_ended}
+use Rattle.pc_scripted.specs.Scripted.{IsScripted, ScriptedMeaning, own_list}
+use Rattle.pc_scripted.specs.Taking.{IsRunOut, are_items_over}
+use Rattle.pc_turns.specs.Order.{AreTakenIn, GoToEnds, GoesByItself, IsTakenIn, entries_by, is_at_end}
+use Rattle.pc_turns.specs.Shares.{AreShares}
+use Rattle.pc_work.specs.declared.session.SessionWork.{SessionWork}
+use Rattle.pc_work.specs.declared.turn.Turn.{Turn}
+use Rattle.pc_work.specs.declared.turn.Turn.TheVariants as turns
+use Rattle.pc_work.specs.declared.workload.Workload.{Workload}
+
+-- What may be said of a part of the sessions' entries, behind others, where a test says which ranges are full.
+abbrev pub Stretch : Type 1
+Stretch = (ℕ → Bool) → List (Pair Event) → List (Pair Event) → Type 0
+
+module _ (work : Workload) where
+  -- The part is what the session of this index makes of its task.
+  abbrev pub IsTask : Task → ℕ → Stretch
+  IsTask (tasks.Open items) index full before part =
+      (session : SessionWork) → slice_get work.sessions index ≡ Some session
+      → GoesByItself (next_in_work work) (list_has_ended work.limit full) (index + 1) (λ order. are_items_over items work.reruns session.script (entries_by (index + 1) order)) before part
+  IsTask tasks.Call index full before part = IsTakenIn (next_in_work work) (list_has_ended work.limit full) (turns.Session (index + 1)) before part
+  IsTask tasks.Job index full before part = IsTakenIn (next_in_work work) (list_has_ended work.limit full) (turns.Job (index + 1)) before part
+  IsTask tasks.Rest index full before part = GoesByItself (next_in_work work) (list_has_ended work.limit full) (index + 1) (is_at_end (next_in_work work) (index + 1)) before part
+
+  -- The part is the workload's opening.
+  abbrev pub IsOpening : Stretch
+  IsOpening full before part = GoesByItself (next_in_work work) (list_has_ended work.limit full) 1 (is_work_opened work) before part
+
+  -- The part is what this turn takes.
+  abbrev pub TakesTurn : Turn → Stretch
+  TakesTurn turn full before part = IsTakenIn (next_in_work work) (list_has_ended work.limit full) turn before part
+
+  -- The part is what these turns take, one after another.
+  abbrev pub TakeTurns : List Turn → Stretch
+  TakeTurns stated full before part = AreTakenIn (next_in_work work) (list_has_ended work.limit full) stated before part
+
+  -- The part is what is left to the first sessions, of this number, which go to their ends one after another.
+  abbrev pub GoOut : ℕ → Stretch
+  GoOut count full before part = GoToEnds (next_in_work work) (list_has_ended work.limit full) 1 count before part
+
+-- The sessions of a workload, and the index of the one that made the last entry.
+pub record TurnsMeaning (C : Type 0) : Type 0 where
+  pub work : Workload
+  pub sessions : List (ScriptedMeaning C)
+  pub last : ℕ
+
+-- These are the workload's sessions, and the one that made the last entry is there.
+pub record AreInTurns {C : Type 0} (t : TurnsMeaning C) : Type 0 where
+  pub runners : AreRunners t.work t.sessions
+  pub there : t.last < length t.sessions
+
+-- The session of this index made the last of these entries, if there is one.
+abbrev pub MadeLast : {C : Type 0} → List (ScriptedMeaning C) → ℕ → List (Pair Event) → Type 0
+MadeLast {C} sessions last order =
+    (front : List (Pair Event)) (p : Pair Event) (s : ScriptedMeaning C) → order ≡ front ++ p ∷ [] → slice_get sessions last ≡ Some s
+    → (mine : List (Pair Event)) × (own_list s ≡ mine ++ p ∷ [])
+
+-- The sessions have made these entries, in this order: their own lists are their shares of them.
+pub record HaveMade {C : Type 0} (t : TurnsMeaning C) (order : List (Pair Event)) : Type 0 where
+  pub shares : AreShares (map own_list t.sessions) order
+  pub made : MadeLast t.sessions t.last order
+
+-- The sessions went on, and forgot nothing: behind the entries that they had made they made a part of which this is so, whichever ranges are
+-- full beside those that they know to be.
+pub record HaveGoneOn {C : Type 0} (rule : C → ℕ → ℕ → Bool) (Is : Stretch) (old new : TurnsMeaning C) : Type 0 where
+  pub in_turns : AreInTurns new
+  pub work : new.work ≡ old.work
+  pub knows : (full : ℕ → Bool) → SaysAllFull full new.sessions → SaysAllFull full old.sessions
+  pub clocks : (rules : ActorId → ℕ → ℕ → Bool) → HaveClocks rule rules old.work old.sessions → HaveClocks rule rules old.work new.sessions
+  pub goes :
+      (order : List (Pair Event)) → HaveMade old order
+      → (part : List (Pair Event)) × HaveMade new (order ++ part) × ((full : ℕ → Bool) → SaysAllFull full new.sessions → Is full order part)
+
+-- No session but that of this index has changed, and it has done its task.
+pub record HaveMovedAt {C : Type 0} (index : ℕ) (task : Task) (old new : List (ScriptedMeaning C)) : Type 0 where
+  pub others : (other : ℕ) → other ≢ index → slice_get new other ≡ slice_get old other
+  pub ends : (s : ScriptedMeaning C) → slice_get new index ≡ Some s → EndsWithTask task s
+
+-- The sessions below this index have run out.
+abbrev pub AreRunOutBelow : {C : Type 0} → ℕ → List (ScriptedMeaning C) → Type 0
+AreRunOutBelow {C} index sessions = (other : ℕ) (s : ScriptedMeaning C) → other < index → slice_get sessions other ≡ Some s → IsRunOut s
+
+-- The session, once it was told of these entries.
+abbrev pub told_of : {C : Type 0} → List (KnownEntry Event) → ScriptedMeaning C → ScriptedMeaning C
+told_of ks s = record s { session = record s.session { desk = record s.session.desk { log = record s.session.desk.log { part = told ks s.session.desk.log.part } } } }
+
+-- The session of this index was told of the last entry of the one that made an entry last; nothing else has changed.
+pub record HasFollowed {C : Type 0} (index : ℕ) (old new : TurnsMeaning C) : Type 0 where
+  pub session : ScriptedMeaning C
+  pub at : slice_get old.sessions index ≡ Some session
+  pub note : List (KnownEntry Event)
+  pub scripted : IsScripted (told_of note session)
+  pub whole : new ≡ record old { sessions = slice_set old.sessions index (told_of note session) }
+  pub tells :
+      (s : ScriptedMeaning C) (mine : List (Pair Event)) (p : Pair Event) → slice_get old.sessions old.last ≡ Some s → own_list s ≡ mine ++ p ∷ []
+      → Contains (told_entries note) p.entry
