@@ -331,6 +331,11 @@ marked_same {C} v old after place is same given =
     let log : after ≡ v.log = same ∙ ap (λ p. record v.log { part = p }) (sym (ap (λ (l : LogMeaning C). l.part) same) ∙ part) in
     ap (λ (l : LogMeaning C). record v { log = l }) log ∙ is
 
+-- nor does one for which memory was wanted change anything
+pub noted_same : {C A E : Type 0} (v old : DeskMeaning C) (after : LogMeaning C) (place : ℕ) (r : Result A E) → v ≡ old → after ≡ record v.log { part = record v.log.part { given = after.part.given } } → OnOk r (after.part ≡ gave place 0 v.log.part) → OnErr r (after ≡ v.log) → ◌≡◌ {A = DeskMeaning C} (record v { log = after }) old
+noted_same v old after place (Ok note) is same given none = marked_same v old after place is same given
+noted_same {C} v old after place (Err wanted) is same given none = ap (λ (l : LogMeaning C). record v { log = l }) none ∙ is
+
 took-at : {C : Type 0} (old : DeskMeaning C) (after : LogMeaning C) (note : List (KnownEntry Event)) → Took note old.log after → KeepsTrack old → KeepsTrack (record old { log = after })
 took-at {C} old after note took track =
     let own : after.part.own ≡ old.log.part.own = ap (λ (l : LogMeaning C). l.part.own) took.told_this in

@@ -4,6 +4,7 @@ pub mod Making
 pub mod Turns
 pub mod Tracking
 pub mod Logging
+pub mod Places
 pub mod Halting
 pub mod Going
 pub mod Desking

@@ -1,9 +1,13 @@
 -- What an actor's list is once an event was made, from what its parts say.
-use Rattle.std.proofs.Common.{◌≡◌, ℕ, ◌+◌, ◌-◌, ◌<◌, ◌≤◌, ◌^◌, Bool, true, false, min, All, [], ◌∷◌, ◌++◌, length, Option, sym, ap, subst, ◌∙◌, arith}
+use Rattle.std.proofs.Common.{◌≡◌, ℕ, ◌+◌, ◌-◌, ◌<◌, ◌≤◌, ◌^◌, Bool, true, false, min, All, [], ◌∷◌, ◌++◌, length, Option, Result, Ok, Err, IfOk, OnOk, sym, ap, subst, ◌∙◌, arith}
 use Rattle.std.proofs.lemmas.List.Sums.{count_by-le-length}
+use Rattle.std.specs.Prelude.{is_err}
 use Rattle.pc_base.specs.Counts.{saturating_next}
+use Rattle.pc_base.specs.declared.transaction.TxnId.{TxnId}
 use Rattle.pc_desk.proofs.Entering.{asks_push, grown, log_grown, reads_grown}
+use Rattle.pc_desk.proofs.Places.{places_grown}
 use Rattle.pc_desk.specs.Asks.{ReadsClock, asks_in, is_ask}
+use Rattle.pc_desk.specs.Commits.{HasCommitPlaces, KeepsPlace, commit_told_by}
 use Rattle.pc_desk.specs.Keeping.{KeepsNext, ReadsEach}
 use Rattle.pc_desk.specs.OwnLog.{HasEntered, IsOwnLog, IsReady, LogMeaning, is_last, with_event}
 use Rattle.pc_history.specs.declared.pair.Pair.{Pair}
@@ -20,6 +24,22 @@ use Rattle.pc_world.specs.Local.{Head}
 -- the actor once it made the event
 abbrev pub doing : ℕ → Event → ActorMeaning Head Event → ActorMeaning Head Event
 doing step event actor = record actor { part = acted (unstaged_protocol actor.world) step event actor.part; spare = actor.spare - 1 }
+
+-- The actor made the event at this step, and the places of commits were kept by it.
+pub record HasMade (actor after : ActorMeaning Head Event) (event : Event) (places later : TxnId → Option ℕ) (step : ℕ) : Type 0 where
+  pub stored : after ≡ doing step event actor
+  pub above : All (λ e. e.step < step) (knowledge actor.part)
+  pub small : step < 2 ^ 48
+  pub sound : IsSound (unstaged_protocol actor.world) (knowledge after.part)
+  pub stands : StandsInHistory (unstaged_protocol actor.world) after.part
+  pub kept : KeepsPlace (commit_told_by event) (length actor.part.own) places later
+
+-- where memory was not wanting
+pub has_made : {E : Type 0} (actor after : ActorMeaning Head Event) (event : Event) (places later : TxnId → Option ℕ) (r : Result ℕ E) (wanting : Bool) → wanting ≡ is_err r → wanting ≡ false → IfOk r (λ step. after ≡ doing step event actor)
+    → IfOk r (λ step. All (λ e. e.step < step) (knowledge actor.part)) → IfOk r (λ step. step < 2 ^ 48) → OnOk r (IsSound (unstaged_protocol actor.world) (knowledge after.part)) → OnOk r (StandsInHistory (unstaged_protocol actor.world) after.part)
+    → OnOk r (KeepsPlace (commit_told_by event) (length actor.part.own) places later) → (step : ℕ) × HasMade actor after event places later step
+has_made actor after event places later (Ok step) wanting is none stored above small sound stands kept = (step, record { stored = stored; above = above; small = small; sound = sound; stands = stands; kept = kept })
+has_made actor after event places later (Err e) wanting is none stored above small sound stands kept = absurd (let e : true ≡ false = sym is ∙ none in cc e)
 
 module _ {C : Type 0} (old ready : LogMeaning C) (actor after : ActorMeaning Head Event) (was now : C) (pipelining : Bool) (limit : ℕ) (stop : Option ℕ) (stopped last : Bool) (step : ℕ) (event : Event) where
   -- The list before.
@@ -94,3 +114,9 @@ module _ {C : Type 0} (old ready : LogMeaning C) (actor after : ActorMeaning Hea
 
   pub no_more_asks : (reads : ℕ) → reads ≡ asks_in actor.part.own → is_ask event ≡ false → after ≡ doing step event actor → reads ≡ asks_in after.part.own
   no_more_asks reads are none did = let n = asks_made did in let o = ap one_if none in omega arith
+
+  -- the places of the commits that were told, where they were kept by the event
+  pub places_made : (places later : TxnId → Option ℕ) → KeepsPlace (commit_told_by event) (length actor.part.own) places later → HasCommitPlaces places actor.part.own → after ≡ doing step event actor → HasCommitPlaces later after.part.own
+  places_made places later keeps has did =
+      subst (HasCommitPlaces later) (sym (own-grown did))
+      (places_grown actor.part.own (pair (entry_of step actor.part.id event) (named_by (unstaged_protocol actor.world) actor.part event)) places later keeps has)

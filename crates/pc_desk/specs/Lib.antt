@@ -4,6 +4,7 @@ pub mod Hearing
 pub mod WholeScan
 pub mod Keeping
 pub mod OwnLog
+pub mod Commits
 pub mod Desk
 pub mod Ending
 pub mod Rest

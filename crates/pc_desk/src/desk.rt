@@ -1,10 +1,12 @@
 ghost use Rattle.std.specs.Prelude.{◌≡◌, ℕ, ◌+◌, ◌-◌, ◌<◌, ◌≤◌, ◌^◌, [], ◌∷◌, length, map, All, IfErr, IfOk, IfNone, IfSome, OnErr, OnOk};
 ghost use Rattle.pc_base.specs.Rising.{AreRising};
 ghost use Rattle.pc_desk.specs.declared.halt.Halt.TheVariants as halts;
+ghost use Rattle.pc_desk.specs.Commits.{IsCommitPlace};
 ghost use Rattle.pc_desk.specs.Desk.{DeskMeaning, EndsWithSend, HasDelivered, HasDone, HasHalted, HasHeardFirst, HasKept, HasPosted, HasSentNext, HasTakenFirst, IsReadyToGo, KeepsTrack, MayHearNow, MaySendNow, Posted, new_desk, posted_as, uses_by};
 ghost use Rattle.pc_desk.specs.Ending.{EndsOnly};
 ghost use Rattle.pc_desk.specs.Keeping.{ReadsEach};
 ghost use Rattle.pc_desk.specs.OwnLog.{HasEntered, IsNoRange, IsOwnLog, MayEnter};
+ghost use Rattle.pc_history.specs.Own.{entries_of};
 ghost use Rattle.pc_history.specs.Parts.{newcomer, noted, told};
 ghost use Rattle.pc_proto.specs.declared.event.Event.TheVariants as events;
 ghost use Rattle.pc_proto.specs.Stamps.{request_stamps};
@@ -19,7 +21,7 @@ use crate::answered::Answered;
 use crate::halt::Halt;
 use crate::own_log::OwnLog;
 use crate::rest::Rest;
-use pc_base::{ActorId, NoMemory, TryCopy};
+use pc_base::{ActorId, Entry, NoMemory, TryCopy, TxnId};
 use pc_clock::Clock;
 use pc_history::{Actor, Named, Note};
 use pc_proto::{Answer, Call, Event, Request};
@@ -93,7 +95,7 @@ impl<'a, N: Named<CommitWorld>, C: Clock, V: Wire, G: Gate> Desk<'a, N, C, V, G>
         ensures made { result ≡ new_desk actor.world actor.part actor.spare clock pipelining limit stop ranges.now.limit }
     {
         Desk {
-            log: OwnLog::new(actor, clock, pipelining, limit, stop),
+            log: OwnLog::new(alloc, actor, clock, pipelining, limit, stop),
             ranges,
             wire,
             sends: 0,
@@ -102,11 +104,25 @@ impl<'a, N: Named<CommitWorld>, C: Clock, V: Wire, G: Gate> Desk<'a, N, C, V, G>
         }
     }
 
+    /// The actor's entries so far.
+    pub fn entries(&self) -> &[Entry<Event>]
+        ensures { result.now ≡ entries_of self.now.log.part.own }
+    {
+        self.log.entries()
+    }
+
     /// How many entries the actor's list has.
     pub fn len(&self) -> usize
         ensures { result ≡ length self.now.log.part.own }
     {
         self.log.len()
+    }
+
+    /// The place of an entry of the actor which tells that the transaction committed. None where no entry does.
+    pub fn commit_place(&self, id: TxnId) -> Option<usize>
+        ensures { IsCommitPlace id self.now.log.part.own result }
+    {
+        self.log.commit_place(id)
     }
 
     /// Whether it makes no more entries.
@@ -126,6 +142,15 @@ impl<'a, N: Named<CommitWorld>, C: Clock, V: Wire, G: Gate> Desk<'a, N, C, V, G>
             return Ok(None);
         }
         Ok(Some(self.log.note(0)?))
+    }
+
+    /// A note of the actor's entry at this place, without uses.
+    pub fn note(&mut self, place: usize) -> Result<Note<CommitWorld, N>, NoMemory>
+        requires { place < length self.old.log.part.own }
+        ensures note { IfOk result (λ n. n.known ≡ noted place 0 self.old.log.part) }
+        ensures same { self.new ≡ self.old }
+    {
+        self.log.note_at(place, 0)
     }
 
     /// Knows the entry of a mark from now on, so that its later entries stand after that one.
@@ -158,6 +183,18 @@ impl<'a, N: Named<CommitWorld>, C: Clock, V: Wire, G: Gate> Desk<'a, N, C, V, G>
         ensures ended { IfErr result (EndsOnly self.old self.new) }
     {
         self.log.enter(Event::Tell(answer))
+    }
+
+    /// Meets, in the open learn of a commit, the entry of this step that told of it.
+    pub fn meet(&mut self, id: TxnId, step: u64) -> Result<(), Halt>
+        requires track { KeepsTrack self.old }
+        requires may { MayEnter self.old.log (events.Meet id step) }
+        ensures ok { OnOk result (HasDone self.old self.new (events.Meet id step)) }
+        ensures clock { self.new.log.clock ≡ self.old.log.clock }
+        ensures err { IfErr result (HasHalted self.old self.new) }
+        ensures ended { IfErr result (EndsOnly self.old self.new) }
+    {
+        self.log.enter(Event::Meet { id, step })
     }
 
     /// Sends a message under the next number, which it gives.

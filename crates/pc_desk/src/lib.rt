@@ -2,6 +2,7 @@
 #![tactic(auto)]
 
 mod answered;
+mod commits;
 mod desk;
 mod halt;
 mod own_log;

@@ -1,17 +1,22 @@
 ghost use Rattle.std.specs.Prelude.{◌≡◌, ℕ, ◌+◌, ◌-◌, ◌<◌, ◌≤◌, ◌^◌, true, false, length, IfErr, IfOk, IfSome, OnErr, OnOk, Some};
+ghost use Rattle.pc_desk.specs.Commits.{IsCommitPlace};
 ghost use Rattle.pc_desk.specs.Keeping.{ReadsEach};
 ghost use Rattle.pc_desk.specs.OwnLog.{HasEntered, IsNoRange, IsHalt, IsOwnLog, IsReady, LogMeaning, MayEnter, Took};
+ghost use Rattle.pc_history.specs.Own.{entries_of};
 ghost use Rattle.pc_history.specs.Parts.{gave, newcomer, noted};
 ghost use Rattle.pc_proto.specs.declared.event.Event.TheVariants as events;
 ghost use Rattle.pc_world.specs.Known.{known_of};
 ghost use Rattle.pc_world.specs.Local.{IsActorOf, MayAsk};
 
+use crate::commits::make;
 use crate::halt::Halt;
-use pc_base::{ActorId, NoMemory};
+use pc_base::{ActorId, Entry, NoMemory, TxnId};
 use pc_clock::Clock;
 use pc_history::{Actor, Named, Note};
 use pc_proto::{Call, Event};
 use pc_range::CommitWorld;
+use std::alloc::Global;
+use std::collections::BTreeMap;
 use std::marker::Model;
 
 /// The own list of one session or recoverer, with the clock that it reads once for each call.
@@ -26,11 +31,16 @@ pub struct OwnLog<N: Named<CommitWorld>, C: Clock> {
     limit: u64,
     stop: Option<u64>,
     stopped: bool,
+    /// The place in the list at which each commit was told.
+    commits: BTreeMap<TxnId, usize>,
 }
 
 impl<N: Named<CommitWorld>, C: Clock> Model for OwnLog<N, C> {
     ghost use Rattle.std.specs.Prelude.{◌≡◌};
+    ghost use Rattle.std.specs.BTreeMap.{get};
+    ghost use Rattle.pc_base.specs.Transaction.{txn_cmp};
     ghost use Rattle.pc_desk.specs.Asks.{asks_in};
+    ghost use Rattle.pc_desk.specs.Commits.{HasCommitPlaces};
     ghost use Rattle.pc_desk.specs.Keeping.{ReadsEach};
     ghost use Rattle.pc_desk.specs.OwnLog.{IsOwnLog, LogMeaning};
 
@@ -56,12 +66,13 @@ impl<N: Named<CommitWorld>, C: Clock> Model for OwnLog<N, C> {
       limit = l.limit;
       stop = l.stop;
       stopped = l.stopped;
-    }) × ReadsEach (C.rule l.clock) l.actor.part.own × (C.reads l.clock ≡ asks_in l.actor.part.own) };
+    }) × ReadsEach (C.rule l.clock) l.actor.part.own × (C.reads l.clock ≡ asks_in l.actor.part.own) × HasCommitPlaces (get txn_cmp l.commits) l.actor.part.own };
 }
 
 impl<N: Named<CommitWorld>, C: Clock> OwnLog<N, C> {
     /// The list of an actor that has no entry yet. It may have at most `limit`, and stops at entry number `stop`, if one is stated.
     pub fn new(
+        alloc: Global,
         actor: Actor<CommitWorld, N>,
         clock: C,
         pipelining: bool,
@@ -93,6 +104,7 @@ impl<N: Named<CommitWorld>, C: Clock> OwnLog<N, C> {
             limit,
             stop,
             stopped: false,
+            commits: BTreeMap::new(alloc),
         }
     }
 
@@ -103,11 +115,25 @@ impl<N: Named<CommitWorld>, C: Clock> OwnLog<N, C> {
         self.actor.id()
     }
 
+    /// Its entries so far.
+    pub fn entries(&self) -> &[Entry<Event>]
+        ensures { result.now ≡ entries_of self.now.part.own }
+    {
+        self.actor.entries()
+    }
+
     /// How many entries it has.
     pub fn len(&self) -> usize
         ensures { result ≡ length self.now.part.own }
     {
         self.actor.entries().len()
+    }
+
+    /// The place of an entry which tells that the transaction committed. None where no entry does.
+    pub fn commit_place(&self, id: TxnId) -> Option<usize>
+        ensures { IsCommitPlace id self.now.part.own result }
+    {
+        self.commits.get(&id).copied()
     }
 
     /// Whether it makes no more entries.
@@ -142,7 +168,10 @@ impl<N: Named<CommitWorld>, C: Clock> OwnLog<N, C> {
         ensures err { IfErr result (IsHalt (λ made. made ≡ event) self.old self.new) }
     {
         let last = self.ready()?;
-        self.actor.act(event);
+        if make(&mut self.actor, &mut self.commits, event).is_err() {
+            self.stopped = true;
+            return Err(Halt::NoMemory);
+        }
         self.stopped = last;
         if last {
             return Err(Halt::Stopped);
@@ -182,6 +211,17 @@ impl<N: Named<CommitWorld>, C: Clock> OwnLog<N, C> {
     {
         let last = self.actor.entries().len() - 1;
         self.actor.note(last, uses)
+    }
+
+    /// A note of its entry at this place, with so many uses.
+    pub fn note_at(&mut self, place: usize, uses: u32) -> Result<Note<CommitWorld, N>, NoMemory>
+        requires { place < length self.old.part.own }
+        ensures note { IfOk result (λ n. n.known ≡ noted place uses self.old.part) }
+        ensures given { OnOk result (self.new.part ≡ gave place uses self.old.part) }
+        ensures same { self.new ≡ record self.old { part = record self.old.part { given = self.new.part.given } } }
+        ensures err { OnErr result (self.new ≡ self.old) }
+    {
+        self.actor.note(place, uses)
     }
 
     /// Knows the entry of a note from now on.

@@ -10,7 +10,7 @@ use Rattle.pc_base.specs.declared.transaction.TxnId.{TxnId}
 use Rattle.pc_coord.specs.Rounds.{IsRefusedRound, IsSettledRound}
 use Rattle.pc_exchange.specs.InTurn.{IsNextRound, pushes_answered}
 use Rattle.pc_exchange.specs.Rounding.{WasPushedOnceFor}
-use Rattle.pc_lists.proofs.Anywhere.{any_head, any_kept, any_last}
+use Rattle.pc_lists.proofs.Anywhere.{any_head, any_last}
 use Rattle.pc_lists.proofs.Counts.{count-cons, count-push, one_if}
 use Rattle.pc_lists.proofs.Lists.{get_append}
 use Rattle.pc_proto.specs.declared.fate.Fate.{Fate}
@@ -23,6 +23,7 @@ use Rattle.pc_proto.specs.Replies.{is_conflict}
 use Rattle.pc_proto.specs.Requests.{goal_in, is_push_of}
 use Rattle.pc_push.specs.Pushing.{Pushing, holder_resolve, push_of}
 use Rattle.pc_wave.proofs.Lists.{at_least-kept}
+use Rattle.pc_wave.proofs.Standings.{done-more}
 use Rattle.pc_world.specs.Counting.{AtLeast}
 use Rattle.pc_world.specs.Follows.Eighth.{IsBeforeEighth, IsBelowEighth, MetEighth}
 use Rattle.pc_world.specs.Follows.Resends.{WasDone}
@@ -84,19 +85,6 @@ module _ {X : Type 0} (p : X → Bool) where
 
 -- ---- rounds that are over
 
-done_more : (id : TxnId) (key : List ℕ) (goal : Goal) (reply : Reply) (later more : List Heard) → WasDone id key goal reply later → WasDone id key goal reply (later ++ more)
-done_more id key goal (replies.Status view) later more done = record { fate = done.fate; left = done.left; settled = any_kept (ResolvedTo id key done.fate) later more done.settled }
-done_more id key goal (replies.Unsure view) later more done = record {
-  before = done.before;
-  recovery = done.recovery;
-  after = done.after ++ more;
-  whole = ap (λ l. l ++ more) done.whole ∙ append_assoc done.before (done.recovery ∷ done.after) more;
-  view = done.view;
-  shown = done.shown;
-  settled = λ fate final. any_kept (ResolvedTo id key fate) done.after more (done.settled fate final);
-}
-done_more id key goal reply later more done = absurd done
-
 any_nothing : {X : Type 0} (P : X → Type 0) → Any P [] → ⊥
 any_nothing P (k, x, there, is, h) = absurd (omega arith)
 
@@ -134,7 +122,7 @@ module _ (k later : Known) (more : List Heard) (heard : later.heard_now ≡ k.he
     of = conflict_more place o.holder o.key o.of;
     goal = o.goal;
     aims = o.aims;
-    done = done_more o.holder.id o.key o.goal o.push.reply o.after more o.done;
+    done = done-more o.holder.id o.key o.goal o.push.reply o.after more o.done;
   }
 
   -- all do, where no further one was begun

@@ -56,28 +56,28 @@ abbrev pub replies_of : TxnId → List Heard → List Heard
 replies_of id heard = filter (λ h. is_txn id (txn_named h.request)) heard
 
 -- What is filed under the transaction.
-abbrev pub filed : {X : Type 0} → TxnId → Filed X → List X
-filed id f = option_map_or (λ list. list.items) (get txn_cmp f.lists id) []
+abbrev pub filed_under : {X : Type 0} → TxnId → Filed X → List X
+filed_under id f = option_map_or (λ list. list.items) (get txn_cmp f.lists id) []
 
 -- One more is filed, under this transaction.
 abbrev pub FilesOneMore : {X : Type 0} → TxnId → X → Filed X → Filed X → Type 0
-FilesOneMore name x before after = (id : TxnId) → filed id after ≡ filed id before ++ (if same_txn name id then x ∷ [] else [])
+FilesOneMore name x before after = (id : TxnId) → filed_under id after ≡ filed_under id before ++ (if same_txn name id then x ∷ [] else [])
 
 -- One more is filed, under the transaction of this name, if it has one.
 abbrev pub FilesNext : {X : Type 0} → Option TxnId → X → Filed X → Filed X → Type 0
-FilesNext name x before after = (id : TxnId) → filed id after ≡ filed id before ++ (if is_txn id name then x ∷ [] else [])
+FilesNext name x before after = (id : TxnId) → filed_under id after ≡ filed_under id before ++ (if is_txn id name then x ∷ [] else [])
 
 -- Under each transaction stand the stages and commits of it among these messages.
 abbrev pub AreFiledSends : List Sent → Filed Sent → Type 0
-AreFiledSends sent f = (id : TxnId) → filed id f ≡ deciding_of id sent
+AreFiledSends sent f = (id : TxnId) → filed_under id f ≡ deciding_of id sent
 
 -- Under each transaction stand the puts of it among these messages.
 abbrev pub AreFiledPuts : List Sent → Filed Sent → Type 0
-AreFiledPuts sent f = (id : TxnId) → filed id f ≡ puts_by id sent
+AreFiledPuts sent f = (id : TxnId) → filed_under id f ≡ puts_by id sent
 
 -- Under each transaction stand those of these replies that are to requests that name it.
 abbrev pub AreFiledReplies : List Heard → Filed Heard → Type 0
-AreFiledReplies heard f = (id : TxnId) → filed id f ≡ replies_of id heard
+AreFiledReplies heard f = (id : TxnId) → filed_under id f ≡ replies_of id heard
 
 -- All stages, commits, puts and replies of the actor are filed.
 pub record KeepsFiles (k : Known) (x : Files) : Type 0 where

@@ -3,7 +3,7 @@ ghost use Rattle.std.specs.BTreeMap.{get};
 ghost use Rattle.std.specs.Option.{option_map_or};
 ghost use Rattle.pc_base.specs.declared.transaction.TxnId.{TxnId as txn_id};
 ghost use Rattle.pc_base.specs.Transaction.{same_txn, txn_cmp};
-ghost use Rattle.pc_files.specs.Filing.{FilesNext, FilesOneMore, filed};
+ghost use Rattle.pc_files.specs.Filing.{FilesNext, FilesOneMore, filed_under};
 
 use pc_base::{NoMemory, TxnId};
 use std::alloc::Global;
@@ -19,7 +19,7 @@ pub struct Filed<T> {
 impl<T: Drop> Filed<T> {
     /// Nothing is filed.
     pub fn new(alloc: Global) -> Filed<T>
-        ensures { (id : txn_id) → filed id result ≡ [] }
+        ensures { (id : txn_id) → filed_under id result ≡ [] }
     {
         Filed {
             alloc,
@@ -29,7 +29,7 @@ impl<T: Drop> Filed<T> {
 
     /// What is filed under the transaction.
     pub fn of(&self, id: TxnId) -> &[T]
-        ensures { result.now ≡ filed id self.now }
+        ensures { result.now ≡ filed_under id self.now }
     {
         match self.lists.get(&id) {
             Some(list) => list.as_slice(),

@@ -6,10 +6,12 @@ use Rattle.pc_history.specs.declared.pair.Pair.{Pair}
 use Rattle.pc_history.specs.declared.view.Known.{Known as KnownEntry}
 use Rattle.pc_history.specs.declared.view.Part.{Part}
 use Rattle.pc_history.specs.Parts.{known_entry_at, noted, told_entries}
+use Rattle.pc_in_turns.proofs.Acting.{acted_at, at_read}
 use Rattle.pc_in_turns.proofs.Moving.{moved_at, moved_on}
 use Rattle.pc_in_turns.proofs.Places.{get_read, get_set_same, get_some, no_end, same_some, set_again, set_as_was}
 use Rattle.pc_in_turns.specs.declared.task.Task.{Task}
-use Rattle.pc_in_turns.specs.Moving.{AreInTurns, HasFollowed, HaveGoneOn, HaveMovedAt, IsTask, TurnsMeaning, told_of}
+use Rattle.pc_in_turns.specs.Learning.{LearnsBehind}
+use Rattle.pc_in_turns.specs.Moving.{AreInTurns, HasActed, HasFollowed, HaveGoneOn, HaveMovedAt, IsAt, IsTask, TurnsMeaning, told_of}
 use Rattle.pc_in_turns.specs.Task.{DoesTask, EndsWithTask}
 use Rattle.pc_lists.proofs.Lists.{contains_head, get_push, length_set}
 use Rattle.pc_proto.specs.declared.event.Event.{Event}
@@ -81,7 +83,7 @@ module _ {C : Type 0} (t old : TurnsMeaning C) (is : t ≡ old) (in_old : AreInT
     followed_mark = subst (λ (x : TurnsMeaning C). HasFollowed index x (record t { sessions = slice_set (slice_set t.sessions t.last same) index now })) is mark-so
 
 module _ {C : Type 0} (rule : C → ℕ → ℕ → Bool) (task : Task) (index : ℕ) (old mid : TurnsMeaning C) (in_turns : AreInTurns old) (followed : HasFollowed index old mid) (s now : ScriptedMeaning C) (at : slice_get mid.sessions index ≡ Some s)
-    (moved : HasMoved (DoesTask task s) s now) (kept : rule now.session.desk.log.clock ≡ rule s.session.desk.log.clock) where
+    (moved : HasMoved (DoesTask task s) s now) (kept : rule now.session.desk.log.clock ≡ rule s.session.desk.log.clock) (learns : LearnsBehind mid.sessions s now) where
   is-told : told_of followed.note followed.session ≡ s
   is-told =
       same_some (slice_get mid.sessions index) (told_of followed.note followed.session) s
@@ -94,6 +96,11 @@ module _ {C : Type 0} (rule : C → ℕ → ℕ → Bool) (task : Task) (index :
 
   kept-told : rule now.session.desk.log.clock ≡ rule followed.session.session.desk.log.clock
   kept-told = kept ∙ ap (λ (x : ScriptedMeaning C). rule x.session.desk.log.clock) (sym is-told)
+
+  learns-told : LearnsBehind (slice_set old.sessions index (told_of followed.note followed.session)) (told_of followed.note followed.session) now
+  learns-told =
+      subst (λ (l : List (ScriptedMeaning C)). LearnsBehind l (told_of followed.note followed.session) now) (ap (λ (t : TurnsMeaning C). t.sessions) followed.whole)
+      (subst (λ (x : ScriptedMeaning C). LearnsBehind mid.sessions x now) (sym is-told) learns)
 
   sessions-now : slice_set mid.sessions index now ≡ slice_set old.sessions index now
   sessions-now = ap (λ (t : TurnsMeaning C). slice_set t.sessions index now) followed.whole ∙ set_again old.sessions index (told_of followed.note followed.session) now
@@ -109,7 +116,7 @@ module _ {C : Type 0} (rule : C → ℕ → ℕ → Bool) (task : Task) (index :
         → HaveGoneOn rule (IsTask old.work task index) old (record mid { sessions = slice_set mid.sessions index now; last = last })
     goes-on inside grew rested =
         subst (λ (t : TurnsMeaning C). HaveGoneOn rule (IsTask old.work task index) old t) ends-so
-        (moved_on rule task index old in_turns followed.session now followed.note followed.at followed.scripted followed.tells moved-told kept-told last inside grew rested)
+        (moved_on rule task index old in_turns followed.session now followed.note followed.at followed.scripted followed.tells moved-told kept-told learns-told last inside grew rested)
 
   own-told : own_list followed.session ≡ own_list s
   own-told = ap own_list is-told
@@ -130,48 +137,37 @@ module _ {C : Type 0} (rule : C → ℕ → ℕ → Bool) (task : Task) (index :
   pub moved_there : EndsWithTask task now → HaveMovedAt index task old.sessions (slice_set mid.sessions index now)
   moved_there ends =
       subst (λ (l : List (ScriptedMeaning C)). HaveMovedAt index task old.sessions l) (sym sessions-now)
-      (moved_at rule task index old in_turns followed.session now followed.note followed.at followed.scripted followed.tells moved-told kept-told 0 ends)
+      (moved_at rule task index old in_turns followed.session now followed.note followed.at followed.scripted followed.tells moved-told kept-told learns-told 0 ends)
 
--- the same, of the state as its code has it
-module _ {C : Type 0} (index : ℕ) (old mid t : TurnsMeaning C) (is : t ≡ mid) (in_turns : AreInTurns old) (followed : HasFollowed index old mid) where
-  followed-so : HasFollowed index old t
-  followed-so = subst (λ (x : TurnsMeaning C). HasFollowed index old x) (sym is) followed
+-- the same, of a session that acted
+module _ {C : Type 0} (rule : C → ℕ → ℕ → Bool) (task : Task) (index : ℕ) (old mid new : TurnsMeaning C) (in_turns : AreInTurns old) (followed : HasFollowed index old mid) (acted : HasActed rule (DoesTask task) index mid new) where
+  -- how long its list was, and is
+  pub long_before : (t : TurnsMeaning C) (x : ScriptedMeaning C) (n : ℕ) → t ≡ mid → index < length mid.sessions → x ≡ get_or t.sessions index x → n ≡ length (own_list x) → n ≡ length (own_list acted.session)
+  long_before t x n is there read long = long ∙ ap (λ (y : ScriptedMeaning C). length (own_list y)) (same_some (slice_get mid.sessions index) x acted.session (at_read t mid index x is there read) acted.at)
 
-  pub within_now : index < length t.sessions
-  within_now =
-      let f = followed-so in
-      let long : length t.sessions ≡ length old.sessions = ap (λ (x : TurnsMeaning C). length x.sessions) f.whole ∙ length_set old.sessions index (told_of f.note f.session) in
-      subst (λ n. index < n) (sym long) (slice_get_within old.sessions index f.session f.at)
+  pub long_after : (t : TurnsMeaning C) (x : ScriptedMeaning C) (n : ℕ) → t ≡ new → index < length new.sessions → x ≡ get_or t.sessions index x → n ≡ length (own_list x) → n ≡ length (own_list acted.now)
+  long_after t x n is there read long =
+      long ∙ ap (λ (y : ScriptedMeaning C). length (own_list y)) (same_some (slice_get new.sessions index) x acted.now (at_read t new index x is there read) (acted_at rule index (DoesTask task) mid new acted))
 
-  module _ (s : ScriptedMeaning C) (value : s ≡ get_or t.sessions index s) where
-    at-now : slice_get t.sessions index ≡ Some s
-    at-now = get_read t.sessions index s within_now value
+  pub grown_now : (t : TurnsMeaning C) → t ≡ new → length (own_list acted.session) < length (own_list acted.now) → HaveGoneOn rule (IsTask old.work task index) old (record t { last = index })
+  grown_now t is more =
+      subst (λ (x : TurnsMeaning C). HaveGoneOn rule (IsTask old.work task index) old (record x { last = index })) (sym (is ∙ acted.whole))
+      (grown_on rule task index old mid in_turns followed acted.session acted.now acted.at acted.moved acted.kept acted.learns more)
 
-    pub scripted_now : IsScripted s
-    scripted_now =
-        let f = followed-so in
-        let same : told_of f.note f.session ≡ s =
-        same_some (slice_get t.sessions index) (told_of f.note f.session) s
-        (ap (λ (x : TurnsMeaning C). slice_get x.sessions index) f.whole ∙ get_set_same old.sessions index (told_of f.note f.session) (slice_get_within old.sessions index f.session f.at)) at-now in
-        subst IsScripted same f.scripted
+  pub rested_now : (t : TurnsMeaning C) → t ≡ new → length (own_list acted.now) ≤ length (own_list acted.session) → HaveGoneOn rule (IsTask old.work task index) old t
+  rested_now t is none =
+      subst (λ (x : TurnsMeaning C). HaveGoneOn rule (IsTask old.work task index) old x) (sym (is ∙ acted.whole))
+      (rested_on rule task index old mid in_turns followed acted.session acted.now acted.at acted.moved acted.kept acted.learns none)
 
-    -- how long its list was, and is
-    pub long_before : (first : ScriptedMeaning C) (n : ℕ) → first ≡ get_or t.sessions index first → n ≡ length (own_list first) → n ≡ length (own_list s)
-    long_before first n read is_long = is_long ∙ ap (λ (x : ScriptedMeaning C). length (own_list x)) (same_some (slice_get t.sessions index) first s (get_read t.sessions index first within_now read) at-now)
+  pub there_now : (t : TurnsMeaning C) → t ≡ new → IsAt (EndsWithTask task) index new → HaveMovedAt index task old.sessions t.sessions
+  there_now t is ends =
+      subst (λ (x : TurnsMeaning C). HaveMovedAt index task old.sessions x.sessions) (sym (is ∙ acted.whole))
+      (moved_there rule task index old mid in_turns followed acted.session acted.now acted.at acted.moved acted.kept acted.learns (ends acted.now (acted_at rule index (DoesTask task) mid new acted)))
 
-    pub long_after : (now last : ScriptedMeaning C) (n : ℕ) → last ≡ get_or (slice_set t.sessions index now) index last → n ≡ length (own_list last) → n ≡ length (own_list now)
-    long_after now last n read is_long =
-        let lt : index < length (slice_set t.sessions index now) = subst (λ n. index < n) (sym (length_set t.sessions index now)) within_now in
-        is_long
-        ∙ ap (λ (x : ScriptedMeaning C). length (own_list x))
-        (same_some (slice_get (slice_set t.sessions index now) index) last now (get_read (slice_set t.sessions index now) index last lt read) (get_set_same t.sessions index now within_now))
+  pub still_there : index < length mid.sessions → index < length new.sessions
+  still_there lt = subst (λ (x : TurnsMeaning C). index < length x.sessions) (sym acted.whole) (subst (λ n. index < n) (sym (length_set mid.sessions index acted.now)) lt)
 
-    module _ (rule : C → ℕ → ℕ → Bool) (task : Task) (now : ScriptedMeaning C) (moved : HasMoved (DoesTask task s) s now) (kept : rule now.session.desk.log.clock ≡ rule s.session.desk.log.clock) where
-      pub grown_now : length (own_list s) < length (own_list now) → HaveGoneOn rule (IsTask old.work task index) old (record t { sessions = slice_set t.sessions index now; last = index })
-      grown_now more = grown_on rule task index old t in_turns followed-so s now at-now moved kept more
-
-      pub rested_now : length (own_list now) ≤ length (own_list s) → HaveGoneOn rule (IsTask old.work task index) old (record t { sessions = slice_set t.sessions index now })
-      rested_now none = rested_on rule task index old t in_turns followed-so s now at-now moved kept none
-
-      pub there_now : EndsWithTask task now → HaveMovedAt index task old.sessions (slice_set t.sessions index now)
-      there_now ends = moved_there rule task index old t in_turns followed-so s now at-now moved kept ends
+pub followed_there : {C : Type 0} (index : ℕ) (old new : TurnsMeaning C) → HasFollowed index old new → index < length new.sessions
+followed_there {C} index old new f =
+    subst (λ (x : TurnsMeaning C). index < length x.sessions) (sym f.whole)
+    (subst (λ n. index < n) (sym (length_set old.sessions index (told_of f.note f.session))) (slice_get_within old.sessions index f.session f.at))

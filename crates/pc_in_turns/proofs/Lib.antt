@@ -1,7 +1,10 @@
 pub mod Places
-pub mod Parts
 pub mod Among
-pub mod Onwards
+pub mod Learning
+pub mod Runners
+pub mod Acting
 pub mod Moving
 pub mod Following
+pub mod Onwards
+pub mod Parts
 pub mod Whole

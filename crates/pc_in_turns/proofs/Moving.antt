@@ -1,7 +1,7 @@
 -- One session moves, behind the last entry that was made.
 use Rattle.std.proofs.Common.{◌≡◌, ◌≢◌, ℕ, zero, suc, ◌+◌, ◌<◌, ◌≤◌, ◌⊎◌, inl, inr, Bool, All, Contains, List, [], ◌∷◌, ◌++◌, length, map, slice_get, slice_set, Some, Option, refl, sym, ap, subst, ◌∙◌, arith, length-append}
 use Rattle.std.proofs.lemmas.Bool.{cases_eq}
-use Rattle.std.proofs.lemmas.List.{append-nil, append_assoc, map-append, map-set}
+use Rattle.std.proofs.lemmas.List.{append-nil, append_assoc, length-map, map-append, map-set}
 use Rattle.std.proofs.lemmas.List.Elements.{Contains-append_left, Contains-append_right}
 use Rattle.std.proofs.lemmas.Option.{slice_get_within}
 use Rattle.pc_base.specs.declared.actor.ActorId.{ActorId}
@@ -12,22 +12,27 @@ use Rattle.pc_history.specs.declared.view.Known.{Known as KnownEntry}
 use Rattle.pc_history.specs.Own.{entries_of}
 use Rattle.pc_history.specs.Parts.{knowledge, told_entries}
 use Rattle.pc_in_turns.proofs.Among.{task_among}
+use Rattle.pc_in_turns.proofs.Learning.{entries_same}
 use Rattle.pc_in_turns.proofs.Places.{end_of, get_set_other, get_some, get_set_same, none_of, same_end, same_some}
+use Rattle.pc_in_turns.proofs.Runners.{runner_moved, runner_told, runners_set}
 use Rattle.pc_in_turns.specs.declared.task.Task.{Task}
+use Rattle.pc_in_turns.specs.Learning.{AreEntriesOf, LearnsBehind}
 use Rattle.pc_in_turns.specs.Moving.{AreInTurns, HasFollowed, HaveGoneOn, HaveMade, HaveMovedAt, IsTask, MadeLast, TurnsMeaning, told_of}
 use Rattle.pc_in_turns.specs.Task.{DoesTask, EndsWithTask}
 use Rattle.pc_lists.proofs.Lists.{length_set}
 use Rattle.pc_proto.specs.declared.event.Event.{Event}
+use Rattle.pc_runs.specs.Learning.{LearnInOrder, LearnsNext}
 use Rattle.pc_runs.specs.Runners.{AreRunners, HaveClocks, IsRunnerIn, SaysAllFull}
 use Rattle.pc_script.specs.Clocks.{clock_rule}
 use Rattle.pc_scripted.proofs.Going.{says_before}
+use Rattle.pc_scripted.proofs.Passing.{each_join}
 use Rattle.pc_scripted.specs.Ended.{SaysFull}
 use Rattle.pc_scripted.specs.Scripted.{IsScripted, ScriptedMeaning, own_list, own_number}
 use Rattle.pc_scripted.specs.Taking.{HasMoved}
 use Rattle.pc_turns.proofs.Shares.{turns_add_up}
 use Rattle.pc_turns.specs.Laws.{HasMark}
 use Rattle.pc_turns.specs.Order.{entries_by}
-use Rattle.pc_turns.specs.Shares.{AreShares}
+use Rattle.pc_turns.specs.Shares.{AreShares, IsSessionOf}
 use Rattle.pc_work.specs.declared.session.SessionWork.{SessionWork}
 use Rattle.pc_work.specs.declared.workload.Workload.{Workload}
 
@@ -36,12 +41,20 @@ get-map f [] i x at = absurd cc
 get-map f (y ∷ ys) zero x at = let same : y ≡ x = same_some (Some y) y x refl at in ap (λ z. Some (f z)) same
 get-map f (y ∷ ys) (suc i) x at = get-map f ys i x at
 
+-- what was made are the sessions' entries
+entries_made : {C : Type 0} (t : TurnsMeaning C) (order : List (Pair Event)) → HaveMade t order → AreEntriesOf t.sessions order
+entries_made t order made = record {
+  each = λ index s at. made.shares.each index (own_list s) (get-map own_list t.sessions index s at);
+  only = subst (λ n. All (λ (p : Pair Event). IsSessionOf n p.entry.actor) order) (length-map t.sessions own_list) made.shares.only;
+}
+
 -- The session that is to move was told of the last entry, made its part of the task, and is put back; `last` is the one that made the last
 -- entry then.
 module _ {C : Type 0} (rule : C → ℕ → ℕ → Bool) (task : Task) (index : ℕ) (old : TurnsMeaning C) (in_turns : AreInTurns old) (s now : ScriptedMeaning C) (note : List (KnownEntry Event)) (at : slice_get old.sessions index ≡ Some s)
     (scripted : IsScripted (told_of note s))
     (tells : (x : ScriptedMeaning C) (mine : List (Pair Event)) (p : Pair Event) → slice_get old.sessions old.last ≡ Some x → own_list x ≡ mine ++ p ∷ [] → Contains (told_entries note) p.entry)
-    (moved : HasMoved (DoesTask task (told_of note s)) (told_of note s) now) (kept : rule now.session.desk.log.clock ≡ rule s.session.desk.log.clock) (last : ℕ) where
+    (moved : HasMoved (DoesTask task (told_of note s)) (told_of note s) now) (kept : rule now.session.desk.log.clock ≡ rule s.session.desk.log.clock)
+    (learns : LearnsBehind (slice_set old.sessions index (told_of note s)) (told_of note s) now) (last : ℕ) where
   abbrev after : List (ScriptedMeaning C)
   after = slice_set old.sessions index now
 
@@ -61,39 +74,10 @@ module _ {C : Type 0} (rule : C → ℕ → ℕ → Bool) (task : Task) (index :
   runner = in_turns.runners.each index s at
 
   told_runner : IsRunnerIn old.work index (told_of note s)
-  told_runner = record {
-    scripted = scripted;
-    number = runner.number;
-    session = runner.session;
-    listed = runner.listed;
-    script = runner.script;
-    reruns = runner.reruns;
-    head = runner.head;
-    limit = runner.limit;
-    range_limit = runner.range_limit;
-  }
-
-  same_runner : IsRunnerIn old.work index now
-  same_runner =
-      let same = moved.by.same in record {
-        scripted = moved.by.scripted;
-        number = same.number ∙ runner.number;
-        session = runner.session;
-        listed = runner.listed;
-        script = runner.script ∙ sym same.script;
-        reruns = runner.reruns ∙ sym same.reruns;
-        head = same.head ∙ runner.head;
-        limit = same.limit ∙ runner.limit;
-        range_limit = same.range_limit ∙ runner.range_limit;
-      }
+  told_runner = runner_told old.work index s note runner scripted
 
   still_runners : AreRunners old.work after
-  still_runners = record { many = length_set old.sessions index now ∙ in_turns.runners.many; each = λ other x got. each-so other x got (cases_eq other index) }
-    where
-      each-so : (other : ℕ) (x : ScriptedMeaning C) → slice_get after other ≡ Some x → (other ≡ index) ⊎ (other ≢ index) → IsRunnerIn old.work other x
-      each-so other x got (inl same) =
-          subst (λ n. IsRunnerIn old.work n x) (sym same) (subst (λ (y : ScriptedMeaning C). IsRunnerIn old.work index y) (here x (subst (λ n. slice_get after n ≡ Some x) same got)) same_runner)
-      each-so other x got (inr differ) = in_turns.runners.each other x (there other x differ got)
+  still_runners = runners_set old.work old.sessions index now in_turns.runners within (runner_moved old.work index (told_of note s) now told_runner moved.part moved.by)
 
   still_know : (full : ℕ → Bool) → SaysAllFull full after → SaysAllFull full old.sessions
   still_know full says other x got = by (cases_eq other index)
@@ -133,6 +117,11 @@ module _ {C : Type 0} (rule : C → ℕ → ℕ → Bool) (task : Task) (index :
         subst (λ (lists : List (List (Pair Event))). AreShares lists (order ++ moved.part)) grown
         (turns_add_up (map own_list old.sessions) order (own_list s) moved.part (knowledge (told_of note s).session.desk.log.part) index made.shares (get-map own_list old.sessions index s at)
         (subst (λ n. All (λ (p : Pair Event). p.entry.actor ≡ actors.Session n) moved.part) runner.number moved.by.whose) moved.by.rises mark moved.by.above)
+
+    still_learns : LearnInOrder (order ++ moved.part)
+    still_learns =
+        let are = entries_same old.sessions index s (told_of note s) at runner.number within order (entries_made old order made) refl in
+        each_join LearnsNext [] order moved.part made.learns (learns order moved.part are moved.by.own)
 
     still_last : (length (own_list s) < length (own_list now) → last ≡ index) → (length (own_list now) ≤ length (own_list s) → last ≡ old.last) → MadeLast after last (order ++ moved.part)
     still_last grew rested front p x whole got = by (cases_eq (length moved.part) 0)
@@ -174,7 +163,7 @@ module _ {C : Type 0} (rule : C → ℕ → ℕ → Bool) (task : Task) (index :
     clocks = still_clocks;
     goes = λ order made. (
       moved.part,
-      record { shares = still_shares order made; made = still_last order made grew rested },
+      record { shares = still_shares order made; learns = still_learns order made; made = still_last order made grew rested },
       λ full says.
           task_among old.work index (told_of note s) told_runner full order moved.part (made.shares.each index (own_list s) (get-map own_list old.sessions index s at)) task
           (moved.is full (says index now (get_set_same old.sessions index now within))),

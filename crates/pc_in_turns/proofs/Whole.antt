@@ -108,7 +108,7 @@ module _ {C : Type 0} (work : Workload) (sessions : List (ScriptedMeaning C)) (r
   begins some = record { runners = runners; there = let many = runners.many in omega arith }
 
   made_nothing : All (λ (s : ScriptedMeaning C). own_list s ≡ []) sessions → HaveMade begun []
-  made_nothing fresh = record { shares = record { rises = tt; each = each-so; only = All-nil (λ (p : Pair Event). IsSessionOf (length (map own_list sessions)) p.entry.actor) }; made = λ front p s whole at. absurd (no_end front p (sym whole)) }
+  made_nothing fresh = record { shares = record { rises = tt; each = each-so; only = All-nil (λ (p : Pair Event). IsSessionOf (length (map own_list sessions)) p.entry.actor) }; learns = tt; made = λ front p s whole at. absurd (no_end front p (sym whole)) }
     where
       each-so : (index : ℕ) (list : List (Pair Event)) → slice_get (map own_list sessions) index ≡ Some list → list ≡ entries_by (index + 1) []
       each-so index list at = let s = get_of sessions index list at in s.1 ∙ All-contains (λ (s : ScriptedMeaning C). own_list s ≡ []) sessions s.0 fresh (get_contains sessions index s.0 s.2)
@@ -135,6 +135,7 @@ module _ {C : Type 0} (work : Workload) (sessions : List (ScriptedMeaning C)) (r
         record {
           order = (x.0 ++ y.0) ++ z.0;
           shares = z.1.shares;
+          learns = z.1.learns;
           goes = λ full says.
               let says_two = left.knows full says in
               let says_one = taken.knows full says_two in

@@ -6,13 +6,15 @@ use Rattle.pc_history.specs.declared.view.Known.{Known as KnownEntry}
 use Rattle.pc_history.specs.Parts.{told, told_entries}
 use Rattle.pc_in_turns.specs.declared.task.Task.{Task}
 use Rattle.pc_in_turns.specs.declared.task.Task.TheVariants as tasks
+use Rattle.pc_in_turns.specs.Learning.{LearnsBehind}
 use Rattle.pc_in_turns.specs.Task.{EndsWithTask}
 use Rattle.pc_proto.specs.declared.event.Event.{Event}
+use Rattle.pc_runs.specs.Learning.{LearnInOrder}
 use Rattle.pc_runs.specs.Order.{is_work_opened, next_in_work}
 use Rattle.pc_runs.specs.Runners.{AreRunners, HaveClocks, SaysAllFull}
 use Rattle.pc_scripted.specs.Ended.{list_has_ended}
 use Rattle.pc_scripted.specs.Scripted.{IsScripted, ScriptedMeaning, own_list}
-use Rattle.pc_scripted.specs.Taking.{IsRunOut, are_items_over}
+use Rattle.pc_scripted.specs.Taking.{HasMoved, IsRunOut, Move, are_items_over}
 use Rattle.pc_turns.specs.Order.{AreTakenIn, GoToEnds, GoesByItself, IsTakenIn, entries_by, is_at_end}
 use Rattle.pc_turns.specs.Shares.{AreShares}
 use Rattle.pc_work.specs.declared.session.SessionWork.{SessionWork}
@@ -67,9 +69,10 @@ MadeLast {C} sessions last order =
     (front : List (Pair Event)) (p : Pair Event) (s : ScriptedMeaning C) → order ≡ front ++ p ∷ [] → slice_get sessions last ≡ Some s
     → (mine : List (Pair Event)) × (own_list s ≡ mine ++ p ∷ [])
 
--- The sessions have made these entries, in this order: their own lists are their shares of them.
+-- The sessions have made these entries, in this order: their own lists are their shares of them, and they learn of commits in order.
 pub record HaveMade {C : Type 0} (t : TurnsMeaning C) (order : List (Pair Event)) : Type 0 where
   pub shares : AreShares (map own_list t.sessions) order
+  pub learns : LearnInOrder order
   pub made : MadeLast t.sessions t.last order
 
 -- The sessions went on, and forgot nothing: behind the entries that they had made they made a part of which this is so, whichever ranges are
@@ -106,3 +109,17 @@ pub record HasFollowed {C : Type 0} (index : ℕ) (old new : TurnsMeaning C) : T
   pub tells :
       (s : ScriptedMeaning C) (mine : List (Pair Event)) (p : Pair Event) → slice_get old.sessions old.last ≡ Some s → own_list s ≡ mine ++ p ∷ []
       → Contains (told_entries note) p.entry
+
+-- The session of this index moved so, and learnt in order; no other has changed.
+pub record HasActed {C : Type 0} (rule : C → ℕ → ℕ → Bool) (Is : ScriptedMeaning C → Move) (index : ℕ) (old new : TurnsMeaning C) : Type 0 where
+  pub session : ScriptedMeaning C
+  pub now : ScriptedMeaning C
+  pub at : slice_get old.sessions index ≡ Some session
+  pub whole : new ≡ record old { sessions = slice_set old.sessions index now }
+  pub moved : HasMoved (Is session) session now
+  pub kept : rule now.session.desk.log.clock ≡ rule session.session.desk.log.clock
+  pub learns : LearnsBehind old.sessions session now
+
+-- Of the session of this index this is so.
+abbrev pub IsAt : {C : Type 0} → (ScriptedMeaning C → Type 0) → ℕ → TurnsMeaning C → Type 0
+IsAt {C} Is index t = (s : ScriptedMeaning C) → slice_get t.sessions index ≡ Some s → Is s

@@ -1,17 +1,22 @@
-ghost use Rattle.std.specs.Prelude.{◌≡◌, ◌<◌, ◌≤◌, ℕ, [], All, Bool, IfOk, OnOk, length};
+ghost use Rattle.std.specs.Prelude.{◌≡◌, ◌+◌, ◌<◌, ◌≤◌, ◌⊎◌, ℕ, [], false, All, Bool, IfNone, IfOk, IfSome, None, OnOk, Some, length};
 ghost use Rattle.pc_base.specs.declared.actor.ActorId.{ActorId as Whose};
 ghost use Rattle.pc_in_turns.specs.InTurns.{HaveGoneInTurns};
-ghost use Rattle.pc_in_turns.specs.Moving.{AreInTurns, GoOut, HasFollowed, HaveGoneOn, HaveMovedAt, IsOpening, IsTask, TakeTurns, TakesTurn};
+ghost use Rattle.pc_in_turns.specs.Learning.{OwnerWasUntold};
+ghost use Rattle.pc_in_turns.specs.Moving.{AreInTurns, GoOut, HasActed, HasFollowed, HaveGoneOn, HaveMovedAt, IsAt, IsOpening, IsTask, TakeTurns, TakesTurn};
+ghost use Rattle.pc_in_turns.specs.Task.{DoesTask, EndsWithTask};
 ghost use Rattle.pc_runs.specs.Runners.{AreRunOut, AreRunners, HaveClocks};
+ghost use Rattle.pc_scripted.specs.Learning.{learnt_ahead};
 ghost use Rattle.pc_scripted.specs.Scripted.{own_list};
+ghost use Rattle.pc_scripted.specs.Taking.{AsksInTurn, FinishesInTurn, GoesUntil, IsRunOut, TakesNextAlone, are_items_over, is_script_over};
 ghost use Rattle.pc_work.specs.Built.{IsTurnOf};
 
 use crate::task::Task;
-use pc_base::NoMemory;
+use pc_base::{NoMemory, TxnId};
 use pc_clock::Clock;
 use pc_history::Named;
 use pc_range::{CommitWorld, Gate};
 use pc_scripted::Scripted;
+use pc_session::Token;
 use pc_wire::Wire;
 use pc_work::{Turn, Workload};
 use std::marker::Model;
@@ -118,7 +123,7 @@ impl<'a, N: Named<CommitWorld>, C: Clock + Drop, V: Wire + Drop, G: Gate> InTurn
     {
         self.follow_last(index)?;
         let entries = self.sessions[index].len();
-        task.take(rt, &mut self.sessions[index])?;
+        self.act(rt, index, task)?;
         if self.sessions[index].len() > entries {
             self.last = index;
         }
@@ -136,4 +141,128 @@ impl<'a, N: Named<CommitWorld>, C: Clock + Drop, V: Wire + Drop, G: Gate> InTurn
         }
         Ok(())
     }
+
+    /// The session of this index does its task.
+    fn act<R: Wait>(&mut self, rt: &R, index: usize, task: Task) -> Result<(), NoMemory>
+        requires in_turns { AreInTurns self.old }
+        requires there { index < length self.old.sessions }
+        ensures acted { OnOk result (HasActed C.rule (DoesTask task) index self.old self.new) }
+        ensures ends { OnOk result (IsAt (EndsWithTask task) index self.new) }
+    {
+        match task {
+            Task::Open(items) => self.go_until(rt, index, items),
+            Task::Call => self.call(rt, index),
+            Task::Job => self.finish_job(rt, index),
+            Task::Rest => self.go_to_end(rt, index),
+        }
+    }
+
+    /// The session of this index goes on by itself until so many items of its script are over.
+    fn go_until<R: Wait>(&mut self, rt: &R, index: usize, items: usize) -> Result<(), NoMemory>
+        requires in_turns { AreInTurns self.old }
+        requires there { index < length self.old.sessions }
+        ensures { OnOk result (HasActed C.rule (λ s. GoesUntil s (are_items_over items s.at.reruns s.script)) index self.old self.new) }
+    {
+        for _ in rt.forever() {
+            if self.sessions[index].is_opened(items) {
+                return Ok(());
+            }
+            self.go_on(rt, index)?;
+        }
+        unreachable!()
+    }
+
+    /// The session of this index goes on by itself to the end of its script.
+    fn go_to_end<R: Wait>(&mut self, rt: &R, index: usize) -> Result<(), NoMemory>
+        requires in_turns { AreInTurns self.old }
+        requires there { index < length self.old.sessions }
+        ensures acted { OnOk result (HasActed C.rule (λ s. GoesUntil s (is_script_over s.at.reruns s.script)) index self.old self.new) }
+        ensures over { OnOk result (IsAt IsRunOut index self.new) }
+    {
+        for _ in rt.forever() {
+            if self.sessions[index].is_run_out() {
+                return Ok(());
+            }
+            self.go_on(rt, index)?;
+        }
+        unreachable!()
+    }
+
+    /// What the session of this index does by itself: its oldest job where one waits, else its script's next call.
+    fn go_on<R: Wait>(&mut self, rt: &R, index: usize) -> Result<(), NoMemory>
+        requires in_turns { AreInTurns self.old }
+        requires there { index < length self.old.sessions }
+        requires going { IsAt (λ s. s.session.desk.log.stopped ≡ false) index self.old }
+        ensures { OnOk result (HasActed C.rule TakesNextAlone index self.old self.new) }
+    {
+        if self.sessions[index].has_job() {
+            self.finish_job(rt, index)
+        } else {
+            self.call(rt, index)
+        }
+    }
+
+    /// The session of this index does its oldest job.
+    fn finish_job<R: Wait>(&mut self, rt: &R, index: usize) -> Result<(), NoMemory>
+        requires in_turns { AreInTurns self.old }
+        requires there { index < length self.old.sessions }
+        ensures { OnOk result (HasActed C.rule FinishesInTurn index self.old self.new) }
+    {
+        self.sessions[index].finish_job(rt)
+    }
+
+    /// The session of this index asks its script's next call.
+    fn call<R: Wait>(&mut self, rt: &R, index: usize) -> Result<(), NoMemory>
+        requires in_turns { AreInTurns self.old }
+        requires there { index < length self.old.sessions }
+        ensures { OnOk result (HasActed C.rule AsksInTurn index self.old self.new) }
+    {
+        match self.sessions[index].learns() {
+            Some(id) => self.learn(index, id),
+            None => self.turn(rt, index),
+        }
+    }
+
+    /// The session of this index asks its script's next call, which is no learn.
+    fn turn<R: Wait>(&mut self, rt: &R, index: usize) -> Result<(), NoMemory>
+        requires in_turns { AreInTurns self.old }
+        requires there { index < length self.old.sessions }
+        requires other { IsAt (λ s. learnt_ahead s ≡ None) index self.old }
+        ensures { OnOk result (HasActed C.rule AsksInTurn index self.old self.new) }
+    {
+        self.sessions[index].turn(rt)
+    }
+
+    /// The session of this index asks its script's next call, which learns of this transaction: by a token of the session that began it, where
+    /// that was told of its commit.
+    fn learn(&mut self, index: usize, id: TxnId) -> Result<(), NoMemory>
+        requires in_turns { AreInTurns self.old }
+        requires there { index < length self.old.sessions }
+        requires next { IsAt (λ s. learnt_ahead s ≡ Some id) index self.old }
+        ensures { OnOk result (HasActed C.rule AsksInTurn index self.old self.new) }
+    {
+        let token = self.token(id)?;
+        self.sessions[index].learn(id, token)
+    }
+
+    /// A token of the commit of this transaction, from the session that began it. None where that was not told of it, or is none of these.
+    fn token(&mut self, id: TxnId) -> Result<Option<Token<N>>, NoMemory>
+        ensures token { IfOk result (λ token. IfSome token (λ t. t.id ≡ id)) }
+        ensures none { IfOk result (λ token. IfNone token (OwnerWasUntold id self.old.sessions)) }
+        ensures same { self.new ≡ self.old }
+    {
+        match place_of(id.session, self.sessions.len()) {
+            Some(place) => self.sessions[place].token(id),
+            None => Ok(None),
+        }
+    }
+}
+
+/// The place of the session of this number among so many sessions. None where it is none of them.
+fn place_of(session: u32, sessions: usize) -> Option<usize>
+    ensures some { IfSome result (λ place. (place + 1 ≡ session) × (place < sessions)) }
+    ensures none { IfNone result ((session ≡ 0) ⊎ (sessions < session)) }
+{
+    let place = (session as usize).checked_sub(1)?;
+    if place < sessions { Some(place) } else { None }
 }

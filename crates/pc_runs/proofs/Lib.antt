@@ -1,2 +1,4 @@
 pub mod Finished
+pub mod Learning
+pub mod Learnless
 pub mod Whole

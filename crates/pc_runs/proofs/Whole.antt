@@ -14,7 +14,9 @@ use Rattle.pc_history.specs.declared.view.Part.{Part}
 use Rattle.pc_history.specs.Own.{own}
 use Rattle.pc_proto.specs.declared.event.Event.{Event}
 use Rattle.pc_runs.specs.Follows.{FollowsByItself, FollowsWork}
-use Rattle.pc_runs.specs.Laws.{HistoryFollows, TurnsAreAsStated}
+use Rattle.pc_runs.proofs.Learning.{all_learn_truly}
+use Rattle.pc_runs.specs.Laws.{HistoryFollows, LearnsAreKept, TurnsAreAsStated}
+use Rattle.pc_runs.specs.Learning.{LearnInOrder}
 use Rattle.pc_runs.specs.Order.{GoAsStated, is_work_opened, next_in_work}
 use Rattle.pc_runs.specs.Runners.{AreRunOut, AreRunners, HaveAllLeft, SaysAllFull, head_in_work}
 use Rattle.pc_script.specs.End.{IsScriptEnd}
@@ -24,10 +26,11 @@ use Rattle.pc_scripted.specs.Ended.{SaysFull, list_has_ended}
 use Rattle.pc_scripted.specs.Scripted.{IsScripted, ScriptedMeaning, own_list}
 use Rattle.pc_scripted.specs.Taking.{IsRunOut}
 use Rattle.pc_turns.proofs.Moves.{turns_are_kept}
+use Rattle.pc_turns.proofs.Order.{clients_keep_order}
 use Rattle.pc_turns.proofs.Shares.{shares_make_up}
-use Rattle.pc_turns.specs.Clients.{client_pairs}
+use Rattle.pc_turns.specs.Clients.{MakesUpEach, client_pairs}
 use Rattle.pc_turns.specs.Order.{GoInTurns}
-use Rattle.pc_turns.specs.Shares.{AreHandedIn}
+use Rattle.pc_turns.specs.Shares.{AreHandedIn, AreShares}
 use Rattle.pc_work.specs.declared.item.Item.{Item}
 use Rattle.pc_work.specs.declared.session.SessionWork.{SessionWork}
 use Rattle.pc_work.specs.declared.turn.Turn.{Turn}
@@ -88,19 +91,21 @@ module _ {C : Type 0} (work : Workload) (rules : ActorId → ℕ → ℕ → Boo
       same_some x y e = cc
 
   -- the whole
-  pub follows_whole : AreRunOut sessions → GoAsStated work full work.turns (length work.sessions) (client_pairs (head_in_work work) history) → FollowsWork work rules (head_in_work work) history
-  follows_whole out order = record {
+  pub follows_whole : AreRunOut sessions → GoAsStated work full work.turns (length work.sessions) (client_pairs (head_in_work work) history) → LearnInOrder (client_pairs (head_in_work work) history)
+      → FollowsWork work rules (head_in_work work) history
+  follows_whole out order learns = record {
     splits = refl;
     sessions = refl;
     recoverers = refl;
     order = order;
+    learns = all_learn_truly (head_in_work work) history closed.run learns;
     each = λ number session from listed.
         let same : (number - 1) + 1 ≡ number = omega arith in
         subst (λ n. FollowsByItself work session (rules (actors.Session n)) full (actors.Session n) (own (protocol (head_in_work work)) (actors.Session n) history) history) same (follows_each out (number - 1) session listed);
   }
 
 pub history_follows : (C : Type 0) → HistoryFollows C
-history_follows C work rules sessions leavers history runners left closed out order = follows_whole work rules sessions leavers history runners left closed out order
+history_follows C work rules sessions leavers history runners left closed out order learns = follows_whole work rules sessions leavers history runners left closed out order learns
 
 -- ---- turns
 
@@ -116,11 +121,20 @@ module _ {C : Type 0} (work : Workload) (rules : ActorId → ℕ → ℕ → Boo
       let rest : lists_of ls ≡ map own_list ss = lists-are ss ls (omega arith) (λ index x y at there. each (suc index) x y at there) in
       λ i. first i ∷ rest i
 
+-- sessions that have left made up their order
+order-made : {C : Type 0} (work : Workload) (rules : ActorId → ℕ → ℕ → Bool) (sessions : List (ScriptedMeaning C)) (leavers : List Leaver) (history : List (Entry Event)) (order : List (Pair Event)) → HaveAllLeft work rules sessions leavers
+    → (closed : IsClosedOver work.limit (head_in_work work) leavers history) → AreShares (map own_list sessions) order → MakesUpEach closed.parts order
+order-made work rules sessions leavers history order left closed shares =
+    let lists : lists_of leavers ≡ map own_list sessions = lists-are work rules sessions leavers left.many (λ index s l at there. (left.each index s l at there).part) in
+    shares_make_up (map own_list sessions) order closed.parts shares (subst (λ ls. AreHandedIn ls closed.parts) lists closed.handed)
+
 pub turns_are_as_stated : (C : Type 0) → TurnsAreAsStated C
 turns_are_as_stated C work rules sessions leavers history order stated left closed shares some goes =
     let full = range_is_full work.limit (head_in_work work) history in
-    let lists : lists_of leavers ≡ map own_list sessions = lists-are work rules sessions leavers left.many (λ index s l at there. (left.each index s l at there).part) in
-    let handed : AreHandedIn (map own_list sessions) closed.parts = subst (λ ls. AreHandedIn ls closed.parts) lists closed.handed in
     let kept : GoInTurns (next_in_work work) (list_has_ended work.limit full) (is_work_opened work) stated (length work.sessions) (client_pairs (head_in_work work) history) =
-    turns_are_kept (head_in_work work) history closed.parts order (next_in_work work) (list_has_ended work.limit full) (is_work_opened work) stated closed.stored (shares_make_up (map own_list sessions) order closed.parts shares handed) goes in
+    turns_are_kept (head_in_work work) history closed.parts order (next_in_work work) (list_has_ended work.limit full) (is_work_opened work) stated closed.stored (order-made work rules sessions leavers history order left closed shares) goes in
     subst (λ (o : Option (List Turn)). GoAsStated work full o (length work.sessions) (client_pairs (head_in_work work) history)) (sym some) kept
+
+pub learns_are_kept : (C : Type 0) → LearnsAreKept C
+learns_are_kept C work rules sessions leavers history order left closed shares learns =
+    subst LearnInOrder (sym (clients_keep_order (head_in_work work) history closed.parts order closed.stored (order-made work rules sessions leavers history order left closed shares))) learns

@@ -1,7 +1,7 @@
 -- When a history follows its workload: its head is the workload's; the sessions' calls and jobs come in its turns, or each session's by itself
--- on threads; and in each session's own list the calls are the script's, the readings the clock's, the messages are those of its calls and
--- go over a quiet wire, what is over is finished, and the list goes on to the script's end, unless it or a range has as many entries as it
--- may have. Own profile.
+-- on threads; a learn is told whether its commit was told before; and in each session's own list the calls are the script's, the readings the
+-- clock's, the messages are those of its calls and go over a quiet wire, what is over is finished, and the list goes on to the script's end,
+-- unless it or a range has as many entries as it may have. Own profile.
 use Rattle.std.specs.Prelude.{◌≡◌, ℕ, ◌-◌, ◌≤◌, ◌⊎◌, Bool, true, Some, List, [], length, slice_get}
 use Rattle.pc_base.specs.declared.actor.ActorId.{ActorId}
 use Rattle.pc_base.specs.declared.actor.ActorId.TheVariants as actors
@@ -14,6 +14,7 @@ use Rattle.pc_history.specs.Own.{own}
 use Rattle.pc_proto.specs.declared.event.Event.{Event}
 use Rattle.pc_runs.specs.Order.{GoAsStated}
 use Rattle.pc_script.specs.End.{IsScriptEnd}
+use Rattle.pc_script.specs.Learning.{AllLearnTruly}
 use Rattle.pc_script.specs.Script.{script_position}
 use Rattle.pc_script.specs.Steps.{KeepsWork}
 use Rattle.pc_scripted.specs.Ended.{list_has_ended}
@@ -37,6 +38,7 @@ pub record FollowsWork (work : Workload) (rules : ActorId → ℕ → ℕ → Bo
   pub sessions : head.sessions ≡ length work.sessions
   pub recoverers : head.recoverers ≡ 0
   pub order : GoAsStated work (range_is_full work.limit head history) work.turns (length work.sessions) (client_pairs head history)
+  pub learns : AllLearnTruly head history
   pub each :
       (number : ℕ) (session : SessionWork) → 1 ≤ number → slice_get work.sessions (number - 1) ≡ Some session
       → FollowsByItself work session (rules (actors.Session number)) (range_is_full work.limit head history) (actors.Session number) (own (protocol head) (actors.Session number) history) history

@@ -11,6 +11,7 @@ use Rattle.pc_desk.specs.OwnLog.{IsOwnLog}
 use Rattle.pc_history.specs.declared.pair.Pair.{Pair}
 use Rattle.pc_proto.specs.declared.event.Event.{Event}
 use Rattle.pc_runs.specs.Follows.{FollowsWork}
+use Rattle.pc_runs.specs.Learning.{LearnInOrder}
 use Rattle.pc_runs.specs.Order.{GoAsStated, is_work_opened, next_in_work}
 use Rattle.pc_runs.specs.Runners.{AreRunOut, AreRunners, HaveAllLeft, HaveClocks, head_in_work}
 use Rattle.pc_script.specs.Clocks.{clock_rule}
@@ -21,6 +22,7 @@ use Rattle.pc_scripted.specs.Taking.{DoesWork}
 use Rattle.pc_turns.specs.Clients.{client_pairs}
 use Rattle.pc_turns.specs.Order.{GoInTurns}
 use Rattle.pc_turns.specs.Shares.{AreShares}
+use Rattle.pc_work.specs.Accepted.{HasTransactions}
 use Rattle.pc_work.specs.declared.session.SessionWork.{SessionWork}
 use Rattle.pc_work.specs.declared.turn.Turn.{Turn}
 use Rattle.pc_work.specs.declared.workload.Workload.{Workload}
@@ -53,10 +55,26 @@ TurnsAreAsStated C =
     → GoInTurns (next_in_work work) (list_has_ended work.limit (range_is_full work.limit (head_in_work work) history)) (is_work_opened work) stated (length work.sessions) order
     → GoAsStated work (range_is_full work.limit (head_in_work work) history) work.turns (length work.sessions) (client_pairs (head_in_work work) history)
 
--- The history that sessions leave follows their workload, where each of them has run out and it goes as the workload states.
+-- Where the sessions' own lists are their shares of entries among which they learn in order, so they do in the history that they leave.
+abbrev pub LearnsAreKept : Type 0 → Type 0
+LearnsAreKept C =
+    (work : Workload) (rules : ActorId → ℕ → ℕ → Bool) (sessions : List (ScriptedMeaning C)) (leavers : List Leaver) (history : List (Entry Event)) (order : List (Pair Event))
+    → HaveAllLeft work rules sessions leavers → IsClosedOver work.limit (head_in_work work) leavers history → AreShares (map own_list sessions) order → LearnInOrder order
+    → LearnInOrder (client_pairs (head_in_work work) history)
+
+-- Where no script has a learn, whatever the order of the sessions' entries: none is learnt out of order in the history that they leave.
+abbrev pub TransactionsLearnNothing : Type 0 → Type 0
+TransactionsLearnNothing C =
+    (work : Workload) (rules : ActorId → ℕ → ℕ → Bool) (sessions : List (ScriptedMeaning C)) (leavers : List Leaver) (history : List (Entry Event))
+    → AreRunners work sessions → HaveAllLeft work rules sessions leavers → IsClosedOver work.limit (head_in_work work) leavers history → All HasTransactions work.sessions
+    → LearnInOrder (client_pairs (head_in_work work) history)
+
+-- The history that sessions leave follows their workload, where each of them has run out, it goes as the workload states, and its clients
+-- learn in order.
 abbrev pub HistoryFollows : Type 0 → Type 0
 HistoryFollows C =
     (work : Workload) (rules : ActorId → ℕ → ℕ → Bool) (sessions : List (ScriptedMeaning C)) (leavers : List Leaver) (history : List (Entry Event))
     → AreRunners work sessions → HaveAllLeft work rules sessions leavers → IsClosedOver work.limit (head_in_work work) leavers history → AreRunOut sessions
     → GoAsStated work (range_is_full work.limit (head_in_work work) history) work.turns (length work.sessions) (client_pairs (head_in_work work) history)
+    → LearnInOrder (client_pairs (head_in_work work) history)
     → FollowsWork work rules (head_in_work work) history

@@ -1,5 +1,7 @@
--- When a history follows its workload, in turns or on threads; the sessions of a workload; and the laws of what they leave.
+-- When a history follows its workload, in turns or on threads; how its clients learn of commits; the sessions of a workload; and the laws of
+-- what they leave.
 pub mod Follows
 pub mod Laws
+pub mod Learning
 pub mod Order
 pub mod Runners

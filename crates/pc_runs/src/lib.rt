@@ -1,7 +1,7 @@
 //! Laws of a workload's run: what its sessions leave is one history, which follows the workload.
 #![tactic(auto)]
 
-ghost use Rattle.pc_runs.specs.Laws.{HistoryFollows, SessionsLeave, TurnsAreAsStated};
+ghost use Rattle.pc_runs.specs.Laws.{HistoryFollows, LearnsAreKept, SessionsLeave, TransactionsLearnNothing, TurnsAreAsStated};
 
 use pc_clock::Clock;
 
@@ -15,7 +15,18 @@ pub fn turns_are_as_stated<C: Clock>()
     ensures { TurnsAreAsStated C }
 {}
 
-/// A law: the history that sessions leave follows their workload, where all have run out and it goes as the workload states.
+/// A law: where all sessions learn of commits in the order of their entries, they do so in the history.
+pub fn learns_are_kept<C: Clock>()
+    ensures { LearnsAreKept C }
+{}
+
+/// A law: where each item of each script is a transaction, no learn in the history is told out of order.
+pub fn transactions_learn_nothing<C: Clock>()
+    ensures { TransactionsLearnNothing C }
+{}
+
+/// A law: the history that sessions leave follows their workload, where all have run out, it goes as the workload states, and each learn in it
+/// is told in order.
 pub fn history_follows<C: Clock>()
     ensures { HistoryFollows C }
 {}

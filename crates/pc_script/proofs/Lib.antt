@@ -1,3 +1,4 @@
+pub mod Ahead
 pub mod Fitting
 pub mod Refitting
 mod Spelling

@@ -1,6 +1,7 @@
 -- Script: a session asks the calls of its script in order, and after a refusal some of them again.
 use Rattle.std.specs.Prelude.{◌≡◌, ℕ, zero, suc, ◌+◌, ◌-◌, min, Bool, true, false, Option, None, Some, List, [], ◌∷◌, ◌++◌, drop, fold, length, map, slice_get, ⊤}
 use Rattle.std.specs.List.{flat_map}
+use Rattle.pc_base.specs.declared.transaction.TxnId.{TxnId}
 use Rattle.pc_history.specs.declared.pair.Pair.{Pair}
 use Rattle.pc_proto.specs.declared.answer.Answer.{Answer}
 use Rattle.pc_proto.specs.declared.answer.Answer.TheVariants as answers
@@ -58,6 +59,11 @@ coming at = map (planned_call at.read) at.ahead
 -- The call that comes next, if one does.
 abbrev pub next_call : Position → Option Call
 next_call at = slice_get (coming at) 0
+
+-- The transaction of which the call learns, if it learns of one.
+abbrev pub learnt_of : Option Call → Option TxnId
+learnt_of (Some (calls.Learn id)) = Some id
+learnt_of _ = None
 
 -- These calls once more, where a rerun is left; else the transaction is rolled back.
 abbrev pub rerun : List Planned → ℕ → Position → Position

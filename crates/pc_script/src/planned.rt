@@ -1,8 +1,9 @@
-ghost use Rattle.std.specs.Prelude.{IfOk, ◌≡◌};
+ghost use Rattle.std.specs.Prelude.{IfOk, ◌≡◌, ℕ, List, Option, Some};
 ghost use Rattle.pc_script.specs.Planned.{planned_call};
+ghost use Rattle.pc_script.specs.Script.{learnt_of};
 
 use crate::sum::sum_told;
-use pc_base::{Key, NoMemory, TryCopy, Value};
+use pc_base::{Key, NoMemory, TryCopy, TxnId, Value};
 use pc_proto::Call;
 use std::alloc::Global;
 
@@ -27,6 +28,16 @@ impl Planned {
                 let sum = sum_told(alloc, told, *amount)?;
                 Ok(Call::Put(key, sum))
             }
+        }
+    }
+
+    /// The transaction of which it learns. None where it is no learn.
+    pub(crate) fn learns(&self) -> Option<TxnId>
+        ensures { (told : Option (List ℕ)) → result ≡ learnt_of (Some (planned_call told self.now)) }
+    {
+        match self {
+            Planned::Ask(Call::Learn(id)) => Some(*id),
+            _ => None,
         }
     }
 }

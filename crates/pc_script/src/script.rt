@@ -1,12 +1,12 @@
 ghost use Rattle.std.specs.Prelude.{◌≡◌, ◌↔◌, ◌++◌, None, IfOk, IsTrue, OnOk, drop};
 ghost use Rattle.std.specs.List.{flat_map};
-ghost use Rattle.pc_script.specs.Script.{after_told, calls_of, next_call, opened, rerun, statement_calls};
+ghost use Rattle.pc_script.specs.Script.{after_told, calls_of, learnt_of, next_call, opened, rerun, statement_calls};
 ghost use Rattle.pc_script.specs.Script.{items_over};
 ghost use Rattle.pc_script.specs.Ahead.{with_ahead};
 ghost use Rattle.pc_work.specs.declared.item.Item.TheVariants as items;
 
 use crate::planned::Planned;
-use pc_base::{Items, NoMemory, Priority, TryCopy, Value};
+use pc_base::{Items, NoMemory, Priority, TryCopy, TxnId, Value};
 use pc_proto::{Answer, Call};
 use pc_work::{Item, Script, Statement, Statements};
 use std::alloc::Global;
@@ -73,6 +73,19 @@ impl<'a> ScriptRun<'a> {
         match self.calls.get(self.over) {
             None => Ok(None),
             Some(planned) => Ok(Some(planned.call(self.alloc, &self.read)?)),
+        }
+    }
+
+    /// The transaction of which the call that comes next learns. None where it is no learn, or at the script's end.
+    pub fn learns(&self) -> Option<TxnId>
+        ensures { result ≡ learnt_of (next_call self.now) }
+    {
+        if self.gives_up {
+            return None;
+        }
+        match self.calls.get(self.over) {
+            None => None,
+            Some(planned) => planned.learns(),
         }
     }
 

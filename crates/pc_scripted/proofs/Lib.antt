@@ -10,3 +10,4 @@ pub mod Beginning
 pub mod Going
 pub mod Joining
 pub mod Working
+pub mod Learning

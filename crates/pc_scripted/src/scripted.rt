@@ -1,5 +1,6 @@
 ghost use Rattle.std.specs.Prelude.{◌≡◌, ◌↔◌, ℕ, ◌-◌, ◌||◌, [], Bool, false, length, map, is_some, nat_le, not, All, IfNone, IfOk, IfSome, IsTrue, OnOk, None, Some};
 ghost use Rattle.pc_desk.specs.declared.halt.Halt.TheVariants as halts;
+ghost use Rattle.pc_desk.specs.Commits.{WasTold};
 ghost use Rattle.pc_desk.specs.Desk.{IsReadyToGo};
 ghost use Rattle.pc_desk.specs.Keeping.{EachAfter};
 ghost use Rattle.pc_desk.specs.OwnLog.{IsOwnLog};
@@ -7,21 +8,23 @@ ghost use Rattle.pc_history.specs.Parts.{noted, told};
 ghost use Rattle.pc_script.specs.Clocks.{clock_rule};
 ghost use Rattle.pc_script.specs.Script.{after_told, items_over, next_call, opened};
 ghost use Rattle.pc_script.specs.Steps.{KeepsWork};
+ghost use Rattle.pc_scripted.specs.Learning.{LearnsInTurn, learnt_ahead};
 ghost use Rattle.pc_scripted.specs.Scripted.{IsScripted, own_list};
 ghost use Rattle.pc_scripted.specs.Taking.{AsksInTurn, DoesWork, FinishesInTurn, TakesNextAlone, GoesUntil, HasMoved, IsRunOut, SaysWhetherDone, are_items_over, is_script_over};
+ghost use Rattle.pc_session.specs.Learning.{answer_to_learn};
 ghost use Rattle.pc_session.specs.Session.{IsAtRest};
 ghost use Rattle.pc_work.specs.declared.session.SessionWork.{SessionWork};
 ghost use Rattle.pc_work.specs.declared.workload.Workload.{Workload};
 ghost use Rattle.pc_world.specs.Follows.FinishingJobs.{jobs_of};
 
-use pc_base::NoMemory;
+use pc_base::{NoMemory, TxnId};
 use pc_clock::Clock;
 use pc_desk::{Halt, Rest};
 use pc_history::{Actor, Named, Note};
 use pc_proto::{Answer, Call};
 use pc_range::{CommitWorld, Gate};
 use pc_script::ScriptRun;
-use pc_session::Session;
+use pc_session::{Session, Token};
 use pc_wire::Wire;
 use pc_work::Script;
 use std::alloc::Global;
@@ -99,6 +102,40 @@ impl<'a, N: Named<CommitWorld>, C: Clock + Drop, V: Wire + Drop, G: Gate> Script
         self.session.follow(mark);
     }
 
+    /// A token of the commit of this transaction, by which another session learns of it. None where this one was not told of it.
+    pub fn token(&mut self, id: TxnId) -> Result<Option<Token<N>>, NoMemory>
+        ensures token { IfOk result (λ token. IfSome token (λ t. t.id ≡ id)) }
+        ensures none { IfOk result (λ token. IfNone token (WasTold id (own_list self.old) → ⊥)) }
+        ensures same { self.new ≡ self.old }
+    {
+        self.session.token(id)
+    }
+
+    /// The transaction of which its script's next call learns. None where that is no learn, or its list has ended.
+    pub fn learns(&self) -> Option<TxnId>
+        ensures { result ≡ learnt_ahead self.now }
+    {
+        if self.has_stopped() {
+            return None;
+        }
+        self.run.learns()
+    }
+
+    /// Asks the script's next call, which learns of this transaction, and is told its answer: that it learnt, by a token of the commit, and
+    /// without one that it is not known yet.
+    pub fn learn(&mut self, id: TxnId, token: Option<Token<N>>) -> Result<(), NoMemory>
+        requires scripted { IsScripted self.old }
+        requires next { learnt_ahead self.old ≡ Some id }
+        requires token { IfSome token (λ t. t.id ≡ id) }
+        ensures ok { OnOk result (HasMoved (LearnsInTurn self.old id (is_some token)) self.old self.new) }
+        ensures rule { C.rule self.new.session.desk.log.clock ≡ C.rule self.old.session.desk.log.clock }
+    {
+        match self.session.learn(id, token) {
+            Ok(known) => go_on_by(&mut self.run, answer_to_learn(known)),
+            Err(halt) => unless_memory(halt),
+        }
+    }
+
     /// Asks the script's next call, and is told its answer; nothing where the script is over or the list has ended.
     pub fn turn<R: Wait>(&mut self, rt: &R) -> Result<(), NoMemory>
         requires { IsScripted self.old }
@@ -166,7 +203,7 @@ impl<'a, N: Named<CommitWorld>, C: Clock + Drop, V: Wire + Drop, G: Gate> Script
     }
 
     /// Whether a job waits.
-    fn has_job(&self) -> bool
+    pub fn has_job(&self) -> bool
         requires scripted { IsScripted self.now }
         requires going { self.now.session.desk.log.stopped ≡ false }
         ensures { IsTrue (not result) ↔ (jobs_of (own_list self.now) ≡ []) }
@@ -234,7 +271,7 @@ impl<'a, N: Named<CommitWorld>, C: Clock + Drop, V: Wire + Drop, G: Gate> Script
     }
 
     /// Whether it has nothing more to do before so many items are over.
-    fn is_opened(&self, items: usize) -> bool
+    pub fn is_opened(&self, items: usize) -> bool
         requires { IsScripted self.now }
         ensures { SaysWhetherDone (are_items_over items self.now.at.reruns self.now.script) self.now result }
     {
@@ -242,7 +279,7 @@ impl<'a, N: Named<CommitWorld>, C: Clock + Drop, V: Wire + Drop, G: Gate> Script
     }
 
     /// Whether it has nothing more to do.
-    fn is_run_out(&self) -> bool
+    pub fn is_run_out(&self) -> bool
         requires { IsScripted self.now }
         ensures told { SaysWhetherDone (is_script_over self.now.at.reruns self.now.script) self.now result }
         ensures over { IsTrue result → IsRunOut self.now }
@@ -260,6 +297,17 @@ impl<'a, N: Named<CommitWorld>, C: Clock + Drop, V: Wire + Drop, G: Gate> Script
         ensures keeps { (work : Workload) (session : SessionWork) (rule : ℕ → ℕ → Bool) → DoesWork work session self.entry → C.rule self.entry.session.desk.log.clock ≡ clock_rule session.clock rule → EachAfter (KeepsWork work session rule) [] (own_list self.entry) }
     {
         self.session.finish()
+    }
+}
+
+/// What a learn that knows the commit is told, and one that does not.
+fn answer_to_learn(known: bool) -> Answer
+    ensures { result ≡ answer_to_learn known }
+{
+    if known {
+        Answer::Learnt
+    } else {
+        Answer::NotYet
     }
 }
 

@@ -1,8 +1,10 @@
 -- A session once it asked a call.
-use Rattle.std.proofs.Common.{◌≡◌, ℕ, true, false, [], ◌∷◌, refl, sym, ap, subst, ◌∙◌}
+use Rattle.std.proofs.Common.{◌≡◌, ℕ, true, false, is_some, [], ◌∷◌, Option, None, Some, refl, sym, ap, subst, ◌∙◌}
 use Rattle.std.proofs.lemmas.List.Elements.{All-nil}
 use Rattle.pc_base.specs.declared.actor.ActorId.{ActorId}
+use Rattle.pc_base.specs.declared.transaction.TxnId.{TxnId}
 use Rattle.pc_coord.specs.Coordination.{Coordination, awaits_number}
+use Rattle.pc_coord.specs.declared.due.Due.TheVariants as dues
 use Rattle.pc_coord.specs.Events.{IsAsked}
 use Rattle.pc_coord.specs.Knows.{Knows}
 use Rattle.pc_desk.proofs.Making.{added, known_after_it}
@@ -11,7 +13,9 @@ use Rattle.pc_exchange.proofs.Growing.{grows_entered}
 use Rattle.pc_exchange.proofs.Waves.{ends_where_heard}
 use Rattle.pc_exchange.specs.Growing.{HasGrownBy}
 use Rattle.pc_history.specs.declared.pair.Pair.{Pair}
+use Rattle.pc_proto.specs.declared.answer.Answer.TheVariants as answers
 use Rattle.pc_proto.specs.declared.call.Call.{Call}
+use Rattle.pc_proto.specs.declared.call.Call.TheVariants as calls
 use Rattle.pc_proto.specs.declared.event.Event.{Event}
 use Rattle.pc_proto.specs.declared.event.Event.TheVariants as events
 use Rattle.pc_session.proofs.Away.{all_heard, apart_asked, none_away}
@@ -21,11 +25,13 @@ use Rattle.pc_session.proofs.Knowing.{jobs_then, known_asked, of_ask, with_asked
 use Rattle.pc_session.proofs.TurnsOn.{asked_turn}
 use Rattle.pc_session.specs.Calls.{MayBeCalled}
 use Rattle.pc_session.specs.InCall.{HasAsked, HasOpenCall, IsApartNow}
+use Rattle.pc_session.specs.Learning.{HasAskedToLearn}
 use Rattle.pc_session.specs.Session.{HasLeft, IsAtRest, SessionMeaning, session_knows}
-use Rattle.pc_turns.specs.Order.{IsInBetween}
+use Rattle.pc_turns.specs.Order.{IsInBetween, events_of}
+use Rattle.pc_txn.specs.declared.txn.OpenTxn.{OpenTxn}
 use Rattle.pc_world.specs.Follows.WaveOrder.{EndsWaves}
-use Rattle.pc_world.specs.Known.{Known, known_of, learn}
-use Rattle.pc_world.specs.Local.{IsCallOf, MayAsk}
+use Rattle.pc_world.specs.Known.{Known, call_of, known_of, learn}
+use Rattle.pc_world.specs.Local.{IsCallOf, MayAsk, is_outside}
 
 -- the call may be asked
 pub may_ask : {C : Type 0} (s : SessionMeaning C) (call : Call) → IsAtRest s → MayBeCalled s call → MayAsk s.desk.log.part.id (session_knows s) call
@@ -106,3 +112,39 @@ module _ {C : Type 0} (old : SessionMeaning C) (d : DeskMeaning C) (c : Coordina
     session = session;
     opened = ap (λ (k : Known). k.statement) known_is;
   }
+
+  none-held : (txn : Option OpenTxn) → is_some txn ≡ false → txn ≡ None
+  none-held None none = refl
+  none-held (Some x) none = absurd cc
+
+  module _ (id : TxnId) (is : call ≡ calls.Learn id) where
+    closed_now : k.is_open ≡ false
+    closed_now = may.outside (ap is_outside is)
+
+    -- a learn is asked where no transaction is open
+    pub unheld : old.coordinator.txn ≡ None
+    unheld = none-held old.coordinator.txn (rest.holds ∙ closed_now)
+
+    -- and is to be told that the commit is not known yet
+    pub asked_learning : c.due ≡ dues.Tell answers.NotYet → c.session ≡ old.coordinator.session → HasAskedToLearn old asked_then id reading
+    asked_learning due session =
+        let whole : events_of (p ∷ []) ≡ events.Ask (calls.Learn id) reading ∷ [] = ap (λ q. events.Ask q reading ∷ []) is in
+        record {
+          learning = record {
+            due = due;
+            asked = ap (λ (k : Known). call_of k) known_is ∙ ap Some is;
+            closed = ap (λ (k : Known). k.is_open) known_is ∙ closed_now;
+            quiet = ap (λ (k : Known). k.heard_now) known_is;
+          };
+          asked = record {
+            part = p ∷ [];
+            grown = grown_asked;
+            between = [];
+            whole = whole;
+            within = All-nil IsInBetween;
+            limit = ap (λ (x : DeskMeaning C). x.range_limit) done.rest;
+            session = session;
+            opened = ap (λ (k : Known). k.statement) known_is ∙ ap (λ q. Some (record { call = q; reading = reading })) is;
+          };
+          just = whole;
+        }

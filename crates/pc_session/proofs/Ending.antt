@@ -20,6 +20,9 @@ use Rattle.pc_turns.specs.Order.{IsInBetween, events_of}
 pub memory_breaks : {C : Type 0} (Are : List Event → Type 0) (old new : DeskMeaning C) (halt : Halt) → halt ≡ halts.NoMemory → BreaksOff Are old new halt
 memory_breaks Are old new halt is = subst (λ (h : Halt). BreaksOff Are old new h) (sym is) (λ going stop. tt)
 
+pub memory_ends : {C : Type 0} (old new : DeskMeaning C) (halt : Halt) → halt ≡ halts.NoMemory → EndsOnly old new halt
+memory_ends old new halt is = subst (λ (h : Halt). EndsOnly old new h) (sym is) (λ going stop. tt)
+
 -- it had stopped
 pub stopped_breaks : {C : Type 0} (Are : List Event → Type 0) (old new : DeskMeaning C) (halt : Halt) → old.log.stopped ≡ true → BreaksOff Are old new halt
 stopped_breaks Are old new halt stopped = λ going stop. absurd (let e : true ≡ false = sym stopped ∙ going in cc e)
@@ -33,13 +36,16 @@ module _ {C : Type 0} (v old : SessionMeaning C) (new : DeskMeaning C) (same : v
   nothing_breaks_if (Ok x) track ends = tt
   nothing_breaks_if (Err halt) track ends = nothing_breaks halt track ends
 
+  -- from the session as its code has it
+  pub ends_from : (halt : Halt) → EndsOnly v.desk new halt → EndsOnly old.desk new halt
+  ends_from halt ends = subst (λ (s : SessionMeaning C). EndsOnly s.desk new halt) same ends
+
   -- the call was not asked
   pub unasked_breaks : (call : Call) (halt : Halt) → KeepsTrack old.desk → EndsOnly v.desk new halt → BreaksOff (AreOfBrokenCall call) old.desk new halt
   unasked_breaks call halt track ends =
       breaks_only old.desk old.desk new [] (grows_none old.desk.log) refl (All-nil (λ (p : Pair Event). p.entry.actor ≡ old.desk.log.part.id)) (AreOfBrokenCall call) halt track (inl refl)
       (subst (λ (s : SessionMeaning C). EndsOnly s.desk new halt) same ends)
 
-  -- from the session as its code has it
   pub breaks_from : (Are : List Event → Type 0) (halt : Halt) → BreaksOff Are v.desk new halt → BreaksOff Are old.desk new halt
   breaks_from Are halt breaks = subst (λ (s : SessionMeaning C). BreaksOff Are s.desk new halt) same breaks
 

@@ -3,6 +3,7 @@ use Rattle.std.proofs.Common.{◌≡◌, ℕ, inl, inr, All, List, [], ◌++◌,
 use Rattle.std.proofs.lemmas.List.{map-append}
 use Rattle.std.proofs.lemmas.List.Elements.{All-append, All-nil}
 use Rattle.pc_base.specs.declared.actor.ActorId.TheVariants as actors
+use Rattle.pc_base.specs.declared.transaction.TxnId.{TxnId}
 use Rattle.pc_coord.specs.Coordination.{Coordination}
 use Rattle.pc_coord.specs.Knows.{Knows}
 use Rattle.pc_desk.specs.declared.halt.Halt.{Halt}
@@ -16,6 +17,7 @@ use Rattle.pc_proto.specs.declared.answer.Answer.{Answer}
 use Rattle.pc_proto.specs.declared.call.Call.{Call}
 use Rattle.pc_proto.specs.declared.event.Event.{Event}
 use Rattle.pc_session.specs.InCall.{HasAsked, HasGoneInside, HasTold}
+use Rattle.pc_session.specs.Learning.{HasAskedToLearn}
 use Rattle.pc_session.specs.Session.{AreOfOneSession, SessionMeaning}
 use Rattle.pc_session.specs.Steps.{HasMadeStep}
 use Rattle.pc_turns.specs.Order.{IsInBetween, events_of}
@@ -90,6 +92,9 @@ module _ {C : Type 0} (v old new : SessionMeaning C) (same : v ≡ old) where
 
   pub asked_from : (call : Call) (reading : ℕ) → HasAsked v new call reading → HasAsked old new call reading
   asked_from call reading x = subst (λ (s : SessionMeaning C). HasAsked s new call reading) same x
+
+  pub learning_from : (id : TxnId) (reading : ℕ) → HasAskedToLearn v new id reading → HasAskedToLearn old new id reading
+  learning_from id reading x = subst (λ (s : SessionMeaning C). HasAskedToLearn s new id reading) same x
 
   pub told_from : (answer : Answer) → HasTold v new answer → HasTold old new answer
   told_from answer x = subst (λ (s : SessionMeaning C). HasTold s new answer) same x

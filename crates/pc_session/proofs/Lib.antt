@@ -10,12 +10,14 @@ pub mod Jobs
 pub mod JobsTold
 pub mod Keeping
 pub mod Knowing
+pub mod Learning
 pub mod Lost
 pub mod Rounds
 pub mod Sending
 pub mod Standing
 pub mod Stepping
 pub mod Telling
+pub mod Tokens
 pub mod TurnsOn
 pub mod WaveTurns
 pub mod WholeWave

@@ -5,3 +5,5 @@ pub mod InCall
 pub mod Calls
 pub mod Steps
 pub mod Ending
+pub mod Token
+pub mod Learning

@@ -3,5 +3,7 @@
 
 mod office;
 mod session;
+mod token;
 
 pub use session::Session;
+pub use token::Token;

@@ -1,24 +1,31 @@
-ghost use Rattle.std.specs.Prelude.{◌≡◌, ◌+◌, ◌++◌, [], true, false, length, map, All, IfErr, IfOk, IfSome, OnOk};
+ghost use Rattle.std.specs.Prelude.{◌≡◌, ℕ, ◌+◌, ◌++◌, [], true, false, is_some, length, map, All, IfErr, IfOk, IfSome, OnOk, Some};
 ghost use Rattle.std.specs.Option.{option_to_list};
+ghost use Rattle.pc_base.specs.declared.transaction.TxnId.{TxnId};
 ghost use Rattle.pc_coord.specs.Coordination.{next_of, without_job};
 ghost use Rattle.pc_coord.specs.declared.due.Due.TheVariants as dues;
 ghost use Rattle.pc_coord.specs.declared.next.Next.TheVariants as nexts;
 ghost use Rattle.pc_coord.specs.Knows.{Knows, MayCome, MayFinishJob};
+ghost use Rattle.pc_desk.specs.Commits.{TellsCommitAt};
 ghost use Rattle.pc_desk.specs.declared.halt.Halt.TheVariants as halts;
 ghost use Rattle.pc_desk.specs.Desk.{HasHalted, IsReadyToGo};
+ghost use Rattle.pc_desk.specs.Ending.{EndsOnly};
 ghost use Rattle.pc_desk.specs.Keeping.{ReadsEach};
 ghost use Rattle.pc_desk.specs.OwnLog.{IsOwnLog};
 ghost use Rattle.pc_exchange.specs.Ending.{BreaksOff};
+ghost use Rattle.pc_proto.specs.declared.answer.Answer.TheVariants as answers;
+ghost use Rattle.pc_proto.specs.declared.call.Call.TheVariants as calls;
 ghost use Rattle.pc_session.specs.Calls.{HasCalled, MayBeCalled};
 ghost use Rattle.pc_session.specs.Ending.{AreOfBrokenCall};
 ghost use Rattle.pc_session.specs.InCall.{GoesOnOrTold, HasAsked, HasGoneInside, HasOpenCall, IsWholeOut};
+ghost use Rattle.pc_session.specs.Learning.{AreOfBrokenLearn, HasAskedToLearn, HasLearnt, HasMet, IsLearning};
 ghost use Rattle.pc_session.specs.Session.{IsAtRest, session_knows};
 ghost use Rattle.pc_session.specs.Steps.{HasStepped};
 ghost use Rattle.pc_turns.specs.Order.{IsInBetween};
 ghost use Rattle.pc_world.specs.Follows.WaveOrder.{EndsWaves};
 ghost use Rattle.pc_world.specs.Known.{Known};
 
-use pc_base::{NoMemory, Timestamp, TryCopy};
+use crate::token::{Token, commit_at};
+use pc_base::{NoMemory, Timestamp, TryCopy, TxnId};
 use pc_clock::Clock;
 use pc_coord::{Coordinator, Job, Next, coordinating_goes_on};
 use pc_desk::{Desk, Halt, Rest};
@@ -83,6 +90,60 @@ impl<'a, N: Named<CommitWorld>, C: Clock, V: Wire, G: Gate> Office<'a, N, C, V, 
         unreachable!()
     }
 
+    /// A token of the commit of which the entry at this place tells.
+    pub(crate) fn token(&mut self, id: TxnId, place: usize) -> Result<Token<N>, NoMemory>
+        requires { TellsCommitAt id self.old.desk.log.part.own place }
+        ensures id { IfOk result (λ token. token.id ≡ id) }
+        ensures same { self.new ≡ self.old }
+    {
+        let (step, ts) = commit_at(self.desk.entries(), place);
+        let note = self.desk.note(place)?;
+        Ok(Token::of(id, step, ts, note))
+    }
+
+    /// Asks to learn of the commit of a transaction, meets it where its token is given, and tells which of the two it was.
+    pub(crate) fn learn(&mut self, id: TxnId, token: Option<Token<N>>) -> Result<bool, Halt>
+        requires rest { IsAtRest self.old }
+        requires may { MayBeCalled self.old (calls.Learn id) }
+        requires token { IfSome token (λ t. t.id ≡ id) }
+        ensures ok { IfOk result (HasLearnt self.old self.new id) }
+        ensures found { IfOk result (λ known. known ≡ is_some token) }
+        ensures err { IfErr result (HasHalted self.old.desk self.new.desk) }
+        ensures ended { IfErr result (BreaksOff (AreOfBrokenLearn id (is_some token)) self.old.desk self.new.desk) }
+        ensures rule { C.rule self.new.desk.log.clock ≡ C.rule self.old.desk.log.clock }
+    {
+        let reading = self.ask(Call::Learn(id))?;
+        match token {
+            Some(token) => {
+                self.meet(reading, token)?;
+                self.tell(reading, Answer::Learnt)?;
+                Ok(true)
+            }
+            None => {
+                self.tell(reading, Answer::NotYet)?;
+                Ok(false)
+            }
+        }
+    }
+
+    /// The open learn meets the commit of its transaction.
+    fn meet(&mut self, reading: u64, token: Token<N>) -> Result<(), Halt>
+        requires calls { HasOpenCall self.old reading }
+        requires learning { IsLearning self.old token.id }
+        ensures calls { OnOk result (HasOpenCall self.new reading) }
+        ensures due { OnOk result (self.new.coordinator.due ≡ dues.Tell answers.Learnt) }
+        ensures met { OnOk result (HasMet self.old self.new token.id token.step) }
+        ensures err { IfErr result (HasHalted self.old.desk self.new.desk) }
+        ensures ended { IfErr result (EndsOnly self.old.desk self.new.desk) }
+        ensures clock { self.new.desk.log.clock ≡ self.old.desk.log.clock }
+    {
+        let (id, step, ts, note) = token.into_parts();
+        self.desk.follow(note);
+        self.desk.meet(id, step)?;
+        self.coordinator.met(ts);
+        Ok(())
+    }
+
     /// Stops for want of memory.
     fn want_memory(&mut self) -> Halt
         ensures memory { result ≡ halts.NoMemory }
@@ -99,8 +160,9 @@ impl<'a, N: Named<CommitWorld>, C: Clock, V: Wire, G: Gate> Office<'a, N, C, V, 
         ensures calls { IfOk result (HasOpenCall self.new) }
         ensures ends { OnOk result (EndsWaves self.new.desk.log.part.own) }
         ensures asked { IfOk result (HasAsked self.old self.new call) }
+        ensures learns { (id : TxnId) → call ≡ calls.Learn id → IfOk result (HasAskedToLearn self.old self.new id) }
         ensures err { IfErr result (HasHalted self.old.desk self.new.desk) }
-        ensures ended { IfErr result (BreaksOff (AreOfBrokenCall call) self.old.desk self.new.desk) }
+        ensures ended { IfErr result (EndsOnly self.old.desk self.new.desk) }
         ensures rule { C.rule self.new.desk.log.clock ≡ C.rule self.old.desk.log.clock }
     {
         let copy = match call.copy() {
@@ -265,8 +327,9 @@ impl<'a, N: Named<CommitWorld>, C: Clock, V: Wire, G: Gate> Office<'a, N, C, V, 
         requires due { next_of self.old.coordinator ≡ nexts.Tell answer }
         requires may { MayCome self.old.coordinator (session_knows self.old) (nexts.Tell answer) }
         ensures ok { IfOk result (GoesOnOrTold self.old self.new reading) }
+        ensures told { IfOk result (λ told. told ≡ Some answer) }
         ensures err { IfErr result (HasHalted self.old.desk self.new.desk) }
-        ensures ended { IfErr result (BreaksOff (All IsInBetween) self.old.desk self.new.desk) }
+        ensures ended { IfErr result (EndsOnly self.old.desk self.new.desk) }
         ensures clock { self.new.desk.log.clock ≡ self.old.desk.log.clock }
     {
         let copy = match answer.copy() {

@@ -1,13 +1,16 @@
-ghost use Rattle.std.specs.Prelude.{◌≡◌, ℕ, ◌-◌, ◌≤◌, ◌<◌, ◌^◌, ◌↔◌, [], true, false, length, map, not, All, IfErr, IfNone, IfOk, IfSome, IsTrue, OnOk};
+ghost use Rattle.std.specs.Prelude.{◌≡◌, ℕ, ◌-◌, ◌≤◌, ◌<◌, ◌^◌, ◌↔◌, [], true, false, is_some, length, map, not, All, IfErr, IfNone, IfOk, IfSome, IsTrue, OnOk};
 ghost use Rattle.pc_base.specs.declared.actor.ActorId.TheVariants as actors;
 ghost use Rattle.pc_base.specs.Rising.{AreRising};
+ghost use Rattle.pc_desk.specs.Commits.{WasTold};
 ghost use Rattle.pc_desk.specs.Desk.{HasHalted, IsReadyToGo, new_desk};
 ghost use Rattle.pc_desk.specs.Keeping.{ReadsEach};
 ghost use Rattle.pc_desk.specs.OwnLog.{IsOwnLog};
 ghost use Rattle.pc_exchange.specs.Ending.{BreaksOff};
 ghost use Rattle.pc_history.specs.Parts.{newcomer, noted, told};
+ghost use Rattle.pc_proto.specs.declared.call.Call.TheVariants as calls;
 ghost use Rattle.pc_session.specs.Calls.{HasCalled, MayBeCalled};
 ghost use Rattle.pc_session.specs.Ending.{AreOfBrokenCall};
+ghost use Rattle.pc_session.specs.Learning.{AreOfBrokenLearn, HasLearnt};
 ghost use Rattle.pc_session.specs.Session.{IsAtRest, RestsOrStopped, session_knows};
 ghost use Rattle.pc_session.specs.Steps.{HasStepped};
 ghost use Rattle.pc_turns.specs.Order.{IsInBetween};
@@ -15,7 +18,8 @@ ghost use Rattle.pc_wire.specs.declared.verdict.Verdict.TheVariants as verdicts;
 ghost use Rattle.pc_world.specs.Local.{IsActorOf};
 
 use crate::office::Office;
-use pc_base::NoMemory;
+use crate::token::Token;
+use pc_base::{NoMemory, TxnId};
 use pc_clock::Clock;
 use pc_coord::Coordinator;
 use pc_desk::{Desk, Halt, Rest};
@@ -138,6 +142,33 @@ impl<'a, N: Named<CommitWorld>, C: Clock, V: Wire, G: Gate> Session<'a, N, C, V,
     {
         self.going()?;
         self.office.call(rt, call)
+    }
+
+    /// A token by which another session may learn that the transaction committed. None where this session was not told so.
+    pub fn token(&mut self, id: TxnId) -> Result<Option<Token<N>>, NoMemory>
+        ensures token { IfOk result (λ token. IfSome token (λ t. t.id ≡ id)) }
+        ensures none { IfOk result (λ token. IfNone token (WasTold id self.old.desk.log.part.own → ⊥)) }
+        ensures same { self.new ≡ self.old }
+    {
+        match self.office.desk.commit_place(id) {
+            Some(place) => Ok(Some(self.office.token(id, place)?)),
+            None => Ok(None),
+        }
+    }
+
+    /// Asks to learn whether the transaction committed. With a token of that commit it meets it and is told so, and its later transactions begin
+    /// above that commit's timestamp; without one it is told that the commit is not known yet, and gives false.
+    pub fn learn(&mut self, id: TxnId, token: Option<Token<N>>) -> Result<bool, Halt>
+        requires may { self.old.desk.log.stopped ≡ false → MayBeCalled self.old (calls.Learn id) }
+        requires token { IfSome token (λ t. t.id ≡ id) }
+        ensures ok { IfOk result (HasLearnt self.old self.new id) }
+        ensures found { IfOk result (λ known. known ≡ is_some token) }
+        ensures err { IfErr result (HasHalted self.old.desk self.new.desk) }
+        ensures ended { IfErr result (BreaksOff (AreOfBrokenLearn id (is_some token)) self.old.desk self.new.desk) }
+        ensures rule { C.rule self.new.desk.log.clock ≡ C.rule self.old.desk.log.clock }
+    {
+        self.going()?;
+        self.office.learn(id, token)
     }
 
     /// Refused where it has stopped.

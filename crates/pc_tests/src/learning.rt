@@ -1,11 +1,8 @@
 //! What a learn is told, in a run.
 
+use crate::runs::entries_of;
 use pc_base::{ActorId, Entry};
-use pc_clock::Stepped;
 use pc_proto::{Answer, Event};
-use pc_range::NoGate;
-use pc_runner::run_turns;
-use pc_work::Workload;
 use std::alloc::Global;
 use std::test::Fail;
 
@@ -20,13 +17,7 @@ const ITS_OWN: &str =
 /// What the session of this number is told of its learns, and where its transactions begin, as text.
 fn told(alloc: Global, front: &str, turns: &str, number: u32) -> Result<String, Fail> {
     let text = format!(in alloc; "{front}{turns}}}")?;
-    let work = Workload::read(alloc, text.as_bytes())
-        .ok()
-        .ok_or("workload")?;
-    let mut clocks = Stepped::new(0, 0);
-    let entries = run_turns(alloc, &work, &mut clocks, &NoGate)
-        .ok()
-        .ok_or("memory")?;
+    let entries = entries_of(alloc, text.as_str())?;
     let mut told = String::new(alloc);
     for entry in entries.as_slice() {
         if entry.actor == ActorId::Session(number) {

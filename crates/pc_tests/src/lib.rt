@@ -4,6 +4,8 @@
 #[cfg(test)]
 mod accepted;
 #[cfg(test)]
+mod coordinator;
+#[cfg(test)]
 mod evaluation;
 #[cfg(test)]
 mod intents;
@@ -19,6 +21,8 @@ mod records;
 mod report;
 #[cfg(test)]
 mod resolve;
+#[cfg(test)]
+mod runs;
 #[cfg(test)]
 mod turns;
 #[cfg(test)]

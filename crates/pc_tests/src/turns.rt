@@ -1,9 +1,8 @@
+//! In which order the sessions of a workload go on.
+
+use crate::runs::entries_of;
 use pc_base::{ActorId, Entry};
-use pc_clock::Stepped;
 use pc_proto::Event;
-use pc_range::NoGate;
-use pc_runner::run_turns;
-use pc_work::Workload;
 use std::alloc::Global;
 use std::test::Fail;
 
@@ -22,13 +21,7 @@ fn acts(entry: &Entry<Event>, asks: bool) -> Option<u32> {
 
 /// Whose calls are asked, or whose messages are sent, in order, where these two sessions run.
 fn order(alloc: Global, asks: bool) -> Result<Vec<u32>, Fail> {
-    let work = Workload::read(alloc, TWO.as_bytes())
-        .ok()
-        .ok_or("workload")?;
-    let mut clocks = Stepped::new(0, 0);
-    let entries = run_turns(alloc, &work, &mut clocks, &NoGate)
-        .ok()
-        .ok_or("memory")?;
+    let entries = entries_of(alloc, TWO)?;
     let mut sessions = Vec::new(alloc);
     for entry in entries.as_slice() {
         if let Some(number) = acts(entry, asks) {

@@ -24,7 +24,7 @@ use Rattle.pc_world.specs.SameRequest.{IsSameRequest}
 use Rattle.pc_world.specs.Send.Settling.{ResolvedTo}
 use Rattle.pc_world.specs.Tell.Refusal.{IsConflictOf, is_heard}
 
-done-more : (id : TxnId) (key : List ℕ) (goal : Goal) (reply : Reply) (after more : List Heard) → WasDone id key goal reply after → WasDone id key goal reply (after ++ more)
+pub done-more : (id : TxnId) (key : List ℕ) (goal : Goal) (reply : Reply) (after more : List Heard) → WasDone id key goal reply after → WasDone id key goal reply (after ++ more)
 done-more id key goal (replies.Status view) after more done = record { fate = done.fate; left = done.left; settled = any_kept (ResolvedTo id key done.fate) after more done.settled }
 done-more id key goal (replies.Unsure view) after more done = record {
   before = done.before;

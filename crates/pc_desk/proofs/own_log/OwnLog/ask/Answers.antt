@@ -1,6 +1,8 @@
 use Rattle.std.proofs.Common.{refl, subst}
+use Rattle.std.specs.BTreeMap.{get}
+use Rattle.pc_base.specs.Transaction.{txn_cmp}
 use Rattle.pc_desk.proofs.Entering.{ask_keeps}
-use Rattle.pc_desk.proofs.Logging.{counted_on, made_entry, made_log, made_reads}
+use Rattle.pc_desk.proofs.Logging.{counted_on, made_entry, made_log, made_reads, places_made}
 use Rattle.pc_desk.specs.Asks.{ReadsClock}
 use Rattle.pc_proto.specs.declared.event.Event.TheVariants as events
 use Rattle.pc_desk.proofs.own_log.OwnLog.ask.Goals as goal
@@ -16,6 +18,8 @@ invariant_of-self g c =
           was (g.C.Clock.rule c.read-reading.new.self) c.read-reading.ensures.kept c.act.ensures.stored c.self.invariant.1 (subst (λ n. ReadsClock was n event) c.self.invariant.2 c.read-reading.ensures.given),
       counted_on c.args.self.now c.ready.new.self i.actor c.act.new.self i.clock c.read-reading.new.self i.pipelining i.limit i.stop i.stopped c.in_ok-last.last c.act.result event
           (g.C.Clock.reads i.clock) (g.C.Clock.reads c.read-reading.new.self) c.self.invariant.0 c.self.invariant.2 c.read-reading.ensures.counted refl c.act.ensures.stored,
+      places_made c.args.self.now c.ready.new.self i.actor c.act.new.self i.clock c.read-reading.new.self i.pipelining i.limit i.stop i.stopped c.in_ok-last.last c.act.result event
+          (get txn_cmp i.commits) (get txn_cmp i.commits) (λ id. refl) c.self.invariant.3 c.act.ensures.stored,
     )
 
 pub invariant_of-self-2 : goal.invariant_of-self-2
@@ -29,6 +33,8 @@ invariant_of-self-2 g c =
           was (g.C.Clock.rule c.read-reading.new.self) c.read-reading.ensures.kept c.act.ensures.stored c.self.invariant.1 (subst (λ n. ReadsClock was n event) c.self.invariant.2 c.read-reading.ensures.given),
       counted_on c.args.self.now c.ready.new.self i.actor c.act.new.self i.clock c.read-reading.new.self i.pipelining i.limit i.stop i.stopped c.in_ok-last.last c.act.result event
           (g.C.Clock.reads i.clock) (g.C.Clock.reads c.read-reading.new.self) c.self.invariant.0 c.self.invariant.2 c.read-reading.ensures.counted refl c.act.ensures.stored,
+      places_made c.args.self.now c.ready.new.self i.actor c.act.new.self i.clock c.read-reading.new.self i.pipelining i.limit i.stop i.stopped c.in_ok-last.last c.act.result event
+          (get txn_cmp i.commits) (get txn_cmp i.commits) (λ id. refl) c.self.invariant.3 c.act.ensures.stored,
     )
 
 pub returns-clause-ok : goal.returns-clause-ok

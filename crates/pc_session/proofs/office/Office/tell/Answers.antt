@@ -10,7 +10,7 @@ use Rattle.pc_session.proofs.Telling.{may_tell, told_goes}
 use Rattle.pc_session.specs.InCall.{HasOpenCall}
 use Rattle.pc_session.specs.Session.{session_knows}
 use Rattle.std.proofs.lemmas.Result.{err_from_is_err_and}
-use Rattle.pc_session.proofs.Ending.{nothing_breaks}
+use Rattle.pc_session.proofs.Ending.{ends_from}
 use Rattle.pc_session.proofs.office.Office.tell.Goals as goal
 
 pub tell-requires-clause-may : goal.tell-requires-clause-may
@@ -34,4 +34,4 @@ returns-in-Ok-take_job-clause-ok g c =
 pub returns-in_err-tell-clause-ended : goal.returns-in_err-tell-clause-ended
 returns-in_err-tell-clause-ended g c =
     let p = err_from_is_err_and c.from_residual.result c.from_residual.ensures.1 in
-    rw (p.1, p.2) (nothing_breaks _ c.args.self.now c.tell.new.self c.self.view_is c.in_err-tell.field-0.0 c.requires.calls.track c.in_err-tell.ensures.ended)
+    rw (p.1, p.2) (ends_from _ c.args.self.now c.tell.new.self c.self.view_is c.in_err-tell.field-0.0 c.in_err-tell.ensures.ended)

@@ -1,0 +1,15 @@
+use Rattle.std.proofs.Common.{◌≡◌, refl}
+use Rattle.std.proofs.lemmas.Result.{on_ok_weaker}
+use Rattle.pc_desk.proofs.Desking.{has_done}
+use Rattle.pc_desk.proofs.Ending.{ended_if}
+use Rattle.pc_proto.specs.declared.event.Event.{Event}
+use Rattle.pc_proto.specs.declared.event.Event.TheVariants as events
+use Rattle.pc_desk.proofs.desk.Desk.meet.Goals as goal
+
+pub returns-clause-ok : goal.returns-clause-ok
+returns-clause-ok g c =
+    on_ok_weaker c.enter.result (λ entered. has_done _ c.args.self.now c.enter.new.self (events.Meet c.args.id c.args.step) c.self.view_is refl (λ named sent. refl) refl c.requires.track entered) c.enter.ensures.ok
+
+pub returns-clause-ended : goal.returns-clause-ended
+returns-clause-ended g c =
+    ended_if (λ (made : Event). made ≡ events.Meet c.args.id c.args.step) _ c.args.self.now c.enter.new.self c.enter.result c.self.view_is c.requires.track c.enter.ensures.err

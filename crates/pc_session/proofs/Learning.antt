@@ -1,0 +1,365 @@
+-- A session that learns of a commit: it asks, meets the commit where its token was given, and is told.
+use Rattle.std.proofs.Common.{◌≡◌, ℕ, ◌+◌, ◌≤◌, ◌==◌, max, Bool, true, false, All, Contains, inl, inr, is_some, List, [], ◌∷◌, ◌++◌, Option, None, Some, refl, sym, ap, subst, ◌∙◌, arith}
+use Rattle.std.proofs.lemmas.Bool.{and_from, eq-eqb}
+use Rattle.std.proofs.lemmas.List.{append-nil, map-append}
+use Rattle.std.proofs.lemmas.List.Elements.{All-cons, All-nil, All-weaker, Contains-append_left, Contains-push}
+use Rattle.pc_base.specs.declared.entry.Entry.{Entry}
+use Rattle.pc_base.specs.declared.transaction.TxnId.{TxnId}
+use Rattle.pc_coord.proofs.Learned.{learn-by}
+use Rattle.pc_coord.specs.Coordination.{Coordination, awaits_number, next_at, next_of}
+use Rattle.pc_coord.specs.declared.due.Due.TheVariants as dues
+use Rattle.pc_coord.specs.declared.job.Job.{Job}
+use Rattle.pc_coord.specs.declared.next.Next.TheVariants as nexts
+use Rattle.pc_coord.specs.Knows.{IsTellable, Knows, KnowsAt, MayFinishJob}
+use Rattle.pc_coord.specs.Meeting.{MeetsCommit, known_met, meeting}
+use Rattle.pc_desk.proofs.Entering.{local_does}
+use Rattle.pc_desk.proofs.Making.{added, known_after_it}
+use Rattle.pc_desk.specs.declared.halt.Halt.{Halt}
+use Rattle.pc_desk.specs.declared.halt.Halt.TheVariants as halts
+use Rattle.pc_desk.specs.Desk.{DeskMeaning, HasDone, HasHalted, KeepsTrack, is_on_way}
+use Rattle.pc_desk.specs.Ending.{EndsOnly, HasEnded, IsEndedBy}
+use Rattle.pc_desk.specs.Keeping.{KeepsSessionStep}
+use Rattle.pc_desk.specs.OwnLog.{MayEnter}
+use Rattle.pc_exchange.proofs.Ending.{breaks_only, made_by}
+use Rattle.pc_exchange.proofs.Growing.{grows_both, grows_else, grows_entered, grows_none}
+use Rattle.pc_exchange.specs.Ending.{BreaksOff}
+use Rattle.pc_exchange.specs.Growing.{HasGrownBy}
+use Rattle.pc_exchange.specs.Jobs.{IsFinishable}
+use Rattle.pc_history.proofs.Callers.{knows-known, names-known}
+use Rattle.pc_history.specs.declared.pair.Pair.{Pair}
+use Rattle.pc_history.specs.declared.view.Known.{Known as KnownEntry}
+use Rattle.pc_history.specs.Parts.{knowledge, named_by, told}
+use Rattle.pc_proto.specs.declared.answer.Answer.{Answer}
+use Rattle.pc_proto.specs.declared.answer.Answer.TheVariants as answers
+use Rattle.pc_proto.specs.declared.call.Call.TheVariants as calls
+use Rattle.pc_proto.specs.declared.event.Event.{Event}
+use Rattle.pc_proto.specs.declared.event.Event.TheVariants as events
+use Rattle.pc_proto.specs.Stamps.{event_stamps, fate_stamps, greatest_of}
+use Rattle.pc_range.specs.Protocol.{unstaged_protocol}
+use Rattle.pc_session.proofs.Inside.{halted_on, one_on}
+use Rattle.pc_session.proofs.Jobs.{HasJobs}
+use Rattle.pc_session.proofs.Keeping.{keeps_as}
+use Rattle.pc_session.proofs.Knowing.{jobs_then}
+use Rattle.pc_session.proofs.Stepping.{part_whose}
+use Rattle.pc_session.specs.InCall.{HasOpenCall, HasTold, IsApartNow}
+use Rattle.pc_session.specs.InTurn.{KeepsTurn}
+use Rattle.pc_session.specs.Learning.{AreOfBrokenLearn, HasAskedToLearn, HasLearnt, HasMet, IsLearning, answer_to_learn, met_at}
+use Rattle.pc_session.specs.Session.{HasLeft, IsAtRest, SessionMeaning, session_knows}
+use Rattle.pc_session.specs.Token.{IsOfCommit, TokenMeaning}
+use Rattle.pc_turns.specs.Order.{IsInBetween, events_of}
+use Rattle.pc_world.specs.Caused.{TellsCommitted}
+use Rattle.pc_world.specs.Known.{Known, known_after, known_of, learn}
+use Rattle.pc_world.specs.Known.Statements.{Statement}
+use Rattle.pc_world.specs.Known.Traffic.{Heard, Sent}
+use Rattle.pc_world.specs.Named.{is_tell}
+
+-- ---- what is due is told
+
+pub next_told : (c : Coordination) (answer : Answer) → c.due ≡ dues.Tell answer → next_of c ≡ nexts.Tell answer
+next_told c answer due = ap (next_at c.txn) due
+
+pub tellable_now : (c : Coordination) (k : Known) (answer : Answer) → Knows c k → c.due ≡ dues.Tell answer → IsTellable c k answer
+tellable_now c k answer knows due = let now : KnowsAt c k (dues.Tell answer) = subst (KnowsAt c k) due knows.stands in now.may
+
+-- ---- what a session knows once it met a commit
+
+met_is : (id : TxnId) (step ts : ℕ) (k : Known) (e : Event) → e ≡ events.Tell (answers.Committed id ts)
+    → known_after (events.Meet id step) None (max k.top (max 0 (greatest_of (event_stamps e)))) (max k.high (greatest_of (event_stamps e))) k ≡ known_met id ts k
+met_is id step ts k e told =
+    let G : Event → Known = λ e. known_after (events.Meet id step) None (max k.top (max 0 (greatest_of (event_stamps e)))) (max k.high (greatest_of (event_stamps e))) k in
+    let F : List Sent → List Sent → List Heard → List Heard → Known = λ s n h m. record (known_met id ts k) { sent = s; sent_now = n; heard = h; heard_now = m } in
+    ap G told
+    ∙ ap (λ s. F s (k.sent_now ++ []) (k.heard ++ []) (k.heard_now ++ [])) (append-nil k.sent)
+    ∙ ap (λ n. F k.sent n (k.heard ++ []) (k.heard_now ++ [])) (append-nil k.sent_now)
+    ∙ ap (λ h. F k.sent k.sent_now h (k.heard_now ++ [])) (append-nil k.heard)
+    ∙ ap (F k.sent k.sent_now k.heard) (append-nil k.heard_now)
+
+-- its jobs may be done still
+jobs_met : (jobs : List Job) (k : Known) (id : TxnId) (ts : ℕ) → HasJobs jobs k → HasJobs jobs (known_met id ts k)
+jobs_met jobs k id ts has = record {
+  numbers = has.numbers;
+  left = All-weaker (IsFinishable k) (IsFinishable (known_met id ts k)) (λ job left. record { may = on job left.may; begun = left.begun; other = left.other }) jobs has.left;
+}
+  where
+    on : (job : Job) → MayFinishJob k job → MayFinishJob (known_met id ts k) job
+    on job may = record {
+      resolve = may.resolve;
+      stamps = All-weaker (λ t. t ≤ k.top + 1) (λ t. t ≤ max k.top (max 0 (greatest_of (ts ∷ []))) + 1) (λ t low. omega (arith, low)) (fate_stamps job.fate) may.stamps;
+      anchored = may.anchored;
+      shown = may.shown;
+      final = may.final;
+      must = may.must;
+    }
+
+apart_met : (k : Known) (id : TxnId) (ts : ℕ) → IsApartNow k → IsApartNow (known_met id ts k)
+apart_met k id ts apart = record { before = apart.before; split = apart.split; apart = apart.apart; said = apart.said }
+
+-- a meeting keeps what a session's events keep
+keeps_met : (cut : List (List ℕ)) (own : List (Pair Event)) (id : TxnId) (step : ℕ) → KeepsSessionStep cut false own (events.Meet id step) None
+keeps_met cut own id step = record {
+  wire = tt;
+  early_tell = tt;
+  early_proof = λ asked staged. tt;
+  written = tt;
+  puts = tt;
+  resends = tt;
+  calls = tt;
+  finishes = tt;
+  aborts = tt;
+  writes = tt;
+  refreshes = tt;
+  rounds = tt;
+  eighth = tt;
+  waves = tt;
+  pieces = tt;
+  refresh_wave = tt;
+  oldest = tt;
+}
+
+-- ---- the commit is met
+
+module _ {C : Type 0} (old : SessionMeaning C) (reading : ℕ) (token : TokenMeaning) (calls : HasOpenCall old reading) (learning : IsLearning old token.id) (commit : IsOfCommit token) where
+  abbrev k : Known
+  k = session_knows old
+
+  abbrev event : Event
+  event = events.Meet token.id token.step
+
+  -- The telling of the commit.
+  abbrev telling : Entry Event
+  telling = commit.entry.entry
+
+  -- The desk once it took the token's note.
+  abbrev pub desk_told : DeskMeaning C
+  desk_told = record old.desk { log = record old.desk.log { part = told token.known old.desk.log.part } }
+
+  knows_it : Contains (knowledge desk_told.log.part) telling
+  knows_it =
+      knows-known desk_told.log.part commit.entry (subst (λ (ks : List (KnownEntry Event)). Contains (old.desk.log.part.known ++ ks) commit.entry) (sym commit.knows) (Contains-push old.desk.log.part.known commit.entry))
+
+  away : (number : ℕ) → is_on_way number old.desk ≡ false
+  away number = sym (calls.way number) ∙ ap (awaits_number number) learning.due
+
+  module _ (track : KeepsTrack desk_told) where
+    names_it : named_by (unstaged_protocol desk_told.log.head) desk_told.log.part event ≡ Some telling
+    names_it =
+        let at : (telling.step == token.step) ≡ true = eq-eqb telling.step token.step commit.at in
+        let tells : is_tell telling.event ≡ true = subst (λ event. is_tell event ≡ true) (sym commit.says) refl in
+        names-known (unstaged_protocol desk_told.log.head) desk_told.log.part event telling track.log.sound knows_it (and_from (telling.step == token.step) (is_tell telling.event) at tells)
+
+    -- the session may meet it
+    pub may_meet : MayEnter desk_told.log event
+    may_meet =
+        let l = desk_told.log in
+        record {
+          local = (local_does l.head l.part.id l.part.own event (named_by (unstaged_protocol l.head) l.part event) track.log.client track.log.there (record { id = token.id; asked = learning.asked }), tt);
+          caused = (knows_it.0, telling, knows_it.1, knows_it.2, record { at = commit.at; tell = subst (TellsCommitted token.id) (sym commit.says) refl });
+          free = refl;
+          no_ask = refl;
+          keeps = keeps_as l.part.id old.coordinator.session l.head.splits l.pipelining l.part.own event None calls.one.whose calls.one.unpiped (keeps_met l.head.splits l.part.own token.id token.step);
+        }
+
+    module _ (d : DeskMeaning C) (c : Coordination) (done : HasDone desk_told d event) (made : c ≡ meeting token.ts old.coordinator)
+        (learns : (k : Known) (p : Pair Event) (id : TxnId) (step : ℕ) → Knows old.coordinator k → MeetsCommit old.coordinator id step token.ts k p → Knows c (learn p k)) where
+      abbrev p : Pair Event
+      p = added desk_told.log d.log event done.entered
+
+      -- The session after it.
+      abbrev pub met_then : SessionMeaning C
+      met_then = record old { desk = d; coordinator = c }
+
+      learnt : known_of d.log.part.own ≡ learn p k
+      learnt = known_after_it desk_told.log d.log event done.entered
+
+      known_is : known_of d.log.part.own ≡ known_met token.id token.ts k
+      known_is = learnt ∙ (learn-by k p event (Some telling) refl names_it ∙ met_is token.id token.step token.ts k telling.event commit.says)
+
+      grown_met : HasGrownBy old.desk.log d.log (p ∷ [])
+      grown_met =
+          grows_both old.desk.log desk_told.log d.log [] (p ∷ [])
+          (grows_else old.desk.log desk_told.log old.desk.log.part.given desk_told.log.part.known refl (λ e there. Contains-append_left old.desk.log.part.known token.known e there)) (grows_entered desk_told.log d.log event done.entered refl)
+
+      due_is : c.due ≡ dues.Tell answers.Learnt
+      due_is = ap (λ (c : Coordination). c.due) made
+
+      session_is : c.session ≡ old.coordinator.session
+      session_is = ap (λ (c : Coordination). c.session) made
+
+      knows_then : Knows c (known_of d.log.part.own)
+      knows_then =
+          subst (Knows c) (sym learnt)
+          (learns k p token.id token.step calls.one.knows
+          (record { due = learning.due; asked = learning.asked; closed = learning.closed; quiet = learning.quiet; event = refl; commit = telling; named = names_it; told = commit.says }))
+
+      away_then : (number : ℕ) → is_on_way number d ≡ false
+      away_then number = ap (is_on_way number) done.rest ∙ away number
+
+      left_on : HasLeft d.log.part.own old.jobs
+      left_on =
+          let has : HasJobs old.jobs (known_of d.log.part.own) = subst (HasJobs old.jobs) (sym known_is) (jobs_met old.jobs k token.id token.ts (record { numbers = calls.waiting.numbers; left = calls.waiting.each })) in
+          record { left = jobs_then desk_told.log d.log event done.entered ∙ calls.waiting.left; numbers = has.numbers; each = has.left }
+
+      -- the call goes on
+      pub met_open : HasOpenCall met_then reading
+      met_open = record {
+        track = done.track;
+        one = one_on old.desk d old.coordinator c (p ∷ []) grown_met calls.one session_is (ap (λ (c : Coordination). c.splits) made) knows_then;
+        way = λ number. ap (awaits_number number) due_is ∙ sym (away_then number);
+        call = calls.call;
+        opened = ap (λ (k : Known). k.statement) known_is ∙ calls.opened;
+        apart = subst IsApartNow (sym known_is) (apart_met k token.id token.ts calls.apart);
+        kinds = λ number request on. absurd (let e : true ≡ false = sym on ∙ away_then number in cc e);
+        waiting = left_on;
+        turn = subst (KeepsTurn (known_of d.log.part.own)) (sym due_is) tt;
+      }
+
+      -- and the commit alone was met
+      pub met_goes : HasMet old met_then token.id token.step
+      met_goes = record {
+        inside = record {
+          part = p ∷ [];
+          grown = grown_met;
+          within = All-cons IsInBetween event [] tt (All-nil IsInBetween);
+          limit = ap (λ (x : DeskMeaning C). x.range_limit) done.rest;
+          session = session_is;
+          statement = ap (λ (k : Known). k.statement) known_is;
+        };
+        just = refl;
+      }
+
+-- ---- from the session and the token as its code has them
+
+ended_on : (halt : Halt) (A B : Type 0) → (A → B) → IsEndedBy halt A → IsEndedBy halt B
+ended_on halts.Stopped A B f a = f a
+ended_on (halts.Full actor) A B f a = f a
+ended_on halts.NoMemory A B f a = tt
+
+module _ {C : Type 0} (d t : DeskMeaning C) (note : List (KnownEntry Event)) (took : t ≡ record d { log = record d.log { part = told note d.log.part } }) where
+  -- a desk that took a note ends as it would have without
+  told_ends : (new : DeskMeaning C) (halt : Halt) → EndsOnly t new halt → EndsOnly d new halt
+  told_ends new halt = subst (λ (x : DeskMeaning C). EndsOnly x new halt → EndsOnly d new halt) (sym took) (λ ends going stop. ended_on halt (HasEnded with_note new) (HasEnded d new) on (ends going stop))
+    where
+      with_note : DeskMeaning C
+      with_note = record d { log = record d.log { part = told note d.log.part } }
+
+      on : HasEnded with_note new → HasEnded d new
+      on ended = record { known = λ e there. ended.known e (Contains-append_left d.log.part.known note e there); rest = ended.rest; limit = ended.limit; end = ended.end }
+
+  grown_told : HasGrownBy d.log t.log []
+  grown_told =
+      subst (λ (x : DeskMeaning C). HasGrownBy d.log x.log []) (sym took)
+      (grows_else d.log (record d.log { part = told note d.log.part }) d.log.part.given (d.log.part.known ++ note) refl (λ e there. Contains-append_left d.log.part.known note e there))
+
+module _ {C : Type 0} (v old : SessionMeaning C) (same : v ≡ old) (reading : ℕ) (token parts : TokenMeaning) (is : token ≡ parts) (calls : HasOpenCall old reading) (learning : IsLearning old token.id) (commit : IsOfCommit token)
+    (t : DeskMeaning C) (took : t ≡ record v.desk { log = record v.desk.log { part = told parts.known v.desk.log.part } }) (track : KeepsTrack t) where
+  calls-v : HasOpenCall v reading
+  calls-v = subst (λ (s : SessionMeaning C). HasOpenCall s reading) (sym same) calls
+
+  learning-v : IsLearning v parts.id
+  learning-v = subst (λ (s : SessionMeaning C). IsLearning s parts.id) (sym same) (subst (λ (x : TokenMeaning). IsLearning old x.id) is learning)
+
+  commit-v : IsOfCommit parts
+  commit-v = subst IsOfCommit is commit
+
+  track-v : KeepsTrack (desk_told v reading parts calls-v learning-v commit-v)
+  track-v = subst KeepsTrack took track
+
+  pub meet_may : MayEnter t.log (events.Meet parts.id parts.step)
+  meet_may = subst (λ (x : DeskMeaning C). MayEnter x.log (events.Meet parts.id parts.step)) (sym took) (may_meet v reading parts calls-v learning-v commit-v track-v)
+
+  module _ (d : DeskMeaning C) (c : Coordination) (done : HasDone t d (events.Meet parts.id parts.step)) (made : c ≡ meeting parts.ts v.coordinator)
+      (learns : (k : Known) (p : Pair Event) (id : TxnId) (step : ℕ) → Knows v.coordinator k → MeetsCommit v.coordinator id step parts.ts k p → Knows c (learn p k)) where
+    done-v : HasDone (desk_told v reading parts calls-v learning-v commit-v) d (events.Meet parts.id parts.step)
+    done-v = subst (λ (x : DeskMeaning C). HasDone x d (events.Meet parts.id parts.step)) took done
+
+    pub meet_calls : HasOpenCall (record v { desk = d; coordinator = c }) reading
+    meet_calls = met_open v reading parts calls-v learning-v commit-v track-v d c done-v made learns
+
+    pub meet_met : HasMet old (record v { desk = d; coordinator = c }) token.id token.step
+    meet_met =
+        subst (λ (x : TokenMeaning). HasMet old (record v { desk = d; coordinator = c }) x.id x.step) (sym is)
+        (subst (λ (s : SessionMeaning C). HasMet s (record v { desk = d; coordinator = c }) parts.id parts.step) same (met_goes v reading parts calls-v learning-v commit-v track-v d c done-v made learns))
+
+  pub meet_ends : (new : DeskMeaning C) (halt : Halt) → EndsOnly t new halt → EndsOnly old.desk new halt
+  meet_ends new halt ends = subst (λ (s : SessionMeaning C). EndsOnly s.desk new halt) same (told_ends v.desk t parts.known took new halt ends)
+
+  pub meet_halts : (new : DeskMeaning C) (halt : Halt) → HasHalted t new halt → HasHalted old.desk new halt
+  meet_halts new halt h = subst (λ (s : SessionMeaning C). HasHalted s.desk new halt) same (halted_on v.desk t new [] halt (grown_told v.desk t parts.known took) h)
+
+-- ---- the learn so far
+
+-- The session asked to learn, met the commit at this step, if it did, and did nothing else.
+pub record HasLearntSoFar {C : Type 0} (old new : SessionMeaning C) (id : TxnId) (reading : ℕ) (step : Option ℕ) : Type 0 where
+  pub part : List (Pair Event)
+  pub grown : HasGrownBy old.desk.log new.desk.log part
+  pub just : events_of part ≡ events.Ask (calls.Learn id) reading ∷ met_at id step
+  pub limit : new.desk.range_limit ≡ old.desk.range_limit
+  pub session : new.coordinator.session ≡ old.coordinator.session
+  pub opened : (session_knows new).statement ≡ Some (record { call = calls.Learn id; reading = reading })
+
+pub so_far_asked : {C : Type 0} (old new : SessionMeaning C) (id : TxnId) (reading : ℕ) → HasAskedToLearn old new id reading → HasLearntSoFar old new id reading None
+so_far_asked old new id reading a = record { part = a.asked.part; grown = a.asked.grown; just = a.just; limit = a.asked.limit; session = a.asked.session; opened = a.asked.opened }
+
+pub so_far_met : {C : Type 0} (old mid new : SessionMeaning C) (id : TxnId) (reading step : ℕ) → HasAskedToLearn old mid id reading → HasMet mid new id step → HasLearntSoFar old new id reading (Some step)
+so_far_met old mid new id reading step a m = record {
+  part = a.asked.part ++ m.inside.part;
+  grown = grows_both old.desk.log mid.desk.log new.desk.log a.asked.part m.inside.part a.asked.grown m.inside.grown;
+  just = map-append (λ (p : Pair Event). p.entry.event) a.asked.part m.inside.part ∙ (ap (λ es. es ++ events_of m.inside.part) a.just ∙ ap (λ es. events.Ask (calls.Learn id) reading ∷ es) m.just);
+  limit = m.inside.limit ∙ a.asked.limit;
+  session = m.inside.session ∙ a.asked.session;
+  opened = m.inside.statement ∙ a.asked.opened;
+}
+
+within_met : (id : TxnId) (step : Option ℕ) → All IsInBetween (met_at id step)
+within_met id None = All-nil IsInBetween
+within_met id (Some step) = All-cons IsInBetween (events.Meet id step) [] tt (All-nil IsInBetween)
+
+-- the call was not asked
+pub unasked_learn : {C : Type 0} (old new : DeskMeaning C) (id : TxnId) (given : Bool) (halt : Halt) → KeepsTrack old → EndsOnly old new halt → BreaksOff (AreOfBrokenLearn id given) old new halt
+unasked_learn old new id given halt track ends =
+    breaks_only old old new [] (grows_none old.log) refl (All-nil (λ (p : Pair Event). p.entry.actor ≡ old.log.part.id)) (AreOfBrokenLearn id given) halt track (inl refl) ends
+
+-- a meeting is of the token that was given
+broken_at : (id : TxnId) (given : Bool) (reading : ℕ) (step : Option ℕ) (made : List Event) → (is_some step ≡ true → given ≡ true) → made ≡ events.Ask (calls.Learn id) reading ∷ met_at id step → AreOfBrokenLearn id given made
+broken_at id given reading None made by is = inr (inl (reading, is))
+broken_at id given reading (Some step) made by is = inr (inr (by refl, reading, step, is))
+
+module _ {C : Type 0} (old mid : SessionMeaning C) (id : TxnId) (reading : ℕ) (step : Option ℕ) (so : HasLearntSoFar old mid id reading step) where
+  -- it was told
+  pub has_learnt : (new : SessionMeaning C) → IsAtRest old → HasTold mid new (answer_to_learn (is_some step)) → HasLearnt old new id (is_some step)
+  has_learnt new rest t =
+      let part = so.part ++ t.part in
+      let answer = answer_to_learn (is_some step) in
+      let grown : HasGrownBy old.desk.log new.desk.log part = grows_both old.desk.log mid.desk.log new.desk.log so.part t.part so.grown t.grown in
+      let whole : events_of part ≡ events.Ask (calls.Learn id) reading ∷ (met_at id step ++ events.Tell answer ∷ []) =
+      map-append (λ (p : Pair Event). p.entry.event) so.part t.part ∙ (ap (λ es. es ++ events_of t.part) so.just ∙ ap (λ es. events.Ask (calls.Learn id) reading ∷ (met_at id step ++ es)) t.whole) in
+      record {
+        step = step;
+        found = refl;
+        called = record {
+          part = part;
+          grown = grown;
+          whole = record {
+            whose = part_whose old.desk.log new.desk.log part old.coordinator.session grown t.rest.track.log rest.one.whose;
+            reading = reading;
+            between = met_at id step;
+            answer = answer;
+            whole = whole;
+            within = within_met id step;
+          };
+          told = refl;
+          limit = t.limit ∙ so.limit;
+          session = t.session ∙ so.session;
+          suits = t.suits (record { call = calls.Learn id; reading = reading }) so.opened;
+          rest = t.rest;
+        };
+        exact = refl;
+      }
+
+  -- its list ended before it was told
+  pub learn_breaks : (new : DeskMeaning C) (given : Bool) (halt : Halt) → (is_some step ≡ true → given ≡ true) → KeepsTrack mid.desk → EndsOnly mid.desk new halt → BreaksOff (AreOfBrokenLearn id given) old.desk new halt
+  learn_breaks new given halt by track ends =
+      breaks_only old.desk mid.desk new so.part so.grown so.limit (made_by old.desk.log mid.desk so.part track so.grown) (AreOfBrokenLearn id given) halt track (broken_at id given reading step (events_of so.part) by so.just) ends
+
+  pub learn_halts : (new : DeskMeaning C) (halt : Halt) → HasHalted mid.desk new halt → HasHalted old.desk new halt
+  learn_halts new halt h = halted_on old.desk mid.desk new so.part halt so.grown h
