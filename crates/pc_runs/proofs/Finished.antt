@@ -1,5 +1,5 @@
 -- What the sessions of a workload leave when they finish.
-use Rattle.std.proofs.Common.{◌≡◌, ℕ, zero, suc, ◌+◌, ◌<◌, ◌⊎◌, inl, inr, Bool, true, false, All, List, [], ◌∷◌, length, slice_get, Some, refl, sym, ap, subst, ◌∙◌, arith}
+use Rattle.std.proofs.Common.{◌≡◌, ℕ, zero, suc, ◌+◌, ◌<◌, ◌≤◌, ◌⊎◌, inl, inr, Bool, true, false, All, List, [], ◌∷◌, length, slice_get, Some, refl, sym, ap, subst, ◌∙◌, arith}
 use Rattle.std.proofs.lemmas.Option.{slice_get_within}
 use Rattle.pc_base.specs.declared.actor.ActorId.{ActorId}
 use Rattle.pc_base.specs.declared.actor.ActorId.TheVariants as actors
@@ -70,6 +70,7 @@ module _ {C : Type 0} (work : Workload) (rule : C → ℕ → ℕ → Bool) (all
           keeps = subst (λ b. KeepsEach (actors.Session (index + 1)) work.splits b (own_list s)) (r.scripted.unpiped ∙ sym unpiped)
               (subst (λ (h : Head). KeepsEach (actors.Session (index + 1)) h.splits s.session.desk.log.pipelining (own_list s)) r.head
               (subst (λ (i : ActorId). KeepsEach i s.session.desk.log.head.splits s.session.desk.log.pipelining (own_list s)) (r.scripted.id ∙ ap actors.Session r.number) f.log.keeps));
+          within = subst (λ n. length (own_list s) ≤ n) r.limit r.scripted.within;
         };
   }
     where

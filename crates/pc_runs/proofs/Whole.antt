@@ -81,6 +81,7 @@ module _ {C : Type 0} (work : Workload) (rules : ActorId → ℕ → ℕ → Boo
         steps = gone.steps session listed;
         keeps = gone.keeps;
         wire = subst (λ (p : Part Event). AreServed full (actors.Session (index + 1)) history (known_of p.own)) gone.part kept.served;
+        within = gone.within;
         end = subst (λ n. IsScriptEnd (script_position n session.script (own_list s.0)) (own_list s.0) ⊎ (list_has_ended work.limit full (own_list s.0) ≡ true)) (sym r.reruns)
             (subst (λ (sc : List Item). IsScriptEnd (script_position s.0.at.reruns sc (own_list s.0)) (own_list s.0) ⊎ (list_has_ended work.limit full (own_list s.0) ≡ true)) (sym script)
             (subst (λ n. IsScriptEnd (script_position s.0.at.reruns s.0.script (own_list s.0)) (own_list s.0) ⊎ (list_has_ended n full (own_list s.0) ≡ true)) r.limit

@@ -1,5 +1,5 @@
 -- The sessions of a workload, each with its script: how they go on, and what they leave.
-use Rattle.std.specs.Prelude.{◌≡◌, ℕ, ◌+◌, Bool, Some, List, [], length, slice_get}
+use Rattle.std.specs.Prelude.{◌≡◌, ℕ, ◌+◌, ◌≤◌, Bool, Some, List, [], length, slice_get}
 use Rattle.pc_base.specs.declared.actor.ActorId.{ActorId}
 use Rattle.pc_base.specs.declared.actor.ActorId.TheVariants as actors
 use Rattle.pc_closing.specs.Leaving.{Leaver}
@@ -48,11 +48,12 @@ SaysAllFull {C} full sessions = (index : ℕ) (s : ScriptedMeaning C) → slice_
 abbrev pub AreRunOut : {C : Type 0} → List (ScriptedMeaning C) → Type 0
 AreRunOut {C} sessions = (index : ℕ) (s : ScriptedMeaning C) → slice_get sessions index ≡ Some s → IsRunOut s
 
--- The session has left with what it stored and knew, and each of its entries keeps its work.
+-- The session has left with what it stored and knew, within its limit, and each of its entries keeps its work.
 pub record HasLeftAs {C : Type 0} (work : Workload) (rules : ActorId → ℕ → ℕ → Bool) (index : ℕ) (s : ScriptedMeaning C) (l : Leaver) : Type 0 where
   pub part : l.0.part ≡ s.session.desk.log.part
   pub steps : (session : SessionWork) → slice_get work.sessions index ≡ Some session → EachAfter (KeepsWork work session (rules (actors.Session (index + 1)))) [] (own_list s)
   pub keeps : KeepsEach (actors.Session (index + 1)) work.splits work.pipelining (own_list s)
+  pub within : length (own_list s) ≤ work.limit
 
 -- All sessions have left, in order.
 pub record HaveAllLeft {C : Type 0} (work : Workload) (rules : ActorId → ℕ → ℕ → Bool) (sessions : List (ScriptedMeaning C)) (leavers : List Leaver) : Type 0 where
