@@ -1,0 +1,5 @@
+pub mod Places
+pub mod Behind
+pub mod Gone
+pub mod Whole
+pub mod OnThreads

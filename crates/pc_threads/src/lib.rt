@@ -1,0 +1,15 @@
+//! The sessions of a workload, which go on threads: the first one alone until its opening is over, and then all of them beside each other.
+#![tactic(auto)]
+
+ghost use Rattle.pc_threads.specs.Laws.{ThreadsAreAsStated};
+
+mod lane;
+mod on_threads;
+
+pub use on_threads::go_on_threads;
+use pc_clock::Clock;
+
+/// A law: where all sessions went on threads, the history goes as a workload says that states no turns.
+pub fn threads_are_as_stated<C: Clock>()
+    ensures { ThreadsAreAsStated C }
+{}
