@@ -1,6 +1,6 @@
 #!/usr/bin/env bash
-# Checks the built program from outside: each example gives what stands beside it, which is a run with its report, and each way to fail ends with its status
-# and its line.
+# Checks the built program from outside: each example gives what stands beside it, which is a run with its report, and so is what one on threads gives; each way
+# to fail ends with its status and its line.
 # The last line counts: 'N passed, M failed'.
 set -u
 cd "$(dirname "$0")/.."
@@ -44,14 +44,16 @@ if [ ! -x "$binary" ]; then
 fi
 errors=$(mktemp)
 output=$(mktemp)
-trap 'rm -f "$errors" "$output"' EXIT
+journal=$(mktemp)
+trap 'rm -f "$errors" "$output" "$journal"' EXIT
 
 if command -v cmp >/dev/null; then
-    for workload in examples/*.json; do
-        if "$binary" run <"$workload" 2>/dev/null | cmp -s - "${workload%.json}.expected"; then
+    for expected in examples/*.expected; do
+        workload=${expected%.expected}.json
+        if "$binary" run <"$workload" 2>/dev/null | cmp -s - "$expected"; then
             pass
         else
-            fail "$workload gives another output than ${workload%.json}.expected"
+            fail "$workload gives another output than $expected"
         fi
     done
 fi
@@ -91,9 +93,22 @@ ends 'an input that is too long' 7 'pcommit: more than 16777216 bytes'
 call check < <(head -c 268435457 /dev/zero)
 ends 'a journal that is too long' 7 'pcommit: more than 268435456 bytes'
 
-for journal in examples/*.expected; do
+for expected in examples/*.expected; do
+    call check <"$expected"
+    judged "$expected" 0 ''
+done
+for run in 1 2 3 4 5; do
+    call run <examples/four-sessions-on-threads.json
+    ends "run $run on threads" 0 ''
+    cp "$output" "$journal"
     call check <"$journal"
-    judged "$journal" 0 ''
+    judged "run $run on threads, checked" 0 ''
+    sum=$(sed -n 's/^map .=//p' "$journal" | paste -sd+ | sed 's/+-/-/g')
+    if [ "$((sum))" -eq 40 ]; then
+        pass
+    else
+        fail "run $run on threads: the accounts hold $sum"
+    fi
 done
 call check < <(sed 's/^4 r0 eval s1 1 written 10.0$/4 r0 eval s1 1 written 10.1/' "$first.expected")
 judged 'a changed reply' 1 'pcommit: not a run: line 8, rule eval'

@@ -93,8 +93,9 @@ def statement(value, place):
     return 2 if kind == "add" else 1
 
 
-def learn(value, place, sessions):
+def learn(value, place, sessions, in_turns):
     members(value, place, ("learn",), ("learn",))
+    need(in_turns, place, "a learn stands only in a workload with turns")
     named = is_text(value["learn"]) and LEARNT.fullmatch(value["learn"])
     need(named and all(int(number) < 2**32 for number in named.groups()), f"{place}.learn",
          "it is a string of two numbers from 1 to 4294967295 with a point between, without leading zeros")
@@ -102,9 +103,9 @@ def learn(value, place, sessions):
     return 1
 
 
-def item(value, place, sessions):
+def item(value, place, sessions, in_turns):
     if isinstance(value, dict) and "learn" in value:
-        return learn(value, place, sessions)
+        return learn(value, place, sessions, in_turns)
     members(value, place, ("do", "priority", "end"), ("do",))
     need(value.get("priority", "normal") in ("low", "normal", "high"), f"{place}.priority", "it is low, normal or high")
     need(value.get("end", "commit") in ("commit", "rollback"), f"{place}.end", "it is commit or rollback")
@@ -112,24 +113,25 @@ def item(value, place, sessions):
     return 2 + sum(statement(one, f"{place}.do[{at}]") for at, one in enumerate(value["do"]))
 
 
-def session(value, place, sessions):
-    members(value, place, ("clock", "script"), ("clock", "script"))
-    members(value["clock"], f"{place}.clock", ("start", "step"), ("start", "step"))
-    for name in ("start", "step"):
-        number(value["clock"][name], f"{place}.clock.{name}")
+def session(value, place, sessions, in_turns):
+    members(value, place, ("clock", "script"), ("script",))
+    if "clock" in value:
+        members(value["clock"], f"{place}.clock", ("start", "step"), ("start", "step"))
+        for name in ("start", "step"):
+            number(value["clock"][name], f"{place}.clock.{name}")
     listed(value["script"], f"{place}.script")
-    return sum(item(one, f"{place}.script[{at}]", sessions) for at, one in enumerate(value["script"]))
+    return sum(item(one, f"{place}.script[{at}]", sessions, in_turns) for at, one in enumerate(value["script"]))
 
 
 def workload(value):
-    names = ("version", "pipelining", "turns", "sessions", "splits", "reruns", "opening")
-    members(value, "workload", names, ("version", "pipelining", "turns", "sessions"))
+    names = ("version", "pipelining", "turns", "sessions", "splits", "limit", "reruns", "opening")
+    members(value, "workload", names, ("version", "pipelining", "sessions"))
     number(value["version"], "version")
     need(value["version"] == 1, "version", "it is 1")
     need(value["pipelining"] is False, "pipelining", "it is false so far")
     listed(value["sessions"], "sessions")
     need(1 <= len(value["sessions"]) <= 64, "sessions", "there are 1 to 64")
-    counts = [session(one, f"sessions[{at}]", len(value["sessions"])) for at, one in enumerate(value["sessions"])]
+    counts = [session(one, f"sessions[{at}]", len(value["sessions"]), "turns" in value) for at, one in enumerate(value["sessions"])]
     need(sum(counts) <= 100_000, "sessions", "there are more than 100,000 statements")
     splits = value.get("splits", [])
     listed(splits, "splits")
@@ -137,11 +139,14 @@ def workload(value):
         key(one, f"splits[{at}]")
     need(len(splits) <= 15, "splits", "there are at most 15")
     need(all(one < other for one, other in zip(splits, splits[1:])), "splits", "each is above the one before")
+    number(value.get("limit", 1_000_000), "limit", 2**32 - 1)
+    need(value.get("limit", 64) >= 64, "limit", "it is at least 64")
     number(value.get("reruns", 8), "reruns", 64)
     number(value.get("opening", 0), "opening", len(value["sessions"][0]["script"]))
-    listed(value["turns"], "turns")
-    need(len(value["turns"]) <= 1_000_000, "turns", "there are at most 1,000,000")
-    for at, one in enumerate(value["turns"]):
+    stated = value.get("turns", [])
+    listed(stated, "turns")
+    need(len(stated) <= 1_000_000, "turns", "there are at most 1,000,000")
+    for at, one in enumerate(stated):
         named = is_text(one) and re.fullmatch(r"[sb]([1-9][0-9]*)", one)
         need(named and int(named[1]) <= len(value["sessions"]), f"turns[{at}]", f"`{one}` is no sN or bN of a session that is there")
 

@@ -6,7 +6,7 @@ use Rattle.pc_program.specs.declared.status.Status.{Status}
 use Rattle.pc_program.specs.declared.status.Status.TheVariants as statuses
 use Rattle.pc_program.specs.Causes.{HasWritten, HasWrittenOf, IfDone, IfRead, IfWriteFault, IsFront, IsWhole}
 use Rattle.pc_work.specs.declared.workload.Workload.{Workload}
-use Rattle.pc_work.specs.Workload.{workload_in}
+use Rattle.pc_work.specs.Workload.{accepted_in}
 
 of_all : (left : Option (List ℕ)) (bytes : List ℕ) (P : List ℕ → Type 0) → IsAllOf left bytes → P bytes → IfSome left P
 of_all None bytes P all p = tt
@@ -31,7 +31,7 @@ neither_long (Some there) Takes Long Told cause short untold = (λ told. absurd 
 
 module _ (rules : ActorId → ℕ → ℕ → Bool) (old new : Option (List ℕ)) where
   -- What was written of this workload was written of the one that the bytes state.
-  module _ (bytes : List ℕ) (work : Workload) (stated : workload_in bytes ≡ Some work) where
+  module _ (bytes : List ℕ) (work : Workload) (stated : accepted_in bytes ≡ Some work) where
     of_bytes : (Is : List ℕ → List ℕ → Type 0) → HasWrittenOf work rules old new Is → HasWritten rules (Some bytes) old new Is
     of_bytes Is h = record { work = work; stated = stated; appended = h }
 
@@ -60,7 +60,7 @@ module _ (rules : ActorId → ℕ → ℕ → Bool) (old new : Option (List ℕ)
   -- And so it was of the one that the source's bytes state, where the bytes are all of them.
   module _ (left : Option (List ℕ)) (bytes : List ℕ) (all : IsAllOf left bytes) where
     of_left : (Is : List ℕ → List ℕ → Type 0) → HasWritten rules (Some bytes) old new Is → HasWritten rules left old new Is
-    of_left Is h = record { work = h.work; stated = of_all left bytes (λ there. workload_in there ≡ Some h.work) all h.stated; appended = h.appended }
+    of_left Is h = record { work = h.work; stated = of_all left bytes (λ there. accepted_in there ≡ Some h.work) all h.stated; appended = h.appended }
 
     pub done_carried : (status : Status) → IfDone status (HasWritten rules (Some bytes) old new IsWhole) → IfDone status (HasWritten rules left old new IsWhole)
     done_carried statuses.Done h = of_left IsWhole h

@@ -1,6 +1,5 @@
 pub mod Ends
 pub mod ExactVerdicts
 pub mod Headline
-pub mod OneAlone
 pub mod PlainReport
 pub mod Accepted

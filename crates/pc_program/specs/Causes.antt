@@ -6,7 +6,7 @@ use Rattle.pc_program.specs.declared.status.Status.{Status}
 use Rattle.pc_program.specs.declared.status.Status.TheVariants as statuses
 use Rattle.pc_program.specs.Output.{IsOutput}
 use Rattle.pc_work.specs.declared.workload.Workload.{Workload}
-use Rattle.pc_work.specs.Workload.{workload_in}
+use Rattle.pc_work.specs.Workload.{accepted_in}
 
 -- The fact holds where the source was read to its end, and where the answer comes from what it gave.
 abbrev pub IfRead : Status → Type 0 → Type 0
@@ -137,7 +137,7 @@ pub record HasWrittenOf (work : Workload) (rules : ActorId → ℕ → ℕ → B
 -- tells them.
 pub record HasWritten (rules : ActorId → ℕ → ℕ → Bool) (left old new : Option (List ℕ)) (Is : List ℕ → List ℕ → Type 0) : Type 0 where
   pub work : Workload
-  pub stated : IfSome left (λ bytes. workload_in bytes ≡ Some work)
+  pub stated : IfSome left (λ bytes. accepted_in bytes ≡ Some work)
   pub appended : HasWrittenOf work rules old new Is
 
 -- The status is one that comes once the source was read to its end.

@@ -4,6 +4,5 @@ pub mod Causes
 pub mod Limits
 pub mod ModeRun
 pub mod ModeCheck
-pub mod OfOne
 pub mod PlainReport
 pub mod OutputsAreAccepted

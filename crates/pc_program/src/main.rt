@@ -23,8 +23,20 @@ use std::{env, io};
 pub use top::pcommit;
 
 fn main(rt: HostRuntime) -> ExitCode {
-    let status = told(&rt, call(&rt));
-    ExitCode::from(status.code())
+    let status = match words(&rt) {
+        Ok(words) => pcommit(
+            &rt,
+            rt.alloc(),
+            words.as_slice(),
+            &mut StdSource::new(rt.stdin()),
+            &mut StdSink::new(rt.stdout()),
+            &mut SystemClocks::new(&rt),
+            &NoGate,
+        ),
+        Err(error) if error.kind() == io::ErrorKind::OutOfMemory => Status::NoMemory,
+        Err(_) => Status::Usage,
+    };
+    ExitCode::from(told(&rt, status).code())
 }
 
 /// Prints the line of the status on standard error.
@@ -41,26 +53,6 @@ fn told(rt: &HostRuntime, status: Status) -> Status
         let _ = rt.eprintln(text);
     }
     status
-}
-
-/// How the program ends on the words, the streams and the clock of the system.
-fn call(rt: &HostRuntime) -> Status {
-    let words = match words(rt) {
-        Ok(words) => words,
-        Err(error) if error.kind() == io::ErrorKind::OutOfMemory => return Status::NoMemory,
-        Err(_) => return Status::Usage,
-    };
-    let mut source = StdSource::new(rt.stdin());
-    let mut sink = StdSink::new(rt.stdout());
-    let mut clocks = SystemClocks::new(rt);
-    pcommit(
-        rt.alloc(),
-        words.as_slice(),
-        &mut source,
-        &mut sink,
-        &mut clocks,
-        &NoGate,
-    )
 }
 
 /// The words behind the program's name.

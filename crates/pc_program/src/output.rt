@@ -3,8 +3,11 @@ ghost use Rattle.pc_journal.specs.Fits.{FitsKeys};
 ghost use Rattle.pc_journal.specs.FitsJournal.{FitsEntries};
 ghost use Rattle.pc_journal.specs.ToldRows.{AllTellBare};
 ghost use Rattle.pc_report.specs.Spelled.{FitsReport};
-ghost use Rattle.pc_work.specs.Built.{IsBuilt};
 ghost use Rattle.pc_program.specs.Output.{IsOutput, output_text};
+ghost use Rattle.pc_runs.specs.Follows.{FollowsWork};
+ghost use Rattle.pc_runs.specs.Runners.{head_in_work};
+ghost use Rattle.pc_work.specs.Accepted.{IsAccepted};
+ghost use Rattle.pc_world.specs.Run.{IsRun};
 
 use pc_base::{Entry, NoMemory};
 use pc_clock::Clocks;
@@ -12,23 +15,49 @@ use pc_journal::print_journal;
 use pc_proto::Event;
 use pc_range::Gate;
 use pc_report::{Report, print_report, report};
-use pc_runner::run_turns;
+use pc_runner::{run_threads, run_turns};
 use pc_work::Workload;
 use std::alloc::Global;
+use std::sync::Wait;
+use std::thread::Threads;
 
 /// Runs the workload, and makes the whole text of its journal and report.
-pub(crate) fn output<M: Clocks, G: Gate>(
+pub(crate) fn output<M: Clocks, G: Gate + Sync, R: Wait + Threads + Sync>(
+    rt: &R,
     alloc: Global,
     work: &Workload,
     clocks: &mut M,
     gate: &G,
 ) -> Result<Vec<u8>, NoMemory>
-    requires { IsBuilt work.now }
+where
+    M::Clock: Drop + Send,
+    requires { IsAccepted work.now }
     ensures { IfOk result (λ out. IsOutput work.now (M.rules clocks.old) out.items) }
 {
-    let entries = run_turns(alloc, work, clocks, gate)?;
+    let entries = history(rt, alloc, work, clocks, gate)?;
     let report = report(alloc, &work.splits, &entries)?;
     print_output(alloc, work, &entries, &report)
+}
+
+/// Runs the workload in the turns that it states, or else on threads.
+fn history<M: Clocks, G: Gate + Sync, R: Wait + Threads + Sync>(
+    rt: &R,
+    alloc: Global,
+    work: &Workload,
+    clocks: &mut M,
+    gate: &G,
+) -> Result<Vec<Entry<Event>>, NoMemory>
+where
+    M::Clock: Drop + Send,
+    requires { IsAccepted work.now }
+    ensures run { IfOk result (λ entries. IsRun (head_in_work work.now) entries.items) }
+    ensures follows { IfOk result (λ entries. FollowsWork work.now (M.rules clocks.old) (head_in_work work.now) entries.items) }
+{
+    if work.turns.is_some() {
+        run_turns(rt, alloc, work, clocks, gate)
+    } else {
+        run_threads(rt, alloc, work, clocks, gate)
+    }
 }
 
 fn print_output(
@@ -37,7 +66,7 @@ fn print_output(
     entries: &[Entry<Event>],
     report: &Report,
 ) -> Result<Vec<u8>, NoMemory>
-    requires { IsBuilt work.now }
+    requires { IsAccepted work.now }
     ensures text { IfOk result (λ out. out.items ≡ output_text work.now entries.now report.now) }
     ensures keys { OnOk result (FitsKeys work.now.splits) }
     ensures spelled { OnOk result (AllTellBare entries.now → FitsEntries entries.now) }

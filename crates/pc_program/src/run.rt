@@ -3,8 +3,8 @@ ghost use Rattle.std.specs.Io.KnownBytes.{Appends};
 ghost use Rattle.pc_base.specs.Counts.{saturating_next};
 ghost use Rattle.pc_io.specs.Reading.{HasNoneLeft, TakesAtMost, TakesExactly};
 ghost use Rattle.pc_program.specs.Causes.{HasBegunWriting, HasWritten, HasWrittenOf, IfDone, IfRead, IfRefused, IfWriteFault, IsAfterReading, IsFront, IsOfRun, IsWhole, UnlessWriteFault, UnlessWriting};
-ghost use Rattle.pc_work.specs.Built.{IsBuilt};
-ghost use Rattle.pc_work.specs.Workload.{IsJson, workload_in};
+ghost use Rattle.pc_work.specs.Accepted.{IsAccepted};
+ghost use Rattle.pc_work.specs.Workload.{IsJson, accepted_in};
 
 use crate::output::output;
 use crate::status::Status;
@@ -15,15 +15,20 @@ use pc_io::{ReadFault, Sink, Source, read_all, write_all};
 use pc_range::Gate;
 use pc_work::{WorkFault, Workload};
 use std::alloc::Global;
+use std::sync::Wait;
+use std::thread::Threads;
 
 /// Mode run: reads a workload from the source, runs it, and writes its journal and report to the sink.
-pub(crate) fn run_workload<S: Source, K: Sink, M: Clocks, G: Gate>(
+pub(crate) fn run_workload<S: Source, K: Sink, M: Clocks, G: Gate + Sync, R: Wait + Threads + Sync>(
+    rt: &R,
     alloc: Global,
     source: &mut S,
     sink: &mut K,
     clocks: &mut M,
     gate: &G,
 ) -> Status
+where
+    M::Clock: Drop + Send,
     // A fault is answered exactly where a call of the object that was handed in failed, and the first failure ends it.
     ensures read_fault { result ≡ Status.ReadFault → S.faults source.new ≡ saturating_next (S.faults source.old) }
     ensures read_count { ¬ (result ≡ Status.ReadFault) → S.faults source.new ≡ S.faults source.old }
@@ -41,9 +46,9 @@ pub(crate) fn run_workload<S: Source, K: Sink, M: Clocks, G: Gate>(
     ensures no_json { IfRead result (IfSome (S.left source.old) (λ bytes.
         (result ≡ Status.Workload 1) ↔ ¬ (IsJson bytes))) }
     ensures other_form { IfRead result (IfSome (S.left source.old) (λ bytes.
-        (result ≡ Status.Workload 10) ↔ (IsJson bytes × (workload_in bytes ≡ None)))) }
+        (result ≡ Status.Workload 10) ↔ (IsJson bytes × (accepted_in bytes ≡ None)))) }
     ensures accepted { IfRead result (IfSome (S.left source.old) (λ bytes.
-        HasBegunWriting result ↔ (IsJson bytes × IsSome (workload_in bytes)))) }
+        HasBegunWriting result ↔ (IsJson bytes × IsSome (accepted_in bytes)))) }
     ensures refused { IfRefused result (λ number. (number ≡ 1) ⊎ (number ≡ 10)) }
 
     // Done is the whole output behind what the sink had taken; a write fault is a part of it. Else nothing was written.
@@ -54,7 +59,7 @@ pub(crate) fn run_workload<S: Source, K: Sink, M: Clocks, G: Gate>(
     ensures kind { IsOfRun result }
 {
     match read_all(alloc, source, INPUT_BYTES) {
-        Ok(bytes) => run_bytes(alloc, &bytes, sink, clocks, gate),
+        Ok(bytes) => run_bytes(rt, alloc, &bytes, sink, clocks, gate),
         Err(ReadFault::Failed) => Status::ReadFault,
         Err(ReadFault::TooLong { bytes }) => Status::TooLong { bytes },
         Err(ReadFault::NoMemory) => Status::NoMemory,
@@ -62,16 +67,19 @@ pub(crate) fn run_workload<S: Source, K: Sink, M: Clocks, G: Gate>(
 }
 
 /// Runs the workload that the bytes state.
-fn run_bytes<K: Sink, M: Clocks, G: Gate>(
+fn run_bytes<K: Sink, M: Clocks, G: Gate + Sync, R: Wait + Threads + Sync>(
+    rt: &R,
     alloc: Global,
     bytes: &[u8],
     sink: &mut K,
     clocks: &mut M,
     gate: &G,
 ) -> Status
+where
+    M::Clock: Drop + Send,
     ensures no_json { IfRead result ((result ≡ Status.Workload 1) ↔ ¬ (IsJson bytes.now)) }
-    ensures other_form { IfRead result ((result ≡ Status.Workload 10) ↔ (IsJson bytes.now × (workload_in bytes.now ≡ None))) }
-    ensures accepted { IfRead result (HasBegunWriting result ↔ (IsJson bytes.now × IsSome (workload_in bytes.now))) }
+    ensures other_form { IfRead result ((result ≡ Status.Workload 10) ↔ (IsJson bytes.now × (accepted_in bytes.now ≡ None))) }
+    ensures accepted { IfRead result (HasBegunWriting result ↔ (IsJson bytes.now × IsSome (accepted_in bytes.now))) }
     ensures done { IfDone result (HasWritten (M.rules clocks.old) (Some bytes.now) (K.taken sink.old) (K.taken sink.new) IsWhole) }
     ensures part { IfWriteFault result (λ written. HasWritten (M.rules clocks.old) (Some bytes.now) (K.taken sink.old) (K.taken sink.new) (IsFront written)) }
     ensures write_fault { IfWriteFault result (λ written. K.faults sink.new ≡ saturating_next (K.faults sink.old)) }
@@ -80,22 +88,25 @@ fn run_bytes<K: Sink, M: Clocks, G: Gate>(
     ensures refused { IfRefused result (λ number. (number ≡ 1) ⊎ (number ≡ 10)) }
     ensures kind { IsAfterReading result }
 {
-    match Workload::read(alloc, bytes) {
-        Ok(work) => write_output(alloc, &work, sink, clocks, gate),
+    match Workload::read_accepted(alloc, bytes) {
+        Ok(work) => write_output(rt, alloc, &work, sink, clocks, gate),
         Err(WorkFault::Refused { number }) => Status::Workload { number },
         Err(WorkFault::NoMemory) => Status::NoMemory,
     }
 }
 
 /// Makes the whole output, and then writes it.
-fn write_output<K: Sink, M: Clocks, G: Gate>(
+fn write_output<K: Sink, M: Clocks, G: Gate + Sync, R: Wait + Threads + Sync>(
+    rt: &R,
     alloc: Global,
     work: &Workload,
     sink: &mut K,
     clocks: &mut M,
     gate: &G,
 ) -> Status
-    requires { IsBuilt work.now }
+where
+    M::Clock: Drop + Send,
+    requires { IsAccepted work.now }
     ensures done { IfDone result (HasWrittenOf work.now (M.rules clocks.old) (K.taken sink.old) (K.taken sink.new) IsWhole) }
     ensures part { IfWriteFault result (λ written. HasWrittenOf work.now (M.rules clocks.old) (K.taken sink.old) (K.taken sink.new) (IsFront written)) }
     ensures write_fault { IfWriteFault result (λ written. K.faults sink.new ≡ saturating_next (K.faults sink.old)) }
@@ -103,7 +114,7 @@ fn write_output<K: Sink, M: Clocks, G: Gate>(
     ensures unwritten { UnlessWriting result (sink.new ≡ sink.old) }
     ensures kind { (result ≡ Status.NoMemory) ⊎ HasBegunWriting result }
 {
-    match output(alloc, work, clocks, gate) {
+    match output(rt, alloc, work, clocks, gate) {
         Ok(out) => write_whole(sink, &out),
         Err(NoMemory) => Status::NoMemory,
     }

@@ -3,7 +3,9 @@ use pc_clock::Stepped;
 use pc_io::{MemSink, MemSource};
 use pc_vectors::{ROWS, Row};
 use std::alloc::Global;
+use std::sync::Wait;
 use std::test::Fail;
+use std::thread::Threads;
 
 /// The smallest workload that commits something.
 const ONE_PUT: &str =
@@ -28,7 +30,11 @@ const ALL_IS_WELL: Case<'static> = Case {
 };
 
 /// How the call ends, and what the sink took.
-fn ended(alloc: Global, case: &Case) -> Result<(Status, Vec<u8>), Fail> {
+fn ended<R: Wait + Threads + Sync>(
+    rt: &R,
+    alloc: Global,
+    case: &Case,
+) -> Result<(Status, Vec<u8>), Fail> {
     let mut words = Vec::new(alloc);
     for word in case.words {
         words.push(String::from_str(alloc, word)?)?;
@@ -40,6 +46,7 @@ fn ended(alloc: Global, case: &Case) -> Result<(Status, Vec<u8>), Fail> {
         .ok_or("memory")?;
     let mut clocks = Stepped::new(0, 0);
     let status = pcommit(
+        rt,
         alloc,
         words.as_slice(),
         &mut source,
@@ -61,7 +68,7 @@ fn put_of(alloc: Global, letters: usize) -> Result<String, Fail> {
 }
 
 /// Runs the row, and says whether it writes what it is to write.
-fn is_as_written(alloc: Global, row: &Row) -> Result<bool, Fail> {
+fn is_as_written<R: Wait + Threads + Sync>(rt: &R, alloc: Global, row: &Row) -> Result<bool, Fail> {
     let input = String::from_utf8(row.input.to_vec(alloc)?)
         .ok()
         .ok_or("text")?;
@@ -72,14 +79,14 @@ fn is_as_written(alloc: Global, row: &Row) -> Result<bool, Fail> {
         room: 65_536,
         failing_writes: &[],
     };
-    let (status, taken) = ended(alloc, &case)?;
+    let (status, taken) = ended(rt, alloc, &case)?;
     Ok(status == Status::Done && status.code() == 0 && taken.as_slice() == row.output)
 }
 
 #[test]
 fn each_worked_row_writes_its_journal_and_report(rt: HostRuntime) -> Result<(), Fail> {
     for row in ROWS.as_slice() {
-        assert!(rt; is_as_written(rt.alloc(), row)?, "{}", row.name);
+        assert!(rt; is_as_written(&rt, rt.alloc(), row)?, "{}", row.name);
     }
     Ok(())
 }
@@ -95,14 +102,18 @@ fn a_key_has_at_most_64_letters(rt: HostRuntime) -> Result<(), Fail> {
             room: 4096,
             failing_writes: &[],
         };
-        let (status, _) = ended(rt.alloc(), &case)?;
+        let (status, _) = ended(&rt, rt.alloc(), &case)?;
         assert_eq!(rt; status, wanted, "{letters} letters");
     }
     Ok(())
 }
 
 /// Whether these words end the call as no use, with nothing written.
-fn is_no_use<'a>(alloc: Global, words: &'a [&'a str]) -> Result<bool, Fail> {
+fn is_no_use<'a, R: Wait + Threads + Sync>(
+    rt: &R,
+    alloc: Global,
+    words: &'a [&'a str],
+) -> Result<bool, Fail> {
     let case = Case {
         words,
         input: ONE_PUT,
@@ -110,19 +121,19 @@ fn is_no_use<'a>(alloc: Global, words: &'a [&'a str]) -> Result<bool, Fail> {
         room: 4096,
         failing_writes: &[],
     };
-    let (status, taken) = ended(alloc, &case)?;
+    let (status, taken) = ended(rt, alloc, &case)?;
     Ok(status == Status::Usage && taken.is_empty() && status.code() == 2)
 }
 
 #[test]
 fn other_words_are_no_use(rt: HostRuntime) -> Result<(), Fail> {
     let none: [&str; 0] = [];
-    assert!(rt; is_no_use(rt.alloc(), &none)?);
-    assert!(rt; is_no_use(rt.alloc(), &["walk"])?);
-    assert!(rt; is_no_use(rt.alloc(), &["make"])?);
-    assert!(rt; is_no_use(rt.alloc(), &["--help"])?);
-    assert!(rt; is_no_use(rt.alloc(), &["run", "check"])?);
-    assert!(rt; is_no_use(rt.alloc(), &["check", "--number", "1"])?);
+    assert!(rt; is_no_use(&rt, rt.alloc(), &none)?);
+    assert!(rt; is_no_use(&rt, rt.alloc(), &["walk"])?);
+    assert!(rt; is_no_use(&rt, rt.alloc(), &["make"])?);
+    assert!(rt; is_no_use(&rt, rt.alloc(), &["--help"])?);
+    assert!(rt; is_no_use(&rt, rt.alloc(), &["run", "check"])?);
+    assert!(rt; is_no_use(&rt, rt.alloc(), &["check", "--number", "1"])?);
     Ok(())
 }
 
@@ -135,7 +146,7 @@ fn an_empty_input_is_no_json(rt: HostRuntime) -> Result<(), Fail> {
         room: 4096,
         failing_writes: &[],
     };
-    let (status, taken) = ended(rt.alloc(), &case)?;
+    let (status, taken) = ended(&rt, rt.alloc(), &case)?;
     assert_eq!(rt; status, Status::Workload { number: 1 });
     assert_eq!(rt; taken.len(), 0);
     let text = status.text(rt.alloc()).ok().ok_or("memory")?;
@@ -152,7 +163,7 @@ fn a_failing_read_is_told(rt: HostRuntime) -> Result<(), Fail> {
         room: 4096,
         failing_writes: &[],
     };
-    let (status, taken) = ended(rt.alloc(), &case)?;
+    let (status, taken) = ended(&rt, rt.alloc(), &case)?;
     assert_eq!(rt; status, Status::ReadFault);
     assert_eq!(rt; taken.len(), 0);
     Ok(())
@@ -169,7 +180,7 @@ fn a_failing_write_is_told_with_what_was_written(rt: HostRuntime) -> Result<(), 
             room,
             failing_writes: failing,
         };
-        let (status, taken) = ended(rt.alloc(), &case)?;
+        let (status, taken) = ended(&rt, rt.alloc(), &case)?;
         assert_eq!(rt; status, Status::WriteFault { written });
         assert_eq!(rt; taken.len(), written);
         assert!(rt; ROWS[1].output.starts_with(taken.as_slice()));
@@ -190,7 +201,7 @@ fn one_byte_more_than_the_limit_is_too_long(rt: HostRuntime) -> Result<(), Fail>
         room: 4096,
         failing_writes: &[],
     };
-    let (status, _) = ended(rt.alloc(), &case)?;
+    let (status, _) = ended(&rt, rt.alloc(), &case)?;
     assert_eq!(rt; status, Status::TooLong { bytes: 16_777_217 });
     let text = status.text(rt.alloc()).ok().ok_or("memory")?;
     assert_eq!(rt; text.as_str(), "pcommit: more than 16777216 bytes");
@@ -199,7 +210,12 @@ fn one_byte_more_than_the_limit_is_too_long(rt: HostRuntime) -> Result<(), Fail>
 }
 
 /// How mode check ends on this text, and what the sink took.
-fn checked(alloc: Global, text: &str, room: usize) -> Result<(Status, Vec<u8>), Fail> {
+fn checked<R: Wait + Threads + Sync>(
+    rt: &R,
+    alloc: Global,
+    text: &str,
+    room: usize,
+) -> Result<(Status, Vec<u8>), Fail> {
     let case = Case {
         words: &["check"],
         input: text,
@@ -207,29 +223,35 @@ fn checked(alloc: Global, text: &str, room: usize) -> Result<(Status, Vec<u8>), 
         room,
         failing_writes: &[],
     };
-    ended(alloc, &case)
+    ended(rt, alloc, &case)
 }
 
 /// Whether mode check says of what the row writes that it is a run with its report.
-fn is_accepted(alloc: Global, row: &Row) -> Result<bool, Fail> {
+fn is_accepted<R: Wait + Threads + Sync>(rt: &R, alloc: Global, row: &Row) -> Result<bool, Fail> {
     let text = String::from_utf8(row.output.to_vec(alloc)?)
         .ok()
         .ok_or("text")?;
-    let (status, taken) = checked(alloc, text.as_str(), 4096)?;
+    let (status, taken) = checked(rt, alloc, text.as_str(), 4096)?;
     Ok(status == Status::Done && taken.as_slice() == b"run\n".as_slice())
 }
 
 #[test]
 fn what_each_worked_row_writes_is_a_run_with_its_report(rt: HostRuntime) -> Result<(), Fail> {
     for row in ROWS.as_slice() {
-        assert!(rt; is_accepted(rt.alloc(), row)?, "{}", row.name);
+        assert!(rt; is_accepted(&rt, rt.alloc(), row)?, "{}", row.name);
     }
     Ok(())
 }
 
 /// Whether mode check ends so on this text, with this line and nothing written.
-fn ends_so(alloc: Global, text: &str, wanted: Status, line: &str) -> Result<bool, Fail> {
-    let (status, taken) = checked(alloc, text, 4096)?;
+fn ends_so<R: Wait + Threads + Sync>(
+    rt: &R,
+    alloc: Global,
+    text: &str,
+    wanted: Status,
+    line: &str,
+) -> Result<bool, Fail> {
+    let (status, taken) = checked(rt, alloc, text, 4096)?;
     let told = status.text(alloc).ok().ok_or("memory")?;
     Ok(status == wanted && told.as_str() == line && taken.is_empty())
 }
@@ -276,7 +298,7 @@ fn the_first_line_that_is_wrong_is_told(rt: HostRuntime) -> Result<(), Fail> {
         ),
     ];
     for (text, wanted, line) in cases {
-        assert!(rt; ends_so(rt.alloc(), text, wanted, line)?, "{line}");
+        assert!(rt; ends_so(&rt, rt.alloc(), text, wanted, line)?, "{line}");
     }
     Ok(())
 }
@@ -288,8 +310,31 @@ fn not_run(line: u64, rule: Rule) -> Status {
 #[test]
 fn no_run_is_told_where_its_line_is_not_written(rt: HostRuntime) -> Result<(), Fail> {
     let text = "journal 1\nranges 1\nactors 1 0\nreport\nend\n";
-    let (status, taken) = checked(rt.alloc(), text, 2)?;
+    let (status, taken) = checked(&rt, rt.alloc(), text, 2)?;
     assert_eq!(rt; status, Status::WriteFault { written: 2 });
     assert_eq!(rt; taken.as_slice(), b"ru".as_slice());
+    Ok(())
+}
+
+/// Two sessions that state no clock, and no turns.
+const ON_THREADS: &str =
+    r#"{"version":1,"pipelining":false,"sessions":[{"script":[{"do":[{"put":["a","x"]}]}]},{"script":[{"do":[{"put":["b","y"]}]}]}]}"#;
+
+#[test]
+fn what_a_run_on_threads_writes_is_a_run_with_its_report(rt: HostRuntime) -> Result<(), Fail> {
+    let case = Case {
+        words: &["run"],
+        input: ON_THREADS,
+        failing_reads: &[],
+        room: 65_536,
+        failing_writes: &[],
+    };
+    let (status, taken) = ended(&rt, rt.alloc(), &case)?;
+    assert_eq!(rt; status, Status::Done);
+    assert!(rt; taken.ends_with(b"map a=x\nmap b=y\nend\n".as_slice()));
+    let text = String::from_utf8(taken).ok().ok_or("text")?;
+    let (status, taken) = checked(&rt, rt.alloc(), text.as_str(), 4096)?;
+    assert_eq!(rt; status, Status::Done);
+    assert_eq!(rt; taken.as_slice(), b"run\n".as_slice());
     Ok(())
 }

@@ -18,13 +18,16 @@ use pc_io::{Sink, Source};
 use pc_range::Gate;
 use pc_words::{Mode, mode_of};
 use std::alloc::Global;
+use std::sync::Wait;
+use std::thread::Threads;
 
 /// The whole program, in the mode that its words ask for.
 ///
 /// Mode run reads a workload from the source, runs it, and writes its journal and report to the sink; mode check reads such an output, and
-/// writes the line `run` where it is a run with its report. The words are those behind the program's name. The clocks and the gate are not
-/// called yet: each session has a clock that the workload states.
-pub fn pcommit<S: Source, K: Sink, M: Clocks, G: Gate>(
+/// writes the line `run` where it is a run with its report. The words are those behind the program's name. A session whose clock the workload
+/// does not state reads the one that is handed in for it. The gate is asked before each evaluation.
+pub fn pcommit<S: Source, K: Sink, M: Clocks, G: Gate + Sync, R: Wait + Threads + Sync>(
+    rt: &R,
     alloc: Global,
     words: &[String],
     source: &mut S,
@@ -32,6 +35,8 @@ pub fn pcommit<S: Source, K: Sink, M: Clocks, G: Gate>(
     clocks: &mut M,
     gate: &G,
 ) -> Status
+where
+    M::Clock: Drop + Send,
     // Usage comes exactly where the words name no mode, unless memory ran out; nothing is read then.
     ensures usage { ¬ (result ≡ Status.NoMemory) → ((result ≡ Status.Usage) ↔ (mode_in (map string_bytes words.now) ≡ None)) }
     ensures usage_reads_nothing { mode_in (map string_bytes words.now) ≡ None → source.new ≡ source.old }
@@ -55,7 +60,7 @@ pub fn pcommit<S: Source, K: Sink, M: Clocks, G: Gate>(
     ensures unwritten { UnlessWriting result (sink.new ≡ sink.old) }
 {
     match mode_of(alloc, words) {
-        Ok(Some(Mode::Run)) => run_workload(alloc, source, sink, clocks, gate),
+        Ok(Some(Mode::Run)) => run_workload(rt, alloc, source, sink, clocks, gate),
         Ok(Some(Mode::Check)) => check_journal(alloc, source, sink),
         Ok(None) => Status::Usage,
         Err(NoMemory) => Status::NoMemory,

@@ -1,15 +1,3 @@
-pub mod Beside
-pub mod Commits
-pub mod Database
-pub mod Exchanging
-pub mod Following
-pub mod Follows
-pub mod History
-pub mod Journal
-pub mod Keeping
-pub mod Parts
-pub mod Progress
-pub mod Rounding
-pub mod Settling
-pub mod Traffic
-pub mod Turns
+-- What the sessions of a workload have left, and the run that is made of it.
+pub mod Leaving
+pub mod WorkRun

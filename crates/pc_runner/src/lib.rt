@@ -1,14 +1,7 @@
-//! Runs a workload in turns: the sessions' scripts against the ranges, in one order that the workload decides.
+//! Runs a workload: its sessions go through their scripts, in turns or on threads, over ranges of one history.
 #![tactic(auto)]
 
-mod commits;
-mod database;
-mod exchange;
-mod finish;
-mod journal;
-mod outbox;
-mod round;
-mod session;
-mod turns;
+mod leaving;
+mod run;
 
-pub use turns::run_turns;
+pub use run::{run_threads, run_turns};

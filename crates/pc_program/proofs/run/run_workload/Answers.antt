@@ -3,7 +3,7 @@ use Rattle.pc_io.specs.Reading.{IsAllOf, TakesExactly}
 use Rattle.pc_program.specs.declared.status.Status.TheVariants as statuses
 use Rattle.pc_program.specs.Causes.{HasBegunWriting, IsAfterReading}
 use Rattle.pc_program.proofs.Ends.{carried, done_carried, neither_long, part_carried}
-use Rattle.pc_work.specs.Workload.{IsJson, workload_in}
+use Rattle.pc_work.specs.Workload.{IsJson, accepted_in}
 use Rattle.pc_program.proofs.run.run_workload.Goals as goal
 
 pub returns-in-Ok-clause-too_long : goal.returns-in-Ok-clause-too_long
@@ -13,12 +13,12 @@ returns-in-Ok-clause-too_long g c =
 
 pub returns-in-Ok-clause-other_form : goal.returns-in-Ok-clause-other_form
 returns-in-Ok-clause-other_form g c =
-    carried c.run_bytes.result (g.S.Source.left c.args.source.now) c.deref.result.now (λ bytes. (c.run_bytes.result ≡ statuses.Workload 10) ↔ (IsJson bytes × (workload_in bytes ≡ None)))
+    carried c.run_bytes.result (g.S.Source.left c.args.source.now) c.deref.result.now (λ bytes. (c.run_bytes.result ≡ statuses.Workload 10) ↔ (IsJson bytes × (accepted_in bytes ≡ None)))
     (subst (IsAllOf (g.S.Source.left c.args.source.now)) (sym c.deref.ensures.value) c.in-Ok.ensures.ok) c.run_bytes.ensures.other_form
 
 pub returns-in-Ok-clause-accepted : goal.returns-in-Ok-clause-accepted
 returns-in-Ok-clause-accepted g c =
-    carried c.run_bytes.result (g.S.Source.left c.args.source.now) c.deref.result.now (λ bytes. HasBegunWriting c.run_bytes.result ↔ (IsJson bytes × IsSome (workload_in bytes)))
+    carried c.run_bytes.result (g.S.Source.left c.args.source.now) c.deref.result.now (λ bytes. HasBegunWriting c.run_bytes.result ↔ (IsJson bytes × IsSome (accepted_in bytes)))
     (subst (IsAllOf (g.S.Source.left c.args.source.now)) (sym c.deref.ensures.value) c.in-Ok.ensures.ok) c.run_bytes.ensures.accepted
 
 pub returns-in-Ok-clause-no_json : goal.returns-in-Ok-clause-no_json
