@@ -61,26 +61,51 @@ fn refused(coordinator: &mut Coordinator<'_>, number: u64, wall: u64) -> Result<
     answered(coordinator, number, &moved)
 }
 
-/// Where a transaction that wrote at 10.0 commits, and each commit finds its record moved by one more: at which timestamps eight of them go out, and
-/// to which the call is told then that it was moved.
-fn moved_eight_times(alloc: Global) -> Result<(Vec<Timestamp>, Option<Timestamp>), NoMemory> {
-    let splits: Keys = Items::new(alloc);
-    let mut coordinator = Coordinator::new(alloc, 1, 4, false, &splits);
-    write_proved(&mut coordinator, put(alloc)?)?;
-    coordinator.ask(Call::Commit, 12)?;
+/// At which timestamp a commit is to be sent, if that is due.
+fn commit_due(coordinator: &Coordinator<'_>) -> Result<Option<Timestamp>, NoMemory> {
+    let next = coordinator.next()?;
+    Ok(commit_in(&next))
+}
+
+/// To which timestamp the call is to be told that its commit was moved, if that is due.
+fn moved_due(coordinator: &Coordinator<'_>) -> Result<Option<Timestamp>, NoMemory> {
+    let next = coordinator.next()?;
+    Ok(moved_in(&next))
+}
+
+/// At which timestamps eight commits go out, each of which finds its record moved by one more.
+fn commits_of(
+    alloc: Global,
+    coordinator: &mut Coordinator<'_>,
+) -> Result<Vec<Timestamp>, NoMemory> {
     let mut commits = Vec::new(alloc);
     for refusal in 1..9 {
-        if let Some(ts) = commit_in(&coordinator.next()?) {
+        if let Some(ts) = commit_due(coordinator)? {
             commits.push(ts)?;
         }
-        refused(&mut coordinator, 1 + refusal, 10 + refusal)?;
+        refused(coordinator, 1 + refusal, 10 + refusal)?;
     }
-    Ok((commits, moved_in(&coordinator.next()?)))
+    Ok(commits)
+}
+
+/// Where a transaction that wrote at 10.0 commits: at which timestamps its commits go out, each of which finds its record moved, and to which
+/// the call is told behind the eighth that it was moved.
+fn moved_eight_times(
+    alloc: Global,
+    coordinator: &mut Coordinator<'_>,
+) -> Result<(Vec<Timestamp>, Option<Timestamp>), NoMemory> {
+    write_proved(coordinator, put(alloc)?)?;
+    coordinator.ask(Call::Commit, 12)?;
+    let commits = commits_of(alloc, coordinator)?;
+    let told = moved_due(coordinator)?;
+    Ok((commits, told))
 }
 
 #[test]
 fn a_commit_that_was_moved_eight_times_is_told_so(rt: HostRuntime) -> Result<(), Fail> {
-    let (commits, told) = moved_eight_times(rt.alloc())?;
+    let splits: Keys = Items::new(rt.alloc());
+    let mut coordinator = Coordinator::new(rt.alloc(), 1, 4, false, &splits);
+    let (commits, told) = moved_eight_times(rt.alloc(), &mut coordinator)?;
     assert!(rt; commits.iter().map(|ts| ts.wall).eq(10..18));
     assert_eq!(rt; told, Some(Timestamp::new(18, 0)));
     Ok(())

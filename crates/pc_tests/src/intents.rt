@@ -1,4 +1,4 @@
-use pc_base::{Key, Priority, Span, Timestamp, TxnId, Value};
+use pc_base::{Key, NoMemory, Priority, Span, Timestamp, TxnId, Value};
 use pc_intent::{Intents, last_seq, last_value, value_by};
 use pc_proto::TxnMeta;
 use std::alloc::Global;
@@ -16,8 +16,12 @@ const OTHER: TxnId = TxnId {
     number: 1,
 };
 
-fn meta(alloc: Global) -> Result<TxnMeta, Fail> {
-    let anchor = Key::new(alloc, b"a")?;
+fn key(alloc: Global) -> Result<Key, NoMemory> {
+    Key::new(alloc, b"a").ok().ok_or(NoMemory)
+}
+
+fn meta(alloc: Global) -> Result<TxnMeta, NoMemory> {
+    let anchor = key(alloc)?;
     Ok(TxnMeta {
         id: ONE,
         epoch: 1,
@@ -35,17 +39,16 @@ fn lay(
     seq: u32,
     ts: Timestamp,
     value: &[u8],
-) -> Result<(), Fail> {
+) -> Result<(), NoMemory> {
     let meta = meta(alloc)?;
-    let key = Key::new(alloc, b"a")?;
-    let value = Some(Value::new(alloc, value)?);
+    let key = key(alloc)?;
+    let value = Value::new(alloc, value).ok().ok_or(NoMemory)?;
     assert!(rt; intents.other_at(meta.id, &key).is_none());
-    intents.lay(meta, seq, ts, key, value)?;
-    Ok(())
+    intents.lay(meta, seq, ts, key, Some(value))
 }
 
 /// Two writes of the one transaction: `x` at 10, then `y` at 12.
-fn two_writes(rt: &impl Abort, alloc: Global) -> Result<Intents, Fail> {
+fn two_writes(rt: &impl Abort, alloc: Global) -> Result<Intents, NoMemory> {
     let mut intents = Intents::new(alloc);
     lay(rt, alloc, &mut intents, 1, Timestamp::new(10, 0), b"x")?;
     lay(rt, alloc, &mut intents, 2, Timestamp::new(12, 0), b"y")?;

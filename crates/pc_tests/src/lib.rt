@@ -6,7 +6,7 @@ mod accepted;
 #[cfg(test)]
 mod coordinator;
 #[cfg(test)]
-mod evaluation;
+mod full;
 #[cfg(test)]
 mod intents;
 #[cfg(test)]
@@ -19,8 +19,6 @@ mod push;
 mod records;
 #[cfg(test)]
 mod report;
-#[cfg(test)]
-mod resolve;
 #[cfg(test)]
 mod runs;
 #[cfg(test)]

@@ -18,7 +18,7 @@ fn with(alloc: Global, members: &str) -> Result<String, Fail> {
 #[test]
 fn what_is_absent_is_at_its_default(rt: HostRuntime) -> Result<(), Fail> {
     let text = with(rt.alloc(), "\"turns\":[]")?;
-    let work = Workload::read(rt.alloc(), text.as_bytes())?;
+    let work = Workload::read_accepted(rt.alloc(), text.as_bytes())?;
     assert_eq!(rt; (work.version, work.pipelining), (1, false));
     assert_eq!(rt;
         (work.limit, work.tries, work.reruns, work.opening),
@@ -32,7 +32,7 @@ fn what_is_absent_is_at_its_default(rt: HostRuntime) -> Result<(), Fail> {
 fn what_is_stated_is_read(rt: HostRuntime) -> Result<(), Fail> {
     let members = "\"splits\":[\"g\",\"m\"],\"reruns\":64,\"opening\":1,\"turns\":[\"s2\",\"b1\"]";
     let text = with(rt.alloc(), members)?;
-    let work = Workload::read(rt.alloc(), text.as_bytes())?;
+    let work = Workload::read_accepted(rt.alloc(), text.as_bytes())?;
     assert_eq!(rt; (work.splits.len(), work.reruns, work.opening), (2, 64, 1));
     let turns = work.turns.as_ref().ok_or("turns")?;
     assert_eq!(rt;
@@ -58,9 +58,12 @@ fn members_have_their_limits(rt: HostRuntime) -> Result<(), Fail> {
         ("\"turns\":[\"s01\"]", 10),
         ("\"turns\":\"s1\"", 10),
         ("\"turns\":null", 10),
-        ("\"splits\":[]", 10),
+        ("\"splits\":[]", 0),
         ("\"turns\":[],\"tries\":4", 10),
-        ("\"turns\":[],\"limit\":64", 10),
+        ("\"turns\":[],\"limit\":63", 10),
+        ("\"turns\":[],\"limit\":64", 0),
+        ("\"turns\":[],\"limit\":4294967295", 0),
+        ("\"turns\":[],\"limit\":4294967296", 10),
         ("\"turns\":[],\"recoverers\":[]", 10),
         ("\"turns\":[],\"pipelining\":true", 10),
         ("\"turns\":[],\"version\":2", 10),

@@ -1,8 +1,9 @@
+//! What a round does that met a staging record: no session stages yet, so no run shows it.
 ghost use Rattle.std.specs.Prelude.{◌≡◌, true, IfOk};
 ghost use Rattle.pc_proto.specs.Replies.{is_conflict};
 
-use pc_base::{Items, Key, Priority, Timestamp, TxnId, Who};
-use pc_proto::{Fate, Goal, Keys, MachineNext, Reply, Request, TxnMeta, View, Why, Writes};
+use pc_base::{Items, Key, NoMemory, Priority, Timestamp, TxnId, Who};
+use pc_proto::{Fate, Keys, MachineNext, Reply, Request, TxnMeta, View, Writes};
 use pc_push::PushMachine;
 use std::alloc::Global;
 use std::test::Fail;
@@ -17,11 +18,6 @@ const PUSHER: Who = Who::Txn(TxnId {
     number: 1,
 });
 
-const ASKED: Timestamp = Timestamp {
-    wall: 20,
-    logical: 0,
-};
-
 const TARGET: Timestamp = Timestamp {
     wall: 20,
     logical: 1,
@@ -32,11 +28,11 @@ const STAGED: Timestamp = Timestamp {
     logical: 0,
 };
 
-fn key(alloc: Global) -> Result<Key, Fail> {
-    Ok(Key::new(alloc, b"a")?)
+fn key(alloc: Global) -> Result<Key, NoMemory> {
+    Key::new(alloc, b"a").ok().ok_or(NoMemory)
 }
 
-fn holder(alloc: Global) -> Result<TxnMeta, Fail> {
+fn holder(alloc: Global) -> Result<TxnMeta, NoMemory> {
     let anchor = key(alloc)?;
     Ok(TxnMeta {
         id: HOLDER,
@@ -47,17 +43,7 @@ fn holder(alloc: Global) -> Result<TxnMeta, Fail> {
     })
 }
 
-fn writer(alloc: Global, level: Priority, now: u64) -> Result<PushMachine, Fail> {
-    let conflict = conflict(alloc)?;
-    Ok(PushMachine::new(conflict, PUSHER, level, now, None))
-}
-
-fn reader(alloc: Global) -> Result<PushMachine, Fail> {
-    let conflict = conflict(alloc)?;
-    Ok(PushMachine::new(conflict, PUSHER, Priority::High, 20, Some(ASKED)))
-}
-
-fn conflict(alloc: Global) -> Result<Reply, Fail>
+fn conflict(alloc: Global) -> Result<Reply, NoMemory>
     ensures { IfOk result (λ reply. is_conflict reply ≡ true) }
 {
     let holder = holder(alloc)?;
@@ -69,25 +55,13 @@ fn conflict(alloc: Global) -> Result<Reply, Fail>
     })
 }
 
-fn push(alloc: Global, level: Priority, now: u64, goal: Goal) -> Result<MachineNext, Fail> {
-    Ok(MachineNext::Send(Request::Push {
-        holder: holder(alloc)?,
-        by: PUSHER,
-        level,
-        now,
-        goal,
-    }))
+/// The round of a writer that pushes.
+fn writer(alloc: Global) -> Result<PushMachine, NoMemory> {
+    let conflict = conflict(alloc)?;
+    Ok(PushMachine::new(conflict, PUSHER, Priority::High, 20, None))
 }
 
-fn resolve(alloc: Global, fate: Fate) -> Result<MachineNext, Fail> {
-    Ok(MachineNext::Send(Request::Resolve {
-        id: HOLDER,
-        key: key(alloc)?,
-        fate,
-    }))
-}
-
-fn staging(alloc: Global) -> Result<View, Fail> {
+fn staging(alloc: Global) -> Result<View, NoMemory> {
     let mut writes: Writes = Items::new(alloc);
     writes.add((key(alloc)?, 1))?;
     Ok(View::Staging {
@@ -97,7 +71,7 @@ fn staging(alloc: Global) -> Result<View, Fail> {
     })
 }
 
-fn committed(alloc: Global) -> Result<View, Fail> {
+fn committed(alloc: Global) -> Result<View, NoMemory> {
     let mut locks: Keys = Items::new(alloc);
     locks.add(key(alloc)?)?;
     Ok(View::Committed {
@@ -107,118 +81,66 @@ fn committed(alloc: Global) -> Result<View, Fail> {
     })
 }
 
-fn gives(machine: &PushMachine, wanted: Result<MachineNext, Fail>) -> Result<bool, Fail> {
-    let wanted = wanted?;
-    let next = machine.next()?;
-    Ok(next == wanted)
+fn resolve(alloc: Global, fate: Fate) -> Result<MachineNext, NoMemory> {
+    Ok(MachineNext::Send(Request::Resolve {
+        id: HOLDER,
+        key: key(alloc)?,
+        fate,
+    }))
 }
 
-fn hear(machine: &mut PushMachine, reply: Reply) -> Result<(), Fail> {
-    machine.heard(&reply)?;
-    Ok(())
-}
-
-fn hear_view(machine: &mut PushMachine, view: Result<View, Fail>) -> Result<(), Fail> {
-    hear(machine, Reply::Status(view?))
-}
-
-fn moved() -> View {
-    View::Pending {
-        epoch: 0,
-        ts: TARGET,
+/// Whether this is due.
+fn gives(machine: &PushMachine, wanted: &MachineNext) -> bool {
+    match machine.next() {
+        Ok(next) => next == *wanted,
+        Err(NoMemory) => false,
     }
 }
 
-fn aborted(alloc: Global) -> View {
-    View::Aborted {
-        epoch: 0,
-        why: Why::Pushed { by: PUSHER },
-        locks: Items::new(alloc),
-    }
+/// The push is answered with a staging record, which is then shown.
+fn meets_staging(machine: &mut PushMachine, alloc: Global) -> Result<bool, NoMemory> {
+    let met = Reply::Unsure(staging(alloc)?);
+    machine.heard(&met)?;
+    let shown = MachineNext::Settled(staging(alloc)?);
+    Ok(gives(machine, &shown))
 }
 
-fn reads_on(machine: &mut PushMachine, alloc: Global) -> Result<bool, Fail> {
-    let pushed = gives(machine, push(alloc, Priority::High, 20, Goal::Move(TARGET)))?;
-    hear_view(machine, Ok(moved()))?;
-    let settled = gives(machine, resolve(alloc, Fate::Pending { ts: TARGET }))?;
-    hear(machine, Reply::Resolved)?;
-    let over = gives(machine, Ok(MachineNext::Finished))?;
-    Ok(pushed && settled && over)
+/// The recovery is answered with this view, and then this is due.
+fn goes_on(machine: &mut PushMachine, view: View, wanted: &MachineNext) -> Result<bool, NoMemory> {
+    machine.heard(&Reply::Status(view))?;
+    Ok(gives(machine, wanted))
 }
 
-#[test]
-fn a_reader_moves_the_holder_past_its_read(rt: HostRuntime) -> Result<(), Fail> {
-    let mut machine = reader(rt.alloc())?;
-    assert!(rt; reads_on(&mut machine, rt.alloc())?);
-    Ok(())
-}
-
-fn writes_on(machine: &mut PushMachine, alloc: Global) -> Result<bool, Fail> {
-    let pushed = gives(machine, push(alloc, Priority::High, 20, Goal::Abort))?;
-    hear_view(machine, Ok(aborted(alloc)))?;
-    let settled = gives(machine, resolve(alloc, Fate::Aborted))?;
-    Ok(pushed && settled)
-}
-
-#[test]
-fn a_writer_aborts_the_holder(rt: HostRuntime) -> Result<(), Fail> {
-    let mut machine = writer(rt.alloc(), Priority::High, 20)?;
-    assert!(rt; writes_on(&mut machine, rt.alloc())?);
-    Ok(())
-}
-
-fn gives_up(machine: &mut PushMachine, alloc: Global) -> Result<bool, Fail> {
-    let pushed = gives(
-        machine,
-        push(alloc, Priority::Normal, 5_000_000_010, Goal::Abort),
-    )?;
-    hear(machine, Reply::Refused(View::Nothing))?;
-    let refused = gives(machine, Ok(MachineNext::Refused(HOLDER)))?;
-    Ok(pushed && refused)
-}
-
-#[test]
-fn a_push_that_does_not_win_is_refused(rt: HostRuntime) -> Result<(), Fail> {
-    let mut machine = writer(rt.alloc(), Priority::Normal, 5_000_000_010)?;
-    assert!(rt; gives_up(&mut machine, rt.alloc())?);
-    Ok(())
-}
-
-fn meets_staging(machine: &mut PushMachine, alloc: Global) -> Result<bool, Fail> {
-    let met = staging(alloc)?;
-    hear(machine, Reply::Unsure(met))?;
-    let shown = staging(alloc)?;
-    gives(machine, Ok(MachineNext::Settled(shown)))
-}
-
-fn follows_the_recovery(machine: &mut PushMachine, alloc: Global) -> Result<bool, Fail> {
-    let met = meets_staging(machine, alloc)?;
-    hear_view(machine, committed(alloc))?;
+fn follows_the_recovery(machine: &mut PushMachine, alloc: Global) -> Result<bool, NoMemory> {
+    let view = committed(alloc)?;
     let fate = Fate::Committed {
         epoch: 0,
         ts: STAGED,
     };
-    let settled = gives(machine, resolve(alloc, fate))?;
-    Ok(met && settled)
+    let wanted = resolve(alloc, fate)?;
+    goes_on(machine, view, &wanted)
 }
 
 #[test]
 fn a_staging_holder_is_settled_as_it_was_recovered(rt: HostRuntime) -> Result<(), Fail> {
-    let mut machine = writer(rt.alloc(), Priority::High, 20)?;
+    let mut machine = writer(rt.alloc())?;
+    assert!(rt; meets_staging(&mut machine, rt.alloc())?);
     assert!(rt; follows_the_recovery(&mut machine, rt.alloc())?);
     Ok(())
 }
 
-fn leaves_the_holder(machine: &mut PushMachine, alloc: Global) -> Result<bool, Fail> {
-    let met = meets_staging(machine, alloc)?;
-    hear_view(machine, Ok(moved()))?;
-    let over = gives(machine, Ok(MachineNext::Finished))?;
-    Ok(met && over)
+fn leaves_the_holder(machine: &mut PushMachine) -> Result<bool, NoMemory> {
+    let moved = View::Pending {
+        epoch: 0,
+        ts: TARGET,
+    };
+    goes_on(machine, moved, &MachineNext::Finished)
 }
 
 #[test]
 fn a_holder_that_moved_on_is_left(rt: HostRuntime) -> Result<(), Fail> {
-    let mut machine = writer(rt.alloc(), Priority::High, 20)?;
-    assert!(rt; leaves_the_holder(&mut machine, rt.alloc())?);
+    let mut machine = writer(rt.alloc())?;
+    assert!(rt; meets_staging(&mut machine, rt.alloc())?);
+    assert!(rt; leaves_the_holder(&mut machine)?);
     Ok(())
 }

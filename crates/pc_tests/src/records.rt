@@ -1,4 +1,4 @@
-use pc_base::{Items, Key, Priority, Timestamp, TxnId};
+use pc_base::{Items, Key, NoMemory, Priority, Timestamp, TxnId};
 use pc_proto::{Reply, Request, TxnMeta, View};
 use pc_record::RecordTable;
 use std::alloc::Global;
@@ -9,8 +9,8 @@ const ID: TxnId = TxnId {
     number: 1,
 };
 
-fn meta(alloc: Global) -> Result<TxnMeta, Fail> {
-    let anchor = Key::new(alloc, b"a")?;
+fn meta(alloc: Global) -> Result<TxnMeta, NoMemory> {
+    let anchor = Key::new(alloc, b"a").ok().ok_or(NoMemory)?;
     Ok(TxnMeta {
         id: ID,
         epoch: 1,

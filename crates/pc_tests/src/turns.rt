@@ -1,9 +1,10 @@
 //! In which order the sessions of a workload go on.
 
 use crate::runs::entries_of;
-use pc_base::{ActorId, Entry};
+use pc_base::{ActorId, Entry, NoMemory};
 use pc_proto::Event;
 use std::alloc::Global;
+use std::sync::Wait;
 use std::test::Fail;
 
 /// Two sessions, each of which puts a key of its own and commits; in the turns that are stated they stop before their ends.
@@ -19,11 +20,10 @@ fn acts(entry: &Entry<Event>, asks: bool) -> Option<u32> {
     }
 }
 
-/// Whose calls are asked, or whose messages are sent, in order, where these two sessions run.
-fn order(alloc: Global, asks: bool) -> Result<Vec<u32>, Fail> {
-    let entries = entries_of(alloc, TWO)?;
+/// Whose calls are asked, or whose messages are sent, in order.
+fn order_in(alloc: Global, entries: &[Entry<Event>], asks: bool) -> Result<Vec<u32>, NoMemory> {
     let mut sessions = Vec::new(alloc);
-    for entry in entries.as_slice() {
+    for entry in entries {
         if let Some(number) = acts(entry, asks) {
             sessions.push(number)?;
         }
@@ -31,9 +31,15 @@ fn order(alloc: Global, asks: bool) -> Result<Vec<u32>, Fail> {
     Ok(sessions)
 }
 
+/// The order where these two sessions run.
+fn order<R: Wait>(rt: &R, alloc: Global, asks: bool) -> Option<Vec<u32>> {
+    let entries = entries_of(rt, alloc, TWO)?;
+    order_in(alloc, &entries, asks).ok()
+}
+
 #[test]
 fn calls_come_in_the_turns_and_then_session_by_session(rt: HostRuntime) -> Result<(), Fail> {
-    let asks = order(rt.alloc(), true)?;
+    let asks = order(&rt, rt.alloc(), true).ok_or("a run")?;
     assert_eq!(rt; asks.as_slice(), [1, 2, 2, 1, 1, 2].as_slice());
     Ok(())
 }
@@ -41,7 +47,7 @@ fn calls_come_in_the_turns_and_then_session_by_session(rt: HostRuntime) -> Resul
 /// In the stated turns each session begins and puts, and no job waits yet; then each commits, and does its job right behind that.
 #[test]
 fn what_is_over_is_finished_before_the_next_call(rt: HostRuntime) -> Result<(), Fail> {
-    let sends = order(rt.alloc(), false)?;
+    let sends = order(&rt, rt.alloc(), false).ok_or("a run")?;
     assert_eq!(rt; sends.as_slice(), [2, 1, 1, 1, 1, 2, 2, 2].as_slice());
     Ok(())
 }

@@ -10,7 +10,7 @@ pub const ONE_PUT: &str =
 
 /// The number of the refusal, or 0 where the bytes are a workload.
 pub fn number_of(alloc: Global, bytes: &[u8]) -> Result<u8, WorkFault> {
-    match Workload::read(alloc, bytes) {
+    match Workload::read_accepted(alloc, bytes) {
         Ok(_work) => Ok(0),
         Err(WorkFault::Refused { number }) => Ok(number),
         Err(WorkFault::NoMemory) => Err(WorkFault::NoMemory),
