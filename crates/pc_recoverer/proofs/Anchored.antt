@@ -1,0 +1,62 @@
+-- The anchor under which a transaction was first heard of is the one of each meta of it.
+use Rattle.std.proofs.Common.{◌≡◌, ℕ, true, ◌&&◌, List, Contains, Some, refl, sym, ap, ◌∙◌, subst}
+use Rattle.std.proofs.lemmas.Bool.{and_parts}
+use Rattle.std.specs.Option.{option_and_then}
+use Rattle.std.specs.Prelude.{is_some}
+use Rattle.pc_base.specs.declared.transaction.TxnId.{TxnId}
+use Rattle.pc_desk.specs.OwnLog.{IsOwnLog, LogMeaning}
+use Rattle.pc_exchange.proofs.HeardKinds.{history_of, is_run, known_there}
+use Rattle.pc_implicit.proofs.Hearing.{IsSo, heard_is_so}
+use Rattle.pc_implicit.proofs.MetaRows.{RequestHas}
+use Rattle.pc_implicit.proofs.Metas.{EventHas, HasAnchor, metas_agree, subject-has}
+use Rattle.pc_implicit.proofs.Shown.{WasAnswered}
+use Rattle.pc_implicit.proofs.Views.{subject-is}
+use Rattle.pc_lists.proofs.Each.{each-contains}
+use Rattle.pc_lists.proofs.Lists.{find_some}
+use Rattle.pc_proto.specs.declared.request.Request.{Request}
+use Rattle.pc_proto.specs.declared.request.Request.TheVariants as requests
+use Rattle.pc_proto.specs.Replies.{view_in}
+use Rattle.pc_proto.specs.Requests.{is_about, subject, subject_anchor}
+use Rattle.pc_world.specs.After.{known_at}
+use Rattle.pc_world.specs.Committed.{anchor_in}
+use Rattle.pc_world.specs.Known.{Known, known_of}
+use Rattle.pc_world.specs.Known.Traffic.{Heard}
+use Rattle.pc_world.specs.RangeOf.{GoesTo}
+use Rattle.pc_world.specs.Views.{anchor_heard, shows_view}
+
+-- a request to a record names an anchor
+anchor-named : (request : Request) (id : TxnId) → subject request ≡ Some id → (anchor : List ℕ) × (subject_anchor request ≡ Some anchor)
+anchor-named (requests.Beat meta ts now) id is = (meta.anchor, refl)
+anchor-named (requests.Stage meta ts now writes locks) id is = (meta.anchor, refl)
+anchor-named (requests.Commit meta ts locks) id is = (meta.anchor, refl)
+anchor-named (requests.Abort meta why locks) id is = (meta.anchor, refl)
+anchor-named (requests.Push holder by level now goal) id is = (holder.anchor, refl)
+anchor-named (requests.Recover other epoch ts anchor finding) id is = (anchor, refl)
+anchor-named (requests.Remove other anchor) id is = (anchor, refl)
+anchor-named request id is = absurd cc
+
+module _ {C : Type 0} (l : LogMeaning C) (log : IsOwnLog l) where
+  was-answered : (h : Heard) → Contains (known_of l.part.own).heard h → WasAnswered l.head (history_of l log) l.part.id h.number h.request h.reply
+  was-answered h there =
+      each-contains (IsSo l.head (history_of l log) l.part.id) (known_at l.head l.part.id (history_of l log)).heard h (heard_is_so l.head (history_of l log) (is_run l log) l.part.id)
+      (subst (λ (k : Known). Contains k.heard h) (sym (known_there l log)) there)
+
+  -- what a request to a record names is its transaction's anchor
+  anchor-so : (h : Heard) → Contains (known_of l.part.own).heard h → (id : TxnId) (anchor : List ℕ) → subject h.request ≡ Some id → subject_anchor h.request ≡ Some anchor → anchor_in id (history_of l log) ≡ Some anchor
+  anchor-so h there id anchor who named =
+      let w = was-answered h there in
+      let has : GoesTo l.head.splits h.request w.range × RequestHas (HasAnchor (history_of l log)) h.request =
+      subst (EventHas l.head (history_of l log)) w.sends ((metas_agree l.head (history_of l log) (is_run l log)).entries w.send w.listed) in
+      subject-has (HasAnchor (history_of l log)) h.request id anchor has.1 who named
+
+  -- so where a view of the transaction was heard to such a request, that anchor is the one that was heard first
+  pub anchor_is : (h : Heard) → Contains (known_of l.part.own).heard h → (id : TxnId) (anchor : List ℕ) → is_about id h.request ≡ true → is_some (view_in h.reply) ≡ true → subject_anchor h.request ≡ Some anchor
+      → anchor_heard id (known_of l.part.own).heard ≡ Some anchor
+  anchor_is h there id anchor about shows named =
+      let (g, found, inside, is) = find_some (shows_view id) (known_of l.part.own).heard h there (ap (λ b. b && is_some (view_in h.reply)) about ∙ ap (λ b. true && b) shows) in
+      let parts = and_parts (is_about id g.request) (is_some (view_in g.reply)) is in
+      let who = subject-is id (subject g.request) parts.0 in
+      let (other, at) = anchor-named g.request id who in
+      let one : anchor_in id (history_of l log) ≡ Some other = anchor-so g inside id other who at in
+      let two : anchor_in id (history_of l log) ≡ Some anchor = anchor-so h there id anchor (subject-is id (subject h.request) about) named in
+      ap (option_and_then (λ (g : Heard). subject_anchor g.request)) found ∙ (at ∙ (sym one ∙ two))

@@ -1,0 +1,163 @@
+-- What a recoverer does for a transaction that a range listed.
+use Rattle.std.proofs.Common.{◌≡◌, ◌+◌, ◌≤◌, true, All, Any, Contains, List, [], ◌∷◌, ◌++◌, Some, refl, sym, ap, ◌∙◌, subst, arith}
+use Rattle.std.proofs.lemmas.List.Elements.{All-head, All-nil, All-weaker, Contains-push}
+use Rattle.std.specs.Prelude.{is_some}
+use Rattle.pc_desk.specs.declared.halt.Halt.{Halt}
+use Rattle.pc_desk.specs.Desk.{DeskMeaning, MaySendNow}
+use Rattle.pc_exchange.specs.Ending.{BreaksOff}
+use Rattle.pc_exchange.specs.Exchange.{WasExchanged}
+use Rattle.pc_lists.proofs.Anywhere.{any_last}
+use Rattle.pc_lists.proofs.Same.{same_txn-self}
+use Rattle.pc_proto.specs.declared.fate.Goal.TheVariants as goals
+use Rattle.pc_proto.specs.declared.meta.TxnMeta.{TxnMeta}
+use Rattle.pc_proto.specs.declared.reply.Reply.{Reply}
+use Rattle.pc_proto.specs.declared.reply.Reply.TheVariants as replies
+use Rattle.pc_proto.specs.declared.view.View.{View}
+use Rattle.pc_proto.specs.declared.view.View.TheVariants as views
+use Rattle.pc_proto.specs.Replies.{view_in}
+use Rattle.pc_proto.specs.Requests.{is_about}
+use Rattle.pc_proto.specs.Stamps.{reply_stamps, view_stamps}
+use Rattle.pc_recoverer.proofs.Anchored.{anchor_is}
+use Rattle.pc_recoverer.proofs.Settling.{may_send_now}
+use Rattle.pc_recoverer.proofs.Traffic.{heard_is, heard_of, made_both, made_none, made_one, message_of, still_making, traffic_breaks, was_answered}
+use Rattle.pc_recoverer.specs.declared.maker.RoundMaker.{RoundMaker}
+use Rattle.pc_recoverer.specs.Exchanges.{RoundMessage}
+use Rattle.pc_recoverer.specs.InRound.{HasDealtWith, HasMadeTraffic, HasRecovered, HasSettled, IsMakingRound, MayPushNow, MayRecoverNow, MaySettleNow, WasShown}
+use Rattle.pc_recoverer.specs.Recovered.{name_of}
+use Rattle.pc_recoverer.specs.Round.{FollowsPush, listed_push}
+use Rattle.pc_turns.specs.Order.{IsInBetween}
+use Rattle.pc_world.proofs.Exchange.{answered}
+use Rattle.pc_world.proofs.RoundReplies.{IsStagingView, push_answers}
+use Rattle.pc_world.specs.Exchange.{IsPossibleReply}
+use Rattle.pc_world.specs.Known.{Known, call_in, known_of, reading_in}
+use Rattle.pc_world.specs.Known.Traffic.{Heard}
+use Rattle.pc_world.specs.Send.Recovery.{MetStaging}
+use Rattle.pc_world.specs.Views.{anchor_heard}
+
+-- the listed transaction may be pushed
+pub may_push : {C : Type 0} (maker : RoundMaker) (d : DeskMeaning C) (meta : TxnMeta) → MayPushNow maker d meta → MaySendNow d.log (listed_push maker meta)
+may_push maker d meta may =
+    may_send_now d maker (listed_push maker meta) may.in_round (record {
+      row = record {
+        asked = ap call_in may.in_round.opened;
+        was_listed = may.listed;
+        whose = refl;
+        to_abort = refl;
+        read_now = ap reading_in may.in_round.opened;
+      };
+      stamps = All-nil (λ ts. ts ≤ (known_of d.log.part.own).top + 1);
+    }) tt tt
+
+follows-none : (maker : RoundMaker) (meta : TxnMeta) (told : Reply) → ((view : View) → told ≡ replies.Status view → ⊥) → ((view : View) → told ≡ replies.Unsure view → ⊥) → FollowsPush maker meta told []
+follows-none maker meta (replies.Status view) none unsure = absurd (none view refl)
+follows-none maker meta (replies.Unsure view) none unsure = absurd (unsure view refl)
+follows-none maker meta told none unsure = refl
+
+module _ {C : Type 0} (maker : RoundMaker) (old : DeskMeaning C) (meta : TxnMeta) (may : MayPushNow maker old meta) (d : DeskMeaning C) (told : Reply) (x : WasExchanged old d (listed_push maker meta) told) where
+  -- The push, as it was answered.
+  abbrev push_of : RoundMessage
+  push_of = message_of old d (listed_push maker meta) told may.in_round.back x
+
+  abbrev heard : Heard
+  heard = heard_of old d (listed_push maker meta) told may.in_round.back x
+
+  abbrev k : Known
+  k = known_of d.log.part.own
+
+  making : IsMakingRound maker d
+  making = still_making old d (listed_push maker meta) told may.in_round.back x maker may.in_round
+
+  there : Contains k.heard heard
+  there = subst (λ l. Contains l heard) (sym (heard_is old d (listed_push maker meta) told may.in_round.back x)) (Contains-push (known_of old.log.part.own).heard heard)
+
+  about-it : is_about meta.id (listed_push maker meta) ≡ true
+  about-it = same_txn-self meta.id
+
+  module _ (view : View) (shows : view_in told ≡ Some view) where
+    anchored : anchor_heard meta.id k.heard ≡ Some meta.anchor
+    anchored = anchor_is d.log x.goes.back.track.log heard there meta.id meta.anchor about-it (ap (λ o. is_some o) shows) refl
+
+    shown : Any (WasShown meta.id view) k.heard
+    shown =
+        subst (λ l. Any (WasShown meta.id view) l) (sym (heard_is old d (listed_push maker meta) told may.in_round.back x))
+        (any_last (WasShown meta.id view) (known_of old.log.part.own).heard heard (record { about = about-it; told = shows }))
+
+  stamps-of : All (λ t. t ≤ k.top) (reply_stamps told)
+  stamps-of = (answered (known_of old.log.part.own) k (listed_push maker meta) told (was_answered old d (listed_push maker meta) told may.in_round.back x)).stamps
+
+  above : (view : View) → All (λ t. t ≤ k.top) (view_stamps view) → All (λ t. t ≤ k.top + 1) (view_stamps view)
+  above view low = All-weaker (λ t. t ≤ k.top) (λ t. t ≤ k.top + 1) (λ t low. omega (arith, low)) (view_stamps view) low
+
+  -- what a status shows may be settled
+  pub may_settle : (view : View) → told ≡ replies.Status view → MaySettleNow d meta view
+  may_settle view is = record {
+    maker = maker;
+    in_round = making;
+    shown = shown view (ap view_in is);
+    anchored = anchored view (ap view_in is);
+    stamps = above view (subst (λ r. All (λ t. t ≤ k.top) (reply_stamps r)) is stamps-of);
+  }
+
+  -- and a record that was met staging may be recovered
+  pub may_recover : (view : View) → told ≡ replies.Unsure view → MayRecoverNow maker d meta view
+  may_recover view is =
+      let s : IsStagingView view = push_answers meta (name_of maker) maker.level maker.reading goals.Abort (replies.Unsure view) (subst (λ r. IsPossibleReply (listed_push maker meta) r) is x.possible) in
+      record {
+        in_round = making;
+        epoch = s.epoch;
+        ts = s.ts;
+        writes = s.writes;
+        is = s.is;
+        staging =
+            subst (λ l. Any (MetStaging meta.id s.epoch s.ts s.writes) l) (sym (heard_is old d (listed_push maker meta) told may.in_round.back x))
+            (any_last (MetStaging meta.id s.epoch s.ts s.writes) (known_of old.log.part.own).heard heard (record { pushed = same_txn-self meta.id; staging = is ∙ ap (λ v. replies.Unsure v) s.is }));
+        anchored = anchored view (ap view_in is);
+        stamps =
+            let low : All (λ t. t ≤ k.top + 1) (view_stamps (views.Staging s.epoch s.ts s.writes)) = subst (λ v. All (λ t. t ≤ k.top + 1) (view_stamps v)) s.is (above view (subst (λ r. All (λ t. t ≤ k.top) (reply_stamps r)) is stamps-of)) in
+            All-head (λ t. t ≤ k.top + 1) s.ts [] low;
+      }
+
+  -- ---- what was done
+
+  dealt : (after : List RoundMessage) (new : DeskMeaning C) → HasMadeTraffic d new after → FollowsPush maker meta told after → HasDealtWith maker meta old new
+  dealt after new made follows = record {
+    traffic = push_of ∷ after;
+    exchanged = made_both old d new (push_of ∷ []) after (made_one old d (listed_push maker meta) told may.in_round.back x) made;
+    is = record { push = push_of; after = after; whole = refl; asked = refl; follows = follows };
+  }
+
+  -- its status was settled
+  pub dealt_settled : (view : View) (new : DeskMeaning C) → told ≡ replies.Status view → HasSettled meta view d new → HasDealtWith maker meta old new
+  dealt_settled view new is settled = dealt settled.traffic new settled.exchanged (subst (λ r. FollowsPush maker meta r settled.traffic) (sym is) settled.settles)
+
+  -- its record was recovered, and the view then settled
+  pub dealt_recovered : (met view : View) (mid new : DeskMeaning C) → told ≡ replies.Unsure met → HasRecovered maker meta met d mid view → HasSettled meta view mid new → HasDealtWith maker meta old new
+  dealt_recovered met view mid new is recovered settled =
+      let all = recovered.traffic ++ settled.traffic in
+      dealt all new (made_both d mid new recovered.traffic settled.traffic recovered.exchanged settled.exchanged)
+      (subst (λ r. FollowsPush maker meta r all) (sym (is ∙ ap (λ v. replies.Unsure v) recovered.is)) (record {
+        first = recovered.traffic;
+        rest = settled.traffic;
+        whole = refl;
+        told = replies.Status view;
+        decided = recovered.decided;
+        settled = settled.settles;
+      }))
+
+  -- nothing follows another reply
+  pub dealt_alone : ((view : View) → told ≡ replies.Status view → ⊥) → ((view : View) → told ≡ replies.Unsure view → ⊥) → HasDealtWith maker meta old d
+  dealt_alone none unsure = dealt [] d (made_none d x.goes.back) (follows-none maker meta told none unsure)
+
+  -- ---- its list ends on the way
+
+  made-push : HasMadeTraffic old d (push_of ∷ [])
+  made-push = made_one old d (listed_push maker meta) told may.in_round.back x
+
+  -- after the push
+  pub pushed_breaks : (new : DeskMeaning C) (halt : Halt) → BreaksOff (All IsInBetween) d new halt → BreaksOff (All IsInBetween) old new halt
+  pushed_breaks new halt breaks = traffic_breaks old d new (push_of ∷ []) halt made-push breaks
+
+  -- after the recovery
+  pub recovered_breaks : (met view : View) (mid new : DeskMeaning C) (halt : Halt) → HasRecovered maker meta met d mid view → BreaksOff (All IsInBetween) mid new halt → BreaksOff (All IsInBetween) old new halt
+  recovered_breaks met view mid new halt recovered breaks =
+      traffic_breaks old mid new (push_of ∷ recovered.traffic) halt (made_both old d mid (push_of ∷ []) recovered.traffic made-push recovered.exchanged) breaks

@@ -1,0 +1,292 @@
+-- A recoverer recovers a transaction: how it begins, what each exchange of its machine leaves, and how it ends.
+use Rattle.std.proofs.Common.{◌≡◌, ℕ, zero, suc, ◌+◌, ◌≤◌, ◌⊎◌, Bool, true, false, if◌then◌else◌, All, Any, List, [], ◌∷◌, ◌++◌, map, take, drop, length, slice_get, Option, Some, None, inl, inr, refl, sym, ap, ◌∙◌, subst, arith}
+use Rattle.std.proofs.lemmas.List.{map-append, take_more}
+use Rattle.std.proofs.lemmas.List.Elements.{All-nil, All-push, All-weaker}
+use Rattle.std.proofs.lemmas.Option.{slice_get_cases}
+use Rattle.pc_base.specs.declared.actor.ActorId.{ActorId}
+use Rattle.pc_base.specs.declared.actor.ActorId.TheVariants as actors
+use Rattle.pc_desk.specs.Desk.{DeskMeaning, MaySendNow}
+use Rattle.pc_exchange.specs.Exchange.{WasExchanged}
+use Rattle.pc_lists.proofs.Anywhere.{any_last}
+use Rattle.pc_lists.proofs.Same.{same_txn-self}
+use Rattle.pc_proto.specs.declared.fate.Finding.{Finding}
+use Rattle.pc_proto.specs.declared.fate.Finding.TheVariants as findings
+use Rattle.pc_proto.specs.declared.machine.MachineNext.{MachineNext}
+use Rattle.pc_proto.specs.declared.machine.MachineNext.TheVariants as machine
+use Rattle.pc_proto.specs.declared.meta.TxnMeta.{TxnMeta}
+use Rattle.pc_proto.specs.declared.reply.Reply.{Reply}
+use Rattle.pc_proto.specs.declared.reply.Reply.TheVariants as replies
+use Rattle.pc_proto.specs.declared.request.Request.{Request}
+use Rattle.pc_proto.specs.declared.request.Request.TheVariants as requests
+use Rattle.pc_proto.specs.declared.view.View.{View}
+use Rattle.pc_proto.specs.Replies.{view_in}
+use Rattle.pc_proto.specs.Requests.{is_about}
+use Rattle.pc_proto.specs.Stamps.{reply_stamps, view_stamps}
+use Rattle.pc_proto.specs.Views.{is_final_view}
+use Rattle.pc_recover.proofs.Going.{may_later}
+use Rattle.pc_recover.specs.declared.progress.Progress.{Progress}
+use Rattle.pc_recover.specs.declared.progress.Progress.TheVariants as progresses
+use Rattle.pc_recover.specs.RecoverKnows.{MayRecover, RecoverKnows, RecoveringMayCome}
+use Rattle.pc_recover.specs.Recovering.{IsRecoveryOf, Recovering, asked_for, is_staging_view, over_by, progress_after, progress_after_deciding, progress_after_query, query_of, recover_of, recovering_after, recovering_at, recovering_due, recovering_heard, recovering_next}
+use Rattle.pc_recoverer.proofs.Settling.{may_send_now}
+use Rattle.pc_recoverer.proofs.Traffic.{heard_is, heard_of, made_both, made_none, made_one, message_of, requests_both, was_answered}
+use Rattle.pc_recoverer.specs.declared.maker.RoundMaker.{RoundMaker}
+use Rattle.pc_recoverer.specs.Exchanges.{RoundMessage}
+use Rattle.pc_recoverer.specs.InRound.{HasRecovered, IsMakingRound, MayRecoverNow, WasShown}
+use Rattle.pc_recoverer.specs.Recovered.{HasQueried, WereAllFound, name_of, query_for}
+use Rattle.pc_recoverer.specs.UnderWay.{HasRecoveredTo, IsBeingRecovered}
+use Rattle.pc_world.proofs.Exchange.{answered}
+use Rattle.pc_world.proofs.RoundReplies.{IsStatus, recovery_answers}
+use Rattle.pc_world.specs.Evaluation.Query.{write_stands}
+use Rattle.pc_world.specs.Exchange.{IsPossibleReply, WasAnswered}
+use Rattle.pc_world.specs.Known.{Known, known_of}
+use Rattle.pc_world.specs.RangeOf.{IsForOne}
+use Rattle.pc_world.specs.StateOf.{state_of}
+use Rattle.pc_world.specs.Unstaged.{IsNoStage}
+use Rattle.pc_world.specs.Views.{anchor_heard}
+
+-- ---- places in the list of writes
+
+take-all : (xs : List (List ℕ × ℕ)) (n : ℕ) → length xs ≤ n → take n xs ≡ xs
+take-all [] zero low = refl
+take-all [] (suc n) low = refl
+take-all (x ∷ xs) zero low = absurd (omega arith)
+take-all (x ∷ xs) (suc n) low = ap (λ l. x ∷ l) (take-all xs n (omega arith))
+
+past-all : (writes : List (List ℕ × ℕ)) (n : ℕ) → slice_get writes n ≡ None → take n writes ≡ writes
+past-all writes n none = elim ((slice_get_cases writes n).1) [ inl (x, low, is, same) ↦ absurd cc | inr (low, is) ↦ take-all writes n low ]
+
+one-more : (writes : List (List ℕ × ℕ)) (n : ℕ) (w : List ℕ × ℕ) → slice_get writes n ≡ Some w → take (n + 1) writes ≡ take n writes ++ w ∷ []
+one-more writes n w at =
+    elim ((slice_get_cases writes n).1) [
+      | inl (x, low, is, same) ↦ let e : w ≡ x = cc in take_more writes n x low ∙ ap (λ y. take n writes ++ y ∷ []) (same ∙ sym e)
+      | inr (low, none) ↦ absurd cc
+    ]
+
+-- the writes before one, it, and those behind it
+cut-at : (writes : List (List ℕ × ℕ)) (n : ℕ) (w : List ℕ × ℕ) → slice_get writes n ≡ Some w → writes ≡ take n writes ++ (w ∷ drop (n + 1) writes)
+cut-at [] n w at = absurd cc
+cut-at (x ∷ xs) zero w at = let same : x ≡ w = cc in ap (λ y. y ∷ xs) same
+cut-at (x ∷ xs) (suc n) w at =
+    let same : suc (n + 1) ≡ suc n + 1 = omega arith in
+    ap (λ l. x ∷ l) (cut-at xs n w at) ∙ ap (λ k. x ∷ (take n xs ++ (w ∷ drop k (x ∷ xs)))) same
+
+-- ---- the machine's beginning
+
+module _ {C : Type 0} (maker : RoundMaker) (old : DeskMeaning C) (meta : TxnMeta) (met : View) (may : MayRecoverNow maker old meta met) where
+  pub is_staging : is_staging_view met ≡ true
+  is_staging = ap is_staging_view may.is
+
+  -- The recovery that begins.
+  abbrev first_machine : Recovering
+  first_machine = record { holder = meta; epoch = may.epoch; ts = may.ts; writes = may.writes; by = name_of maker; progress = progresses.Found 0 }
+
+  pub recovering_begins : (m : Recovering) → IsRecoveryOf meta met (name_of maker) m → ((actor : ActorId) (k : Known) → MayRecover actor k m → RecoverKnows actor k k m) → IsBeingRecovered maker old meta met m old
+  recovering_begins m made knows =
+      let is : m ≡ first_machine = subst (λ view. IsRecoveryOf meta view (name_of maker) m) may.is made in
+      let k = known_of old.log.part.own in
+      let id = actors.Recoverer maker.number in
+      let start : MayRecover id k first_machine = record { own = refl; staging = may.staging; anchored = may.anchored; stamps = may.stamps } in
+      record {
+        start = may;
+        traffic = [];
+        made = made_none old may.in_round.back;
+        knows = knows id k (subst (MayRecover id k) (sym is) start);
+        same = is ∙ ap (λ (p : Progress). record first_machine { progress = p }) (sym (ap (λ (m : Recovering). m.progress) is));
+        come = subst (λ (m : Recovering). HasRecoveredTo maker meta may.epoch may.ts may.writes m.progress [] k) (sym is) (record { asked = refl; found = All-nil (λ (x : RoundMessage). x.reply ≡ replies.Found) });
+      }
+
+-- ---- what the machine asks for
+
+-- It is no stage, and names no span.
+abbrev IsPlain : Request → Type 0
+IsPlain q = IsNoStage q × ((splits : List (List ℕ)) → IsForOne splits q)
+
+plain-found : (m : Recovering) (w : Option (List ℕ × ℕ)) (request : Request) → machine.Send (asked_for w m) ≡ machine.Send request → IsPlain request
+plain-found m (Some w) request e = let is : query_of m w ≡ request = cc in subst IsPlain is (tt, λ splits. tt)
+plain-found m None request e = let is : recover_of m findings.All ≡ request = cc in subst IsPlain is (tt, λ splits. tt)
+
+plain-over : (b : Bool) (view : View) (request : Request) → over_by b view ≡ machine.Send request → IsPlain request
+plain-over true view request e = absurd cc
+plain-over false view request e = absurd cc
+
+plain-at : (m : Recovering) (p : Progress) (request : Request) → recovering_due p m ≡ machine.Send request → IsPlain request
+plain-at m (progresses.Found found) request e = plain-found m (slice_get m.writes found) request e
+plain-at m (progresses.Missing key) request e = let is : recover_of m (findings.Missing key m.by) ≡ request = cc in subst IsPlain is (tt, λ splits. tt)
+plain-at m (progresses.Over view) request e = plain-over (is_final_view view) view request e
+
+-- What a query is answered.
+abbrev IsQueryReply : Reply → Type 0
+IsQueryReply replies.Found = Unit {0}
+IsQueryReply replies.Missing = Unit {0}
+IsQueryReply _ = ⊥
+
+found-or-missing : (b : Bool) → IsQueryReply (if b then replies.Found else replies.Missing)
+found-or-missing true = tt
+found-or-missing false = tt
+
+query-answers : (m : Recovering) (w : List ℕ × ℕ) (told : Reply) → IsPossibleReply (query_of m w) told → IsQueryReply told
+query-answers m w told is = subst IsQueryReply (sym is.is) (found-or-missing (write_stands m.holder.id m.epoch w.1 m.ts w.0 (state_of is.own)))
+
+-- ---- its steps
+
+module _ {C : Type 0} (maker : RoundMaker) (old : DeskMeaning C) (meta : TxnMeta) (met : View) (m : Recovering) (d : DeskMeaning C) (f : IsBeingRecovered maker old meta met m d) where
+  making_now : IsMakingRound maker d
+  making_now = f.made.stays maker f.start.in_round
+
+  -- what its machine gives may be sent
+  pub recovering_asks : (given : MachineNext) (request : Request) → given ≡ recovering_next m → given ≡ machine.Send request
+      → ((splits : List (List ℕ)) (actor : ActorId) (start k : Known) → RecoverKnows actor start k m → RecoveringMayCome splits actor start k m given) → MaySendNow d.log request
+  recovering_asks given request due is may =
+      let id = actors.Recoverer maker.number in
+      let start = known_of old.log.part.own in
+      let k = known_of d.log.part.own in
+      let kind = plain-at m m.progress request (sym due ∙ is) in
+      may_send_now d maker request making_now (subst (RecoveringMayCome d.log.head.splits id start k m) is (may d.log.head.splits id start k f.knows)) kind.0 (kind.1 d.log.head.splits)
+
+  -- the machine's requests, by the record that it recovers
+  query-is : (w : List ℕ × ℕ) → query_of m w ≡ query_for maker meta f.start.epoch f.start.ts w
+  query-is w = ap (λ (m : Recovering). query_of m w) f.same
+
+  recover-is : (finding : Finding) → recover_of m finding ≡ requests.Recover meta.id f.start.epoch f.start.ts meta.anchor finding
+  recover-is finding = ap (λ (m : Recovering). recover_of m finding) f.same
+
+  writes-is : m.writes ≡ f.start.writes
+  writes-is = ap (λ (m : Recovering). m.writes) f.same
+
+  by-is : m.by ≡ name_of maker
+  by-is = ap (λ (m : Recovering). m.by) f.same
+
+  module _ (request : Request) (due : recovering_next m ≡ machine.Send request) (new : DeskMeaning C) (reply : Reply) (x : WasExchanged d new request reply) where
+    abbrev one : RoundMessage
+    one = message_of d new request reply f.made.goes.back x
+
+    abbrev k : Known
+    k = known_of new.log.part.own
+
+    -- What the machine has come to then.
+    abbrev To : Progress → Type 0
+    To p = HasRecoveredTo maker meta f.start.epoch f.start.ts f.start.writes p (f.traffic ++ one ∷ []) k
+
+    -- once a query for a write was answered
+    queried-on : (n : ℕ) (w : List ℕ × ℕ) → slice_get m.writes n ≡ Some w → WereAllFound maker meta f.start.epoch f.start.ts (take n f.start.writes) f.traffic → request ≡ query_of m w
+        → (told : Reply) → reply ≡ told → IsQueryReply told → To (progress_after_query told w n)
+    queried-on n w at come asked replies.Found told kind =
+        let there : slice_get f.start.writes n ≡ Some w = ap (λ l. slice_get l n) (sym writes-is) ∙ at in
+        let longer = one-more f.start.writes n w there in
+        subst (λ ws. WereAllFound maker meta f.start.epoch f.start.ts ws (f.traffic ++ one ∷ [])) (sym longer) (record {
+          asked =
+              requests_both f.traffic (one ∷ [])
+              ∙ (ap (λ l. l ++ request ∷ []) come.asked
+              ∙ (ap (λ q. map (query_for maker meta f.start.epoch f.start.ts) (take n f.start.writes) ++ q ∷ []) (asked ∙ query-is w)
+              ∙ sym (map-append (query_for maker meta f.start.epoch f.start.ts) (take n f.start.writes) (w ∷ []))));
+          found = All-push (λ (x : RoundMessage). x.reply ≡ replies.Found) f.traffic one come.found told;
+        })
+    queried-on n w at come asked replies.Missing told kind =
+        let there : slice_get f.start.writes n ≡ Some w = ap (λ l. slice_get l n) (sym writes-is) ∙ at in
+        record {
+          found = take n f.start.writes;
+          missing = w;
+          unasked = drop (n + 1) f.start.writes;
+          listed = cut-at f.start.writes n w there;
+          key_is = refl;
+          before = f.traffic;
+          last = one;
+          whole = refl;
+          all_found = come;
+          asked = asked ∙ query-is w;
+          told = told;
+        }
+    queried-on n w at come asked other told kind = absurd kind
+
+    -- once the record was decided
+    decided-on : (finding : Finding) → HasQueried maker meta f.start.epoch f.start.ts f.start.writes finding f.traffic → request ≡ recover_of m finding → (told : Reply) → reply ≡ told → IsStatus told → (before : Progress) → To (progress_after_deciding told before)
+    decided-on finding queried asked (replies.Status view) told kind before =
+        let at = answered (known_of d.log.part.own) k request reply (was_answered d new request reply f.made.goes.back x) in
+        record {
+          decided = record { queries = f.traffic; decision = one; whole = refl; finding = finding; queried = queried; asked = asked ∙ recover-is finding; is_told = told };
+          shown =
+              subst (λ l. Any (WasShown meta.id view) l) (sym (heard_is d new request reply f.made.goes.back x))
+              (any_last (WasShown meta.id view) (known_of d.log.part.own).heard (heard_of d new request reply f.made.goes.back x) (record {
+                about = ap (is_about meta.id) (asked ∙ recover-is finding) ∙ same_txn-self meta.id;
+                told = ap view_in told;
+              }));
+          stamps =
+              All-weaker (λ t. t ≤ k.top) (λ t. t ≤ k.top + 1) (λ t low. omega (arith, low)) (view_stamps view)
+              (subst (λ r. All (λ t. t ≤ k.top) (reply_stamps r)) told at.stamps);
+        }
+    decided-on finding queried asked other told kind before = absurd kind
+
+    status-by : (finding : Finding) → request ≡ recover_of m finding → IsStatus reply
+    status-by finding asked = recovery_answers m.holder.id (recover_of m finding) reply refl (subst (λ q. IsPossibleReply q reply) asked x.possible)
+
+    -- once every write was asked for, or one more was
+    found-on : (n : ℕ) (w : Option (List ℕ × ℕ)) → slice_get m.writes n ≡ w → WereAllFound maker meta f.start.epoch f.start.ts (take n f.start.writes) f.traffic → request ≡ asked_for w m → To (progress_after w reply n)
+    found-on n (Some w) at come asked = queried-on n w at come asked reply refl (query-answers m w reply (subst (λ q. IsPossibleReply q reply) asked x.possible))
+    found-on n None at come asked =
+        let all : take n f.start.writes ≡ f.start.writes = past-all f.start.writes n (ap (λ l. slice_get l n) (sym writes-is) ∙ at) in
+        decided-on findings.All (subst (λ ws. WereAllFound maker meta f.start.epoch f.start.ts ws f.traffic) all come) asked reply refl (status-by findings.All asked) (progresses.Found n)
+
+    over-none : (b : Bool) (view : View) → over_by b view ≡ machine.Send request → ⊥
+    over-none true view e = cc
+    over-none false view e = cc
+
+    come-on : (p : Progress) → HasRecoveredTo maker meta f.start.epoch f.start.ts f.start.writes p f.traffic (known_of d.log.part.own) → recovering_due p m ≡ machine.Send request → To (recovering_heard p reply m)
+    come-on (progresses.Found n) come e = let asked : request ≡ asked_for (slice_get m.writes n) m = cc in found-on n (slice_get m.writes n) refl come asked
+    come-on (progresses.Missing key) come e =
+        let asked : request ≡ recover_of m (findings.Missing key m.by) = cc in
+        decided-on (findings.Missing key m.by) (by-is, come) asked reply refl (status-by (findings.Missing key m.by) asked) (progresses.Missing key)
+    come-on (progresses.Over view) come e = absurd (over-none (is_final_view view) view e)
+
+    -- one exchange more
+    pub recovering_on : (next : Recovering) → next ≡ recovering_after reply m
+        → ((actor : ActorId) (start k later : Known) (request : Request) → RecoverKnows actor start k m → recovering_next m ≡ machine.Send request → WasAnswered k later request reply → IsPossibleReply request reply → RecoverKnows actor start later next)
+        → IsBeingRecovered maker old meta met next new
+    recovering_on next made knows = record {
+      start = f.start;
+      traffic = f.traffic ++ one ∷ [];
+      made = made_both old d new f.traffic (one ∷ []) f.made (made_one d new request reply f.made.goes.back x);
+      knows = knows (actors.Recoverer maker.number) (known_of old.log.part.own) (known_of d.log.part.own) k request f.knows due (was_answered d new request reply f.made.goes.back x) x.possible;
+      same =
+          made
+          ∙ (ap (recovering_at (recovering_heard m.progress reply m)) f.same
+          ∙ ap (λ (p : Progress). record { holder = meta; epoch = f.start.epoch; ts = f.start.ts; writes = f.start.writes; by = name_of maker; progress = p }) (sym (ap (λ (m : Recovering). m.progress) made)));
+      come = subst (λ (m : Recovering). To m.progress) (sym made) (come-on m.progress f.come due);
+    }
+
+-- ---- its end
+
+ends-over : (p : Progress) (m : Recovering) (view : View) → (recovering_due p m ≡ machine.Settled view) ⊎ (recovering_due p m ≡ machine.Changed view) → p ≡ progresses.Over view
+ends-over (progresses.Found n) m view (inl e) = absurd cc
+ends-over (progresses.Found n) m view (inr e) = absurd cc
+ends-over (progresses.Missing key) m view (inl e) = absurd cc
+ends-over (progresses.Missing key) m view (inr e) = absurd cc
+ends-over (progresses.Over shown) m view is = by (is_final_view shown) is
+  where
+    by : (b : Bool) → (over_by b shown ≡ machine.Settled view) ⊎ (over_by b shown ≡ machine.Changed view) → progresses.Over shown ≡ progresses.Over view
+    by true (inl e) = let same : shown ≡ view = cc in ap (λ v. progresses.Over v) same
+    by true (inr e) = absurd cc
+    by false (inl e) = absurd cc
+    by false (inr e) = let same : shown ≡ view = cc in ap (λ v. progresses.Over v) same
+
+module _ {C : Type 0} (maker : RoundMaker) (old : DeskMeaning C) (meta : TxnMeta) (met : View) (m : Recovering) (d : DeskMeaning C) (f : IsBeingRecovered maker old meta met m d) where
+  anchored-now : anchor_heard meta.id (known_of d.log.part.own).heard ≡ Some meta.anchor
+  anchored-now =
+      let later = may_later (actors.Recoverer maker.number) (known_of old.log.part.own) (known_of d.log.part.own) m f.knows.since f.knows.may in
+      subst (λ (h : TxnMeta). anchor_heard h.id (known_of d.log.part.own).heard ≡ Some h.anchor) (ap (λ (m : Recovering). m.holder) f.same) later.anchored
+
+  -- the record was decided
+  pub recovering_ends : (given : MachineNext) (view : View) → given ≡ recovering_next m → (given ≡ machine.Settled view) ⊎ (given ≡ machine.Changed view) → HasRecovered maker meta met old d view
+  recovering_ends given view due is =
+      let over : m.progress ≡ progresses.Over view = ends-over m.progress m view (elim is [ inl e ↦ inl (sym due ∙ e) | inr e ↦ inr (sym due ∙ e) ]) in
+      let come = subst (λ (p : Progress). HasRecoveredTo maker meta f.start.epoch f.start.ts f.start.writes p f.traffic (known_of d.log.part.own)) over f.come in
+      record {
+        traffic = f.traffic;
+        exchanged = f.made;
+        epoch = f.start.epoch;
+        ts = f.start.ts;
+        writes = f.start.writes;
+        is = f.start.is;
+        decided = come.decided;
+        settles = record { maker = maker; in_round = f.made.stays maker f.start.in_round; shown = come.shown; anchored = anchored-now; stamps = come.stamps };
+      }

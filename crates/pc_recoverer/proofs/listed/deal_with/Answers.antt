@@ -1,0 +1,72 @@
+use Rattle.std.proofs.Common.{All, sym, subst}
+use Rattle.std.proofs.lemmas.Result.{err_from_is_err_and}
+use Rattle.pc_base.specs.declared.transaction.Who.TheVariants as whos
+use Rattle.pc_desk.specs.Desk.{MaySendNow}
+use Rattle.pc_exchange.specs.Ending.{BreaksOff}
+use Rattle.pc_exchange.specs.Exchange.{WasExchanged}
+use Rattle.pc_proto.specs.declared.fate.Goal.TheVariants as goals
+use Rattle.pc_proto.specs.declared.request.Request.TheVariants as requests
+use Rattle.pc_recoverer.proofs.Dealing.{dealt_alone, dealt_recovered, dealt_settled, may_push, may_recover, may_settle, pushed_breaks, recovered_breaks}
+use Rattle.pc_recoverer.proofs.Traffic.{if_err, is_recoverer, on_ok}
+use Rattle.pc_recoverer.specs.InRound.{HasDealtWith, HasSettled}
+use Rattle.pc_turns.specs.Order.{IsInBetween}
+use Rattle.pc_recoverer.proofs.listed.deal_with.Goals as goal
+
+pub exchange-requires-clause-back : goal.exchange-requires-clause-back
+exchange-requires-clause-back g c = c.requires.in_round.back
+
+pub exchange-requires-clause-client : goal.exchange-requires-clause-client
+exchange-requires-clause-client g c = is_recoverer c.args.maker c.args.desk.now c.requires.in_round
+
+pub exchange-requires-clause-may : goal.exchange-requires-clause-may
+exchange-requires-clause-may g c =
+    subst (λ h. MaySendNow c.args.desk.now.log (requests.Push h (whos.Recoverer c.args.maker.number) c.args.maker.level c.args.maker.reading goals.Abort)) (sym c.in-Ok.ensures)
+    (may_push c.args.maker c.args.desk.now c.args.meta.now c.requires)
+
+pub settle-requires : goal.settle-requires
+settle-requires g c =
+    let x = subst (λ h. WasExchanged c.args.desk.now c.exchange.new.desk (requests.Push h (whos.Recoverer c.args.maker.number) c.args.maker.level c.args.maker.reading goals.Abort) c.in_ok-reply.reply) c.in-Ok.ensures c.in_ok-reply.ensures.ok in
+    may_settle c.args.maker c.args.desk.now c.args.meta.now c.requires c.exchange.new.desk c.in_ok-reply.reply x c.in-Status.view c.in-Status.is
+
+pub recover-requires : goal.recover-requires
+recover-requires g c =
+    let x = subst (λ h. WasExchanged c.args.desk.now c.exchange.new.desk (requests.Push h (whos.Recoverer c.args.maker.number) c.args.maker.level c.args.maker.reading goals.Abort) c.in_ok-reply.reply) c.in-Ok.ensures c.in_ok-reply.ensures.ok in
+    may_recover c.args.maker c.args.desk.now c.args.meta.now c.requires c.exchange.new.desk c.in_ok-reply.reply x c.in-Unsure.met c.in-Unsure.is
+
+pub settle-requires-in-Unsure : goal.settle-requires-in-Unsure
+settle-requires-in-Unsure g c = c.in_ok-view-in-Unsure.ensures.ok.settles
+
+pub returns-in-Status-clause-ok : goal.returns-in-Status-clause-ok
+returns-in-Status-clause-ok g c =
+    let x = subst (λ h. WasExchanged c.args.desk.now c.exchange.new.desk (requests.Push h (whos.Recoverer c.args.maker.number) c.args.maker.level c.args.maker.reading goals.Abort) c.in_ok-reply.reply) c.in-Ok.ensures c.in_ok-reply.ensures.ok in
+    on_ok c.settle.result (HasSettled c.args.meta.now c.in-Status.view c.exchange.new.desk c.settle.new.desk) (HasDealtWith c.args.maker c.args.meta.now c.args.desk.now c.settle.new.desk)
+    (dealt_settled c.args.maker c.args.desk.now c.args.meta.now c.requires c.exchange.new.desk c.in_ok-reply.reply x c.in-Status.view c.settle.new.desk c.in-Status.is) c.settle.ensures.ok
+
+pub returns-in-Unsure-clause-ok : goal.returns-in-Unsure-clause-ok
+returns-in-Unsure-clause-ok g c =
+    let x = subst (λ h. WasExchanged c.args.desk.now c.exchange.new.desk (requests.Push h (whos.Recoverer c.args.maker.number) c.args.maker.level c.args.maker.reading goals.Abort) c.in_ok-reply.reply) c.in-Ok.ensures c.in_ok-reply.ensures.ok in
+    let view = c.in_ok-view-in-Unsure.view in
+    on_ok c.settle-in-Unsure.result (HasSettled c.args.meta.now view c.recover.new.desk c.settle-in-Unsure.new.desk) (HasDealtWith c.args.maker c.args.meta.now c.args.desk.now c.settle-in-Unsure.new.desk)
+    (dealt_recovered c.args.maker c.args.desk.now c.args.meta.now c.requires c.exchange.new.desk c.in_ok-reply.reply x c.in-Unsure.met view c.recover.new.desk c.settle-in-Unsure.new.desk c.in-Unsure.is c.in_ok-view-in-Unsure.ensures.ok) c.settle-in-Unsure.ensures.ok
+
+pub returns-clause-ok : goal.returns-clause-ok
+returns-clause-ok g c =
+    let x = subst (λ h. WasExchanged c.args.desk.now c.exchange.new.desk (requests.Push h (whos.Recoverer c.args.maker.number) c.args.maker.level c.args.maker.reading goals.Abort) c.in_ok-reply.reply) c.in-Ok.ensures c.in_ok-reply.ensures.ok in
+    dealt_alone c.args.maker c.args.desk.now c.args.meta.now c.requires c.exchange.new.desk c.in_ok-reply.reply x c.in_default.not-Status c.in_default.not-Unsure
+
+pub returns-in-Status-clause-ended : goal.returns-in-Status-clause-ended
+returns-in-Status-clause-ended g c =
+    let x = subst (λ h. WasExchanged c.args.desk.now c.exchange.new.desk (requests.Push h (whos.Recoverer c.args.maker.number) c.args.maker.level c.args.maker.reading goals.Abort) c.in_ok-reply.reply) c.in-Ok.ensures c.in_ok-reply.ensures.ok in
+    if_err c.settle.result (BreaksOff (All IsInBetween) c.exchange.new.desk c.settle.new.desk) (BreaksOff (All IsInBetween) c.args.desk.now c.settle.new.desk) (pushed_breaks c.args.maker c.args.desk.now c.args.meta.now c.requires c.exchange.new.desk c.in_ok-reply.reply x c.settle.new.desk) c.settle.ensures.ended
+
+pub returns-in-Unsure-clause-ended : goal.returns-in-Unsure-clause-ended
+returns-in-Unsure-clause-ended g c =
+    let x = subst (λ h. WasExchanged c.args.desk.now c.exchange.new.desk (requests.Push h (whos.Recoverer c.args.maker.number) c.args.maker.level c.args.maker.reading goals.Abort) c.in_ok-reply.reply) c.in-Ok.ensures c.in_ok-reply.ensures.ok in
+    if_err c.settle-in-Unsure.result (BreaksOff (All IsInBetween) c.recover.new.desk c.settle-in-Unsure.new.desk) (BreaksOff (All IsInBetween) c.args.desk.now c.settle-in-Unsure.new.desk)
+    (λ halt. recovered_breaks c.args.maker c.args.desk.now c.args.meta.now c.requires c.exchange.new.desk c.in_ok-reply.reply x c.in-Unsure.met c.in_ok-view-in-Unsure.view c.recover.new.desk c.settle-in-Unsure.new.desk halt c.in_ok-view-in-Unsure.ensures.ok) c.settle-in-Unsure.ensures.ended
+
+pub returns-in_err-view-in-Unsure-clause-ended : goal.returns-in_err-view-in-Unsure-clause-ended
+returns-in_err-view-in-Unsure-clause-ended g c =
+    let x = subst (λ h. WasExchanged c.args.desk.now c.exchange.new.desk (requests.Push h (whos.Recoverer c.args.maker.number) c.args.maker.level c.args.maker.reading goals.Abort) c.in_ok-reply.reply) c.in-Ok.ensures c.in_ok-reply.ensures.ok in
+    let p = err_from_is_err_and c.from_residual-in_err-view-in-Unsure.result c.from_residual-in_err-view-in-Unsure.ensures.1 in
+    rw (p.1, p.2) (pushed_breaks c.args.maker c.args.desk.now c.args.meta.now c.requires c.exchange.new.desk c.in_ok-reply.reply x c.recover.new.desk c.in_err-view-in-Unsure.field-0.0 c.in_err-view-in-Unsure.ensures.ended)

@@ -1,0 +1,99 @@
+-- A recoverer in its round, and what it does there.
+use Rattle.std.specs.Prelude.{◌≡◌, ℕ, ◌+◌, ◌≤◌, Some, List, [], All, Any, IsTrue}
+use Rattle.pc_base.specs.declared.actor.ActorId.{ActorId}
+use Rattle.pc_base.specs.declared.actor.ActorId.TheVariants as actors
+use Rattle.pc_base.specs.declared.transaction.TxnId.{TxnId}
+use Rattle.pc_desk.specs.Desk.{DeskMeaning}
+use Rattle.pc_exchange.specs.Growing.{HasAllBack, HasGoneBeside}
+use Rattle.pc_history.specs.declared.pair.Pair.{Pair}
+use Rattle.pc_proto.specs.declared.call.Call.TheVariants as calls
+use Rattle.pc_proto.specs.declared.event.Event.{Event}
+use Rattle.pc_proto.specs.declared.meta.TxnMeta.{TxnMeta}
+use Rattle.pc_proto.specs.declared.reply.Reply.TheVariants as replies
+use Rattle.pc_proto.specs.declared.view.View.{View}
+use Rattle.pc_proto.specs.declared.view.View.TheVariants as views
+use Rattle.pc_proto.specs.Replies.{view_in}
+use Rattle.pc_proto.specs.Requests.{is_about}
+use Rattle.pc_proto.specs.Stamps.{view_stamps}
+use Rattle.pc_recoverer.specs.declared.maker.RoundMaker.{RoundMaker}
+use Rattle.pc_recoverer.specs.Exchanges.{AreExchangesIn, RoundMessage, requests_of}
+use Rattle.pc_recoverer.specs.Recovered.{IsDecision}
+use Rattle.pc_recoverer.specs.Round.{IsPartFor}
+use Rattle.pc_recoverer.specs.Settled.{settling_of}
+use Rattle.pc_world.specs.Exchange.{IsLater}
+use Rattle.pc_world.specs.Known.{known_of}
+use Rattle.pc_world.specs.Known.Traffic.{Heard}
+use Rattle.pc_world.specs.Send.Push.{ListsRecord}
+use Rattle.pc_world.specs.Send.Recovery.{WasStaging}
+use Rattle.pc_world.specs.Views.{anchor_heard}
+
+-- The actor is a recoverer.
+abbrev pub IsRecoverer : ActorId → Type 0
+IsRecoverer id = (number : ℕ) × (id ≡ actors.Recoverer number)
+
+-- The recoverer is in this round, no message of it is on its way, and it began no transaction.
+pub record IsMakingRound {C : Type 0} (maker : RoundMaker) (d : DeskMeaning C) : Type 0 where
+  pub back : HasAllBack d
+  pub whose : d.log.part.id ≡ actors.Recoverer maker.number
+  pub opened : (known_of d.log.part.own).statement ≡ Some (record { call = calls.Round; reading = maker.reading })
+  pub unbegun : (known_of d.log.part.own).txns ≡ []
+
+-- The recoverer exchanged these messages, and did nothing else: it is in its round still.
+pub record HasMadeTraffic {C : Type 0} (old new : DeskMeaning C) (traffic : List RoundMessage) : Type 0 where
+  pub part : List (Pair Event)
+  pub goes : HasGoneBeside old new part
+  pub each : AreExchangesIn traffic part
+  pub later : IsLater (known_of old.log.part.own) (known_of new.log.part.own)
+  pub stays : (maker : RoundMaker) → IsMakingRound maker old → IsMakingRound maker new
+
+-- A view of the transaction was heard.
+pub record WasShown (id : TxnId) (view : View) (h : Heard) : Type 0 where
+  pub about : IsTrue (is_about id h.request)
+  pub told : view_in h.reply ≡ Some view
+
+-- In a round, this view of the transaction was heard, under whose anchor its first view was.
+pub record MaySettleNow {C : Type 0} (d : DeskMeaning C) (meta : TxnMeta) (view : View) : Type 0 where
+  pub maker : RoundMaker
+  pub in_round : IsMakingRound maker d
+  pub shown : Any (WasShown meta.id view) (known_of d.log.part.own).heard
+  pub anchored : anchor_heard meta.id (known_of d.log.part.own).heard ≡ Some meta.anchor
+  pub stamps : All (λ ts. ts ≤ (known_of d.log.part.own).top + 1) (view_stamps view)
+
+-- What the view asks for was done.
+pub record HasSettled {C : Type 0} (meta : TxnMeta) (view : View) (old new : DeskMeaning C) : Type 0 where
+  pub traffic : List RoundMessage
+  pub exchanged : HasMadeTraffic old new traffic
+  pub settles : requests_of traffic ≡ settling_of meta view
+
+-- In its round the recoverer met this record staging.
+pub record MayRecoverNow {C : Type 0} (maker : RoundMaker) (d : DeskMeaning C) (meta : TxnMeta) (view : View) : Type 0 where
+  pub in_round : IsMakingRound maker d
+  pub epoch : ℕ
+  pub ts : ℕ
+  pub writes : List (List ℕ × ℕ)
+  pub is : view ≡ views.Staging epoch ts writes
+  pub staging : WasStaging (known_of d.log.part.own).heard meta.id epoch ts writes
+  pub anchored : anchor_heard meta.id (known_of d.log.part.own).heard ≡ Some meta.anchor
+  pub stamps : ts ≤ (known_of d.log.part.own).top + 1
+
+-- The record that was met staging was decided, and is shown so now.
+pub record HasRecovered {C : Type 0} (maker : RoundMaker) (meta : TxnMeta) (met : View) (old new : DeskMeaning C) (view : View) : Type 0 where
+  pub traffic : List RoundMessage
+  pub exchanged : HasMadeTraffic old new traffic
+  pub epoch : ℕ
+  pub ts : ℕ
+  pub writes : List (List ℕ × ℕ)
+  pub is : met ≡ views.Staging epoch ts writes
+  pub decided : IsDecision maker meta epoch ts writes traffic (replies.Status view)
+  pub settles : MaySettleNow new meta view
+
+-- In its round the recoverer heard a range list the transaction.
+pub record MayPushNow {C : Type 0} (maker : RoundMaker) (d : DeskMeaning C) (meta : TxnMeta) : Type 0 where
+  pub in_round : IsMakingRound maker d
+  pub listed : Any (λ h. ListsRecord meta h.reply) (known_of d.log.part.own).heard_now
+
+-- The listed transaction had its part.
+pub record HasDealtWith {C : Type 0} (maker : RoundMaker) (meta : TxnMeta) (old new : DeskMeaning C) : Type 0 where
+  pub traffic : List RoundMessage
+  pub exchanged : HasMadeTraffic old new traffic
+  pub is : IsPartFor maker meta traffic

@@ -1,0 +1,80 @@
+ghost use Rattle.std.specs.Prelude.{◌≡◌, IfErr, IfOk, OnOk, All};
+ghost use Rattle.pc_desk.specs.Desk.{DeskMeaning, HasHalted, MaySendNow};
+ghost use Rattle.pc_exchange.specs.Ending.{BreaksOff};
+ghost use Rattle.pc_exchange.specs.Growing.{HasAllBack};
+ghost use Rattle.pc_proto.specs.declared.machine.MachineNext.TheVariants as machines;
+ghost use Rattle.pc_proto.specs.declared.meta.TxnMeta.{TxnMeta};
+ghost use Rattle.pc_proto.specs.declared.view.View.{View};
+ghost use Rattle.pc_recover.specs.Recovering.{recovering_next};
+ghost use Rattle.pc_recoverer.specs.declared.maker.RoundMaker.{RoundMaker};
+ghost use Rattle.pc_recoverer.specs.InRound.{HasRecovered, IsRecoverer, MayRecoverNow};
+ghost use Rattle.pc_recoverer.specs.UnderWay.{IsBeingRecovered};
+ghost use Rattle.pc_turns.specs.Order.{IsInBetween};
+
+use crate::maker::RoundMaker;
+use crate::message::exchange;
+use pc_base::{NoMemory, TryCopy, Who};
+use pc_clock::Clock;
+use pc_desk::{Desk, Halt};
+use pc_history::Named;
+use pc_proto::{MachineNext, Request, TxnMeta, View};
+use pc_range::{CommitWorld, Gate};
+use pc_recover::RecoverMachine;
+use pc_wire::Wire;
+use std::sync::Wait;
+
+/// Recovers the transaction, whose record a push met staging so. Gives the view that the recovery was answered with.
+pub(crate) fn recover<N: Named<CommitWorld>, C: Clock, V: Wire, G: Gate, R: Wait>(
+    desk: &mut Desk<'_, N, C, V, G>,
+    rt: &R,
+    maker: RoundMaker,
+    meta: &TxnMeta,
+    met: View,
+) -> Result<View, Halt>
+    requires { MayRecoverNow maker desk.old meta.now met }
+    ensures ok { IfOk result (λ view. HasRecovered maker meta.now met desk.old desk.new view) }
+    ensures clock { desk.new.log.clock ≡ desk.old.log.clock }
+    ensures err { IfErr result (HasHalted desk.old desk.new) }
+    ensures ended { IfErr result (BreaksOff (All IsInBetween) desk.old desk.new) }
+{
+    let holder = match meta.copy() {
+        Ok(holder) => holder,
+        Err(NoMemory) => return Err(desk.want_memory()),
+    };
+    let mut machine = RecoverMachine::new(holder, met, Who::Recoverer(maker.number));
+    for _ in 0..u64::MAX {
+        let next = match machine.next() {
+            Ok(next) => next,
+            Err(NoMemory) => return Err(desk.want_memory()),
+        };
+        match next {
+            MachineNext::Send(request) => recover_on(desk, rt, &mut machine, request)?,
+            MachineNext::Settled(view) => return Ok(view),
+            MachineNext::Changed(view) => return Ok(view),
+            MachineNext::Refused(_) | MachineNext::Finished => unreachable!(),
+        }
+    }
+    Err(desk.want_memory())
+}
+
+/// Exchanges what the recovery has due.
+fn recover_on<N: Named<CommitWorld>, C: Clock, V: Wire, G: Gate, R: Wait>(
+    desk: &mut Desk<'_, N, C, V, G>,
+    rt: &R,
+    machine: &mut RecoverMachine,
+    request: Request,
+) -> Result<(), Halt>
+    requires back { HasAllBack desk.old }
+    requires client { IsRecoverer desk.old.log.part.id }
+    requires may { MaySendNow desk.old.log request }
+    ensures ok { (maker : RoundMaker) (old : DeskMeaning C) (meta : TxnMeta) (met : View) → IsBeingRecovered maker old meta met machine.old desk.old → recovering_next machine.old ≡ machines.Send request → OnOk result (IsBeingRecovered maker old meta met machine.new desk.new) }
+    ensures clock { desk.new.log.clock ≡ desk.old.log.clock }
+    ensures err { IfErr result (HasHalted desk.old desk.new) }
+    ensures ended { IfErr result (BreaksOff (All IsInBetween) desk.old desk.new) }
+{
+    let reply = exchange(desk, rt, request)?;
+    match machine.heard(&reply) {
+        Ok(()) => Ok(()),
+        Err(NoMemory) => Err(desk.want_memory()),
+    }
+}

@@ -1,0 +1,103 @@
+ghost use Rattle.std.specs.Prelude.{◌≡◌, ℕ, IfErr, List, OnOk, All};
+ghost use Rattle.pc_desk.specs.Desk.{DeskMeaning, HasHalted, MaySendNow};
+ghost use Rattle.pc_exchange.specs.Ending.{BreaksOff};
+ghost use Rattle.pc_exchange.specs.Growing.{HasAllBack};
+ghost use Rattle.pc_proto.specs.declared.fate.Fate.{Fate};
+ghost use Rattle.pc_proto.specs.declared.machine.MachineNext.TheVariants as machines;
+ghost use Rattle.pc_proto.specs.declared.meta.TxnMeta.{TxnMeta};
+ghost use Rattle.pc_recoverer.specs.InRound.{HasSettled, IsRecoverer, MaySettleNow};
+ghost use Rattle.pc_recoverer.specs.UnderWay.{HasFinishedListed, IsBeingSettled, MayFinishInRound};
+ghost use Rattle.pc_resolve.specs.Resolving.{finishing_next};
+ghost use Rattle.pc_turns.specs.Order.{IsInBetween};
+
+use crate::message::exchange;
+use pc_base::{NoMemory, TryCopy};
+use pc_clock::Clock;
+use pc_desk::{Desk, Halt};
+use pc_history::Named;
+use pc_proto::{Fate, Keys, MachineNext, Request, TxnMeta, View};
+use pc_range::{CommitWorld, Gate};
+use pc_resolve::ResolveMachine;
+use pc_wire::Wire;
+use std::sync::Wait;
+
+/// Settles each lock that a final view of the transaction shows, and then removes its record. A view that is not final asks for nothing.
+pub(crate) fn settle<N: Named<CommitWorld>, C: Clock, V: Wire, G: Gate, R: Wait>(
+    desk: &mut Desk<'_, N, C, V, G>,
+    rt: &R,
+    meta: &TxnMeta,
+    view: View,
+) -> Result<(), Halt>
+    requires { MaySettleNow desk.old meta.now view }
+    ensures ok { OnOk result (HasSettled meta.now view desk.old desk.new) }
+    ensures clock { desk.new.log.clock ≡ desk.old.log.clock }
+    ensures err { IfErr result (HasHalted desk.old desk.new) }
+    ensures ended { IfErr result (BreaksOff (All IsInBetween) desk.old desk.new) }
+{
+    match view {
+        View::Committed { epoch, ts, locks } => {
+            settle_locks(desk, rt, meta, Fate::Committed { epoch, ts }, locks)
+        }
+        View::Aborted { locks, .. } => settle_locks(desk, rt, meta, Fate::Aborted, locks),
+        View::Nothing => Ok(()),
+        View::Pending { .. } => Ok(()),
+        View::Staging { .. } => Ok(()),
+    }
+}
+
+/// Settles these locks of the transaction with its fate, one after another, and then removes its record.
+fn settle_locks<N: Named<CommitWorld>, C: Clock, V: Wire, G: Gate, R: Wait>(
+    desk: &mut Desk<'_, N, C, V, G>,
+    rt: &R,
+    meta: &TxnMeta,
+    fate: Fate,
+    locks: Keys,
+) -> Result<(), Halt>
+    requires { MayFinishInRound desk.old meta.now fate locks }
+    ensures ok { OnOk result (HasFinishedListed desk.old desk.new meta.now fate locks) }
+    ensures clock { desk.new.log.clock ≡ desk.old.log.clock }
+    ensures err { IfErr result (HasHalted desk.old desk.new) }
+    ensures ended { IfErr result (BreaksOff (All IsInBetween) desk.old desk.new) }
+{
+    let anchor = match meta.anchor.copy() {
+        Ok(anchor) => anchor,
+        Err(NoMemory) => return Err(desk.want_memory()),
+    };
+    let mut machine = ResolveMachine::new(meta.id, anchor, fate, locks);
+    for _ in 0..u64::MAX {
+        let next = match machine.next() {
+            Ok(next) => next,
+            Err(NoMemory) => return Err(desk.want_memory()),
+        };
+        match next {
+            MachineNext::Send(request) => settle_on(desk, rt, &mut machine, request)?,
+            MachineNext::Finished => return Ok(()),
+            MachineNext::Settled(_) | MachineNext::Changed(_) | MachineNext::Refused(_) => {
+                unreachable!()
+            }
+        }
+    }
+    Err(desk.want_memory())
+}
+
+/// Exchanges what the machine has due.
+fn settle_on<N: Named<CommitWorld>, C: Clock, V: Wire, G: Gate, R: Wait>(
+    desk: &mut Desk<'_, N, C, V, G>,
+    rt: &R,
+    machine: &mut ResolveMachine,
+    request: Request,
+) -> Result<(), Halt>
+    requires back { HasAllBack desk.old }
+    requires client { IsRecoverer desk.old.log.part.id }
+    requires may { MaySendNow desk.old.log request }
+    ensures ok { (old : DeskMeaning C) (meta : TxnMeta) (fate : Fate) (locks : List (List ℕ)) → IsBeingSettled old meta fate locks machine.old desk.old → finishing_next machine.old ≡ machines.Send request → OnOk result (IsBeingSettled old meta fate locks machine.new desk.new) }
+    ensures clock { desk.new.log.clock ≡ desk.old.log.clock }
+    ensures err { IfErr result (HasHalted desk.old desk.new) }
+    ensures ended { IfErr result (BreaksOff (All IsInBetween) desk.old desk.new) }
+{
+    let reply = exchange(desk, rt, request)?;
+    match machine.heard(&reply) {
+        Ok(()) => Ok(()),
+        Err(NoMemory) => Err(desk.want_memory()),
+    }
+}
