@@ -46,8 +46,8 @@ use Rattle.pc_world.proofs.Prefixes.{run_front, run_may}
 use Rattle.pc_world.proofs.World.{names_one}
 use Rattle.pc_world.specs.After.{known_at}
 use Rattle.pc_world.specs.Caused.{Evaluates}
-use Rattle.pc_world.specs.Follows.CallMessages.{SendsForCall}
-use Rattle.pc_world.specs.Follows.FinishingJobs.{DoesJobs}
+use Rattle.pc_follows.specs.CallMessages.{SendsForCall}
+use Rattle.pc_follows.specs.FinishingJobs.{DoesJobs}
 use Rattle.pc_world.specs.Known.{Known, known_of}
 use Rattle.pc_world.specs.Known.Traffic.{Sent, request_sent}
 use Rattle.pc_world.specs.Local.{Head, IsActorOf}

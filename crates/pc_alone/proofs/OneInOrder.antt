@@ -19,7 +19,7 @@ use Rattle.pc_proto.specs.declared.request.Request.{Request}
 use Rattle.pc_turns.specs.Order.{AsksAfter, AsksIfNext, AsksPartly, AsksWhole, FinishesAfter, FinishesIfLeft, GoInTurns, GoOnThreads, GoesByItself, IsInBetween, IsTakenIn, UnlessEnded, entries_by, events_of, is_at_end, turn_by_itself}
 use Rattle.pc_turns.specs.Order.GoesByItself.{Passed, Ended, Onwards}
 use Rattle.pc_world.proofs.Knowing.{known_push}
-use Rattle.pc_world.specs.Follows.FinishingJobs.{jobs_of}
+use Rattle.pc_follows.specs.FinishingJobs.{jobs_of}
 use Rattle.pc_world.specs.Known.{Known, known_after, known_of, learn, nothing_known}
 use Rattle.pc_world.specs.Known.Clock.{high_after, top_after}
 use Rattle.pc_world.specs.Known.Traffic.{Heard, Sent, heard_by, sent_by}

@@ -21,7 +21,7 @@ use Rattle.pc_proto.specs.Replies.{view_in}
 use Rattle.pc_proto.specs.Stamps.{greatest_of, reply_stamps, view_stamps}
 use Rattle.pc_txn.specs.declared.txn.OpenTxn.{OpenTxn}
 use Rattle.pc_txn.specs.Opened.{opened_as}
-use Rattle.pc_world.specs.Follows.FinishingJobs.{committing, committed_fate, is_commit_told, left_committed, left_if, settling}
+use Rattle.pc_follows.specs.FinishingJobs.{committing, committed_fate, is_commit_told, left_committed, left_if, settling}
 use Rattle.pc_world.specs.Known.{Known, open_txn, txns_told}
 use Rattle.pc_world.specs.Known.Traffic.{Heard, replies_to}
 use Rattle.pc_world.specs.Known.Transactions.{Txn, meta_of, txn_heard, txn_told}

@@ -30,7 +30,7 @@ use Rattle.pc_wave.proofs.Lists.{at_least-before, at_least-fewer}
 use Rattle.pc_wave.specs.Messages.{is_to_send, message_to_send}
 use Rattle.pc_wave.specs.Standing.{AreOfTwo, MayGoOut, MessageStands, Pairwise, WaveStands, goes_beside}
 use Rattle.pc_world.specs.Counting.{AtLeast}
-use Rattle.pc_world.specs.Follows.Resends.{ShowsLaterEpoch}
+use Rattle.pc_follows.specs.Resends.{ShowsLaterEpoch}
 use Rattle.pc_world.specs.Known.{Known}
 use Rattle.pc_world.specs.Known.Reads.{IsGoodAt}
 use Rattle.pc_world.specs.Known.Statements.{Statement}

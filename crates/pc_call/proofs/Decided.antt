@@ -42,8 +42,8 @@ use Rattle.pc_wave.specs.declared.message.Message.{Message}
 use Rattle.pc_wave.specs.declared.message.Progress.TheVariants as progresses
 use Rattle.pc_wave.specs.Messages.{awaits_at, progress_to_send, wave_awaits}
 use Rattle.pc_wave.specs.Standing.{IsHeardTo}
-use Rattle.pc_world.specs.Follows.Eighth.{TellsTheEighth, WasMovedEighth}
-use Rattle.pc_world.specs.Follows.FinishingJobs.{is_commit_told}
+use Rattle.pc_follows.specs.Eighth.{TellsTheEighth, WasMovedEighth}
+use Rattle.pc_follows.specs.FinishingJobs.{is_commit_told}
 use Rattle.pc_world.specs.Known.{Known}
 use Rattle.pc_world.specs.Known.Statements.{Statement}
 use Rattle.pc_world.specs.Known.Traffic.{Heard, Sent}

@@ -12,7 +12,7 @@ use Rattle.pc_wave.proofs.Lists.{at_least-fewer}
 use Rattle.pc_wave.specs.declared.message.Message.{Message}
 use Rattle.pc_wave.specs.Standing.{MessageStands}
 use Rattle.pc_world.specs.Counting.{AtLeast}
-use Rattle.pc_world.specs.Follows.Eighth.{IsBlockedAnswer, IsMovedAnswer, MetEighth, TellsTheEighth, WasMovedEighth}
+use Rattle.pc_follows.specs.Eighth.{IsBlockedAnswer, IsMovedAnswer, MetEighth, TellsTheEighth, WasMovedEighth}
 use Rattle.pc_world.specs.Known.{Known}
 use Rattle.pc_world.specs.Known.Statements.{Statement}
 use Rattle.pc_world.specs.SameRequest.{IsSamePut, IsSameRequest}

@@ -17,7 +17,7 @@ use Rattle.pc_proto.specs.Requests.{is_about, subject_anchor}
 use Rattle.pc_proto.specs.Stamps.{fate_stamps, greatest_of, view_stamps}
 use Rattle.pc_proto.specs.Views.{HasLocks, IsFateOf, final_fate}
 use Rattle.pc_txn.specs.Standing.{IsPendingOf, ShowsPending}
-use Rattle.pc_world.specs.Follows.FinishingJobs.{finishing_messages, settling}
+use Rattle.pc_follows.specs.FinishingJobs.{finishing_messages, settling}
 use Rattle.pc_world.specs.Known.{Known}
 use Rattle.pc_world.specs.Known.Traffic.{Heard}
 use Rattle.pc_world.specs.Known.Transactions.{Txn, meta_of}

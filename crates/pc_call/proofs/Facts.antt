@@ -12,8 +12,8 @@ use Rattle.pc_refusals.specs.Moves.{CountsMoves}
 use Rattle.pc_txn.specs.Counted.{IsCounted, IsOwnHeard, IsOwnSent, IsOwnWrite}
 use Rattle.pc_wave.proofs.Lists.{at_least-fewer}
 use Rattle.pc_wave.specs.Standing.{AreNumbered}
-use Rattle.pc_world.specs.Follows.CallMessages.{IsFor}
-use Rattle.pc_world.specs.Follows.Eighth.{WasMovedEighth}
+use Rattle.pc_follows.specs.CallMessages.{IsFor}
+use Rattle.pc_follows.specs.Eighth.{WasMovedEighth}
 use Rattle.pc_world.specs.Known.{Known, first_if, open_txn}
 use Rattle.pc_world.specs.Known.Transactions.{Txn}
 use Rattle.pc_world.specs.Send.Put.{AsksFor}

@@ -52,8 +52,8 @@ use Rattle.pc_wave.specs.declared.message.Message.{Message}
 use Rattle.pc_wave.specs.Messages.{awaits_at, back_with, back_with_by, first_changed, progress_awaits, wave_awaits}
 use Rattle.pc_wave.specs.Standing.{HasMore, IsAsFar, IsHeardTo, IsMessageAt, IsOnItsWay, MessageStands, WaveStands, goes_beside}
 use Rattle.pc_world.specs.Answering.{IsRefreshReply, MayAnswer}
-use Rattle.pc_world.specs.Follows.Eighth.{MetEighth}
-use Rattle.pc_world.specs.Follows.PipelinedPuts.{IsHeardOf, IsToOwnPut}
+use Rattle.pc_follows.specs.Eighth.{MetEighth}
+use Rattle.pc_follows.specs.PipelinedPuts.{IsHeardOf, IsToOwnPut}
 use Rattle.pc_world.specs.Known.{Known}
 use Rattle.pc_world.specs.Known.Statements.{Statement}
 use Rattle.pc_world.specs.Known.Traffic.{Heard, Sent}

@@ -30,7 +30,7 @@ use Rattle.pc_txn.specs.Standing.{PutsUpTo}
 use Rattle.pc_wave.proofs.Lists.{at_least-before}
 use Rattle.pc_wave.specs.Messages.{message_to_send}
 use Rattle.pc_wave.specs.Standing.{AreOfTwo, MayGoOut, MessageStands}
-use Rattle.pc_world.specs.Follows.PipelinedPuts.{IsHeardOf}
+use Rattle.pc_follows.specs.PipelinedPuts.{IsHeardOf}
 use Rattle.pc_world.specs.Known.{Known, open_txn}
 use Rattle.pc_world.specs.Known.Statements.{Statement}
 use Rattle.pc_world.specs.Known.Traffic.{Heard, Sent}

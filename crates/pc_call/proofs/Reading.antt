@@ -40,7 +40,7 @@ use Rattle.pc_wave.specs.Due.{MayBeDue, WasAnsweredWith}
 use Rattle.pc_wave.specs.Messages.{step_of}
 use Rattle.pc_wave.specs.Standing.{IsAsFar, IsMessageAt, IsReplyAt, IsSentUnder, MessageStands}
 use Rattle.pc_world.specs.Answering.{MayAnswer}
-use Rattle.pc_world.specs.Follows.Eighth.{MetEighth}
+use Rattle.pc_follows.specs.Eighth.{MetEighth}
 use Rattle.pc_world.specs.Known.{Known}
 use Rattle.pc_world.specs.Known.Reads.{AtOnce, IsGoodAt, Read, read_heard, reads_heard}
 use Rattle.pc_world.specs.Known.Statements.{Statement}

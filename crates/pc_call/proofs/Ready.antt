@@ -32,9 +32,9 @@ use Rattle.pc_txn.specs.Opened.{last_put, next_put, own_abort, own_commit, own_g
 use Rattle.pc_txn.specs.Standing.{AreUnwritten, IsNotWritten, TxnStands, WasLaid}
 use Rattle.pc_wave.specs.declared.message.Message.{Message}
 use Rattle.pc_wave.specs.Messages.{is_to_send}
-use Rattle.pc_world.specs.Follows.CallMessages.{IsFor, IsForCall}
-use Rattle.pc_world.specs.Follows.Eighth.{IsBeforeEighth}
-use Rattle.pc_world.specs.Follows.OneWrite.{IsItsPut}
+use Rattle.pc_follows.specs.CallMessages.{IsFor, IsForCall}
+use Rattle.pc_follows.specs.Eighth.{IsBeforeEighth}
+use Rattle.pc_follows.specs.OneWrite.{IsItsPut}
 use Rattle.pc_world.specs.Known.{Known, call_in, call_of, open_txn}
 use Rattle.pc_world.specs.Known.Reads.{IsGoodAt, IsGoodTo, holds_span}
 use Rattle.pc_world.specs.Known.Statements.{Statement}

@@ -41,8 +41,8 @@ use Rattle.pc_wave.specs.Messages.{progress_to_send, wave_awaits}
 use Rattle.pc_wave.specs.Standing.{IsHeardTo}
 use Rattle.pc_world.specs.Answering.{MayAnswer}
 use Rattle.pc_world.specs.Counting.{LastIs}
-use Rattle.pc_world.specs.Follows.Eighth.{WasMovedEighth}
-use Rattle.pc_world.specs.Follows.Resends.{ShowsLaterEpoch}
+use Rattle.pc_follows.specs.Eighth.{WasMovedEighth}
+use Rattle.pc_follows.specs.Resends.{ShowsLaterEpoch}
 use Rattle.pc_world.specs.Known.{Known}
 use Rattle.pc_world.specs.Known.Traffic.{Heard, Sent}
 use Rattle.pc_world.specs.Known.Transactions.{Txn, txn_heard}

@@ -50,7 +50,7 @@ use Rattle.pc_wave.specs.Due.{MayBeDue, WasAnsweredWith}
 use Rattle.pc_wave.specs.Messages.{step_of}
 use Rattle.pc_wave.specs.Standing.{IsReplyAt}
 use Rattle.pc_world.specs.Answering.{IsRefreshReply, MayAnswer}
-use Rattle.pc_world.specs.Follows.Refreshes.{IsNoneBefore, MetWrite}
+use Rattle.pc_follows.specs.Refreshes.{IsNoneBefore, MetWrite}
 use Rattle.pc_world.specs.Known.{Known}
 use Rattle.pc_world.specs.Known.Reads.{IsGoodAt, WasRefreshed}
 use Rattle.pc_world.specs.Known.Traffic.{Heard}

@@ -42,7 +42,7 @@ use Rattle.pc_wave.specs.declared.message.Progress.TheVariants as progresses
 use Rattle.pc_wave.specs.Messages.{wave_awaits}
 use Rattle.pc_wave.specs.Standing.{IsAsFar, IsHeardTo, MessageStands}
 use Rattle.pc_world.specs.Answering.{MayAnswer}
-use Rattle.pc_world.specs.Follows.Eighth.{MetEighth}
+use Rattle.pc_follows.specs.Eighth.{MetEighth}
 use Rattle.pc_world.specs.Known.{Known, open_txn}
 use Rattle.pc_world.specs.Known.Traffic.{Heard}
 use Rattle.pc_world.specs.Known.Transactions.{Txn, txn_heard}

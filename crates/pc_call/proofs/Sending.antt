@@ -30,8 +30,8 @@ use Rattle.pc_wave.specs.declared.step.Step.TheVariants as steps
 use Rattle.pc_wave.specs.Due.{MayBeDue}
 use Rattle.pc_wave.specs.Messages.{conflict_by, first_in_conflict, has_answer, is_in_conflict, is_to_send, progress_in_conflict, step_by, step_in, step_of}
 use Rattle.pc_wave.specs.Standing.{MayGoOut}
-use Rattle.pc_world.specs.Follows.Eighth.{MetEighth}
-use Rattle.pc_world.specs.Follows.Refreshes.{IsItsRefresh}
+use Rattle.pc_follows.specs.Eighth.{MetEighth}
+use Rattle.pc_follows.specs.Refreshes.{IsItsRefresh}
 use Rattle.pc_world.specs.Known.{Known}
 
 no_delivery : (o : Option TxnId) (number : ℕ) (conflict : Reply) → conflict_by o number conflict ≡ steps.Deliver → ⊥

@@ -18,7 +18,7 @@ use Rattle.pc_reads.specs.ReadsStanding.{TxnReadsStand}
 use Rattle.pc_txn.proofs.Restarts.{stands_told, told_open}
 use Rattle.pc_txn.specs.declared.txn.OpenTxn.{OpenTxn}
 use Rattle.pc_txn.specs.Standing.{HasMovedOn, TxnStands}
-use Rattle.pc_world.specs.Follows.FinishingJobs.{left_by}
+use Rattle.pc_follows.specs.FinishingJobs.{left_by}
 use Rattle.pc_world.specs.Known.{Known, told_first, txns_told}
 use Rattle.pc_world.specs.Known.Clock.{high_told}
 use Rattle.pc_world.specs.Known.Reads.{Read, reads_told}

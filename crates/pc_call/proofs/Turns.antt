@@ -24,7 +24,7 @@ use Rattle.pc_txn.specs.Opened.{own_get, own_scan}
 use Rattle.pc_wave.specs.declared.message.Message.{Message}
 use Rattle.pc_wave.specs.Messages.{is_to_send}
 use Rattle.pc_wave.specs.Standing.{Pairwise}
-use Rattle.pc_world.specs.Follows.Refreshes.{IsItsRefresh, IsRefreshBefore}
+use Rattle.pc_follows.specs.Refreshes.{IsItsRefresh, IsRefreshBefore}
 use Rattle.pc_world.specs.Known.{Known}
 use Rattle.pc_world.specs.Known.Transactions.{Txn}
 use Rattle.pc_world.specs.RangeOf.{pieces}

@@ -13,7 +13,7 @@ use Rattle.pc_proto.specs.declared.fate.Fate.{Fate}
 use Rattle.pc_proto.specs.declared.why.Why.{Why}
 use Rattle.pc_txn.specs.declared.txn.OpenTxn.{OpenTxn}
 use Rattle.pc_world.specs.Counting.{AtLeast}
-use Rattle.pc_world.specs.Follows.FinishingJobs.{committed_fate, committing, left_committed, left_if, settling}
+use Rattle.pc_follows.specs.FinishingJobs.{committed_fate, committing, left_committed, left_if, settling}
 use Rattle.pc_world.specs.Known.{Known, open_txn}
 use Rattle.pc_world.specs.Known.Reads.{IsGoodAt}
 use Rattle.pc_world.specs.Known.Statements.{Statement}

@@ -23,7 +23,7 @@ use Rattle.pc_wave.specs.declared.message.Progress.{Progress}
 use Rattle.pc_wave.specs.declared.message.Progress.TheVariants as progresses
 use Rattle.pc_wave.specs.Messages.{is_to_send, progress_to_send, wave_awaits}
 use Rattle.pc_wave.specs.Standing.{IsAsFar, IsHeardTo, IsMessageAt, MessageStands}
-use Rattle.pc_world.specs.Follows.Refreshes.{AreAllAsked, IsOfWholeRefresh, RefreshesInOneWave}
+use Rattle.pc_follows.specs.Refreshes.{AreAllAsked, IsOfWholeRefresh, RefreshesInOneWave}
 use Rattle.pc_world.specs.Known.{Known}
 use Rattle.pc_world.specs.Known.Traffic.{Heard}
 use Rattle.pc_world.specs.Known.Transactions.{Txn}

@@ -10,7 +10,7 @@ use Rattle.pc_refusals.specs.Moves.{CountsMoves}
 use Rattle.pc_txn.specs.declared.txn.OpenTxn.{OpenTxn}
 use Rattle.pc_txn.specs.Standing.{TxnStands}
 use Rattle.pc_world.specs.Counting.{LastIs}
-use Rattle.pc_world.specs.Follows.Eighth.{WasMovedEighth}
+use Rattle.pc_follows.specs.Eighth.{WasMovedEighth}
 use Rattle.pc_world.specs.Known.{Known}
 use Rattle.pc_world.specs.Known.Reads.{IsGoodAt}
 use Rattle.pc_world.specs.Known.Statements.{Statement}

@@ -13,7 +13,7 @@ use Rattle.pc_proto.specs.declared.view.View.TheVariants as views
 use Rattle.pc_proto.specs.declared.why.Why.{Why}
 use Rattle.pc_txn.specs.declared.txn.OpenTxn.{OpenTxn}
 use Rattle.pc_txn.specs.Opened.{meta_now}
-use Rattle.pc_world.specs.Follows.FinishingJobs.{finishing_messages, left_by}
+use Rattle.pc_follows.specs.FinishingJobs.{finishing_messages, left_by}
 use Rattle.pc_world.specs.Known.{Known}
 use Rattle.pc_world.specs.Send.Settling.{MayFinish}
 

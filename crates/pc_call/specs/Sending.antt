@@ -9,12 +9,12 @@ use Rattle.pc_proto.specs.declared.request.Request.{Request}
 use Rattle.pc_proto.specs.declared.request.Request.TheVariants as requests
 use Rattle.pc_proto.specs.Stamps.{request_stamps}
 use Rattle.pc_wave.specs.Due.{IsRoundDue}
-use Rattle.pc_world.specs.Follows.CallMessages.{IsForCall}
-use Rattle.pc_world.specs.Follows.EarlyTell.{IsCommitKnown}
-use Rattle.pc_world.specs.Follows.Eighth.{IsBeforeEighth, MetEighth}
-use Rattle.pc_world.specs.Follows.OneWrite.{IsItsPut}
-use Rattle.pc_world.specs.Follows.Refreshes.{IsItsRefresh}
-use Rattle.pc_world.specs.Follows.Resends.{AreAnsweredNow, MayGoAgain}
+use Rattle.pc_follows.specs.CallMessages.{IsForCall}
+use Rattle.pc_follows.specs.EarlyTell.{IsCommitKnown}
+use Rattle.pc_follows.specs.Eighth.{IsBeforeEighth, MetEighth}
+use Rattle.pc_follows.specs.OneWrite.{IsItsPut}
+use Rattle.pc_follows.specs.Refreshes.{IsItsRefresh}
+use Rattle.pc_follows.specs.Resends.{AreAnsweredNow, MayGoAgain}
 use Rattle.pc_world.specs.Known.{Known, open_txn}
 use Rattle.pc_world.specs.Known.Statements.{Statement}
 use Rattle.pc_world.specs.Known.Traffic.{Heard}

@@ -28,7 +28,7 @@ use Rattle.pc_wave.specs.declared.message.Progress.TheVariants as progresses
 use Rattle.pc_wave.specs.Messages.{is_to_send, wave_awaits}
 use Rattle.pc_wave.specs.Standing.{Pairwise, WaveStands}
 use Rattle.pc_world.specs.Counting.{AtLeast}
-use Rattle.pc_world.specs.Follows.Resends.{ShowsLaterEpoch}
+use Rattle.pc_follows.specs.Resends.{ShowsLaterEpoch}
 use Rattle.pc_world.specs.Known.{Known}
 use Rattle.pc_world.specs.Known.Reads.{IsGoodAt, read_heard}
 use Rattle.pc_world.specs.Known.Statements.{Statement}

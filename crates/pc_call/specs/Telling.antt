@@ -10,10 +10,10 @@ use Rattle.pc_proto.specs.declared.event.Event.TheVariants as events
 use Rattle.pc_proto.specs.Stamps.{why_stamps}
 use Rattle.pc_txn.specs.declared.txn.OpenTxn.{OpenTxn}
 use Rattle.pc_txn.specs.Standing.{TxnStands}
-use Rattle.pc_world.specs.Follows.Eighth.{TellsTheEighth}
-use Rattle.pc_world.specs.Follows.FinishingJobs.{AbortsFirst, left_by}
-use Rattle.pc_world.specs.Follows.PipelinedPuts.{TellsWritten}
-use Rattle.pc_world.specs.Follows.Refreshes.{RefreshesReads}
+use Rattle.pc_follows.specs.Eighth.{TellsTheEighth}
+use Rattle.pc_follows.specs.FinishingJobs.{AbortsFirst, left_by}
+use Rattle.pc_follows.specs.PipelinedPuts.{TellsWritten}
+use Rattle.pc_follows.specs.Refreshes.{RefreshesReads}
 use Rattle.pc_world.specs.Known.{Known}
 use Rattle.pc_world.specs.Known.Statements.{Statement}
 use Rattle.pc_world.specs.Known.Transactions.{Txn}

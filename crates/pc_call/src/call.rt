@@ -16,7 +16,7 @@ ghost use Rattle.pc_txn.specs.declared.txn.OpenTxn.{OpenTxn};
 ghost use Rattle.pc_wave.specs.Standing.{IsHeardTo};
 ghost use Rattle.pc_wave.specs.declared.step.Step.TheVariants as steps;
 ghost use Rattle.pc_wave.specs.Messages.{awaits_at, back_with, conflicts_at, first_changed, goes_again, is_to_send, message_to_send, sent_under, step_of, wave_awaits};
-ghost use Rattle.pc_world.specs.Follows.Refreshes.{RefreshesInOneWave};
+ghost use Rattle.pc_follows.specs.Refreshes.{RefreshesInOneWave};
 ghost use Rattle.pc_world.specs.Known.{Known, next_number};
 ghost use Rattle.pc_world.specs.Known.Traffic.{Heard};
 

@@ -25,7 +25,7 @@ use Rattle.pc_wave.specs.declared.message.Message.{Message}
 use Rattle.pc_wave.specs.declared.step.Step.TheVariants as steps
 use Rattle.pc_wave.specs.Messages.{awaits_at, first_in_conflict, has_answer, is_to_send, step_of, wave_awaits}
 use Rattle.pc_wave.specs.Standing.{IsAsFar, IsMessageAt, IsOnItsWay, MessageStands}
-use Rattle.pc_world.specs.Follows.Resends.{AreAnsweredNow}
+use Rattle.pc_follows.specs.Resends.{AreAnsweredNow}
 use Rattle.pc_world.specs.Known.{Known}
 use Rattle.pc_world.specs.Known.Traffic.{Heard, Sent, request_sent}
 use Rattle.pc_world.specs.RangeOf.{pieces}

@@ -31,7 +31,7 @@ use Rattle.pc_proto.specs.declared.request.Request.{Request}
 use Rattle.pc_txn.specs.declared.txn.OpenTxn.{OpenTxn}
 use Rattle.pc_wave.specs.declared.message.Message.{Message}
 use Rattle.pc_wave.specs.Messages.{step_of}
-use Rattle.pc_world.specs.Follows.FinishingJobs.{left_by}
+use Rattle.pc_follows.specs.FinishingJobs.{left_by}
 use Rattle.pc_world.specs.Known.{Known}
 use Rattle.pc_world.specs.Known.Clock.{high_told}
 use Rattle.pc_world.specs.Known.Statements.{Statement, begun_told}

@@ -36,10 +36,10 @@ use Rattle.pc_txn.specs.declared.txn.OpenTxn.{OpenTxn}
 use Rattle.pc_txn.specs.Opened.{opened_as}
 use Rattle.pc_txn.specs.Standing.{IsOutOrRefused, IsPendingOf, PutsUpTo, TxnStands}
 use Rattle.pc_world.specs.Counting.{AtLeast}
-use Rattle.pc_world.specs.Follows.Eighth.{TellsTheEighth}
-use Rattle.pc_world.specs.Follows.FinishingJobs.{AbortsFirst, left_by}
-use Rattle.pc_world.specs.Follows.PipelinedPuts.{TellsWritten}
-use Rattle.pc_world.specs.Follows.Refreshes.{RefreshesReads}
+use Rattle.pc_follows.specs.Eighth.{TellsTheEighth}
+use Rattle.pc_follows.specs.FinishingJobs.{AbortsFirst, left_by}
+use Rattle.pc_follows.specs.PipelinedPuts.{TellsWritten}
+use Rattle.pc_follows.specs.Refreshes.{RefreshesReads}
 use Rattle.pc_world.specs.Known.{Known}
 use Rattle.pc_world.specs.Known.Clock.{high_told}
 use Rattle.pc_world.specs.Known.Statements.{Statement, begun_told, is_open_told}

@@ -21,7 +21,7 @@ use Rattle.pc_proto.specs.declared.request.Request.TheVariants as requests
 use Rattle.pc_proto.specs.Replies.{is_conflict}
 use Rattle.pc_proto.specs.Requests.{is_push_of, is_resolve_of}
 use Rattle.pc_txn.specs.declared.txn.OpenTxn.{OpenTxn}
-use Rattle.pc_world.specs.Follows.Resends.{WasDone, WasFollowed, WasSettled}
+use Rattle.pc_follows.specs.Resends.{WasDone, WasFollowed, WasSettled}
 use Rattle.pc_world.specs.Known.{Known}
 use Rattle.pc_world.specs.Known.Traffic.{Heard}
 use Rattle.pc_world.specs.Send.Recovery.{was_refused}

@@ -23,9 +23,9 @@ use Rattle.pc_txn.specs.declared.txn.OpenTxn.{OpenTxn}
 use Rattle.pc_wave.specs.declared.step.Step.{Step}
 use Rattle.pc_wave.specs.declared.step.Step.TheVariants as steps
 use Rattle.pc_wave.specs.Messages.{step_of}
-use Rattle.pc_world.specs.Follows.FinishingJobs.{AbortsFirst, finishing_messages, left_by}
-use Rattle.pc_world.specs.Follows.PipelinedPuts.{TellsWritten}
-use Rattle.pc_world.specs.Follows.Refreshes.{RefreshesReads}
+use Rattle.pc_follows.specs.FinishingJobs.{AbortsFirst, finishing_messages, left_by}
+use Rattle.pc_follows.specs.PipelinedPuts.{TellsWritten}
+use Rattle.pc_follows.specs.Refreshes.{RefreshesReads}
 use Rattle.pc_world.specs.Known.{Known, known_after}
 use Rattle.pc_world.specs.Known.Clock.{high_after, top_after}
 use Rattle.pc_world.specs.Known.Statements.{Statement}

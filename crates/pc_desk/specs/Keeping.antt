@@ -9,17 +9,17 @@ use Rattle.pc_desk.specs.Hearing.{HearsAll, HearsOldest}
 use Rattle.pc_desk.specs.WholeScan.{HearsAllPieces}
 use Rattle.pc_history.specs.declared.pair.Pair.{Pair}
 use Rattle.pc_proto.specs.declared.event.Event.{Event}
-use Rattle.pc_world.specs.Follows.CallMessages.{SendsForCall}
-use Rattle.pc_world.specs.Follows.EarlyProof.{ProvesNothingEarly}
-use Rattle.pc_world.specs.Follows.EarlyTell.{TellsEarly}
-use Rattle.pc_world.specs.Follows.Eighth.{StopsAtEighth}
-use Rattle.pc_world.specs.Follows.FinishingJobs.{AbortsFirst, DoesJobs, jobs_of}
-use Rattle.pc_world.specs.Follows.OneWrite.{WritesOnce}
-use Rattle.pc_world.specs.Follows.PipelinedPuts.{HearsOnlyItsPuts, TellsWritten}
-use Rattle.pc_world.specs.Follows.Refreshes.{RefreshesInOneWave, RefreshesReads}
-use Rattle.pc_world.specs.Follows.Resends.{ResendsOnlyAnswered}
-use Rattle.pc_world.specs.Follows.Rounds.{KeepsRounds}
-use Rattle.pc_world.specs.Follows.WaveOrder.{SendsInWave}
+use Rattle.pc_follows.specs.CallMessages.{SendsForCall}
+use Rattle.pc_follows.specs.EarlyProof.{ProvesNothingEarly}
+use Rattle.pc_follows.specs.EarlyTell.{TellsEarly}
+use Rattle.pc_follows.specs.Eighth.{StopsAtEighth}
+use Rattle.pc_follows.specs.FinishingJobs.{AbortsFirst, DoesJobs, jobs_of}
+use Rattle.pc_follows.specs.OneWrite.{WritesOnce}
+use Rattle.pc_follows.specs.PipelinedPuts.{HearsOnlyItsPuts, TellsWritten}
+use Rattle.pc_follows.specs.Refreshes.{RefreshesInOneWave, RefreshesReads}
+use Rattle.pc_follows.specs.Resends.{ResendsOnlyAnswered}
+use Rattle.pc_follows.specs.Rounds.{KeepsRounds}
+use Rattle.pc_follows.specs.WaveOrder.{SendsInWave}
 use Rattle.pc_world.specs.Known.{known_of}
 use Rattle.pc_world.specs.Known.Traffic.{Heard, heard_by}
 

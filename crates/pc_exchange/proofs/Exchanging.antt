@@ -38,11 +38,11 @@ use Rattle.pc_proto.specs.declared.request.Request.TheVariants as requests
 use Rattle.pc_proto.specs.Requests.{is_put, is_refresh, round_of}
 use Rattle.pc_range.specs.Message.{evaluation}
 use Rattle.pc_range.specs.Protocol.{unstaged_protocol}
-use Rattle.pc_world.specs.Follows.PipelinedPuts.{IsPutWaitedFor}
+use Rattle.pc_follows.specs.PipelinedPuts.{IsPutWaitedFor}
 use Rattle.pc_turns.specs.Order.{IsInBetween, events_of}
-use Rattle.pc_world.specs.Follows.CallMessages.{IsOfRound}
-use Rattle.pc_world.specs.Follows.Refreshes.{IsOfWholeRefresh}
-use Rattle.pc_world.specs.Follows.WaveOrder.{IsOldestUnheard, IsScanOf, SentAllPieces}
+use Rattle.pc_follows.specs.CallMessages.{IsOfRound}
+use Rattle.pc_follows.specs.Refreshes.{IsOfWholeRefresh}
+use Rattle.pc_follows.specs.WaveOrder.{IsOldestUnheard, IsScanOf, SentAllPieces}
 use Rattle.pc_world.specs.Known.{Known, call_in, known_of, next_number}
 use Rattle.pc_world.specs.Known.Statements.{Statement}
 use Rattle.pc_world.specs.Known.Traffic.{Heard, Sent, heard_as, request_sent}

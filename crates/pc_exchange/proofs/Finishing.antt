@@ -33,7 +33,7 @@ use Rattle.pc_proto.specs.Stamps.{greatest_of, reply_stamps}
 use Rattle.pc_resolve.specs.Resolving.{Resolving, at_end, finishing_after, finishing_due, finishing_heard, finishing_next, lock_resolve, remove_of, unsettled, with_reply}
 use Rattle.pc_resolve.specs.ResolveKnows.{FinishingMayCome, ResolveKnows, WasAnsweredToIt}
 use Rattle.pc_world.specs.Exchange.{IsAllowed}
-use Rattle.pc_world.specs.Follows.FinishingJobs.{first_message, jobs_of, without_first}
+use Rattle.pc_follows.specs.FinishingJobs.{first_message, jobs_of, without_first}
 use Rattle.pc_world.specs.Known.{Known, call_in, known_of, open_txn}
 use Rattle.pc_world.specs.Known.Transactions.{Txn}
 use Rattle.pc_world.specs.Send.Settling.{MayFinish}

@@ -28,8 +28,8 @@ use Rattle.pc_resolve.specs.ResolveKnows.{WasAnsweredToIt, sends_put_by}
 use Rattle.pc_resolve.specs.Resolving.{Resolving}
 use Rattle.pc_turns.specs.Order.{IsInBetween}
 use Rattle.pc_world.specs.Exchange.{WasAnswered}
-use Rattle.pc_world.specs.Follows.FinishingJobs.{jobs_of}
-use Rattle.pc_world.specs.Follows.Rounds.{rounds_begun}
+use Rattle.pc_follows.specs.FinishingJobs.{jobs_of}
+use Rattle.pc_follows.specs.Rounds.{rounds_begun}
 use Rattle.pc_world.specs.Known.{Known, known_of, next_number}
 use Rattle.pc_world.specs.Known.Traffic.{Heard, Sent}
 

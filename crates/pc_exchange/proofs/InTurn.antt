@@ -25,9 +25,9 @@ use Rattle.pc_push.specs.Pushing.{Pushing, holder_resolve, push_of}
 use Rattle.pc_wave.proofs.Lists.{at_least-kept}
 use Rattle.pc_wave.proofs.Standings.{done-more}
 use Rattle.pc_world.specs.Counting.{AtLeast}
-use Rattle.pc_world.specs.Follows.Eighth.{IsBeforeEighth, IsBelowEighth, MetEighth}
-use Rattle.pc_world.specs.Follows.Resends.{WasDone}
-use Rattle.pc_world.specs.Follows.Rounds.{AreRoundsOver, BeginsRound, IsConflictAt, IsFateOfRound, IsInItsRound, IsInRound, IsRoundOver, LeavesFate, conflicts_now, rounds_begun}
+use Rattle.pc_follows.specs.Eighth.{IsBeforeEighth, IsBelowEighth, MetEighth}
+use Rattle.pc_follows.specs.Resends.{WasDone}
+use Rattle.pc_follows.specs.Rounds.{AreRoundsOver, BeginsRound, IsConflictAt, IsFateOfRound, IsInItsRound, IsInRound, IsRoundOver, LeavesFate, conflicts_now, rounds_begun}
 use Rattle.pc_world.specs.Known.{Known}
 use Rattle.pc_world.specs.Known.Traffic.{Heard, Sent}
 use Rattle.pc_world.specs.Send.Push.{goal_for}

@@ -16,7 +16,7 @@ use Rattle.pc_proto.specs.declared.request.Request.{Request}
 use Rattle.pc_proto.specs.declared.request.Request.TheVariants as requests
 use Rattle.pc_resolve.specs.Resolving.{Resolving, at_end, finishing_after, finishing_due, finishing_heard, finishing_next, lock_resolve, remove_of, unsettled, with_reply}
 use Rattle.pc_world.specs.Answering.{MayAnswer}
-use Rattle.pc_world.specs.Follows.FinishingJobs.{Duty, duty_after, jobs_of, without_first}
+use Rattle.pc_follows.specs.FinishingJobs.{Duty, duty_after, jobs_of, without_first}
 use Rattle.pc_world.specs.Known.{Known, known_of, learn, nothing_known}
 use Rattle.pc_world.specs.Known.Statements.{Statement}
 

@@ -44,10 +44,10 @@ use Rattle.pc_push.specs.Pushing.{Pushing, goal_of, holder_resolve, progress_aft
 use Rattle.pc_world.specs.Answering.{MayAnswer}
 use Rattle.pc_world.specs.Counting.{AtLeast}
 use Rattle.pc_world.specs.Exchange.{IsPossibleReply}
-use Rattle.pc_world.specs.Follows.EarlyTell.{IsCommitKnown}
-use Rattle.pc_world.specs.Follows.Eighth.{IsBeforeEighth, MetEighth}
-use Rattle.pc_world.specs.Follows.Resends.{HasMoreConflicts, MayGoAgain}
-use Rattle.pc_world.specs.Follows.Rounds.{IsInItsRound, rounds_begun}
+use Rattle.pc_follows.specs.EarlyTell.{IsCommitKnown}
+use Rattle.pc_follows.specs.Eighth.{IsBeforeEighth, MetEighth}
+use Rattle.pc_follows.specs.Resends.{HasMoreConflicts, MayGoAgain}
+use Rattle.pc_follows.specs.Rounds.{IsInItsRound, rounds_begun}
 use Rattle.pc_world.specs.Known.{Known, call_in, open_txn, reading_of}
 use Rattle.pc_world.specs.Known.Traffic.{Heard, Sent}
 use Rattle.pc_world.specs.Known.Transactions.{Txn}

@@ -39,8 +39,8 @@ use Rattle.pc_push.specs.declared.progress.Progress.TheVariants as progresses
 use Rattle.pc_push.specs.PushKnows.{Asks, AsksAt, MayPush, PushKnows, RoundMayCome}
 use Rattle.pc_push.specs.Pushing.{IsStart, Pushing, goal_of, round_after, round_next as next_due}
 use Rattle.pc_world.specs.Exchange.{IsAllowed, IsPossibleReply, WasAnswered}
-use Rattle.pc_world.specs.Follows.FinishingJobs.{jobs_of}
-use Rattle.pc_world.specs.Follows.Rounds.{rounds_begun}
+use Rattle.pc_follows.specs.FinishingJobs.{jobs_of}
+use Rattle.pc_follows.specs.Rounds.{rounds_begun}
 use Rattle.pc_world.specs.Known.{Known, known_of}
 
 module _ {C : Type 0} (old : DeskMeaning C) (pusher : Pusher) (reading : ℕ) (conflict : Reply) (reader : Option ℕ) (start : MayMakeRound old pusher reading conflict reader) where

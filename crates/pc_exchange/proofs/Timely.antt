@@ -19,15 +19,15 @@ use Rattle.pc_proto.specs.declared.request.Request.{Request}
 use Rattle.pc_proto.specs.declared.request.Request.TheVariants as requests
 use Rattle.pc_proto.specs.Requests.{is_put, is_refresh, round_of}
 use Rattle.pc_world.specs.Exchange.{IsAllowed}
-use Rattle.pc_world.specs.Follows.CallMessages.{IsFor, IsForCall, IsOfRound}
-use Rattle.pc_world.specs.Follows.EarlyTell.{IsCommitKnown}
-use Rattle.pc_world.specs.Follows.Eighth.{IsBeforeEighth, MetEighth}
-use Rattle.pc_world.specs.Follows.FinishingJobs.{IsDue, jobs_of}
-use Rattle.pc_world.specs.Follows.OneWrite.{IsItsPut}
-use Rattle.pc_world.specs.Follows.Refreshes.{IsItsRefresh}
-use Rattle.pc_world.specs.Follows.Resends.{AreAnsweredNow, MayGoAgain}
-use Rattle.pc_world.specs.Follows.Rounds.{IsInItsRound}
-use Rattle.pc_world.specs.Follows.WaveOrder.{EndsWaves}
+use Rattle.pc_follows.specs.CallMessages.{IsFor, IsForCall, IsOfRound}
+use Rattle.pc_follows.specs.EarlyTell.{IsCommitKnown}
+use Rattle.pc_follows.specs.Eighth.{IsBeforeEighth, MetEighth}
+use Rattle.pc_follows.specs.FinishingJobs.{IsDue, jobs_of}
+use Rattle.pc_follows.specs.OneWrite.{IsItsPut}
+use Rattle.pc_follows.specs.Refreshes.{IsItsRefresh}
+use Rattle.pc_follows.specs.Resends.{AreAnsweredNow, MayGoAgain}
+use Rattle.pc_follows.specs.Rounds.{IsInItsRound}
+use Rattle.pc_follows.specs.WaveOrder.{EndsWaves}
 use Rattle.pc_world.specs.Known.{Known, known_of}
 use Rattle.pc_world.specs.Known.Statements.{Statement}
 use Rattle.pc_world.specs.Known.Transactions.{Txn}

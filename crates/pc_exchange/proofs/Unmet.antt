@@ -11,7 +11,7 @@ use Rattle.pc_push.specs.Pushing.{Pushing, holder_resolve, push_of}
 use Rattle.pc_wave.proofs.Lists.{at_least-fewer}
 use Rattle.pc_world.specs.Answering.{IsPushReply, IsResolved, MayAnswer}
 use Rattle.pc_world.specs.Counting.{AtLeast}
-use Rattle.pc_world.specs.Follows.Eighth.{MetEighth}
+use Rattle.pc_follows.specs.Eighth.{MetEighth}
 use Rattle.pc_world.specs.Known.{Known}
 use Rattle.pc_world.specs.Known.Traffic.{Heard}
 use Rattle.pc_world.specs.SameRequest.{IsSamePut, IsSameRequest}

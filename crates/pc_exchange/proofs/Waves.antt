@@ -6,7 +6,7 @@ use Rattle.std.proofs.lemmas.List.Elements.{All-contains, Contains-append_left}
 use Rattle.pc_history.specs.declared.pair.Pair.{Pair}
 use Rattle.pc_lists.proofs.Lists.{all_from_contains}
 use Rattle.pc_proto.specs.declared.event.Event.{Event}
-use Rattle.pc_world.specs.Follows.WaveOrder.{EndsWaves, IsHeardOrPut, IsHearing}
+use Rattle.pc_follows.specs.WaveOrder.{EndsWaves, IsHeardOrPut, IsHearing}
 use Rattle.pc_world.specs.Known.{Known, known_of, learn, nothing_known}
 use Rattle.pc_world.specs.Known.Traffic.{Sent, sent_by}
 use Rattle.pc_world.specs.Tell.Refusal.{is_heard}

@@ -14,7 +14,7 @@ use Rattle.pc_proto.specs.Requests.{is_put, is_refresh}
 use Rattle.pc_range.specs.Message.{evaluation, sending}
 use Rattle.pc_world.specs.Answering.{MayAnswer}
 use Rattle.pc_world.specs.Exchange.{IsPossibleReply}
-use Rattle.pc_world.specs.Follows.CallMessages.{IsOfRound}
+use Rattle.pc_follows.specs.CallMessages.{IsOfRound}
 use Rattle.pc_world.specs.Known.{known_of, next_number}
 use Rattle.pc_world.specs.Known.Statements.{Statement}
 

@@ -11,7 +11,7 @@ use Rattle.pc_proto.specs.declared.request.Request.{Request}
 use Rattle.pc_proto.specs.declared.request.Request.TheVariants as requests
 use Rattle.pc_resolve.specs.Resolving.{Resolving}
 use Rattle.pc_resolve.specs.ResolveKnows.{ResolveKnows}
-use Rattle.pc_world.specs.Follows.FinishingJobs.{jobs_of}
+use Rattle.pc_follows.specs.FinishingJobs.{jobs_of}
 use Rattle.pc_world.specs.Known.{known_of}
 
 -- The messages that the job's machine still has to send.

@@ -1,8 +1,8 @@
 -- The rounds of a call's conflicts come one after another: which conflict has the next one. Own profile.
 use Rattle.std.specs.Prelude.{◌≡◌, ℕ, Some, length, filter, slice_get, is_some}
 use Rattle.pc_proto.specs.Requests.{goal_in}
-use Rattle.pc_world.specs.Follows.Eighth.{MetEighth}
-use Rattle.pc_world.specs.Follows.Rounds.{AreRoundsOver, conflicts_now, rounds_begun}
+use Rattle.pc_follows.specs.Eighth.{MetEighth}
+use Rattle.pc_follows.specs.Rounds.{AreRoundsOver, conflicts_now, rounds_begun}
 use Rattle.pc_world.specs.Known.{Known}
 use Rattle.pc_world.specs.Known.Traffic.{Heard}
 

@@ -10,7 +10,7 @@ use Rattle.pc_exchange.specs.Growing.{HasGoneBeside, HasAllBack}
 use Rattle.pc_history.specs.declared.pair.Pair.{Pair}
 use Rattle.pc_proto.specs.declared.event.Event.{Event}
 use Rattle.pc_proto.specs.declared.request.Request.{Request}
-use Rattle.pc_world.specs.Follows.FinishingJobs.{jobs_of}
+use Rattle.pc_follows.specs.FinishingJobs.{jobs_of}
 use Rattle.pc_world.specs.Known.{Known, known_of, open_txn}
 use Rattle.pc_world.specs.Known.Transactions.{Txn}
 use Rattle.pc_world.specs.Tell.Refusal.{is_heard}

@@ -21,8 +21,8 @@ use Rattle.pc_push.specs.declared.progress.Progress.{Progress}
 use Rattle.pc_push.specs.declared.progress.Progress.TheVariants as progresses
 use Rattle.pc_push.specs.PushKnows.{PushKnows}
 use Rattle.pc_push.specs.Pushing.{Pushing}
-use Rattle.pc_world.specs.Follows.FinishingJobs.{jobs_of}
-use Rattle.pc_world.specs.Follows.Rounds.{rounds_begun}
+use Rattle.pc_follows.specs.FinishingJobs.{jobs_of}
+use Rattle.pc_follows.specs.Rounds.{rounds_begun}
 use Rattle.pc_world.specs.Known.{Known, known_of}
 use Rattle.pc_world.specs.Known.Traffic.{Heard}
 use Rattle.pc_world.specs.Send.Push.{goal_for}

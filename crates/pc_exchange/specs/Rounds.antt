@@ -18,8 +18,8 @@ use Rattle.pc_exchange.specs.Jobs.{IsFinishable}
 use Rattle.pc_history.specs.declared.pair.Pair.{Pair}
 use Rattle.pc_proto.specs.declared.event.Event.{Event}
 use Rattle.pc_proto.specs.declared.reply.Reply.{Reply}
-use Rattle.pc_world.specs.Follows.FinishingJobs.{jobs_of}
-use Rattle.pc_world.specs.Follows.Rounds.{rounds_begun}
+use Rattle.pc_follows.specs.FinishingJobs.{jobs_of}
+use Rattle.pc_follows.specs.Rounds.{rounds_begun}
 use Rattle.pc_world.specs.Known.{Known, known_of, reading_of}
 
 -- The session's open call, which was asked at this reading, met this conflict, and its round is due: it is the next one.

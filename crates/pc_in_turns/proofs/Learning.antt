@@ -40,7 +40,7 @@ use Rattle.pc_turns.specs.Order.{AsksIfNext, FinishesIfLeft, IsInBetween, Unless
 use Rattle.pc_turns.specs.Shares.{IsSessionOf}
 use Rattle.pc_world.proofs.Knowing.{known_push}
 use Rattle.pc_world.specs.Caused.{TellsCommitted}
-use Rattle.pc_world.specs.Follows.FinishingJobs.{jobs_of}
+use Rattle.pc_follows.specs.FinishingJobs.{jobs_of}
 use Rattle.pc_world.specs.Known.{Known, call_in, call_of, known_of, learn}
 use Rattle.pc_world.specs.Known.Statements.{Statement, met_now_after, statement_after}
 

@@ -14,7 +14,7 @@ use Rattle.pc_refusals.specs.Moves.{CountsMoves, DecidesAt, IsNoMove, RefusalsGo
 use Rattle.pc_wave.proofs.Lists.{any_true_kept, at_least-before, at_least-fewer, at_least-kept, at_least-pop, at_least-push, last-in}
 use Rattle.pc_wave.specs.Standing.{HasMore}
 use Rattle.pc_world.specs.Counting.{AtLeast, LastIs}
-use Rattle.pc_world.specs.Follows.Eighth.{WasMovedEighth}
+use Rattle.pc_follows.specs.Eighth.{WasMovedEighth}
 use Rattle.pc_world.specs.Known.{Known}
 use Rattle.pc_world.specs.Known.Traffic.{Heard, Sent}
 use Rattle.pc_world.specs.Tell.Data.{was_sent_now}

@@ -4,7 +4,7 @@ ghost use Rattle.pc_proto.specs.Replies.{status_ts};
 ghost use Rattle.pc_refusals.specs.Moves.{CountsMoves, ShowsRecord, moves_with};
 ghost use Rattle.pc_wave.specs.Standing.{HasMore};
 ghost use Rattle.pc_world.specs.Counting.{LastIs};
-ghost use Rattle.pc_world.specs.Follows.Eighth.{WasMovedEighth};
+ghost use Rattle.pc_follows.specs.Eighth.{WasMovedEighth};
 ghost use Rattle.pc_world.specs.Known.{Known};
 ghost use Rattle.pc_world.specs.Known.Traffic.{Heard};
 ghost use Rattle.pc_world.specs.Tell.Refusal.{WasMoved};

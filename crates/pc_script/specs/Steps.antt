@@ -8,12 +8,12 @@ use Rattle.pc_script.specs.Clocks.{ReadsClock, asks_in, clock_rule}
 use Rattle.pc_script.specs.Script.{AsksNext, Position, script_position}
 use Rattle.pc_work.specs.declared.session.SessionWork.{SessionWork}
 use Rattle.pc_work.specs.declared.workload.Workload.{Workload}
-use Rattle.pc_world.specs.Follows.CallMessages.{SendsForCall}
-use Rattle.pc_world.specs.Follows.EarlyProof.{ProvesNothingEarly}
-use Rattle.pc_world.specs.Follows.EarlyTell.{TellsEarly}
-use Rattle.pc_world.specs.Follows.FinishingJobs.{AbortsFirst, DoesJobs, jobs_of}
-use Rattle.pc_world.specs.Follows.PipelinedPuts.{HearsOnlyItsPuts, TellsWritten}
-use Rattle.pc_world.specs.Follows.Resends.{ResendsOnlyAnswered}
+use Rattle.pc_follows.specs.CallMessages.{SendsForCall}
+use Rattle.pc_follows.specs.EarlyProof.{ProvesNothingEarly}
+use Rattle.pc_follows.specs.EarlyTell.{TellsEarly}
+use Rattle.pc_follows.specs.FinishingJobs.{AbortsFirst, DoesJobs, jobs_of}
+use Rattle.pc_follows.specs.PipelinedPuts.{HearsOnlyItsPuts, TellsWritten}
+use Rattle.pc_follows.specs.Resends.{ResendsOnlyAnswered}
 use Rattle.pc_world.specs.Known.{Known, known_of}
 use Rattle.pc_world.specs.Known.Traffic.{Heard, heard_by}
 

@@ -22,7 +22,7 @@ use Rattle.pc_session.specs.Session.{IsAtRest, RestsOrStopped, SessionMeaning}
 use Rattle.pc_session.specs.Steps.{HasStepped}
 use Rattle.pc_txn.specs.declared.txn.OpenTxn.{OpenTxn}
 use Rattle.pc_work.specs.declared.item.Item.{Item}
-use Rattle.pc_world.specs.Follows.FinishingJobs.{jobs_of}
+use Rattle.pc_follows.specs.FinishingJobs.{jobs_of}
 use Rattle.pc_world.specs.Known.{known_of}
 use Rattle.pc_world.specs.Known.Traffic.{Sent}
 

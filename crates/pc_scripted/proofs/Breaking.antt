@@ -24,7 +24,7 @@ use Rattle.pc_scripted.specs.Taking.{AsksInTurn, FinishesInTurn, HasMoved, HasMo
 use Rattle.pc_session.specs.Ending.{AreOfBrokenCall}
 use Rattle.pc_session.specs.Session.{SessionMeaning}
 use Rattle.pc_turns.specs.Order.{AsksAfter, FinishesAfter, IsInBetween, events_of}
-use Rattle.pc_world.specs.Follows.FinishingJobs.{jobs_of}
+use Rattle.pc_follows.specs.FinishingJobs.{jobs_of}
 
 -- what ended the list, where memory was not wanted
 ended_off : (halt : Halt) (So : Type 0) → (halt ≡ halts.NoMemory → ⊥) → IsEndedBy halt So → So

@@ -19,7 +19,7 @@ use Rattle.pc_scripted.specs.Taking.{FinishesInTurn, HasMoved}
 use Rattle.pc_session.specs.Session.{SessionMeaning}
 use Rattle.pc_session.specs.Steps.{HasMadeStep}
 use Rattle.pc_turns.specs.Order.{FinishesWhole}
-use Rattle.pc_world.specs.Follows.FinishingJobs.{jobs_of}
+use Rattle.pc_follows.specs.FinishingJobs.{jobs_of}
 
 module _ {C : Type 0} (old : ScriptedMeaning C) (new : SessionMeaning C) (scripted : IsScripted old) (going : old.session.desk.log.stopped ≡ false) (step : HasMadeStep old.session new) where
   abbrev then : ScriptedMeaning C

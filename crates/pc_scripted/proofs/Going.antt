@@ -24,7 +24,7 @@ use Rattle.pc_scripted.specs.Taking.{AsksInTurn, FinishesInTurn, TakesNextAlone,
 use Rattle.pc_turns.specs.Order.{AsksAfter, FinishesAfter, IsTakenIn, entries_by, turn_by_itself}
 use Rattle.pc_turns.specs.Order.GoesByItself.{Ended, Onwards, Passed}
 use Rattle.pc_work.specs.declared.item.Item.{Item}
-use Rattle.pc_world.specs.Follows.FinishingJobs.{jobs_of}
+use Rattle.pc_follows.specs.FinishingJobs.{jobs_of}
 
 -- whose entries are all one session's
 pub all_mine : (number : ℕ) (own : List (Pair Event)) → All (λ p. p.entry.actor ≡ actors.Session number) own → entries_by number own ≡ own

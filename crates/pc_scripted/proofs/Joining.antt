@@ -16,7 +16,7 @@ use Rattle.pc_scripted.specs.Taking.{GoesUntil, HasMoved, are_items_over, is_scr
 use Rattle.pc_turns.specs.Order.{AsksAfter, AsksIfNext, FinishesAfter, GoesByItself, IsTakenIn, UnlessEnded, entries_by, turn_by_itself}
 use Rattle.pc_turns.specs.Order.GoesByItself.{Ended, Onwards, Passed}
 use Rattle.pc_work.specs.declared.item.Item.{Item}
-use Rattle.pc_world.specs.Follows.FinishingJobs.{jobs_of}
+use Rattle.pc_follows.specs.FinishingJobs.{jobs_of}
 
 -- until one test, and then on until another, which is passed only where the first one is
 module _ (next : ℕ → List (Pair Event) → Option Call) (ended : List (Pair Event) → Bool) (number : ℕ) (first last : List (Pair Event) → Bool) (sooner : (order : List (Pair Event)) → last order ≡ true → first order ≡ true) where

@@ -13,7 +13,7 @@ use Rattle.pc_scripted.specs.Ended.{SaysFull, list_has_ended}
 use Rattle.pc_scripted.specs.Scripted.{IsScripted, ScriptedMeaning, next_in_script, own_number, own_list}
 use Rattle.pc_scripted.specs.Taking.{AsksInTurn, FinishesInTurn, HasMoved, HasMovedBy, IsSameScripted}
 use Rattle.pc_script.specs.Script.{next_call}
-use Rattle.pc_world.specs.Follows.FinishingJobs.{jobs_of}
+use Rattle.pc_follows.specs.FinishingJobs.{jobs_of}
 
 module _ {C : Type 0} (s : ScriptedMeaning C) (scripted : IsScripted s) where
   pub same_scripted : IsSameScripted s s

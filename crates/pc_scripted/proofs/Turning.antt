@@ -5,7 +5,7 @@ use Rattle.pc_proto.specs.declared.call.Call.{Call}
 use Rattle.pc_proto.specs.declared.event.Event.{Event}
 use Rattle.pc_proto.specs.declared.request.Request.{Request}
 use Rattle.pc_turns.specs.Order.{AsksAfter, AsksIfNext, AsksPartly, AsksWhole, FinishesAfter, FinishesIfLeft, FinishesPartly, FinishesWhole, UnlessEnded}
-use Rattle.pc_world.specs.Follows.FinishingJobs.{jobs_of}
+use Rattle.pc_follows.specs.FinishingJobs.{jobs_of}
 
 -- nothing, where the list has ended or nothing is next
 unless_nothing : (b : Bool) (So : Type 0) → So → UnlessEnded b [] So

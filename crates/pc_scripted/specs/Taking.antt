@@ -16,7 +16,7 @@ use Rattle.pc_turns.specs.Order.{AsksAfter, FinishesAfter, GoesByItself, entries
 use Rattle.pc_work.specs.declared.item.Item.{Item}
 use Rattle.pc_work.specs.declared.session.SessionWork.{SessionWork}
 use Rattle.pc_work.specs.declared.workload.Workload.{Workload}
-use Rattle.pc_world.specs.Follows.FinishingJobs.{jobs_of}
+use Rattle.pc_follows.specs.FinishingJobs.{jobs_of}
 
 -- The session, its script and its limits are the same.
 pub record IsSameScripted {C : Type 0} (old new : ScriptedMeaning C) : Type 0 where

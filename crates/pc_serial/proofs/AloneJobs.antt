@@ -27,7 +27,7 @@ use Rattle.pc_proto.specs.declared.view.View.TheVariants as views
 use Rattle.pc_proto.specs.Replies.{view_in}
 use Rattle.pc_proto.specs.Requests.{is_about}
 use Rattle.pc_proto.specs.Views.{final_fate}
-use Rattle.pc_world.specs.Follows.FinishingJobs.{Duty, committed_fate, committing, duty_after, first_message, is_commit_told, jobs_after, jobs_of, left_by, left_committed, left_if, settling, with_job, without_first}
+use Rattle.pc_follows.specs.FinishingJobs.{Duty, committed_fate, committing, duty_after, first_message, is_commit_told, jobs_after, jobs_of, left_by, left_committed, left_if, settling, with_job, without_first}
 use Rattle.pc_world.specs.Known.{Known, learn, nothing_known, open_txn, told_first}
 use Rattle.pc_world.specs.Known.Traffic.{Heard, Sent}
 use Rattle.pc_world.specs.Known.Transactions.{Txn, meta_of, txn_heard, txn_sent, txn_told, with_lock}

@@ -56,7 +56,7 @@ use Rattle.pc_world.proofs.Knowing.{known_other, known_same}
 use Rattle.pc_world.proofs.Prefixes.{run_front, run_induction}
 use Rattle.pc_world.specs.After.{known_at, place_at}
 use Rattle.pc_world.specs.Committed.{IsCommitted, commit_at, commit_by, commit_in, is_present}
-use Rattle.pc_world.specs.Follows.CallMessages.{IsFor}
+use Rattle.pc_follows.specs.CallMessages.{IsFor}
 use Rattle.pc_world.specs.Known.{Known, known_after}
 use Rattle.pc_world.specs.Known.Clock.{high_after, top_after}
 use Rattle.pc_world.specs.Known.Statements.{Statement}

@@ -55,7 +55,7 @@ use Rattle.pc_world.proofs.World.{names_one}
 use Rattle.pc_world.specs.After.{known_at, state_at}
 use Rattle.pc_world.specs.Caused.{Evaluates, IsCaused}
 use Rattle.pc_world.specs.Evaluation.{reply as reply_of, state_after}
-use Rattle.pc_world.specs.Follows.FinishingJobs.{jobs_after, jobs_of}
+use Rattle.pc_follows.specs.FinishingJobs.{jobs_after, jobs_of}
 use Rattle.pc_world.specs.Known.{Known, known_after, learn, told_first, txn_begun, txns_told}
 use Rattle.pc_world.specs.Known.Clock.{high_after, top_after}
 use Rattle.pc_world.specs.Known.Statements.{Statement}

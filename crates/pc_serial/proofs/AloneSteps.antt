@@ -24,7 +24,7 @@ use Rattle.pc_serial.specs.Laws.{IsTalk}
 use Rattle.pc_serial.specs.QuietWire.{IsEvaluated, stays_open, the_session}
 use Rattle.pc_serial.specs.Tidy.{IsTidy}
 use Rattle.pc_world.specs.Caused.{Evaluates}
-use Rattle.pc_world.specs.Follows.FinishingJobs.{jobs_after, left_by, without_first}
+use Rattle.pc_follows.specs.FinishingJobs.{jobs_after, left_by, without_first}
 use Rattle.pc_world.specs.Known.{Known, known_after, open_txn, txn_begun}
 use Rattle.pc_world.specs.Known.Statements.{Statement, is_open_after, is_open_told}
 use Rattle.pc_world.specs.Known.Traffic.{Heard, Sent, replies_to}

@@ -7,7 +7,7 @@ use Rattle.pc_proto.specs.declared.request.Request.{Request}
 use Rattle.pc_serial.specs.QuietWire.{IsOnQuietWire, the_session}
 use Rattle.pc_serial.specs.Tidy.{IsTidy}
 use Rattle.pc_world.specs.After.{known_at}
-use Rattle.pc_world.specs.Follows.FinishingJobs.{jobs_of}
+use Rattle.pc_follows.specs.FinishingJobs.{jobs_of}
 use Rattle.pc_world.specs.Local.{Head}
 use Rattle.pc_world.specs.Run.{protocol}
 

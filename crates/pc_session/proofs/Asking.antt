@@ -29,7 +29,7 @@ use Rattle.pc_session.specs.Learning.{HasAskedToLearn}
 use Rattle.pc_session.specs.Session.{HasLeft, IsAtRest, SessionMeaning, session_knows}
 use Rattle.pc_turns.specs.Order.{IsInBetween, events_of}
 use Rattle.pc_txn.specs.declared.txn.OpenTxn.{OpenTxn}
-use Rattle.pc_world.specs.Follows.WaveOrder.{EndsWaves}
+use Rattle.pc_follows.specs.WaveOrder.{EndsWaves}
 use Rattle.pc_world.specs.Known.{Known, call_of, known_of, learn}
 use Rattle.pc_world.specs.Local.{IsCallOf, MayAsk, is_outside}
 

@@ -17,7 +17,7 @@ use Rattle.pc_proto.specs.declared.call.Call.{Call}
 use Rattle.pc_proto.specs.declared.request.Request.{Request}
 use Rattle.pc_session.proofs.Knowing.{with_asked, with_heard, with_sent}
 use Rattle.pc_session.specs.InCall.{IsApartNow}
-use Rattle.pc_world.specs.Follows.Resends.{AreAnsweredNow}
+use Rattle.pc_follows.specs.Resends.{AreAnsweredNow}
 use Rattle.pc_world.specs.Known.{Known, known_of}
 use Rattle.pc_world.specs.Known.Traffic.{Heard, Sent, request_sent}
 use Rattle.pc_world.specs.SameRequest.{IsSameRequest}

@@ -25,7 +25,7 @@ use Rattle.pc_wave.specs.declared.message.Progress.TheVariants as progresses
 use Rattle.pc_wave.specs.declared.step.Step.{Step}
 use Rattle.pc_wave.specs.declared.step.Step.TheVariants as steps
 use Rattle.pc_wave.specs.Messages.{is_out, progress_awaits, progress_out, step_of, wave_awaits}
-use Rattle.pc_world.specs.Follows.OneWrite.{IsItsPut}
+use Rattle.pc_follows.specs.OneWrite.{IsItsPut}
 use Rattle.pc_world.specs.Known.{Known, open_txn}
 use Rattle.pc_world.specs.Known.Transactions.{Txn}
 

@@ -41,8 +41,8 @@ use Rattle.pc_turns.specs.Order.{IsInBetween}
 use Rattle.pc_wave.specs.Messages.{awaits_at, back_with, first_changed}
 use Rattle.pc_wave.specs.Standing.{HasMore, IsHeardTo}
 use Rattle.pc_world.specs.Answering.{MayAnswer}
-use Rattle.pc_world.specs.Follows.CallMessages.{IsForCall}
-use Rattle.pc_world.specs.Follows.WaveOrder.{EndsWaves}
+use Rattle.pc_follows.specs.CallMessages.{IsForCall}
+use Rattle.pc_follows.specs.WaveOrder.{EndsWaves}
 use Rattle.pc_world.specs.Known.{Known, known_of, learn}
 use Rattle.pc_world.specs.Known.Traffic.{Heard, heard_as, request_sent}
 

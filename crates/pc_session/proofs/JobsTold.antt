@@ -15,7 +15,7 @@ use Rattle.pc_proto.specs.declared.fate.Fate.TheVariants as fates
 use Rattle.pc_proto.specs.declared.request.Request.{Request}
 use Rattle.pc_proto.specs.declared.request.Request.TheVariants as requests
 use Rattle.pc_proto.specs.Stamps.{answer_stamps, fate_stamps, greatest_of}
-use Rattle.pc_world.specs.Follows.FinishingJobs.{committing, left_by, left_committed, left_if, settling, with_job}
+use Rattle.pc_follows.specs.FinishingJobs.{committing, left_by, left_committed, left_if, settling, with_job}
 use Rattle.pc_world.specs.Known.{Known, first_if, open_txn, told_first, txn_begun, txns_told}
 use Rattle.pc_world.specs.Known.Statements.{Statement, begun_told, is_open_told}
 use Rattle.pc_world.specs.Known.Traffic.{Heard, replies_to}

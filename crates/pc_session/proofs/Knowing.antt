@@ -19,7 +19,7 @@ use Rattle.pc_proto.specs.declared.event.Event.TheVariants as events
 use Rattle.pc_proto.specs.declared.request.Request.{Request}
 use Rattle.pc_proto.specs.Stamps.{answer_stamps, greatest_of, reply_stamps, request_stamps}
 use Rattle.pc_range.specs.Protocol.{unstaged_protocol}
-use Rattle.pc_world.specs.Follows.FinishingJobs.{Duty, duty_after, jobs_after, jobs_of}
+use Rattle.pc_follows.specs.FinishingJobs.{Duty, duty_after, jobs_after, jobs_of}
 use Rattle.pc_world.specs.Known.{Known, known_after, known_of, learn, nothing_known, txns_told}
 use Rattle.pc_world.specs.Known.Clock.{high_told}
 use Rattle.pc_world.specs.Known.Statements.{begun_told, is_open_told}

@@ -9,7 +9,7 @@ use Rattle.pc_call.specs.Telling.{TellsAfterEighth}
 use Rattle.pc_lists.proofs.Lists.{contains_head, contains_tail}
 use Rattle.pc_proto.specs.declared.answer.Answer.{Answer}
 use Rattle.pc_proto.specs.declared.answer.Answer.TheVariants as answers
-use Rattle.pc_world.specs.Follows.Eighth.{TellsTheEighth}
+use Rattle.pc_follows.specs.Eighth.{TellsTheEighth}
 use Rattle.pc_world.specs.Known.{Known}
 use Rattle.pc_world.specs.Known.Statements.{Statement}
 use Rattle.pc_world.specs.Known.Traffic.{Heard, Sent}

@@ -33,9 +33,9 @@ use Rattle.pc_session.specs.InCall.{HasGoneInside, HasOpenCall, IsApartNow}
 use Rattle.pc_session.specs.Session.{HasLeft, SessionMeaning, session_knows}
 use Rattle.pc_turns.specs.Order.{IsInBetween}
 use Rattle.pc_wave.specs.Messages.{first_changed, is_to_send, sent_under}
-use Rattle.pc_world.specs.Follows.CallMessages.{IsForCall}
-use Rattle.pc_world.specs.Follows.FinishingJobs.{jobs_of, without_first}
-use Rattle.pc_world.specs.Follows.WaveOrder.{EndsWaves}
+use Rattle.pc_follows.specs.CallMessages.{IsForCall}
+use Rattle.pc_follows.specs.FinishingJobs.{jobs_of, without_first}
+use Rattle.pc_follows.specs.WaveOrder.{EndsWaves}
 use Rattle.pc_world.specs.Known.{Known, known_of, learn, next_number}
 use Rattle.pc_world.specs.Known.Statements.{Statement}
 use Rattle.pc_world.specs.Known.Traffic.{Sent, request_sent}

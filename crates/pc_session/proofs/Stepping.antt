@@ -17,7 +17,7 @@ use Rattle.pc_session.proofs.Due.{holds, idle}
 use Rattle.pc_session.proofs.Inside.{id_same, one_on}
 use Rattle.pc_session.specs.Session.{IsAtRest, SessionMeaning, session_knows}
 use Rattle.pc_session.specs.Steps.{HasMadeStep}
-use Rattle.pc_world.specs.Follows.FinishingJobs.{jobs_of}
+use Rattle.pc_follows.specs.FinishingJobs.{jobs_of}
 use Rattle.pc_world.specs.Known.{Known, known_of}
 use Rattle.pc_world.specs.Known.Transactions.{Txn}
 use Rattle.pc_world.specs.Tell.Refusal.{is_heard}

@@ -34,7 +34,7 @@ use Rattle.pc_session.proofs.Lost.{row_by}
 use Rattle.pc_session.specs.InCall.{HasOpenCall, HasTold}
 use Rattle.pc_session.specs.InTurn.{KeepsTurn}
 use Rattle.pc_session.specs.Session.{HasLeft, IsAtRest, SessionMeaning, session_knows}
-use Rattle.pc_world.specs.Follows.FinishingJobs.{left_by, with_job}
+use Rattle.pc_follows.specs.FinishingJobs.{left_by, with_job}
 use Rattle.pc_world.specs.Known.{Known, known_of, learn}
 use Rattle.pc_world.specs.Known.Statements.{Statement}
 use Rattle.pc_world.specs.MayTell.{MayTell, MayTellIn}

@@ -13,9 +13,9 @@ use Rattle.pc_proto.specs.declared.request.Request.{Request}
 use Rattle.pc_session.specs.InTurn.{KeepsTurn, SendsNoMore}
 use Rattle.pc_session.specs.Session.{AreOfOneSession, HasLeft, IsAtRest, SessionMeaning, session_knows}
 use Rattle.pc_turns.specs.Order.{IsInBetween, events_of}
-use Rattle.pc_world.specs.Follows.CallMessages.{IsForCall}
-use Rattle.pc_world.specs.Follows.Refreshes.{IsOfWholeRefresh}
-use Rattle.pc_world.specs.Follows.WaveOrder.{EndsWaves, SentAllPieces}
+use Rattle.pc_follows.specs.CallMessages.{IsForCall}
+use Rattle.pc_follows.specs.Refreshes.{IsOfWholeRefresh}
+use Rattle.pc_follows.specs.WaveOrder.{EndsWaves, SentAllPieces}
 use Rattle.pc_world.specs.Known.{Known}
 use Rattle.pc_world.specs.Known.Statements.{Statement}
 use Rattle.pc_world.specs.Known.Traffic.{Heard, request_sent}

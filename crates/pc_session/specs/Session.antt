@@ -8,7 +8,7 @@ use Rattle.pc_desk.specs.Desk.{DeskMeaning, KeepsTrack}
 use Rattle.pc_exchange.specs.Jobs.{IsFinishable}
 use Rattle.pc_history.specs.declared.pair.Pair.{Pair}
 use Rattle.pc_proto.specs.declared.event.Event.{Event}
-use Rattle.pc_world.specs.Follows.FinishingJobs.{jobs_of}
+use Rattle.pc_follows.specs.FinishingJobs.{jobs_of}
 use Rattle.pc_world.specs.Known.{Known, known_of}
 use Rattle.pc_world.specs.Tell.Refusal.{is_heard}
 

@@ -21,7 +21,7 @@ ghost use Rattle.pc_session.specs.Learning.{AreOfBrokenLearn, HasAskedToLearn, H
 ghost use Rattle.pc_session.specs.Session.{IsAtRest, session_knows};
 ghost use Rattle.pc_session.specs.Steps.{HasStepped};
 ghost use Rattle.pc_turns.specs.Order.{IsInBetween};
-ghost use Rattle.pc_world.specs.Follows.WaveOrder.{EndsWaves};
+ghost use Rattle.pc_follows.specs.WaveOrder.{EndsWaves};
 ghost use Rattle.pc_world.specs.Known.{Known};
 
 use crate::token::{Token, commit_at};

@@ -11,7 +11,7 @@ use Rattle.pc_proto.specs.declared.request.Request.{Request}
 use Rattle.pc_turns.specs.Clients.{share_of}
 use Rattle.pc_work.specs.declared.turn.Turn.{Turn}
 use Rattle.pc_work.specs.declared.turn.Turn.TheVariants as turns
-use Rattle.pc_world.specs.Follows.FinishingJobs.{jobs_of}
+use Rattle.pc_follows.specs.FinishingJobs.{jobs_of}
 use Rattle.pc_world.specs.Known.{known_of}
 use Rattle.pc_world.specs.Tell.Refusal.{is_heard}
 

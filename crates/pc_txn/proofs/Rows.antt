@@ -28,7 +28,7 @@ use Rattle.pc_txn.specs.declared.flight.InFlight.{InFlight}
 use Rattle.pc_txn.specs.declared.txn.OpenTxn.{OpenTxn}
 use Rattle.pc_txn.specs.Opened.{last_put, next_put, own_abort, own_commit, own_get, own_scan}
 use Rattle.pc_txn.specs.Standing.{AreProved, IsLaying, IsOutOrRefused, IsPendingOf, ShowsPending, TxnStands}
-use Rattle.pc_world.specs.Follows.EarlyTell.{IsCommitKnown}
+use Rattle.pc_follows.specs.EarlyTell.{IsCommitKnown}
 use Rattle.pc_world.specs.Known.{Known, call_of, open_txn}
 use Rattle.pc_world.specs.Known.Reads.{IsGoodAt}
 use Rattle.pc_world.specs.Known.Traffic.{Heard, Sent}

@@ -22,7 +22,7 @@ use Rattle.pc_wave.specs.Due.{MayBeDue, WasAnsweredWith}
 use Rattle.pc_wave.specs.Messages.{conflict_by, first_in_conflict, has_answer, is_out, is_in_conflict, is_to_send, progress_has_answer, progress_out, progress_in_conflict, progress_to_send, step_by, step_in, step_of}
 use Rattle.pc_wave.specs.Standing.{AreCounted, IsAsFar, MayGoOut, MessageStands, MetConflict, WaveStands}
 use Rattle.pc_world.specs.Counting.{LastIs}
-use Rattle.pc_world.specs.Follows.Eighth.{MetEighth}
+use Rattle.pc_follows.specs.Eighth.{MetEighth}
 use Rattle.pc_world.specs.Known.{Known}
 use Rattle.pc_world.specs.Known.Traffic.{Heard}
 use Rattle.pc_world.specs.Tell.Refusal.{IsConflictOf, MetEight}

@@ -20,7 +20,7 @@ use Rattle.pc_wave.specs.Messages.{awaits_at, back_with, back_with_by, first_cha
 use Rattle.pc_wave.specs.Standing.{AreOfTwo, HasMore, IsAsFar, IsOnItsWay, IsHeardTo, IsReplyAt, MessageStands, WaveStands}
 use Rattle.pc_world.specs.Answering.{MayAnswer}
 use Rattle.pc_world.specs.Counting.{AtLeast}
-use Rattle.pc_world.specs.Follows.Resends.{AreAnsweredNow}
+use Rattle.pc_follows.specs.Resends.{AreAnsweredNow}
 use Rattle.pc_world.specs.Known.{Known}
 use Rattle.pc_world.specs.Known.Traffic.{Heard, Sent, request_sent}
 use Rattle.pc_world.specs.SameRequest.{IsSameRequest}

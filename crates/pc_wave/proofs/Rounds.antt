@@ -20,7 +20,7 @@ use Rattle.pc_wave.specs.declared.step.Step.TheVariants as steps
 use Rattle.pc_wave.specs.Due.{FollowsConflict, MadeRound}
 use Rattle.pc_wave.specs.Messages.{conflict_by, conflicts_at, first_changed, first_in_conflict, goes_again, has_answer, is_out, is_in_conflict, is_to_send, progress_out, progress_conflicts, progress_in_conflict, step_by, step_in, step_of}
 use Rattle.pc_wave.specs.Standing.{AreOfTwo, IsAsFar, MessageStands, MetConflict, WaveStands, goes_beside}
-use Rattle.pc_world.specs.Follows.Resends.{MetConflictNow, WasFollowed}
+use Rattle.pc_follows.specs.Resends.{MetConflictNow, WasFollowed}
 use Rattle.pc_world.specs.Known.{Known}
 use Rattle.pc_world.specs.Known.Traffic.{Heard}
 use Rattle.pc_world.specs.SameRequest.{IsSameRequest}

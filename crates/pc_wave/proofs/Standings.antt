@@ -17,7 +17,7 @@ use Rattle.pc_wave.specs.declared.message.Progress.{Progress}
 use Rattle.pc_wave.specs.declared.message.Progress.TheVariants as progresses
 use Rattle.pc_wave.specs.Standing.{AreAnsweredBut, AreCounted, HasComeBack, HasMore, IsAsFar, IsMessageAt, IsOnItsWay, IsReplyAt, MayGoOut, MessageStands, MetConflict, IsSentUnder}
 use Rattle.pc_world.specs.Counting.{AtLeast}
-use Rattle.pc_world.specs.Follows.Resends.{AreAnsweredNow, MayGoAgain, MetConflictNow, MetLaterEpochNow, ShowsLaterEpoch, WasDone, WasFollowed}
+use Rattle.pc_follows.specs.Resends.{AreAnsweredNow, MayGoAgain, MetConflictNow, MetLaterEpochNow, ShowsLaterEpoch, WasDone, WasFollowed}
 use Rattle.pc_world.specs.Known.{Known}
 use Rattle.pc_world.specs.Known.Traffic.{Heard, Sent, request_sent}
 use Rattle.pc_world.specs.SameRequest.{IsSameRequest}

@@ -10,8 +10,8 @@ use Rattle.pc_wave.specs.declared.step.Step.{Step}
 use Rattle.pc_wave.specs.declared.step.Step.TheVariants as steps
 use Rattle.pc_wave.specs.Messages.{is_out}
 use Rattle.pc_wave.specs.Standing.{HasComeBack, HasMore, MayGoOut, MetConflict, goes_beside}
-use Rattle.pc_world.specs.Follows.Eighth.{MetEighth}
-use Rattle.pc_world.specs.Follows.Resends.{WasFollowed}
+use Rattle.pc_follows.specs.Eighth.{MetEighth}
+use Rattle.pc_follows.specs.Resends.{WasFollowed}
 use Rattle.pc_world.specs.Known.{Known}
 use Rattle.pc_world.specs.Known.Traffic.{Heard, Sent}
 use Rattle.pc_world.specs.Tell.Refusal.{MetEight}

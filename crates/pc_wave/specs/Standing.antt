@@ -12,7 +12,7 @@ use Rattle.pc_wave.specs.declared.message.Progress.{Progress}
 use Rattle.pc_wave.specs.declared.message.Progress.TheVariants as progresses
 use Rattle.pc_world.specs.Answering.{MayAnswer}
 use Rattle.pc_world.specs.Counting.{AtLeast}
-use Rattle.pc_world.specs.Follows.Resends.{AreAnsweredNow, MayGoAgain}
+use Rattle.pc_follows.specs.Resends.{AreAnsweredNow, MayGoAgain}
 use Rattle.pc_world.specs.Known.{Known}
 use Rattle.pc_world.specs.Known.Traffic.{Heard, Sent, request_sent}
 use Rattle.pc_world.specs.SameRequest.{IsSameRequest}

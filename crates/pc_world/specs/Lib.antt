@@ -8,7 +8,6 @@ pub mod Counting
 pub mod Decisions
 pub mod Evaluation
 pub mod Exchange
-pub mod Follows
 pub mod Known
 pub mod Laws
 pub mod Legal

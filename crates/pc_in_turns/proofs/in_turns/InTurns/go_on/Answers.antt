@@ -4,7 +4,7 @@ use Rattle.pc_scripted.proofs.Beginning.{on_ok}
 use Rattle.pc_scripted.proofs.Going.{alone_by_call, alone_by_job, some_job}
 use Rattle.pc_scripted.specs.Scripted.{own_list}
 use Rattle.pc_scripted.specs.Taking.{AsksInTurn, FinishesInTurn, TakesNextAlone}
-use Rattle.pc_world.specs.Follows.FinishingJobs.{jobs_of}
+use Rattle.pc_follows.specs.FinishingJobs.{jobs_of}
 use Rattle.pc_in_turns.proofs.in_turns.InTurns.go_on.Goals as goal
 
 pub has_job-requires-clause-scripted : goal.has_job-requires-clause-scripted

@@ -2,7 +2,7 @@ use Rattle.std.proofs.Common.{not, sym, ap, ◌∙◌}
 use Rattle.pc_scripted.proofs.Going.{some_job}
 use Rattle.pc_scripted.proofs.Resting.{idle_finishes, stopped_finishes}
 use Rattle.pc_scripted.specs.Scripted.{own_list}
-use Rattle.pc_world.specs.Follows.FinishingJobs.{jobs_of}
+use Rattle.pc_follows.specs.FinishingJobs.{jobs_of}
 use Rattle.pc_scripted.proofs.scripted.Scripted.finish_job.Goals as goal
 
 pub returns-then-has_stopped-clause-ok : goal.returns-then-has_stopped-clause-ok

@@ -1,7 +1,7 @@
 use Rattle.pc_scripted.proofs.Beginning.{on_ok}
 use Rattle.pc_scripted.proofs.Going.{alone_by_call, alone_by_job, some_job}
 use Rattle.pc_scripted.specs.Scripted.{own_list}
-use Rattle.pc_world.specs.Follows.FinishingJobs.{jobs_of}
+use Rattle.pc_follows.specs.FinishingJobs.{jobs_of}
 use Rattle.std.proofs.Common.{not, ap}
 use Rattle.pc_scripted.proofs.scripted.Scripted.go_on.Goals as goal
 

@@ -4,7 +4,7 @@ use Rattle.pc_scripted.proofs.Breaking.{breaks_so, moved_broken_step}
 use Rattle.pc_scripted.specs.Scripted.{IsScripted, own_list}
 use Rattle.pc_scripted.specs.Taking.{FinishesInTurn}
 use Rattle.pc_turns.specs.Order.{IsInBetween}
-use Rattle.pc_world.specs.Follows.FinishingJobs.{jobs_of}
+use Rattle.pc_follows.specs.FinishingJobs.{jobs_of}
 use Rattle.pc_scripted.proofs.scripted.Scripted.step.Goals as goal
 
 pub returns-clause-ok : goal.returns-clause-ok

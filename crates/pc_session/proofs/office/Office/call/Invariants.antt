@@ -1,6 +1,6 @@
 use Rattle.std.proofs.Common.{◌≡◌}
 use Rattle.pc_session.specs.InCall.{HasAsked, HasOpenCall}
-use Rattle.pc_world.specs.Follows.WaveOrder.{EndsWaves}
+use Rattle.pc_follows.specs.WaveOrder.{EndsWaves}
 use Rattle.pc_session.proofs.office.Office.call.Given as goal
 
 abbrev pub invariant-loop : goal.invariant-loop

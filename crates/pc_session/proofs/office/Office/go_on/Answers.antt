@@ -1,5 +1,5 @@
 use Rattle.std.proofs.Common.{All, IfErr, refl, sym, subst}
-use Rattle.pc_world.specs.Follows.WaveOrder.{EndsWaves}
+use Rattle.pc_follows.specs.WaveOrder.{EndsWaves}
 use Rattle.pc_exchange.specs.Ending.{BreaksOff}
 use Rattle.pc_session.proofs.Ending.{nothing_breaks_if}
 use Rattle.pc_turns.specs.Order.{IsInBetween}

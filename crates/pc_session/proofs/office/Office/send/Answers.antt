@@ -6,7 +6,7 @@ use Rattle.pc_session.proofs.Inside.{inside_from}
 use Rattle.pc_session.proofs.Sending.{may_go, sent_ends, sent_goes, sent_open}
 use Rattle.pc_session.specs.InCall.{HasOpenCall}
 use Rattle.pc_session.specs.Session.{session_knows}
-use Rattle.pc_world.specs.Follows.WaveOrder.{EndsWaves}
+use Rattle.pc_follows.specs.WaveOrder.{EndsWaves}
 use Rattle.std.proofs.lemmas.Result.{err_from_is_err_and}
 use Rattle.pc_session.proofs.Ending.{nothing_breaks}
 use Rattle.pc_session.proofs.office.Office.send.Goals as goal

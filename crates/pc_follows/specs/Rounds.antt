@@ -16,7 +16,7 @@ use Rattle.pc_proto.specs.declared.view.View.{View}
 use Rattle.pc_proto.specs.Replies.{is_conflict}
 use Rattle.pc_proto.specs.Requests.{goal_in}
 use Rattle.pc_proto.specs.Views.{fate_after, final_fate}
-use Rattle.pc_world.specs.Follows.Resends.{RecoveredTo, WasDone}
+use Rattle.pc_follows.specs.Resends.{RecoveredTo, WasDone}
 use Rattle.pc_world.specs.Known.{Known, open_txn}
 use Rattle.pc_world.specs.Known.Statements.{Statement}
 use Rattle.pc_world.specs.Known.Traffic.{Heard}
