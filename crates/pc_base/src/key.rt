@@ -86,7 +86,7 @@ impl PartialEq for Key {
     ghost laws = { Prim.search (comparing, rules) };
 
     fn eq(&self, other: &Key) -> bool {
-        self.cmp(other).is_eq()
+        self.as_bytes() == other.as_bytes()
     }
 }
 
