@@ -1,8 +1,6 @@
 -- What stands at a step of a run, and which earlier entry causes an event.
-use Rattle.std.proofs.Common.{◌≡◌, ℕ, ◌<◌, Bool, true, false, ◌&&◌, ◌==◌, ◌↔◌, Any, Contains, List, Option, None, Some, IsTrue, cond, find, reverse, [], ◌∷◌, refl, sym, ap, subst, ◌∙◌, slice_get, length}
+use Rattle.std.proofs.Common.{◌≡◌, ℕ, ◌<◌, Bool, true, false, ◌&&◌, ◌==◌, ◌↔◌, Any, Contains, List, Option, None, Some, IsTrue, cond, find, [], ◌∷◌, refl, sym, ap, subst, ◌∙◌, slice_get, length}
 use Rattle.std.proofs.lemmas.Bool.{and_from, and_parts, eq-eqb, eqb-true}
-use Rattle.std.proofs.lemmas.List.{reverse-reverse}
-use Rattle.std.proofs.lemmas.List.Sorted.{Contains-permutation, IsPermutation-reverse}
 use Rattle.std.proofs.lemmas.Option.{same_Some, slice_get-get_or, slice_get_within}
 use Rattle.pc_base.specs.declared.actor.ActorId.{ActorId}
 use Rattle.pc_base.specs.declared.actor.ActorId.TheVariants as actors
@@ -136,35 +134,3 @@ module _ (head : Head) (before : List (Entry Event)) (run : IsRun head before) w
 
   pub none_told_at : (id : TxnId) (step : ℕ) (o : Option (Entry Event)) → o ≡ slice_get before step → ((e : Entry Event) → o ≡ Some e → is_tell e.event ≡ true → ⊥) → None ≡ named_in (protocol head) before (events.Meet id step)
   none_told_at id step o at contra = sym (not_named is_tell (events.Meet id step) step (λ x. refl) o at contra)
-
-  -- ---- the one send that is named, looked for from the end
-
-  abbrev is_named : ActorId → ℕ → Entry Event → Bool
-  is_named actor number x = same_id actor x.actor && is_send_of number x.event
-
-  pub last_send : (actor : ActorId) (number : ℕ) (reply : Reply) (o : Option (Entry Event)) → o ≡ find (is_named actor number) (reverse before) → o ≡ named_in (protocol head) before (events.Eval actor number reply)
-  last_send actor number reply o e = e ∙ by (find (is_named actor number) (reverse before)) (find (is_named actor number) before) refl refl
-    where
-      one : (x y : Entry Event) → Contains before x → Contains before y → is_named actor number x ≡ true → is_named actor number y ≡ true → x ≡ y
-      one = names_one head before (events.Eval actor number reply) run
-
-      back : (x : Entry Event) → Contains (reverse before) x → Contains before x
-      back x inside = subst (λ zs. Contains zs x) (reverse-reverse before) (Contains-permutation (reverse before) (reverse (reverse before)) x (IsPermutation-reverse (reverse before)) inside)
-
-      ahead : (x : Entry Event) → Contains before x → Contains (reverse before) x
-      ahead x inside = Contains-permutation before (reverse before) x (IsPermutation-reverse before) inside
-
-      by : (r f : Option (Entry Event)) → find (is_named actor number) (reverse before) ≡ r → find (is_named actor number) before ≡ f → r ≡ f
-      by None None p q = refl
-      by None (Some x) p q =
-          let there = found_there (is_named actor number) before x q in
-          let some = find_some (is_named actor number) (reverse before) x (ahead x there.there) there.passes in
-          absurd (cc (p, some.1))
-      by (Some y) None p q =
-          let there = found_there (is_named actor number) (reverse before) y p in
-          let some = find_some (is_named actor number) before y (back y there.there) there.passes in
-          absurd (cc (q, some.1))
-      by (Some y) (Some x) p q =
-          let last = found_there (is_named actor number) (reverse before) y p in
-          let first = found_there (is_named actor number) before x q in
-          ap Some (one y x (back y last.there) first.there last.passes first.passes)

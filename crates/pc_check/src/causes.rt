@@ -1,21 +1,26 @@
-ghost use Rattle.std.specs.Prelude.{◌≡◌, ◌↔◌, ◌&&◌, ℕ, IsTrue, slice_get};
+ghost use Rattle.std.specs.Prelude.{◌≡◌, ◌↔◌, ℕ, IsTrue, slice_get};
 ghost use Rattle.std.specs.Option.{option_copied};
-ghost use Rattle.pc_history.specs.Own.{named_in, same_id};
-ghost use Rattle.pc_proto.specs.declared.reply.Reply.{Reply as reply_of};
+ghost use Rattle.pc_history.specs.Own.{named_in};
+ghost use Rattle.pc_sent.specs.Sending.{AreSendsOf};
 ghost use Rattle.pc_world.specs.Caused.{Evaluates, IsCaused, SendsTo, TellsCommitted};
 ghost use Rattle.pc_world.specs.Local.{Head};
-ghost use Rattle.pc_world.specs.Named.{is_eval, is_send_of, is_tell};
+ghost use Rattle.pc_world.specs.Named.{is_eval, is_tell};
 ghost use Rattle.pc_world.specs.Run.{IsRun, protocol};
 
 use pc_base::{ActorId, Entry, TxnId};
 use pc_proto::{Answer, Event};
+use pc_sent::Sent;
 
 /// The entry that the event names among those of a run.
-pub fn named<'a>(before: &'a [Entry<Event>], event: &Event) -> Option<&'a Entry<Event>>
-    ensures { (head : Head) → IsRun head before.now → option_copied result ≡ named_in (protocol head) before.now event.now }
+pub(crate) fn named<'a>(
+    before: &'a [Entry<Event>],
+    sends: &Sent,
+    event: &Event,
+) -> Option<&'a Entry<Event>>
+    ensures { (head : Head) → IsRun head before.now → AreSendsOf before.now sends.now → option_copied result ≡ named_in (protocol head) before.now event.now }
 {
     match event {
-        Event::Eval { actor, number, .. } => sent(before, *actor, *number),
+        Event::Eval { actor, number, .. } => sends.entry(before, *actor, *number),
         Event::Hear { step, .. } => evaluated(before, *step),
         Event::Meet { step, .. } => told(before, *step),
         Event::Ask { .. } | Event::Send { .. } | Event::Tell(_) => None,
@@ -23,15 +28,20 @@ pub fn named<'a>(before: &'a [Entry<Event>], event: &Event) -> Option<&'a Entry<
 }
 
 /// Whether the entries of a run let the actor make the event.
-pub fn is_caused(before: &[Entry<Event>], event: &Event, actor: ActorId) -> bool
-    ensures { (head : Head) → IsRun head before.now → IsTrue result ↔ IsCaused before.now event.now actor }
+pub(crate) fn is_caused(
+    before: &[Entry<Event>],
+    sends: &Sent,
+    event: &Event,
+    actor: ActorId,
+) -> bool
+    ensures { (head : Head) → IsRun head before.now → AreSendsOf before.now sends.now → IsTrue result ↔ IsCaused before.now event.now actor }
 {
     match event {
         Event::Eval {
             actor: sender,
             number,
             ..
-        } => match sent(before, *sender, *number) {
+        } => match sends.entry(before, *sender, *number) {
             Some(entry) => sends_to(&entry.event, actor, *number),
             None => false,
         },
@@ -45,16 +55,6 @@ pub fn is_caused(before: &[Entry<Event>], event: &Event, actor: ActorId) -> bool
         },
         Event::Ask { .. } | Event::Send { .. } | Event::Tell(_) => true,
     }
-}
-
-/// The actor's send of this number. It was mostly sent shortly before, so the search begins at the end.
-fn sent(before: &[Entry<Event>], actor: ActorId, number: u64) -> Option<&Entry<Event>>
-    ensures { (head : Head) (reply : reply_of) → IsRun head before.now → option_copied result ≡ named_in (protocol head) before.now (Event.Eval actor number reply) }
-{
-    before
-        .iter()
-        .rev()
-        .find(|entry| is_send(entry, actor, number))
 }
 
 /// The evaluation at this step.
@@ -82,13 +82,6 @@ fn at(before: &[Entry<Event>], step: u64) -> Option<&Entry<Event>>
     ensures { option_copied result ≡ slice_get before.now step }
 {
     before.get(step as usize)
-}
-
-fn is_send(entry: &Entry<Event>, actor: ActorId, number: u64) -> bool
-    ensures { result ≡ (same_id actor entry.now.actor && is_send_of number entry.now.event) }
-{
-    entry.actor == actor
-        && matches!(&entry.event, Event::Send { number: own, .. } if *own == number)
 }
 
 fn is_eval(event: &Event) -> bool

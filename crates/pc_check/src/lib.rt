@@ -9,7 +9,6 @@ mod judge;
 mod rule;
 
 pub use actors::has_actor;
-pub use causes::{is_caused, named};
 pub use client::Client;
 pub use first::first_broken;
 pub use judge::Judge;

@@ -1,5 +1,5 @@
 -- What the tests for the same one decide.
-use Rattle.std.proofs.Common.{◌≡◌, ◌↔◌, ◌==◌, eqb, ◌&&◌, ℕ, Bool, true, false, List, Option, Some, None, IsTrue, refl, ap, subst}
+use Rattle.std.proofs.Common.{◌≡◌, ◌==◌, eqb, ◌&&◌, ℕ, Bool, true, List, refl, ap, subst}
 use Rattle.std.proofs.lemmas.Bool.{and_from, and_parts, eq-eqb, eqb-true}
 use Rattle.std.specs.Bool.{Decides}
 use Rattle.std.specs.Cmp.Lexicographic.{bytes_decides, pointwise, pointwise_decides}

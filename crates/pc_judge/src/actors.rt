@@ -5,7 +5,7 @@ ghost use Rattle.pc_judge.specs.Keeping.{KeepsActors};
 use crate::clients::may_make;
 use crate::ranges::{blank_ranges, evaluates};
 use pc_base::{ActorId, Entry, NoMemory};
-use pc_check::{Client, Judge, named};
+use pc_check::{Client, Judge};
 use pc_eval::RangeState;
 use pc_proto::{Event, Keys};
 use std::alloc::Global;
@@ -54,8 +54,8 @@ impl<'a, C: Client<'a> + Drop> Judge<'a> for Actors<'a, C> {
         &mut self,
         before: &'a [Entry<Event>],
         entry: &'a Entry<Event>,
+        named: Option<&'a Entry<Event>>,
     ) -> Result<bool, NoMemory> {
-        let named = named(before, &entry.event);
         match entry.actor {
             ActorId::Range(range) => evaluates(&mut self.ranges, range, &entry.event, named),
             ActorId::Session(number) => may_make(

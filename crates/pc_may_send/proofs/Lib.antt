@@ -1,3 +1,4 @@
 pub mod Listing
 pub mod Narrowed
 pub mod Existing
+mod Walking

@@ -119,10 +119,10 @@ fn is_lock_resolved(id: TxnId, lock: &Lock<'_>, heard: &[Hearing<'_>]) -> bool
 }
 
 /// The same of the keys that the transaction itself wrote.
-fn all_own_resolved(heard: &[Hearing<'_>], id: TxnId, locks: &[Lock<'_>]) -> bool
+fn are_own_resolved(heard: &[Hearing<'_>], id: TxnId, locks: &Locks<'_>) -> bool
     ensures { IsTrue result ↔ AllResolved heard.now id locks.now }
 {
-    for lock in locks {
+    for lock in locks.iter() {
         if !is_lock_resolved(id, lock, heard) {
             return false;
         }
@@ -209,12 +209,6 @@ pub fn may_send_remove(known: &Knowledge<'_>, id: TxnId, anchor: &Key) -> bool
     ensures { (k : Known) → KeepsKnowledge k known.now → IsTrue result ↔ MaySendRemove k id anchor.now }
 {
     is_own_anchor(known, id, anchor) && is_settled(known, id)
-}
-
-fn are_own_resolved(heard: &[Hearing<'_>], id: TxnId, locks: &Locks<'_>) -> bool
-    ensures { IsTrue result ↔ AllResolved heard.now id locks.now }
-{
-    all_own_resolved(heard, id, locks.as_slice())
 }
 
 /// Whether a final view of the actor's own transaction was heard, and each of its locks was settled.

@@ -1,5 +1,7 @@
 pub mod ByNumber
 pub mod Others
-pub mod Places
-pub mod SameKeys
 pub mod Stepping
+pub mod Inserted
+pub mod Walking
+pub mod ByPlace
+pub mod Indexed

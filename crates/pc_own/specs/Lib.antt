@@ -1,4 +1,4 @@
 -- The transactions that are kept, and how they stand to those that the session knows.
 pub mod Changes
 pub mod Numbered
-pub mod Place
+pub mod Places

@@ -2,6 +2,7 @@
 #![tactic(auto)]
 
 mod locks;
+mod places;
 mod read;
 mod reads;
 mod txn;

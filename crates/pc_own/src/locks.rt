@@ -1,13 +1,19 @@
-ghost use Rattle.std.specs.Prelude.{◌≡◌, ◌↔◌, [], false, IsTrue, OnOk, slice_get};
-ghost use Rattle.std.specs.List.{position};
-ghost use Rattle.std.specs.Option.{option_map_or};
-ghost use Rattle.pc_base.specs.Span.{key_at_most, same_key};
-ghost use Rattle.pc_own.specs.Place.{lock_place};
+ghost use Rattle.std.specs.Prelude.{◌≡◌, ◌∷◌, ◌↔◌, [], IsTrue, OnOk, Some};
+ghost use Rattle.std.specs.Option.{option_copied};
+ghost use Rattle.std.proofs.Common.{rules};
+ghost use Rattle.std.specs.Cmp.{partial_order_from_own_ties};
+ghost use Rattle.std.specs.Cmp.Rules.{comparing};
+ghost use Rattle.std.specs.Ordering.{nat_cmp, as_partial_cmp};
+ghost use Rattle.std.specs.Cmp.Lexicographic.{slice_cmp};
+ghost use Rattle.pc_base.specs.Span.{same_key};
 ghost use Rattle.pc_world.specs.Known.Transactions.{with_lock};
 
 use pc_base::{Key, NoMemory};
 use pc_proto::Keys;
 use std::alloc::Global;
+use std::cmp::Ordering;
+use std::collections::BTreeSet;
+use std::collections::btree_set::Iter;
 use std::marker::Model;
 
 /// A key that a transaction wrote, as an entry has it.
@@ -24,10 +30,48 @@ impl<'a> Model for Lock<'a> {
     ghost view = { λ lock. lock.key.now };
 }
 
+impl<'a> PartialEq for Lock<'a> {
+    ghost eq = { same_key };
+
+    ghost laws = { Prim.search (comparing, rules) };
+
+    fn eq(&self, other: &Lock<'a>) -> bool {
+        self.key == other.key
+    }
+}
+
+impl<'a> Eq for Lock<'a> {
+    ghost laws = { Prim.search (comparing, rules) };
+}
+
+impl<'a> PartialOrd for Lock<'a> {
+    ghost partial_cmp = { as_partial_cmp (slice_cmp nat_cmp) };
+
+    ghost laws = { partial_order_from_own_ties (Prim.search (comparing, rules)) (Prim.search (comparing, rules)) };
+
+    fn partial_cmp(&self, other: &Lock<'a>) -> Option<Ordering> {
+        Some(self.cmp(other))
+    }
+}
+
+impl<'a> Ord for Lock<'a> {
+    ghost cmp = { slice_cmp nat_cmp };
+
+    ghost total = { Prim.search (comparing, rules) };
+
+    ghost matches_partial_cmp = { Prim.search (comparing, rules) };
+
+    ghost matches_eq = { Prim.search (comparing, rules) };
+
+    fn cmp(&self, other: &Lock<'a>) -> Ordering {
+        self.key.cmp(other.key)
+    }
+}
+
 /// The keys that a transaction wrote, in order, each once.
 #[derive(Drop)]
 pub struct Locks<'a> {
-    locks: Vec<Lock<'a>>,
+    locks: BTreeSet<Lock<'a>>,
 }
 
 impl<'a> Model for Locks<'a> {
@@ -35,7 +79,7 @@ impl<'a> Model for Locks<'a> {
 
     ghost Value = { List (List ℕ) };
 
-    ghost view = { λ locks. locks.locks.items };
+    ghost view = { λ locks. locks.locks.keys };
 }
 
 impl<'a> Locks<'a> {
@@ -44,7 +88,7 @@ impl<'a> Locks<'a> {
         ensures { result ≡ [] }
     {
         Locks {
-            locks: Vec::new(alloc),
+            locks: BTreeSet::new(alloc),
         }
     }
 
@@ -52,17 +96,15 @@ impl<'a> Locks<'a> {
     pub fn add(&mut self, key: &'a Key) -> Result<(), NoMemory>
         ensures { OnOk result (self.new ≡ with_lock key.now self.old) }
     {
-        let place = place_of(&self.locks, key);
-        if !is_at(&self.locks, place, key) {
-            self.locks.insert(place, Lock { key })?;
-        }
+        self.locks.insert(Lock { key })?;
         Ok(())
     }
 
-    pub fn as_slice(&self) -> &[Lock<'a>]
-        ensures { result.now ≡ self.now }
+    /// The keys, in order.
+    pub fn iter(&self) -> Iter<'_, Lock<'a>>
+        ensures { result ≡ self.now }
     {
-        self.locks.as_slice()
+        self.locks.iter()
     }
 
     /// Whether these keys are the ones that a message lists.
@@ -73,38 +115,24 @@ impl<'a> Locks<'a> {
     }
 }
 
-fn are_same(keys: &[Key], locks: &[Lock<'_>]) -> bool
-    ensures { IsTrue result ↔ (keys.now ≡ locks.now) }
+fn are_same(keys: &[Key], locks: &BTreeSet<Lock<'_>>) -> bool
+    ensures { IsTrue result ↔ (keys.now ≡ locks.now.keys) }
 {
-    if keys.len() != locks.len() {
-        return false;
-    }
-    for (place, key) in keys.iter().enumerate() {
-        if !is_at(locks, place, key) {
+    let mut rest = keys;
+    for lock in locks {
+        let Some(later) = after(rest, lock) else {
             return false;
-        }
+        };
+        rest = later;
     }
-    true
+    rest.is_empty()
 }
 
-/// The first place that the key is not behind, or the end.
-fn place_of(locks: &[Lock<'_>], key: &Key) -> usize
-    ensures { result ≡ lock_place key.now locks.now }
+/// The keys after the first one, where that is the lock's.
+fn after<'b>(keys: &'b [Key], lock: &Lock<'_>) -> Option<&'b [Key]>
+    ensures some { (later : _) → option_copied result ≡ Some later → keys.now ≡ lock.now ∷ later }
+    ensures none { (later : _) → keys.now ≡ lock.now ∷ later → option_copied result ≡ Some later }
 {
-    first_not_below(locks, key).unwrap_or(locks.len())
-}
-
-fn first_not_below(locks: &[Lock<'_>], key: &Key) -> Option<usize>
-    ensures { result ≡ position (λ lock. key_at_most key.now lock) locks.now }
-{
-    locks.iter().position(|lock| key <= lock.key)
-}
-
-fn is_at(locks: &[Lock<'_>], place: usize, key: &Key) -> bool
-    ensures { result ≡ option_map_or (λ lock. same_key key.now lock) (slice_get locks.now place) false }
-{
-    match locks.get(place) {
-        Some(lock) => key == lock.key,
-        None => false,
-    }
+    let (first, later) = keys.split_first()?;
+    if first == lock.key { Some(later) } else { None }
 }

@@ -1,4 +1,4 @@
-ghost use Rattle.std.specs.Prelude.{◌≡◌, ◌↔◌, ◌≤◌, ◌∷◌, [], Any, Contains, IfOk, IsTrue, OnOk};
+ghost use Rattle.std.specs.Prelude.{◌≡◌, ◌↔◌, ◌≤◌, ◌∷◌, [], Any, Contains, IfOk, IsTrue, OnErr, OnOk};
 ghost use Rattle.std.specs.Option.{option_copied};
 ghost use Rattle.pc_world.specs.Known.Writes.{IsProvedBy, asked_again, is_proved, proved_at};
 
@@ -70,7 +70,8 @@ impl<'a> OwnWrite<'a> {
 
     /// The write after a put of this sequence was sent once more.
     pub(crate) fn ask_again(&mut self, seq: u32, ts: Timestamp) -> Result<(), NoMemory>
-        ensures { OnOk result (self.new ≡ asked_again seq ts self.old) }
+        ensures ok { OnOk result (self.new ≡ asked_again seq ts self.old) }
+        ensures err { OnErr result (self.new ≡ self.old) }
     {
         if self.seq == seq {
             self.asked.push(ts)?;
@@ -80,7 +81,8 @@ impl<'a> OwnWrite<'a> {
 
     /// The write after one of this key and sequence was proved.
     pub(crate) fn prove_at(&mut self, key: &Key, seq: u32, ts: Timestamp) -> Result<(), NoMemory>
-        ensures { OnOk result (self.new ≡ proved_at key.now seq ts self.old) }
+        ensures ok { OnOk result (self.new ≡ proved_at key.now seq ts self.old) }
+        ensures err { OnErr result (self.new ≡ self.old) }
     {
         if self.seq == seq && self.key == key {
             self.proofs.push(ts)?;

@@ -1,8 +1,9 @@
-ghost use Rattle.std.specs.Prelude.{◌≡◌, ◌==◌, ◌<◌, [], OnOk, length, map, slice_index_or, slice_set};
-ghost use Rattle.std.specs.List.{list_any};
+ghost use Rattle.std.specs.Prelude.{◌≡◌, ◌<◌, ◌∷◌, ◌++◌, [], None, OnErr, OnOk, length, map, slice_index_or, slice_set};
 ghost use Rattle.std.specs.Option.{option_copied};
+ghost use Rattle.pc_own.specs.Places.{ArePlacesOf, place_by_sequence};
 ghost use Rattle.pc_world.specs.Known.Writes.{Write, asked_again, last_seq_of, proved_at, with_put};
 
+use crate::places::Places;
 use crate::write::OwnWrite;
 use pc_base::{Key, NoMemory, Timestamp, Value};
 use std::alloc::Global;
@@ -12,15 +13,19 @@ use std::marker::Model;
 #[derive(Drop)]
 pub struct Writes<'a> {
     writes: Vec<OwnWrite<'a>>,
+    places: Places,
 }
 
 impl<'a> Model for Writes<'a> {
     ghost use Rattle.std.specs.Prelude.{List};
+    ghost use Rattle.pc_own.specs.Places.{ArePlacesOf};
     ghost use Rattle.pc_world.specs.Known.Writes.{Write};
 
     ghost Value = { List Write };
 
     ghost view = { λ ws. ws.writes.items };
+
+    ghost invariant = { λ ws. ArePlacesOf ws.writes.items ws.places };
 }
 
 impl<'a> Writes<'a> {
@@ -30,6 +35,7 @@ impl<'a> Writes<'a> {
     {
         Writes {
             writes: Vec::new(alloc),
+            places: Places::new(alloc),
         }
     }
 
@@ -43,13 +49,14 @@ impl<'a> Writes<'a> {
     pub fn last_seq(&self) -> u32
         ensures { result ≡ last_seq_of self.now }
     {
-        last_seq(&self.writes)
+        self.places.last
     }
 
     pub(crate) fn clear(&mut self)
         ensures { self.new ≡ [] }
     {
         self.writes.clear();
+        self.places.clear();
     }
 
     /// The writes after a put was sent: a new one stands last, one that was sent before is sent once more.
@@ -63,46 +70,51 @@ impl<'a> Writes<'a> {
     ) -> Result<(), NoMemory>
         ensures { OnOk result (self.new ≡ with_put seq ts key.now (option_copied value.entry) self.old) }
     {
-        if has(&self.writes, seq) {
-            ask_again(&mut self.writes, seq, ts)
-        } else {
-            let write = OwnWrite::new(alloc, key, seq, value, ts)?;
-            self.writes.push(write)?;
-            Ok(())
+        match self.places.place(seq) {
+            Some(place) => ask_at(&mut self.writes, place, seq, ts),
+            None => {
+                let write = OwnWrite::new(alloc, key, seq, value, ts)?;
+                self.add(write)
+            }
         }
+    }
+
+    /// One more write, of a sequence that none has, stands last. After a refusal none is kept.
+    fn add(&mut self, write: OwnWrite<'a>) -> Result<(), NoMemory>
+        requires { place_by_sequence write.seq self.old ≡ None }
+        ensures { OnOk result (self.new ≡ self.old ++ write.entry ∷ []) }
+    {
+        let added = add(&mut self.writes, &mut self.places, write);
+        if added.is_err() {
+            self.writes.clear();
+            self.places.clear();
+        }
+        added
     }
 
     /// The writes after the one of this key and sequence was proved.
     pub(crate) fn prove(&mut self, key: &Key, seq: u32, ts: Timestamp) -> Result<(), NoMemory>
         ensures { OnOk result (self.new ≡ map (proved_at key.now seq ts) self.old) }
     {
-        prove(&mut self.writes, key, seq, ts)
+        match self.places.place(seq) {
+            Some(place) => prove_at(&mut self.writes, place, key, seq, ts),
+            None => Ok(()),
+        }
     }
 }
 
-fn last_seq(writes: &[OwnWrite<'_>]) -> u32
-    ensures { result ≡ last_seq_of writes.now }
+fn add<'a>(
+    writes: &mut Vec<OwnWrite<'a>>,
+    places: &mut Places,
+    write: OwnWrite<'a>,
+) -> Result<(), NoMemory>
+    requires free { place_by_sequence write.seq writes.old.items ≡ None }
+    requires kept { ArePlacesOf writes.old.items places.old }
+    ensures pushed { OnOk result (writes.new.items ≡ writes.old.items ++ write.entry ∷ []) }
+    ensures kept { OnOk result (ArePlacesOf writes.new.items places.new) }
 {
-    let mut last = 0;
-    for write in writes {
-        last = last.max(write.seq);
-    }
-    last
-}
-
-fn has(writes: &[OwnWrite<'_>], seq: u32) -> bool
-    ensures { result ≡ list_any (λ w. w.seq == seq) writes.now }
-{
-    writes.iter().any(|write| write.seq == seq)
-}
-
-fn ask_again(writes: &mut Vec<OwnWrite<'_>>, seq: u32, ts: Timestamp) -> Result<(), NoMemory>
-    ensures { OnOk result (writes.new.items ≡ map (asked_again seq ts) writes.old.items) }
-{
-    let count = writes.as_slice().len();
-    for place in 0..count {
-        ask_at(writes, place, seq, ts)?;
-    }
+    places.add(write.seq, writes.len())?;
+    writes.push(write)?;
     Ok(())
 }
 
@@ -112,20 +124,11 @@ fn ask_at(
     seq: u32,
     ts: Timestamp,
 ) -> Result<(), NoMemory>
-    ensures { (d : Write) → place < length writes.old.items → OnOk result (writes.new.items ≡ slice_set writes.old.items place (asked_again seq ts (slice_index_or writes.old.items place d))) }
+    ensures ok { (d : Write) → place < length writes.old.items → OnOk result (writes.new.items ≡ slice_set writes.old.items place (asked_again seq ts (slice_index_or writes.old.items place d))) }
+    ensures err { OnErr result (writes.new.items ≡ writes.old.items) }
 {
     if let Some(write) = writes.get_mut(place) {
         write.ask_again(seq, ts)?;
-    }
-    Ok(())
-}
-
-fn prove(writes: &mut Vec<OwnWrite<'_>>, key: &Key, seq: u32, ts: Timestamp) -> Result<(), NoMemory>
-    ensures { OnOk result (writes.new.items ≡ map (proved_at key.now seq ts) writes.old.items) }
-{
-    let count = writes.as_slice().len();
-    for place in 0..count {
-        prove_at(writes, place, key, seq, ts)?;
     }
     Ok(())
 }
@@ -137,7 +140,8 @@ fn prove_at(
     seq: u32,
     ts: Timestamp,
 ) -> Result<(), NoMemory>
-    ensures { (d : Write) → place < length writes.old.items → OnOk result (writes.new.items ≡ slice_set writes.old.items place (proved_at key.now seq ts (slice_index_or writes.old.items place d))) }
+    ensures ok { (d : Write) → place < length writes.old.items → OnOk result (writes.new.items ≡ slice_set writes.old.items place (proved_at key.now seq ts (slice_index_or writes.old.items place d))) }
+    ensures err { OnErr result (writes.new.items ≡ writes.old.items) }
 {
     if let Some(write) = writes.get_mut(place) {
         write.prove_at(key, seq, ts)?;

@@ -4,6 +4,7 @@ use Rattle.pc_world.proofs.Knowing.{run_push}
 use Rattle.pc_world.specs.Run.{IsRun, protocol}
 use Rattle.pc_check.specs.FirstBroken.{Judges, head_with}
 use Rattle.pc_check.proofs.NextEntry.{next_taken}
+use Rattle.pc_sent.specs.Sending.{AreSendsOf}
 use Rattle.pc_check.proofs.first.first_broken.Goals as goal
 
 pub loop-place-preserved : goal.loop-place-preserved
@@ -18,4 +19,5 @@ loop-place-preserved g c =
     record {
       kept = subst (λ xs. g.J.Judge.keeps head xs c.broken.new.judge) whole (c.in_ok-rule.ensures.taken (ap Ok c.in_default.is));
       run = subst (IsRun head) whole (run_push head before e run may);
+      sends = subst (λ xs. AreSendsOf xs c.add.new.self) whole (c.in_ok-add.ensures (subst (λ xs. AreSendsOf xs c.loop-place.sends) (sym front) c.loop-place.invariant.sends));
     }

@@ -1,6 +1,32 @@
-use Rattle.std.proofs.Common.{◌↔◌, ◌≤◌, ℕ, All, IsTrue, subst}
-use Rattle.pc_world.specs.Send.Settling.{AllResolved}
+use Rattle.std.proofs.Common.{◌≡◌, ◌∷◌, ◌++◌, [], ℕ, List, true, All, Any, map, refl, sym, subst, ◌∙◌, rules}
+use Rattle.std.proofs.lemmas.List.{append-nil}
+use Rattle.std.proofs.lemmas.Map.Iter.{rest_all, rest_more, rest_so_far}
+use Rattle.std.specs.Map.Iter.{deref}
+use Rattle.pc_may_send.proofs.Walking.{all_of_last, all_with_last, map_with_last}
+use Rattle.pc_world.specs.Send.Settling.{WasResolved}
 use Rattle.pc_may_send.proofs.settling.are_own_resolved.Goals as goal
 
+pub returns-then-not-is_lock_resolved : goal.returns-then-not-is_lock_resolved
+returns-then-not-is_lock_resolved c = (
+  λ h. absurd cc,
+  λ (all : All (λ key. Any (WasResolved c.args.id key) c.args.heard.now) c.args.locks.now).
+      let P : List ℕ → Type 0 = (λ key. Any (WasResolved c.args.id key) c.args.heard.now) in
+      let front : List (List ℕ) = map deref c.loop-lock.yielded in
+      let split : c.args.locks.now ≡ front ++ c.in-Some.lock.now ∷ c.next.new.self = search (rules, rest_so_far, rest_more) in
+      let on : c.is_lock_resolved.result ≡ true = c.is_lock_resolved.ensures.1 (all_of_last P front c.in-Some.lock.now c.next.new.self (subst (All P) split all)) in
+      let off = c.if-not-is_lock_resolved.true in
+      absurd (cc (on, off)),
+)
+
+pub loop-lock-preserved : goal.loop-lock-preserved
+loop-lock-preserved c =
+    let P : List ℕ → Type 0 = (λ key. Any (WasResolved c.args.id key) c.args.heard.now) in
+    subst (All P) (map_with_last deref c.loop-lock.yielded c.in-Some.lock)
+    (all_with_last P (map deref c.loop-lock.yielded) c.in-Some.lock.now c.loop-lock.invariant (c.is_lock_resolved.ensures.0 c.if-not-is_lock_resolved.false))
+
 pub returns : goal.returns
-returns c = subst (λ xs. IsTrue c.all_own_resolved.result ↔ AllResolved c.args.heard.now c.args.id xs) c.as_slice.ensures c.all_own_resolved.ensures
+returns c =
+    let P : List ℕ → Type 0 = (λ key. Any (WasResolved c.args.id key) c.args.heard.now) in
+    let front : List (List ℕ) = map deref c.loop-lock.yielded in
+    let whole : c.args.locks.now ≡ front ++ [] = search (rules, rest_so_far, rest_all) in
+    (λ h. subst (All P) (sym (append-nil front) ∙ sym whole) c.loop-lock.invariant, λ h. refl)
