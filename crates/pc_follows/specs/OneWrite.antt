@@ -1,6 +1,6 @@
 -- One write for one call: a session sends puts of its open transaction alone, and a call that writes sends one new write, however often it
--- sends that one again; a write of an earlier call is sent again under its own sequence while it is in flight, and never once it was heard to be
--- written. Own profile.
+-- sends that one again; a write of an earlier call is sent again under its own sequence while it is in flight; that it is not once it was heard to
+-- be written is what may be sent at all. Own profile.
 use Rattle.std.specs.Prelude.{◌≡◌, not, ◌⊎◌, Some, All, Any, IsTrue, ⊤}
 use Rattle.pc_proto.specs.declared.event.Event.{Event}
 use Rattle.pc_proto.specs.declared.event.Event.TheVariants as events
