@@ -7,6 +7,6 @@ use Rattle.pc_proto.specs.declared.event.Event.{Event}
 use Rattle.pc_world.specs.Local.{Head}
 use Rattle.pc_world.specs.Run.{protocol}
 
--- The range stored as many entries as it may have.
+-- The range stored at least as many entries as it may have.
 abbrev pub range_is_full : ℕ → Head → List (Entry Event) → ℕ → Bool
 range_is_full limit head history range = nat_le limit (length (own (protocol head) (actors.Range range) history))

@@ -1,5 +1,5 @@
 -- The sessions of a workload begin one after another.
-use Rattle.std.proofs.Common.{◌≡◌, ℕ, ◌+◌, ◌<◌, inl, inr, Bool, All, List, [], ◌∷◌, ◌++◌, length, slice_get, Option, Some, Result, Ok, Err, IfOk, refl, sym, ap, subst, ◌∙◌, arith, length-append}
+use Rattle.std.proofs.Common.{◌≡◌, ℕ, ◌+◌, ◌<◌, inl, inr, Bool, All, List, [], ◌∷◌, ◌++◌, length, slice_get, Option, Some, Result, Ok, Err, IfOk, refl, sym, ap, subst, ◌∙◌, arith, length-append, false}
 use Rattle.std.proofs.lemmas.List.{append-nil, append_assoc}
 use Rattle.std.proofs.lemmas.Option.{slice_get_within}
 use Rattle.pc_base.specs.declared.actor.ActorId.{ActorId}
@@ -24,9 +24,9 @@ use Rattle.pc_world.specs.Local.{Head}
 -- a session that was made with its script is that of its place
 pub runner_begun : {C : Type 0} (work : Workload) (index : ℕ) (stated : SessionWork) (s : ScriptedMeaning C) (d : SessionMeaning C) (head : Head) (part : Part Event) (spare : ℕ) (clock : C) (pipelining : Bool) (limit : ℕ) (stop : Option ℕ) (range_limit : ℕ)
     → slice_get work.sessions index ≡ Some stated → IsScripted s → s ≡ record { session = d; script = stated.script; at = opened stated.script work.reruns }
-    → d.desk ≡ new_desk head part spare clock pipelining limit stop range_limit → head ≡ head_in_work work → part ≡ newcomer (actors.Session (index + 1)) → limit ≡ work.limit → range_limit ≡ work.limit → IsRunnerIn work index s
+    → d.desk ≡ new_desk head part spare clock pipelining false limit stop range_limit → head ≡ head_in_work work → part ≡ newcomer (actors.Session (index + 1)) → limit ≡ work.limit → range_limit ≡ work.limit → IsRunnerIn work index s
 runner_begun {C} work index stated s d head part spare clock pipelining limit stop range_limit listed scripted is desk head_is part_is limit_is range_is =
-    let on : s.session.desk ≡ new_desk head part spare clock pipelining limit stop range_limit = ap (λ (x : ScriptedMeaning C). x.session.desk) is ∙ desk in
+    let on : s.session.desk ≡ new_desk head part spare clock pipelining false limit stop range_limit = ap (λ (x : ScriptedMeaning C). x.session.desk) is ∙ desk in
     record {
       scripted = scripted;
       number = ap (λ (x : DeskMeaning C). session_number x.log.part.id) on ∙ ap (λ (p : Part Event). session_number p.id) part_is;
@@ -42,7 +42,7 @@ runner_begun {C} work index stated s d head part spare clock pipelining limit st
 -- where it was made
 pub runner_if : {C E : Type 0} (r : Result (ScriptedMeaning C) E) (work : Workload) (index : ℕ) (stated : SessionWork) (d : SessionMeaning C) (head : Head) (part : Part Event) (spare : ℕ) (clock : C) (pipelining : Bool) (limit : ℕ) (stop : Option ℕ) (range_limit : ℕ)
     → slice_get work.sessions index ≡ Some stated → IfOk r IsScripted → IfOk r (λ s. s ≡ record { session = d; script = stated.script; at = opened stated.script work.reruns })
-    → d.desk ≡ new_desk head part spare clock pipelining limit stop range_limit → head ≡ head_in_work work → part ≡ newcomer (actors.Session (index + 1)) → limit ≡ work.limit → range_limit ≡ work.limit → IfOk r (IsRunnerIn work index)
+    → d.desk ≡ new_desk head part spare clock pipelining false limit stop range_limit → head ≡ head_in_work work → part ≡ newcomer (actors.Session (index + 1)) → limit ≡ work.limit → range_limit ≡ work.limit → IfOk r (IsRunnerIn work index)
 runner_if (Ok s) work index stated d head part spare clock pipelining limit stop range_limit listed scripted is desk head_is part_is limit_is range_is =
     runner_begun work index stated s d head part spare clock pipelining limit stop range_limit listed scripted is desk head_is part_is limit_is range_is
 runner_if (Err e) work index stated d head part spare clock pipelining limit stop range_limit listed scripted is desk head_is part_is limit_is range_is = tt

@@ -1,6 +1,6 @@
 -- A session that only sends and hears messages of rounds and jobs: what it knows goes on so, its jobs may still be done, and its coordinator
 -- stands beside it.
-use Rattle.std.proofs.Common.{◌≡◌, ℕ, ◌+◌, ◌≤◌, max, true, false, Bool, All, Any, Contains, List, [], ◌∷◌, ◌++◌, find, length, cond, Option, Some, None, refl, sym, ap, ◌∙◌, subst, arith, inl, inr, length-append}
+use Rattle.std.proofs.Common.{◌≡◌, ℕ, ◌+◌, ◌≤◌, max, true, false, Bool, All, Any, Contains, List, [], ◌∷◌, ◌++◌, find, length, cond, Option, Some, refl, sym, ap, ◌∙◌, subst, arith, inl, inr, length-append}
 use Rattle.std.proofs.lemmas.List.{append-nil, append_assoc}
 use Rattle.std.proofs.lemmas.List.Elements.{All-nil, All-push, All-weaker}
 use Rattle.std.specs.Option.{option_and_then}

@@ -1,7 +1,5 @@
 -- What a coordinator has in common with what its session knows, where it may be told of messages beside it.
-use Rattle.std.proofs.Common.{◌≡◌, ℕ, ◌≤◌, true, List, Option, Some, None, refl, sym, ap, ◌∙◌, subst}
-use Rattle.pc_base.specs.declared.transaction.TxnId.{TxnId}
-use Rattle.pc_call.specs.declared.call.OpenCall.{OpenCall}
+use Rattle.std.proofs.Common.{◌≡◌, ℕ, ◌≤◌, true, Option, Some, None, refl, sym, ap, ◌∙◌, subst}
 use Rattle.pc_call.specs.Serving.{IsOpenIn}
 use Rattle.pc_coord.proofs.Knowing.{rests}
 use Rattle.pc_coord.specs.Coordination.{Coordination, next_at, next_of}
@@ -10,7 +8,6 @@ use Rattle.pc_coord.specs.declared.due.Due.TheVariants as dues
 use Rattle.pc_coord.specs.declared.next.Next.TheVariants as nexts
 use Rattle.pc_coord.specs.Knows.{IsHeld, Knows, KnowsAt}
 use Rattle.pc_proto.specs.declared.reply.Reply.{Reply}
-use Rattle.pc_txn.specs.Counted.{IsCounted}
 use Rattle.pc_txn.specs.declared.txn.OpenTxn.{OpenTxn}
 use Rattle.pc_world.specs.Known.{Known, first_if, open_txn}
 use Rattle.pc_world.specs.Known.Transactions.{Txn}

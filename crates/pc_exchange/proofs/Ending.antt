@@ -1,8 +1,7 @@
 -- What an actor made before its list ended.
-use Rattle.std.proofs.Common.{◌≡◌, ◌≤◌, false, true, length, All, Contains, List, [], ◌∷◌, ◌++◌, map, None, refl, sym, ap, subst, ◌∙◌}
-use Rattle.std.proofs.lemmas.List.{append-nil, append_assoc, map-append}
+use Rattle.std.proofs.Common.{◌≡◌, ◌≤◌, true, length, All, Contains, List, [], ◌++◌, refl, sym, ap, subst, ◌∙◌}
+use Rattle.std.proofs.lemmas.List.{map-append}
 use Rattle.std.proofs.lemmas.List.Elements.{All-append, All-contains, All-nil, Contains-append_right}
-use Rattle.pc_base.specs.declared.actor.ActorId.{ActorId}
 use Rattle.pc_desk.specs.declared.halt.Halt.{Halt}
 use Rattle.pc_desk.specs.declared.halt.Halt.TheVariants as halts
 use Rattle.pc_desk.specs.Desk.{DeskMeaning, GivesOnce, KeepsTrack}
@@ -12,7 +11,6 @@ use Rattle.pc_exchange.proofs.Growing.{grows_both, grows_none}
 use Rattle.pc_exchange.specs.Ending.{BreaksOff, HasBrokenOff}
 use Rattle.pc_exchange.specs.Growing.{HasGoneBeside, HasGrownBy}
 use Rattle.pc_history.specs.declared.pair.Pair.{Pair}
-use Rattle.pc_history.specs.declared.view.Part.{Part}
 use Rattle.pc_lists.proofs.Lists.{all_from_contains}
 use Rattle.pc_proto.specs.declared.event.Event.{Event}
 use Rattle.pc_turns.specs.Order.{IsInBetween, events_of}

@@ -1,21 +1,20 @@
 -- One message that is sent, evaluated and heard: what each of the three asks for, and what they come to.
-use Rattle.std.proofs.Common.{◌≡◌, ℕ, ◌+◌, ◌==◌, Bool, true, false, ◌&&◌, ◌||◌, not, ◌⊎◌, inl, inr, All, Any, Contains, List, [], ◌∷◌, ◌++◌, length, Option, None, Some, refl, sym, ap, subst, ◌∙◌, arith}
+use Rattle.std.proofs.Common.{◌≡◌, ℕ, ◌+◌, ◌==◌, Bool, true, false, ◌&&◌, ◌||◌, not, inl, inr, All, Any, Contains, List, [], ◌∷◌, Option, None, Some, refl, sym, ap, subst, ◌∙◌}
 use Rattle.std.proofs.lemmas.Bool.{eq-eqb, eqb-true}
 use Rattle.std.proofs.lemmas.List.Elements.{All-cons, All-nil}
 use Rattle.std.specs.List.{list_any}
 use Rattle.pc_base.specs.declared.actor.ActorId.{ActorId}
 use Rattle.pc_base.specs.declared.actor.ActorId.TheVariants as actors
-use Rattle.pc_base.specs.declared.entry.Entry.{Entry}
 use Rattle.pc_desk.proofs.Counting.{said_new}
 use Rattle.pc_desk.proofs.Making.{added, known_after_it, sent_then}
 use Rattle.pc_desk.proofs.Turns.{oldest_waits}
 use Rattle.pc_desk.specs.declared.answered.Answered.{Answered}
 use Rattle.pc_desk.specs.declared.halt.Halt.{Halt}
 use Rattle.pc_desk.specs.declared.halt.Halt.TheVariants as halts
-use Rattle.pc_desk.specs.Desk.{DeskMeaning, HasDelivered, HasHalted, HasHeardFirst, HasSentNext, IsCause, KeepsTrack, MayHearNow, Posted, is_on_way, times_sent}
+use Rattle.pc_desk.specs.Desk.{DeskMeaning, HasDelivered, HasHalted, HasHeardFirst, HasSentNext, IsCause, MayHearNow, Posted, is_on_way, times_sent}
 use Rattle.pc_desk.specs.Ending.{EndsOnly}
-use Rattle.pc_desk.specs.Keeping.{KeepsAs, KeepsNext}
-use Rattle.pc_desk.specs.OwnLog.{HasEntered, LogMeaning}
+use Rattle.pc_desk.specs.Keeping.{KeepsAs}
+use Rattle.pc_desk.specs.OwnLog.{LogMeaning}
 use Rattle.pc_exchange.proofs.Called.{next_unsent}
 use Rattle.pc_exchange.proofs.Ending.{breaks_only, made_by}
 use Rattle.pc_exchange.proofs.Growing.{grows_both, grows_else, grows_entered}
@@ -23,7 +22,7 @@ use Rattle.pc_exchange.proofs.HeardKinds.{heard_kind, heard_possible}
 use Rattle.pc_exchange.proofs.Knowing.{heard_then}
 use Rattle.pc_exchange.specs.Ending.{BreaksOff}
 use Rattle.pc_exchange.specs.Exchange.{MayExchangeNow, WasExchanged, heard_pair, sent_pair}
-use Rattle.pc_exchange.specs.Growing.{HasGoneBeside, HasAllBack, HasGrownBy}
+use Rattle.pc_exchange.specs.Growing.{HasGrownBy}
 use Rattle.pc_history.specs.declared.pair.Pair.{Pair}
 use Rattle.pc_history.specs.Own.{pair}
 use Rattle.pc_history.specs.Parts.{entry_of, knowledge, named_by}
@@ -32,17 +31,16 @@ use Rattle.pc_proto.specs.declared.call.Call.{Call}
 use Rattle.pc_proto.specs.declared.call.Call.TheVariants as calls
 use Rattle.pc_proto.specs.declared.event.Event.{Event}
 use Rattle.pc_proto.specs.declared.event.Event.TheVariants as events
-use Rattle.pc_proto.specs.declared.reply.Reply.{Reply}
 use Rattle.pc_proto.specs.declared.request.Request.{Request}
 use Rattle.pc_proto.specs.declared.request.Request.TheVariants as requests
 use Rattle.pc_proto.specs.Requests.{is_put, is_refresh, round_of}
-use Rattle.pc_range.specs.Message.{evaluation}
 use Rattle.pc_range.specs.Protocol.{unstaged_protocol}
 use Rattle.pc_follows.specs.PipelinedPuts.{IsPutWaitedFor}
 use Rattle.pc_turns.specs.Order.{IsInBetween, events_of}
 use Rattle.pc_follows.specs.CallMessages.{IsOfRound}
 use Rattle.pc_follows.specs.Refreshes.{IsOfWholeRefresh}
-use Rattle.pc_follows.specs.WaveOrder.{IsOldestUnheard, IsScanOf, SentAllPieces}
+use Rattle.pc_follows.specs.OldestUnheard.{IsOldestUnheard}
+use Rattle.pc_follows.specs.ScanPieces.{IsScanOf, SentAllPieces}
 use Rattle.pc_world.specs.Known.{Known, call_in, known_of, next_number}
 use Rattle.pc_world.specs.Known.Statements.{Statement}
 use Rattle.pc_world.specs.Known.Traffic.{Heard, Sent, heard_as, request_sent}
@@ -78,6 +76,7 @@ hears-as (actors.Session session) splits pipelining own number step h none no_re
   calls = tt;
   finishes = tt;
   aborts = tt;
+  rolled_back = tt;
   writes = tt;
   refreshes = tt;
   rounds = tt;
@@ -85,6 +84,8 @@ hears-as (actors.Session session) splits pipelining own number step h none no_re
   waves = tt;
   pieces = whole-scan splits (known_of own) h.request round;
   refresh_wave = whole-refresh (known_of own) h.request no_refresh;
+  again = λ s opened plain ends. let r = round s opened in let both : None ≡ Some r.0 = sym plain ∙ r.1 in absurd cc;
+  piece_order = tt;
   oldest = oldest;
 }
 hears-as (actors.Recoverer recoverer) splits pipelining own number step h none no_refresh round oldest = tt

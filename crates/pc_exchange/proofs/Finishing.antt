@@ -1,11 +1,8 @@
 -- A session does its oldest job: how it begins, what each exchange of its machine leaves, and how it ends.
-use Rattle.std.proofs.Common.{◌≡◌, ℕ, ◌+◌, ◌≤◌, max, Bool, true, false, All, List, [], ◌∷◌, ◌++◌, Option, Some, None, refl, sym, ap, ◌∙◌, subst, arith}
-use Rattle.std.proofs.lemmas.List.Elements.{All-nil, All-push}
+use Rattle.std.proofs.Common.{◌≡◌, ℕ, ◌≤◌, max, Bool, true, false, List, [], ◌∷◌, ◌++◌, Option, Some, None, refl, sym, ap, ◌∙◌, subst}
 use Rattle.pc_base.specs.declared.actor.ActorId.{ActorId}
 use Rattle.pc_base.specs.declared.actor.ActorId.TheVariants as actors
 use Rattle.pc_base.specs.declared.transaction.TxnId.{TxnId}
-use Rattle.pc_base.specs.Transaction.{same_txn}
-use Rattle.pc_coord.specs.Beside.{is_of_round_or_job}
 use Rattle.pc_coord.specs.declared.job.Job.{Job}
 use Rattle.pc_coord.specs.Knows.{messages_of_job}
 use Rattle.pc_desk.specs.Desk.{DeskMeaning}
@@ -15,27 +12,21 @@ use Rattle.pc_exchange.proofs.Coordinator.{counted_closed}
 use Rattle.pc_exchange.proofs.Going.{answered_to_by, aside_by, goes_both, goes_none, jobs_by, not_same, part_by}
 use Rattle.pc_exchange.proofs.Messages.{due_first, is_first, job_left, left_by_exchange, left_less, none_left}
 use Rattle.pc_exchange.proofs.Timely.{IsTimely, may_exchange}
-use Rattle.pc_exchange.specs.Aside.{IsAside, IsLaterAside}
+use Rattle.pc_exchange.specs.Aside.{IsAside}
 use Rattle.pc_exchange.specs.Exchange.{MayExchangeNow, WasExchanged}
 use Rattle.pc_exchange.specs.Finishing.{IsJobUnderWay, messages_due, with_rest}
-use Rattle.pc_exchange.specs.Growing.{HasGoneBeside}
 use Rattle.pc_exchange.specs.Jobs.{HasFinishedJob, MayFinishNow}
-use Rattle.pc_history.specs.declared.pair.Pair.{Pair}
-use Rattle.pc_lists.proofs.Same.{same_txn-is}
-use Rattle.pc_proto.specs.declared.event.Event.{Event}
 use Rattle.pc_proto.specs.declared.machine.MachineNext.{MachineNext}
 use Rattle.pc_proto.specs.declared.machine.MachineNext.TheVariants as machine
 use Rattle.pc_proto.specs.declared.reply.Reply.{Reply}
 use Rattle.pc_proto.specs.declared.reply.Reply.TheVariants as replies
 use Rattle.pc_proto.specs.declared.request.Request.{Request}
-use Rattle.pc_proto.specs.declared.request.Request.TheVariants as requests
 use Rattle.pc_proto.specs.Stamps.{greatest_of, reply_stamps}
-use Rattle.pc_resolve.specs.Resolving.{Resolving, at_end, finishing_after, finishing_due, finishing_heard, finishing_next, lock_resolve, remove_of, unsettled, with_reply}
+use Rattle.pc_resolve.specs.Resolving.{Resolving, at_end, finishing_after, finishing_due, finishing_heard, finishing_next, lock_resolve, remove_of, unsettled}
 use Rattle.pc_resolve.specs.ResolveKnows.{FinishingMayCome, ResolveKnows, WasAnsweredToIt}
 use Rattle.pc_world.specs.Exchange.{IsAllowed}
 use Rattle.pc_follows.specs.FinishingJobs.{first_message, jobs_of, without_first}
-use Rattle.pc_world.specs.Known.{Known, call_in, known_of, open_txn}
-use Rattle.pc_world.specs.Known.Transactions.{Txn}
+use Rattle.pc_world.specs.Known.{Known, call_in, known_of}
 use Rattle.pc_world.specs.Send.Settling.{MayFinish}
 
 -- it begins

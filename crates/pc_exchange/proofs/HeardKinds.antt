@@ -1,34 +1,41 @@
 -- What an actor heard is of the kind that its message asks for, and whose intents it met was begun: by the fine history in which its own list
 -- stands.
-use Rattle.std.proofs.Common.{◌≡◌, ℕ, ◌≤◌, ◌+◌, ◌<◌, ◌^◌, Contains, List, [], ◌∷◌, ◌++◌, Some, sym, ap, subst, ◌∙◌, arith}
+use Rattle.std.proofs.Common.{◌≡◌, ℕ, ◌≤◌, ◌<◌, Contains, List, [], ◌∷◌, ◌++◌, Some, refl, sym, ap, subst, ◌∙◌, arith}
 use Rattle.std.proofs.lemmas.List.{append-nil, append_assoc}
 use Rattle.pc_base.specs.declared.actor.ActorId.TheVariants as actors
 use Rattle.pc_base.specs.declared.entry.Entry.{Entry}
 use Rattle.pc_base.specs.declared.transaction.TxnId.{TxnId}
 use Rattle.pc_base.specs.Timestamp.{greatest}
 use Rattle.pc_desk.specs.OwnLog.{IsOwnLog, LogMeaning}
-use Rattle.pc_history.specs.declared.pair.Pair.{Pair}
+use Rattle.pc_exchange.proofs.PastEpochs.{past_then}
+use Rattle.pc_implicit.proofs.Agreed.{agreed, owned}
 use Rattle.pc_implicit.proofs.Anchored.{anchor_stays}
 use Rattle.pc_implicit.proofs.Answering.{replies_are_of_their_kind, reply_is_one}
 use Rattle.pc_implicit.proofs.Hearing.{IsSo, heard_is_so, now_is_so}
 use Rattle.pc_implicit.proofs.Holders.{anchored_begun, holder_anchored}
 use Rattle.pc_implicit.proofs.Sent.{unstaged_front}
 use Rattle.pc_implicit.proofs.Shown.{WasAnswered}
+use Rattle.pc_implicit.specs.Writes.{txns_of}
 use Rattle.pc_lists.proofs.Each.{each-contains}
 use Rattle.pc_proto.specs.declared.event.Event.{Event}
 use Rattle.pc_proto.specs.declared.meta.TxnMeta.{TxnMeta}
-use Rattle.pc_proto.specs.declared.reply.Reply.{Reply}
 use Rattle.pc_proto.specs.declared.reply.Reply.TheVariants as replies
+use Rattle.pc_proto.specs.declared.request.Request.{Request}
+use Rattle.pc_proto.specs.declared.request.Request.TheVariants as requests
+use Rattle.pc_proto.specs.Replies.{is_undecided_status, status_ts}
 use Rattle.pc_range.proofs.Unstaged.{nothing_staged}
 use Rattle.pc_range.specs.Unstaged.{unstaged_run}
+use Rattle.pc_wave.specs.Standing.{IsPastWhereUndecided}
 use Rattle.pc_world.proofs.Kept.{run_top}
 use Rattle.pc_world.proofs.Prefixes.{run_front}
-use Rattle.pc_world.specs.After.{known_at}
+use Rattle.pc_world.specs.After.{known_at, state_at}
 use Rattle.pc_world.specs.Answering.{MayAnswer}
 use Rattle.pc_world.specs.Committed.{anchor_in}
+use Rattle.pc_world.specs.Evaluation.{reply}
 use Rattle.pc_world.specs.Exchange.{IsPossibleReply}
 use Rattle.pc_world.specs.Known.{Known, known_of}
 use Rattle.pc_world.specs.Known.Traffic.{Heard}
+use Rattle.pc_world.specs.Known.Transactions.{Txn}
 use Rattle.pc_world.specs.Run.{IsRun}
 use Rattle.pc_world.specs.Unstaged.{NothingIsStaged}
 
@@ -71,6 +78,25 @@ module _ {C : Type 0} (l : LogMeaning C) (log : IsOwnLog l) where
   heard_kind h there =
       let w = answered h there in
       subst (MayAnswer h.request) (sym w.answers) (replies_are_of_their_kind l.head w.front w.range h.request (run_then h w) (unstaged_front w.front w.back (subst NothingIsStaged (sym w.whole) is_unstaged)))
+
+  -- a record that is not final is past what commits a transaction of the actor in an epoch that it has not left
+  pub heard_past : (h : Heard) → Contains (known_of l.part.own).heard h → (t : Txn) → Contains (known_of l.part.own).txns t → IsPastWhereUndecided t h.request h.reply
+  heard_past h there t mine = by h.request refl
+    where
+      w : WasAnswered l.head history_of l.part.id h.number h.request h.reply
+      w = answered h there
+
+      by : (r : Request) → h.request ≡ r → IsPastWhereUndecided t r h.reply
+      by (requests.Commit meta ts locks) is = λ whose low undecided.
+          let told : h.reply ≡ reply (requests.Commit meta ts locks) (state_at l.head w.range w.front) = w.answers ∙ ap (λ q. reply q (state_at l.head w.range w.front)) is in
+          let known : Contains (known_at l.head l.part.id history_of).txns t = subst (λ (k : Known). Contains k.txns t) (sym known_there) mine in
+          let of : l.part.id ≡ actors.Session t.id.session = (owned l.part.id _ (known_at l.head l.part.id history_of).txns t (agreed l.head history_of is_run l.part.id).numbered known).0 in
+          let here : Contains (txns_of l.head meta.id history_of) t = subst (λ a. Contains (known_at l.head a history_of).txns t) (of ∙ ap (λ (i : TxnId). actors.Session i.session) (sym whose)) known in
+          let past =
+          past_then l.head w.front w.back (subst (IsRun l.head) (sym w.whole) is_run) w.range meta ts locks t (subst (λ history. Contains (txns_of l.head meta.id history) t) (sym w.whole) here) (sym whose) low
+          (ap is_undecided_status (sym told) ∙ undecided) in
+          subst (λ r. ts < status_ts r) (sym told) past
+      by r is = tt
 
   -- also one that was heard in the open call
   pub heard_now_kind : (h : Heard) → Contains (known_of l.part.own).heard_now h → MayAnswer h.request h.reply

@@ -1,16 +1,16 @@
 -- The rounds of a call's conflicts in turn: what more was heard takes nothing from those that are over, and the messages of the next one go
 -- out in their places.
-use Rattle.std.proofs.Common.{◌≡◌, ℕ, zero, suc, ◌+◌, ◌<◌, Bool, true, false, ◌⊎◌, inl, inr, List, [], ◌∷◌, ◌++◌, Option, Some, None, All, Any, Contains, refl, sym, ap, ◌∙◌, subst, arith, count_by, drop, filter, is_some, length, slice_get, take}
+use Rattle.std.proofs.Common.{◌≡◌, ℕ, zero, suc, ◌+◌, ◌<◌, Bool, true, false, ◌⊎◌, inl, inr, List, [], ◌∷◌, ◌++◌, Some, Any, refl, sym, ap, ◌∙◌, subst, arith, count_by, drop, filter, is_some, length, slice_get, take}
 use Rattle.std.proofs.lemmas.List.{append-nil, append_assoc, take-append-drop}
 use Rattle.std.proofs.lemmas.List.Elements.{filter-append}
 use Rattle.std.proofs.lemmas.List.Sums.{length-filter}
 use Rattle.std.proofs.lemmas.Option.{same_Some}
 use Rattle.pc_base.specs.declared.limits.TheConstants.{MOST_CONFLICTS}
 use Rattle.pc_base.specs.declared.transaction.TxnId.{TxnId}
-use Rattle.pc_coord.specs.Rounds.{IsRefusedRound, IsSettledRound}
+use Rattle.pc_coord.specs.Rounds.{IsSettledRound}
 use Rattle.pc_exchange.specs.InTurn.{IsNextRound, pushes_answered}
 use Rattle.pc_exchange.specs.Rounding.{WasPushedOnceFor}
-use Rattle.pc_lists.proofs.Anywhere.{any_head, any_last}
+use Rattle.pc_lists.proofs.Anywhere.{any_head}
 use Rattle.pc_lists.proofs.Counts.{count-cons, count-push, one_if}
 use Rattle.pc_lists.proofs.Lists.{get_append}
 use Rattle.pc_proto.specs.declared.fate.Fate.{Fate}
@@ -18,18 +18,17 @@ use Rattle.pc_proto.specs.declared.fate.Goal.{Goal}
 use Rattle.pc_proto.specs.declared.meta.TxnMeta.{TxnMeta}
 use Rattle.pc_proto.specs.declared.reply.Reply.{Reply}
 use Rattle.pc_proto.specs.declared.reply.Reply.TheVariants as replies
-use Rattle.pc_proto.specs.declared.request.Request.{Request}
 use Rattle.pc_proto.specs.Replies.{is_conflict}
-use Rattle.pc_proto.specs.Requests.{goal_in, is_push_of}
+use Rattle.pc_proto.specs.Requests.{goal_in}
 use Rattle.pc_push.specs.Pushing.{Pushing, holder_resolve, push_of}
 use Rattle.pc_wave.proofs.Lists.{at_least-kept}
 use Rattle.pc_wave.proofs.Standings.{done-more}
 use Rattle.pc_world.specs.Counting.{AtLeast}
-use Rattle.pc_follows.specs.Eighth.{IsBeforeEighth, IsBelowEighth, MetEighth}
+use Rattle.pc_follows.specs.Eighth.{IsBeforeEighth, IsBelowEighth}
 use Rattle.pc_follows.specs.Resends.{WasDone}
-use Rattle.pc_follows.specs.Rounds.{AreRoundsOver, BeginsRound, IsConflictAt, IsFateOfRound, IsInItsRound, IsInRound, IsRoundOver, LeavesFate, conflicts_now, rounds_begun}
+use Rattle.pc_follows.specs.Rounds.{AreRoundsOver, IsConflictAt, IsInItsRound, IsRoundOver, LeavesFate, conflicts_now, rounds_begun}
 use Rattle.pc_world.specs.Known.{Known}
-use Rattle.pc_world.specs.Known.Traffic.{Heard, Sent}
+use Rattle.pc_world.specs.Known.Traffic.{Heard}
 use Rattle.pc_world.specs.Send.Push.{goal_for}
 use Rattle.pc_world.specs.Send.Settling.{ResolvedTo}
 use Rattle.pc_world.specs.Tell.Refusal.{IsConflictOf}

@@ -10,6 +10,7 @@ pub mod HeardKinds
 pub mod InTurn
 pub mod Knowing
 pub mod Messages
+pub mod PastEpochs
 pub mod Pushed
 pub mod Rounding
 pub mod Rounds

@@ -6,7 +6,6 @@ use Rattle.std.specs.Option.{option_map_or}
 use Rattle.pc_base.specs.declared.actor.ActorId.TheVariants as actors
 use Rattle.pc_base.specs.declared.transaction.TxnId.{TxnId}
 use Rattle.pc_base.specs.declared.transaction.Who.TheVariants as whos
-use Rattle.pc_base.specs.Transaction.{same_txn}
 use Rattle.pc_call.specs.Paced.{shows_resolve, was_met, was_pushed}
 use Rattle.pc_call.specs.Sending.{IsConflictNow, read_at}
 use Rattle.pc_coord.specs.declared.pusher.Pusher.{Pusher}
@@ -25,7 +24,6 @@ use Rattle.pc_exchange.specs.Rounding.{HasComeTo, WasPushedOnceFor, pushes_sent}
 use Rattle.pc_lists.proofs.Counts.{count-append, count-cons, one_if}
 use Rattle.pc_lists.proofs.Same.{same_txn-self}
 use Rattle.pc_proto.specs.declared.fate.Fate.{Fate}
-use Rattle.pc_proto.specs.declared.fate.Goal.{Goal}
 use Rattle.pc_proto.specs.declared.machine.MachineNext.TheVariants as machine
 use Rattle.pc_proto.specs.declared.meta.TxnMeta.{TxnMeta}
 use Rattle.pc_proto.specs.declared.reply.Reply.{Reply}

@@ -4,7 +4,7 @@ use Rattle.pc_base.specs.declared.actor.ActorId.{ActorId}
 use Rattle.pc_base.specs.declared.actor.ActorId.TheVariants as actors
 use Rattle.pc_base.specs.declared.transaction.TxnId.{TxnId}
 use Rattle.pc_coord.specs.Beside.{is_of_round_or_job}
-use Rattle.pc_desk.specs.Desk.{DeskMeaning, MaySendNow}
+use Rattle.pc_desk.specs.Desk.{DeskMeaning}
 use Rattle.pc_desk.specs.Keeping.{KeepsAs}
 use Rattle.pc_exchange.proofs.Called.{all_heard_ever}
 use Rattle.pc_exchange.proofs.Waves.{ends_where_heard}
@@ -24,6 +24,7 @@ use Rattle.pc_follows.specs.EarlyTell.{IsCommitKnown}
 use Rattle.pc_follows.specs.Eighth.{IsBeforeEighth, MetEighth}
 use Rattle.pc_follows.specs.FinishingJobs.{IsDue, jobs_of}
 use Rattle.pc_follows.specs.OneWrite.{IsItsPut}
+use Rattle.pc_follows.specs.PieceOrder.{IsNextPiece}
 use Rattle.pc_follows.specs.Refreshes.{IsItsRefresh}
 use Rattle.pc_follows.specs.Resends.{AreAnsweredNow, MayGoAgain}
 use Rattle.pc_follows.specs.Rounds.{IsInItsRound}
@@ -58,6 +59,12 @@ its-refresh k (requests.Resolve id key fate) is = tt
 its-refresh k (requests.Remove id anchor) is = tt
 its-refresh k request is = absurd cc
 
+no-piece : (k : Known) (request : Request) → is_of_round_or_job request ≡ true → IsNextPiece k request
+no-piece k (requests.Push holder by level now goal) is = tt
+no-piece k (requests.Resolve id key fate) is = tt
+no-piece k (requests.Remove id anchor) is = tt
+no-piece k request is = absurd cc
+
 sends-as : (id : ActorId) (session : ℕ) (splits : List (List ℕ)) (pipelining : Bool) (own : List (Pair Event)) (number range : ℕ) (request : Request) → id ≡ actors.Session session → is_of_round_or_job request ≡ true → IsTimely (known_of own) (jobs_of own) request → EndsWaves own
     → KeepsAs id splits pipelining own (events.Send number range request) None
 sends-as id session splits pipelining own number range request whose kind t ends =
@@ -71,6 +78,7 @@ sends-as id session splits pipelining own number range request whose kind t ends
       calls = t.kind;
       finishes = t.due;
       aborts = tt;
+      rolled_back = tt;
       writes = λ s opened. its-put (known_of own) request kind;
       refreshes = its-refresh (known_of own) request kind;
       rounds = λ s opened. (t.in_turn s opened).0;
@@ -78,6 +86,8 @@ sends-as id session splits pipelining own number range request whose kind t ends
       waves = ends;
       pieces = tt;
       refresh_wave = tt;
+      again = tt;
+      piece_order = λ s opened. no-piece (known_of own) request kind;
       oldest = tt;
     })
 

@@ -1,5 +1,5 @@
 -- A push or a resolve meets no intent, so it never met its eighth.
-use Rattle.std.proofs.Common.{◌≡◌, ℕ, zero, suc, Bool, true, false, inl, inr, Contains, IsTrue, List, [], ◌∷◌, refl, sym, ap, subst, ◌∙◌, arith}
+use Rattle.std.proofs.Common.{◌≡◌, true, false, inl, inr, Contains, List, [], ◌∷◌, refl, sym, subst, arith}
 use Rattle.pc_base.specs.declared.limits.TheConstants.{MOST_CONFLICTS}
 use Rattle.pc_lists.proofs.Lists.{contains_head, contains_tail}
 use Rattle.pc_proto.specs.declared.fate.Fate.{Fate}

@@ -3,6 +3,7 @@ use Rattle.std.proofs.Common.{◌≡◌, ◌⊎◌, inl, inr, All, Contains, IsT
 use Rattle.std.proofs.lemmas.Grind.{fold-append}
 use Rattle.std.proofs.lemmas.List.{append-nil, append_assoc, same_from_push}
 use Rattle.std.proofs.lemmas.List.Elements.{All-contains, Contains-append_left}
+use Rattle.pc_desk.proofs.Waves.{ending_of}
 use Rattle.pc_history.specs.declared.pair.Pair.{Pair}
 use Rattle.pc_lists.proofs.Lists.{all_from_contains}
 use Rattle.pc_proto.specs.declared.event.Event.{Event}
@@ -34,22 +35,9 @@ ends_where_heard own all front back p whole hears =
     all_from_contains (IsHeardOrPut heard) (known_of front).sent (λ m there.
     inl (All-contains (λ (m : Sent). IsTrue (is_heard heard m)) (known_of own).sent m all (subst (λ ms. Contains ms m) (sym is) (Contains-append_left (known_of front).sent since.more m there))))
 
--- a list has a last element, or none
-record IsEnding (xs : List (Pair Event)) : Type 0 where
-  front : List (Pair Event)
-  last : Pair Event
-  whole : xs ≡ front ++ last ∷ []
-
-ending-of : (xs : List (Pair Event)) → (xs ≡ []) ⊎ IsEnding xs
-ending-of [] = inl refl
-ending-of (x ∷ xs) = elim (ending-of xs) [
-  | inl none ↦ inr (record { front = []; last = x; whole = ap (λ ys. x ∷ ys) none })
-  | inr some ↦ inr (record { front = x ∷ some.front; last = some.last; whole = ap (λ ys. x ∷ ys) some.whole })
-]
-
 -- an entry that hears nothing, after which as much was heard, leaves none half heard
 pub ends_on : (own : List (Pair Event)) (q : Pair Event) → (IsHearing q.entry.event → ⊥) → (known_of (own ++ q ∷ [])).heard ≡ (known_of own).heard → EndsWaves own → EndsWaves (own ++ q ∷ [])
-ends_on own q hears_none same ends front back p whole hears = elim (ending-of back) [
+ends_on own q hears_none same ends front back p whole hears = elim (ending_of back) [
   | inl none ↦
       let both = same_from_push own front q p (whole ∙ ap (λ l. front ++ (p ∷ l)) none) in
       absurd (hears_none (subst (λ (x : Pair Event). IsHearing x.entry.event) (sym both.1) hears))

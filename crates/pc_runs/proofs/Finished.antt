@@ -1,13 +1,16 @@
 -- What the sessions of a workload leave when they finish.
-use Rattle.std.proofs.Common.{◌≡◌, ℕ, zero, suc, ◌+◌, ◌<◌, ◌≤◌, ◌⊎◌, inl, inr, Bool, true, false, All, List, [], ◌∷◌, length, slice_get, Some, refl, sym, ap, subst, ◌∙◌, arith}
+use Rattle.std.proofs.Common.{◌≡◌, ℕ, zero, suc, ◌+◌, ◌<◌, ◌≤◌, ◌⊎◌, inl, inr, Bool, true, false, All, List, [], ◌∷◌, ◌++◌, length, slice_get, Some, refl, sym, ap, subst, ◌∙◌, arith}
 use Rattle.std.proofs.lemmas.Option.{slice_get_within}
+use Rattle.std.specs.Prelude.{is_none}
 use Rattle.pc_base.specs.declared.actor.ActorId.{ActorId}
 use Rattle.pc_base.specs.declared.actor.ActorId.TheVariants as actors
 use Rattle.pc_closing.proofs.Leaving.{full_range_may_leave, heard_may_leave, own_end_may_leave}
 use Rattle.pc_closing.specs.Leaving.{AreLeavers, IsLeaver, Leaver, MayLeave}
 use Rattle.pc_desk.specs.Desk.{IsReadyToGo}
 use Rattle.pc_desk.specs.Ending.{IsAtFullRange, IsAtOwnEnd}
-use Rattle.pc_desk.specs.Keeping.{KeepsEach}
+use Rattle.pc_desk.specs.Keeping.{EachAfter, KeepsEach}
+use Rattle.pc_desk.specs.Waves.{KeepsWavesEach, KeepsWavesNext}
+use Rattle.pc_history.specs.declared.pair.Pair.{Pair}
 use Rattle.pc_history.specs.declared.view.Part.{Part}
 use Rattle.pc_proto.specs.declared.event.Event.{Event}
 use Rattle.pc_runs.specs.Laws.{HasFinished, HaveFinished, SessionsLeave}
@@ -16,6 +19,11 @@ use Rattle.pc_scripted.specs.Scripted.{IsScripted, ScriptedMeaning, own_list}
 use Rattle.pc_work.specs.declared.session.SessionWork.{SessionWork}
 use Rattle.pc_work.specs.declared.workload.Workload.{Workload}
 use Rattle.pc_world.specs.Local.{Head}
+
+-- what is evaluated in order keeps its waves, also where it might not have been
+waves-on : (beside : Bool) (before own : List (Pair Event)) → EachAfter (λ b (p : Pair Event). KeepsWavesNext false b p.entry.event p.named) before own → EachAfter (λ b (p : Pair Event). KeepsWavesNext beside b p.entry.event p.named) before own
+waves-on beside before [] each = tt
+waves-on beside before (p ∷ own) each = (record { whole = each.0.whole; order = λ one. each.0.order refl }, waves-on beside (before ++ p ∷ []) own each.1)
 
 module _ {C : Type 0} (work : Workload) (rule : C → ℕ → ℕ → Bool) (all : List (ScriptedMeaning C)) (leavers : List Leaver) (runners : AreRunners work all) (finished : HaveFinished rule all leavers) where
   as-many : length leavers ≡ length all
@@ -70,6 +78,7 @@ module _ {C : Type 0} (work : Workload) (rule : C → ℕ → ℕ → Bool) (all
           keeps = subst (λ b. KeepsEach (actors.Session (index + 1)) work.splits b (own_list s)) (r.scripted.unpiped ∙ sym unpiped)
               (subst (λ (h : Head). KeepsEach (actors.Session (index + 1)) h.splits s.session.desk.log.pipelining (own_list s)) r.head
               (subst (λ (i : ActorId). KeepsEach i s.session.desk.log.head.splits s.session.desk.log.pipelining (own_list s)) (r.scripted.id ∙ ap actors.Session r.number) f.log.keeps));
+          waves = waves-on (is_none work.turns) [] (own_list s) (subst (λ b. KeepsWavesEach b (own_list s)) r.scripted.one_by_one f.log.waves);
           within = subst (λ n. length (own_list s) ≤ n) r.limit r.scripted.within;
         };
   }

@@ -80,6 +80,7 @@ module _ {C : Type 0} (work : Workload) (rules : ActorId → ℕ → ℕ → Boo
       subst P (sym list) (record {
         steps = gone.steps session listed;
         keeps = gone.keeps;
+        waves = gone.waves;
         wire = subst (λ (p : Part Event). AreServed full (actors.Session (index + 1)) history (known_of p.own)) gone.part kept.served;
         within = gone.within;
         end = subst (λ n. IsScriptEnd (script_position n session.script (own_list s.0)) (own_list s.0) ⊎ (list_has_ended work.limit full (own_list s.0) ≡ true)) (sym r.reruns)

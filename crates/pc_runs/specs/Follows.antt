@@ -1,14 +1,15 @@
 -- When a history follows its workload: its head is the workload's; the sessions' calls and jobs come in its turns, or each session's by itself
 -- on threads; a learn is told whether its commit was told before; and in each session's own list the calls are the script's, the readings the
--- clock's, the messages are those of its calls and go over a quiet wire, what is over is finished, and the list has no more entries than it may
+-- clock's, the messages are those of its calls and go over a quiet wire, each wave of them is evaluated whole, with turns in order, what is over is finished, and the list has no more entries than it may
 -- have and goes on to the script's end, unless it or a range has as many as that. Own profile.
-use Rattle.std.specs.Prelude.{◌≡◌, ℕ, ◌-◌, ◌≤◌, ◌⊎◌, Bool, true, Some, List, [], length, slice_get}
+use Rattle.std.specs.Prelude.{◌≡◌, ℕ, ◌-◌, ◌≤◌, ◌⊎◌, Bool, true, is_none, Some, List, [], length, slice_get}
 use Rattle.pc_base.specs.declared.actor.ActorId.{ActorId}
 use Rattle.pc_base.specs.declared.actor.ActorId.TheVariants as actors
 use Rattle.pc_base.specs.declared.entry.Entry.{Entry}
 use Rattle.pc_closing.specs.Full.{range_is_full}
 use Rattle.pc_closing.specs.Served.{AreServed}
 use Rattle.pc_desk.specs.Keeping.{EachAfter, KeepsEach}
+use Rattle.pc_desk.specs.Waves.{KeepsWavesEach}
 use Rattle.pc_history.specs.declared.pair.Pair.{Pair}
 use Rattle.pc_history.specs.Own.{own}
 use Rattle.pc_proto.specs.declared.event.Event.{Event}
@@ -25,10 +26,11 @@ use Rattle.pc_world.specs.Known.{known_of}
 use Rattle.pc_world.specs.Local.{Head}
 use Rattle.pc_world.specs.Run.{protocol}
 
--- A session's own list follows its work: at each step, on the wire, in its length, and at its end; this says which ranges are full.
+-- A session's own list follows its work: at each step, in its waves, on the wire, in its length, and at its end; this says which ranges are full.
 pub record FollowsByItself (work : Workload) (session : SessionWork) (rule : ℕ → ℕ → Bool) (full : ℕ → Bool) (actor : ActorId) (list : List (Pair Event)) (history : List (Entry Event)) : Type 0 where
   pub steps : EachAfter (KeepsWork work session rule) [] list
   pub keeps : KeepsEach actor work.splits work.pipelining list
+  pub waves : KeepsWavesEach (is_none work.turns) list
   pub wire : AreServed full actor history (known_of list)
   pub within : length list ≤ work.limit
   pub end : IsScriptEnd (script_position work.reruns session.script list) list ⊎ (list_has_ended work.limit full list ≡ true)

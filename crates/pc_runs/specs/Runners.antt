@@ -1,9 +1,10 @@
 -- The sessions of a workload, each with its script: how they go on, and what they leave.
-use Rattle.std.specs.Prelude.{◌≡◌, ℕ, ◌+◌, ◌≤◌, Bool, Some, List, [], length, slice_get}
+use Rattle.std.specs.Prelude.{◌≡◌, ℕ, ◌+◌, ◌≤◌, Bool, is_none, Some, List, [], length, slice_get}
 use Rattle.pc_base.specs.declared.actor.ActorId.{ActorId}
 use Rattle.pc_base.specs.declared.actor.ActorId.TheVariants as actors
 use Rattle.pc_closing.specs.Leaving.{Leaver}
 use Rattle.pc_desk.specs.Keeping.{EachAfter, KeepsEach}
+use Rattle.pc_desk.specs.Waves.{KeepsWavesEach}
 use Rattle.pc_script.specs.Clocks.{clock_rule}
 use Rattle.pc_script.specs.Steps.{KeepsWork}
 use Rattle.pc_scripted.specs.Ended.{SaysFull}
@@ -53,6 +54,7 @@ pub record HasLeftAs {C : Type 0} (work : Workload) (rules : ActorId → ℕ →
   pub part : l.0.part ≡ s.session.desk.log.part
   pub steps : (session : SessionWork) → slice_get work.sessions index ≡ Some session → EachAfter (KeepsWork work session (rules (actors.Session (index + 1)))) [] (own_list s)
   pub keeps : KeepsEach (actors.Session (index + 1)) work.splits work.pipelining (own_list s)
+  pub waves : KeepsWavesEach (is_none work.turns) (own_list s)
   pub within : length (own_list s) ≤ work.limit
 
 -- All sessions have left, in order.

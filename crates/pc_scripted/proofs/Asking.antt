@@ -80,6 +80,7 @@ module _ {C : Type 0} (old : ScriptedMeaning C) (new : SessionMeaning C) (at : P
         (subst (All (λ p. p.entry.actor ≡ actors.Session (own_number old))) (sym called.grown.own)
         (All-append (λ (p : Pair Event). p.entry.actor ≡ actors.Session (own_number old)) (own_list old) called.part scripted.whose whole-call.whose));
     unpiped = log-is (λ l. l.pipelining ≡ false) scripted.unpiped;
+    one_by_one = log-is (λ l. l.beside ≡ false) scripted.one_by_one;
     no_stop = log-is (λ l. l.stop ≡ None) scripted.no_stop;
     within = called.rest.track.log.within;
     given = called.rest.track.given;

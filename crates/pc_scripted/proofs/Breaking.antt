@@ -67,6 +67,7 @@ module _ {C : Type 0} (Are : List Event → Type 0) (old : ScriptedMeaning C) (n
         (subst (All (λ p. p.entry.actor ≡ actors.Session (own_number old))) (sym b.own)
         (All-append (λ (p : Pair Event). p.entry.actor ≡ actors.Session (own_number old)) (own_list old) b.part scripted.whose whose-part));
     unpiped = log-is (λ l. l.pipelining ≡ false) scripted.unpiped;
+    one_by_one = log-is (λ l. l.beside ≡ false) scripted.one_by_one;
     no_stop = log-is (λ l. l.stop ≡ None) scripted.no_stop;
     within = b.within;
     given = b.given;

@@ -71,6 +71,7 @@ module _ {C : Type 0} (old : ScriptedMeaning C) (new : SessionMeaning C) (script
         (subst (All (λ p. p.entry.actor ≡ actors.Session (own_number old))) (sym step.grown.own)
         (All-append (λ (p : Pair Event). p.entry.actor ≡ actors.Session (own_number old)) (own_list old) step.part scripted.whose whole-job.whose));
     unpiped = log-is (λ l. l.pipelining ≡ false) scripted.unpiped;
+    one_by_one = log-is (λ l. l.beside ≡ false) scripted.one_by_one;
     no_stop = log-is (λ l. l.stop ≡ None) scripted.no_stop;
     within = step.rest.track.log.within;
     given = step.rest.track.given;

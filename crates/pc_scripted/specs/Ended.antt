@@ -1,5 +1,5 @@
--- When a session's list has ended before its script: it has as many entries as it may have, or a range has and does not serve the session
--- any more. Own profile.
+-- When a session's list has ended before its script: it has as many entries as it may have, or one of its messages went to a range that has,
+-- and no reply to it was heard. Own profile.
 use Rattle.std.specs.Prelude.{◌≡◌, ℕ, Bool, true, ◌&&◌, ◌||◌, ◌==◌, not, List, length}
 use Rattle.std.specs.List.{list_any}
 use Rattle.pc_desk.specs.Desk.{DeskMeaning, KnowsFull}

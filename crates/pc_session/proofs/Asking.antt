@@ -18,18 +18,18 @@ use Rattle.pc_proto.specs.declared.call.Call.{Call}
 use Rattle.pc_proto.specs.declared.call.Call.TheVariants as calls
 use Rattle.pc_proto.specs.declared.event.Event.{Event}
 use Rattle.pc_proto.specs.declared.event.Event.TheVariants as events
+use Rattle.pc_session.proofs.Again.{quiet_goes}
 use Rattle.pc_session.proofs.Away.{all_heard, apart_asked, none_away}
 use Rattle.pc_session.proofs.Inside.{one_on}
 use Rattle.pc_session.proofs.Jobs.{HasJobs, jobs_asked}
 use Rattle.pc_session.proofs.Knowing.{jobs_then, known_asked, of_ask, with_asked}
 use Rattle.pc_session.proofs.TurnsOn.{asked_turn}
 use Rattle.pc_session.specs.Calls.{MayBeCalled}
-use Rattle.pc_session.specs.InCall.{HasAsked, HasOpenCall, IsApartNow}
+use Rattle.pc_session.specs.InCall.{HasAsked, HasOpenCall, IsApartNow, IsBetweenWaves}
 use Rattle.pc_session.specs.Learning.{HasAskedToLearn}
 use Rattle.pc_session.specs.Session.{HasLeft, IsAtRest, SessionMeaning, session_knows}
 use Rattle.pc_turns.specs.Order.{IsInBetween, events_of}
 use Rattle.pc_txn.specs.declared.txn.OpenTxn.{OpenTxn}
-use Rattle.pc_follows.specs.WaveOrder.{EndsWaves}
 use Rattle.pc_world.specs.Known.{Known, call_of, known_of, learn}
 use Rattle.pc_world.specs.Local.{IsCallOf, MayAsk, is_outside}
 
@@ -92,13 +92,14 @@ module _ {C : Type 0} (old : SessionMeaning C) (d : DeskMeaning C) (c : Coordina
     apart = subst IsApartNow (sym known_is) (apart_asked call reading k);
     kinds = λ number request on. absurd (let e : true ≡ false = sym on ∙ away number in cc e);
     waiting = left_on;
+    goes_out = λ ends. quiet_goes c (λ number. quiet k p number rest.one.knows is_asked);
     turn =
         asked_turn c (known_of d.log.part.own) (subst (Knows c) (sym (known_after_it old.desk.log d.log event done.entered)) (learns k p rest.one.knows is_asked)) (ap (λ (k : Known). k.sent_now) known_is) (ap (λ (k : Known). k.heard_now) known_is);
   }
 
   -- no wave is half heard
-  pub asked_ends : EndsWaves d.log.part.own
-  asked_ends = ends_where_heard d.log.part.own (all_heard d done.track away)
+  pub asked_between : IsBetweenWaves d
+  asked_between = record { ends = ends_where_heard d.log.part.own (all_heard d done.track away); none_waits = ap (λ (x : DeskMeaning C). x.replies) done.rest ∙ rest.replies }
 
   -- and nothing else was done
   pub asked_goes : c.session ≡ old.coordinator.session → HasAsked old asked_then call reading

@@ -79,7 +79,7 @@ module _ {C : Type 0} (d : DeskMeaning C) (track : KeepsTrack d) where
   all_heard away = all_from_contains (λ (m : Sent). IsTrue (is_heard k.heard m)) k.sent (λ m there. heard_if_back m.number (any_there (λ (x : Sent). x.number == m.number) k.sent m (eq-eqb m.number m.number refl) there) (away m.number))
 
   -- what was sent in the call and is not on its way was heard in it
-  heard_now_if_back : (apart : IsApartNow k) (m : Sent) → request_sent m.number k.sent ≡ Some m.request → is_heard apart.before m ≡ false → is_on_way m.number d ≡ false → IsTrue (is_heard k.heard_now m)
+  pub heard_now_if_back : (apart : IsApartNow k) (m : Sent) → request_sent m.number k.sent ≡ Some m.request → is_heard apart.before m ≡ false → is_on_way m.number d ≡ false → IsTrue (is_heard k.heard_now m)
   heard_now_if_back apart m said before away =
       let whole : is_heard k.heard m ≡ true = heard_if_back m.number (sent_where_said m.number k.sent m.request said) away in
       let cut : (is_heard apart.before m || is_heard k.heard_now m) ≡ true = sym (ap (λ (hs : List Heard). is_heard hs m) apart.split ∙ list_any-append (λ (h : Heard). h.number == m.number) apart.before k.heard_now) ∙ whole in

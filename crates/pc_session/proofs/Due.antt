@@ -66,7 +66,7 @@ no_wait number (progresses.Sent sent) none = absurd cc
 no_wait number (progresses.Met sent conflict) none = refl
 no_wait number (progresses.Answered sent reply) none = refl
 
-none_awaits : (number : ℕ) (messages : List Message) → list_any is_out messages ≡ false → wave_awaits number messages ≡ false
+pub none_awaits : (number : ℕ) (messages : List Message) → list_any is_out messages ≡ false → wave_awaits number messages ≡ false
 none_awaits number [] none = refl
 none_awaits number (m ∷ messages) none = by (none_awaits number messages) (is_out m) refl none
   where

@@ -16,16 +16,18 @@ use Rattle.pc_desk.specs.Desk.{DeskMeaning, HasDelivered, HasHeardFirst, IsAnswe
 use Rattle.pc_desk.specs.Keeping.{KeepsSessionStep}
 use Rattle.pc_desk.specs.OwnLog.{LogMeaning}
 use Rattle.pc_exchange.proofs.Growing.{grows_else, grows_entered}
-use Rattle.pc_exchange.proofs.HeardKinds.{heard_kind}
+use Rattle.pc_exchange.proofs.HeardKinds.{heard_kind, heard_past}
 use Rattle.pc_exchange.proofs.Waves.{ends_where_heard}
 use Rattle.pc_exchange.specs.Growing.{HasGrownBy}
 use Rattle.pc_history.specs.declared.pair.Pair.{Pair}
-use Rattle.pc_lists.proofs.Lists.{contains_cons, contains_head, contains_tail}
+use Rattle.pc_lists.proofs.Lists.{contains_cons, contains_head, contains_map, contains_tail}
 use Rattle.pc_proto.specs.declared.event.Event.{Event}
 use Rattle.pc_proto.specs.declared.event.Event.TheVariants as events
 use Rattle.pc_proto.specs.declared.request.Request.{Request}
+use Rattle.pc_proto.specs.declared.request.Request.TheVariants as requests
 use Rattle.pc_proto.specs.Requests.{goal_in}
 use Rattle.pc_range.specs.Message.{evaluation}
+use Rattle.pc_session.proofs.Again.{all_again, ends_otherwise}
 use Rattle.pc_session.proofs.Away.{all_heard, any_there, apart_heard, none_away}
 use Rattle.pc_session.proofs.InTurn.{AreHeardOnce, heard_once}
 use Rattle.pc_session.proofs.Inside.{one_on}
@@ -39,12 +41,14 @@ use Rattle.pc_session.specs.InTurn.{KeepsTurn}
 use Rattle.pc_session.specs.Session.{HasLeft, SessionMeaning, session_knows}
 use Rattle.pc_turns.specs.Order.{IsInBetween}
 use Rattle.pc_wave.specs.Messages.{awaits_at, back_with, first_changed}
-use Rattle.pc_wave.specs.Standing.{HasMore, IsHeardTo}
+use Rattle.pc_wave.specs.Standing.{HasMore, IsHeardTo, IsPastWhereUndecided}
 use Rattle.pc_world.specs.Answering.{MayAnswer}
+use Rattle.pc_follows.specs.AgainInOneWave.{EndsWithSending}
 use Rattle.pc_follows.specs.CallMessages.{IsForCall}
 use Rattle.pc_follows.specs.WaveOrder.{EndsWaves}
 use Rattle.pc_world.specs.Known.{Known, known_of, learn}
 use Rattle.pc_world.specs.Known.Traffic.{Heard, heard_as, request_sent}
+use Rattle.pc_world.specs.Known.Transactions.{Txn, txn_heard}
 
 -- ---- messages are evaluated
 
@@ -75,6 +79,7 @@ module _ {C : Type 0} (old : SessionMeaning C) (reading : ℕ) (calls : HasOpenC
         subst (λ k. IsForCall k q) (sym known_same) (calls.kinds n q (sym (made.way n) ∙ on) (ap (λ (k : Known). request_sent n k.sent) (sym known_same) ∙ said));
     waiting = subst (λ own. HasLeft own old.jobs) (sym own_same) calls.waiting;
     turn = subst (λ k. KeepsTurn k old.coordinator.due) (sym known_same) calls.turn;
+    goes_out = λ ends. calls.goes_out (subst EndsWithSending own_same ends);
   }
 
   -- the wave is as whole as it was
@@ -162,6 +167,7 @@ module _ {C : Type 0} (old : SessionMeaning C) (reading : ℕ) (calls : HasOpenC
         keeps_as old.desk.log.part.id old.coordinator.session old.desk.log.head.splits old.desk.log.pipelining old.desk.log.part.own (events.Hear a.number a.step) (heard_as a.number a.step (request_sent a.number k.sent) (Some a.reply)) calls.one.whose calls.one.unpiped
         (subst (KeepsSessionStep old.desk.log.head.splits false old.desk.log.part.own (events.Hear a.number a.step)) (sym brings)
         (keeps_heard old.desk.log.head.splits old.desk.log.part.own a.number a.step h (for-call a there) whole.pieces
+        (λ s opened plain ends. let on = or_right (list_any (λ (m : Posted). m.number == a.number) old.desk.posted) (list_any (λ (x : Answered). x.number == a.number) old.desk.replies) (answered-any old.desk.replies a there) in all_again old reading a.number calls on (whole.silent a.number on) ends)
         (whole.refreshes a.number by.request (or_right (list_any (λ (m : Posted). m.number == a.number) old.desk.posted) (list_any (λ (x : Answered). x.number == a.number) old.desk.replies) (answered-any old.desk.replies a there)) by.said)
         (oldest_waits old.desk a rest calls.track first)));
   }
@@ -201,6 +207,18 @@ module _ {C : Type 0} (old : SessionMeaning C) (reading : ℕ) (calls : HasOpenC
     pub waited : awaits_number a.number old.coordinator.due ≡ true
     waited = calls.way a.number ∙ on-way
 
+    past-same : (request : Request) (t : Txn) → IsPastWhereUndecided (txn_heard k.sent (Some h) t) request a.reply → IsPastWhereUndecided t request a.reply
+    past-same (requests.Commit meta ts locks) t past = past
+    past-same request t past = tt
+
+    past : (request : Request) → request_sent a.number k.sent ≡ Some request → (t : Txn) → Contains k.txns t → IsPastWhereUndecided t request a.reply
+    past request said t mine =
+        let both : Some by.request ≡ Some request = sym by.said ∙ said in
+        let same : by.request ≡ request = cc in
+        let there : Contains (known_of d.log.part.own).heard h = subst (λ (x : Known). Contains x.heard h) (sym known_is) (Contains-push k.heard h) in
+        let after : Contains (known_of d.log.part.own).txns (txn_heard k.sent (Some h) t) = subst (λ (x : Known). Contains x.txns (txn_heard k.sent (Some h) t)) (sym known_is) (contains_map (txn_heard k.sent (Some h)) k.txns t mine) in
+        subst (λ q. IsPastWhereUndecided t q a.reply) same (past-same by.request t (heard_past d.log heard.entered.log h there (txn_heard k.sent (Some h) t) after))
+
     kind : (request : Request) → request_sent a.number k.sent ≡ Some request → MayAnswer request a.reply
     kind request said =
         let both : Some by.request ≡ Some request = sym by.said ∙ said in
@@ -218,6 +236,7 @@ module _ {C : Type 0} (old : SessionMeaning C) (reading : ℕ) (calls : HasOpenC
       named = heard.named;
       told = refl;
       kind = kind;
+      past = past;
     }
 
     left_on : HasLeft d.log.part.own old.jobs
@@ -237,7 +256,7 @@ module _ {C : Type 0} (old : SessionMeaning C) (reading : ℕ) (calls : HasOpenC
         → ComesOf (first_changed (awaits_at a.number) (back_with a.number a.reply) o.call.wave) c.due
 
     heard_to : IsHeardTo k a.number a.reply h
-    heard_to = record { numbered = refl; asked = by.said; told = refl; kind = kind by.request by.said }
+    heard_to = record { numbered = refl; asked = by.said; told = refl; kind = kind by.request by.said; past = past by.request by.said }
 
     more : HasMore k (known_of d.log.part.own) [] (h ∷ [])
     more = record {
@@ -272,6 +291,7 @@ module _ {C : Type 0} (old : SessionMeaning C) (reading : ℕ) (calls : HasOpenC
           let is = calls.kinds n q (and_left (is_on_way n old.desk) (not (a.number == n)) (sym (heard.way n) ∙ on)) (ap (λ (x : Known). request_sent n x.sent) (sym known_is) ∙ said) in
           record { s = is.s; opened = ap (λ (x : Known). x.statement) known_is ∙ is.opened; kind = is.kind };
       waiting = left_on;
+      goes_out = λ ends. absurd (ends_otherwise old.desk.log.part.own d.log.part.own p grown_heard.own (λ sends. sends) ends);
       turn =
           heard_turn old.coordinator c k (known_of d.log.part.own) h calls.one.knows calls.turn waited heard_to more plain (whole.silent a.number on-way) least once (λ o opened. comes k p o calls.one.knows hears-awaited opened) (ap (λ (x : Known). x.sent_now) known_is);
     }

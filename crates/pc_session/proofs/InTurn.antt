@@ -1,6 +1,6 @@
 -- The rounds of an open call stay in turn: when it is asked, sends and hears, and once a round was made.
-use Rattle.std.proofs.Common.{◌≡◌, ℕ, zero, suc, ◌+◌, ◌<◌, ◌≤◌, Bool, true, false, ◌==◌, ◌⊎◌, inl, inr, List, [], ◌∷◌, ◌++◌, All, Any, Contains, Option, Some, None, cond, count_by, filter, find, is_some, length, length-append, map, slice_get, take, refl, sym, ap, subst, ◌∙◌, arith}
-use Rattle.std.proofs.lemmas.Bool.{eq-eqb, eqb-true}
+use Rattle.std.proofs.Common.{◌≡◌, ℕ, zero, suc, ◌+◌, ◌≤◌, Bool, true, false, ◌==◌, ◌⊎◌, inl, inr, List, [], ◌∷◌, ◌++◌, All, Any, Contains, Some, None, cond, count_by, filter, find, is_some, length, length-append, map, slice_get, take, refl, sym, ap, subst, ◌∙◌, arith}
+use Rattle.std.proofs.lemmas.Bool.{eq-eqb}
 use Rattle.std.proofs.lemmas.List.{append-nil, append_assoc, map-append}
 use Rattle.std.proofs.lemmas.List.Elements.{All-contains, Contains-append_right}
 use Rattle.std.proofs.lemmas.Option.{same_Some}
@@ -12,7 +12,7 @@ use Rattle.pc_coord.specs.Coming.{AreUnsent, ComesOf}
 use Rattle.pc_coord.specs.declared.due.Due.{Due}
 use Rattle.pc_coord.specs.declared.due.Due.TheVariants as dues
 use Rattle.pc_desk.proofs.Counting.{counts_any}
-use Rattle.pc_desk.specs.Desk.{DeskMeaning, KeepsTrack, heard_as_number, times_sent}
+use Rattle.pc_desk.specs.Desk.{DeskMeaning, KeepsTrack, heard_as_number}
 use Rattle.pc_exchange.proofs.InTurn.{all_over_more, conflicts_more, passing_more}
 use Rattle.pc_exchange.specs.InTurn.{pushes_answered}
 use Rattle.pc_lists.proofs.Counts.{count-append, count-cons, one_if}
@@ -29,8 +29,8 @@ use Rattle.pc_session.proofs.Away.{any_there}
 use Rattle.pc_session.proofs.Lost.{row_by}
 use Rattle.pc_session.proofs.WaveTurns.{IsBelowNumber, IsBlockedFirst, IsFromNumber, apart_again, apart_unsent, first_blocked, numbers_again, numbers_back, numbers_none, numbers_sent, order_again, order_back, order_sent, order_unsent, sends_no_more, sends_none, sent_none, unsent_none}
 use Rattle.pc_session.specs.InCall.{IsApartNow}
-use Rattle.pc_session.specs.InTurn.{AreApart, HasRoundsInTurn, KeepsTurn, number_met, numbers_met}
-use Rattle.pc_wave.proofs.Changed.{found_all, found_passes}
+use Rattle.pc_session.specs.InTurn.{HasRoundsInTurn, KeepsTurn, number_met, numbers_met}
+use Rattle.pc_wave.proofs.Changed.{found_all}
 use Rattle.pc_wave.proofs.Lists.{at_least-before, at_least-fewer}
 use Rattle.pc_wave.proofs.Rounds.{due_round, first_found}
 use Rattle.pc_wave.specs.declared.message.Message.{Message}
@@ -40,7 +40,7 @@ use Rattle.pc_wave.specs.declared.step.Step.TheVariants as steps
 use Rattle.pc_wave.specs.Messages.{awaits_at, back_with, conflicts_at, first_changed, goes_again, is_in_conflict, is_to_send, sent_under, step_of, wave_awaits}
 use Rattle.pc_wave.specs.Standing.{AreOfTwo, IsAsFar, MessageStands, MetConflict, Pairwise, WaveStands}
 use Rattle.pc_world.specs.Counting.{AtLeast}
-use Rattle.pc_follows.specs.Eighth.{IsBlockedBy, TellsFirstBlock}
+use Rattle.pc_follows.specs.FirstBlock.{IsBlockedBy, TellsFirstBlock}
 use Rattle.pc_follows.specs.Rounds.{AreConflictsOver, AreRoundsOver, conflicts_now, rounds_begun}
 use Rattle.pc_world.specs.Known.{Known, known_of}
 use Rattle.pc_world.specs.Known.Statements.{Statement}

@@ -18,13 +18,17 @@ use Rattle.pc_proto.specs.declared.request.Request.{Request}
 use Rattle.pc_proto.specs.declared.request.Request.TheVariants as requests
 use Rattle.pc_proto.specs.Requests.{IsPutOn, goal_in, is_abort, is_commit, is_get, is_put, is_refresh, is_scan, round_of}
 use Rattle.pc_session.proofs.Lost.{tells_eighth}
+use Rattle.pc_follows.specs.AgainInOneWave.{HearsAllAgain}
 use Rattle.pc_follows.specs.CallMessages.{IsFor, IsForCall}
-use Rattle.pc_follows.specs.Eighth.{TellsFirstBlock}
+use Rattle.pc_follows.specs.FirstBlock.{TellsFirstBlock}
+use Rattle.pc_follows.specs.PieceOrder.{IsNextPiece}
 use Rattle.pc_follows.specs.PipelinedPuts.{IsPutWaitedFor}
 use Rattle.pc_follows.specs.Resends.{AreAnsweredNow, MayGoAgain}
 use Rattle.pc_follows.specs.Refreshes.{IsOfWholeRefresh}
 use Rattle.pc_follows.specs.Rounds.{AreConflictsOver, IsInItsRound}
-use Rattle.pc_follows.specs.WaveOrder.{EndsWaves, IsOldestUnheard, SentAllPieces}
+use Rattle.pc_follows.specs.OldestUnheard.{IsOldestUnheard}
+use Rattle.pc_follows.specs.ScanPieces.{SentAllPieces}
+use Rattle.pc_follows.specs.WaveOrder.{EndsWaves}
 use Rattle.pc_world.specs.Known.{Known, call_in, known_of}
 use Rattle.pc_world.specs.Known.Statements.{Statement}
 use Rattle.pc_world.specs.Known.Traffic.{Heard}
@@ -91,8 +95,8 @@ in-turn k request plain over = λ again. over
 
 -- a message that the coordinator gave is sent
 pub keeps_sent : (cut : List (List ℕ)) (own : List (Pair Event)) (number range : ℕ) (request : Request) (splits : List (List ℕ)) (session : ℕ)
-    → IsSendable splits session (known_of own) request → AreAnsweredNow (known_of own) request → AreConflictsOver (known_of own) → EndsWaves own → KeepsSessionStep cut false own (events.Send number range request) None
-keeps_sent cut own number range request splits session may answered over ends = record {
+    → IsSendable splits session (known_of own) request → AreAnsweredNow (known_of own) request → AreConflictsOver (known_of own) → IsNextPiece (known_of own) request → EndsWaves own → KeepsSessionStep cut false own (events.Send number range request) None
+keeps_sent cut own number range request splits session may answered over piece ends = record {
   wire = tt;
   early_tell = may.undecided;
   early_proof = λ _ _. tt;
@@ -102,6 +106,7 @@ keeps_sent cut own number range request splits session may answered over ends = 
   calls = λ s opened. inl may.kind;
   finishes = λ none. let e : Some may.kind.s ≡ None = sym may.kind.opened ∙ none in absurd cc;
   aborts = tt;
+  rolled_back = tt;
   writes = λ s opened. may.own;
   refreshes = may.refresh;
   rounds = λ s opened. in-turn (known_of own) request (plain_for may.kind.s.call request may.kind.kind).no_round over;
@@ -109,6 +114,8 @@ keeps_sent cut own number range request splits session may answered over ends = 
   waves = ends;
   pieces = tt;
   refresh_wave = tt;
+  again = tt;
+  piece_order = λ s opened. piece;
   oldest = tt;
 }
 
@@ -161,9 +168,9 @@ asked_is : (k : Known) (s : Statement) (call : Call) → k.statement ≡ Some s 
 asked_is k s call opened asked = let e : Some s.call ≡ Some call = sym (ap call_in opened) ∙ asked in cc
 
 -- a reply to such a message is heard
-pub keeps_heard : (cut : List (List ℕ)) (own : List (Pair Event)) (number step : ℕ) (h : Heard) → IsForCall (known_of own) h.request → SentAllPieces cut (known_of own) → IsOfWholeRefresh (known_of own) h.request → IsOldestUnheard (known_of own) h.number
+pub keeps_heard : (cut : List (List ℕ)) (own : List (Pair Event)) (number step : ℕ) (h : Heard) → IsForCall (known_of own) h.request → SentAllPieces cut (known_of own) → HearsAllAgain own (Some h) → IsOfWholeRefresh (known_of own) h.request → IsOldestUnheard (known_of own) h.number
     → KeepsSessionStep cut false own (events.Hear number step) (Some h)
-keeps_heard cut own number step h kind pieces whole oldest = record {
+keeps_heard cut own number step h kind pieces again whole oldest = record {
   wire = tt;
   early_tell = tt;
   early_proof = λ asked none. no_put h.request (subst (λ call. IsFor call h.request) (asked_is (known_of own) kind.s calls.Commit kind.opened asked) kind.kind);
@@ -173,6 +180,7 @@ keeps_heard cut own number step h kind pieces whole oldest = record {
   calls = tt;
   finishes = tt;
   aborts = tt;
+  rolled_back = tt;
   writes = tt;
   refreshes = tt;
   rounds = tt;
@@ -180,6 +188,8 @@ keeps_heard cut own number step h kind pieces whole oldest = record {
   waves = tt;
   pieces = λ none. pieces;
   refresh_wave = whole;
+  again = again;
+  piece_order = tt;
   oldest = oldest;
 }
 
@@ -198,6 +208,7 @@ keeps_told cut own c answer may first all ever =
       calls = tt;
       finishes = tt;
       aborts = may.aborts;
+      rolled_back = may.rolled_back;
       writes = tt;
       refreshes = may.restarts;
       rounds = tt;
@@ -205,5 +216,7 @@ keeps_told cut own c answer may first all ever =
       waves = tt;
       pieces = tt;
       refresh_wave = tt;
+      again = tt;
+      piece_order = tt;
       oldest = tt;
     }

@@ -42,14 +42,13 @@ use Rattle.pc_session.proofs.Keeping.{keeps_as}
 use Rattle.pc_session.proofs.Knowing.{jobs_then}
 use Rattle.pc_session.proofs.Stepping.{part_whose}
 use Rattle.pc_session.specs.InCall.{HasOpenCall, HasTold, IsApartNow}
-use Rattle.pc_session.specs.InTurn.{KeepsTurn}
+use Rattle.pc_session.specs.InTurn.{KeepsTurn, WaitsForReplies}
 use Rattle.pc_session.specs.Learning.{AreOfBrokenLearn, HasAskedToLearn, HasLearnt, HasMet, IsLearning, answer_to_learn, met_at}
 use Rattle.pc_session.specs.Session.{HasLeft, IsAtRest, SessionMeaning, session_knows}
 use Rattle.pc_session.specs.Token.{IsOfCommit, TokenMeaning}
 use Rattle.pc_turns.specs.Order.{IsInBetween, events_of}
 use Rattle.pc_world.specs.Caused.{TellsCommitted}
 use Rattle.pc_world.specs.Known.{Known, known_after, known_of, learn}
-use Rattle.pc_world.specs.Known.Statements.{Statement}
 use Rattle.pc_world.specs.Known.Traffic.{Heard, Sent}
 use Rattle.pc_world.specs.Named.{is_tell}
 
@@ -106,6 +105,7 @@ keeps_met cut own id step = record {
   calls = tt;
   finishes = tt;
   aborts = tt;
+  rolled_back = tt;
   writes = tt;
   refreshes = tt;
   rounds = tt;
@@ -113,6 +113,8 @@ keeps_met cut own id step = record {
   waves = tt;
   pieces = tt;
   refresh_wave = tt;
+  again = tt;
+  piece_order = tt;
   oldest = tt;
 }
 
@@ -210,6 +212,7 @@ module _ {C : Type 0} (old : SessionMeaning C) (reading : ℕ) (token : TokenMea
         apart = subst IsApartNow (sym known_is) (apart_met k token.id token.ts calls.apart);
         kinds = λ number request on. absurd (let e : true ≡ false = sym on ∙ away_then number in cc e);
         waiting = left_on;
+        goes_out = λ ends. subst WaitsForReplies (sym due_is) tt;
         turn = subst (KeepsTurn (known_of d.log.part.own)) (sym due_is) tt;
       }
 

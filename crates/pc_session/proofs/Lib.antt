@@ -1,3 +1,4 @@
+pub mod Again
 pub mod Asking
 pub mod Away
 pub mod Calling
@@ -12,6 +13,7 @@ pub mod Keeping
 pub mod Knowing
 pub mod Learning
 pub mod Lost
+pub mod PieceTurns
 pub mod Rounds
 pub mod Sending
 pub mod Standing

@@ -1,9 +1,8 @@
 -- A session in its call once the round of a conflict was made beside its coordinator.
-use Rattle.std.proofs.Common.{◌≡◌, ℕ, ◌+◌, ◌≤◌, max, true, false, Bool, ◌==◌, ◌||◌, inl, inr, All, Contains, IsTrue, List, [], ◌∷◌, ◌++◌, cond, count_by, find, Option, Some, None, refl, sym, ap, subst, ◌∙◌, arith}
+use Rattle.std.proofs.Common.{◌≡◌, ℕ, ◌+◌, ◌≤◌, max, true, false, Bool, ◌==◌, inl, inr, All, Contains, List, [], ◌∷◌, ◌++◌, cond, count_by, find, Option, Some, None, refl, sym, ap, subst, ◌∙◌, arith}
 use Rattle.std.proofs.lemmas.Bool.{eq-eqb}
-use Rattle.std.proofs.lemmas.Bool.Decides.{nat_tests}
 use Rattle.std.proofs.lemmas.List.{append_assoc}
-use Rattle.std.proofs.lemmas.List.Elements.{All-append, All-contains, All-weaker, Contains-append_right}
+use Rattle.std.proofs.lemmas.List.Elements.{All-append, All-weaker, Contains-append_right}
 use Rattle.std.specs.List.{list_any}
 use Rattle.std.specs.Option.{option_map}
 use Rattle.pc_base.specs.declared.actor.ActorId.TheVariants as actors
@@ -12,23 +11,22 @@ use Rattle.pc_coord.specs.Beside.{IsLaterBeside}
 use Rattle.pc_coord.specs.Coming.{ComesOfRound}
 use Rattle.pc_coord.specs.Coordination.{Coordination, awaits_number, next_of, opened_by, with_clock}
 use Rattle.pc_coord.specs.declared.due.Opened.{Opened}
-use Rattle.pc_coord.specs.declared.job.Job.{Job}
 use Rattle.pc_coord.specs.declared.next.Next.TheVariants as nexts
 use Rattle.pc_coord.specs.declared.pusher.Pusher.{Pusher}
 use Rattle.pc_coord.specs.declared.round.Round.{Round}
-use Rattle.pc_coord.specs.Knows.{Knows, messages_of_job}
+use Rattle.pc_coord.specs.Knows.{Knows}
 use Rattle.pc_coord.specs.Pusher.{IsPusherOf}
 use Rattle.pc_coord.specs.Rounds.{EndsRound}
 use Rattle.pc_desk.proofs.Counting.{counts_any, none_counted, said_more}
-use Rattle.pc_desk.specs.Desk.{DeskMeaning, KeepsTrack, heard_as_number, is_on_way, times_sent}
+use Rattle.pc_desk.specs.Desk.{DeskMeaning, KeepsTrack, is_on_way, times_sent}
 use Rattle.pc_exchange.specs.Aside.{IsLaterAside}
-use Rattle.pc_exchange.specs.Growing.{HasAllBack}
 use Rattle.pc_exchange.specs.Jobs.{IsFinishable}
 use Rattle.pc_exchange.specs.Rounds.{HasMadeRoundOf, MayMakeRound}
 use Rattle.pc_lists.proofs.Counts.{count-append, count-cons, one_if}
 use Rattle.pc_lists.proofs.Lists.{all_from_contains, contains_cons, contains_nil}
 use Rattle.pc_proto.specs.declared.reply.Reply.{Reply}
 use Rattle.pc_proto.specs.declared.request.Request.{Request}
+use Rattle.pc_session.proofs.Again.{quiet_goes}
 use Rattle.pc_session.proofs.Away.{any_there, front_none, none_answered, none_away, none_posted}
 use Rattle.pc_session.proofs.Due.{quiet_met}
 use Rattle.pc_session.proofs.InTurn.{AreHeardOnce, heard_once}
@@ -38,9 +36,7 @@ use Rattle.pc_session.specs.InCall.{HasGoneInside, HasOpenCall, IsApartNow}
 use Rattle.pc_session.specs.Session.{HasLeft, SessionMeaning, session_knows}
 use Rattle.pc_wave.specs.declared.step.Step.TheVariants as steps
 use Rattle.pc_wave.specs.Messages.{step_of}
-use Rattle.pc_follows.specs.FinishingJobs.{jobs_of}
 use Rattle.pc_world.specs.Known.{Known, known_of, reading_in}
-use Rattle.pc_world.specs.Known.Statements.{Statement}
 use Rattle.pc_world.specs.Known.Traffic.{Heard, Sent, request_sent}
 use Rattle.pc_world.specs.Known.Transactions.{Txn}
 use Rattle.pc_world.specs.Tell.Refusal.{is_heard}
@@ -177,6 +173,7 @@ module _ {C : Type 0} (old : SessionMeaning C) (reading number : ℕ) (conflict 
           apart = apart_aside old.desk d calls.track track-later made.session ts made.made.aside calls.apart;
           kinds = λ n q on. absurd (let e : true ≡ false = sym on ∙ away n in cc e);
           waiting = left_on;
+          goes_out = λ ends. quiet_goes e (λ n. waits conflict reader n c-due);
           turn =
               round_turn old.coordinator known number conflict reader calls.one.knows calls.turn due met once e later round made.made.begun made.made.ends beside.later
               (heard_once d track-later (apart_aside old.desk d calls.track track-later made.session ts made.made.aside calls.apart))

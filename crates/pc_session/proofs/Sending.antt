@@ -18,7 +18,6 @@ use Rattle.pc_exchange.proofs.Growing.{grows_both, grows_else, grows_entered}
 use Rattle.pc_exchange.proofs.Waves.{ends_on}
 use Rattle.pc_exchange.specs.Growing.{HasGrownBy}
 use Rattle.pc_history.specs.declared.pair.Pair.{Pair}
-use Rattle.pc_history.specs.Parts.{gave}
 use Rattle.pc_proto.specs.declared.event.Event.{Event}
 use Rattle.pc_proto.specs.declared.event.Event.TheVariants as events
 use Rattle.pc_proto.specs.declared.request.Request.{Request}
@@ -28,7 +27,8 @@ use Rattle.pc_session.proofs.Inside.{one_on}
 use Rattle.pc_session.proofs.Jobs.{HasJobs, jobs_sent}
 use Rattle.pc_session.proofs.Keeping.{keeps_as, keeps_sent, no_goal, plain_for}
 use Rattle.pc_session.proofs.Knowing.{jobs_then, known_sent, of_send, with_sent}
-use Rattle.pc_session.proofs.TurnsOn.{over_now, sent_turn}
+use Rattle.pc_session.proofs.PieceTurns.{next_piece}
+use Rattle.pc_session.proofs.TurnsOn.{over_now, sent_goes_out, sent_turn}
 use Rattle.pc_session.specs.InCall.{HasGoneInside, HasOpenCall, IsApartNow}
 use Rattle.pc_session.specs.Session.{HasLeft, SessionMeaning, session_knows}
 use Rattle.pc_turns.specs.Order.{IsInBetween}
@@ -61,7 +61,8 @@ module _ {C : Type 0} (old : SessionMeaning C) (reading : ℕ) (request : Reques
         keeps = λ number range.
             keeps_as old.desk.log.part.id old.coordinator.session old.desk.log.head.splits old.desk.log.pipelining old.desk.log.part.own (events.Send number range request) None calls.one.whose calls.one.unpiped
             (keeps_sent old.desk.log.head.splits old.desk.log.part.own number range request old.coordinator.splits old.coordinator.session may
-            (answered_now old.desk calls.track old.coordinator request calls.apart calls.way none) (over_now old.coordinator k request calls.one.knows due calls.turn) ends);
+            (answered_now old.desk calls.track old.coordinator request calls.apart calls.way none) (over_now old.coordinator k request calls.one.knows due calls.turn)
+            (next_piece old reading request calls due may) ends);
       }
 
   module _ (d : DeskMeaning C) (c : Coordination) (number : ℕ) (sent : HasSentNext old.desk d number request) where
@@ -138,6 +139,7 @@ module _ {C : Type 0} (old : SessionMeaning C) (reading : ℕ) (request : Reques
       apart = (let fresh = none_heard_next old.desk calls.track number sent.next in subst IsApartNow (sym known_is) (apart_sent number sent.range request k fresh.0 fresh.1 calls.apart));
       kinds = kinds_on;
       waiting = left_on;
+      goes_out = λ ends. sent_goes_out old.coordinator k request calls.one.knows due calls.turn c number comes;
       turn =
           sent_turn old.coordinator k request calls.one.knows due calls.turn (known_of d.log.part.own) c number sent.range (ap (λ (x : Known). x.sent_now) known_is) (ap (λ (x : Known). x.heard_now) known_is)
           (no_goal request (plain_for may.kind.s.call request may.kind.kind).no_round) (sent.next ∙ next-is) comes;

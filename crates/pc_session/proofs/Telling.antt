@@ -1,9 +1,9 @@
 -- A session once its call was told its answer.
-use Rattle.std.proofs.Common.{◌≡◌, ℕ, ◌+◌, false, All, IsTrue, List, [], ◌∷◌, ◌++◌, is_some, map, Option, Some, None, IfSome, refl, sym, ap, subst, ◌∙◌}
+use Rattle.std.proofs.Common.{◌≡◌, ℕ, false, List, [], ◌∷◌, ◌++◌, map, Option, None, IfSome, refl, sym, ap, subst, ◌∙◌}
 use Rattle.std.specs.Option.{option_to_list}
 use Rattle.pc_base.specs.declared.actor.ActorId.{ActorId}
 use Rattle.pc_base.specs.declared.actor.ActorId.TheVariants as actors
-use Rattle.pc_coord.specs.Coordination.{Coordination, awaits_number, next_of, with_nothing_due, without_job}
+use Rattle.pc_coord.specs.Coordination.{Coordination, next_of, with_nothing_due, without_job}
 use Rattle.pc_coord.specs.declared.due.Due.TheVariants as dues
 use Rattle.pc_coord.specs.declared.job.Job.{Job}
 use Rattle.pc_coord.specs.declared.next.Next.TheVariants as nexts

@@ -1,10 +1,7 @@
 -- A session's call stays in turn by each thing that it does.
-use Rattle.std.proofs.Common.{◌≡◌, ℕ, ◌+◌, ◌<◌, ◌≤◌, Bool, true, false, inl, inr, List, [], ◌∷◌, ◌++◌, All, Any, Contains, Option, Some, None, IsTrue, count_by, refl, sym, ap, subst, ◌∙◌, arith}
+use Rattle.std.proofs.Common.{◌≡◌, ℕ, ◌+◌, ◌≤◌, true, false, inl, inr, List, [], ◌∷◌, ◌++◌, All, Contains, Option, Some, None, refl, sym, ap, subst, ◌∙◌, arith}
 use Rattle.std.proofs.lemmas.Bool.{eq-eqb}
 use Rattle.std.proofs.lemmas.List.Elements.{All-weaker, Contains-append_right}
-use Rattle.pc_base.specs.declared.limits.TheConstants.{MOST_CONFLICTS}
-use Rattle.pc_base.specs.declared.transaction.TxnId.{TxnId}
-use Rattle.pc_call.specs.Paced.{shows_resolve, was_pushed}
 use Rattle.pc_call.specs.Rounding.{MakesRound}
 use Rattle.pc_call.specs.Sending.{IsConflictNow}
 use Rattle.pc_call.specs.Serving.{InCall}
@@ -25,9 +22,6 @@ use Rattle.pc_coord.specs.Rounds.{EndsRound, IsRefusedRound, IsSettledRound}
 use Rattle.pc_exchange.proofs.InTurn.{conflict_at, conflict_more, over_more, settled_answered, settled_conflicts, settled_over}
 use Rattle.pc_exchange.specs.InTurn.{IsNextRound}
 use Rattle.pc_lists.proofs.Lists.{all_from_contains, contains_head}
-use Rattle.pc_proto.specs.declared.answer.Answer.{Answer}
-use Rattle.pc_proto.specs.declared.answer.Answer.TheVariants as answers
-use Rattle.pc_proto.specs.declared.meta.TxnMeta.{TxnMeta}
 use Rattle.pc_proto.specs.declared.reply.Reply.{Reply}
 use Rattle.pc_proto.specs.declared.reply.Reply.TheVariants as replies
 use Rattle.pc_proto.specs.declared.request.Request.{Request}
@@ -35,9 +29,8 @@ use Rattle.pc_proto.specs.Replies.{holder_in}
 use Rattle.pc_proto.specs.Requests.{goal_in}
 use Rattle.pc_session.proofs.Away.{any_there}
 use Rattle.pc_session.proofs.InTurn.{AreHeardOnce, WaitsFirst, asked_block, conflicts_over, same_heard, turn_again, turn_asked, turn_comes, turn_heard, turn_sent, waits_first}
-use Rattle.pc_session.proofs.WaveTurns.{IsBelowNumber, IsFromNumber, sends_no_more}
-use Rattle.pc_session.specs.InTurn.{HasRoundsInTurn, KeepsTurn, SendsNoMore}
-use Rattle.pc_txn.specs.declared.txn.OpenTxn.{OpenTxn}
+use Rattle.pc_session.proofs.WaveTurns.{IsBelowNumber, IsFromNumber, sends_no_more, sends_none, sent_none}
+use Rattle.pc_session.specs.InTurn.{HasRoundsInTurn, KeepsTurn, SendsNoMore, WaitsForReplies}
 use Rattle.pc_wave.proofs.Hearing.{wave_heard}
 use Rattle.pc_wave.proofs.Rounds.{due_round, first_found, wave_again}
 use Rattle.pc_wave.specs.declared.message.Message.{Message}
@@ -47,11 +40,11 @@ use Rattle.pc_wave.specs.declared.step.Step.TheVariants as steps
 use Rattle.pc_wave.specs.Due.{FollowsConflict, MadeRound}
 use Rattle.pc_wave.specs.Messages.{awaits_at, back_with, conflicts_at, first_changed, goes_again, is_to_send, progress_awaits, sent_under, step_of, wave_awaits}
 use Rattle.pc_wave.specs.Standing.{HasMore, IsAsFar, IsHeardTo, MessageStands}
-use Rattle.pc_world.specs.Counting.{AtLeast}
-use Rattle.pc_follows.specs.Eighth.{IsBlockedBy, MetEighth}
+use Rattle.pc_follows.specs.Eighth.{MetEighth}
+use Rattle.pc_follows.specs.FirstBlock.{IsBlockedBy}
 use Rattle.pc_follows.specs.Rounds.{AreConflictsOver, rounds_begun}
 use Rattle.pc_world.specs.Known.{Known, next_number}
-use Rattle.pc_world.specs.Known.Traffic.{Heard, Sent}
+use Rattle.pc_world.specs.Known.Traffic.{Heard}
 
 -- ---- the open call
 
@@ -107,13 +100,13 @@ asked_turn c k knows sent heard = by c.due knows.stands
 -- ---- a message goes out
 
 module _ (c : Coordination) (k : Known) (request : Request) (knows : Knows c k) (due : next_of c ≡ nexts.Send request) (turn : KeepsTurn k c.due) where
-  sends_of : IsOpenedAs c k
+  pub sends_of : IsOpenedAs c k
   sends_of = opened_at c k c.due refl knows.stands (sends_call c c.due request due)
 
-  step_sends : step_of sends_of.o.call.wave ≡ steps.Send request
+  pub step_sends : step_of sends_of.o.call.wave ≡ steps.Send request
   step_sends = sends_step c sends_of.o.txn sends_of.o.call request sends_of.held sends_of.due due
 
-  turn_of : HasRoundsInTurn k sends_of.o.call.wave
+  pub turn_of : HasRoundsInTurn k sends_of.o.call.wave
   turn_of = subst (KeepsTurn k) sends_of.due turn
 
   -- no conflict is left then
@@ -132,6 +125,11 @@ module _ (c : Coordination) (k : Known) (request : Request) (knows : Knows c k) 
       subst (KeepsTurn now) (sym (comes sends_of.o sends_of.opened))
       (turn_sent k now (record { number = number; range = range; request = request }) sends_of.o.call.wave sent heard plain step_sends
       (All-weaker (MessageStands k) (λ (m : Message). IsBelowNumber number m.progress) (λ m s. below-far number next m.request m.conflicts m.progress s.as_far) sends_of.o.call.wave sends_of.in_call.wave.stand) turn_of)
+
+  -- no conflict waits for its round then
+  pub sent_goes_out : (e : Coordination) (number : ℕ) → ((o : Opened) → opened_by c.txn c.due ≡ Some o → e.due ≡ dues.Call (record o.call { wave = first_changed is_to_send (sent_under number) o.call.wave })) → WaitsForReplies e.due
+  sent_goes_out e number comes =
+      subst WaitsForReplies (sym (comes sends_of.o sends_of.opened)) (λ out. sent_none number sends_of.o.call.wave (sends_none sends_of.o.call.wave request step_sends turn_of.apart))
 
 -- ---- a reply is heard
 

@@ -13,7 +13,7 @@ use Rattle.pc_proto.specs.declared.reply.Reply.{Reply}
 use Rattle.pc_proto.specs.declared.request.Request.{Request}
 use Rattle.pc_proto.specs.Replies.{holder_in, is_conflict}
 use Rattle.pc_session.specs.InTurn.{AreApart, GoesBefore, MayStandBehind, number_met, numbers_met}
-use Rattle.pc_wave.proofs.Changed.{any_none, found_all, found_none, found_passes, found_some}
+use Rattle.pc_wave.proofs.Changed.{any_none, found_all, found_none, found_passes}
 use Rattle.pc_wave.proofs.Hearing.{awaits_as}
 use Rattle.pc_wave.proofs.Rounds.{first_found}
 use Rattle.pc_wave.specs.declared.message.Message.{Message}

@@ -1,5 +1,5 @@
 -- A wave that is delivered is whole, and it stays so while its replies are heard.
-use Rattle.std.proofs.Common.{◌≡◌, ℕ, Bool, true, false, ◌&&◌, ◌==◌, not, if◌then◌else◌, nat_le, All, Any, List, [], ◌∷◌, map, find, Option, None, Some, refl, sym, ap, subst, ◌∙◌}
+use Rattle.std.proofs.Common.{◌≡◌, ℕ, Bool, true, false, if◌then◌else◌, nat_le, All, Any, List, [], ◌∷◌, map, find, Option, None, Some, refl, sym, ap, subst, ◌∙◌}
 use Rattle.std.proofs.lemmas.List.Elements.{All-cons, All-head, All-nil, All-tail}
 use Rattle.std.specs.List.{list_all}
 use Rattle.pc_base.specs.declared.limits.TheConstants.{MOST_CONFLICTS}
@@ -39,8 +39,8 @@ use Rattle.pc_wave.specs.declared.step.Step.TheVariants as steps
 use Rattle.pc_wave.specs.Messages.{conflict_by, first_in_conflict, has_answer, is_in_conflict, is_to_send, progress_in_conflict, progress_to_send, step_by, step_in, step_of, wave_awaits}
 use Rattle.pc_wave.specs.Standing.{IsAsFar, IsMessageAt, MessageStands}
 use Rattle.pc_follows.specs.Refreshes.{IsOfWholeRefresh}
-use Rattle.pc_follows.specs.WaveOrder.{IsScanOf, SentAllPieces}
-use Rattle.pc_world.specs.Known.{Known, call_in, call_of, first_if}
+use Rattle.pc_follows.specs.ScanPieces.{IsScanOf, SentAllPieces}
+use Rattle.pc_world.specs.Known.{Known, call_in, first_if}
 use Rattle.pc_world.specs.Known.Statements.{Statement}
 use Rattle.pc_world.specs.Known.Traffic.{Heard, Sent, request_sent}
 use Rattle.pc_world.specs.Known.Transactions.{Txn, txn_heard}
@@ -98,7 +98,7 @@ scans-none : (key : List ℕ) (value : Option (List ℕ)) (span : Span) → call
 scans-none key None span e = cc
 scans-none key (Some value) span e = cc
 
-scan-serves : (splits : List (List ℕ)) (k : Known) (s : Statement) (t : Txn) (x : OpenTxn) (p : Purpose) (ms : List Message) (span : Span) → s.call ≡ calls.Scan span → Serves splits k s t x p ms
+pub scan-serves : (splits : List (List ℕ)) (k : Known) (s : Statement) (t : Txn) (x : OpenTxn) (p : Purpose) (ms : List Message) (span : Span) → s.call ≡ calls.Scan span → Serves splits k s t x p ms
     → map (λ m. m.request) ms ≡ map (λ p. own_scan x p.1) (pieces splits span)
 scan-serves splits k s t x purposes.Read ms span is r = subst (λ call. AreReadsOf splits x call (map (λ (m : Message). m.request) ms)) is r.asked
 scan-serves splits k s t x (purposes.Write again) ms span is r = absurd (scans-none r.key r.value span (sym is ∙ r.call))
@@ -136,7 +136,7 @@ module _ {C : Type 0} (s : SessionMeaning C) (reading : ℕ) (calls_are : HasOpe
           let next : next_in (Some at.x) call ≡ nexts.Wave = subst (λ txn. next_in txn call ≡ nexts.Wave) at.held e in
           let out : All (λ m. is_to_send m ≡ false) call.wave = none-to-send call.wave (delivers (reader_of call.purpose at.x) (step_of call.wave) next) in
           let h : Heard = record { number = number; request = requests.Refresh id from to span; reply = replies.Refreshed; step = 0 } in
-          in_one_wave c.session c.clock c.begun c.splits known at.x call.purpose call.wave at.counted at.in_call out number replies.Refreshed h waited (record { numbered = refl; asked = said; told = refl; kind = tt })
+          in_one_wave c.session c.clock c.begun c.splits known at.x call.purpose call.wave at.counted at.in_call out number replies.Refreshed h waited (record { numbered = refl; asked = said; told = refl; kind = tt; past = λ t there. tt })
       asked number request waited said = tt
 
   -- what is delivered is whole

@@ -2,7 +2,7 @@
 use Rattle.std.specs.Prelude.{◌≡◌, ℕ, true, false, Option, None, Some, List, [], ◌∷◌, ◌++◌, All}
 use Rattle.pc_coord.specs.Coordination.{awaits_number}
 use Rattle.pc_coord.specs.Suiting.{SuitsNext}
-use Rattle.pc_desk.specs.Desk.{KeepsTrack, is_on_way}
+use Rattle.pc_desk.specs.Desk.{DeskMeaning, KeepsTrack, is_on_way}
 use Rattle.pc_exchange.specs.Growing.{HasGrownBy}
 use Rattle.pc_history.specs.declared.pair.Pair.{Pair}
 use Rattle.pc_proto.specs.declared.answer.Answer.{Answer}
@@ -10,12 +10,14 @@ use Rattle.pc_proto.specs.declared.call.Call.{Call}
 use Rattle.pc_proto.specs.declared.event.Event.{Event}
 use Rattle.pc_proto.specs.declared.event.Event.TheVariants as events
 use Rattle.pc_proto.specs.declared.request.Request.{Request}
-use Rattle.pc_session.specs.InTurn.{KeepsTurn, SendsNoMore}
+use Rattle.pc_session.specs.InTurn.{KeepsTurn, SendsNoMore, WaitsForReplies}
 use Rattle.pc_session.specs.Session.{AreOfOneSession, HasLeft, IsAtRest, SessionMeaning, session_knows}
 use Rattle.pc_turns.specs.Order.{IsInBetween, events_of}
+use Rattle.pc_follows.specs.AgainInOneWave.{EndsWithSending}
 use Rattle.pc_follows.specs.CallMessages.{IsForCall}
 use Rattle.pc_follows.specs.Refreshes.{IsOfWholeRefresh}
-use Rattle.pc_follows.specs.WaveOrder.{EndsWaves, SentAllPieces}
+use Rattle.pc_follows.specs.ScanPieces.{SentAllPieces}
+use Rattle.pc_follows.specs.WaveOrder.{EndsWaves}
 use Rattle.pc_world.specs.Known.{Known}
 use Rattle.pc_world.specs.Known.Statements.{Statement}
 use Rattle.pc_world.specs.Known.Traffic.{Heard, request_sent}
@@ -30,7 +32,7 @@ pub record IsApartNow (k : Known) : Type 0 where
   pub said : All (λ m. request_sent m.number k.sent ≡ Some m.request) k.sent_now
 
 -- The session is in a call that was asked at this reading: its coordinator waits for just the messages that are on their way, these are for the
--- call, and its conflicts have their rounds in turn.
+-- call, and its conflicts have their rounds in turn, none while a wave goes out.
 pub record HasOpenCall {C : Type 0} (s : SessionMeaning C) (reading : ℕ) : Type 0 where
   pub track : KeepsTrack s.desk
   pub one : AreOfOneSession s.desk s.coordinator
@@ -41,6 +43,7 @@ pub record HasOpenCall {C : Type 0} (s : SessionMeaning C) (reading : ℕ) : Typ
   pub kinds : (number : ℕ) (request : Request) → is_on_way number s.desk ≡ true → request_sent number (session_knows s).sent ≡ Some request → IsForCall (session_knows s) request
   pub waiting : HasLeft s.desk.log.part.own s.jobs
   pub turn : KeepsTurn (session_knows s) s.coordinator.due
+  pub goes_out : EndsWithSending s.desk.log.part.own → WaitsForReplies s.coordinator.due
 
 -- What is on its way is a whole wave: in a scan all pieces went out, and beside a refresh those of all that was read; and none is to be sent.
 pub record IsWholeOut {C : Type 0} (s : SessionMeaning C) : Type 0 where
@@ -78,7 +81,12 @@ pub record HasTold {C : Type 0} (old new : SessionMeaning C) (answer : Answer) :
   pub suits : (s : Statement) → (session_knows old).statement ≡ Some s → SuitsNext answer s.call new.coordinator.txn
   pub rest : IsAtRest new
 
--- The call goes on, and no wave of it is half heard; or it was told this answer.
+-- No wave is half heard, and no reply waits to be heard.
+pub record IsBetweenWaves {C : Type 0} (d : DeskMeaning C) : Type 0 where
+  pub ends : EndsWaves d.log.part.own
+  pub none_waits : d.replies ≡ []
+
+-- The call goes on, between two waves of it; or it was told this answer.
 abbrev pub GoesOnOrTold : {C : Type 0} → SessionMeaning C → SessionMeaning C → ℕ → Option Answer → Type 0
-GoesOnOrTold old new reading None = HasOpenCall new reading × HasGoneInside old new × EndsWaves new.desk.log.part.own
+GoesOnOrTold old new reading None = HasOpenCall new reading × HasGoneInside old new × IsBetweenWaves new.desk
 GoesOnOrTold old new reading (Some answer) = HasTold old new answer

@@ -9,7 +9,7 @@ use Rattle.pc_wave.specs.declared.message.Progress.{Progress}
 use Rattle.pc_wave.specs.declared.message.Progress.TheVariants as progresses
 use Rattle.pc_wave.specs.Messages.{is_in_conflict, is_out, is_to_send}
 use Rattle.pc_wave.specs.Standing.{Pairwise}
-use Rattle.pc_follows.specs.Eighth.{TellsFirstBlock}
+use Rattle.pc_follows.specs.FirstBlock.{TellsFirstBlock}
 use Rattle.pc_follows.specs.Rounds.{AreRoundsOver, conflicts_now, rounds_begun}
 use Rattle.pc_world.specs.Known.{Known}
 use Rattle.pc_world.specs.Known.Traffic.{Heard}
@@ -50,6 +50,11 @@ pub record HasRoundsInTurn (k : Known) (messages : List Message) : Type 0 where
   pub numbers : map (λ h. h.number) waiting ≡ numbers_met messages
   pub order : Pairwise GoesBefore messages
   pub apart : AreApart messages
+
+-- Where a reply to a message of the call is waited for, none of its conflicts waits for its round.
+abbrev pub WaitsForReplies : Due → Type 0
+WaitsForReplies (dues.Call call) = list_any is_out call.wave ≡ true → list_any is_in_conflict call.wave ≡ false
+WaitsForReplies _ = ⊤
 
 -- The open call keeps that; or the answer that is due names the holder that blocks it first.
 abbrev pub KeepsTurn : Known → Due → Type 0

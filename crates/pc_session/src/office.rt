@@ -16,12 +16,11 @@ ghost use Rattle.pc_proto.specs.declared.answer.Answer.TheVariants as answers;
 ghost use Rattle.pc_proto.specs.declared.call.Call.TheVariants as calls;
 ghost use Rattle.pc_session.specs.Calls.{HasCalled, MayBeCalled};
 ghost use Rattle.pc_session.specs.Ending.{AreOfBrokenCall};
-ghost use Rattle.pc_session.specs.InCall.{GoesOnOrTold, HasAsked, HasGoneInside, HasOpenCall, IsWholeOut};
+ghost use Rattle.pc_session.specs.InCall.{GoesOnOrTold, HasAsked, HasGoneInside, HasOpenCall, IsBetweenWaves, IsWholeOut};
 ghost use Rattle.pc_session.specs.Learning.{AreOfBrokenLearn, HasAskedToLearn, HasLearnt, HasMet, IsLearning};
 ghost use Rattle.pc_session.specs.Session.{IsAtRest, session_knows};
 ghost use Rattle.pc_session.specs.Steps.{HasStepped};
 ghost use Rattle.pc_turns.specs.Order.{IsInBetween};
-ghost use Rattle.pc_follows.specs.WaveOrder.{EndsWaves};
 ghost use Rattle.pc_world.specs.Known.{Known};
 
 use crate::token::{Token, commit_at};
@@ -158,7 +157,7 @@ impl<'a, N: Named<CommitWorld>, C: Clock, V: Wire, G: Gate> Office<'a, N, C, V, 
         requires rest { IsAtRest self.old }
         requires may { MayBeCalled self.old call }
         ensures calls { IfOk result (HasOpenCall self.new) }
-        ensures ends { OnOk result (EndsWaves self.new.desk.log.part.own) }
+        ensures between { OnOk result (IsBetweenWaves self.new.desk) }
         ensures asked { IfOk result (HasAsked self.old self.new call) }
         ensures learns { (id : TxnId) → call ≡ calls.Learn id → IfOk result (HasAskedToLearn self.old self.new id) }
         ensures err { IfErr result (HasHalted self.old.desk self.new.desk) }
@@ -179,7 +178,7 @@ impl<'a, N: Named<CommitWorld>, C: Clock, V: Wire, G: Gate> Office<'a, N, C, V, 
     /// Does what is due. Gives the answer once it was told.
     fn go_on<R: Wait>(&mut self, rt: &R, reading: u64) -> Result<Option<Answer>, Halt>
         requires calls { HasOpenCall self.old reading }
-        requires ends { EndsWaves self.old.desk.log.part.own }
+        requires between { IsBetweenWaves self.old.desk }
         ensures ok { IfOk result (GoesOnOrTold self.old self.new reading) }
         ensures err { IfErr result (HasHalted self.old.desk self.new.desk) }
         ensures ended { IfErr result (BreaksOff (All IsInBetween) self.old.desk self.new.desk) }
@@ -218,7 +217,7 @@ impl<'a, N: Named<CommitWorld>, C: Clock, V: Wire, G: Gate> Office<'a, N, C, V, 
     /// Sends a message that the coordinator gave. It waits until the next wave.
     fn send(&mut self, reading: u64, request: Request) -> Result<Option<Answer>, Halt>
         requires calls { HasOpenCall self.old reading }
-        requires ends { EndsWaves self.old.desk.log.part.own }
+        requires between { IsBetweenWaves self.old.desk }
         requires due { next_of self.old.coordinator ≡ nexts.Send request }
         requires may { MayCome self.old.coordinator (session_knows self.old) (nexts.Send request) }
         ensures ok { IfOk result (GoesOnOrTold self.old self.new reading) }
@@ -236,6 +235,7 @@ impl<'a, N: Named<CommitWorld>, C: Clock, V: Wire, G: Gate> Office<'a, N, C, V, 
     /// A wave: the messages that wait are evaluated, and then their replies heard.
     fn wave<R: Wait>(&mut self, rt: &R, reading: u64) -> Result<Option<Answer>, Halt>
         requires calls { HasOpenCall self.old reading }
+        requires between { IsBetweenWaves self.old.desk }
         requires due { next_of self.old.coordinator ≡ nexts.Wave }
         ensures ok { IfOk result (GoesOnOrTold self.old self.new reading) }
         ensures err { IfErr result (HasHalted self.old.desk self.new.desk) }
@@ -254,6 +254,7 @@ impl<'a, N: Named<CommitWorld>, C: Clock, V: Wire, G: Gate> Office<'a, N, C, V, 
     fn deliver<R: Wait>(&mut self, rt: &R, reading: u64) -> Result<(), Halt>
         requires calls { HasOpenCall self.old reading }
         requires whole { IsWholeOut self.old }
+        requires none_waits { self.old.desk.replies ≡ [] }
         ensures calls { OnOk result (HasOpenCall self.new reading) }
         ensures whole { OnOk result (IsWholeOut self.new) }
         ensures all { OnOk result (self.new.desk.posted ≡ []) }
@@ -269,6 +270,7 @@ impl<'a, N: Named<CommitWorld>, C: Clock, V: Wire, G: Gate> Office<'a, N, C, V, 
     fn hear(&mut self, reading: u64) -> Result<bool, Halt>
         requires calls { HasOpenCall self.old reading }
         requires whole { IsWholeOut self.old }
+        requires none_waits { self.old.desk.posted ≡ [] }
         ensures calls { OnOk result (HasOpenCall self.new reading) }
         ensures whole { OnOk result (IsWholeOut self.new) }
         ensures goes { OnOk result (HasGoneInside self.old self.new) }

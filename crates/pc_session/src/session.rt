@@ -74,12 +74,14 @@ impl<'a, N: Named<CommitWorld>, C: Clock, V: Wire, G: Gate> Session<'a, N, C, V,
         requires few { length actor.world.splits ≤ 31 }
         requires unpiped { pipelining ≡ false }
         requires quiet { (number : ℕ) → V.rule wire number ≡ verdicts.Deliver }
-        ensures made { result.desk ≡ new_desk actor.world actor.part actor.spare clock pipelining limit stop ranges.now.limit }
+        ensures made { result.desk ≡ new_desk actor.world actor.part actor.spare clock pipelining false limit stop ranges.now.limit }
         ensures session { result.coordinator.session ≡ number }
         ensures jobs { result.jobs ≡ [] }
         ensures rests { IsAtRest result }
     {
-        let desk = Desk::new(alloc, actor, ranges, clock, wire, pipelining, limit, stop);
+        let desk = Desk::new(
+            alloc, actor, ranges, clock, wire, pipelining, false, limit, stop,
+        );
         let coordinator = Coordinator::new(alloc, number, tries, pipelining, ranges.splits());
         Session {
             office: Office::new(alloc, desk, coordinator),

@@ -1,4 +1,4 @@
-use Rattle.std.proofs.Common.{◌≡◌, [], IfNone, IfSome, subst}
+use Rattle.std.proofs.Common.{◌≡◌, [], IfNone, IfSome, subst, ◌∙◌}
 use Rattle.std.proofs.lemmas.Result.{err_from_is_err_and}
 use Rattle.pc_desk.specs.Desk.{HasHeardFirst}
 use Rattle.pc_exchange.proofs.Ending.{only_breaks}
@@ -7,6 +7,15 @@ use Rattle.pc_exchange.proofs.message.exchange.Goals as goal
 
 pub hear-requires-clause-may : goal.hear-requires-clause-may
 hear-requires-clause-may g c = may_hear_it c.args.desk.now c.send.new.self c.deliver.new.self c.args.request _ c.requires c.in_ok-send.ensures.ok c.in_ok-deliver.ensures.ok c.in_ok-deliver.ensures.all
+
+pub send-requires-clause-none_waits : goal.send-requires-clause-none_waits
+send-requires-clause-none_waits g c = c.requires.back.replies
+
+pub deliver-requires-clause-none_waits : goal.deliver-requires-clause-none_waits
+deliver-requires-clause-none_waits g c = c.in_ok-send.ensures.ok.replies ∙ c.requires.back.replies
+
+pub hear-requires-clause-none_waits : goal.hear-requires-clause-none_waits
+hear-requires-clause-none_waits g c = c.in_ok-deliver.ensures.all
 
 pub unreachable-requires : goal.unreachable-requires
 unreachable-requires g c =

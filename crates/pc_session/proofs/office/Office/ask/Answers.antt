@@ -1,7 +1,7 @@
 use Rattle.std.proofs.Common.{sym, subst}
 use Rattle.pc_desk.specs.Desk.{HasDone}
 use Rattle.pc_proto.specs.declared.event.Event.TheVariants as events
-use Rattle.pc_session.proofs.Asking.{asked_ends, asked_goes, asked_learning, asked_open, unheld}
+use Rattle.pc_session.proofs.Asking.{asked_between, asked_goes, asked_learning, asked_open, unheld}
 use Rattle.pc_session.proofs.Inside.{asked_from, learning_from}
 use Rattle.pc_session.specs.Calls.{MayBeCalled}
 use Rattle.pc_session.specs.Session.{IsAtRest}
@@ -28,14 +28,14 @@ returns-in-Ok-ask-clause-asked g c =
     let done = subst (λ q. HasDone c.self.inside.desk d (events.Ask q reading)) c.in-Ok.ensures c.in_ok-reading.ensures.ok in
     asked_from _ c.args.self.now _ c.self.view_is c.args.call reading (asked_goes _ d c.ask-2.new.self c.args.call reading rest may done c.in-Ok-ask.ensures.session)
 
-pub returns-in-Ok-ask-clause-ends : goal.returns-in-Ok-ask-clause-ends
-returns-in-Ok-ask-clause-ends g c =
+pub returns-in-Ok-ask-clause-between : goal.returns-in-Ok-ask-clause-between
+returns-in-Ok-ask-clause-between g c =
     let rest = subst (λ s. IsAtRest s) (sym c.self.view_is) c.requires.rest in
     let may = subst (λ s. MayBeCalled s c.args.call) (sym c.self.view_is) c.requires.may in
     let d = c.ask.new.self in
     let reading = c.in_ok-reading.reading in
     let done = subst (λ q. HasDone c.self.inside.desk d (events.Ask q reading)) c.in-Ok.ensures c.in_ok-reading.ensures.ok in
-    asked_ends _ d c.ask-2.new.self c.args.call reading rest may done
+    asked_between _ d c.ask-2.new.self c.args.call reading rest may done
 
 pub returns-in_err-reading-clause-ended : goal.returns-in_err-reading-clause-ended
 returns-in_err-reading-clause-ended g c =

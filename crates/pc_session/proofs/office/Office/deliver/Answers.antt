@@ -1,10 +1,13 @@
-use Rattle.std.proofs.Common.{sym, subst}
+use Rattle.std.proofs.Common.{◌≡◌, [], sym, subst}
 use Rattle.std.proofs.lemmas.Result.{on_ok_weaker}
 use Rattle.pc_session.proofs.Hearing.{delivered_goes, delivered_open, delivered_whole}
 use Rattle.pc_session.proofs.Inside.{inside_from}
 use Rattle.pc_session.specs.InCall.{HasOpenCall, IsWholeOut}
 use Rattle.pc_session.proofs.Ending.{nothing_breaks_if}
 use Rattle.pc_session.proofs.office.Office.deliver.Goals as goal
+
+pub deliver-requires-clause-none_waits : goal.deliver-requires-clause-none_waits
+deliver-requires-clause-none_waits g c = subst (λ s. s.desk.replies ≡ []) (sym c.self.view_is) c.requires.none_waits
 
 pub returns-clause-calls : goal.returns-clause-calls
 returns-clause-calls g c =

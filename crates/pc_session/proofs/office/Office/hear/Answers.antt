@@ -10,6 +10,9 @@ use Rattle.pc_session.proofs.office.Office.hear.Goals as goal
 pub hear-requires-clause-may : goal.hear-requires-clause-may
 hear-requires-clause-may g c = may_hear_now _ c.args.reading (subst (λ s. HasOpenCall s c.args.reading) (sym c.self.view_is) c.requires.calls) (subst IsWholeOut (sym c.self.view_is) c.requires.whole)
 
+pub hear-requires-clause-none_waits : goal.hear-requires-clause-none_waits
+hear-requires-clause-none_waits g c = subst (λ s. s.desk.posted ≡ []) (sym c.self.view_is) c.requires.none_waits
+
 pub returns-in-Ok-clause-calls : goal.returns-in-Ok-clause-calls
 returns-in-Ok-clause-calls g c =
     let calls = subst (λ s. HasOpenCall s c.args.reading) (sym c.self.view_is) c.requires.calls in

@@ -32,7 +32,7 @@ returns-in-Ok-clause-ok g c =
       round_open _ c.args.reading n c.args.conflict c.args.reader calls due met c.make_round.new.desk c.raise.new.self c.settled.new.self made.round made.ts made.ensures.ok c.raise.ensures e.knows e.waits e.session e.splits e.comes,
       inside_from _ c.args.self.now _ c.self.view_is
           (round_goes _ c.args.reading n c.args.conflict c.args.reader calls due met c.make_round.new.desk c.raise.new.self c.settled.new.self made.round made.ts made.ensures.ok c.raise.ensures e.session),
-      ends_where_heard c.make_round.new.desk.log.part.own (all_heard_ever c.make_round.new.desk made.ensures.ok.goes.back),
+      record { ends = ends_where_heard c.make_round.new.desk.log.part.own (all_heard_ever c.make_round.new.desk made.ensures.ok.goes.back); none_waits = made.ensures.ok.goes.back.replies },
     )
 
 pub returns-in_err-round-clause-ended : goal.returns-in_err-round-clause-ended

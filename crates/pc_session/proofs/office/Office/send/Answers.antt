@@ -1,12 +1,11 @@
-use Rattle.std.proofs.Common.{◌≡◌, sym, subst}
+use Rattle.std.proofs.Common.{◌≡◌, sym, subst, ◌∙◌}
 use Rattle.pc_coord.specs.Coordination.{next_of}
 use Rattle.pc_coord.specs.declared.next.Next.TheVariants as nexts
 use Rattle.pc_coord.specs.Knows.{MayCome}
 use Rattle.pc_session.proofs.Inside.{inside_from}
 use Rattle.pc_session.proofs.Sending.{may_go, sent_ends, sent_goes, sent_open}
-use Rattle.pc_session.specs.InCall.{HasOpenCall}
+use Rattle.pc_session.specs.InCall.{HasOpenCall, IsBetweenWaves}
 use Rattle.pc_session.specs.Session.{session_knows}
-use Rattle.pc_follows.specs.WaveOrder.{EndsWaves}
 use Rattle.std.proofs.lemmas.Result.{err_from_is_err_and}
 use Rattle.pc_session.proofs.Ending.{nothing_breaks}
 use Rattle.pc_session.proofs.office.Office.send.Goals as goal
@@ -16,21 +15,24 @@ send-requires-clause-may g c =
     let calls = subst (λ s. HasOpenCall s c.args.reading) (sym c.self.view_is) c.requires.calls in
     let due = subst (λ s. next_of s.coordinator ≡ nexts.Send c.args.request) (sym c.self.view_is) c.requires.due in
     let may = subst (λ s. MayCome s.coordinator (session_knows s) (nexts.Send c.args.request)) (sym c.self.view_is) c.requires.may in
-    let ends = subst (λ s. EndsWaves s.desk.log.part.own) (sym c.self.view_is) c.requires.ends in
-    may_go _ c.args.reading c.args.request calls due may.0 may.1 may.2 ends
+    let between = subst (λ s. IsBetweenWaves s.desk) (sym c.self.view_is) c.requires.between in
+    may_go _ c.args.reading c.args.request calls due may.0 may.1 may.2 between.ends
+
+pub send-requires-clause-none_waits : goal.send-requires-clause-none_waits
+send-requires-clause-none_waits g c = (subst (λ s. IsBetweenWaves s.desk) (sym c.self.view_is) c.requires.between).none_waits
 
 pub returns-in-Ok-clause-ok : goal.returns-in-Ok-clause-ok
 returns-in-Ok-clause-ok g c =
     let calls = subst (λ s. HasOpenCall s c.args.reading) (sym c.self.view_is) c.requires.calls in
     let due = subst (λ s. next_of s.coordinator ≡ nexts.Send c.args.request) (sym c.self.view_is) c.requires.due in
     let may = subst (λ s. MayCome s.coordinator (session_knows s) (nexts.Send c.args.request)) (sym c.self.view_is) c.requires.may in
-    let ends = subst (λ s. EndsWaves s.desk.log.part.own) (sym c.self.view_is) c.requires.ends in
+    let between = subst (λ s. IsBetweenWaves s.desk) (sym c.self.view_is) c.requires.between in
     let e = c.in-Ok.ensures in
     let d = c.send.new.self in
     let n = c.in_ok-number.number in (
-      sent_open _ c.args.reading c.args.request calls due may.0 may.1 may.2 ends d c.sent.new.self n c.in_ok-number.ensures.ok e.knows (λ other. e.waits c.args.request other due) e.session e.splits e.comes,
-      inside_from _ c.args.self.now _ c.self.view_is (sent_goes _ c.args.reading c.args.request calls due may.0 may.1 may.2 ends d c.sent.new.self n c.in_ok-number.ensures.ok e.session),
-      sent_ends _ c.args.reading c.args.request calls due may.0 may.1 may.2 ends d c.sent.new.self n c.in_ok-number.ensures.ok,
+      sent_open _ c.args.reading c.args.request calls due may.0 may.1 may.2 between.ends d c.sent.new.self n c.in_ok-number.ensures.ok e.knows (λ other. e.waits c.args.request other due) e.session e.splits e.comes,
+      inside_from _ c.args.self.now _ c.self.view_is (sent_goes _ c.args.reading c.args.request calls due may.0 may.1 may.2 between.ends d c.sent.new.self n c.in_ok-number.ensures.ok e.session),
+      record { ends = sent_ends _ c.args.reading c.args.request calls due may.0 may.1 may.2 between.ends d c.sent.new.self n c.in_ok-number.ensures.ok; none_waits = c.in_ok-number.ensures.ok.replies ∙ between.none_waits },
     )
 
 pub returns-in_err-number-clause-ended : goal.returns-in_err-number-clause-ended

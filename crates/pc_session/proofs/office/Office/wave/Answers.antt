@@ -9,11 +9,17 @@ use Rattle.pc_session.proofs.office.Office.wave.Goals as goal
 pub deliver-requires-clause-whole : goal.deliver-requires-clause-whole
 deliver-requires-clause-whole g c = whole_wave c.args.self.now c.args.reading c.requires.calls c.requires.due
 
+pub deliver-requires-clause-none_waits : goal.deliver-requires-clause-none_waits
+deliver-requires-clause-none_waits g c = c.requires.between.none_waits
+
+pub hear-requires-clause-none_waits : goal.hear-requires-clause-none_waits
+hear-requires-clause-none_waits g c = c.loop.invariant.3
+
 pub returns-then-not-branch-clause-ok : goal.returns-then-not-branch-clause-ok
 returns-then-not-branch-clause-ok g c = (
   c.in_ok-hear.ensures.calls,
   inside_both c.args.self.now _ c.hear.new.self c.loop.invariant.1 c.in_ok-hear.ensures.goes,
-  wave_ends c.hear.new.self c.args.reading c.in_ok-hear.ensures.calls (c.in_ok-hear.ensures.posted ∙ c.loop.invariant.3) (c.in_ok-hear.ensures.none cc),
+  record { ends = wave_ends c.hear.new.self c.args.reading c.in_ok-hear.ensures.calls (c.in_ok-hear.ensures.posted ∙ c.loop.invariant.3) (c.in_ok-hear.ensures.none cc); none_waits = c.in_ok-hear.ensures.none cc },
 )
 
 pub loop-preserved : goal.loop-preserved
