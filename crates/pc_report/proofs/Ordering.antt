@@ -23,7 +23,8 @@ use Rattle.pc_report.specs.declared.writes.Writes.{Writes}
 use Rattle.pc_report.specs.Ordering.{order_in, other_in, others_in, place_cmp, placed, rank_from}
 use Rattle.pc_report.specs.Replaying.{IsPoint, IsReplayOf, commit_kept, ending_in, held, over}
 use Rattle.pc_report.specs.ReportOf.{committed_row, last_writes, map_of, map_with, other_of, other_row, other_unless, others_of, report_of}
-use Rattle.pc_report.specs.Rows.{commit_row, last_puts, map_with_put, map_with_puts}
+use Rattle.pc_puts.specs.Changes.{last_puts, map_with_put}
+use Rattle.pc_report.specs.Rows.{commit_row, map_with_puts}
 use Rattle.pc_report.specs.Writing.{AreWritesOf, puts_held}
 use Rattle.pc_world.specs.CommitOrder.{Rank, all_begun, commit_order, rank_cmp, ranked}
 use Rattle.pc_world.specs.Committed.{commit_point, commit_ts}

@@ -20,13 +20,13 @@ use Rattle.pc_proto.specs.declared.event.Event.{Event}
 use Rattle.pc_proto.specs.declared.event.Event.TheVariants as events
 use Rattle.pc_proto.specs.declared.request.Request.{Request}
 use Rattle.pc_proto.specs.declared.request.Request.TheVariants as requests
-use Rattle.pc_report.specs.declared.puts.Put.{Put}
+use Rattle.pc_puts.specs.declared.puts.Put.{Put}
 use Rattle.pc_report.specs.declared.writes.Writes.{Writes}
 use Rattle.pc_report.proofs.ByTxn.{updated}
 use Rattle.pc_report.specs.Replaying.{held}
 use Rattle.pc_report.specs.ReportOf.{written_by}
-use Rattle.pc_report.specs.Rows.{map_with_put, said_by}
-use Rattle.pc_report.specs.Puts.{with_new_put}
+use Rattle.pc_puts.specs.Changes.{map_with_put, said_by}
+use Rattle.pc_puts.specs.Puts.{with_new_put}
 use Rattle.pc_report.specs.Writing.{AreWritesOf, LastFollows, PutsFollow, doing_of, is_last_in, is_last_of, is_of_session, put_in, puts_after, puts_held, puts_of, puts_sent, puts_told}
 use Rattle.pc_world.specs.MapRun.{Map, map_after}
 use Rattle.pc_world.specs.Operations.{Doing, Operation, Read, ReadAll, Write, doing_after, doing_nothing, done_after, done_sent, done_told, is_last_after, is_write}

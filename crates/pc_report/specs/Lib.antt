@@ -3,7 +3,6 @@ pub mod Spelled
 pub mod ReportOf
 pub mod Replaying
 pub mod Ordering
-pub mod Puts
 pub mod Writing
 pub mod Rows
 pub mod FirstReport

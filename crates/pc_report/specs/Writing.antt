@@ -15,9 +15,9 @@ use Rattle.pc_proto.specs.declared.event.Event.{Event}
 use Rattle.pc_proto.specs.declared.event.Event.TheVariants as events
 use Rattle.pc_proto.specs.declared.request.Request.{Request}
 use Rattle.pc_proto.specs.declared.request.Request.TheVariants as requests
-use Rattle.pc_report.specs.declared.puts.Put.{Put}
+use Rattle.pc_puts.specs.declared.puts.Put.{Put}
 use Rattle.pc_report.specs.declared.writes.Writes.{Writes}
-use Rattle.pc_report.specs.Puts.{with_new_put}
+use Rattle.pc_puts.specs.Puts.{with_new_put}
 use Rattle.pc_report.specs.Replaying.{held}
 use Rattle.pc_world.specs.Operations.{Doing, Operation, Read, ReadAll, Write, doing_after, doing_nothing, is_last_after, is_last_told, session_events}
 

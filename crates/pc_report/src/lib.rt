@@ -4,7 +4,6 @@
 mod laws;
 mod outcome;
 mod print;
-mod puts;
 mod replay;
 mod rows;
 mod tables;

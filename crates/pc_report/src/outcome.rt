@@ -4,19 +4,17 @@ ghost use Rattle.std.specs.Ordering.{nat_cmp};
 ghost use Rattle.pc_base.specs.Keyed.{in_order};
 ghost use Rattle.pc_report.specs.Ordering.{given, order_in, other_in, others_in, placed};
 ghost use Rattle.pc_report.specs.ReportOf.{IsRunOver, other_row, report_of};
-ghost use Rattle.pc_report.specs.Rows.{commit_row, last_puts, map_with_put, map_with_puts};
+ghost use Rattle.pc_report.specs.Rows.{commit_row, map_with_puts};
 ghost use Rattle.pc_world.specs.CommitOrder.{begun_in};
 ghost use Rattle.pc_world.specs.Local.{Head};
 
-use crate::puts::Put;
 use crate::replay::{Rank, Replay, replayed};
-use crate::rows::{
-    CommittedRow, CommittedRows, Ending, LastWrites, MapRows, OtherRow, OtherRows, Report,
-};
+use crate::rows::{CommittedRow, CommittedRows, Ending, MapRows, OtherRow, OtherRows, Report};
 use crate::tables::insert;
 use crate::writes::{Writes, written};
-use pc_base::{Entry, Items, Key, NoMemory, TryCopy, TxnId, Value};
+use pc_base::{Entry, Items, NoMemory, TxnId};
 use pc_proto::{Answer, Event, Keys};
+use pc_puts::{apply, last_writes};
 use std::alloc::Global;
 use std::collections::BTreeMap;
 
@@ -94,17 +92,6 @@ fn committed_rows(
     Ok(rows)
 }
 
-/// The last write of each key, in key order.
-pub(crate) fn last_writes(alloc: Global, puts: &[Put]) -> Result<LastWrites, NoMemory>
-    ensures { IfOk result (λ last. last ≡ last_puts puts.now) }
-{
-    let mut last = BTreeMap::new(alloc);
-    for put in puts {
-        last.insert(put.key.copy()?, put.value.copy()?)?;
-    }
-    Ok(Items::from_vec(last.into_iter().collect(alloc)?))
-}
-
 fn other_rows(
     alloc: Global,
     splits: &Keys,
@@ -160,27 +147,4 @@ fn map_rows(alloc: Global, order: &[(Rank, TxnId)], writes: &Writes) -> Result<M
         apply(&mut map, writes.of(*id))?;
     }
     Ok(Items::from_vec(map.into_iter().collect(alloc)?))
-}
-
-fn apply(map: &mut BTreeMap<Key, Value>, puts: &[Put]) -> Result<(), NoMemory>
-    ensures { OnOk result (map.new.entries ≡ fold map_with_put map.old.entries puts.now) }
-{
-    for put in puts {
-        write(map, put)?;
-    }
-    Ok(())
-}
-
-fn write(map: &mut BTreeMap<Key, Value>, put: &Put) -> Result<(), NoMemory>
-    ensures { OnOk result (map.new.entries ≡ map_with_put map.old.entries put.now) }
-{
-    match &put.value {
-        Some(value) => {
-            map.insert(put.key.copy()?, value.copy()?)?;
-        }
-        None => {
-            map.remove(&put.key);
-        }
-    }
-    Ok(())
 }

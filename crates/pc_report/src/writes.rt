@@ -4,11 +4,11 @@ ghost use Rattle.std.specs.Prelude.{◌≡◌, [], IfOk, OnOk, if◌then◌else�
 ghost use Rattle.pc_base.specs.Transaction.{same_txn};
 ghost use Rattle.pc_report.specs.Replaying.{held};
 ghost use Rattle.pc_report.specs.Writing.{AreWritesOf, LastChanges, LastFollows, PutsChange, PutsFollow, is_last_in, puts_held, puts_of, puts_sent, puts_told};
-ghost use Rattle.pc_report.specs.Puts.{with_new_put};
+ghost use Rattle.pc_puts.specs.Puts.{with_new_put};
 
-use crate::puts::{Put, Puts};
 use pc_base::{ActorId, Entry, NoMemory, TryCopy, TxnId};
 use pc_proto::{Answer, Event, Request};
+use pc_puts::{Put, Puts};
 use std::alloc::Global;
 use std::collections::BTreeMap;
 

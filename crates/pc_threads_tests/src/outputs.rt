@@ -1,4 +1,4 @@
-//! What runs on threads write.
+//! What runs write.
 ghost use Rattle.pc_runs.specs.Runners.{head_in_work};
 ghost use Rattle.pc_work.specs.Accepted.{IsAccepted};
 ghost use Rattle.pc_world.specs.Run.{IsRun};
@@ -7,9 +7,9 @@ use pc_base::{Entry, NoMemory};
 use pc_clock::Stepped;
 use pc_journal::print_journal;
 use pc_proto::Event;
-use pc_range::Gate;
+use pc_range::{Gate, NoGate};
 use pc_report::{Report, print_report, report};
-use pc_runner::run_threads;
+use pc_runner::{run_threads, run_turns};
 use pc_work::Workload;
 use std::alloc::Global;
 use std::sync::Wait;
@@ -32,6 +32,22 @@ pub fn output<G: Gate + Sync, R: Wait + Threads + Sync>(
     }
     let mut clocks = Stepped::new(10, 1);
     match run_threads(rt, alloc, &work, &mut clocks, gate) {
+        Ok(entries) => printed(alloc, &work, &entries).ok(),
+        Err(NoMemory) => None,
+    }
+}
+
+/// The journal and the report of the run of the workload that the text is, in the turns that it states. Nothing where it is none with turns, or
+/// memory runs out.
+pub fn output_in_turns<R: Wait>(rt: &R, alloc: Global, text: &[u8]) -> Option<Vec<u8>> {
+    let Ok(work) = Workload::read_accepted(alloc, text) else {
+        return None;
+    };
+    if work.turns.is_none() {
+        return None;
+    }
+    let mut clocks = Stepped::new(10, 1);
+    match run_turns(rt, alloc, &work, &mut clocks, &NoGate) {
         Ok(entries) => printed(alloc, &work, &entries).ok(),
         Err(NoMemory) => None,
     }

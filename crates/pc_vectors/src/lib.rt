@@ -22,6 +22,3 @@ pub const ROWS: [Row; 7] = [
     too_late_begin::TOO_LATE_BEGIN,
     two_ranges::TWO_RANGES,
 ];
-
-#[cfg(test)]
-mod tests;

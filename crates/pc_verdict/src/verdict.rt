@@ -35,7 +35,14 @@ impl<'b> Journal<'b> {
         ensures { IfOk result (λ verdict. (bytes : List ℕ) → IsReadFrom bytes self.now → IsVerdictOf bytes verdict) }
     {
         let entries: &'a [Entry<Event>] = self.body.entries.as_slice();
-        match first_broken(judge, &self.splits, self.sessions, self.recoverers, entries)? {
+        match first_broken(
+            judge,
+            &self.splits,
+            self.sessions,
+            self.recoverers,
+            entries,
+            alloc,
+        )? {
             Some((place, rule)) => Ok(Verdict::NotRun {
                 line: place as u64 + 4,
                 rule,

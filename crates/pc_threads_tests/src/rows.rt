@@ -1,0 +1,23 @@
+//! The worked rows, in the turns that they state.
+
+use crate::outputs::output_in_turns;
+use pc_vectors::{ROWS, Row};
+use std::alloc::Global;
+use std::sync::Wait;
+use std::test::Fail;
+
+/// Whether the row's workload writes just what the row says.
+fn is_as_written<R: Wait>(rt: &R, alloc: Global, row: &Row) -> bool {
+    match output_in_turns(rt, alloc, row.input) {
+        Some(out) => out.as_slice() == row.output,
+        None => false,
+    }
+}
+
+#[test]
+fn each_worked_row_writes_its_journal_and_report(rt: HostRuntime) -> Result<(), Fail> {
+    for row in ROWS.as_slice() {
+        assert!(rt; is_as_written(&rt, rt.alloc(), row), "{}", row.name);
+    }
+    Ok(())
+}
