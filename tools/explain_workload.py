@@ -114,11 +114,13 @@ def item(value, place, sessions, in_turns):
 
 
 def session(value, place, sessions, in_turns):
-    members(value, place, ("clock", "script"), ("script",))
+    members(value, place, ("clock", "script", "stop"), ("script",))
     if "clock" in value:
         members(value["clock"], f"{place}.clock", ("start", "step"), ("start", "step"))
         for name in ("start", "step"):
             number(value["clock"][name], f"{place}.clock.{name}")
+    number(value.get("stop", 1), f"{place}.stop", 2**32 - 1)
+    need(value.get("stop", 1) >= 1, f"{place}.stop", "it is at least 1")
     listed(value["script"], f"{place}.script")
     return sum(item(one, f"{place}.script[{at}]", sessions, in_turns) for at, one in enumerate(value["script"]))
 

@@ -26,10 +26,9 @@ use Rattle.pc_proto.specs.declared.event.Event.TheVariants as events
 use Rattle.pc_proto.specs.declared.request.Request.{Request}
 use Rattle.pc_proto.specs.declared.request.Request.TheVariants as requests
 use Rattle.pc_runs.specs.Follows.{FollowsByItself, FollowsWork}
-use Rattle.pc_runs.specs.Order.{GoAsStated, is_work_opened, next_in_work}
+use Rattle.pc_runs.specs.Order.{GoAsStated, ended_in_work, is_work_opened, next_in_work}
 use Rattle.pc_closing.specs.Full.{range_is_full}
 use Rattle.pc_closing.specs.Served.{IsServedOnce}
-use Rattle.pc_scripted.specs.Ended.{list_has_ended}
 use Rattle.pc_serial.proofs.AloneStanding.{contains_split, heard_evaluated, sent-there}
 use Rattle.pc_alone.proofs.OneInOrder.{AllGood, HearsEach, IsGoodAt, TellsHeard, heard_ever, hears-before, in-turns, on-threads}
 use Rattle.pc_alone.specs.OneSession.{IsForOneSession}
@@ -184,8 +183,8 @@ module _ (work : Workload) (rules : ActorId → ℕ → ℕ → Bool) (head : He
   good = stated work.turns of.no_turns (subst (GoAsStated work full work.turns 1) clients-own (subst (λ n. GoAsStated work full work.turns n (client_pairs head history)) of.one follows.order))
     where
       stated : (turns : Option (List Turn)) → (turns ≡ None) ⊎ (turns ≡ Some []) → GoAsStated work full turns 1 list → AllGood [] list
-      stated None none goes = on-threads list tells-heard (next_in_work work) (list_has_ended work.limit full) mine (is_work_opened work) goes
-      stated (Some []) none goes = in-turns list tells-heard (next_in_work work) (list_has_ended work.limit full) mine (is_work_opened work) goes
+      stated None none goes = on-threads list tells-heard (next_in_work work) (ended_in_work work full) mine (is_work_opened work) goes
+      stated (Some []) none goes = in-turns list tells-heard (next_in_work work) (ended_in_work work full) mine (is_work_opened work) goes
       stated (Some (turn ∷ turns)) none goes = absurd (elim none [ inl is ↦ (let no : ⊥ = cc is in no) | inr is ↦ (let no : ⊥ = cc is in no) ])
 
   good-at : (before : List (Entry Event)) (e : Entry Event) (later : List (Entry Event)) → history ≡ before ++ e ∷ later → e.actor ≡ the_session

@@ -282,17 +282,17 @@ module _ (own : List (Pair Event)) (heard : TellsHeard own) where
         | inr there ↦ subst IsInBetween is (All-contains IsInBetween c.between p.entry.event c.within there)
       ]
 
-  module _ (next : ℕ → List (Pair Event) → Option Call) (ended : List (Pair Event) → Bool) where
+  module _ (next : ℕ → List (Pair Event) → Option Call) (ended : ℕ → List (Pair Event) → Bool) where
     -- all was heard, or the list has ended
     abbrev Goes : List (Pair Event) → Type 0
-    Goes before = HearsEach (known_of before) ⊎ (ended before ≡ true)
+    Goes before = HearsEach (known_of before) ⊎ (ended 1 before ≡ true)
 
     still : (before part : List (Pair Event)) → part ≡ [] → Goes before → Goes (before ++ part)
     still before part none goes = subst Goes (sym (append-nil before) ∙ ap (λ l. before ++ l) (sym none)) goes
 
-    asks-good : (before part after : List (Pair Event)) → own ≡ before ++ (part ++ after) → Goes before → jobs_of before ≡ [] → (o : Option Call) → UnlessEnded (ended before) part (AsksIfNext next ended 1 o before part)
+    asks-good : (before part after : List (Pair Event)) → own ≡ before ++ (part ++ after) → Goes before → jobs_of before ≡ [] → (o : Option Call) → UnlessEnded (ended 1 before) part (AsksIfNext next ended 1 o before part)
         → AllGood before part × Goes (before ++ part)
-    asks-good before part after whole goes none o takes = by (ended before) refl takes goes
+    asks-good before part after whole goes none o takes = by (ended 1 before) refl takes goes
       where
         heard-or : (call : Option Call) → HearsEach (known_of before) → AsksIfNext next ended 1 call before part → AllGood before part × Goes (before ++ part)
         heard-or None all is = (nothing-good before part is, still before part is (inl all))
@@ -301,13 +301,13 @@ module _ (own : List (Pair Event)) (heard : TellsHeard own) where
           | inr broken ↦ (broken-good 1 call before part all none broken.0, inr broken.1)
         ]
 
-        by : (b : Bool) → ended before ≡ b → UnlessEnded b part (AsksIfNext next ended 1 o before part) → Goes before → AllGood before part × Goes (before ++ part)
+        by : (b : Bool) → ended 1 before ≡ b → UnlessEnded b part (AsksIfNext next ended 1 o before part) → Goes before → AllGood before part × Goes (before ++ part)
         by true is nothing goes = (nothing-good before part nothing, still before part nothing goes)
         by false is takes (inl all) = heard-or o all takes
         by false is takes (inr over) = absurd (let both = sym over ∙ is in cc both)
 
-    finishes-good : (before part : List (Pair Event)) → Goes before → (jobs : List (List Request)) → UnlessEnded (ended before) part (FinishesIfLeft next ended 1 jobs before part) → AllGood before part × Goes (before ++ part)
-    finishes-good before part goes jobs takes = by (ended before) takes
+    finishes-good : (before part : List (Pair Event)) → Goes before → (jobs : List (List Request)) → UnlessEnded (ended 1 before) part (FinishesIfLeft next ended 1 jobs before part) → AllGood before part × Goes (before ++ part)
+    finishes-good before part goes jobs takes = by (ended 1 before) takes
       where
         left : (jobs : List (List Request)) → FinishesIfLeft next ended 1 jobs before part → AllGood before part × Goes (before ++ part)
         left [] nothing = (nothing-good before part nothing, still before part nothing goes)

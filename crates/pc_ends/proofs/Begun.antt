@@ -1,6 +1,7 @@
 -- The sessions of a workload begin one after another.
-use Rattle.std.proofs.Common.{◌≡◌, ℕ, ◌+◌, ◌<◌, inl, inr, Bool, All, List, [], ◌∷◌, ◌++◌, length, slice_get, Option, Some, Result, Ok, Err, IfOk, refl, sym, ap, subst, ◌∙◌, arith, length-append, false}
+use Rattle.std.proofs.Common.{◌≡◌, ℕ, ◌+◌, ◌<◌, ◌≤◌, inl, inr, Bool, false, All, List, [], ◌∷◌, ◌++◌, length, slice_get, Option, None, Some, IfSome, Result, Ok, Err, IfOk, refl, sym, ap, subst, ◌∙◌, arith, length-append}
 use Rattle.std.proofs.lemmas.List.{append-nil, append_assoc}
+use Rattle.std.proofs.lemmas.List.Elements.{All-contains}
 use Rattle.std.proofs.lemmas.Option.{slice_get_within}
 use Rattle.pc_base.specs.declared.actor.ActorId.{ActorId}
 use Rattle.pc_base.specs.declared.actor.ActorId.TheVariants as actors
@@ -9,7 +10,7 @@ use Rattle.pc_desk.specs.Desk.{DeskMeaning, new_desk}
 use Rattle.pc_history.specs.declared.view.Part.{Part}
 use Rattle.pc_history.specs.Meanings.{ActorMeaning}
 use Rattle.pc_history.specs.Parts.{newcomer}
-use Rattle.pc_lists.proofs.Lists.{all_from_contains, contains_get, get_append, get_push, get_push_cases}
+use Rattle.pc_lists.proofs.Lists.{all_from_contains, contains_get, get_append, get_contains, get_push, get_push_cases}
 use Rattle.pc_proto.specs.declared.event.Event.{Event}
 use Rattle.pc_runs.specs.Runners.{AreRunners, HaveClocks, IsRunnerIn, head_in_work}
 use Rattle.pc_script.specs.Clocks.{clock_rule}
@@ -17,15 +18,25 @@ use Rattle.pc_script.specs.Script.{Position, opened}
 use Rattle.pc_scripted.proofs.Telling.{opened_reruns}
 use Rattle.pc_scripted.specs.Scripted.{IsScripted, ScriptedMeaning, own_list, session_number}
 use Rattle.pc_session.specs.Session.{SessionMeaning}
+use Rattle.pc_base.specs.declared.limits.TheConstants.{MOST_ENTRIES}
+use Rattle.pc_work.specs.Accepted.{IsAccepted, StopsWithin}
 use Rattle.pc_work.specs.declared.session.SessionWork.{SessionWork}
 use Rattle.pc_work.specs.declared.workload.Workload.{Workload}
 use Rattle.pc_world.specs.Local.{Head}
 
+-- a stop that is stated is that of an entry
+pub stop_from : (work : Workload) (index : ℕ) (stated : SessionWork) → IsAccepted work → slice_get work.sessions index ≡ Some stated → IfSome stated.stop (λ n. 1 ≤ n)
+stop_from work index stated accepted listed = by stated.stop (All-contains StopsWithin work.sessions stated accepted.stops (get_contains work.sessions index stated listed))
+  where
+    by : (stop : Option ℕ) → IfSome stop (λ n. (1 ≤ n) × (n ≤ MOST_ENTRIES)) → IfSome stop (λ n. 1 ≤ n)
+    by None within = tt
+    by (Some n) within = within.0
+
 -- a session that was made with its script is that of its place
 pub runner_begun : {C : Type 0} (work : Workload) (index : ℕ) (stated : SessionWork) (s : ScriptedMeaning C) (d : SessionMeaning C) (head : Head) (part : Part Event) (spare : ℕ) (clock : C) (pipelining : Bool) (limit : ℕ) (stop : Option ℕ) (range_limit : ℕ)
     → slice_get work.sessions index ≡ Some stated → IsScripted s → s ≡ record { session = d; script = stated.script; at = opened stated.script work.reruns }
-    → d.desk ≡ new_desk head part spare clock pipelining false limit stop range_limit → head ≡ head_in_work work → part ≡ newcomer (actors.Session (index + 1)) → limit ≡ work.limit → range_limit ≡ work.limit → IsRunnerIn work index s
-runner_begun {C} work index stated s d head part spare clock pipelining limit stop range_limit listed scripted is desk head_is part_is limit_is range_is =
+    → d.desk ≡ new_desk head part spare clock pipelining false limit stop range_limit → head ≡ head_in_work work → part ≡ newcomer (actors.Session (index + 1)) → limit ≡ work.limit → stop ≡ stated.stop → range_limit ≡ work.limit → IsRunnerIn work index s
+runner_begun {C} work index stated s d head part spare clock pipelining limit stop range_limit listed scripted is desk head_is part_is limit_is stop_is range_is =
     let on : s.session.desk ≡ new_desk head part spare clock pipelining false limit stop range_limit = ap (λ (x : ScriptedMeaning C). x.session.desk) is ∙ desk in
     record {
       scripted = scripted;
@@ -36,16 +47,17 @@ runner_begun {C} work index stated s d head part spare clock pipelining limit st
       reruns = sym (ap (λ (x : ScriptedMeaning C). x.at.reruns) is ∙ opened_reruns stated.script work.reruns);
       head = ap (λ (x : DeskMeaning C). x.log.head) on ∙ head_is;
       limit = ap (λ (x : DeskMeaning C). x.log.limit) on ∙ limit_is;
+      stop = ap (λ (x : DeskMeaning C). x.log.stop) on ∙ stop_is;
       range_limit = ap (λ (x : DeskMeaning C). x.range_limit) on ∙ range_is;
     }
 
 -- where it was made
 pub runner_if : {C E : Type 0} (r : Result (ScriptedMeaning C) E) (work : Workload) (index : ℕ) (stated : SessionWork) (d : SessionMeaning C) (head : Head) (part : Part Event) (spare : ℕ) (clock : C) (pipelining : Bool) (limit : ℕ) (stop : Option ℕ) (range_limit : ℕ)
     → slice_get work.sessions index ≡ Some stated → IfOk r IsScripted → IfOk r (λ s. s ≡ record { session = d; script = stated.script; at = opened stated.script work.reruns })
-    → d.desk ≡ new_desk head part spare clock pipelining false limit stop range_limit → head ≡ head_in_work work → part ≡ newcomer (actors.Session (index + 1)) → limit ≡ work.limit → range_limit ≡ work.limit → IfOk r (IsRunnerIn work index)
-runner_if (Ok s) work index stated d head part spare clock pipelining limit stop range_limit listed scripted is desk head_is part_is limit_is range_is =
-    runner_begun work index stated s d head part spare clock pipelining limit stop range_limit listed scripted is desk head_is part_is limit_is range_is
-runner_if (Err e) work index stated d head part spare clock pipelining limit stop range_limit listed scripted is desk head_is part_is limit_is range_is = tt
+    → d.desk ≡ new_desk head part spare clock pipelining false limit stop range_limit → head ≡ head_in_work work → part ≡ newcomer (actors.Session (index + 1)) → limit ≡ work.limit → stop ≡ stated.stop → range_limit ≡ work.limit → IfOk r (IsRunnerIn work index)
+runner_if (Ok s) work index stated d head part spare clock pipelining limit stop range_limit listed scripted is desk head_is part_is limit_is stop_is range_is =
+    runner_begun work index stated s d head part spare clock pipelining limit stop range_limit listed scripted is desk head_is part_is limit_is stop_is range_is
+runner_if (Err e) work index stated d head part spare clock pipelining limit stop range_limit listed scripted is desk head_is part_is limit_is stop_is range_is = tt
 
 -- its clock has the rule of its work
 pub clock_if : {C E : Type 0} (r : Result (ScriptedMeaning C) E) (rule : C → ℕ → ℕ → Bool) (given : ℕ → ℕ → Bool) (work : Workload) (index : ℕ) (stated : SessionWork) (d : SessionMeaning C) (at : Position) (clock : C)

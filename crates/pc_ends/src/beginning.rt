@@ -116,7 +116,7 @@ where
         work.tries,
         work.pipelining,
         work.limit,
-        None,
+        stated.stop,
     );
     Scripted::new(alloc, session, &stated.script, work.reruns)
 }

@@ -31,7 +31,7 @@ use Rattle.pc_script.specs.Script.{learnt_of, next_call}
 use Rattle.pc_scripted.proofs.Going.{all_mine}
 use Rattle.pc_scripted.proofs.Passing.{each_join}
 use Rattle.pc_scripted.proofs.Tests.{has_ended_now}
-use Rattle.pc_scripted.specs.Ended.{list_has_ended}
+use Rattle.pc_scripted.specs.Ended.{ended_in_script}
 use Rattle.pc_scripted.specs.Learning.{AreOfLearn, LearnsInTurn, learn_events, learnt_ahead}
 use Rattle.pc_scripted.specs.Scripted.{IsScripted, ScriptedMeaning, next_in_script, own_list, own_number}
 use Rattle.pc_scripted.specs.Taking.{AsksInTurn, FinishesInTurn, HasMoved, HasMovedBy}
@@ -146,11 +146,11 @@ module _ {C : Type 0} (s now : ScriptedMeaning C) (scripted : IsScripted s) wher
   abbrev next : ℕ → List (Pair Event) → Option Call
   next = next_in_script s.at.reruns s.script
 
-  abbrev ended : List (Pair Event) → Bool
-  ended = list_has_ended s.session.desk.log.limit everywhere
+  abbrev ended : ℕ → List (Pair Event) → Bool
+  ended = ended_in_script s.session.desk.log.limit s.session.desk.log.stop everywhere
 
-  nothing-made : s.session.desk.log.stopped ≡ true → (part : List (Pair Event)) (So : Type 0) → UnlessEnded (ended (own_list s)) part So → part ≡ []
-  nothing-made stopped part So is = by (ended (own_list s)) (has_ended_now s.session.desk everywhere (λ range knows. refl) (scripted.ends stopped)) is
+  nothing-made : s.session.desk.log.stopped ≡ true → (part : List (Pair Event)) (So : Type 0) → UnlessEnded (ended (own_number s) (own_list s)) part So → part ≡ []
+  nothing-made stopped part So is = by (ended (own_number s) (own_list s)) (has_ended_now s.session.desk everywhere (λ range knows. refl) (scripted.ends stopped)) is
     where
       by : (b : Bool) → b ≡ true → UnlessEnded b part So → part ≡ []
       by true e is = is
@@ -168,12 +168,12 @@ module _ {C : Type 0} (s now : ScriptedMeaning C) (scripted : IsScripted s) wher
   pub finishes_quiet : (m : HasMoved (FinishesInTurn s) s now) → IsQuiet s m.part
   finishes_quiet m = by s.session.desk.log.stopped refl
     where
-      is : UnlessEnded (ended (own_list s)) m.part (FinishesIfLeft next ended (own_number s) (jobs_of (own_list s)) (own_list s) m.part)
+      is : UnlessEnded (ended (own_number s) (own_list s)) m.part (FinishesIfLeft next ended (own_number s) (jobs_of (own_list s)) (own_list s) m.part)
       is = m.is everywhere (λ range knows. refl)
 
       by : (b : Bool) → s.session.desk.log.stopped ≡ b → IsQuiet s m.part
       by true stopped = inl (nothing-made stopped m.part (FinishesIfLeft next ended (own_number s) (jobs_of (own_list s)) (own_list s) m.part) is)
-      by false going = elim (unless (ended (own_list s)) m.part (FinishesIfLeft next ended (own_number s) (jobs_of (own_list s)) (own_list s) m.part) is) [
+      by false going = elim (unless (ended (own_number s) (own_list s)) m.part (FinishesIfLeft next ended (own_number s) (jobs_of (own_list s)) (own_list s) m.part) is) [
         | inl none ↦ inl none
         | inr so ↦ elim (job-quiet (jobs_of (own_list s)) m.part so) [ inl none ↦ inl none | inr asks ↦ inr (closed going, asks) ]
       ]
@@ -195,7 +195,7 @@ module _ {C : Type 0} (s now : ScriptedMeaning C) (scripted : IsScripted s) wher
       call : Option Call
       call = next (own_number s) (own_list s)
 
-      is : UnlessEnded (ended (own_list s)) m.part (AsksIfNext next ended (own_number s) (next (own_number s) (own_list s)) (own_list s) m.part)
+      is : UnlessEnded (ended (own_number s) (own_list s)) m.part (AsksIfNext next ended (own_number s) (next (own_number s) (own_list s)) (own_list s) m.part)
       is = m.is everywhere (λ range knows. refl)
 
       by : (b : Bool) → s.session.desk.log.stopped ≡ b → IsQuiet s m.part
@@ -203,7 +203,7 @@ module _ {C : Type 0} (s now : ScriptedMeaning C) (scripted : IsScripted s) wher
       by false going =
           let no : learnt_of (next_call s.at) ≡ None = ap (λ b. cond b None (learnt_of (next_call s.at))) (sym going) ∙ other in
           let none : learnt_of (next (own_number s) (own_list s)) ≡ None = ap (λ at. learnt_of (next_call at)) (sym (scripted.goes going).place) ∙ no in
-          elim (unless (ended (own_list s)) m.part (AsksIfNext next ended (own_number s) (next (own_number s) (own_list s)) (own_list s) m.part) is) [
+          elim (unless (ended (own_number s) (own_list s)) m.part (AsksIfNext next ended (own_number s) (next (own_number s) (own_list s)) (own_list s) m.part) is) [
             | inl empty ↦ inl empty
             | inr so ↦ elim (call-quiet (next (own_number s) (own_list s)) m.part none so) [ inl empty ↦ inl empty | inr asks ↦ inr (closed going, asks) ]
           ]

@@ -7,7 +7,7 @@ use Rattle.pc_proto.specs.declared.event.Event.{Event}
 use Rattle.pc_turns.specs.Order.{AreTakenIn, GoToEnds, GoesByItself, IsTakenIn, is_at_end}
 use Rattle.pc_work.specs.declared.turn.Turn.{Turn}
 
-module _ (next : ℕ → List (Pair Event) → Option Call) (ended : List (Pair Event) → Bool) where
+module _ (next : ℕ → List (Pair Event) → Option Call) (ended : ℕ → List (Pair Event) → Bool) where
   pub taken_next : (done : List Turn) (turn : Turn) (before part more : List (Pair Event)) → AreTakenIn next ended done before part → IsTakenIn next ended turn (before ++ part) more
       → AreTakenIn next ended (done ++ turn ∷ []) before (part ++ more)
   taken_next [] turn before part more none taken =

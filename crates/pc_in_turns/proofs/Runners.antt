@@ -27,6 +27,7 @@ module _ {C : Type 0} (work : Workload) (index : ℕ) (s now : ScriptedMeaning C
         reruns = runner.reruns ∙ sym same.reruns;
         head = same.head ∙ runner.head;
         limit = same.limit ∙ runner.limit;
+        stop = same.stop ∙ runner.stop;
         range_limit = same.range_limit ∙ runner.range_limit;
       }
 
@@ -41,6 +42,7 @@ runner_told work index s note runner scripted = record {
   reruns = runner.reruns;
   head = runner.head;
   limit = runner.limit;
+  stop = runner.stop;
   range_limit = runner.range_limit;
 }
 

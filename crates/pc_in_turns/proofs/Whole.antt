@@ -15,9 +15,8 @@ use Rattle.pc_in_turns.specs.InTurns.{HaveGoneInTurns}
 use Rattle.pc_in_turns.specs.Moving.{AreInTurns, AreRunOutBelow, GoOut, HaveGoneOn, HaveMade, HaveMovedAt, IsOpening, IsTask, TakeTurns, TakesTurn, TurnsMeaning}
 use Rattle.pc_lists.proofs.Lists.{get_contains}
 use Rattle.pc_proto.specs.declared.event.Event.{Event}
-use Rattle.pc_runs.specs.Order.{is_opening_over, is_work_opened, next_in_work}
+use Rattle.pc_runs.specs.Order.{ended_in_work, is_opening_over, is_work_opened, next_in_work}
 use Rattle.pc_runs.specs.Runners.{AreRunOut, AreRunners, HaveClocks}
-use Rattle.pc_scripted.specs.Ended.{list_has_ended}
 use Rattle.pc_scripted.specs.Scripted.{ScriptedMeaning, own_list}
 use Rattle.pc_scripted.specs.Taking.{IsRunOut}
 use Rattle.pc_turns.specs.Order.{GoesByItself, entries_by, is_at_end}
@@ -43,7 +42,7 @@ module _ {C : Type 0} (rule : C → ℕ → ℕ → Bool) (old : TurnsMeaning C)
       turned : (full : ℕ → Bool) (before part : List (Pair Event)) → IsTask old.work (tasks.Open old.work.opening) 0 full before part → IsOpening old.work full before part
       turned full before part is =
           let w = session-of old in_turns 0 first in
-          subst (λ (o : Option SessionWork). GoesByItself (next_in_work old.work) (list_has_ended old.work.limit full) 1 (λ order. is_opening_over old.work.opening old.work.reruns o order) before part) (sym w.1) (is w.0 w.1)
+          subst (λ (o : Option SessionWork). GoesByItself (next_in_work old.work) (ended_in_work old.work full) 1 (λ order. is_opening_over old.work.opening old.work.reruns o order) before part) (sym w.1) (is w.0 w.1)
 
   -- a session takes its turn
   pub took_call : (new : TurnsMeaning C) (number : ℕ) → 1 ≤ number → HaveGoneOn rule (IsTask old.work tasks.Call (number - 1)) old new → HaveGoneOn rule (TakesTurn old.work (turns.Session number)) old new
@@ -67,7 +66,7 @@ module _ {C : Type 0} (rule : C → ℕ → ℕ → Bool) (old : TurnsMeaning C)
   pub took_next : (mid new : TurnsMeaning C) (done : List Turn) (turn : Turn) → HaveGoneOn rule (TakeTurns old.work done) old mid → HaveGoneOn rule (TakesTurn mid.work turn) mid new → HaveGoneOn rule (TakeTurns old.work (done ++ turn ∷ [])) old new
   took_next mid new done turn a b =
       gone_then rule (TakeTurns old.work done) (TakesTurn old.work turn) (TakeTurns old.work (done ++ turn ∷ [])) old mid new
-      (λ full before part more is then. taken_next (next_in_work old.work) (list_has_ended old.work.limit full) done turn before part more is then) a
+      (λ full before part more is then. taken_next (next_in_work old.work) (ended_in_work old.work full) done turn before part more is then) a
       (subst (λ (w : Workload). HaveGoneOn rule (TakesTurn w turn) mid new) a.work b)
 
   pub took_at : (mid new : TurnsMeaning C) (stated : List Turn) (i : ℕ) (d : Turn) → i < length stated → HaveGoneOn rule (TakeTurns old.work (take i stated)) old mid → HaveGoneOn rule (TakesTurn mid.work (get_or stated i d)) mid new
@@ -96,7 +95,7 @@ module _ {C : Type 0} (rule : C → ℕ → ℕ → Bool) (old : TurnsMeaning C)
       let same : 1 + count ≡ count + 1 = omega arith in
       let one : suc count ≡ count + 1 = omega arith in
       gone_then rule (GoOut old.work count) (IsTask old.work tasks.Rest count) (GoOut old.work (count + 1)) old mid new
-      (λ full before part more is then. subst (λ n. GoOut old.work n full before (part ++ more)) one (gone_out_next (next_in_work old.work) (list_has_ended old.work.limit full) 1 count before part more is (subst (λ n. GoesByItself (next_in_work old.work) (list_has_ended old.work.limit full) n (is_at_end (next_in_work old.work) n) (before ++ part) more) (sym same) then))) a
+      (λ full before part more is then. subst (λ n. GoOut old.work n full before (part ++ more)) one (gone_out_next (next_in_work old.work) (ended_in_work old.work full) 1 count before part more is (subst (λ n. GoesByItself (next_in_work old.work) (ended_in_work old.work full) n (is_at_end (next_in_work old.work) n) (before ++ part) more) (sym same) then))) a
       (subst (λ (w : Workload). HaveGoneOn rule (IsTask w tasks.Rest count) mid new) a.work b)
 
 -- nothing has happened

@@ -3,9 +3,8 @@ use Rattle.std.specs.Prelude.{ℕ, Bool, List, length, map}
 use Rattle.pc_history.specs.declared.pair.Pair.{Pair}
 use Rattle.pc_proto.specs.declared.event.Event.{Event}
 use Rattle.pc_runs.specs.Learning.{LearnInOrder}
-use Rattle.pc_runs.specs.Order.{is_work_opened, next_in_work}
+use Rattle.pc_runs.specs.Order.{ended_in_work, is_work_opened, next_in_work}
 use Rattle.pc_runs.specs.Runners.{SaysAllFull}
-use Rattle.pc_scripted.specs.Ended.{list_has_ended}
 use Rattle.pc_scripted.specs.Scripted.{ScriptedMeaning, own_list}
 use Rattle.pc_turns.specs.Order.{GoInTurns}
 use Rattle.pc_turns.specs.Shares.{AreShares}
@@ -20,4 +19,4 @@ pub record HaveGoneInTurns {C : Type 0} (work : Workload) (stated : List Turn) (
   pub learns : LearnInOrder order
   pub goes :
       (full : ℕ → Bool) → SaysAllFull full sessions
-      → GoInTurns (next_in_work work) (list_has_ended work.limit full) (is_work_opened work) stated (length work.sessions) order
+      → GoInTurns (next_in_work work) (ended_in_work work full) (is_work_opened work) stated (length work.sessions) order

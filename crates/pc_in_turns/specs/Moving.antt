@@ -10,9 +10,8 @@ use Rattle.pc_in_turns.specs.Learning.{LearnsBehind}
 use Rattle.pc_in_turns.specs.Task.{EndsWithTask}
 use Rattle.pc_proto.specs.declared.event.Event.{Event}
 use Rattle.pc_runs.specs.Learning.{LearnInOrder}
-use Rattle.pc_runs.specs.Order.{is_work_opened, next_in_work}
+use Rattle.pc_runs.specs.Order.{ended_in_work, is_work_opened, next_in_work}
 use Rattle.pc_runs.specs.Runners.{AreRunners, HaveClocks, SaysAllFull}
-use Rattle.pc_scripted.specs.Ended.{list_has_ended}
 use Rattle.pc_scripted.specs.Scripted.{IsScripted, ScriptedMeaning, own_list}
 use Rattle.pc_scripted.specs.Taking.{HasMoved, IsRunOut, Move, are_items_over}
 use Rattle.pc_turns.specs.Order.{AreTakenIn, GoToEnds, GoesByItself, IsTakenIn, entries_by, is_at_end}
@@ -31,26 +30,26 @@ module _ (work : Workload) where
   abbrev pub IsTask : Task → ℕ → Stretch
   IsTask (tasks.Open items) index full before part =
       (session : SessionWork) → slice_get work.sessions index ≡ Some session
-      → GoesByItself (next_in_work work) (list_has_ended work.limit full) (index + 1) (λ order. are_items_over items work.reruns session.script (entries_by (index + 1) order)) before part
-  IsTask tasks.Call index full before part = IsTakenIn (next_in_work work) (list_has_ended work.limit full) (turns.Session (index + 1)) before part
-  IsTask tasks.Job index full before part = IsTakenIn (next_in_work work) (list_has_ended work.limit full) (turns.Job (index + 1)) before part
-  IsTask tasks.Rest index full before part = GoesByItself (next_in_work work) (list_has_ended work.limit full) (index + 1) (is_at_end (next_in_work work) (index + 1)) before part
+      → GoesByItself (next_in_work work) (ended_in_work work full) (index + 1) (λ order. are_items_over items work.reruns session.script (entries_by (index + 1) order)) before part
+  IsTask tasks.Call index full before part = IsTakenIn (next_in_work work) (ended_in_work work full) (turns.Session (index + 1)) before part
+  IsTask tasks.Job index full before part = IsTakenIn (next_in_work work) (ended_in_work work full) (turns.Job (index + 1)) before part
+  IsTask tasks.Rest index full before part = GoesByItself (next_in_work work) (ended_in_work work full) (index + 1) (is_at_end (next_in_work work) (index + 1)) before part
 
   -- The part is the workload's opening.
   abbrev pub IsOpening : Stretch
-  IsOpening full before part = GoesByItself (next_in_work work) (list_has_ended work.limit full) 1 (is_work_opened work) before part
+  IsOpening full before part = GoesByItself (next_in_work work) (ended_in_work work full) 1 (is_work_opened work) before part
 
   -- The part is what this turn takes.
   abbrev pub TakesTurn : Turn → Stretch
-  TakesTurn turn full before part = IsTakenIn (next_in_work work) (list_has_ended work.limit full) turn before part
+  TakesTurn turn full before part = IsTakenIn (next_in_work work) (ended_in_work work full) turn before part
 
   -- The part is what these turns take, one after another.
   abbrev pub TakeTurns : List Turn → Stretch
-  TakeTurns stated full before part = AreTakenIn (next_in_work work) (list_has_ended work.limit full) stated before part
+  TakeTurns stated full before part = AreTakenIn (next_in_work work) (ended_in_work work full) stated before part
 
   -- The part is what is left to the first sessions, of this number, which go to their ends one after another.
   abbrev pub GoOut : ℕ → Stretch
-  GoOut count full before part = GoToEnds (next_in_work work) (list_has_ended work.limit full) 1 count before part
+  GoOut count full before part = GoToEnds (next_in_work work) (ended_in_work work full) 1 count before part
 
 -- The sessions of a workload, and the index of the one that made the last entry.
 pub record TurnsMeaning (C : Type 0) : Type 0 where

@@ -7,10 +7,10 @@ use Rattle.pc_base.specs.declared.actor.ActorId.TheVariants as actors
 use Rattle.pc_desk.specs.declared.halt.Halt.{Halt}
 use Rattle.pc_desk.specs.declared.halt.Halt.TheVariants as halts
 use Rattle.pc_desk.specs.Desk.{DeskMeaning, KeepsTrack}
-use Rattle.pc_desk.specs.Ending.{EndsOnly, HasEnded, IsEndedBy}
+use Rattle.pc_desk.specs.Ending.{EndsOnly, HasEnded}
 use Rattle.pc_desk.specs.OwnLog.{LogMeaning}
-use Rattle.pc_exchange.proofs.Ending.{breaks_later, breaks_only, made_by}
-use Rattle.pc_exchange.specs.Ending.{HasBrokenOff}
+use Rattle.pc_exchange.proofs.Ending.{breaks_later, breaks_only, ends_without_stop, made_by}
+use Rattle.pc_exchange.specs.Ending.{HasBrokenOff, IsEndedBy}
 use Rattle.pc_exchange.specs.Growing.{HasGrownBy}
 use Rattle.pc_history.specs.declared.pair.Pair.{Pair}
 use Rattle.pc_proto.specs.declared.event.Event.{Event}
@@ -53,13 +53,13 @@ module _ {C : Type 0} (old mid new : DeskMeaning C) (part : List (Pair Event)) (
   stop-is = ap (λ (l : LogMeaning C). l.stop) grown.rest
 
   -- its list ended once these entries were made
-  pub breaks_here : Are part → EndsOnly mid new halt → BreaksOffIn Are old new halt
-  breaks_here are ends going stop =
+  pub breaks_here : (Is : Event → Type 0) → Are part → EndsOnly Is mid new halt → BreaksOffIn Are old new halt
+  breaks_here Is are ends going stop =
       ended_both halt (HasEnded mid new) (HasBrokenOff Whatever old new) (HasBrokenOffIn Are old new)
       (λ ended b.
       let same : part ≡ b.part = append_cancel_left old.log.part.own part b.part (sym grown.own ∙ (sym (ap (λ (l : LogMeaning C). l.part.own) ended.rest) ∙ b.own)) in
-      record { broke = b; are = subst Are same are }) (ends (stopped-is ∙ going) (stop-is ∙ stop))
-      (breaks_only old mid new part grown limit (made_by old.log mid part track grown) Whatever halt track tt ends going stop)
+      record { broke = b; are = subst Are same are }) (ends_without_stop Is mid new halt (ends (stopped-is ∙ going)) (stop-is ∙ stop))
+      (breaks_only old mid new part grown limit (made_by old.log mid part track grown) Is Whatever halt track tt (λ stopped event is. tt) ends going)
 
   -- or it went on and broke off by others
   pub breaks_behind : (More : List (Pair Event) → Type 0) → ((made : List (Pair Event)) → More made → Are (part ++ made)) → BreaksOffIn More mid new halt → BreaksOffIn Are old new halt
@@ -70,7 +70,7 @@ module _ {C : Type 0} (old mid new : DeskMeaning C) (part : List (Pair Event)) (
       append_cancel_left old.log.part.own (part ++ inner.broke.part) b.part (sym (append_assoc old.log.part.own part inner.broke.part) ∙ (ap (λ own. own ++ inner.broke.part) (sym grown.own) ∙ (sym inner.broke.own ∙ b.own))) in
       record { broke = b; are = subst Are same (on inner.broke.part inner.are) }) (breaks (stopped-is ∙ going) (stop-is ∙ stop))
       (breaks_later old mid new part grown limit (made_by old.log mid part track grown) Whatever Whatever halt (λ made so. tt)
-      (λ run none. ended_on halt (HasBrokenOffIn More mid new) (HasBrokenOff Whatever mid new) (λ b. b.broke) (breaks run none)) going stop)
+      (λ run. ended_on halt (HasBrokenOffIn More mid new) (HasBrokenOff Whatever mid new) (λ b. b.broke) (breaks run (stop-is ∙ stop))) going)
 
 -- the entries that broke off are the actor's own
 pub breaks_by : {C : Type 0} (old new : DeskMeaning C) (Are : List (Pair Event) → Type 0) (halt : Halt) (number : ℕ) → old.log.part.id ≡ actors.Recoverer number → BreaksOffIn Are old new halt

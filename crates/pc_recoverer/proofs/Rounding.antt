@@ -208,9 +208,9 @@ module _ {C : Type 0} (number : ℕ) (level : Priority) (reading : ℕ) (old d :
           }
 
       -- its list ends before that
-      pub telling_ends_early : (new : DeskMeaning C) (halt : Halt) → EndsOnly late new halt → BreaksOffIn (AreOfBrokenRound old.log.head.splits number level) old new halt
+      pub telling_ends_early : (new : DeskMeaning C) (halt : Halt) → EndsOnly (λ made. made ≡ events.Tell answers.Done) late new halt → BreaksOffIn (AreOfBrokenRound old.log.head.splits number level) old new halt
       telling_ends_early new halt ends =
-          breaks_here old late new (asking ∷ visited.exchanged.part) grown-visited (visited.exchanged.goes.limit ∙ limit-asked) making-late.back.track (AreOfBrokenRound old.log.head.splits number level) halt
+          breaks_here old late new (asking ∷ visited.exchanged.part) grown-visited (visited.exchanged.goes.limit ∙ limit-asked) making-late.back.track (AreOfBrokenRound old.log.head.splits number level) halt (λ made. made ≡ events.Tell answers.Done)
           (unfinished_round old.log.head.splits number level reading asking visited.exchanged.part its-asking its-messages refl
           (front_of_all old.log.head.splits number level reading visited.traffic visited.exchanged.part visited.exchanged.each each-is)) ends
 
@@ -233,5 +233,5 @@ module _ {C : Type 0} (number : ℕ) (level : Priority) (reading : ℕ) (old d :
           }
 
 -- it was not asked
-pub ask_ends_early : {C : Type 0} (number : ℕ) (level : Priority) (old new : DeskMeaning C) (halt : Halt) → KeepsTrack old → EndsOnly old new halt → BreaksOffIn (AreOfBrokenRound old.log.head.splits number level) old new halt
-ask_ends_early number level old new halt track ends = breaks_here old old new [] (grows_none old.log) refl track (AreOfBrokenRound old.log.head.splits number level) halt (unasked_round old.log.head.splits number level) ends
+pub ask_ends_early : {C : Type 0} (number : ℕ) (level : Priority) (old new : DeskMeaning C) (halt : Halt) → KeepsTrack old → EndsOnly (λ made. (reading : ℕ) × (made ≡ events.Ask calls.Round reading)) old new halt → BreaksOffIn (AreOfBrokenRound old.log.head.splits number level) old new halt
+ask_ends_early number level old new halt track ends = breaks_here old old new [] (grows_none old.log) refl track (AreOfBrokenRound old.log.head.splits number level) halt (λ made. (reading : ℕ) × (made ≡ events.Ask calls.Round reading)) (unasked_round old.log.head.splits number level) ends

@@ -3,8 +3,7 @@ use Rattle.std.specs.Prelude.{◌≡◌, ℕ, false, None, List, [], ◌∷◌, 
 use Rattle.pc_base.specs.declared.transaction.Priority.{Priority}
 use Rattle.pc_desk.specs.declared.halt.Halt.{Halt}
 use Rattle.pc_desk.specs.Desk.{DeskMeaning}
-use Rattle.pc_desk.specs.Ending.{IsEndedBy}
-use Rattle.pc_exchange.specs.Ending.{HasBrokenOff}
+use Rattle.pc_exchange.specs.Ending.{HasBrokenOff, IsEndedBy}
 use Rattle.pc_history.specs.declared.pair.Pair.{Pair}
 use Rattle.pc_proto.specs.declared.event.Event.{Event}
 use Rattle.pc_proto.specs.declared.reply.Reply.{Reply}

@@ -4,10 +4,10 @@ use Rattle.std.proofs.lemmas.Option.{slice_get_within}
 use Rattle.std.specs.Prelude.{is_none}
 use Rattle.pc_base.specs.declared.actor.ActorId.{ActorId}
 use Rattle.pc_base.specs.declared.actor.ActorId.TheVariants as actors
-use Rattle.pc_closing.proofs.Leaving.{full_range_may_leave, heard_may_leave, own_end_may_leave}
+use Rattle.pc_closing.proofs.Leaving.{full_range_may_leave, heard_may_leave, own_end_may_leave, stop_may_leave}
 use Rattle.pc_closing.specs.Leaving.{AreLeavers, IsLeaver, Leaver, MayLeave}
 use Rattle.pc_desk.specs.Desk.{IsReadyToGo}
-use Rattle.pc_desk.specs.Ending.{IsAtFullRange, IsAtOwnEnd}
+use Rattle.pc_desk.specs.Ending.{EndsEarly}
 use Rattle.pc_desk.specs.Keeping.{EachAfter, KeepsEach}
 use Rattle.pc_desk.specs.Waves.{KeepsWavesEach, KeepsWavesNext}
 use Rattle.pc_history.specs.declared.pair.Pair.{Pair}
@@ -35,9 +35,10 @@ module _ {C : Type 0} (work : Workload) (rule : C → ℕ → ℕ → Bool) (all
   may-leave : (s : ScriptedMeaning C) (l : Leaver) → IsScripted s → HasFinished rule s l → MayLeave s.session.desk.range_limit s.session.desk.log.part l.1
   may-leave s l scripted f = by s.session.desk.log.stopped refl
     where
-      ended : IsAtOwnEnd s.session.desk ⊎ IsAtFullRange s.session.desk → MayLeave s.session.desk.range_limit s.session.desk.log.part l.1
+      ended : EndsEarly s.session.desk → MayLeave s.session.desk.range_limit s.session.desk.log.part l.1
       ended (inl end) = own_end_may_leave s.session.desk l.1 f.posted scripted.given end
-      ended (inr end) = full_range_may_leave s.session.desk l.1 f.posted scripted.given end
+      ended (inr (inl end)) = full_range_may_leave s.session.desk l.1 f.posted scripted.given end
+      ended (inr (inr end)) = stop_may_leave s.session.desk l.1 f.posted scripted.given end
 
       by : (b : Bool) → s.session.desk.log.stopped ≡ b → MayLeave s.session.desk.range_limit s.session.desk.log.part l.1
       by true stopped = ended (scripted.ends stopped)
@@ -80,6 +81,7 @@ module _ {C : Type 0} (work : Workload) (rule : C → ℕ → ℕ → Bool) (all
               (subst (λ (i : ActorId). KeepsEach i s.session.desk.log.head.splits s.session.desk.log.pipelining (own_list s)) (r.scripted.id ∙ ap actors.Session r.number) f.log.keeps));
           waves = waves-on (is_none work.turns) [] (own_list s) (subst (λ b. KeepsWavesEach b (own_list s)) r.scripted.one_by_one f.log.waves);
           within = subst (λ n. length (own_list s) ≤ n) r.limit r.scripted.within;
+          no_later = f.log.at_stop;
         };
   }
     where

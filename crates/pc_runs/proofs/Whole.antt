@@ -1,5 +1,5 @@
 -- The history that sessions leave follows their workload.
-use Rattle.std.proofs.Common.{◌≡◌, ℕ, ◌+◌, ◌-◌, ◌<◌, ◌⊎◌, inl, inr, Bool, true, false, List, [], ◌∷◌, length, map, slice_get, zero, suc, Option, Some, refl, sym, ap, subst, ◌∙◌, arith}
+use Rattle.std.proofs.Common.{◌≡◌, ℕ, ◌+◌, ◌-◌, ◌<◌, ◌≤◌, ◌⊎◌, IfSome, inl, inr, Bool, true, false, List, [], ◌∷◌, length, map, slice_get, zero, suc, Option, Some, refl, sym, ap, subst, ◌∙◌, arith}
 use Rattle.std.proofs.lemmas.Option.{slice_get_within}
 use Rattle.pc_base.specs.declared.actor.ActorId.{ActorId}
 use Rattle.pc_base.specs.declared.actor.ActorId.TheVariants as actors
@@ -17,7 +17,7 @@ use Rattle.pc_runs.specs.Follows.{FollowsByItself, FollowsWork}
 use Rattle.pc_runs.proofs.Learning.{all_learn_truly}
 use Rattle.pc_runs.specs.Laws.{HistoryFollows, LearnsAreKept, TurnsAreAsStated}
 use Rattle.pc_runs.specs.Learning.{LearnInOrder}
-use Rattle.pc_runs.specs.Order.{GoAsStated, is_work_opened, next_in_work}
+use Rattle.pc_runs.specs.Order.{GoAsStated, ended_in_work, is_work_opened, next_in_work}
 use Rattle.pc_runs.specs.Runners.{AreRunOut, AreRunners, HaveAllLeft, SaysAllFull, head_in_work}
 use Rattle.pc_script.specs.End.{IsScriptEnd}
 use Rattle.pc_script.specs.Script.{next_call, script_position}
@@ -45,10 +45,10 @@ there (x ∷ xs) (suc i) lt = there xs i (omega arith)
 
 -- a session whose list has ended, or whose script is over
 pub ends_so : {C : Type 0} (s : ScriptedMeaning C) (full : ℕ → Bool) → IsScripted s → IsRunOut s → SaysFull full s.session.desk
-    → IsScriptEnd (script_position s.at.reruns s.script (own_list s)) (own_list s) ⊎ (list_has_ended s.session.desk.log.limit full (own_list s) ≡ true)
+    → IsScriptEnd (script_position s.at.reruns s.script (own_list s)) (own_list s) ⊎ (list_has_ended s.session.desk.log.limit s.session.desk.log.stop full (own_list s) ≡ true)
 ends_so s full scripted out says = by s.session.desk.log.stopped refl
   where
-    by : (b : Bool) → s.session.desk.log.stopped ≡ b → IsScriptEnd (script_position s.at.reruns s.script (own_list s)) (own_list s) ⊎ (list_has_ended s.session.desk.log.limit full (own_list s) ≡ true)
+    by : (b : Bool) → s.session.desk.log.stopped ≡ b → IsScriptEnd (script_position s.at.reruns s.script (own_list s)) (own_list s) ⊎ (list_has_ended s.session.desk.log.limit s.session.desk.log.stop full (own_list s) ≡ true)
     by true stopped = inr (has_ended_now s.session.desk full says (scripted.ends stopped))
     by false going = inl (record { no_next = ap next_call (sym (scripted.goes going).place) ∙ out.over going; none_open = (scripted.goes going).rest.closed })
 
@@ -76,6 +76,7 @@ module _ {C : Type 0} (work : Workload) (rules : ActorId → ℕ → ℕ → Boo
       let kept = closed.each index l.0 l.1 in
       let list : own (protocol (head_in_work work)) (actors.Session (index + 1)) history ≡ own_list s.0 = kept.list ∙ ap (λ (p : Part Event). p.own) gone.part in
       let script : session.script ≡ s.0.script = ap (λ (w : SessionWork). w.script) (same_some session r.session (sym listed ∙ r.listed)) ∙ r.script in
+      let stop : s.0.session.desk.log.stop ≡ session.stop = r.stop ∙ ap (λ (w : SessionWork). w.stop) (sym (same_some session r.session (sym listed ∙ r.listed))) in
       let P : List (Pair Event) → Type 0 = λ list. FollowsByItself work session (rules (actors.Session (index + 1))) full (actors.Session (index + 1)) list history in
       subst P (sym list) (record {
         steps = gone.steps session listed;
@@ -83,10 +84,12 @@ module _ {C : Type 0} (work : Workload) (rules : ActorId → ℕ → ℕ → Boo
         waves = gone.waves;
         wire = subst (λ (p : Part Event). AreServed full (actors.Session (index + 1)) history (known_of p.own)) gone.part kept.served;
         within = gone.within;
-        end = subst (λ n. IsScriptEnd (script_position n session.script (own_list s.0)) (own_list s.0) ⊎ (list_has_ended work.limit full (own_list s.0) ≡ true)) (sym r.reruns)
-            (subst (λ (sc : List Item). IsScriptEnd (script_position s.0.at.reruns sc (own_list s.0)) (own_list s.0) ⊎ (list_has_ended work.limit full (own_list s.0) ≡ true)) (sym script)
-            (subst (λ n. IsScriptEnd (script_position s.0.at.reruns s.0.script (own_list s.0)) (own_list s.0) ⊎ (list_has_ended n full (own_list s.0) ≡ true)) r.limit
-            (ends_so s.0 full r.scripted (out index s.0 s.1) (says_all_full index s.0 s.1))));
+        no_later = subst (λ (o : Option ℕ). IfSome o (λ stop. length (own_list s.0) ≤ stop)) stop gone.no_later;
+        end = subst (λ n. IsScriptEnd (script_position n session.script (own_list s.0)) (own_list s.0) ⊎ (list_has_ended work.limit session.stop full (own_list s.0) ≡ true)) (sym r.reruns)
+            (subst (λ (sc : List Item). IsScriptEnd (script_position s.0.at.reruns sc (own_list s.0)) (own_list s.0) ⊎ (list_has_ended work.limit session.stop full (own_list s.0) ≡ true)) (sym script)
+            (subst (λ n. IsScriptEnd (script_position s.0.at.reruns s.0.script (own_list s.0)) (own_list s.0) ⊎ (list_has_ended n session.stop full (own_list s.0) ≡ true)) r.limit
+            (subst (λ (o : Option ℕ). IsScriptEnd (script_position s.0.at.reruns s.0.script (own_list s.0)) (own_list s.0) ⊎ (list_has_ended s.0.session.desk.log.limit o full (own_list s.0) ≡ true)) stop
+            (ends_so s.0 full r.scripted (out index s.0 s.1) (says_all_full index s.0 s.1)))));
       })
     where
       same_some : (x y : SessionWork) → Some x ≡ Some y → x ≡ y
@@ -133,8 +136,8 @@ order-made work rules sessions leavers history order left closed shares =
 pub turns_are_as_stated : (C : Type 0) → TurnsAreAsStated C
 turns_are_as_stated C work rules sessions leavers history order stated left closed shares some goes =
     let full = range_is_full work.limit (head_in_work work) history in
-    let kept : GoInTurns (next_in_work work) (list_has_ended work.limit full) (is_work_opened work) stated (length work.sessions) (client_pairs (head_in_work work) history) =
-    turns_are_kept (head_in_work work) history closed.parts order (next_in_work work) (list_has_ended work.limit full) (is_work_opened work) stated closed.stored (order-made work rules sessions leavers history order left closed shares) goes in
+    let kept : GoInTurns (next_in_work work) (ended_in_work work full) (is_work_opened work) stated (length work.sessions) (client_pairs (head_in_work work) history) =
+    turns_are_kept (head_in_work work) history closed.parts order (next_in_work work) (ended_in_work work full) (is_work_opened work) stated closed.stored (order-made work rules sessions leavers history order left closed shares) goes in
     subst (λ (o : Option (List Turn)). GoAsStated work full o (length work.sessions) (client_pairs (head_in_work work) history)) (sym some) kept
 
 pub learns_are_kept : (C : Type 0) → LearnsAreKept C

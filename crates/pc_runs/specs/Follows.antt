@@ -1,8 +1,9 @@
 -- When a history follows its workload: its head is the workload's; the sessions' calls and jobs come in its turns, or each session's by itself
 -- on threads; a learn is told whether its commit was told before; and in each session's own list the calls are the script's, the readings the
--- clock's, the messages are those of its calls and go over a quiet wire, each wave of them is evaluated whole, with turns in order, what is over is finished, and the list has no more entries than it may
--- have and goes on to the script's end, unless it or a range has as many as that. Own profile.
-use Rattle.std.specs.Prelude.{◌≡◌, ℕ, ◌-◌, ◌≤◌, ◌⊎◌, Bool, true, is_none, Some, List, [], length, slice_get}
+-- clock's, the messages are those of its calls and go over a quiet wire, each wave of them is evaluated whole, with turns in order, what is over
+-- is finished, and the list has no more entries than it may have or than are stated for its stop, and goes on to the script's end, unless it has
+-- as many as that or a range is full. Own profile.
+use Rattle.std.specs.Prelude.{◌≡◌, ℕ, ◌-◌, ◌≤◌, ◌⊎◌, Bool, true, is_none, IfSome, Some, List, [], length, slice_get}
 use Rattle.pc_base.specs.declared.actor.ActorId.{ActorId}
 use Rattle.pc_base.specs.declared.actor.ActorId.TheVariants as actors
 use Rattle.pc_base.specs.declared.entry.Entry.{Entry}
@@ -26,14 +27,16 @@ use Rattle.pc_world.specs.Known.{known_of}
 use Rattle.pc_world.specs.Local.{Head}
 use Rattle.pc_world.specs.Run.{protocol}
 
--- A session's own list follows its work: at each step, in its waves, on the wire, in its length, and at its end; this says which ranges are full.
+-- A session's own list follows its work: at each step, in its waves, on the wire, in its length, and at its end; this says which ranges are full. A session that
+-- stops leaves its messages to be evaluated like any other's.
 pub record FollowsByItself (work : Workload) (session : SessionWork) (rule : ℕ → ℕ → Bool) (full : ℕ → Bool) (actor : ActorId) (list : List (Pair Event)) (history : List (Entry Event)) : Type 0 where
   pub steps : EachAfter (KeepsWork work session rule) [] list
   pub keeps : KeepsEach actor work.splits work.pipelining list
   pub waves : KeepsWavesEach (is_none work.turns) list
   pub wire : AreServed full actor history (known_of list)
   pub within : length list ≤ work.limit
-  pub end : IsScriptEnd (script_position work.reruns session.script list) list ⊎ (list_has_ended work.limit full list ≡ true)
+  pub no_later : IfSome session.stop (λ stop. length list ≤ stop)
+  pub end : IsScriptEnd (script_position work.reruns session.script list) list ⊎ (list_has_ended work.limit session.stop full list ≡ true)
 
 -- The history follows the workload, where these are the rules of the clocks that were handed in.
 pub record FollowsWork (work : Workload) (rules : ActorId → ℕ → ℕ → Bool) (head : Head) (history : List (Entry Event)) : Type 0 where

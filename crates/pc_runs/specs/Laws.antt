@@ -12,11 +12,10 @@ use Rattle.pc_history.specs.declared.pair.Pair.{Pair}
 use Rattle.pc_proto.specs.declared.event.Event.{Event}
 use Rattle.pc_runs.specs.Follows.{FollowsWork}
 use Rattle.pc_runs.specs.Learning.{LearnInOrder}
-use Rattle.pc_runs.specs.Order.{GoAsStated, is_work_opened, next_in_work}
+use Rattle.pc_runs.specs.Order.{GoAsStated, ended_in_work, is_work_opened, next_in_work}
 use Rattle.pc_runs.specs.Runners.{AreRunOut, AreRunners, HaveAllLeft, HaveClocks, head_in_work}
 use Rattle.pc_script.specs.Clocks.{clock_rule}
 use Rattle.pc_script.specs.Steps.{KeepsWork}
-use Rattle.pc_scripted.specs.Ended.{list_has_ended}
 use Rattle.pc_scripted.specs.Scripted.{ScriptedMeaning, own_list}
 use Rattle.pc_scripted.specs.Taking.{DoesWork}
 use Rattle.pc_turns.specs.Clients.{client_pairs}
@@ -52,7 +51,7 @@ abbrev pub TurnsAreAsStated : Type 0 → Type 0
 TurnsAreAsStated C =
     (work : Workload) (rules : ActorId → ℕ → ℕ → Bool) (sessions : List (ScriptedMeaning C)) (leavers : List Leaver) (history : List (Entry Event)) (order : List (Pair Event)) (stated : List Turn)
     → HaveAllLeft work rules sessions leavers → IsClosedOver work.limit (head_in_work work) leavers history → AreShares (map own_list sessions) order → work.turns ≡ Some stated
-    → GoInTurns (next_in_work work) (list_has_ended work.limit (range_is_full work.limit (head_in_work work) history)) (is_work_opened work) stated (length work.sessions) order
+    → GoInTurns (next_in_work work) (ended_in_work work (range_is_full work.limit (head_in_work work) history)) (is_work_opened work) stated (length work.sessions) order
     → GoAsStated work (range_is_full work.limit (head_in_work work) history) work.turns (length work.sessions) (client_pairs (head_in_work work) history)
 
 -- Where the sessions' own lists are their shares of entries among which they learn in order, so they do in the history that they leave.

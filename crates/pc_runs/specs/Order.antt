@@ -30,8 +30,17 @@ is_opening_over opening reruns (Some session) order = are_items_over opening rer
 abbrev pub is_work_opened : Workload → List (Pair Event) → Bool
 is_work_opened work order = is_opening_over work.opening work.reruns (slice_get work.sessions 0) order
 
+-- The number of entries that is stated for a session's stop, if one is; none where the workload has no such session.
+abbrev pub stop_of_work : Option SessionWork → Option ℕ
+stop_of_work None = None
+stop_of_work (Some session) = session.stop
+
+-- After these entries of its own the list of the session of this number has ended; this says which ranges are full.
+abbrev pub ended_in_work : Workload → (ℕ → Bool) → ℕ → List (Pair Event) → Bool
+ended_in_work work full number own = list_has_ended work.limit (stop_of_work (slice_get work.sessions (number - 1))) full own
+
 module _ (work : Workload) (full : ℕ → Bool) where
   -- The clients' entries go in these turns, or on threads where no turns are stated; this says which ranges are full.
   abbrev pub GoAsStated : Option (List Turn) → ℕ → List (Pair Event) → Type 0
-  GoAsStated (Some stated) sessions order = GoInTurns (next_in_work work) (list_has_ended work.limit full) (is_work_opened work) stated sessions order
-  GoAsStated None sessions order = GoOnThreads (next_in_work work) (list_has_ended work.limit full) (is_work_opened work) sessions order
+  GoAsStated (Some stated) sessions order = GoInTurns (next_in_work work) (ended_in_work work full) (is_work_opened work) stated sessions order
+  GoAsStated None sessions order = GoOnThreads (next_in_work work) (ended_in_work work full) (is_work_opened work) sessions order

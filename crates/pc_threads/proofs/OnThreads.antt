@@ -14,9 +14,8 @@ use Rattle.pc_history.specs.declared.view.Part.{Part}
 use Rattle.pc_lists.proofs.Lists.{contains_in_map}
 use Rattle.pc_proto.specs.declared.event.Event.{Event}
 use Rattle.pc_runs.proofs.Whole.{says_all_full}
-use Rattle.pc_runs.specs.Order.{GoAsStated, is_work_opened, next_in_work}
+use Rattle.pc_runs.specs.Order.{GoAsStated, ended_in_work, is_work_opened, next_in_work}
 use Rattle.pc_runs.specs.Runners.{AreRunners, HaveAllLeft, head_in_work}
-use Rattle.pc_scripted.specs.Ended.{list_has_ended}
 use Rattle.pc_scripted.specs.Scripted.{ScriptedMeaning, own_list}
 use Rattle.pc_threads.proofs.Places.{there}
 use Rattle.pc_threads.specs.Laws.{ThreadsAreAsStated}
@@ -91,23 +90,23 @@ module _ {C : Type 0} (work : Workload) (rules : ActorId → ℕ → ℕ → Boo
         (λ part is client. continues part (part-of part (is client))) closed.parts closed.handed.theirs;
   }
 
-  gone-alone : (number : ℕ) → 1 ≤ number → number ≤ length work.sessions → HasGoneAlone (next_in_work work) (list_has_ended work.limit full) closed.parts number
+  gone-alone : (number : ℕ) → 1 ≤ number → number ≤ length work.sessions → HasGoneAlone (next_in_work work) (ended_in_work work full) closed.parts number
   gone-alone number from to =
       let handed = contains_in_map (λ (q : Part Event). q.id) closed.parts (actors.Session number) (handed-of (actors.Session number) (from, let many = runners.many in omega arith)) in
       let p = part-of handed.0 (All-contains (λ (q : Part Event). is_client q.id ≡ true → IsPartAt (lists_of leavers) q) closed.parts handed.0 closed.handed.theirs handed.1 (ap is_client handed.2)) in
       let same : p.index + 1 ≡ number = same-number (p.index + 1) number (sym p.whose ∙ handed.2) in
-      let alone : GoesByItself (next_in_work work) (list_has_ended work.limit full) (p.index + 1) (is_at_end (next_in_work work) (p.index + 1)) [] (own_list p.s) =
+      let alone : GoesByItself (next_in_work work) (ended_in_work work full) (p.index + 1) (is_at_end (next_in_work work) (p.index + 1)) [] (own_list p.s) =
       gone.alone full (says_all_full work rules sessions leavers history runners left closed) p.index p.s p.at in (
         handed.0,
         handed.1,
         handed.2,
-        subst (λ n. GoesByItself (next_in_work work) (list_has_ended work.limit full) n (is_at_end (next_in_work work) n) [] handed.0.own) same
-            (subst (λ list. GoesByItself (next_in_work work) (list_has_ended work.limit full) (p.index + 1) (is_at_end (next_in_work work) (p.index + 1)) [] list) p.list alone),
+        subst (λ n. GoesByItself (next_in_work work) (ended_in_work work full) n (is_at_end (next_in_work work) n) [] handed.0.own) same
+            (subst (λ list. GoesByItself (next_in_work work) (ended_in_work work full) (p.index + 1) (is_at_end (next_in_work work) (p.index + 1)) [] list) p.list alone),
       )
 
-  on-threads : GoOnThreads (next_in_work work) (list_has_ended work.limit full) (is_work_opened work) (length work.sessions) (client_pairs (head_in_work work) history)
+  on-threads : GoOnThreads (next_in_work work) (ended_in_work work full) (is_work_opened work) (length work.sessions) (client_pairs (head_in_work work) history)
   on-threads =
-      threads_go_on (head_in_work work) history closed.parts gone.opening (next_in_work work) (list_has_ended work.limit full) (is_work_opened work) closed.stored begins
+      threads_go_on (head_in_work work) history closed.parts gone.opening (next_in_work work) (ended_in_work work full) (is_work_opened work) closed.stored begins
       (gone.opens full (says_all_full work rules sessions leavers history runners left closed)) gone-alone
 
   pub go_as_stated : work.turns ≡ None → GoAsStated work full work.turns (length work.sessions) (client_pairs (head_in_work work) history)

@@ -8,10 +8,10 @@ use Rattle.pc_base.specs.declared.memory.NoMemory.{NoMemory}
 use Rattle.pc_history.specs.declared.pair.Pair.{Pair}
 use Rattle.pc_lists.proofs.Lists.{all_from_contains, contains_cons, contains_get, get_contains}
 use Rattle.pc_proto.specs.declared.event.Event.{Event}
-use Rattle.pc_runs.specs.Order.{next_in_work}
+use Rattle.pc_runs.specs.Order.{ended_in_work, next_in_work}
 use Rattle.pc_runs.specs.Runners.{AreRunOut, AreRunners, HaveClocks, IsRunnerIn, SaysAllFull}
 use Rattle.pc_scripted.proofs.Going.{all_mine, says_before}
-use Rattle.pc_scripted.specs.Ended.{SaysFull, list_has_ended}
+use Rattle.pc_scripted.specs.Ended.{SaysFull}
 use Rattle.pc_scripted.specs.Scripted.{IsScripted, ScriptedMeaning, own_list, own_number}
 use Rattle.pc_scripted.specs.Taking.{GoesUntil, HasMoved, HasMovedBy, IsRunOut, are_items_over, is_script_over}
 use Rattle.pc_threads.proofs.Gone.{after_mark, after_own, goes_opening, goes_to_end, moved_behind, moved_on, none_by, runner_went}
@@ -166,10 +166,10 @@ module _ {C : Type 0} (work : Workload) (rule : C → ℕ → ℕ → Bool) (ses
       record { later = g.later; whole = list-gone index s g ∙ (g.begins ∙ ap (λ (i : ActorId). share_of i opens.part ++ g.later) (sym id)); after = g.after }
 
   alone-gone : (full : ℕ → Bool) → SaysAllFull full gone → (index : ℕ) (s : ScriptedMeaning C) → slice_get gone index ≡ Some s
-      → GoesByItself (next_in_work work) (list_has_ended work.limit full) (index + 1) (is_at_end (next_in_work work) (index + 1)) [] (own_list s)
+      → GoesByItself (next_in_work work) (ended_in_work work full) (index + 1) (is_at_end (next_in_work work) (index + 1)) [] (own_list s)
   alone-gone full says index s at =
       let g = has-gone index s at in
-      subst (λ list. GoesByItself (next_in_work work) (list_has_ended work.limit full) (index + 1) (is_at_end (next_in_work work) (index + 1)) [] list) (sym (list-gone index s g))
+      subst (λ list. GoesByItself (next_in_work work) (ended_in_work work full) (index + 1) (is_at_end (next_in_work work) (index + 1)) [] list) (sym (list-gone index s g))
       (goes_to_end work index g.old (runners.each index g.old g.at) (fresh-at index g.old g.at) full g.moved.part (g.moved.is full (says index s at)))
 
   pub order_gone : HaveGoneOnThreads work gone

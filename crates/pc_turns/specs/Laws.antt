@@ -85,12 +85,12 @@ ClosedIsServed =
 abbrev pub TurnsAreKept : Type 0
 TurnsAreKept =
     (head : Head) (history : List (Entry Event)) (parts : List (Part Event)) (order : List (Pair Event))
-    (next : ℕ → List (Pair Event) → Option Call) (ended opened : List (Pair Event) → Bool) (stated : List Turn)
+    (next : ℕ → List (Pair Event) → Option Call) (ended : ℕ → List (Pair Event) → Bool) (opened : List (Pair Event) → Bool) (stated : List Turn)
     → IsStoredBy head history parts → MakesUpEach parts order → GoInTurns next ended opened stated head.sessions order
     → GoInTurns next ended opened stated head.sessions (client_pairs head history)
 
 -- The session has a part, and its entries are those of a session that goes by itself to its end.
-abbrev pub HasGoneAlone : (ℕ → List (Pair Event) → Option Call) → (List (Pair Event) → Bool) → List (Part Event) → ℕ → Type 0
+abbrev pub HasGoneAlone : (ℕ → List (Pair Event) → Option Call) → (ℕ → List (Pair Event) → Bool) → List (Part Event) → ℕ → Type 0
 HasGoneAlone next ended parts number =
     (part : Part Event) × Contains parts part × (part.id ≡ Session number) × GoesByItself next ended number (is_at_end next number) [] part.own
 
@@ -98,7 +98,7 @@ HasGoneAlone next ended parts number =
 abbrev pub ThreadsGoOn : Type 0
 ThreadsGoOn =
     (head : Head) (history : List (Entry Event)) (parts : List (Part Event)) (opening : List (Pair Event))
-    (next : ℕ → List (Pair Event) → Option Call) (ended opened : List (Pair Event) → Bool)
+    (next : ℕ → List (Pair Event) → Option Call) (ended : ℕ → List (Pair Event) → Bool) (opened : List (Pair Event) → Bool)
     → IsStoredBy head history parts → BeginsEach parts opening → GoesByItself next ended 1 opened [] opening
     → ((number : ℕ) → 1 ≤ number → number ≤ head.sessions → HasGoneAlone next ended parts number)
     → GoOnThreads next ended opened head.sessions (client_pairs head history)

@@ -73,25 +73,25 @@ entries_by number order = share_of (actors.Session number) order
 abbrev pub is_at_end : (ℕ → List (Pair Event) → Option Call) → ℕ → List (Pair Event) → Bool
 is_at_end next number before = not (is_some (next number (entries_by number before)))
 
--- The scripts say which call each session asks next, after its own entries; and the test says of a session's own entries that they end its
+-- The scripts say which call each session asks next, after its own entries; and the test says of each session's own entries that they end its
 -- list, with a call or a job broken off where it was in one.
-module _ (next : ℕ → List (Pair Event) → Option Call) (ended : List (Pair Event) → Bool) where
+module _ (next : ℕ → List (Pair Event) → Option Call) (ended : ℕ → List (Pair Event) → Bool) where
   -- The part is the session's next call after its own entries, or nothing where none is next.
   abbrev pub AsksIfNext : ℕ → Option Call → List (Pair Event) → List (Pair Event) → Type 0
   AsksIfNext number None mine part = part ≡ []
-  AsksIfNext number (Some call) mine part = AsksWhole number call part ⊎ (AsksPartly number call part × (ended (mine ++ part) ≡ true))
+  AsksIfNext number (Some call) mine part = AsksWhole number call part ⊎ (AsksPartly number call part × (ended number (mine ++ part) ≡ true))
 
   -- The part is the oldest of these jobs of the session, or nothing where none waits.
   abbrev pub FinishesIfLeft : ℕ → List (List Request) → List (Pair Event) → List (Pair Event) → Type 0
   FinishesIfLeft number [] mine part = part ≡ []
-  FinishesIfLeft number (job ∷ jobs) mine part = FinishesWhole number mine part ⊎ (FinishesPartly number part × (ended (mine ++ part) ≡ true))
+  FinishesIfLeft number (job ∷ jobs) mine part = FinishesWhole number mine part ⊎ (FinishesPartly number part × (ended number (mine ++ part) ≡ true))
 
   -- The part is what the session takes of a call or a job, after its own entries.
   abbrev pub AsksAfter : ℕ → List (Pair Event) → List (Pair Event) → Type 0
-  AsksAfter number mine part = UnlessEnded (ended mine) part (AsksIfNext number (next number mine) mine part)
+  AsksAfter number mine part = UnlessEnded (ended number mine) part (AsksIfNext number (next number mine) mine part)
 
   abbrev pub FinishesAfter : ℕ → List (Pair Event) → List (Pair Event) → Type 0
-  FinishesAfter number mine part = UnlessEnded (ended mine) part (FinishesIfLeft number (jobs_of mine) mine part)
+  FinishesAfter number mine part = UnlessEnded (ended number mine) part (FinishesIfLeft number (jobs_of mine) mine part)
 
   -- The part is what the turn takes after these entries.
   abbrev pub IsTakenIn : Turn → List (Pair Event) → List (Pair Event) → Type 0
@@ -108,7 +108,7 @@ module _ (next : ℕ → List (Pair Event) → Option Call) (ended : List (Pair 
   -- The part is what the session does by itself, its jobs before each further call, until the test is passed or its list has ended.
   pub data GoesByItself (number : ℕ) (test : List (Pair Event) → Bool) : List (Pair Event) → List (Pair Event) → Type 0 where
     Passed : (before : List (Pair Event)) → jobs_of (entries_by number before) ≡ [] → test before ≡ true → GoesByItself number test before []
-    Ended : (before : List (Pair Event)) → ended (entries_by number before) ≡ true → GoesByItself number test before []
+    Ended : (before : List (Pair Event)) → ended number (entries_by number before) ≡ true → GoesByItself number test before []
     Onwards : (before first rest : List (Pair Event))
         → ((jobs_of (entries_by number before) ≡ []) → test before ≡ true → ⊥)
         → IsTakenIn (turn_by_itself number (jobs_of (entries_by number before))) before first

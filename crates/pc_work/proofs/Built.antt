@@ -9,15 +9,17 @@ use Rattle.serde_json.specs.Find.{get, as_bool}
 use Rattle.pc_base.specs.declared.limits.TheConstants.{LEAST_ENTRIES, MOST_ENTRIES, MOST_RERUNS, MOST_SESSIONS, MOST_SPLITS, MOST_STATEMENTS, MOST_TURNS}
 use Rattle.pc_base.specs.Rising.{AreRising, keys_rise}
 use Rattle.pc_work.specs.Reading.{◌>>=◌}
-use Rattle.pc_work.specs.Members.{has_only, member_if, member_or, read_or, whole_between, whole_in, whole_of, whole_up_to}
+use Rattle.pc_work.specs.Clock.{clock_of}
+use Rattle.pc_work.specs.Item.{item_of}
+use Rattle.pc_work.specs.Members.{has_only, member_if, member_or, read_if, read_or, whole_between, whole_in, whole_of, whole_up_to}
 use Rattle.pc_work.specs.Lists.{items_by, list_by}
 use Rattle.pc_work.specs.Count.{session_count}
 use Rattle.pc_work.specs.Texts.{key_of}
-use Rattle.pc_work.specs.Session.{session_of}
+use Rattle.pc_work.specs.Session.{session_names, session_of, stop_of}
 use Rattle.pc_work.specs.Splits.{splits_of}
 use Rattle.pc_work.specs.Turn.{is_turn_there, turn_of}
 use Rattle.pc_work.specs.Workload.{are_stated_turns, are_turns_within, is_item_there, is_script_there, is_within_limits, first_items, are_sessions, workload_names, workload_of, has_built_form, states_clock}
-use Rattle.pc_work.specs.Accepted.{HasItemsOf, HasTransactions, IsAccepted, IsTransaction}
+use Rattle.pc_work.specs.Accepted.{HasItemsOf, HasTransactions, IsAccepted, IsTransaction, StopsWithin}
 use Rattle.pc_work.specs.Built.{IsItemOf, IsBuiltSession, IsTurnOf, AreTurnsOf, IsBuilt}
 use Rattle.pc_work.specs.declared.item.Item.{Item}
 use Rattle.pc_work.specs.declared.item.Item.TheVariants.{Learn, Txn}
@@ -54,6 +56,13 @@ only_when P false found only = only_none P
 only_read : {X : Type 0} (P : X → Type 0) (default : X) (read : Data → Option X) → P default → ((value : Data) → Only P (read value)) → (found : Option Data) → Only P (read_or default read found)
 only_read P default read has each None = only_some P default has
 only_read P default read has each (Some value) = each value
+
+-- Where a member is there, it has the property.
+only_if : {X : Type 0} (P : X → Type 0) (read : Data → Option X) → ((value : Data) → Only P (read value)) → (found : Option Data) → Only (λ o. IfSome o P) (read_if read found)
+only_if P read each None = only_some (λ o. IfSome o P) None tt
+only_if P read each (Some value) =
+    only_known P (λ o. IfSome o P) (read value) (λ found. Some (Some found)) (each value) (λ found has.
+    only_some (λ o. IfSome o P) (Some found) has)
 
 items_only : {X : Type 0} (P : X → Type 0) (read : Data → Option X) → ((value : Data) → Only P (read value)) → (values : Items) → Only (All P) (items_by read values)
 unfolding items_by
@@ -136,6 +145,18 @@ between_only least most value =
     let both = and_parts (nat_le least n) (nat_le n most) within in
     only_some (IsBetween least most) n (leb-true least n both.0, leb-true n most both.1)))
 
+-- A session stops at an entry that there may be.
+session_only : (value : Data) → Only StopsWithin (session_of value)
+unfolding session_of
+session_only value =
+    let stated = only_if (IsBetween 1 MOST_ENTRIES) (whole_between 1 MOST_ENTRIES) (between_only 1 MOST_ENTRIES) (get (codes "stop") value) in
+    only_when StopsWithin (has_only session_names value) _ (λ named.
+    only_behind StopsWithin (member_if clock_of (codes "clock") value) _ (λ clock.
+    only_known (λ o. IfSome o (IsBetween 1 MOST_ENTRIES)) StopsWithin (member_if stop_of (codes "stop") value) _ stated (λ stop within.
+    only_behind StopsWithin (get (codes "script") value) _ (λ found.
+    only_behind StopsWithin (list_by item_of found) _ (λ script.
+    only_some StopsWithin (record { script = script; clock = clock; stop = stop }) within)))))
+
 turn_is_there : (sessions : ℕ) (turn : Turn) → is_turn_there sessions turn ≡ true → IsTurnOf sessions turn
 turn_is_there sessions (Session n) e =
     let both = and_parts (nat_le 1 n) (nat_le n sessions) e in
@@ -161,8 +182,8 @@ abbrev made : List (List ℕ) → ℕ → ℕ → ℕ → Option (List Turn) →
 made splits limit reruns opening turns sessions = record { version = 1; pipelining = false; splits = splits; limit = limit; tries = 4; reruns = reruns; opening = opening; sessions = sessions; turns = turns }
 
 made_is_accepted : (version : ℕ) (pipelining : Bool) (splits : List (List ℕ)) (limit reruns opening : ℕ) (turns : Option (List Turn)) (sessions : List SessionWork) → is_within_limits version pipelining opening sessions turns ≡ true
-    → AreSplits splits → IsBetween LEAST_ENTRIES MOST_ENTRIES limit → reruns ≤ MOST_RERUNS → IsAccepted (made splits limit reruns opening turns sessions)
-made_is_accepted version pipelining splits limit reruns opening turns sessions e cut bounds few =
+    → AreSplits splits → IsBetween LEAST_ENTRIES MOST_ENTRIES limit → reruns ≤ MOST_RERUNS → All StopsWithin sessions → IsAccepted (made splits limit reruns opening turns sessions)
+made_is_accepted version pipelining splits limit reruns opening turns sessions e cut bounds few stops =
     let all_but_opening = and_parts (version == 1 && not pipelining && are_sessions sessions && are_turns_within sessions turns && list_all (is_script_there (length sessions) turns) sessions) (nat_le opening (first_items sessions)) e in
     let all_but_learns = and_parts (version == 1 && not pipelining && are_sessions sessions && are_turns_within sessions turns) (list_all (is_script_there (length sessions) turns) sessions) all_but_opening.0 in
     let all_but_turns = and_parts (version == 1 && not pipelining && are_sessions sessions) (are_turns_within sessions turns) all_but_learns.0 in
@@ -181,6 +202,7 @@ made_is_accepted version pipelining splits limit reruns opening turns sessions e
       some_session = leb-true 1 (length sessions) bounded.0;
       few_sessions = leb-true (length sessions) MOST_SESSIONS bounded.1;
       sessions = items_are_there sessions turns all_but_learns.1;
+      stops = stops;
       learns = none_learnt sessions turns all_but_learns.1;
       few_statements = leb-true (sum_by session_count sessions) MOST_STATEMENTS counted.1;
       turns = stated_turns_are_there sessions turns all_but_turns.1;
@@ -202,9 +224,9 @@ only_accepted value =
     only_behind IsAccepted (member_or 0 whole_of (codes "opening") value) _ (λ opening.
     only_behind IsAccepted (member_if (list_by turn_of) (codes "turns") value) _ (λ turns.
     only_behind IsAccepted (get (codes "sessions") value) _ (λ found.
-    only_behind IsAccepted (list_by session_of found) _ (λ sessions.
+    only_known (All StopsWithin) IsAccepted (list_by session_of found) _ (list_only StopsWithin session_of session_only found) (λ sessions stops.
     only_when IsAccepted (is_within_limits version pipelining opening sessions turns) _ (λ within.
-    only_some IsAccepted (made splits limit reruns opening turns sessions) (made_is_accepted version pipelining splits limit reruns opening turns sessions within rising between few)))))))))))))
+    only_some IsAccepted (made splits limit reruns opening turns sessions) (made_is_accepted version pipelining splits limit reruns opening turns sessions within rising between few stops)))))))))))))
 
 -- The workload that a JSON value states is of the form that is accepted.
 pub value_is_accepted : (value : Data) (work : Workload) → workload_of value ≡ Some work → IsAccepted work

@@ -10,6 +10,10 @@ use Rattle.pc_work.specs.declared.item.Item.TheVariants.{Learn, Txn}
 use Rattle.pc_work.specs.declared.session.SessionWork.{SessionWork}
 use Rattle.pc_work.specs.declared.workload.Workload.{Workload}
 
+-- Where the session states at which entry of its own it stops, there may be such an entry.
+abbrev pub StopsWithin : SessionWork → Type 0
+StopsWithin session = IfSome session.stop (λ n. (1 ≤ n) × (n ≤ MOST_ENTRIES))
+
 -- Each learn of the session's script names one of so many sessions.
 abbrev pub HasItemsOf : ℕ → SessionWork → Type 0
 HasItemsOf sessions session = All (IsItemOf sessions) session.script
@@ -48,6 +52,8 @@ pub record IsAccepted (work : Workload) : Type 0 where
   pub few_sessions : length work.sessions ≤ MOST_SESSIONS
   -- Each learn names a session that is there.
   pub sessions : All (HasItemsOf (length work.sessions)) work.sessions
+  -- Each session that stops does so at an entry that there may be.
+  pub stops : All StopsWithin work.sessions
   -- Where no turns are stated, nothing is learnt.
   pub learns : work.turns ≡ None → All HasTransactions work.sessions
   -- The statements of all sessions are no more than their limit.

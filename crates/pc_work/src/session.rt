@@ -2,22 +2,25 @@ ghost use Rattle.serde_json.specs.View.{view};
 ghost use Rattle.pc_work.specs.Clock.{clock_of};
 ghost use Rattle.pc_work.specs.Members.{member_if};
 ghost use Rattle.pc_work.specs.Reading.{Gives};
-ghost use Rattle.pc_work.specs.Session.{session_of};
+ghost use Rattle.pc_work.specs.Session.{session_of, stop_of};
 
 use crate::clock::{ClockWork, clock_of};
 use crate::fault::Misfit;
 use crate::item::Script;
-use crate::json::{FromJson, has_only, list, member};
+use crate::json::{FromJson, has_only, list, member, whole_between};
 use pc_base::Items;
+use pc_base::limits::MOST_ENTRIES;
 use serde_json::Value as Json;
 use std::alloc::Global;
 
-/// What one session does, and how it tells the time.
+/// What one session does, how it tells the time, and where it stops.
 #[derive(Debug, PartialEq, Eq, Drop)]
 pub struct SessionWork {
     pub script: Script,
     /// Where there is none, the clock that the caller hands in.
     pub clock: Option<ClockWork>,
+    /// After how many entries of its own it stops. Where there is none, it goes on to the end of its script.
+    pub stop: Option<u64>,
 }
 
 /// The sessions of a workload; the first has number 1.
@@ -28,12 +31,17 @@ impl FromJson for SessionWork {
 
     #[tactic(auto, unfolding(crate::specs::Session::session_of))]
     fn from_json(alloc: Global, json: &Json) -> Result<SessionWork, Misfit> {
-        if !has_only(json, &["clock", "script"]) {
+        if !has_only(json, &["clock", "script", "stop"]) {
             return Err(Misfit::OtherForm);
         }
         let clock = clock_if(json, "clock")?;
+        let stop = stop_if(json, "stop")?;
         let script: Script = list(alloc, member(json, "script")?)?;
-        Ok(SessionWork { script, clock })
+        Ok(SessionWork {
+            script,
+            clock,
+            stop,
+        })
     }
 }
 
@@ -43,6 +51,16 @@ fn clock_if(json: &Json, name: &str) -> Result<Option<ClockWork>, Misfit>
 {
     match json.get(name) {
         Some(stated) => Ok(Some(clock_of(stated)?)),
+        None => Ok(None),
+    }
+}
+
+/// The stop in the member of this name, where it is there.
+fn stop_if(json: &Json, name: &str) -> Result<Option<u64>, Misfit>
+    ensures { Gives result (member_if stop_of name.now (view json.now)) }
+{
+    match json.get(name) {
+        Some(stated) => Ok(Some(whole_between(stated, 1, MOST_ENTRIES)?)),
         None => Ok(None),
     }
 }

@@ -42,5 +42,5 @@ pub returns-clause-ended : goal.returns-clause-ended
 returns-clause-ended g c =
     let late = c.visit_each.new.desk in
     let new = c.tell.new.self in
-    if_err c.tell.result (EndsOnly late new) (BreaksOffIn (AreOfBrokenRound c.args.desk.now.log.head.splits c.args.number c.args.level) c.args.desk.now new)
+    if_err c.tell.result (EndsOnly (λ made. made ≡ events.Tell answers.Done) late new) (BreaksOffIn (AreOfBrokenRound c.args.desk.now.log.head.splits c.args.number c.args.level) c.args.desk.now new)
     (telling_ends_early c.args.number c.args.level c.in_ok-reading.reading c.args.desk.now c.ask.new.self c.requires.between c.requires.whose c.in_ok-reading.ensures.ok c.args.ranges c.requires.there late c.in_ok-visit_each.ensures.ok new) c.tell.ensures.ended
