@@ -24,6 +24,3 @@ pub use timestamp::Timestamp;
 pub use transaction::{Priority, TxnId, Who};
 pub use value::{BaseFault, Value};
 pub use version::Version;
-
-#[cfg(test)]
-mod tests;

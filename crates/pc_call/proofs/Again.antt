@@ -8,6 +8,8 @@ use Rattle.pc_call.proofs.Facts.{before_is}
 use Rattle.pc_call.proofs.Hearing.{refresh_kind}
 use Rattle.pc_call.proofs.Holders.{holders_again}
 use Rattle.pc_call.proofs.Lists.{all_unmapped, kept_by, only_found}
+use Rattle.pc_call.proofs.Beside.{IsAskedOrBeside, asked-kept}
+use Rattle.pc_call.specs.Beside.{AreAskedOrDone}
 use Rattle.pc_call.specs.declared.purpose.Purpose.{Purpose}
 use Rattle.pc_call.specs.declared.purpose.Purpose.TheVariants as purposes
 use Rattle.pc_call.specs.Paced.{IsPaced}
@@ -109,6 +111,13 @@ module _ (splits : List (List ℕ)) (start k : Known) (x : OpenTxn) (p : Purpose
         (λ h none c. let e : false ≡ true = sym none ∙ c.conflict in absurd cc) made.heard_more made.unmet)
         (subst (λ hs. AtLeast (IsConflictOf r) MOST_CONFLICTS hs) made.more.heard_now eight))
 
+    done2 : AreAskedOrDone k (map (λ m. m.request) ms2)
+    done2 =
+        let asked : List Request = map (λ m. m.request) ms in
+        subst (AreAskedOrDone k) (sym requests2)
+        (asked-kept start k made.sent_more made.heard_more made.more asked (All-weaker (λ m. IsTrue (goes_beside m.request)) (IsAskedOrBeside asked) (λ m beside. inl beside) made.sent_more made.sent_beside)
+        (λ r none. All-weaker (λ h. is_conflict h.reply ≡ false) (λ h. IsConflictOf r h → ⊥) (λ h plain c. let e : false ≡ true = sym plain ∙ c.conflict in absurd cc) made.heard_more made.unmet) w.done)
+
     same_id : x.id ≡ w.t.id
     same_id = ap (λ x. x.id) w.stands.same
 
@@ -146,6 +155,7 @@ module _ (splits : List (List ℕ)) (start k : Known) (x : OpenTxn) (p : Purpose
       wave = wave2;
       paced = paced2;
       fewer = fewer2;
+      done = done2;
       serves = serves;
     }
 

@@ -8,6 +8,7 @@ use Rattle.pc_base.specs.declared.span.Span.TheVariants.{One, Between}
 use Rattle.pc_base.specs.Rising.{AreRising}
 use Rattle.pc_base.specs.Span.{is_empty}
 use Rattle.pc_call.proofs.Facts.{before_is}
+use Rattle.pc_call.specs.Beside.{IsAskedOrDone}
 use Rattle.pc_call.specs.declared.purpose.Purpose.{Purpose}
 use Rattle.pc_call.specs.declared.purpose.Purpose.TheVariants as purposes
 use Rattle.pc_call.specs.Fresh.{IsFresh}
@@ -71,6 +72,7 @@ module _ (k : Known) (x : OpenTxn) (s : Statement) (why : Why) (f : IsFresh k x 
   fresh_stands r beside = record {
     as_far = (fresh_goes r, lit< tt);
     counted = record { heard = tt; no_more = λ one. subst (λ hs. AtLeast (IsConflictOf r) 1 hs) f.none_heard one };
+    sent = tt;
     no_round = beside;
   }
 
@@ -124,6 +126,7 @@ module _ (k : Known) (x : OpenTxn) (s : Statement) (why : Why) (f : IsFresh k x 
     wave = fresh_wave rs own two;
     paced = subst (λ hs. IsPaced hs k.heard_now) (sym (none_held rs)) none_paced;
     fewer = λ r none eight. subst (λ hs. AtLeast (IsConflictOf r) 8 hs) f.none_heard eight;
+    done = subst (λ sent. All (IsAskedOrDone k (map (λ m. m.request) (map message_to_send rs))) sent) (sym f.none_sent) (All-nil (IsAskedOrDone k (map (λ m. m.request) (map message_to_send rs))));
     serves = serves;
   }
 

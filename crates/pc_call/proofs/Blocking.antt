@@ -59,6 +59,7 @@ module _ (splits : List (List ℕ)) (session : ℕ) (k : Known) (t : Txn) (x : O
       may = may_tell splits session k s (answers.Blocked holder) opened open_in.is_open b.within (record { asked = b.may; why = why; uncommitted = uncommitted k s.call b.other });
       written = tt;
       aborts = tt;
+      rolled_back = tt;
       restarts = tt;
       eighth = told_blocked k s (answers.Blocked holder) opened b.other (holder, refl);
     };
@@ -119,6 +120,7 @@ module _ (session clock count : ℕ) (splits : List (List ℕ)) (k : Known) (x :
         });
         written = tt;
         aborts = tt;
+        rolled_back = tt;
         restarts = tt;
         eighth = λ s is. tt;
       };

@@ -9,6 +9,8 @@ use Rattle.pc_call.proofs.Beginning.{AreTwo, any_true, fresh_split, none_held, n
 use Rattle.pc_call.proofs.Meeting.{none_low}
 use Rattle.pc_call.proofs.Turning.{turn_begun}
 use Rattle.pc_call.specs.Committing.{CommitsNow, CommitsOn, CommitsUpTo}
+use Rattle.pc_call.proofs.Beside.{asked_anew, past_unmet, unsent_unmet}
+use Rattle.pc_call.specs.Beside.{AreAskedOrDone}
 use Rattle.pc_call.specs.declared.purpose.Purpose.{Purpose}
 use Rattle.pc_call.specs.declared.purpose.Purpose.TheVariants as purposes
 use Rattle.pc_call.specs.Fresh.{IsFresh}
@@ -30,7 +32,6 @@ use Rattle.pc_wave.proofs.Lists.{at_least-before, at_least-fewer}
 use Rattle.pc_wave.specs.Messages.{is_to_send, message_to_send}
 use Rattle.pc_wave.specs.Standing.{AreOfTwo, MayGoOut, MessageStands, Pairwise, WaveStands, goes_beside}
 use Rattle.pc_world.specs.Counting.{AtLeast}
-use Rattle.pc_follows.specs.Resends.{ShowsLaterEpoch}
 use Rattle.pc_world.specs.Known.{Known}
 use Rattle.pc_world.specs.Known.Reads.{IsGoodAt}
 use Rattle.pc_world.specs.Known.Statements.{Statement}
@@ -47,7 +48,7 @@ module _ (k : Known) (unmet : All (λ h. is_conflict h.reply ≡ false) k.heard_
   none_met r one = at_least-before (IsConflictOf r) 1 [] k.heard_now (no_conflict r) one
 
   ready_to_go : (r : Request) → goes_beside r ≡ false → MayGoOut k r → MessageStands k (message_to_send r)
-  ready_to_go r own out = record { as_far = (out, lit< tt); counted = record { heard = tt; no_more = none_met r }; no_round = own }
+  ready_to_go r own out = record { as_far = (out, lit< tt); counted = record { heard = tt; no_more = none_met r }; sent = tt; no_round = own }
 
   all_go : (rs : List Request) → All (λ r. goes_beside r ≡ false) rs → All (MayGoOut k) rs → All (MessageStands k) (map message_to_send rs)
   all_go [] own out = All-nil (MessageStands k)
@@ -83,6 +84,9 @@ module _ (splits : List (List ℕ)) (bound n : ℕ) (k : Known) (t : Txn) (x : O
     wave = wave_goes k c.commits.unmet rs own goes two;
     paced = subst (λ hs. IsPaced hs k.heard_now) (sym (none_held rs)) c.paced;
     fewer = λ r none eight. none_met k c.commits.unmet r (at_least-fewer (IsConflictOf r) 1 MOST_CONFLICTS k.heard_now (omega arith) eight);
+    done =
+        subst (AreAskedOrDone k) (sym (requests_are rs))
+        (asked_anew k rs (past_unmet k c.commits.unmet) (All-weaker (MayGoOut k) (λ r. All (λ m. IsSameRequest r m.request → ⊥) k.sent_now) (unsent_unmet k c.commits.unmet) rs goes));
     serves = serves;
   }
 
@@ -110,13 +114,9 @@ module _ (n : ℕ) (k : Known) (x : OpenTxn) (s : Statement) (c : CommitsNow n k
   answered_by : (m : Sent) → Any (IsRefusedBy c.t.write_ts m) k.heard_now → IsTrue (is_heard k.heard_now m)
   answered_by m some = any_true (λ h. h.number == m.number) k.heard_now (some.0, some.1, some.2, some.3, eq-eqb some.1.number m.number some.4.numbered)
 
-  -- and is not the one that goes out now, unless its record is in a later epoch
-  later_by : (m : Sent) → m.request ≡ said → (h : Heard) → IsRefusedBy c.t.write_ts m h → (h.request ≡ said) × ShowsLaterEpoch h.request h.reply
-  later_by m is h r = (r.asked ∙ is, by r.past)
-    where
-      by : IsCommitBelow c.t.write_ts m.request ⊎ ShowsLaterEpoch h.request h.reply → ShowsLaterEpoch h.request h.reply
-      by (inl below) = let low : x.write_ts < c.t.write_ts = subst (IsCommitBelow c.t.write_ts) is below in absurd (omega (arith, low, writes_at))
-      by (inr later) = later
+  -- and is not the one that goes out now
+  not_said : (m : Sent) → m.request ≡ said → (h : Heard) → IsRefusedBy c.t.write_ts m h → ⊥
+  not_said m is h r = let low : x.write_ts < c.t.write_ts = subst (IsCommitBelow c.t.write_ts) is r.past in omega (arith, low, writes_at)
 
   commit_goes : MayGoOut k said
   commit_goes = record {
@@ -127,7 +127,7 @@ module _ (n : ℕ) (k : Known) (x : OpenTxn) (s : Statement) (c : CommitsNow n k
         let f = any_of (WasRefusedIfCommit c.t.write_ts k.heard_now) (λ m. IsSameRequest said m.request) k.sent_now c.on.refused some in
         let is : f.0.request ≡ said = commit_of f.0 f.2 in
         let r : Any (IsRefusedBy c.t.write_ts f.0) k.heard_now = f.1 (ap is_commit is) in
-        inr (r.0, r.1, r.2, r.3, later_by f.0 is r.1 r.4);
+        absurd (not_said f.0 is r.1 r.4);
   }
 
   pub commit_begins : (splits : List (List ℕ)) → InCall splits k x (purposes.Commit n) (message_to_send said ∷ [])

@@ -17,6 +17,7 @@ use Rattle.pc_call.specs.Serving.{InCall, Serves, ServesCommit, commit_asked, ou
 use Rattle.pc_lists.proofs.Anywhere.{any_last}
 use Rattle.pc_lists.proofs.Same.{same_txn-self}
 use Rattle.pc_proto.specs.declared.answer.Answer.{Answer}
+use Rattle.pc_proto.specs.declared.call.Call.TheVariants as calls
 use Rattle.pc_proto.specs.declared.answer.Answer.TheVariants as answers
 use Rattle.pc_proto.specs.declared.fate.Fate.{Fate}
 use Rattle.pc_proto.specs.declared.fate.Fate.TheVariants as fates
@@ -44,7 +45,7 @@ use Rattle.pc_wave.specs.Messages.{awaits_at, progress_to_send, wave_awaits}
 use Rattle.pc_wave.specs.Standing.{IsHeardTo}
 use Rattle.pc_follows.specs.Eighth.{TellsTheEighth, WasMovedEighth}
 use Rattle.pc_follows.specs.FinishingJobs.{is_commit_told}
-use Rattle.pc_world.specs.Known.{Known}
+use Rattle.pc_world.specs.Known.{Known, call_in}
 use Rattle.pc_world.specs.Known.Statements.{Statement}
 use Rattle.pc_world.specs.Known.Traffic.{Heard, Sent}
 use Rattle.pc_world.specs.Known.Transactions.{Txn, txn_heard}
@@ -143,6 +144,7 @@ module _ (session clock count : ℕ) (splits : List (List ℕ)) (k : Known) (x :
           });
           written = tt;
           aborts = tt;
+          rolled_back = tt;
           restarts = tt;
           eighth = decided_eighth decided answer;
         };
@@ -165,6 +167,7 @@ module _ (session clock count : ℕ) (splits : List (List ℕ)) (k : Known) (x :
           });
           written = tt;
           aborts = tt;
+          rolled_back = λ is. let e : Some calls.Commit ≡ Some calls.Rollback = sym (ap call_in w.opened ∙ ap Some commits.commits.call) ∙ is in absurd cc;
           restarts = tt;
           eighth = decided_eighth decided answer;
         };

@@ -18,6 +18,11 @@ use Rattle.pc_world.specs.Known.Statements.{Statement}
 use Rattle.pc_world.specs.SameRequest.{IsSamePut, IsSameRequest}
 use Rattle.pc_world.specs.Tell.Refusal.{IsConflictOf}
 
+pub same_sym : (one other : Request) → IsSameRequest one other → IsSameRequest other one
+same_sym one other (inl e) = inl (sym e)
+same_sym (requests.Put meta seq ts key value) (requests.Put to at when place what) (inr (a, b, c)) = inr (sym a, sym b, sym c)
+same_sym one other (inr same) = absurd same
+
 put_trans : (one two three : Request) → IsSamePut one two → IsSamePut two three → IsSamePut one three
 put_trans (requests.Put a b c d e) (requests.Put f g h i j) (requests.Put l m n o p) x y = (x.0 ∙ y.0, x.1 ∙ y.1, x.2 ∙ y.2)
 put_trans (requests.Put a b c d e) (requests.Put f g h i j) three x y = absurd y

@@ -8,12 +8,14 @@ use Rattle.std.proofs.lemmas.Option.{same_Some}
 use Rattle.pc_base.specs.declared.limits.TheConstants.{MOST_CONFLICTS}
 use Rattle.pc_base.specs.declared.transaction.TxnId.{TxnId}
 use Rattle.pc_base.specs.Transaction.{same_txn}
-use Rattle.pc_call.proofs.Eighths.{none_eighth}
+use Rattle.pc_call.proofs.Beside.{IsAskedOrBeside, IsSentOnceMore, all_past, asked-kept}
+use Rattle.pc_call.proofs.Eighths.{none_eighth, same_sym}
 use Rattle.pc_call.proofs.Facts.{are_numbered, open_is}
 use Rattle.pc_call.proofs.Holders.{holders_heard, is_id, met_by}
 use Rattle.pc_call.proofs.Lists.{all_behind, all_unmapped, kept_by, only_found}
 use Rattle.pc_call.proofs.Meeting.{any_changed, gone_out_on, low-more, low_now, met-more}
 use Rattle.pc_call.proofs.Turning.{back_out, turn_heard}
+use Rattle.pc_call.specs.Beside.{AreAskedOrDone, ArePastOrBeside}
 use Rattle.pc_call.specs.declared.purpose.Purpose.{Purpose}
 use Rattle.pc_call.specs.declared.purpose.Purpose.TheVariants as purposes
 use Rattle.pc_call.specs.Learned.{known_heard}
@@ -68,11 +70,6 @@ use Rattle.pc_world.specs.Tell.Refusal.{IsConflictOf, is_moved}
 every : {X : Type 0} (P : X → Type 0) → ((x : X) → P x) → (xs : List X) → All P xs
 every P all [] = All-nil P
 every P all (x ∷ xs) = All-cons P x xs (all x) (every P all xs)
-
-pub same_sym : (one other : Request) → IsSameRequest one other → IsSameRequest other one
-same_sym one other (inl e) = inl (sym e)
-same_sym (requests.Put meta seq ts key value) (requests.Put to at when place what) (inr (a, b, c)) = inr (sym a, sym b, sym c)
-same_sym one other (inr same) = absurd same
 
 -- A request that reads or refreshes.
 abbrev pub is_still : Request → Bool
@@ -201,6 +198,7 @@ pub record IsLanded (flight : Option InFlight) (again : Bool) (k : Known) (x : O
   pub split : IsSplit k
   pub paced : IsPaced [] k.heard_now
   pub unmet : (r : Request) → MetEighth k r → ⊥
+  pub past : ArePastOrBeside k
   pub told : again ≡ false → MayTellWritten k s
   pub heard : again ≡ false → IsHeardOf false k s t
   pub next : again ≡ true → WroteNothingNew k s t
@@ -281,6 +279,12 @@ module _ (session clock count : ℕ) (splits : List (List ℕ)) (k : Known) (x :
         omega arith;
   }
 
+  pub done2 : AreAskedOrDone k2 (map (λ m. m.request) ms2)
+  done2 =
+      subst (AreAskedOrDone k2) (sym requests2)
+      (asked-kept k k2 [] (h ∷ []) more (map (λ m. m.request) ms) (All-nil (IsAskedOrBeside (map (λ (m : Message). m.request) ms)))
+      (λ r none. All-cons (λ h. IsConflictOf r h → ⊥) h [] (λ c. of_request (λ q. IsSameRequest q r → ⊥) none (same_sym r h.request c.same)) (All-nil (λ h. IsConflictOf r h → ⊥))) w.done)
+
   pub split2 : IsSplit k2
   split2 = record {
     sent_first = w.split.sent_first;
@@ -304,6 +308,7 @@ module _ (session clock count : ℕ) (splits : List (List ℕ)) (k : Known) (x :
     wave = wave2;
     paced = paced2;
     fewer = fewer2;
+    done = done2;
     serves = serves;
   }
 
@@ -448,6 +453,9 @@ module _ (session clock count : ℕ) (splits : List (List ℕ)) (k : Known) (x :
     few_m : found.0.conflicts < MOST_CONFLICTS
     few_m = far.1
 
+    came_back : is_conflict reply ≡ false → IsSentOnceMore (back_with number reply r.m)
+    came_back plain = subst (λ b. IsSentOnceMore (back_with_by b number reply r.m)) (sym plain) refl
+
     unmet1 : (q : Request) → MetEighth k q → ⊥
     unmet1 =
         none_eighth k ms w.fewer w.wave.stand
@@ -500,6 +508,7 @@ module _ (session clock count : ℕ) (splits : List (List ℕ)) (k : Known) (x :
             split = split2;
             paced = record { pushes = λ id. let a = paced2.pushes id in omega arith; resolves = paced2.resolves };
             unmet = unmet2 (ap is_conflict (is.told ∙ written));
+            past = all_past k2 ms2 wave2 done2 (subst (λ ms. All IsSentOnceMore ms) (sym ms2_is) (All-cons IsSentOnceMore (back_with number reply r.m) [] (came_back (ap is_conflict written)) (All-nil IsSentOnceMore)));
             told = λ own. record { t = t2; opened = open_is k2 t2 opened2; sent = (out.0, out.1, out.2, out.3, first own) };
             heard = λ own.
                 any_last (λ h. IsToOwnPut k2 w.s t2 h × IsTrue (is_written h.reply)) k.heard_now h

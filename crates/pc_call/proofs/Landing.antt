@@ -4,6 +4,7 @@ use Rattle.std.proofs.Common.{◌≡◌, ℕ, ◌+◌, ◌≤◌, Bool, true, fa
 use Rattle.std.proofs.lemmas.Bool.{and_from, eq-eqb}
 use Rattle.std.proofs.lemmas.List.Elements.{All-cons, All-nil, All-weaker}
 use Rattle.pc_base.specs.Transaction.{same_txn}
+use Rattle.pc_call.proofs.Beside.{asked_anew}
 use Rattle.pc_call.proofs.Eighths.{no_eighth}
 use Rattle.pc_call.proofs.Facts.{open_is}
 use Rattle.pc_call.proofs.Hearing.{IsLanded}
@@ -79,6 +80,7 @@ module _ (splits : List (List ℕ)) (session : ℕ) (flight : Option InFlight) (
       may = may_tell splits session k l.s answers.Written l.opened l.open_in.is_open within (l.told own);
       written = heard_own own;
       aborts = tt;
+      rolled_back = tt;
       restarts = tt;
       eighth = no_eighth k l.s answers.Written l.opened other l.unmet;
     };
@@ -118,7 +120,7 @@ module _ (splits : List (List ℕ)) (session : ℕ) (flight : Option InFlight) (
   }
 
   stands_put : MessageStands k (message_to_send put)
-  stands_put = record { as_far = (goes, lit< tt); counted = record { heard = tt; no_more = λ one. at_least-before (IsConflictOf put) 1 [] k.heard_now unheard one }; no_round = refl }
+  stands_put = record { as_far = (goes, lit< tt); counted = record { heard = tt; no_more = λ one. at_least-before (IsConflictOf put) 1 [] k.heard_now unheard one }; sent = tt; no_round = refl }
 
   -- or goes on with its own write
   pub landed_next : again ≡ true → InCall splits k x (purposes.Write false) (message_to_send put ∷ [])
@@ -133,6 +135,8 @@ module _ (splits : List (List ℕ)) (session : ℕ) (flight : Option InFlight) (
     wave = record { stand = All-cons (MessageStands k) (message_to_send put) [] stands_put (All-nil (MessageStands k)); differ = (All-nil (AreOfTwo (message_to_send put)), tt) };
     paced = l.paced;
     fewer = λ r none eight. l.unmet r eight;
+    done =
+        asked_anew k (put ∷ []) l.past (All-cons (λ r. All (λ m. IsSameRequest r m.request → ⊥) k.sent_now) put [] unsent (All-nil (λ r. All (λ m. IsSameRequest r m.request → ⊥) k.sent_now)));
     serves = record {
       key = l.key;
       value = l.value;

@@ -1,5 +1,6 @@
 pub mod Again
 pub mod Beginning
+pub mod Beside
 pub mod Blocking
 pub mod Closing
 pub mod Committing
@@ -12,6 +13,7 @@ pub mod Holders
 pub mod Landing
 pub mod Lists
 pub mod Meeting
+pub mod PiecesRise
 pub mod Reading
 pub mod Ready
 pub mod Refused
@@ -19,6 +21,7 @@ pub mod Restarting
 pub mod RolledBack
 pub mod Rounding
 pub mod Sending
+pub mod SentPast
 pub mod Steps
 pub mod Told
 pub mod Turning

@@ -292,6 +292,7 @@ module _ (session clock count : ℕ) (splits : List (List ℕ)) (k : Known) (x :
       may = may_tell splits session k w.s (answers.Value value) w.opened w.open_in.is_open within row;
       written = tt;
       aborts = tt;
+      rolled_back = tt;
       restarts = tt;
       eighth = no_eighth k w.s (answers.Value value) w.opened other none_met;
     };
@@ -306,6 +307,7 @@ module _ (session clock count : ℕ) (splits : List (List ℕ)) (k : Known) (x :
       may = may_tell splits session k w.s (answers.Rows rows) w.opened w.open_in.is_open within row;
       written = tt;
       aborts = tt;
+      rolled_back = tt;
       restarts = tt;
       eighth = no_eighth k w.s (answers.Rows rows) w.opened other none_met;
     };

@@ -189,7 +189,7 @@ module _ (session clock count : ℕ) (splits : List (List ℕ)) (k : Known) (t :
             may;
         stamps = All-cons (λ ts. ts ≤ k.top + 1) x.reads.ts (x.write_ts ∷ []) low_read (one_low x.write_ts low_write);
         kind = for_call calls.Commit (refresh_to x.id x.reads.ts x.write_ts span) r.commits.call (inr refl);
-        before = tt;
+        before = unmoved k n r.commits.moves (omega (arith, r.commits.few));
         own = tt;
       }
 

@@ -1,5 +1,5 @@
 -- The reply to the commit of an open call shows that its record is pending: the commit goes on, or is given up.
-use Rattle.std.proofs.Common.{◌≡◌, ℕ, ◌+◌, ◌<◌, ◌≤◌, max, nat_lt, Bool, true, false, cond, ◌&&◌, ◌⊎◌, inl, inr, List, [], ◌∷◌, map, Option, None, Some, refl, sym, ap, ◌∙◌, subst, arith, All, IsTrue}
+use Rattle.std.proofs.Common.{◌≡◌, ℕ, ◌+◌, ◌<◌, ◌≤◌, max, nat_lt, Bool, true, false, cond, ◌&&◌, ◌⊎◌, inl, inr, List, [], ◌∷◌, map, Option, None, Some, refl, sym, ap, ◌∙◌, subst, arith, All, Contains, IsTrue}
 use Rattle.std.proofs.lemmas.Bool.{ltb-false, ltb-true}
 use Rattle.std.proofs.lemmas.List.Elements.{All-push, All-weaker}
 use Rattle.pc_base.specs.declared.limits.TheConstants.{MOST_REFUSALS}
@@ -38,11 +38,9 @@ use Rattle.pc_wave.proofs.Lists.{at_least-fewer}
 use Rattle.pc_wave.specs.declared.message.Message.{Message}
 use Rattle.pc_wave.specs.declared.message.Progress.TheVariants as progresses
 use Rattle.pc_wave.specs.Messages.{progress_to_send, wave_awaits}
-use Rattle.pc_wave.specs.Standing.{IsHeardTo}
-use Rattle.pc_world.specs.Answering.{MayAnswer}
+use Rattle.pc_wave.specs.Standing.{IsHeardTo, IsPastWhereUndecided}
 use Rattle.pc_world.specs.Counting.{LastIs}
 use Rattle.pc_follows.specs.Eighth.{WasMovedEighth}
-use Rattle.pc_follows.specs.Resends.{ShowsLaterEpoch}
 use Rattle.pc_world.specs.Known.{Known}
 use Rattle.pc_world.specs.Known.Traffic.{Heard, Sent}
 use Rattle.pc_world.specs.Known.Transactions.{Txn, txn_heard}
@@ -55,11 +53,7 @@ below-more low high (requests.Commit meta ts locks) up below = omega arith
 below-more low high r up below = tt
 
 refused-more : (low high : ℕ) (m : Sent) → low ≤ high → (h : Heard) → IsRefusedBy low m h → IsRefusedBy high m h
-refused-more low high m up h r = record { numbered = r.numbered; asked = r.asked; undecided = r.undecided; past = by r.past }
-  where
-    by : IsCommitBelow low m.request ⊎ ShowsLaterEpoch h.request h.reply → IsCommitBelow high m.request ⊎ ShowsLaterEpoch h.request h.reply
-    by (inl below) = inl (below-more low high m.request up below)
-    by (inr later) = inr later
+refused-more low high m up h r = record { numbered = r.numbered; asked = r.asked; undecided = r.undecided; past = below-more low high m.request up r.past }
 
 module _ (session clock count : ℕ) (splits : List (List ℕ)) (k : Known) (x : OpenTxn) (p : Purpose) (ms : List Message) (counted : IsCounted session clock count k) (w : InCall splits k x p ms)
     (number epoch recorded : ℕ) (h : Heard) (waited : wave_awaits number ms ≡ true) (is : IsHeardTo k number (replies.Status (views.Pending epoch recorded)) h) (n : ℕ) (e : p ≡ purposes.Commit n) where
@@ -95,8 +89,10 @@ module _ (session clock count : ℕ) (splits : List (List ℕ)) (k : Known) (x :
   writes_at : t2.write_ts ≡ max w.t.write_ts recorded
   writes_at = sym (ap (λ x. x.write_ts) stands2.same) ∙ ap (λ (x : OpenTxn). max x.write_ts recorded) w.stands.same
 
-  past : (w.t.epoch < epoch) ⊎ (w.t.write_ts < recorded)
-  past = (subst (λ r. MayAnswer r (replies.Status view)) said is.kind).1
+  past : w.t.write_ts < recorded
+  past =
+      let mine : Contains k.txns w.t = subst (λ ts. Contains ts w.t) (sym w.open_in.first) (0, omega arith, refl) in
+      (subst (λ r. IsPastWhereUndecided w.t r (replies.Status view)) said (is.past w.t mine)) refl (omega arith) refl
 
   was_now : was_sent_now k h ≡ true
   was_now = sent_in k number _ h (far session clock count splits k x p ms counted w number (replies.Status view) h waited is).0.out is.numbered
@@ -128,12 +124,8 @@ module _ (session clock count : ℕ) (splits : List (List ℕ)) (k : Known) (x :
         numbered = is.numbered ∙ sym numbered;
         asked = said ∙ sym asked;
         undecided = ap is_undecided_status is.told;
-        past = by past;
+        past = let high : w.t.write_ts < t2.write_ts = omega (arith, writes_at, past) in subst (IsCommitBelow t2.write_ts) (sym asked) high;
       })
-    where
-      by : (w.t.epoch < epoch) ⊎ (w.t.write_ts < recorded) → IsCommitBelow t2.write_ts m.request ⊎ ShowsLaterEpoch h.request h.reply
-      by (inl later) = inr (subst (λ r. ShowsLaterEpoch r h.reply) (sym said) (subst (λ y. ShowsLaterEpoch (commit_request (commit_now w.t c.commits.anchor)) y) (sym is.told) later))
-      by (inr above) = let high : w.t.write_ts < t2.write_ts = omega (arith, writes_at, above) in inl (subst (IsCommitBelow t2.write_ts) (sym asked) high)
 
   refused_both : (m : Sent) → IsOutHere ms (commit_request (commit_now w.t c.commits.anchor)) m ⊎ WasRefusedIfCommit w.t.write_ts k.heard_now m → WasRefusedIfCommit t2.write_ts k2.heard_now m
   refused_both m (inl o) = refused_now m (out_is m o) o.asked
@@ -204,6 +196,7 @@ module _ (session clock count : ℕ) (splits : List (List ℕ)) (k : Known) (x :
       });
       written = tt;
       aborts = tt;
+      rolled_back = tt;
       restarts = tt;
       eighth = told_moved k2 w.s (answers.Moved recorded) w.opened c.commits.call (recorded, refl);
     };

@@ -298,6 +298,7 @@ module _ (session clock count : ℕ) (splits : List (List ℕ)) (k : Known) (x :
         });
         written = tt;
         aborts = tt;
+        rolled_back = tt;
         restarts = record { span = span; met = met_now; first = All-weaker (MetNoOtherWrite ms) (λ h. IsNoneBefore span h.request h.reply) first_met k.heard_now r.held };
         eighth = no_eighth_move k w.s (answers.Restart key ts) w.opened r.commits.call (unmoved k n r.commits.moves (omega (arith, r.commits.few)));
       };

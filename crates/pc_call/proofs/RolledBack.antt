@@ -133,6 +133,7 @@ module _ (session clock count : ℕ) (splits : List (List ℕ)) (k : Known) (x :
             });
             written = tt;
             aborts = aborts_first;
+            rolled_back = tt;
             restarts = tt;
             eighth = no_eighth k2 w.s answer w.opened (λ commit. let f : calls.Rollback ≡ calls.Commit = sym a.call ∙ commit in cc) unmet;
           };

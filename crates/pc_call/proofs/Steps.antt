@@ -1,5 +1,5 @@
 -- A message of an open call goes out.
-use Rattle.std.proofs.Common.{◌≡◌, ℕ, ◌+◌, ◌-◌, ◌≤◌, Bool, true, false, cond, not, ◌||◌, ◌⊎◌, inl, inr, List, [], ◌∷◌, ◌++◌, length, map, find, take, Option, Some, None, refl, sym, ap, ◌∙◌, subst, arith, All, IsTrue, unwrap_or, append_assoc, length-append}
+use Rattle.std.proofs.Common.{◌≡◌, ℕ, ◌+◌, ◌-◌, ◌≤◌, Bool, true, false, cond, not, ◌||◌, ◌⊎◌, inl, inr, List, [], ◌∷◌, ◌++◌, length, map, find, take, Option, Some, None, refl, sym, ap, ◌∙◌, subst, arith, All, Any, IsTrue, unwrap_or, append_assoc, length-append}
 use Rattle.std.proofs.Math.Seq.{take-append_seam}
 use Rattle.std.specs.List.{list_all, list_any}
 use Rattle.std.proofs.lemmas.List.{append-nil}
@@ -11,6 +11,8 @@ use Rattle.pc_call.proofs.Holders.{holders_sent}
 use Rattle.pc_call.proofs.Lists.{all_behind, all_front, all_unmapped, kept_by, only_found}
 use Rattle.pc_call.proofs.Meeting.{any_changed, gone_now, gone_out_on, low-more, met-more}
 use Rattle.pc_call.proofs.Turning.{turn_sent}
+use Rattle.pc_call.proofs.Beside.{IsAskedOrBeside, asked-kept, found_asked}
+use Rattle.pc_call.specs.Beside.{AreAskedOrDone}
 use Rattle.pc_call.specs.declared.purpose.Purpose.{Purpose}
 use Rattle.pc_call.specs.declared.purpose.Purpose.TheVariants as purposes
 use Rattle.pc_call.specs.Learned.{known_sent}
@@ -51,6 +53,7 @@ use Rattle.pc_world.specs.Known.Traffic.{Heard, Sent}
 use Rattle.pc_world.specs.Known.Transactions.{Txn, txn_sent}
 use Rattle.pc_world.specs.Known.Writes.{last_seq_of}
 use Rattle.pc_world.specs.RangeOf.{pieces}
+use Rattle.pc_world.specs.Tell.Refusal.{IsConflictOf}
 use Rattle.pc_world.specs.SameRequest.{IsSameRequest}
 use Rattle.pc_world.specs.Tell.Data.{IsFirstPut, IsPutFor, sent_before}
 
@@ -130,6 +133,13 @@ module _ (session clock count : ℕ) (splits : List (List ℕ)) (k : Known) (x :
       let P : Request → Type 0 = λ q. IsSameRequest q r → ⊥ in
       w.fewer r (all_unmapped P (λ (m : Message). m.request) ms (subst (λ rs. All P rs) requests2 (All-map P (λ (m : Message). m.request) ms2 none)))
 
+  done2 : AreAskedOrDone k2 (map (λ m. m.request) ms2)
+  done2 =
+      let asked : List Request = map (λ m. m.request) ms in
+      let here : Any (λ r. IsSameRequest r request) asked = subst (λ q. Any (λ r. IsSameRequest r q) asked) first_one.2 (found_asked is_to_send ms first_one.0 first_one.1) in
+      subst (AreAskedOrDone k2) (sym requests2)
+      (asked-kept k k2 (m2 ∷ []) [] more asked (All-cons (IsAskedOrBeside asked) m2 [] (inr here) (All-nil (IsAskedOrBeside asked))) (λ r none. All-nil (λ h. IsConflictOf r h → ⊥)) w.done)
+
   open2 : IsOpenIn k2 t2
   open2 = record { others = map (txn_sent request) w.open_in.others; is_open = w.open_in.is_open; first = ap (map (txn_sent request)) w.open_in.first }
 
@@ -157,6 +167,7 @@ module _ (session clock count : ℕ) (splits : List (List ℕ)) (k : Known) (x :
     wave = wave2;
     paced = paced2;
     fewer = fewer2;
+    done = done2;
     serves = serves;
   }
 

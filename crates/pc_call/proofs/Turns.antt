@@ -123,7 +123,7 @@ module _ (splits : List (List ℕ)) (k : Known) (x : OpenTxn) (p : Purpose) (ms 
           λ t opened.
               let same : w.t ≡ t = same_Some w.t t (sym (open_is k w.t w.open_in) ∙ opened) in
               subst (λ (t : Txn). Any (λ r. r.span ≡ at.0) t.reads) same (All-contains (λ span. Any (λ r. r.span ≡ span) w.t.reads) x.reads.spans at.0 w.stands.reads.of_reads at.1),
-          inr (All-weaker (λ m. IsRefreshGoneOut w.t.write_ts ms m.request) (λ m. IsRefreshBefore x.write_ts at.0 m.request) (λ s out. before at.0 at.2 s.request out) k.sent_now r.sent),
+          All-weaker (λ m. IsRefreshGoneOut w.t.write_ts ms m.request) (λ m. IsRefreshBefore x.write_ts at.0 m.request) (λ s out. before at.0 at.2 s.request out) k.sent_now r.sent,
         )
       where
         before : (span : Span) → m.request ≡ refresh_to x.id x.reads.ts x.write_ts span → (q : Request) → IsRefreshGoneOut w.t.write_ts ms q → IsRefreshBefore x.write_ts span q

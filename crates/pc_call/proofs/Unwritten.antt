@@ -58,6 +58,7 @@ module _ (splits : List (List ℕ)) (session : ℕ) (k : Known) (x : OpenTxn) (s
           });
           written = tt;
           aborts = tt;
+          rolled_back = tt;
           restarts = tt;
           eighth = no_eighth_move k s answer f.opened call (λ eight. subst (λ hs. AtLeast (WasMoved k) MOST_REFUSALS hs) f.none_heard eight);
         };
@@ -85,6 +86,7 @@ module _ (splits : List (List ℕ)) (session : ℕ) (k : Known) (x : OpenTxn) (s
               let same : f.t ≡ t = same_Some f.t t (sym opened ∙ is) in
               let e : Some anchor ≡ None = sym some ∙ sym (ap (λ t. t.anchor) same) ∙ unwritten in
               absurd cc;
+          rolled_back = tt;
           restarts = tt;
           eighth = no_eighth k s answer f.opened (λ commit. let e : calls.Rollback ≡ calls.Commit = sym call ∙ commit in cc) (λ r eight. subst (λ hs. AtLeast (IsConflictOf r) MOST_CONFLICTS hs) f.none_heard eight);
         };

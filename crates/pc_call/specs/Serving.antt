@@ -4,6 +4,7 @@ use Rattle.std.specs.List.{flat_map, list_any}
 use Rattle.std.specs.Option.{option_to_list}
 use Rattle.pc_base.specs.declared.limits.TheConstants.{MOST_CONFLICTS, MOST_REFUSALS}
 use Rattle.pc_base.specs.declared.transaction.TxnId.{TxnId}
+use Rattle.pc_call.specs.Beside.{AreAskedOrDone}
 use Rattle.pc_call.specs.declared.purpose.Purpose.{Purpose}
 use Rattle.pc_call.specs.declared.purpose.Purpose.TheVariants as purposes
 use Rattle.pc_call.specs.Paced.{IsPaced}
@@ -28,7 +29,6 @@ use Rattle.pc_wave.specs.declared.message.Progress.TheVariants as progresses
 use Rattle.pc_wave.specs.Messages.{is_to_send, wave_awaits}
 use Rattle.pc_wave.specs.Standing.{Pairwise, WaveStands}
 use Rattle.pc_world.specs.Counting.{AtLeast}
-use Rattle.pc_follows.specs.Resends.{ShowsLaterEpoch}
 use Rattle.pc_world.specs.Known.{Known}
 use Rattle.pc_world.specs.Known.Reads.{IsGoodAt, read_heard}
 use Rattle.pc_world.specs.Known.Statements.{Statement}
@@ -98,12 +98,12 @@ abbrev pub IsCommitBelow : ℕ → Request → Type 0
 IsCommitBelow bound (requests.Commit meta ts locks) = ts < bound
 IsCommitBelow bound _ = ⊤
 
--- The message was told that the record is not final, and past it: below this timestamp, or in a later epoch.
+-- The message was told that the record is not final, and past it: it commits below this timestamp.
 pub record IsRefusedBy (bound : ℕ) (m : Sent) (h : Heard) : Type 0 where
   pub numbered : h.number ≡ m.number
   pub asked : h.request ≡ m.request
   pub undecided : IsTrue (is_undecided_status h.reply)
-  pub past : IsCommitBelow bound m.request ⊎ ShowsLaterEpoch h.request h.reply
+  pub past : IsCommitBelow bound m.request
 
 -- If the message commits, it was refused in the open call.
 abbrev pub WasRefusedIfCommit : ℕ → List Heard → Sent → Type 0
@@ -241,7 +241,8 @@ pub record IsOpenIn (k : Known) (t : Txn) : Type 0 where
   pub first : k.txns ≡ t ∷ others
 
 -- The messages of an open call stand beside what its session knows: the open transaction stands; each message is as far as it is; the rounds
--- keep pace; no other request went past its eighth conflict; and the messages are those that serve their purpose.
+-- keep pace; no other request went past its eighth conflict, and each was sent once more than it met intents; and the messages are those that
+-- serve their purpose.
 pub record InCall (splits : List (List ℕ)) (k : Known) (x : OpenTxn) (purpose : Purpose) (messages : List Message) : Type 0 where
   pub t : Txn
   pub open_in : IsOpenIn k t
@@ -253,4 +254,5 @@ pub record InCall (splits : List (List ℕ)) (k : Known) (x : OpenTxn) (purpose 
   pub wave : WaveStands k messages
   pub paced : IsPaced (holders_met messages) k.heard_now
   pub fewer : NoOtherMetEighth k.heard_now messages
+  pub done : AreAskedOrDone k (map (λ m. m.request) messages)
   pub serves : Serves splits k s t x purpose messages

@@ -11,7 +11,8 @@ use Rattle.pc_proto.specs.Stamps.{why_stamps}
 use Rattle.pc_txn.specs.declared.txn.OpenTxn.{OpenTxn}
 use Rattle.pc_txn.specs.Standing.{TxnStands}
 use Rattle.pc_follows.specs.Eighth.{TellsTheEighth}
-use Rattle.pc_follows.specs.FinishingJobs.{AbortsFirst, left_by}
+use Rattle.pc_follows.specs.FinishingJobs.{left_by}
+use Rattle.pc_follows.specs.Rollbacks.{AbortsFirst, TellsRollbacks}
 use Rattle.pc_follows.specs.PipelinedPuts.{TellsWritten}
 use Rattle.pc_follows.specs.Refreshes.{RefreshesReads}
 use Rattle.pc_world.specs.Known.{Known}
@@ -26,11 +27,12 @@ TellsAfterEighth k s (answers.Unavailable faults) = ⊤
 TellsAfterEighth k s answer = TellsTheEighth k s answer
 
 -- The open call may be told this: its row allows it; a call that is told written heard so of its own put, a rollback of a transaction that wrote
--- heard its abort, a restart is for the first refresh that did not hold, and after an eighth the call is told of it.
+-- heard its abort, and no rollback is told aborted, a restart is for the first refresh that did not hold, and after an eighth the call is told of it.
 pub record MayBeTold (splits : List (List ℕ)) (session : ℕ) (k : Known) (answer : Answer) : Type 0 where
   pub may : MayTell splits (actors.Session session) k answer
   pub written : TellsWritten false k (events.Tell answer)
   pub aborts : AbortsFirst k (events.Tell answer)
+  pub rolled_back : TellsRollbacks k (events.Tell answer)
   pub restarts : RefreshesReads k (events.Tell answer)
   pub eighth : (s : Statement) → k.statement ≡ Some s → TellsAfterEighth k s answer
 

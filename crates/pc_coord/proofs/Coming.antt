@@ -1,5 +1,5 @@
 -- What comes of the messages of an open call.
-use Rattle.std.proofs.Common.{◌≡◌, ℕ, nat_le, Bool, true, false, cond, ◌||◌, ◌&&◌, inl, inr, List, [], ◌∷◌, find, Option, Some, None, refl, sym, ap, ◌∙◌, subst, All, OnOk, Ok, Err, Result}
+use Rattle.std.proofs.Common.{◌≡◌, ℕ, Bool, true, false, cond, ◌||◌, ◌&&◌, inl, inr, List, [], ◌∷◌, find, Option, Some, None, refl, sym, ap, ◌∙◌, subst, OnOk, Ok, Err, Result}
 use Rattle.std.specs.List.{list_all, list_any}
 use Rattle.std.proofs.lemmas.List.Elements.{All-cons, All-nil}
 use Rattle.pc_base.specs.declared.transaction.TxnId.{TxnId}
@@ -36,7 +36,7 @@ use Rattle.pc_wave.specs.declared.message.Progress.{Progress}
 use Rattle.pc_wave.specs.declared.message.Progress.TheVariants as progresses
 use Rattle.pc_wave.specs.declared.step.Step.TheVariants as steps
 use Rattle.pc_wave.specs.Messages.{awaits_at, back_with, back_with_by, first_changed, first_in_conflict, has_answer, is_in_conflict, is_to_send, message_to_send, progress_has_answer, progress_in_conflict, progress_to_send, step_by, step_of, wave_awaits}
-use Rattle.pc_world.specs.Answering.{IsAbortReply, IsCommitReply}
+use Rattle.pc_world.specs.Answering.{IsCommitReply}
 use Rattle.pc_world.specs.Known.{Known}
 use Rattle.pc_world.specs.Known.Traffic.{Heard}
 

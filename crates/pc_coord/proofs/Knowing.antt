@@ -64,7 +64,7 @@ none_begun splits actor k answer m none = (refl, refl)
 
 -- what may be told may be due
 pub tellable : {c : Coordination} {k : Known} {answer : Answer} → MayBeTold c.splits c.session k answer → messages_left c.job ≡ left_by answer k → ((s : Statement) → k.statement ≡ Some s → SuitsNext answer s.call c.txn) → IsTellable c k answer
-tellable m left suits = record { may = m.may; written = m.written; aborts = m.aborts; restarts = m.restarts; eighth = m.eighth; left = left; suits = suits }
+tellable m left suits = record { may = m.may; written = m.written; aborts = m.aborts; rolled_back = m.rolled_back; restarts = m.restarts; eighth = m.eighth; left = left; suits = suits }
 
 pub no_job : (job : Option Job) (k : Known) → job ≡ None → IfSome job (MayFinishJob k)
 no_job job k none = subst (λ j. IfSome j (MayFinishJob k)) (sym none) tt

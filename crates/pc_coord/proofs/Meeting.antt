@@ -1,12 +1,11 @@
 -- A learn that met its commit may be told so.
-use Rattle.std.proofs.Common.{◌≡◌, ℕ, ◌+◌, max, Bool, true, false, ◌&&◌, ◌||◌, not, nat_lt, List, [], ◌∷◌, ◌++◌, length, length-append, map, Option, Some, None, IfSome, refl, sym, ap, ◌∙◌, subst, arith}
+use Rattle.std.proofs.Common.{◌≡◌, ℕ, max, Bool, true, false, ◌&&◌, ◌||◌, not, nat_lt, List, [], ◌∷◌, ◌++◌, map, Option, Some, None, refl, sym, ap, ◌∙◌, subst, arith}
 use Rattle.std.specs.Bool.{MatchBool}
 use Rattle.std.specs.List.{list_any}
 use Rattle.std.proofs.lemmas.List.{append-nil}
 use Rattle.std.proofs.lemmas.List.Folds.{list_any-append}
 use Rattle.std.proofs.lemmas.Option.{same_Some}
 use Rattle.pc_base.specs.declared.actor.ActorId.TheVariants as actors
-use Rattle.pc_base.specs.declared.entry.Entry.{Entry}
 use Rattle.pc_base.specs.declared.limits.TheConstants.{GREATEST_READING}
 use Rattle.pc_base.specs.declared.transaction.TxnId.{TxnId}
 use Rattle.pc_base.specs.Transaction.{same_txn}
@@ -108,6 +107,7 @@ module _ (c : Coordination) (k : Known) (p : Pair Event) (id : TxnId) (step ts :
                 may = record { s = m.s; opened = m.opened; told = row m.s (asked m.s m.opened) };
                 written = tt;
                 aborts = tt;
+                rolled_back = tt;
                 restarts = tt;
                 eighth = λ s opened. none_heard k2 answers.Learnt is.quiet s opened;
               }) now.may.left (λ s opened. subst (λ txn. SuitsNext answers.Learnt s.call txn) (sym closed) tt);

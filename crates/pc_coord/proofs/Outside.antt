@@ -37,7 +37,8 @@ use Rattle.pc_txn.specs.Opened.{opened_as}
 use Rattle.pc_txn.specs.Standing.{IsOutOrRefused, IsPendingOf, PutsUpTo, TxnStands}
 use Rattle.pc_world.specs.Counting.{AtLeast}
 use Rattle.pc_follows.specs.Eighth.{TellsTheEighth}
-use Rattle.pc_follows.specs.FinishingJobs.{AbortsFirst, left_by}
+use Rattle.pc_follows.specs.FinishingJobs.{left_by}
+use Rattle.pc_follows.specs.Rollbacks.{AbortsFirst, TellsRollbacks}
 use Rattle.pc_follows.specs.PipelinedPuts.{TellsWritten}
 use Rattle.pc_follows.specs.Refreshes.{RefreshesReads}
 use Rattle.pc_world.specs.Known.{Known}
@@ -73,21 +74,22 @@ none_heard k answer none s opened = record {
 record IsSimple (answer : Answer) : Type 0 where
   written : (k : Known) → TellsWritten false k (events.Tell answer)
   aborts : (k : Known) → AbortsFirst k (events.Tell answer)
+  rolled_back : (k : Known) → TellsRollbacks k (events.Tell answer)
   restarts : (k : Known) → RefreshesReads k (events.Tell answer)
   left : (k : Known) → left_by answer k ≡ []
   eighth : (k : Known) → k.heard_now ≡ [] → (s : Statement) → k.statement ≡ Some s → TellsAfterEighth k s answer
 
 simple_none : IsSimple answers.NoTxn
-simple_none = record { written = λ k. tt; aborts = λ k. tt; restarts = λ k. tt; left = λ k. refl; eighth = λ k none s opened. none_heard k answers.NoTxn none s opened }
+simple_none = record { written = λ k. tt; aborts = λ k. tt; rolled_back = λ k. tt; restarts = λ k. tt; left = λ k. refl; eighth = λ k none s opened. none_heard k answers.NoTxn none s opened }
 
 simple_not_yet : IsSimple answers.NotYet
-simple_not_yet = record { written = λ k. tt; aborts = λ k. tt; restarts = λ k. tt; left = λ k. refl; eighth = λ k none s opened. none_heard k answers.NotYet none s opened }
+simple_not_yet = record { written = λ k. tt; aborts = λ k. tt; rolled_back = λ k. tt; restarts = λ k. tt; left = λ k. refl; eighth = λ k none s opened. none_heard k answers.NotYet none s opened }
 
 simple_clock : (reading : ℕ) → IsSimple (answers.Clock reading)
-simple_clock reading = record { written = λ k. tt; aborts = λ k. tt; restarts = λ k. tt; left = λ k. refl; eighth = λ k none s opened. none_heard k (answers.Clock reading) none s opened }
+simple_clock reading = record { written = λ k. tt; aborts = λ k. tt; rolled_back = λ k. tt; restarts = λ k. tt; left = λ k. refl; eighth = λ k none s opened. none_heard k (answers.Clock reading) none s opened }
 
 simple_begun : (id : TxnId) (ts : ℕ) → IsSimple (answers.Begun id ts)
-simple_begun id ts = record { written = λ k. tt; aborts = λ k. tt; restarts = λ k. tt; left = λ k. refl; eighth = λ k none s opened. none_heard k (answers.Begun id ts) none s opened }
+simple_begun id ts = record { written = λ k. tt; aborts = λ k. tt; rolled_back = λ k. tt; restarts = λ k. tt; left = λ k. refl; eighth = λ k none s opened. none_heard k (answers.Begun id ts) none s opened }
 
 new_commit : (id : TxnId) (P : SentCommit → Type 0) (begun : ℕ) (request : Request) → begun < id.number → IsOwnWrite begun request → OnCommit id P request
 new_commit id P begun (requests.Commit meta ts locks) new own = λ same. let e : meta.id.number ≡ id.number = ap (λ i. i.number) (same_txn-is meta.id id same) in absurd (omega arith)
@@ -117,6 +119,7 @@ module _ (c : Coordination) (k : Known) (r : StandsReady c k) (closed : k.is_ope
                 may = record { s = record { call = call; reading = reading }; opened = refl; told = told };
                 written = simple.written k2;
                 aborts = simple.aborts k2;
+                rolled_back = simple.rolled_back k2;
                 restarts = simple.restarts k2;
                 eighth = simple.eighth k2 refl;
               }) (ap messages_left r.handed ∙ sym (simple.left k2)) (λ s is. subst (λ txn. SuitsNext answer s.call txn) (sym unheld) tt);
@@ -227,6 +230,7 @@ module _ (c : Coordination) (k : Known) (r : StandsReady c k) (closed : k.is_ope
               };
               written = tt;
               aborts = tt;
+              rolled_back = tt;
               restarts = tt;
               eighth = none_heard k2 answer refl;
             }) (ap messages_left r.handed) (λ s is. refl);

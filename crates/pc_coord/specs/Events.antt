@@ -1,5 +1,5 @@
 -- The session's next event, as its coordinator is told of it.
-use Rattle.std.specs.Prelude.{◌≡◌, ℕ, true, false, None, Some}
+use Rattle.std.specs.Prelude.{◌≡◌, ℕ, true, false, None, Some, Contains}
 use Rattle.pc_base.specs.declared.actor.ActorId.{ActorId}
 use Rattle.pc_base.specs.declared.entry.Entry.{Entry}
 use Rattle.pc_coord.specs.Coordination.{Coordination, awaits_number, next_of}
@@ -12,9 +12,11 @@ use Rattle.pc_proto.specs.declared.event.Event.{Event}
 use Rattle.pc_proto.specs.declared.event.Event.TheVariants as events
 use Rattle.pc_proto.specs.declared.reply.Reply.{Reply}
 use Rattle.pc_proto.specs.declared.request.Request.{Request}
+use Rattle.pc_wave.specs.Standing.{IsPastWhereUndecided}
 use Rattle.pc_world.specs.Answering.{MayAnswer}
 use Rattle.pc_world.specs.Known.{Known, next_number}
 use Rattle.pc_world.specs.Known.Traffic.{request_sent}
+use Rattle.pc_world.specs.Known.Transactions.{Txn}
 use Rattle.pc_world.specs.Local.{is_outside, is_round}
 
 -- The entry is this event, and names none.
@@ -39,7 +41,7 @@ pub record SendsDue (c : Coordination) (number range : ℕ) (request : Request) 
   pub next : number ≡ next_number k
 
 -- The reply that was waited for was heard: the entry names an evaluation that answered so, as the message may be answered where
--- nothing is staged.
+-- nothing is staged, and by no record in a later epoch than the session has reached.
 pub record HearsAwaited (c : Coordination) (number step : ℕ) (reply : Reply) (k : Known) (p : Pair Event) : Type 0 where
   pub waited : awaits_number number c.due ≡ true
   pub event : p.entry.event ≡ events.Hear number step
@@ -49,6 +51,7 @@ pub record HearsAwaited (c : Coordination) (number step : ℕ) (reply : Reply) (
   pub named : p.named ≡ Some evaluation
   pub told : evaluation.event ≡ events.Eval actor asked reply
   pub kind : (request : Request) → request_sent number k.sent ≡ Some request → MayAnswer request reply
+  pub past : (request : Request) → request_sent number k.sent ≡ Some request → (t : Txn) → Contains k.txns t → IsPastWhereUndecided t request reply
 
 -- The answer that was due was told.
 pub record IsTold (c : Coordination) (answer : Answer) (p : Pair Event) : Type 0 where

@@ -23,7 +23,8 @@ use Rattle.pc_txn.specs.declared.txn.OpenTxn.{OpenTxn}
 use Rattle.pc_wave.specs.declared.step.Step.{Step}
 use Rattle.pc_wave.specs.declared.step.Step.TheVariants as steps
 use Rattle.pc_wave.specs.Messages.{step_of}
-use Rattle.pc_follows.specs.FinishingJobs.{AbortsFirst, finishing_messages, left_by}
+use Rattle.pc_follows.specs.FinishingJobs.{finishing_messages, left_by}
+use Rattle.pc_follows.specs.Rollbacks.{AbortsFirst, TellsRollbacks}
 use Rattle.pc_follows.specs.PipelinedPuts.{TellsWritten}
 use Rattle.pc_follows.specs.Refreshes.{RefreshesReads}
 use Rattle.pc_world.specs.Known.{Known, known_after}
@@ -86,6 +87,7 @@ pub record IsTellable (c : Coordination) (k : Known) (answer : Answer) : Type 0 
   pub may : MayTell c.splits (actors.Session c.session) k answer
   pub written : TellsWritten false k (events.Tell answer)
   pub aborts : AbortsFirst k (events.Tell answer)
+  pub rolled_back : TellsRollbacks k (events.Tell answer)
   pub restarts : RefreshesReads k (events.Tell answer)
   pub eighth : (s : Statement) → k.statement ≡ Some s → TellsAfterEighth k s answer
   pub left : messages_left c.job ≡ left_by answer k

@@ -1,7 +1,7 @@
 -- What an actor's messages are after each step of its desk, from what the parts of the step say.
-use Rattle.std.proofs.Common.{◌≡◌, ℕ, ◌+◌, ◌-◌, ◌<◌, ◌≤◌, ◌^◌, ◌==◌, Bool, false, cond, inl, inr, All, Contains, List, [], ◌∷◌, ◌++◌, length, map, fold, count_by, slice_get, Option, None, Some, OnOk, OnErr, Ok, Err, Result, refl, sym, ap, subst, ◌∙◌, arith, length-append}
+use Rattle.std.proofs.Common.{◌≡◌, ℕ, ◌+◌, ◌-◌, ◌<◌, ◌≤◌, ◌^◌, ◌==◌, Bool, false, cond, inl, inr, All, Contains, List, [], ◌∷◌, ◌++◌, length, map, fold, count_by, slice_get, Option, None, Some, IfOk, OnOk, OnErr, Ok, Err, Result, refl, sym, ap, subst, ◌∙◌, arith, length-append}
 use Rattle.std.proofs.lemmas.List.{append-nil}
-use Rattle.std.proofs.lemmas.List.Elements.{All-contains, All-head, All-tail, All-weaker, Contains-append_left, Contains-push, recursion_from_All}
+use Rattle.std.proofs.lemmas.List.Elements.{All-contains, All-head, All-nil, All-tail, All-weaker, Contains-append_left, Contains-push, recursion_from_All}
 use Rattle.std.specs.BTreeMap.{insert_entry, is_at}
 use Rattle.std.specs.List.{AllByRecursion as Each}
 use Rattle.std.specs.Map.{lookup}
@@ -12,28 +12,33 @@ use Rattle.pc_base.specs.declared.entry.Entry.{Entry}
 use Rattle.pc_desk.proofs.Counting.{insert_all, insert_contains, insert_count, lookup_none, none_beyond}
 use Rattle.pc_desk.proofs.Entering.{log_kept}
 use Rattle.pc_desk.proofs.Going.{kept_below}
-use Rattle.pc_desk.proofs.Making.{added, hear_names_it, known_after_it, may_hear, own_after}
+use Rattle.pc_desk.proofs.Making.{added, hear_brings, hear_names_it, known_after_it, may_hear, own_after}
 use Rattle.pc_desk.proofs.Tracking.{answered_on, gives_same, track_delivered, track_done, track_heard, track_sent, unheard_yet, way_delivered, way_heard, way_sent}
+use Rattle.pc_desk.proofs.Waves.{newest_evaluated, note_behind}
 use Rattle.pc_desk.specs.declared.answered.Answered.{Answered}
-use Rattle.pc_desk.specs.Desk.{DeskMeaning, EndsWithSend, HasDelivered, HasDone, HasHeardFirst, HasKept, HasPosted, HasSentNext, IsAnsweredBy, IsDesk, IsOneSent, IsReadyToGo, KeepsTrack, MayHearNow, Posted, WaitingMessage, answered_as, heard_as_number, posted_as, posting, times_sent, uses_by}
+use Rattle.pc_desk.specs.Desk.{DeskMeaning, EndsWithSend, HasDelivered, HasDone, HasHeardFirst, HasKept, HasPosted, HasSentTo, IsAnsweredBy, IsDesk, IsOneSent, IsReadyToGo, KeepsTrack, MayHearNow, Posted, WaitingMessage, answered_as, as_sent, heard_as_number, posted_as, posting, times_sent, uses_by}
 use Rattle.pc_desk.specs.OwnLog.{HasEntered, IsOwnLog, LogMeaning, MayEnter, Took}
+use Rattle.pc_desk.specs.Waiting.{IsBehindAll, IsNewest, WaitInWave}
+use Rattle.pc_desk.specs.Waves.{KeepsWaves, KeepsWavesNext}
+use Rattle.pc_follows.specs.WaveEvaluation.{IsInWave, IsSending}
+use Rattle.pc_follows.specs.WaveOrder.{IsHearing}
 use Rattle.pc_history.proofs.Callers.{knows-own, noted-at}
 use Rattle.pc_history.specs.declared.pair.Pair.{Pair}
 use Rattle.pc_history.specs.declared.view.Known.{Known as KnownEntry}
-use Rattle.pc_history.specs.Parts.{entry_of, gave, knowledge, named_by, noted, spend, uses_left}
+use Rattle.pc_history.specs.Parts.{entry_of, gave, knowledge, named_by, noted, spend, uses_left, with_uses, without_uses}
 use Rattle.pc_lists.proofs.Counts.{count-cons, one_if}
-use Rattle.pc_lists.proofs.Lists.{contains_head, contains_map, get_push}
+use Rattle.pc_lists.proofs.Lists.{contains_map, contains_nil, get_push}
 use Rattle.pc_proto.specs.declared.event.Event.{Event}
 use Rattle.pc_proto.specs.declared.event.Event.TheVariants as events
 use Rattle.pc_proto.specs.declared.request.Request.{Request}
 use Rattle.pc_proto.specs.Stamps.{request_stamps}
 use Rattle.pc_range.proofs.Evaluating.{gave-nothing}
-use Rattle.pc_range.specs.Message.{IsEvalNote, evaluation}
+use Rattle.pc_range.specs.Message.{ComesAfter, IsEvalNote, evaluation}
 use Rattle.pc_range.specs.Protocol.{unstaged_protocol}
 use Rattle.pc_wire.specs.declared.verdict.Verdict.{Verdict}
 use Rattle.pc_wire.specs.declared.verdict.Verdict.TheVariants as verdicts
 use Rattle.pc_world.specs.Known.{Known, known_of, learn, nothing_known}
-use Rattle.pc_world.specs.Known.Traffic.{Sent, heard_by, request_sent, sent_by}
+use Rattle.pc_world.specs.Known.Traffic.{Heard, Sent, heard_by, request_sent, sent_by}
 use Rattle.pc_world.specs.RangeOf.{GoesTo}
 use Rattle.pc_world.specs.Run.{IsKept, spends}
 use Rattle.pc_world.specs.Stamps.{AllBelowGreatest}
@@ -41,20 +46,20 @@ use Rattle.pc_world.specs.Stamps.{AllBelowGreatest}
 -- ---- a call is asked, or told its answer
 
 done-at : {C : Type 0} (old : DeskMeaning C) (after : LogMeaning C) (event : Event) → sent_by event ≡ [] → ((named : Option (Entry Event)) (sent : List Sent) → heard_by event named sent ≡ None) → spends event ≡ false
-    → KeepsTrack old → HasEntered old.log after event → HasDone old (record old { log = after }) event
-done-at old after event sends hears free track entered = record {
+    → (IsSending event → ⊥) → (IsHearing event → ⊥) → KeepsTrack old → HasEntered old.log after event → HasDone old (record old { log = after }) event
+done-at old after event sends hears free no_sending no_hearing track entered = record {
   entered = entered;
   rest = refl;
   track = track_done old (record old { log = after }) event track entered refl
       (ap (λ (k : Known). k.sent) (known_after_it old.log after event entered) ∙ (ap (λ xs. (known_of old.log.part.own).sent ++ xs) sends ∙ append-nil (known_of old.log.part.own).sent))
       (ap (λ (k : Known). k.heard) (known_after_it old.log after event entered) ∙ (ap (λ o. (known_of old.log.part.own).heard ++ option_to_list o) (hears _ _) ∙ append-nil (known_of old.log.part.own).heard))
-      (ap (λ l. l.part.known) entered.stored ∙ ap (λ b. cond b (spend (named_by (unstaged_protocol old.log.head) old.log.part event) old.log.part.known) old.log.part.known) free);
+      (ap (λ l. l.part.known) entered.stored ∙ ap (λ b. cond b (spend (named_by (unstaged_protocol old.log.head) old.log.part event) old.log.part.known) old.log.part.known) free) no_sending no_hearing;
 }
 
 pub has_done : {C : Type 0} (v old : DeskMeaning C) (after : LogMeaning C) (event : Event) → v ≡ old → sent_by event ≡ [] → ((named : Option (Entry Event)) (sent : List Sent) → heard_by event named sent ≡ None) → spends event ≡ false
-    → KeepsTrack old → HasEntered v.log after event → HasDone old (record v { log = after }) event
-has_done v old after event same sends hears free track entered =
-    subst (λ d. HasEntered d.log after event → HasDone old (record d { log = after }) event) (sym same) (done-at old after event sends hears free track) entered
+    → (IsSending event → ⊥) → (IsHearing event → ⊥) → KeepsTrack old → HasEntered v.log after event → HasDone old (record v { log = after }) event
+has_done v old after event same sends hears free no_sending no_hearing track entered =
+    subst (λ d. HasEntered d.log after event → HasDone old (record d { log = after }) event) (sym same) (done-at old after event sends hears free no_sending no_hearing track) entered
 
 -- ---- a reply is heard
 
@@ -63,9 +68,20 @@ hear_may old a rest track may first =
     let by = All-head (IsAnsweredBy old.log) a rest (subst (All (IsAnsweredBy old.log)) first track.answered) in
     may_hear old.log a track.log by (unheard_yet old a rest track first) (may.each a rest by.range first)
 
-heard-at : {C : Type 0} (old : DeskMeaning C) (after : LogMeaning C) (a : Answered) (rest : List Answered) → KeepsTrack old → old.replies ≡ a ∷ rest → HasEntered old.log after (events.Hear a.number a.step)
+-- the reply that is heard was evaluated with its wave
+pub hear_waves : {C : Type 0} (old : DeskMeaning C) (a : Answered) (rest : List Answered) → KeepsTrack old → old.replies ≡ a ∷ rest
+    → KeepsWavesNext old.log.beside old.log.part.own (events.Hear a.number a.step) (named_by (unstaged_protocol old.log.head) old.log.part (events.Hear a.number a.step))
+hear_waves old a rest track first =
+    let by = All-head (IsAnsweredBy old.log) a rest (subst (All (IsAnsweredBy old.log)) first track.answered) in
+    let w = subst (WaitInWave old.log.beside old.log.part.own old.posted) first track.wave in
+    subst (KeepsWaves old.log.beside old.log.part.own) (sym (hear_brings old.log a track.log by)) (record {
+      whole = All-head (λ (b : Answered). IsInWave old.log.part.own b.step) a rest w.wave;
+      order = λ one. All-head (λ (b : Answered). All (λ (h : Heard). h.step < b.step) (known_of old.log.part.own).heard) a rest (w.order one).behind;
+    })
+
+heard-at : {C : Type 0} (old : DeskMeaning C) (after : LogMeaning C) (a : Answered) (rest : List Answered) → KeepsTrack old → old.posted ≡ [] → old.replies ≡ a ∷ rest → HasEntered old.log after (events.Hear a.number a.step)
     → HasHeardFirst old (record old { log = after; replies = rest }) a
-heard-at old after a rest track first entered =
+heard-at old after a rest track none first entered =
     let by = All-head (IsAnsweredBy old.log) a rest (subst (All (IsAnsweredBy old.log)) first track.answered) in
     let new = record old { log = after; replies = rest } in
     record {
@@ -74,15 +90,15 @@ heard-at old after a rest track first entered =
       posted = refl;
       entered = entered;
       named = hear_names_it old.log a track.log by;
-      track = track_heard old new a track first refl by entered refl;
+      track = track_heard old new a track first refl by entered refl none;
       way = way_heard old new a track first refl by entered;
       limit = refl;
     }
 
-pub has_heard : {C : Type 0} (v old : DeskMeaning C) (after : LogMeaning C) (a : Answered) (rest : List Answered) → v ≡ old → KeepsTrack old → v.replies ≡ a ∷ rest → HasEntered v.log after (events.Hear a.number a.step)
+pub has_heard : {C : Type 0} (v old : DeskMeaning C) (after : LogMeaning C) (a : Answered) (rest : List Answered) → v ≡ old → KeepsTrack old → old.posted ≡ [] → v.replies ≡ a ∷ rest → HasEntered v.log after (events.Hear a.number a.step)
     → HasHeardFirst old (record v { log = after; replies = rest }) a
-has_heard v old after a rest same track first entered =
-    subst (λ d. d.replies ≡ a ∷ rest → HasEntered d.log after (events.Hear a.number a.step) → HasHeardFirst old (record d { log = after; replies = rest }) a) (sym same) (heard-at old after a rest track) first entered
+has_heard v old after a rest same track none first entered =
+    subst (λ d. d.replies ≡ a ∷ rest → HasEntered d.log after (events.Hear a.number a.step) → HasHeardFirst old (record d { log = after; replies = rest }) a) (sym same) (heard-at old after a rest track none) first entered
 
 -- ---- a message is evaluated
 
@@ -100,7 +116,8 @@ desk_rest splits log g ws rest y whole desk = record {
 }
 
 module _ {C : Type 0} (old new : DeskMeaning C) (rest : List Posted) (m : Posted) (a : Answered) (note : List (KnownEntry Event)) (range : ℕ) (track : KeepsTrack old) (first : old.posted ≡ m ∷ rest) (later : All (λ (p : Posted). m.number < p.number) rest) (to : a.number ≡ m.number)
-    (tells : IsEvalNote old.log.part.id m.number range a.step a.reply note) (kept : HasKept (record old { posted = rest }) new a note) where
+    (tells : IsEvalNote old.log.part.id m.number range a.step a.reply note) (kept : HasKept (record old { posted = rest }) new a note) (behind : All (λ (p : Pair Event). p.entry.step < a.step) old.log.part.own)
+    (after : old.log.beside ≡ false → All (λ (b : Answered). b.step < a.step) old.replies) where
   -- What the note tells.
   abbrev told_of : KnownEntry Event
   told_of = record { entry = evaluation a.step range old.log.part.id a.number a.reply; place = tells.place; uses = 0 }
@@ -128,17 +145,18 @@ module _ {C : Type 0} (old new : DeskMeaning C) (rest : List Posted) (m : Posted
     own = ap (λ (d : DeskMeaning C). d.log) kept.kept ∙ ap (λ ks. record old.log { part = record old.log.part { known = ks } }) (sym (ap (λ (d : DeskMeaning C). d.log.part.known) kept.kept));
     sends = ap (λ (d : DeskMeaning C). d.sends) kept.kept;
     track = track_delivered old new m a track posted-is replies-are to later-are own-is range tells.place kept.log (ap (λ (d : DeskMeaning C). d.sends) kept.kept) (ap (λ (d : DeskMeaning C). d.log.part.id) kept.kept) knows-more
-        (λ x there. subst (λ l. Contains l x) (sym knows-more) there) (subst (λ l. Contains l told_of) (sym knows-more) (Contains-push old.log.part.known told_of)) (ap (λ (d : DeskMeaning C). d.log.part.given) kept.kept);
+        (λ x there. subst (λ l. Contains l x) (sym knows-more) there) (subst (λ l. Contains l told_of) (sym knows-more) (Contains-push old.log.part.known told_of)) (ap (λ (d : DeskMeaning C). d.log.part.given) kept.kept) (ap (λ (d : DeskMeaning C). d.log.beside) kept.kept) behind after;
     way = way_delivered old new m a track posted-is replies-are to later-are own-is;
     more = λ x there. subst (λ l. Contains l x) (sym knows-more) (Contains-append_left old.log.part.known (told_of ∷ []) x there);
     limit = ap (λ (d : DeskMeaning C). d.range_limit) kept.kept;
   }
 
 pub has_delivered : {C : Type 0} (v old new : DeskMeaning C) (rest : List Posted) (m : Posted) (a : Answered) (note : List (KnownEntry Event)) (sender : ActorId) (range : ℕ) → v ≡ old → KeepsTrack old → v.posted ≡ m ∷ rest → All (λ (p : Posted). m.number < p.number) rest → sender ≡ v.log.part.id → a.number ≡ m.number
-    → IsEvalNote sender m.number range a.step a.reply note → HasKept (record v { posted = rest }) new a note → HasDelivered old new
-has_delivered v old new rest m a note sender range same track first later whose to tells kept =
+    → IsEvalNote sender m.number range a.step a.reply note → All (λ (p : Pair Event). p.entry.step < a.step) old.log.part.own → (old.log.beside ≡ false → All (λ (b : Answered). b.step < a.step) old.replies)
+    → HasKept (record v { posted = rest }) new a note → HasDelivered old new
+has_delivered v old new rest m a note sender range same track first later whose to tells behind after kept =
     subst (λ d. d.posted ≡ m ∷ rest → IsEvalNote d.log.part.id m.number range a.step a.reply note → HasKept (record d { posted = rest }) new a note → HasDelivered old new) (sym same)
-    (λ f t k. delivered-at old new rest m a note range track f later to t k) first (subst (λ i. IsEvalNote i m.number range a.step a.reply note) whose tells) kept
+    (λ f t k. delivered-at old new rest m a note range track f later to t k behind after) first (subst (λ i. IsEvalNote i m.number range a.step a.reply note) whose tells) kept
 
 -- nothing was delivered yet
 pub delivers_none : {C : Type 0} (d : DeskMeaning C) → KeepsTrack d → HasDelivered d d
@@ -289,11 +307,11 @@ sends_few d track =
     let short = track.log.short in
     omega arith
 
-pub has_sent : {C : Type 0} (old mid new : DeskMeaning C) (number range : ℕ) (request : Request) → KeepsTrack old → GoesTo old.log.head.splits request range → number ≡ old.sends + 1
-    → HasEntered old.log mid.log (events.Send number range request) → mid ≡ record old { log = mid.log; sends = number } → HasPosted mid new number range request → HasSentNext old new number request
-has_sent old mid new number range request track goes next entered rest posted =
+pub has_sent : {C : Type 0} (old mid new : DeskMeaning C) (number range : ℕ) (request : Request) → KeepsTrack old → old.replies ≡ [] → GoesTo old.log.head.splits request range → number ≡ old.sends + 1
+    → HasEntered old.log mid.log (events.Send number range request) → mid ≡ record old { log = mid.log; sends = number } → HasPosted mid new number range request → HasSentTo old new number request
+has_sent {C} old mid new number range request track none goes next entered rest posted =
     let log : IsOwnLog new.log = subst IsOwnLog (sym posted.log)
-    (log_kept mid.log (record mid.log { part = gave (length mid.log.part.own - 1) 1 mid.log.part }) refl refl refl refl refl refl refl (λ going. going) entered.log) in
+    (log_kept mid.log (record mid.log { part = gave (length mid.log.part.own - 1) 1 mid.log.part }) refl refl refl refl refl refl refl refl (λ going. going) entered.log) in
     let id = ap (λ l. l.part.id) posted.log in
     let own = ap (λ l. l.part.own) posted.log in
     let known = ap (λ l. l.part.known) posted.log in
@@ -301,17 +319,20 @@ has_sent old mid new number range request track goes next entered rest posted =
     let counts : (n : ℕ) → posted_as n new.posted ≡ posted_as n old.posted + one_if (number == n) = (λ n. posted.counts n ∙ ap (λ l. posted_as n l + one_if (number == n)) were) in
     let replies : new.replies ≡ old.replies = ap (λ d. d.replies) posted.rest ∙ ap (λ d. d.replies) rest in
     record {
-      range = range;
-      goes = goes;
-      next = next;
-      sent = mid.log;
-      entered = entered;
-      noted = posted.log;
-      track = track_sent old new mid.log number range 1 request track next entered id own known counts replies log (ap (λ d. d.sends) posted.rest ∙ ap (λ d. d.sends) rest)
-          (λ x there. elim (posted.all x there) [ inl before ↦ inl (subst (λ l. Contains l x) were before) | inr now ↦ inr now ]) (ap (λ l. l.part) posted.log);
-      way = way_sent old new mid.log number range 1 request track next entered id own known counts replies;
-      replies = replies;
-      limit = ap (λ d. d.range_limit) posted.rest ∙ ap (λ d. d.range_limit) rest;
+      sent = record {
+        range = range;
+        goes = goes;
+        next = next;
+        sent = mid.log;
+        entered = entered;
+        noted = posted.log;
+        track = track_sent old new mid.log number range 1 request track next entered id own known counts replies log (ap (λ d. d.sends) posted.rest ∙ ap (λ d. d.sends) rest)
+            (λ x there. elim (posted.all x there) [ inl before ↦ inl (subst (λ l. Contains l x) were before) | inr now ↦ inr now ]) (ap (λ l. l.part) posted.log) none (ap (λ (l : LogMeaning C). l.beside) posted.log ∙ ap (λ (l : LogMeaning C). l.beside) entered.stored);
+        way = way_sent old new mid.log number range 1 request track next entered id own known counts replies;
+        replies = replies;
+        limit = ap (λ d. d.range_limit) posted.rest ∙ ap (λ d. d.range_limit) rest;
+      };
+      there = refl;
     }
 
 -- the range of a message that was sent is there
@@ -352,9 +373,50 @@ took-at {C} old after note took track =
           (λ a. answered_on old.log after a (ap (λ (l : LogMeaning C). l.part.id) took.told_this) (λ r said. subst (λ (k : Known). request_sent a.number k.sent ≡ Some r) (sym same) said)
           (λ x there. subst (λ ks. Contains ks x) (sym (ap (λ (l : LogMeaning C). l.part.known) took.told_this)) (Contains-append_left old.log.part.known note x there))) old.replies track.answered;
       turn = track.turn;
+      wave = subst (λ b. WaitInWave b after.part.own old.posted old.replies) (sym (ap (λ (l : LogMeaning C). l.beside) took.told_this)) (subst (λ o. WaitInWave old.log.beside o old.posted old.replies) (sym own) track.wave);
       given = gives_same old.log.part after.part own (ap (λ (l : LogMeaning C). l.part.given) took.told_this) track.given;
     }
 
 -- an actor that took a note has its messages where they were
 pub track_took : {C : Type 0} (v old : DeskMeaning C) (after : LogMeaning C) (note : List (KnownEntry Event)) → v ≡ old → Took note v.log after → KeepsTrack old → KeepsTrack (record v { log = after })
 track_took v old after note same took track = subst (λ d. Took note d.log after → KeepsTrack (record d { log = after })) (sym same) (λ t. took-at old after note t track) took
+
+-- ---- the notes behind which messages are evaluated
+
+has-entries : (own : List (Pair Event)) (m : Sent) → Contains (known_of own).sent m → 1 ≤ length own
+has-entries [] m there = absurd (contains_nil m there)
+has-entries (p ∷ own) m there = omega arith
+
+-- where a message waits, the actor has an entry
+pub some_entry : {C : Type 0} (d : DeskMeaning C) → KeepsTrack d → 1 ≤ length d.posted → 1 ≤ length d.log.part.own
+some_entry d track some' = by d.posted refl
+  where
+    by : (posted : List Posted) → d.posted ≡ posted → 1 ≤ length d.log.part.own
+    by [] is = (let n : length d.posted ≡ 0 = ap length is in absurd (omega arith))
+    by (m ∷ posted) is = has-entries d.log.part.own (as_sent m) (All-head (IsOneSent (known_of d.log.part.own).sent) m posted (subst (All (IsOneSent (known_of d.log.part.own).sent)) is track.waits))
+
+-- a note of its last entry
+pub last_behind : {C : Type 0} (v old : DeskMeaning C) (note : List (KnownEntry Event)) → v ≡ old → KeepsTrack old → 1 ≤ length old.posted → note ≡ noted (length v.log.part.own - 1) 0 v.log.part → IsBehindAll old.log.part.own note
+last_behind {C} v old note same track some' is =
+    subst (IsBehindAll old.log.part.own) (sym (is ∙ ap (λ (d : DeskMeaning C). noted (length d.log.part.own - 1) 0 d.log.part) same))
+    (note_behind (unstaged_protocol old.log.head) old.log.part track.log.stands 0 (some_entry old track some'))
+
+-- where no reply waits, what is behind all that the actor made is the newest
+pub newest_first : (own : List (Pair Event)) (replies : List Answered) (note : List (KnownEntry Event)) → replies ≡ [] → IsBehindAll own note → IsNewest own replies note
+newest_first own replies note none behind = subst (λ rs. IsNewest own rs note) (sym none) (record { made = behind; evaluated = λ step after. All-nil (λ (a : Answered). a.step < step) })
+
+-- a note without uses is its own copy
+pub kept_as_told : {C : Type 0} (d new : DeskMeaning C) (a : Answered) (note : List (KnownEntry Event)) (e : KnownEntry Event) → note ≡ record e { uses = 0 } ∷ [] → HasKept d new a (without_uses 0 note) → HasKept d new a note
+kept_as_told d new a note e is kept = subst (HasKept d new a) (ap (without_uses 0) is ∙ sym is) kept
+
+-- the note of the evaluation that was kept is the newest
+pub newest_kept : {C M E : Type 0} (v old new : DeskMeaning C) (result : Result M E) (known : M → List (KnownEntry Event)) (posted : List Posted) (a : Answered) (last note : List (KnownEntry Event)) (e : Entry Event) (place : ℕ) → v ≡ old → e.step ≡ a.step → note ≡ record { entry = e; place = place; uses = 0 } ∷ []
+    → IsNewest old.log.part.own old.replies last → ComesAfter a.step last → OnOk result (HasKept (record v { posted = posted }) new a (without_uses 0 note)) → IfOk result (λ copy. known copy ≡ with_uses 0 note)
+    → IfOk result (λ copy. IsNewest new.log.part.own new.replies (known copy))
+newest_kept {C} v old new (Ok copy) known posted a last note e place same at is newest after kept copied =
+    let own : new.log.part.own ≡ old.log.part.own = ap (λ (d : DeskMeaning C). d.log.part.own) kept.kept ∙ ap (λ (d : DeskMeaning C). d.log.part.own) same in
+    let replies : new.replies ≡ old.replies ++ a ∷ [] = ap (λ (d : DeskMeaning C). d.replies) kept.kept ∙ ap (λ (d : DeskMeaning C). d.replies ++ a ∷ []) same in
+    let known-is : known copy ≡ record { entry = e; place = place; uses = 0 } ∷ [] = copied ∙ ap (with_uses 0) is in
+    subst (λ o. IsNewest o new.replies (known copy)) (sym own)
+    (subst (λ rs. IsNewest old.log.part.own rs (known copy)) (sym replies) (newest_evaluated old.log.part.own old.replies last (known copy) a e place 0 at known-is newest after))
+newest_kept v old new (Err halt) known posted a last note e place same at is newest after kept copied = tt

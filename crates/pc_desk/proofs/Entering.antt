@@ -9,6 +9,7 @@ use Rattle.pc_base.specs.declared.entry.Entry.{Entry}
 use Rattle.pc_desk.specs.Asks.{ReadsClock, asks_in, is_ask}
 use Rattle.pc_desk.specs.Keeping.{EachAfter, KeepsAs, KeepsEach, KeepsNext, ReadsEach}
 use Rattle.pc_desk.specs.OwnLog.{IsNoRange, IsOwnLog, LogMeaning, is_last}
+use Rattle.pc_desk.specs.Waves.{KeepsWavesEach, KeepsWavesNext}
 use Rattle.pc_history.specs.declared.pair.Pair.{Pair}
 use Rattle.pc_history.specs.declared.view.Part.{Part}
 use Rattle.pc_history.specs.declared.view.Known.{Known as KnownEntry}
@@ -21,7 +22,7 @@ use Rattle.pc_proto.specs.declared.call.Call.{Call}
 use Rattle.pc_proto.specs.declared.event.Event.{Event}
 use Rattle.pc_proto.specs.declared.event.Event.TheVariants as events
 use Rattle.pc_range.specs.Protocol.{unstaged_protocol}
-use Rattle.pc_world.specs.Known.{Known, known_of}
+use Rattle.pc_world.specs.Known.{known_of}
 use Rattle.pc_world.specs.Local.{Head, IsActorOf, IsLocal, MayDo}
 
 -- one more pair that is so, after those before it
@@ -51,6 +52,7 @@ ask_keeps (actors.Session number) splits pipelining own call reading = record {
   calls = tt;
   finishes = tt;
   aborts = tt;
+  rolled_back = tt;
   writes = tt;
   refreshes = tt;
   rounds = tt;
@@ -58,6 +60,8 @@ ask_keeps (actors.Session number) splits pipelining own call reading = record {
   waves = tt;
   pieces = tt;
   refresh_wave = tt;
+  again = tt;
+  piece_order = tt;
   oldest = tt;
 }
 ask_keeps (actors.Recoverer number) splits pipelining own call reading = tt
@@ -85,6 +89,7 @@ log_begun l there client fresh short one =
       short = short;
       within = omega arith;
       keeps = subst (KeepsEach l.part.id l.head.splits l.pipelining) (sym none) tt;
+      waves = subst (KeepsWavesEach l.beside) (sym none) tt;
       before_stop = λ going. subst (λ m. IfSome l.stop (λ n. m < n)) (sym n) (stop-above l.stop one);
       at_stop = subst (λ m. IfSome l.stop (λ n. m ≤ n)) (sym n) (stop-at l.stop one);
       sound = subst (λ (p : Part Event). IsSound (unstaged_protocol l.head) (knowledge p)) (sym fresh)
@@ -117,10 +122,11 @@ grown step event last spare clock l = record l { part = acted (unstaged_protocol
 -- one more entry of the actor
 pub log_grown : {C : Type 0} (l : LogMeaning C) (step spare : ℕ) (clock : C) (event : Event) (last : Bool) → IsOwnLog l → l.stopped ≡ false → length l.part.own < l.limit → last ≡ is_last l.stop (length l.part.own)
     → KeepsNext l.part.id l.head.splits l.pipelining l.part.own event (named_by (unstaged_protocol l.head) l.part event)
+    → KeepsWavesNext l.beside l.part.own event (named_by (unstaged_protocol l.head) l.part event)
     → IsSound (unstaged_protocol l.head) (knowledge (acted (unstaged_protocol l.head) step event l.part))
     → StandsInHistory (unstaged_protocol l.head) (acted (unstaged_protocol l.head) step event l.part)
     → IsOwnLog (grown step event last spare clock l)
-log_grown l step spare clock event last log going below is keeps sound stands =
+log_grown l step spare clock event last log going below is keeps waves sound stands =
     let p : Pair Event = pair (entry_of step l.part.id event) (named_by (unstaged_protocol l.head) l.part event) in
     let long : length (l.part.own ++ p ∷ []) ≡ length l.part.own + 1 = length-append l.part.own (p ∷ []) in
     record {
@@ -130,6 +136,7 @@ log_grown l step spare clock event last log going below is keeps sound stands =
       short = log.short;
       within = omega arith;
       keeps = each_after_push (λ before q. KeepsNext l.part.id l.head.splits l.pipelining before q.entry.event q.named) [] l.part.own p log.keeps keeps;
+      waves = each_after_push (λ before q. KeepsWavesNext l.beside before q.entry.event q.named) [] l.part.own p log.waves waves;
       before_stop = λ goes_on. subst (λ n. IfSome l.stop (λ s. n < s)) (sym long) (not-last l.stop (length l.part.own) (log.before_stop going) (sym is ∙ goes_on));
       at_stop = subst (λ n. IfSome l.stop (λ s. n ≤ s)) (sym long) (last-at l.stop (length l.part.own) (log.before_stop going));
       sound = sound;
@@ -137,22 +144,23 @@ log_grown l step spare clock event last log going below is keeps sound stands =
     }
 
 -- the list with these in place of its own
-abbrev made : {C : Type 0} → LogMeaning C → Head → ActorId → List (Pair Event) → List (KnownEntry Event) → Bool → ℕ → Option ℕ → LogMeaning C
-made m h i o k p n s = record m { head = h; part = record m.part { id = i; own = o; known = k }; pipelining = p; limit = n; stop = s }
+abbrev made : {C : Type 0} → LogMeaning C → Head → ActorId → List (Pair Event) → List (KnownEntry Event) → Bool → Bool → ℕ → Option ℕ → LogMeaning C
+made m h i o k p b n s = record m { head = h; part = record m.part { id = i; own = o; known = k }; pipelining = p; beside = b; limit = n; stop = s }
 
 -- what neither makes an entry nor takes a note leaves the list as it was; it may stop it
-pub log_kept : {C : Type 0} (l m : LogMeaning C) → m.head ≡ l.head → m.part.id ≡ l.part.id → m.part.own ≡ l.part.own → m.part.known ≡ l.part.known → m.pipelining ≡ l.pipelining → m.limit ≡ l.limit → m.stop ≡ l.stop
+pub log_kept : {C : Type 0} (l m : LogMeaning C) → m.head ≡ l.head → m.part.id ≡ l.part.id → m.part.own ≡ l.part.own → m.part.known ≡ l.part.known → m.pipelining ≡ l.pipelining → m.beside ≡ l.beside → m.limit ≡ l.limit → m.stop ≡ l.stop
     → (m.stopped ≡ false → l.stopped ≡ false) → IsOwnLog l → IsOwnLog m
-log_kept l m eh ei eo ek ep en es going log =
-    subst (λ x. IsOwnLog (made m x m.part.id m.part.own m.part.known m.pipelining m.limit m.stop)) (sym eh)
-    (subst (λ x. IsOwnLog (made m l.head x m.part.own m.part.known m.pipelining m.limit m.stop)) (sym ei)
-    (subst (λ x. IsOwnLog (made m l.head l.part.id x m.part.known m.pipelining m.limit m.stop)) (sym eo)
-    (subst (λ x. IsOwnLog (made m l.head l.part.id l.part.own x m.pipelining m.limit m.stop)) (sym ek)
-    (subst (λ x. IsOwnLog (made m l.head l.part.id l.part.own l.part.known x m.limit m.stop)) (sym ep)
-    (subst (λ x. IsOwnLog (made m l.head l.part.id l.part.own l.part.known l.pipelining x m.stop)) (sym en)
-    (subst (λ x. IsOwnLog (made m l.head l.part.id l.part.own l.part.known l.pipelining l.limit x)) (sym es) start))))))
+log_kept l m eh ei eo ek ep eb en es going log =
+    subst (λ x. IsOwnLog (made m x m.part.id m.part.own m.part.known m.pipelining m.beside m.limit m.stop)) (sym eh)
+    (subst (λ x. IsOwnLog (made m l.head x m.part.own m.part.known m.pipelining m.beside m.limit m.stop)) (sym ei)
+    (subst (λ x. IsOwnLog (made m l.head l.part.id x m.part.known m.pipelining m.beside m.limit m.stop)) (sym eo)
+    (subst (λ x. IsOwnLog (made m l.head l.part.id l.part.own x m.pipelining m.beside m.limit m.stop)) (sym ek)
+    (subst (λ x. IsOwnLog (made m l.head l.part.id l.part.own l.part.known x m.beside m.limit m.stop)) (sym ep)
+    (subst (λ x. IsOwnLog (made m l.head l.part.id l.part.own l.part.known l.pipelining x m.limit m.stop)) (sym eb)
+    (subst (λ x. IsOwnLog (made m l.head l.part.id l.part.own l.part.known l.pipelining l.beside x m.stop)) (sym en)
+    (subst (λ x. IsOwnLog (made m l.head l.part.id l.part.own l.part.known l.pipelining l.beside l.limit x)) (sym es) start)))))))
   where
-    start : IsOwnLog (made m l.head l.part.id l.part.own l.part.known l.pipelining l.limit l.stop)
+    start : IsOwnLog (made m l.head l.part.id l.part.own l.part.known l.pipelining l.beside l.limit l.stop)
     start = record {
       there = log.there;
       client = log.client;
@@ -160,6 +168,7 @@ log_kept l m eh ei eo ek ep en es going log =
       short = log.short;
       within = log.within;
       keeps = log.keeps;
+      waves = log.waves;
       before_stop = λ goes_on. log.before_stop (going goes_on);
       at_stop = log.at_stop;
       sound = log.sound;
@@ -176,6 +185,7 @@ log_told l note log sound stands = record {
   short = log.short;
   within = log.within;
   keeps = log.keeps;
+  waves = log.waves;
   before_stop = log.before_stop;
   at_stop = log.at_stop;
   sound = sound;

@@ -2,6 +2,7 @@ pub mod Counting
 pub mod Entering
 pub mod Making
 pub mod Turns
+pub mod Waves
 pub mod Tracking
 pub mod Logging
 pub mod Places

@@ -10,6 +10,7 @@ use Rattle.pc_desk.specs.Asks.{ReadsClock, asks_in, is_ask}
 use Rattle.pc_desk.specs.Commits.{HasCommitPlaces, KeepsPlace, commit_told_by}
 use Rattle.pc_desk.specs.Keeping.{KeepsNext, ReadsEach}
 use Rattle.pc_desk.specs.OwnLog.{HasEntered, IsOwnLog, IsReady, LogMeaning, is_last, with_event}
+use Rattle.pc_desk.specs.Waves.{KeepsWavesNext}
 use Rattle.pc_history.specs.declared.pair.Pair.{Pair}
 use Rattle.pc_history.specs.declared.view.Part.{Part}
 use Rattle.pc_history.specs.Closed.{IsSound, StandsInHistory}
@@ -41,36 +42,38 @@ pub has_made : {E : Type 0} (actor after : ActorMeaning Head Event) (event : Eve
 has_made actor after event places later (Ok step) wanting is none stored above small sound stands kept = (step, record { stored = stored; above = above; small = small; sound = sound; stands = stands; kept = kept })
 has_made actor after event places later (Err e) wanting is none stored above small sound stands kept = absurd (let e : true ≡ false = sym is ∙ none in cc e)
 
-module _ {C : Type 0} (old ready : LogMeaning C) (actor after : ActorMeaning Head Event) (was now : C) (pipelining : Bool) (limit : ℕ) (stop : Option ℕ) (stopped last : Bool) (step : ℕ) (event : Event) where
+module _ {C : Type 0} (old ready : LogMeaning C) (actor after : ActorMeaning Head Event) (was now : C) (pipelining beside : Bool) (limit : ℕ) (stop : Option ℕ) (stopped last : Bool) (step : ℕ) (event : Event) where
   -- The list before.
   abbrev pub before_it : LogMeaning C
-  before_it = record { head = actor.world; part = actor.part; spare = actor.spare; clock = was; pipelining = pipelining; limit = limit; stop = stop; stopped = stopped }
+  before_it = record { head = actor.world; part = actor.part; spare = actor.spare; clock = was; pipelining = pipelining; beside = beside; limit = limit; stop = stop; stopped = stopped }
 
   -- The list after.
   abbrev pub after_it : ActorMeaning Head Event → LogMeaning C
-  after_it a = record { head = a.world; part = a.part; spare = a.spare; clock = now; pipelining = pipelining; limit = limit; stop = stop; stopped = last }
+  after_it a = record { head = a.world; part = a.part; spare = a.spare; clock = now; pipelining = pipelining; beside = beside; limit = limit; stop = stop; stopped = last }
 
   as-it-was : before_it ≡ ready → IsReady old ready last → record old { spare = ready.spare } ≡ before_it
   as-it-was view is = sym (view ∙ is.same)
 
   log-at : (v : LogMeaning C) (spare : ℕ) → record old { spare = spare } ≡ v → old.stopped ≡ false → length old.part.own < old.limit → last ≡ is_last old.stop (length old.part.own)
       → KeepsNext old.part.id old.head.splits old.pipelining old.part.own event (named_by (unstaged_protocol old.head) old.part event)
+      → KeepsWavesNext old.beside old.part.own event (named_by (unstaged_protocol old.head) old.part event)
       → IsOwnLog v → (left : ℕ)
       → IsSound (unstaged_protocol v.head) (knowledge (acted (unstaged_protocol v.head) step event v.part))
       → StandsInHistory (unstaged_protocol v.head) (acted (unstaged_protocol v.head) step event v.part)
       → IsOwnLog (grown step event last left now v)
-  log-at v spare same going below is keeps log left sound stands =
+  log-at v spare same going below is keeps waves log left sound stands =
       subst (λ (x : LogMeaning C). IsOwnLog x → IsSound (unstaged_protocol x.head) (knowledge (acted (unstaged_protocol x.head) step event x.part))
       → StandsInHistory (unstaged_protocol x.head) (acted (unstaged_protocol x.head) step event x.part) → IsOwnLog (grown step event last left now x)) same
-      (λ l s t. log_grown (record old { spare = spare }) step left now event last l going below is keeps s t) log sound stands
+      (λ l s t. log_grown (record old { spare = spare }) step left now event last l going below is keeps waves s t) log sound stands
 
   pub made_log : before_it ≡ ready → IsReady old ready last → IsOwnLog before_it
       → KeepsNext old.part.id old.head.splits old.pipelining old.part.own event (named_by (unstaged_protocol old.head) old.part event)
+      → KeepsWavesNext old.beside old.part.own event (named_by (unstaged_protocol old.head) old.part event)
       → after ≡ doing step event actor → IsSound (unstaged_protocol actor.world) (knowledge after.part) → StandsInHistory (unstaged_protocol actor.world) after.part
       → IsOwnLog (after_it after)
-  made_log view is log keeps did sound stands =
+  made_log view is log keeps waves did sound stands =
       subst (λ (a : ActorMeaning Head Event). IsOwnLog (after_it a)) (sym did)
-      (log-at before_it ready.spare (as-it-was view is) is.was is.below is.is keeps log (actor.spare - 1)
+      (log-at before_it ready.spare (as-it-was view is) is.was is.below is.is keeps waves log (actor.spare - 1)
       (subst (λ (a : ActorMeaning Head Event). IsSound (unstaged_protocol actor.world) (knowledge a.part)) did sound)
       (subst (λ (a : ActorMeaning Head Event). StandsInHistory (unstaged_protocol actor.world) a.part) did stands))
 

@@ -7,7 +7,7 @@ use Rattle.pc_base.specs.declared.entry.Entry.{Entry}
 use Rattle.pc_desk.proofs.Counting.{none_counted, sent_where_said}
 use Rattle.pc_desk.proofs.Entering.{local_does}
 use Rattle.pc_desk.specs.declared.answered.Answered.{Answered}
-use Rattle.pc_desk.specs.Desk.{IsAnsweredBy, MaySendNow, heard_as_number}
+use Rattle.pc_desk.specs.Desk.{IsAnsweredBy, MaySendNow, MaySendTo, heard_as_number}
 use Rattle.pc_desk.specs.Keeping.{KeepsNext}
 use Rattle.pc_desk.specs.OwnLog.{HasEntered, IsOwnLog, LogMeaning, MayEnter}
 use Rattle.pc_history.proofs.Callers.{knows-known, names-known}
@@ -27,20 +27,23 @@ use Rattle.pc_world.specs.RangeOf.{GoesTo}
 both : (a b : Bool) → a ≡ true → b ≡ true → (a && b) ≡ true
 both a b h k = grind arith
 
--- the request may be sent under the next number
-pub may_send : {C : Type 0} (l : LogMeaning C) (number range : ℕ) (request : Request) → IsOwnLog l → MaySendNow l request → number ≡ next_number (known_of l.part.own) → GoesTo l.head.splits request range
-    → MayEnter l (events.Send number range request)
-may_send l number range request log may next goes = record {
+-- the request may be sent to this range under the next number
+pub may_send : {C : Type 0} (l : LogMeaning C) (number range : ℕ) (request : Request) → IsOwnLog l → MaySendTo l range request → number ≡ next_number (known_of l.part.own) → MayEnter l (events.Send number range request)
+may_send l number range request log may next = record {
   local = (
     local_does l.head l.part.id l.part.own (events.Send number range request) _ log.client log.there
-        (record { next = next; there = goes; stamps = may.allowed.stamps; row = may.allowed.row }),
+        (record { next = next; there = may.goes; stamps = may.allowed.stamps; row = may.allowed.row }),
     may.unstaged,
   );
   caused = tt;
   free = refl;
   no_ask = refl;
-  keeps = may.keeps number range;
+  keeps = may.keeps number;
 }
+
+-- one that goes where its key, its span or its anchor has it may be sent there
+pub may_send_there : {C : Type 0} (l : LogMeaning C) (range : ℕ) (request : Request) → MaySendNow l request → GoesTo l.head.splits request range → MaySendTo l range request
+may_send_there l range request may goes = record { allowed = may.allowed; unstaged = may.unstaged; goes = goes; keeps = λ number. may.keeps number range }
 
 module _ {C : Type 0} (l : LogMeaning C) (a : Answered) (log : IsOwnLog l) (by : IsAnsweredBy l a) where
   -- the evaluation that answered
@@ -55,6 +58,16 @@ module _ {C : Type 0} (l : LogMeaning C) (a : Answered) (log : IsOwnLog l) (by :
   hear_names_it =
       names-known (unstaged_protocol l.head) l.part (events.Hear a.number a.step) answer_of log.sound knows-it
       (both (a.step == a.step) true (eq-eqb a.step a.step refl) refl)
+
+  -- The reply as it is heard.
+  abbrev pub heard_from : Heard
+  heard_from = record { number = a.number; request = by.request; reply = a.reply; step = a.step }
+
+  -- and what it brings
+  pub hear_brings : heard_by (events.Hear a.number a.step) (named_by (unstaged_protocol l.head) l.part (events.Hear a.number a.step)) (known_of l.part.own).sent ≡ Some heard_from
+  hear_brings =
+      ap (λ named. heard_as a.number a.step (request_sent a.number (known_of l.part.own).sent) (reply_named named)) hear_names_it
+      ∙ ap (λ said. heard_as a.number a.step said (Some a.reply)) by.said
 
   -- a reply that none was heard of yet may be heard
   pub may_hear : heard_as_number a.number (known_of l.part.own) ≡ 0
@@ -121,12 +134,7 @@ module _ {C : Type 0} (old new : LogMeaning C) (a : Answered) (log : IsOwnLog ol
   pub heard_more : (known_of new.part.own).heard ≡ (known_of old.part.own).heard ++ reply_of ∷ []
   heard_more =
       ap (λ (k : Known). k.heard) (known_after_it old new (events.Hear a.number a.step) entered)
-      ∙ ap (λ o. (known_of old.part.own).heard ++ option_to_list o) brings
-    where
-      brings : heard_by (events.Hear a.number a.step) (named_by (unstaged_protocol old.head) old.part (events.Hear a.number a.step)) (known_of old.part.own).sent ≡ Some reply_of
-      brings =
-          ap (λ named. heard_as a.number a.step (request_sent a.number (known_of old.part.own).sent) (reply_named named)) (hear_names_it old a log by)
-          ∙ ap (λ said. heard_as a.number a.step said (Some a.reply)) by.said
+      ∙ ap (λ o. (known_of old.part.own).heard ++ option_to_list o) (hear_brings old a log by)
 
   pub known_still : new.part.known ≡ old.part.known
   known_still = ap (λ (l : LogMeaning C). l.part.known) entered.stored

@@ -6,16 +6,22 @@ use Rattle.std.proofs.lemmas.List.Elements.{All-contains, All-head, All-push, Al
 use Rattle.std.proofs.Math.Seq.{set-append_seam}
 use Rattle.std.specs.List.{list_any}
 use Rattle.pc_base.specs.declared.actor.ActorId.{ActorId}
+use Rattle.pc_base.specs.declared.entry.Entry.{Entry}
 use Rattle.pc_desk.proofs.Counting.{any_counts, none_beyond, said_more, said_new}
 use Rattle.pc_desk.proofs.Making.{added, own_after, heard_more, heard_then, known_still, message_of, reply_of, sent_still, sent_then}
 use Rattle.pc_desk.proofs.Turns.{replies_below, turn_delivered, turn_heard}
+use Rattle.pc_desk.proofs.Waves.{wave_done, wave_evaluated, wave_heard, wave_sent}
 use Rattle.pc_desk.specs.declared.answered.Answered.{Answered}
 use Rattle.pc_desk.specs.Desk.{AreInTurn, DeskMeaning, GivesOnce, IsAnsweredBy, IsOneSent, KeepsTrack, Posted, WaitInTurn, answered_as, heard_as_number, is_on_way, posted_as, posting, times_sent}
 use Rattle.pc_desk.specs.OwnLog.{HasEntered, IsOwnLog, LogMeaning}
+use Rattle.pc_desk.specs.Waiting.{WaitInWave}
+use Rattle.pc_follows.specs.WaveEvaluation.{IsSending}
+use Rattle.pc_follows.specs.WaveOrder.{IsHearing}
+use Rattle.pc_history.proofs.Callers.{knows-known}
 use Rattle.pc_history.specs.declared.pair.Pair.{Pair}
 use Rattle.pc_history.specs.declared.view.Known.{Known as KnownEntry}
 use Rattle.pc_history.specs.declared.view.Part.{Part}
-use Rattle.pc_history.specs.Parts.{gave}
+use Rattle.pc_history.specs.Parts.{gave, knowledge, known_entry}
 use Rattle.pc_lists.proofs.Counts.{count-cons, count-push, one_if}
 use Rattle.pc_lists.proofs.Lists.{all_from_contains}
 use Rattle.pc_proto.specs.declared.event.Event.{Event}
@@ -71,6 +77,13 @@ answered_on l m a id says has by = record {
   knows = subst (λ (i : ActorId). Contains m.part.known (record { entry = evaluation a.step by.range i a.number a.reply; place = by.place; uses = 0 })) (sym id) (has _ by.knows);
 }
 
+-- what waits to be heard was evaluated before the next entry
+pub answers_before : {C : Type 0} (old : DeskMeaning C) (after : LogMeaning C) (event : Event) → KeepsTrack old → (entered : HasEntered old.log after event) → All (λ (a : Answered). a.step < entered.step) old.replies
+answers_before old after event track entered =
+    All-weaker (IsAnsweredBy old.log) (λ (a : Answered). a.step < entered.step)
+    (λ a by. All-contains (λ (e : Entry Event). e.step < entered.step) (knowledge old.log.part) (evaluation a.step by.range old.log.part.id a.number a.reply) entered.above
+    (knows-known old.log.part (known_entry (evaluation a.step by.range old.log.part.id a.number a.reply) by.place 0) by.knows)) old.replies track.answered
+
 -- ---- one more message is sent
 
 module _ {C : Type 0} (old new : DeskMeaning C) (sent : LogMeaning C) (number range uses : ℕ) (request : Request) (track : KeepsTrack old) (next : number ≡ old.sends + 1)
@@ -115,8 +128,8 @@ module _ {C : Type 0} (old new : DeskMeaning C) (sent : LogMeaning C) (number ra
 
   pub track_sent : IsOwnLog new.log → new.sends ≡ number
       → ((x : Posted) → Contains new.posted x → Contains old.posted x ⊎ (posting number range request uses ≡ x))
-      → new.log.part ≡ gave (length sent.part.own - 1) 1 sent.part → KeepsTrack new
-  track_sent log counted all gives = record {
+      → new.log.part ≡ gave (length sent.part.own - 1) 1 sent.part → old.replies ≡ [] → new.log.beside ≡ old.log.beside → KeepsTrack new
+  track_sent log counted all gives none beside = record {
     log = log;
     counted = counted ∙ (next ∙ (ap (λ n. n + 1) track.counted ∙ sym longer));
     numbers = subst (λ (xs : List Sent). All (λ x. x.number ≤ length xs) xs) (sym sent_is)
@@ -147,6 +160,14 @@ module _ {C : Type 0} (old new : DeskMeaning C) (sent : LogMeaning C) (number ra
             | inr now ↦ subst (λ (x : Posted). All (λ (a : Answered). a.number < x.number) old.replies) now (replies_below old number track (omega (arith, next)))
           ]));
     };
+    wave =
+        let q : Pair Event = added old.log sent (events.Send number range request) entered in
+        let own-is = own_after old.log sent (events.Send number range request) entered in
+        let same : (known_of (old.log.part.own ++ q ∷ [])).heard ≡ (known_of old.log.part.own).heard = ap (λ (o : List (Pair Event)). (known_of o).heard) (sym own-is) ∙ heard_then old.log sent number range request entered in
+        subst (λ b. WaitInWave b new.log.part.own new.posted new.replies) (sym beside)
+        (subst (λ o. WaitInWave old.log.beside o new.posted new.replies) (sym (own ∙ own-is))
+        (subst (WaitInWave old.log.beside (old.log.part.own ++ q ∷ []) new.posted) (sym (replies ∙ none))
+        (wave_sent old.log.beside old.log.part.own q old.posted new.posted (λ hears. hears) same (subst (WaitInWave old.log.beside old.log.part.own old.posted) none track.wave))));
     given = gives_one old.log.part sent.part new.log.part (added old.log sent (events.Send number range request) entered) (own_after old.log sent (events.Send number range request) entered) (ap (λ (l : LogMeaning C). l.part.given) entered.stored) gives track.given;
   }
 
@@ -190,8 +211,9 @@ module _ {C : Type 0} (old new : DeskMeaning C) (m : Posted) (a : Answered) (tra
       → new.log.part.known ≡ old.log.part.known ++ record { entry = evaluation a.step range old.log.part.id a.number a.reply; place = place; uses = 0 } ∷ []
       → ((x : KnownEntry Event) → Contains (old.log.part.known ++ record { entry = evaluation a.step range old.log.part.id a.number a.reply; place = place; uses = 0 } ∷ []) x → Contains new.log.part.known x)
       → Contains new.log.part.known (record { entry = evaluation a.step range old.log.part.id a.number a.reply; place = place; uses = 0 })
-      → new.log.part.given ≡ old.log.part.given → KeepsTrack new
-  track_delivered range place log sends id known has there given = record {
+      → new.log.part.given ≡ old.log.part.given → new.log.beside ≡ old.log.beside → All (λ (p : Pair Event). p.entry.step < a.step) old.log.part.own
+      → (old.log.beside ≡ false → All (λ (b : Answered). b.step < a.step) old.replies) → KeepsTrack new
+  track_delivered range place log sends id known has there given beside behind after = record {
     log = log;
     counted = sends ∙ (track.counted ∙ ap (λ (k : Known). length k.sent) (sym same-known));
     numbers = subst (λ (k : Known). All (λ x. x.number ≤ length k.sent) k.sent) (sym same-known) track.numbers;
@@ -214,6 +236,11 @@ module _ {C : Type 0} (old new : DeskMeaning C) (m : Posted) (a : Answered) (tra
           knows = subst (λ (i : ActorId). Contains new.log.part.known (record { entry = evaluation a.step range i a.number a.reply; place = place; uses = 0 })) (sym id) there;
         }));
     turn = subst (λ rs. WaitInTurn rs new.posted) (sym pushed) (turn_delivered m new.posted old.replies a to later (subst (WaitInTurn old.replies) first track.turn));
+    wave =
+        subst (λ b. WaitInWave b new.log.part.own new.posted new.replies) (sym beside)
+        (subst (λ o. WaitInWave old.log.beside o new.posted new.replies) (sym own)
+        (subst (WaitInWave old.log.beside old.log.part.own new.posted) (sym pushed)
+        (wave_evaluated old.log.beside old.log.part.own m new.posted old.replies a behind after (subst (λ ps. WaitInWave old.log.beside old.log.part.own ps old.replies) first track.wave))));
     given = gives_same old.log.part new.log.part own given track.given;
   }
 
@@ -251,8 +278,8 @@ module _ {C : Type 0} (old new : DeskMeaning C) (a : Answered) (track : KeepsTra
   replies-were : (n : ℕ) → answered_as n old.replies ≡ one_if (a.number == n) + answered_as n new.replies
   replies-were n = ap (answered_as n) first ∙ count-cons (λ (x : Answered). x.number == n) a new.replies
 
-  pub track_heard : new.sends ≡ old.sends → KeepsTrack new
-  track_heard sends = record {
+  pub track_heard : new.sends ≡ old.sends → old.posted ≡ [] → KeepsTrack new
+  track_heard sends none = record {
     log = entered.log;
     counted = sends ∙ (track.counted ∙ ap length (sym sent-same));
     numbers = subst (λ (xs : List Sent). All (λ x. x.number ≤ length xs) xs) (sym sent-same) track.numbers;
@@ -269,6 +296,18 @@ module _ {C : Type 0} (old new : DeskMeaning C) (a : Answered) (track : KeepsTra
         (λ e there. subst (λ ks. Contains ks e) (sym (known_still old.log new.log a track.log by entered)) there)) new.replies
         (All-tail (IsAnsweredBy old.log) a new.replies (subst (All (IsAnsweredBy old.log)) first track.answered));
     turn = subst (WaitInTurn new.replies) (sym posted) (turn_heard a new.replies old.posted (subst (λ rs. WaitInTurn rs old.posted) first track.turn));
+    wave =
+        let q : Pair Event = added old.log new.log (events.Hear a.number a.step) entered in
+        let own-is = own_after old.log new.log (events.Hear a.number a.step) entered in
+        let h : Heard = reply_of old.log new.log a track.log by entered in
+        let same : (known_of (old.log.part.own ++ q ∷ [])).heard ≡ (known_of old.log.part.own).heard ++ h ∷ [] =
+        ap (λ (o : List (Pair Event)). (known_of o).heard) (sym own-is) ∙ heard_more old.log new.log a track.log by entered in
+        let below = subst (All (λ (b : Answered). b.step < entered.step)) first (answers_before old new.log (events.Hear a.number a.step) track entered) in
+        subst (λ b. WaitInWave b new.log.part.own new.posted new.replies) (sym (ap (λ (l : LogMeaning C). l.beside) entered.stored))
+        (subst (λ o. WaitInWave old.log.beside o new.posted new.replies) (sym own-is)
+        (subst (λ ps. WaitInWave old.log.beside (old.log.part.own ++ q ∷ []) ps new.replies) (sym (posted ∙ none))
+        (wave_heard old.log.beside old.log.part.own q h a new.replies (λ sent. sent) same refl below
+        (subst (λ ps. WaitInWave old.log.beside old.log.part.own ps (a ∷ new.replies)) none (subst (WaitInWave old.log.beside old.log.part.own old.posted) first track.wave)))));
     given = gives_none old.log.part new.log.part (added old.log new.log (events.Hear a.number a.step) entered) (own_after old.log new.log (events.Hear a.number a.step) entered) (ap (λ (l : LogMeaning C). l.part.given) entered.stored) track.given;
   }
 
@@ -306,8 +345,8 @@ unheard_yet d a rest track first =
 -- an event that sends and hears nothing leaves each message at its stage
 pub track_done : {C : Type 0} (old new : DeskMeaning C) (event : Event) → KeepsTrack old → HasEntered old.log new.log event → new ≡ record old { log = new.log }
     → (known_of new.log.part.own).sent ≡ (known_of old.log.part.own).sent → (known_of new.log.part.own).heard ≡ (known_of old.log.part.own).heard → new.log.part.known ≡ old.log.part.known
-    → KeepsTrack new
-track_done old new event track entered rest sent heard known =
+    → (IsSending event → ⊥) → (IsHearing event → ⊥) → KeepsTrack new
+track_done {C} old new event track entered rest sent heard known no_sending no_hearing =
     let posted : new.posted ≡ old.posted = ap (λ d. d.posted) rest in
     let replies : new.replies ≡ old.replies = ap (λ d. d.replies) rest in
     record {
@@ -328,5 +367,14 @@ track_done old new event track entered rest sent heard known =
           (λ x. answered_on old.log new.log x (ap (λ l. l.part.id) entered.stored) (λ r said. subst (λ (xs : List Sent). request_sent x.number xs ≡ Some r) (sym sent) said)
           (λ e there. subst (λ ks. Contains ks e) (sym known) there)) old.replies track.answered);
       turn = subst (λ ps. WaitInTurn new.replies ps) (sym posted) (subst (λ rs. WaitInTurn rs old.posted) (sym replies) track.turn);
+      wave =
+          let q : Pair Event = added old.log new.log event entered in
+          let own-is = own_after old.log new.log event entered in
+          let same : (known_of (old.log.part.own ++ q ∷ [])).heard ≡ (known_of old.log.part.own).heard = ap (λ (o : List (Pair Event)). (known_of o).heard) (sym own-is) ∙ heard in
+          subst (λ b. WaitInWave b new.log.part.own new.posted new.replies) (sym (ap (λ (l : LogMeaning C). l.beside) entered.stored))
+          (subst (λ o. WaitInWave old.log.beside o new.posted new.replies) (sym own-is)
+          (subst (λ ps. WaitInWave old.log.beside (old.log.part.own ++ q ∷ []) ps new.replies) (sym posted)
+          (subst (WaitInWave old.log.beside (old.log.part.own ++ q ∷ []) old.posted) (sym replies)
+          (wave_done old.log.beside old.log.part.own q old.posted old.replies no_sending no_hearing same (answers_before old new.log event track entered) track.wave))));
       given = gives_none old.log.part new.log.part (added old.log new.log event entered) (own_after old.log new.log event entered) (ap (λ l. l.part.given) entered.stored) track.given;
     }

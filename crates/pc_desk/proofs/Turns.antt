@@ -9,7 +9,8 @@ use Rattle.pc_desk.specs.declared.answered.Answered.{Answered}
 use Rattle.pc_desk.specs.Desk.{AreInTurn, DeskMeaning, IsAnsweredBy, KeepsTrack, Posted, WaitInTurn, answered_as, heard_as_number, posted_as, times_sent}
 use Rattle.pc_lists.proofs.Counts.{count-cons, one_if}
 use Rattle.pc_lists.proofs.Lists.{all_from_contains, contains_cons, contains_nil}
-use Rattle.pc_follows.specs.WaveOrder.{IsHeardOrPut, IsOldestUnheard}
+use Rattle.pc_follows.specs.OldestUnheard.{IsOldestUnheard}
+use Rattle.pc_follows.specs.WaveOrder.{IsHeardOrPut}
 use Rattle.pc_world.specs.Known.{Known, known_of}
 use Rattle.pc_world.specs.Known.Traffic.{Heard, Sent}
 use Rattle.pc_world.specs.Tell.Refusal.{is_heard}

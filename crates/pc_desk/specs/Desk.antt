@@ -9,6 +9,7 @@ use Rattle.pc_desk.specs.declared.halt.Halt.{Halt}
 use Rattle.pc_desk.specs.declared.halt.Halt.TheVariants as halts
 use Rattle.pc_desk.specs.Keeping.{KeepsNext}
 use Rattle.pc_desk.specs.OwnLog.{HasEntered, IsOwnLog, LogMeaning}
+use Rattle.pc_desk.specs.Waiting.{WaitInWave}
 use Rattle.pc_history.specs.declared.view.Known.{Known as KnownEntry}
 use Rattle.pc_history.specs.declared.view.Part.{Part}
 use Rattle.pc_history.specs.declared.pair.Pair.{Pair}
@@ -49,9 +50,9 @@ pub record DeskMeaning (C : Type 0) : Type 0 where
   pub range_limit : ℕ
 
 -- An actor that has sent nothing, with its new list.
-abbrev pub new_desk : {C : Type 0} → Head → Part Event → ℕ → C → Bool → ℕ → Option ℕ → ℕ → DeskMeaning C
-new_desk head part spare clock pipelining limit stop range_limit = record {
-  log = record { head = head; part = part; spare = spare; clock = clock; pipelining = pipelining; limit = limit; stop = stop; stopped = false };
+abbrev pub new_desk : {C : Type 0} → Head → Part Event → ℕ → C → Bool → Bool → ℕ → Option ℕ → ℕ → DeskMeaning C
+new_desk head part spare clock pipelining beside limit stop range_limit = record {
+  log = record { head = head; part = part; spare = spare; clock = clock; pipelining = pipelining; beside = beside; limit = limit; stop = stop; stopped = false };
   sends = 0;
   posted = [];
   replies = [];
@@ -140,7 +141,7 @@ pub record WaitInTurn (replies : List Answered) (posted : List Posted) : Type 0 
   pub behind : All (λ m. All (λ a. a.number < m.number) replies) posted
 
 -- Each message that the actor sent stands at one stage, and no other does at any: it waits to be evaluated, or its reply to be heard, or
--- that was heard. What waits says what was sent, and is in turn; and of no entry more than one use was given.
+-- that was heard. What waits says what was sent, is in turn, and waits with its wave; and of no entry more than one use was given.
 pub record KeepsTrack {C : Type 0} (d : DeskMeaning C) : Type 0 where
   pub log : IsOwnLog d.log
   pub counted : d.sends ≡ length (known_of d.log.part.own).sent
@@ -151,6 +152,7 @@ pub record KeepsTrack {C : Type 0} (d : DeskMeaning C) : Type 0 where
   pub waits : All (IsOneSent (known_of d.log.part.own).sent) d.posted
   pub answered : All (IsAnsweredBy d.log) d.replies
   pub turn : WaitInTurn d.replies d.posted
+  pub wave : WaitInWave d.log.beside d.log.part.own d.posted d.replies
   pub given : GivesOnce d.log.part
 
 -- The message of the least number was taken from those that wait, and nothing else was done.
@@ -170,6 +172,13 @@ pub record MaySendNow {C : Type 0} (l : LogMeaning C) (request : Request) : Type
   pub one : IsForOne l.head.splits request
   pub keeps : (number range : ℕ) → KeepsNext l.part.id l.head.splits l.pipelining l.part.own (events.Send number range request) None
 
+-- The actor may send this to this range now: it is no stage, it goes there, and the entry keeps what is asked of it.
+pub record MaySendTo {C : Type 0} (l : LogMeaning C) (range : ℕ) (request : Request) : Type 0 where
+  pub allowed : IsAllowed l.head.splits l.part.id (known_of l.part.own) request
+  pub unstaged : IsNoStage request
+  pub goes : GoesTo l.head.splits request range
+  pub keeps : (number : ℕ) → KeepsNext l.part.id l.head.splits l.pipelining l.part.own (events.Send number range request) None
+
 -- The actor sent this under its next number, to its range; its note, with one use, waits in the outbox.
 pub record HasSentNext {C : Type 0} (old new : DeskMeaning C) (number : ℕ) (request : Request) : Type 0 where
   pub range : ℕ
@@ -182,6 +191,11 @@ pub record HasSentNext {C : Type 0} (old new : DeskMeaning C) (number : ℕ) (re
   pub way : (other : ℕ) → is_on_way other new ≡ (number == other || is_on_way other old)
   pub replies : new.replies ≡ old.replies
   pub limit : new.range_limit ≡ old.range_limit
+
+-- The actor sent this so, to this range.
+pub record HasSentTo {C : Type 0} (old new : DeskMeaning C) (number range : ℕ) (request : Request) : Type 0 where
+  pub sent : HasSentNext old new number request
+  pub there : sent.range ≡ range
 
 -- The actor's last entry sends this message.
 pub record EndsWithSend {C : Type 0} (l : LogMeaning C) (number range : ℕ) (request : Request) : Type 0 where

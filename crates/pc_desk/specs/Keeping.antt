@@ -9,12 +9,15 @@ use Rattle.pc_desk.specs.Hearing.{HearsAll, HearsOldest}
 use Rattle.pc_desk.specs.WholeScan.{HearsAllPieces}
 use Rattle.pc_history.specs.declared.pair.Pair.{Pair}
 use Rattle.pc_proto.specs.declared.event.Event.{Event}
+use Rattle.pc_follows.specs.AgainInOneWave.{HearsAllAgain}
 use Rattle.pc_follows.specs.CallMessages.{SendsForCall}
 use Rattle.pc_follows.specs.EarlyProof.{ProvesNothingEarly}
 use Rattle.pc_follows.specs.EarlyTell.{TellsEarly}
 use Rattle.pc_follows.specs.Eighth.{StopsAtEighth}
-use Rattle.pc_follows.specs.FinishingJobs.{AbortsFirst, DoesJobs, jobs_of}
+use Rattle.pc_follows.specs.FinishingJobs.{DoesJobs, jobs_of}
+use Rattle.pc_follows.specs.Rollbacks.{AbortsFirst, TellsRollbacks}
 use Rattle.pc_follows.specs.OneWrite.{WritesOnce}
+use Rattle.pc_follows.specs.PieceOrder.{SendsPiecesInOrder}
 use Rattle.pc_follows.specs.PipelinedPuts.{HearsOnlyItsPuts, TellsWritten}
 use Rattle.pc_follows.specs.Refreshes.{RefreshesInOneWave, RefreshesReads}
 use Rattle.pc_follows.specs.Resends.{ResendsOnlyAnswered}
@@ -35,6 +38,7 @@ pub record KeepsSessionStep (splits : List (List ℕ)) (pipelining : Bool) (own 
   pub calls : SendsForCall (known_of own) event
   pub finishes : DoesJobs (known_of own) (jobs_of own) event
   pub aborts : AbortsFirst (known_of own) event
+  pub rolled_back : TellsRollbacks (known_of own) event
   pub writes : WritesOnce (known_of own) event
   pub refreshes : RefreshesReads (known_of own) event
   pub rounds : KeepsRounds (known_of own) event
@@ -42,6 +46,8 @@ pub record KeepsSessionStep (splits : List (List ℕ)) (pipelining : Bool) (own 
   pub waves : SendsInWave own event
   pub pieces : HearsAllPieces splits (known_of own) h
   pub refresh_wave : RefreshesInOneWave (known_of own) h
+  pub again : HearsAllAgain own h
+  pub piece_order : SendsPiecesInOrder (known_of own) event
   pub oldest : HearsOldest (known_of own) h
 
 -- What the next event of this actor keeps.

@@ -3,8 +3,10 @@ pub mod Asks
 pub mod Hearing
 pub mod WholeScan
 pub mod Keeping
+pub mod Waves
 pub mod OwnLog
 pub mod Commits
+pub mod Waiting
 pub mod Desk
 pub mod Ending
 pub mod Rest

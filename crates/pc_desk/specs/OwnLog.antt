@@ -6,6 +6,7 @@ use Rattle.pc_desk.specs.declared.halt.Halt.{Halt}
 use Rattle.pc_desk.specs.declared.halt.Halt.TheVariants as halts
 use Rattle.pc_desk.specs.Asks.{is_ask}
 use Rattle.pc_desk.specs.Keeping.{KeepsEach, KeepsNext}
+use Rattle.pc_desk.specs.Waves.{KeepsWavesEach}
 use Rattle.pc_history.specs.declared.view.Known.{Known as KnownEntry}
 use Rattle.pc_history.specs.declared.view.Part.{Part}
 use Rattle.pc_history.specs.Closed.{IsSound, StandsInHistory}
@@ -15,14 +16,15 @@ use Rattle.pc_range.specs.Protocol.{unstaged_protocol}
 use Rattle.pc_world.specs.Local.{Head, IsActorOf}
 use Rattle.pc_world.specs.Run.{spends}
 
--- What the actor stored and knows, and for how many more entries it has room; its clock, and whether its writes are pipelined;
--- how many entries it may have; at which it stops, if that is stated; and whether it has stopped.
+-- What the actor stored and knows, and for how many more entries it has room; its clock, whether its writes are pipelined, and whether the
+-- evaluations of a wave go beside each other; how many entries it may have; at which it stops, if that is stated; and whether it has stopped.
 pub record LogMeaning (C : Type 0) : Type 0 where
   pub head : Head
   pub part : Part Event
   pub spare : ℕ
   pub clock : C
   pub pipelining : Bool
+  pub beside : Bool
   pub limit : ℕ
   pub stop : Option ℕ
   pub stopped : Bool
@@ -47,6 +49,7 @@ pub record IsOwnLog {C : Type 0} (l : LogMeaning C) : Type 0 where
   pub short : l.limit < 2 ^ 32
   pub within : length l.part.own ≤ l.limit
   pub keeps : KeepsEach l.part.id l.head.splits l.pipelining l.part.own
+  pub waves : KeepsWavesEach l.beside l.part.own
   pub before_stop : l.stopped ≡ false → IfSome l.stop (λ n. length l.part.own < n)
   pub at_stop : IfSome l.stop (λ n. length l.part.own ≤ n)
   pub sound : IsSound (unstaged_protocol l.head) (knowledge l.part)

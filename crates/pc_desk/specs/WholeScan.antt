@@ -1,7 +1,7 @@
 -- A scan is one wave: no reply to a piece of it is heard before all its pieces went out. Own profile.
 use Rattle.std.specs.Prelude.{◌≡◌, ℕ, Option, None, Some, List, ⊤}
 use Rattle.pc_proto.specs.Requests.{round_of}
-use Rattle.pc_follows.specs.WaveOrder.{SentAllPieces}
+use Rattle.pc_follows.specs.ScanPieces.{SentAllPieces}
 use Rattle.pc_world.specs.Known.{Known}
 use Rattle.pc_world.specs.Known.Traffic.{Heard}
 

@@ -2,12 +2,13 @@ ghost use Rattle.std.specs.Prelude.{◌≡◌, ℕ, ◌+◌, ◌-◌, ◌<◌, �
 ghost use Rattle.pc_base.specs.Rising.{AreRising};
 ghost use Rattle.pc_desk.specs.declared.halt.Halt.TheVariants as halts;
 ghost use Rattle.pc_desk.specs.Commits.{IsCommitPlace};
-ghost use Rattle.pc_desk.specs.Desk.{DeskMeaning, EndsWithSend, HasDelivered, HasDone, HasHalted, HasHeardFirst, HasKept, HasPosted, HasSentNext, HasTakenFirst, IsReadyToGo, KeepsTrack, MayHearNow, MaySendNow, Posted, new_desk, posted_as, uses_by};
+ghost use Rattle.pc_desk.specs.Desk.{DeskMeaning, EndsWithSend, HasDelivered, HasDone, HasHalted, HasHeardFirst, HasKept, HasPosted, HasSentNext, HasSentTo, HasTakenFirst, IsReadyToGo, KeepsTrack, MayHearNow, MaySendNow, MaySendTo, Posted, new_desk, posted_as, uses_by};
 ghost use Rattle.pc_desk.specs.Ending.{EndsOnly};
 ghost use Rattle.pc_desk.specs.Keeping.{ReadsEach};
 ghost use Rattle.pc_desk.specs.OwnLog.{HasEntered, IsNoRange, IsOwnLog, MayEnter};
+ghost use Rattle.pc_desk.specs.Waiting.{IsBehindAll, IsNewest};
 ghost use Rattle.pc_history.specs.Own.{entries_of};
-ghost use Rattle.pc_history.specs.Parts.{newcomer, noted, told};
+ghost use Rattle.pc_history.specs.Parts.{newcomer, noted, told, with_uses, without_uses};
 ghost use Rattle.pc_proto.specs.declared.event.Event.TheVariants as events;
 ghost use Rattle.pc_proto.specs.Stamps.{request_stamps};
 ghost use Rattle.pc_range.specs.Cell.{IsFullAt};
@@ -69,8 +70,8 @@ impl<'a, N: Named<CommitWorld>, C: Clock, V: Wire, G> Model for Desk<'a, N, C, V
 }
 
 impl<'a, N: Named<CommitWorld>, C: Clock, V: Wire, G: Gate> Desk<'a, N, C, V, G> {
-    /// The desk of an actor that has no entry yet. Its list may have at most `limit` entries, and stops at entry number `stop`, if one is
-    /// stated.
+    /// The desk of an actor that has no entry yet. The evaluations of a wave may go `beside` each other, or one after another. Its list may
+    /// have at most `limit` entries, and stops at entry number `stop`, if one is stated.
     pub fn new(
         alloc: Global,
         actor: Actor<CommitWorld, N>,
@@ -78,6 +79,7 @@ impl<'a, N: Named<CommitWorld>, C: Clock, V: Wire, G: Gate> Desk<'a, N, C, V, G>
         clock: C,
         wire: V,
         pipelining: bool,
+        beside: bool,
         limit: u64,
         stop: Option<u64>,
     ) -> Desk<'a, N, C, V, G>
@@ -92,10 +94,10 @@ impl<'a, N: Named<CommitWorld>, C: Clock, V: Wire, G: Gate> Desk<'a, N, C, V, G>
         requires few { length actor.world.splits ≤ 31 }
         requires quiet { (number : ℕ) → V.rule wire number ≡ verdicts.Deliver }
         ensures track { KeepsTrack result }
-        ensures made { result ≡ new_desk actor.world actor.part actor.spare clock pipelining limit stop ranges.now.limit }
+        ensures made { result ≡ new_desk actor.world actor.part actor.spare clock pipelining beside limit stop ranges.now.limit }
     {
         Desk {
-            log: OwnLog::new(alloc, actor, clock, pipelining, limit, stop),
+            log: OwnLog::new(alloc, actor, clock, pipelining, beside, limit, stop),
             ranges,
             wire,
             sends: 0,
@@ -197,17 +199,32 @@ impl<'a, N: Named<CommitWorld>, C: Clock, V: Wire, G: Gate> Desk<'a, N, C, V, G>
         self.log.enter(Event::Meet { id, step })
     }
 
-    /// Sends a message under the next number, which it gives.
+    /// Sends a message under the next number, which it gives, to the range of its key, its span or its anchor. A listing of records goes to the
+    /// first. No reply waits to be heard then.
     pub fn send(&mut self, request: Request) -> Result<u64, Halt>
         requires track { KeepsTrack self.old }
         requires may { MaySendNow self.old.log request }
+        requires none_waits { self.old.replies ≡ [] }
         ensures ok { IfOk result (λ number. HasSentNext self.old self.new number request) }
         ensures clock { self.new.log.clock ≡ self.old.log.clock }
         ensures err { IfErr result (HasHalted self.old self.new) }
         ensures ended { IfErr result (EndsOnly self.old self.new) }
     {
-        let number = self.sends + 1;
         let range = range_for(self.ranges.splits(), &request);
+        self.send_to(range, request)
+    }
+
+    /// Sends a message under the next number, which it gives, to this range, to which it may go. No reply waits to be heard then.
+    pub fn send_to(&mut self, range: u32, request: Request) -> Result<u64, Halt>
+        requires track { KeepsTrack self.old }
+        requires may { MaySendTo self.old.log range request }
+        requires none_waits { self.old.replies ≡ [] }
+        ensures ok { IfOk result (λ number. HasSentTo self.old self.new number range request) }
+        ensures clock { self.new.log.clock ≡ self.old.log.clock }
+        ensures err { IfErr result (HasHalted self.old self.new) }
+        ensures ended { IfErr result (EndsOnly self.old self.new) }
+    {
+        let number = self.sends + 1;
         match request.copy() {
             Ok(copy) => self.enter_send(number, range, copy)?,
             Err(NoMemory) => return Err(self.want_memory()),
@@ -275,27 +292,54 @@ impl<'a, N: Named<CommitWorld>, C: Clock, V: Wire, G: Gate> Desk<'a, N, C, V, G>
         self.outbox.waiting()
     }
 
-    /// Has each message's range evaluate it, in the order of their numbers.
+    /// Has each message's range evaluate it, in the order of their numbers. All are sent by then, and no reply waits to be heard.
     pub fn deliver<R: Wait>(&mut self, rt: &R) -> Result<(), Halt>
-        requires { KeepsTrack self.old }
+        requires track { KeepsTrack self.old }
+        requires none_waits { self.old.replies ≡ [] }
         ensures ok { OnOk result (HasDelivered self.old self.new) }
         ensures all { OnOk result (self.new.posted ≡ []) }
         ensures clock { self.new.log.clock ≡ self.old.log.clock }
         ensures err { IfErr result (HasHalted self.old self.new) }
         ensures ended { IfErr result (EndsOnly self.old self.new) }
     {
+        if self.waiting() == 0 {
+            return Ok(());
+        }
+        let mut last = self.note_last()?;
         while self.waiting() > 0 {
-            self.deliver_first(rt)?;
+            last = self.deliver_first(rt, last)?;
         }
         Ok(())
     }
 
-    /// Has the range of the message with the least number evaluate it.
-    fn deliver_first<R: Wait>(&mut self, rt: &R) -> Result<(), Halt>
+    /// A note of the actor's last entry, behind which the messages that wait are evaluated.
+    fn note_last(&mut self) -> Result<Note<CommitWorld, N>, Halt>
         requires track { KeepsTrack self.old }
         requires some { 1 ≤ length self.old.posted }
+        ensures behind { IfOk result (λ n. IsBehindAll self.old.log.part.own n.known) }
+        ensures same { OnOk result (self.new ≡ self.old) }
+        ensures clock { self.new.log.clock ≡ self.old.log.clock }
+        ensures err { IfErr result (HasHalted self.old self.new) }
+        ensures ended { IfErr result (EndsOnly self.old self.new) }
+    {
+        match self.log.note(0) {
+            Ok(note) => Ok(note),
+            Err(NoMemory) => Err(self.want_memory()),
+        }
+    }
+
+    /// Has the range of the message with the least number evaluate it, after what the note tells of. Gives a note of the evaluation.
+    fn deliver_first<R: Wait>(
+        &mut self,
+        rt: &R,
+        last: Note<CommitWorld, N>,
+    ) -> Result<Note<CommitWorld, N>, Halt>
+        requires track { KeepsTrack self.old }
+        requires some { 1 ≤ length self.old.posted }
+        requires newest { IsNewest self.old.log.part.own self.old.replies last.known }
         ensures ok { OnOk result (HasDelivered self.old self.new) }
         ensures one { OnOk result (length self.old.posted ≡ length self.new.posted + 1) }
+        ensures newest { IfOk result (λ n. IsNewest self.new.log.part.own self.new.replies n.known) }
         ensures clock { self.new.log.clock ≡ self.old.log.clock }
         ensures err { IfErr result (HasHalted self.old self.new) }
         ensures ended { IfErr result (EndsOnly self.old self.new) }
@@ -304,9 +348,27 @@ impl<'a, N: Named<CommitWorld>, C: Clock, V: Wire, G: Gate> Desk<'a, N, C, V, G>
             Some((_, message)) => message,
             None => unreachable!(),
         };
-        match self.ranges.serve(rt, message) {
-            Ok(reply) => self.keep(reply),
+        match self.ranges.serve(rt, message, Some(last)) {
+            Ok(reply) => self.keep_noted(reply),
             Err(fault) => Err(self.refused(fault)),
+        }
+    }
+
+    /// Knows the evaluation, and keeps its reply until it is heard. Gives a copy of the evaluation's note.
+    fn keep_noted(&mut self, msg: ReplyMsg<N>) -> Result<Note<CommitWorld, N>, Halt>
+        ensures ok { OnOk result (HasKept self.old self.new (record { number = msg.number; step = msg.step; reply = msg.reply }) (without_uses 0 msg.note.known)) }
+        ensures copy { IfOk result (λ n. n.known ≡ with_uses 0 msg.note.known) }
+        ensures clock { self.new.log.clock ≡ self.old.log.clock }
+        ensures err { IfErr result (HasHalted self.old self.new) }
+        ensures memory { IfErr result (λ halt. halt ≡ halts.NoMemory) }
+    {
+        let mut msg = msg;
+        match msg.note.again(0) {
+            Ok(copy) => {
+                self.keep(msg)?;
+                Ok(copy)
+            }
+            Err(NoMemory) => Err(self.want_memory()),
         }
     }
 
@@ -354,10 +416,11 @@ impl<'a, N: Named<CommitWorld>, C: Clock, V: Wire, G: Gate> Desk<'a, N, C, V, G>
         }
     }
 
-    /// Hears the reply that has waited longest, if there is one.
+    /// Hears the reply that has waited longest, if there is one. All messages are evaluated by then.
     pub fn hear(&mut self) -> Result<Option<Answered>, Halt>
         requires track { KeepsTrack self.old }
         requires may { MayHearNow self.old }
+        requires none_waits { self.old.posted ≡ [] }
         ensures ok { IfOk result (λ heard. IfSome heard (HasHeardFirst self.old self.new)) }
         ensures none { IfOk result (λ heard. IfNone heard ((self.old.replies ≡ []) × (self.new ≡ self.old))) }
         ensures clock { self.new.log.clock ≡ self.old.log.clock }

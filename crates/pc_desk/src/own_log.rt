@@ -2,9 +2,11 @@ ghost use Rattle.std.specs.Prelude.{◌≡◌, ℕ, ◌+◌, ◌-◌, ◌<◌, �
 ghost use Rattle.pc_desk.specs.Commits.{IsCommitPlace};
 ghost use Rattle.pc_desk.specs.Keeping.{ReadsEach};
 ghost use Rattle.pc_desk.specs.OwnLog.{HasEntered, IsNoRange, IsHalt, IsOwnLog, IsReady, LogMeaning, MayEnter, Took};
+ghost use Rattle.pc_desk.specs.Waves.{KeepsWavesNext};
 ghost use Rattle.pc_history.specs.Own.{entries_of};
-ghost use Rattle.pc_history.specs.Parts.{gave, newcomer, noted};
+ghost use Rattle.pc_history.specs.Parts.{gave, named_by, newcomer, noted};
 ghost use Rattle.pc_proto.specs.declared.event.Event.TheVariants as events;
+ghost use Rattle.pc_range.specs.Protocol.{unstaged_protocol};
 ghost use Rattle.pc_world.specs.Known.{known_of};
 ghost use Rattle.pc_world.specs.Local.{IsActorOf, MayAsk};
 
@@ -28,6 +30,8 @@ pub struct OwnLog<N: Named<CommitWorld>, C: Clock> {
     actor: Actor<CommitWorld, N>,
     clock: C,
     pipelining: bool,
+    /// Whether the evaluations of a wave go beside each other.
+    beside: bool,
     limit: u64,
     stop: Option<u64>,
     stopped: bool,
@@ -52,6 +56,7 @@ impl<N: Named<CommitWorld>, C: Clock> Model for OwnLog<N, C> {
       spare = l.actor.spare;
       clock = l.clock;
       pipelining = l.pipelining;
+      beside = l.beside;
       limit = l.limit;
       stop = l.stop;
       stopped = l.stopped;
@@ -63,6 +68,7 @@ impl<N: Named<CommitWorld>, C: Clock> Model for OwnLog<N, C> {
       spare = l.actor.spare;
       clock = l.clock;
       pipelining = l.pipelining;
+      beside = l.beside;
       limit = l.limit;
       stop = l.stop;
       stopped = l.stopped;
@@ -76,6 +82,7 @@ impl<N: Named<CommitWorld>, C: Clock> OwnLog<N, C> {
         actor: Actor<CommitWorld, N>,
         clock: C,
         pipelining: bool,
+        beside: bool,
         limit: u64,
         stop: Option<u64>,
     ) -> OwnLog<N, C>
@@ -92,6 +99,7 @@ impl<N: Named<CommitWorld>, C: Clock> OwnLog<N, C> {
           spare = actor.spare;
           clock = clock;
           pipelining = pipelining;
+          beside = beside;
           limit = limit;
           stop = stop;
           stopped = false;
@@ -101,6 +109,7 @@ impl<N: Named<CommitWorld>, C: Clock> OwnLog<N, C> {
             actor,
             clock,
             pipelining,
+            beside,
             limit,
             stop,
             stopped: false,
@@ -113,6 +122,13 @@ impl<N: Named<CommitWorld>, C: Clock> OwnLog<N, C> {
         ensures { result ≡ self.now.part.id }
     {
         self.actor.id()
+    }
+
+    /// Whether the evaluations of a wave go beside each other.
+    pub fn is_beside(&self) -> bool
+        ensures { result ≡ self.now.beside }
+    {
+        self.beside
     }
 
     /// Its entries so far.
@@ -162,7 +178,8 @@ impl<N: Named<CommitWorld>, C: Clock> OwnLog<N, C> {
 
     /// Makes an event that asks no call.
     pub fn enter(&mut self, event: Event) -> Result<(), Halt>
-        requires { MayEnter self.old event }
+        requires may { MayEnter self.old event }
+        requires waves { KeepsWavesNext self.old.beside self.old.part.own event (named_by (unstaged_protocol self.old.head) self.old.part event) }
         ensures ok { OnOk result (HasEntered self.old self.new event) }
         ensures clock { self.new.clock ≡ self.old.clock }
         ensures err { IfErr result (IsHalt (λ made. made ≡ event) self.old self.new) }

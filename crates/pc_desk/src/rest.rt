@@ -57,7 +57,7 @@ pub fn deliver_rest<N: Named<CommitWorld>, G: Gate, R: Wait>(
 {
     let mut rest = rest;
     while let Some(message) = rest.take_first() {
-        let reply = ranges.serve(rt, message)?;
+        let reply = ranges.serve(rt, message, None)?;
         learn(actor, reply);
     }
     Ok(())

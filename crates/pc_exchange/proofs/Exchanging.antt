@@ -42,7 +42,8 @@ use Rattle.pc_follows.specs.PipelinedPuts.{IsPutWaitedFor}
 use Rattle.pc_turns.specs.Order.{IsInBetween, events_of}
 use Rattle.pc_follows.specs.CallMessages.{IsOfRound}
 use Rattle.pc_follows.specs.Refreshes.{IsOfWholeRefresh}
-use Rattle.pc_follows.specs.WaveOrder.{IsOldestUnheard, IsScanOf, SentAllPieces}
+use Rattle.pc_follows.specs.OldestUnheard.{IsOldestUnheard}
+use Rattle.pc_follows.specs.ScanPieces.{IsScanOf, SentAllPieces}
 use Rattle.pc_world.specs.Known.{Known, call_in, known_of, next_number}
 use Rattle.pc_world.specs.Known.Statements.{Statement}
 use Rattle.pc_world.specs.Known.Traffic.{Heard, Sent, heard_as, request_sent}

@@ -1,16 +1,25 @@
 -- What is in flight stays what the session knows to be sent and not proved.
-use Rattle.std.proofs.Common.{◌≡◌, ℕ, ◌+◌, ◌<◌, ◌≤◌, max, fold, All, true, false, Bool, ◌&&◌, ◌||◌, ◌==◌, cond, not, List, [], ◌∷◌, ◌++◌, map, filter, IsTrue, Contains, Result, Ok, Err, IfOk, inl, inr, refl, sym, ap, ◌∙◌, subst, arith}
-use Rattle.std.proofs.lemmas.List.Elements.{All-cons, All-head, All-nil, All-tail, All-weaker}
+use Rattle.std.proofs.Common.{◌≡◌, ℕ, ◌+◌, ◌<◌, ◌≤◌, max, fold, All, true, false, Bool, ◌&&◌, ◌||◌, ◌==◌, cond, not, List, [], ◌∷◌, ◌++◌, map, filter, IsTrue, Contains, Option, Some, Result, Ok, Err, IfOk, inl, inr, length, refl, sym, ap, ◌∙◌, subst, arith}
+use Rattle.std.proofs.lemmas.List.Elements.{All-append, All-cons, All-head, All-nil, All-tail, All-weaker}
 use Rattle.std.specs.List.{list_any}
+use Rattle.std.proofs.lemmas.Bool.{eq-eqb}
 use Rattle.pc_base.specs.declared.memory.NoMemory.{NoMemory}
+use Rattle.pc_base.specs.declared.transaction.TxnId.{TxnId}
 use Rattle.pc_base.specs.declared.span.Span.{Span}
 use Rattle.pc_base.specs.Span.{contains, same_key}
+use Rattle.pc_base.specs.Transaction.{same_txn}
+use Rattle.pc_lists.proofs.Anywhere.{any_behind, any_head, any_weaker}
+use Rattle.pc_lists.proofs.Same.{same_txn-self}
 use Rattle.pc_lists.proofs.Lists.{contains_cons, contains_head, contains_nil, contains_tail}
 use Rattle.pc_flight.specs.declared.write.WriteInFlight.{WriteInFlight}
-use Rattle.pc_flight.specs.InFlight.{AreInFlight, HasNoSeq, in_flight_as, is_another, listed_in_flight}
+use Rattle.pc_flight.specs.InFlight.{AreInFlight, FlightStands, HasLandedBy, HasNoSeq, ShowsStanding, in_flight_as, is_another, listed_in_flight}
 use Rattle.pc_flight.specs.Laws.{FlightsHold, IsKnownUnproved}
-use Rattle.pc_world.specs.Known.Writes.{Write, asked_again, is_proved, last_seq_of, listed_as, proved_at, unproved}
-use Rattle.pc_world.specs.Send.Reading.{IsProvedIn}
+use Rattle.pc_proto.specs.declared.meta.TxnMeta.{TxnMeta}
+use Rattle.pc_proto.specs.declared.request.Request.{Request}
+use Rattle.pc_proto.specs.declared.request.Request.TheVariants as requests
+use Rattle.pc_world.specs.Known.Traffic.{Heard, Sent}
+use Rattle.pc_world.specs.Known.Transactions.{Txn, raised_to, txn_heard, txn_sent}
+use Rattle.pc_world.specs.Known.Writes.{IsProvedBy, Write, asked_again, is_proved, last_seq_of, listed_as, proved_at, unproved, with_put, writes_replied, writes_sent}
 
 -- The write, where it is not proved, in front of the others.
 abbrev front_if : Bool → WriteInFlight → List WriteInFlight → List WriteInFlight
@@ -153,27 +162,171 @@ below_next ws = All-weaker (λ w. w.seq ≤ last_seq_of ws) (λ w. w.seq < last_
 
 -- ---- what is proved where none in flight lies
 
-module _ (span : Span) where
-  -- It lies in the span.
+module _ (p : List ℕ → Bool) where
+  -- Its key is so.
   abbrev lies : WriteInFlight → Bool
-  lies f = contains span f.key
+  lies f = p f.key
 
   or_false : (a b : Bool) → (a || b) ≡ false → (a ≡ false) × (b ≡ false)
   or_false true b h = absurd cc
   or_false false b h = (refl, h)
 
-  none_by : (proved : Bool) (w : Write) (fs : List WriteInFlight) → is_proved w ≡ proved → list_any lies (front_if (not proved) (in_flight_as w) fs) ≡ false → (contains span w.key ≡ true → is_proved w ≡ true) × (list_any lies fs ≡ false)
+  none_by : (proved : Bool) (w : Write) (fs : List WriteInFlight) → is_proved w ≡ proved → list_any lies (front_if (not proved) (in_flight_as w) fs) ≡ false → (p w.key ≡ true → is_proved w ≡ true) × (list_any lies fs ≡ false)
   none_by true w fs is h = ((λ c. is), h)
   none_by false w fs is h =
-      let parts = or_false (contains span w.key) (list_any lies fs) h in
-      let out : contains span w.key ≡ false = parts.0 in
+      let parts = or_false (p w.key) (list_any lies fs) h in
+      let out : p w.key ≡ false = parts.0 in
       ((λ c. absurd cc), parts.1)
 
-  proved_in : (ws : List Write) → list_any lies (map in_flight_as (unproved ws)) ≡ false → IsProvedIn span ws
-  proved_in [] none = All-nil (λ w. IsTrue (contains span w.key) → IsTrue (is_proved w))
+  proved_in : (ws : List Write) → list_any lies (map in_flight_as (unproved ws)) ≡ false → All (λ w. IsTrue (p w.key) → IsTrue (is_proved w)) ws
+  proved_in [] none = All-nil (λ w. IsTrue (p w.key) → IsTrue (is_proved w))
   proved_in (w ∷ ws) none =
       let parts = none_by (is_proved w) w (map in_flight_as (unproved ws)) refl (sym (ap (list_any lies) (flight_cons w ws)) ∙ none) in
-      All-cons (λ w. IsTrue (contains span w.key) → IsTrue (is_proved w)) w ws parts.0 (proved_in ws parts.1)
+      All-cons (λ w. IsTrue (p w.key) → IsTrue (is_proved w)) w ws parts.0 (proved_in ws parts.1)
+
+-- ---- what is in flight stands beside its transaction
+
+own_put : (id : TxnId) (epoch : ℕ) (meta : TxnMeta) → meta.id ≡ id → meta.epoch ≡ epoch → (same_txn meta.id id && (meta.epoch == epoch)) ≡ true
+own_put id epoch meta whose now = ap (λ b. b && (meta.epoch == epoch)) (ap (λ i. same_txn i id) whose ∙ same_txn-self id) ∙ eq-eqb meta.epoch epoch now
+
+either : (P : List Write → Type 0) (b : Bool) (xs ys : List Write) → P xs → P ys → P (cond b xs ys)
+either P true xs ys x y = x
+either P false xs ys x y = y
+
+unproved_last : (w : Write) (ws : List Write) → is_proved w ≡ false → map in_flight_as (unproved (ws ++ w ∷ [])) ≡ map in_flight_as (unproved ws) ++ in_flight_as w ∷ []
+unproved_last w [] new = flight_cons w [] ∙ ap (λ b. front_if (not b) (in_flight_as w) []) new
+unproved_last w (x ∷ ws) new =
+    flight_cons x (ws ++ w ∷ [])
+    ∙ ap (λ fs. front_if (not (is_proved x)) (in_flight_as x) fs) (unproved_last w ws new)
+    ∙ front_last (not (is_proved x)) (in_flight_as x) (map in_flight_as (unproved ws))
+    ∙ ap (λ fs. fs ++ in_flight_as w ∷ []) (sym (flight_cons x ws))
+  where
+    front_last : (b : Bool) (f : WriteInFlight) (fs : List WriteInFlight) → front_if b f (fs ++ in_flight_as w ∷ []) ≡ front_if b f fs ++ in_flight_as w ∷ []
+    front_last true f fs = refl
+    front_last false f fs = refl
+
+landed_later : (ts at : ℕ) → ts ≤ at → (ws : List Write) → All (HasLandedBy ts) ws → All (HasLandedBy at) ws
+landed_later ts at low ws all =
+    All-weaker (HasLandedBy ts) (HasLandedBy at)
+    (λ w landed proved. any_weaker (λ proof. proof ≤ ts) (λ proof. proof ≤ at) (λ proof below. omega (arith, below, low)) w.proofs (landed proved))
+    ws all
+
+pub added_stands : (old new : List WriteInFlight) (t : Txn) (meta : TxnMeta) (seq ts : ℕ) (key : List ℕ) (value : Option (List ℕ)) → new ≡ old ++ record { key = key; seq = seq; value = value } ∷ []
+    → FlightStands old t → HasNoSeq seq t.writes → meta.id ≡ t.id → meta.epoch ≡ t.epoch → FlightStands new (txn_sent (requests.Put meta seq ts key value) t)
+added_stands old new t meta seq ts key value made f none whose now =
+    let w : Write = record { key = key; seq = seq; value = value; asked = ts ∷ []; proofs = [] } in
+    let writes : writes_sent t.id t.epoch (requests.Put meta seq ts key value) t.writes ≡ t.writes ++ w ∷ [] =
+    ap (λ b. cond b (with_put seq ts key value t.writes) t.writes) (own_put t.id t.epoch meta whose now)
+    ∙ ap (λ b. cond b (map (asked_again seq ts) t.writes) (t.writes ++ w ∷ [])) none in
+    record {
+      in_flight =
+          made ∙ ap (λ fs. fs ++ in_flight_as w ∷ []) f.in_flight ∙ sym (unproved_last w t.writes refl)
+          ∙ ap (λ ws. map in_flight_as (unproved ws)) (sym writes);
+      landed =
+          subst (λ ws. All (HasLandedBy t.write_ts) ws) (sym writes)
+          (All-append (HasLandedBy t.write_ts) t.writes (w ∷ []) f.landed (All-cons (HasLandedBy t.write_ts) w [] (λ proved. absurd cc) (All-nil (HasLandedBy t.write_ts))));
+    }
+
+module _ (key : List ℕ) (seq ts from to : ℕ) (no_earlier : from ≤ to) (low : ts ≤ to) where
+  landed_one : (b : Bool) (w : Write) → HasLandedBy from w → HasLandedBy to (cond b (record w { proofs = w.proofs ++ ts ∷ [] }) w)
+  landed_one true w landed proved = any_behind (λ proof. proof ≤ to) w.proofs (ts ∷ []) (any_head (λ proof. proof ≤ to) ts [] low)
+  landed_one false w landed proved =
+      any_weaker (λ proof. proof ≤ from) (λ proof. proof ≤ to) (λ proof below. omega (arith, below, no_earlier)) w.proofs (landed proved)
+
+  landed_proved : (ws : List Write) → All (HasLandedBy from) ws → All (HasLandedBy to) (map (proved_at key seq ts) ws)
+  landed_proved [] all = All-nil (HasLandedBy to)
+  landed_proved (w ∷ ws) all =
+      All-cons (HasLandedBy to) (proved_at key seq ts w) (map (proved_at key seq ts) ws)
+      (landed_one (w.seq == seq && same_key w.key key) w (All-head (HasLandedBy from) w ws all)) (landed_proved ws (All-tail (HasLandedBy from) w ws all))
+
+-- a write that was heard to stand at this timestamp has left
+stands_proved : (key : List ℕ) (seq ts : ℕ) (old new : List WriteInFlight) (t now : Txn) → new ≡ filter (is_another key seq) old → FlightStands old t → now.writes ≡ map (proved_at key seq ts) t.writes
+    → t.write_ts ≤ now.write_ts → ts ≤ now.write_ts → FlightStands new now
+stands_proved key seq ts old new t now made f writes no_earlier low = record {
+  in_flight = proved_holds key seq ts old new made t.writes f.in_flight ∙ ap (λ ws. map in_flight_as (unproved ws)) (sym writes);
+  landed = subst (λ ws. All (HasLandedBy now.write_ts) ws) (sym writes) (landed_proved key seq ts t.write_ts now.write_ts no_earlier low t.writes f.landed);
+}
+
+pub heard_stands : (key : List ℕ) (seq : ℕ) (old new : List WriteInFlight) → new ≡ filter (is_another key seq) old → (t : Txn) (sent : List Sent) (h : Heard) → FlightStands old t → ShowsStanding t key seq h
+    → FlightStands new (txn_heard sent (Some h) t)
+heard_stands key seq old new made t sent h f (inl w) =
+    let put : Request = requests.Put w.meta seq w.sent_at key w.value in
+    let writes : writes_replied t.id t.epoch h.request h.reply t.writes ≡ map (proved_at key seq w.ts) t.writes =
+    ap (λ r. writes_replied t.id t.epoch r h.reply t.writes) w.asked
+    ∙ ap (λ p. writes_replied t.id t.epoch put p t.writes) w.told
+    ∙ ap (λ b. cond b (map (proved_at key seq w.ts) t.writes) t.writes) (own_put t.id t.epoch w.meta w.whose w.epoch_now) in
+    let raised : raised_to t.id sent h.request h.reply ≡ w.ts =
+    ap (λ r. raised_to t.id sent r h.reply) w.asked
+    ∙ ap (λ p. raised_to t.id sent put p) w.told
+    ∙ ap (λ b. cond b w.ts 0) (ap (λ i. same_txn i t.id) w.whose ∙ same_txn-self t.id) in
+    let now : ℕ = max t.write_ts (raised_to t.id sent h.request h.reply) in
+    let no_earlier : t.write_ts ≤ now = omega arith in
+    let low : w.ts ≤ now = omega (arith, raised) in
+    stands_proved key seq w.ts old new t (txn_heard sent (Some h) t) made f writes no_earlier low
+heard_stands key seq old new made t sent h f (inr w) =
+    let query : Request = requests.Query t.id t.epoch seq w.ts key w.by in
+    let epoch : (t.epoch == t.epoch) ≡ true = eq-eqb t.epoch t.epoch refl in
+    let writes : writes_replied t.id t.epoch h.request h.reply t.writes ≡ map (proved_at key seq w.ts) t.writes =
+    ap (λ r. writes_replied t.id t.epoch r h.reply t.writes) w.asked
+    ∙ ap (λ p. writes_replied t.id t.epoch query p t.writes) w.told
+    ∙ ap (λ b. cond b (map (proved_at key seq w.ts) t.writes) t.writes) (ap (λ b. b && (t.epoch == t.epoch)) (same_txn-self t.id) ∙ epoch) in
+    let now : ℕ = max t.write_ts (raised_to t.id sent h.request h.reply) in
+    let no_earlier : t.write_ts ≤ now = omega arith in
+    let below : w.ts ≤ t.write_ts = w.low in
+    let low : w.ts ≤ now = omega (arith, below) in
+    stands_proved key seq w.ts old new t (txn_heard sent (Some h) t) made f writes no_earlier low
+
+pub nothing_stands : (flight : List WriteInFlight) (t : Txn) → flight ≡ [] → t.writes ≡ [] → FlightStands flight t
+nothing_stands flight t none nothing = record {
+  in_flight = none ∙ ap (λ ws. map in_flight_as (unproved ws)) (sym nothing);
+  landed = subst (λ ws. All (HasLandedBy t.write_ts) ws) (sym nothing) (All-nil (HasLandedBy t.write_ts));
+}
+
+-- where nothing is in flight, all is proved
+empty_any : (fs : List WriteInFlight) → length fs ≡ 0 → list_any (λ f. true) fs ≡ false
+empty_any [] none = refl
+empty_any (f ∷ fs) none = absurd cc
+
+landed_each : (ts : ℕ) (ws : List Write) → All (λ w. IsTrue true → IsTrue (is_proved w)) ws → All (HasLandedBy ts) ws → All (IsProvedBy ts) ws
+landed_each ts [] proved landed = All-nil (IsProvedBy ts)
+landed_each ts (w ∷ ws) proved landed =
+    All-cons (IsProvedBy ts) w ws (All-head (HasLandedBy ts) w ws landed (All-head (λ w. IsTrue true → IsTrue (is_proved w)) w ws proved refl))
+    (landed_each ts ws (All-tail (λ w. IsTrue true → IsTrue (is_proved w)) w ws proved) (All-tail (HasLandedBy ts) w ws landed))
+
+pub landed_all : (flight : List WriteInFlight) (t : Txn) → FlightStands flight t → length flight ≡ 0 → All (IsProvedBy t.write_ts) t.writes
+landed_all flight t f none =
+    landed_each t.write_ts t.writes (proved_in (λ key. true) t.writes (sym (ap (list_any (λ f. true)) f.in_flight) ∙ empty_any flight none)) f.landed
+
+stands_resent : (flight : List WriteInFlight) (t : Txn) (meta : TxnMeta) (seq ts : ℕ) (key : List ℕ) (value : Option (List ℕ)) → FlightStands flight t → list_any (λ w. w.seq == seq) t.writes ≡ true
+    → FlightStands flight (txn_sent (requests.Put meta seq ts key value) t)
+stands_resent flight t meta seq ts key value f there =
+    let own : Bool = same_txn meta.id t.id && (meta.epoch == t.epoch) in
+    let again : with_put seq ts key value t.writes ≡ map (asked_again seq ts) t.writes =
+    ap (λ b. cond b (map (asked_again seq ts) t.writes) (t.writes ++ record { key = key; seq = seq; value = value; asked = ts ∷ []; proofs = [] } ∷ [])) there in
+    record {
+      in_flight =
+          either (λ ws. AreInFlight flight ws) own (with_put seq ts key value t.writes) t.writes
+          (f.in_flight ∙ sym (again_flight seq ts t.writes) ∙ ap (λ ws. map in_flight_as (unproved ws)) (sym again)) f.in_flight;
+      landed =
+          either (λ ws. All (HasLandedBy t.write_ts) ws) own (with_put seq ts key value t.writes) t.writes
+          (subst (λ ws. All (HasLandedBy t.write_ts) ws) (sym again) (landed_again t.writes f.landed)) f.landed;
+    }
+  where
+    landed_same : (b : Bool) (w : Write) → HasLandedBy t.write_ts w → HasLandedBy t.write_ts (cond b (record w { asked = w.asked ++ ts ∷ [] }) w)
+    landed_same true w landed = landed
+    landed_same false w landed = landed
+
+    landed_again : (ws : List Write) → All (HasLandedBy t.write_ts) ws → All (HasLandedBy t.write_ts) (map (asked_again seq ts) ws)
+    landed_again [] all = All-nil (HasLandedBy t.write_ts)
+    landed_again (w ∷ ws) all =
+        All-cons (HasLandedBy t.write_ts) (asked_again seq ts w) (map (asked_again seq ts) ws)
+        (landed_same (w.seq == seq) w (All-head (HasLandedBy t.write_ts) w ws all)) (landed_again ws (All-tail (HasLandedBy t.write_ts) w ws all))
+
+stands_later : (flight : List WriteInFlight) (t now : Txn) → FlightStands flight t → now.writes ≡ t.writes → t.write_ts ≤ now.write_ts → FlightStands flight now
+stands_later flight t now f same no_earlier = record {
+  in_flight = f.in_flight ∙ ap (λ ws. map in_flight_as (unproved ws)) (sym same);
+  landed = subst (λ ws. All (HasLandedBy now.write_ts) ws) (sym same) (landed_later t.write_ts now.write_ts no_earlier t.writes f.landed);
+}
 
 pub flights_hold : FlightsHold
 flights_hold = record {
@@ -186,5 +339,9 @@ flights_hold = record {
     subst (λ l. All (λ f. f.seq < last_seq_of writes + 1) l) (sym are) (flight_below (last_seq_of writes + 1) writes (below_next writes)),
     none_above (last_seq_of writes + 1) writes (below_next writes),
   );
-  read = λ span flight writes are none. proved_in span writes (sym (ap (list_any (lies span)) are) ∙ none);
+  read = λ span flight writes are none. proved_in (contains span) writes (sym (ap (list_any (lies (contains span))) are) ∙ none);
+  first = λ key flight writes are none. proved_in (λ own. same_key own key) writes (sym (ap (list_any (lies (λ own. same_key own key))) are) ∙ none);
+  on = stands_later;
+  resent = stands_resent;
+  done = landed_all;
 }

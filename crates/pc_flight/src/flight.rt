@@ -1,8 +1,12 @@
-ghost use Rattle.std.specs.Prelude.{◌≡◌, ◌<◌, ◌≤◌, All, ◌++◌, ◌∷◌, [], ℕ, List, OnErr, OnOk, IfOk, filter, length, map, nat_le};
+ghost use Rattle.std.specs.Prelude.{◌≡◌, ◌==◌, ◌<◌, ◌≤◌, All, ◌++◌, ◌∷◌, [], ℕ, List, OnErr, OnOk, IfOk, Some, filter, length, map, nat_le};
 ghost use Rattle.std.specs.List.{list_any};
 ghost use Rattle.pc_base.specs.declared.limits.TheConstants.{MOST_IN_FLIGHT};
-ghost use Rattle.pc_base.specs.Span.{contains};
-ghost use Rattle.pc_flight.specs.InFlight.{AreBySequence, AreInFlight, HasNoSeq, is_another, listed_in_flight, listed_one};
+ghost use Rattle.pc_base.specs.Span.{contains, same_key};
+ghost use Rattle.pc_flight.specs.InFlight.{AreBySequence, AreInFlight, FlightStands, HasNoSeq, ShowsStanding, is_another, listed_in_flight, listed_one};
+ghost use Rattle.pc_proto.specs.declared.meta.TxnMeta.{TxnMeta};
+ghost use Rattle.pc_proto.specs.declared.request.Request.TheVariants as requests;
+ghost use Rattle.pc_world.specs.Known.Traffic.{Heard, Sent};
+ghost use Rattle.pc_world.specs.Known.Transactions.{Txn, txn_heard, txn_sent};
 ghost use Rattle.pc_world.specs.Known.Writes.{Write, listed_as, proved_at, unproved, with_put};
 
 use crate::write::WriteInFlight;
@@ -33,7 +37,8 @@ impl Model for Flight {
 impl Flight {
     /// No write is in flight.
     pub fn new(alloc: Global) -> Flight
-        ensures { result ≡ [] }
+        ensures made { result ≡ [] }
+        ensures stands { (t : Txn) → t.writes ≡ [] → FlightStands result t }
     {
         Flight {
             writes: Vec::new(alloc),
@@ -47,6 +52,7 @@ impl Flight {
         ensures ok { OnOk result (self.new ≡ self.old ++ record { key = key; seq = seq; value = value } ∷ []) }
         ensures err { OnErr result (self.new ≡ self.old) }
         ensures holds { (writes : List Write) (ts : ℕ) → AreInFlight self.old writes → HasNoSeq seq writes → OnOk result (AreInFlight self.new (with_put seq ts key value writes)) }
+        ensures stands { (t : Txn) (meta : TxnMeta) (ts : ℕ) → FlightStands self.old t → HasNoSeq seq t.writes → meta.id ≡ t.id → meta.epoch ≡ t.epoch → OnOk result (FlightStands self.new (txn_sent (requests.Put meta seq ts key value) t)) }
     {
         self.writes.push(WriteInFlight { key, seq, value })?;
         Ok(())
@@ -56,6 +62,7 @@ impl Flight {
     pub fn proved(&mut self, key: &Key, seq: u32)
         ensures made { self.new ≡ filter (is_another key.now seq) self.old }
         ensures holds { (writes : List Write) (ts : ℕ) → AreInFlight self.old writes → AreInFlight self.new (map (proved_at key.now seq ts) writes) }
+        ensures stands { (t : Txn) (sent : List Sent) (h : Heard) → FlightStands self.old t → ShowsStanding t key.now seq h → FlightStands self.new (txn_heard sent (Some h) t) }
     {
         self.take_out(key, seq);
     }
@@ -71,6 +78,20 @@ impl Flight {
         ensures { result ≡ list_any (λ w. contains span.now w.key) self.now }
     {
         self.writes.iter().any(|write| span.contains(&write.key))
+    }
+
+    /// Whether a write of this key is in flight.
+    pub fn has_key(&self, key: &Key) -> bool
+        ensures { result ≡ list_any (λ w. same_key w.key key.now) self.now }
+    {
+        self.writes.iter().any(|write| write.key == *key)
+    }
+
+    /// Whether no write is in flight.
+    pub fn is_empty(&self) -> bool
+        ensures { result ≡ (length self.now == 0) }
+    {
+        self.writes.is_empty()
     }
 
     /// Whether as many writes are in flight as there may be.
@@ -113,7 +134,8 @@ impl Flight {
 
     /// A new epoch begins: nothing is in flight.
     pub fn clear(&mut self)
-        ensures { self.new ≡ [] }
+        ensures made { self.new ≡ [] }
+        ensures stands { (t : Txn) → t.writes ≡ [] → FlightStands self.new t }
     {
         self.writes.clear();
     }

@@ -1,6 +1,6 @@
 -- After the eighth: a request that met eight intents in its call goes out no more, the eighth of them has no round, and the call is told
--- that it is blocked; a commit that was moved eight times sends no further stage or commit, and is told so. Own profile.
-use Rattle.std.specs.Prelude.{◌≡◌, ◌≢◌, ℕ, ◌+◌, ◌<◌, ◌⊎◌, Some, List, Any, IsTrue, slice_get, take, ⊤}
+-- that it is blocked; a commit that was moved eight times sends no further refresh, stage or commit, and is told so. Own profile.
+use Rattle.std.specs.Prelude.{◌≡◌, ◌≢◌, ℕ, ◌+◌, Some, slice_get, take, ⊤}
 use Rattle.pc_base.specs.declared.limits.TheConstants.{MOST_CONFLICTS, MOST_REFUSALS}
 use Rattle.pc_base.specs.declared.transaction.TxnId.{TxnId}
 use Rattle.pc_proto.specs.declared.answer.Answer.{Answer}
@@ -8,15 +8,14 @@ use Rattle.pc_proto.specs.declared.answer.Answer.TheVariants as answers
 use Rattle.pc_proto.specs.declared.call.Call.TheVariants as calls
 use Rattle.pc_proto.specs.declared.event.Event.{Event}
 use Rattle.pc_proto.specs.declared.event.Event.TheVariants as events
-use Rattle.pc_proto.specs.declared.meta.TxnMeta.{TxnMeta}
 use Rattle.pc_proto.specs.declared.request.Request.{Request}
 use Rattle.pc_proto.specs.declared.request.Request.TheVariants as requests
 use Rattle.pc_world.specs.Counting.{AtLeast}
-use Rattle.pc_follows.specs.Rounds.{IsConflictAt, IsRoundOver, conflicts_now, rounds_begun}
+use Rattle.pc_follows.specs.FirstBlock.{TellsFirstBlock}
+use Rattle.pc_follows.specs.Rounds.{conflicts_now, rounds_begun}
 use Rattle.pc_world.specs.Known.{Known}
 use Rattle.pc_world.specs.Known.Statements.{Statement}
 use Rattle.pc_world.specs.Known.Traffic.{Heard}
-use Rattle.pc_world.specs.Send.Recovery.{was_refused}
 use Rattle.pc_world.specs.Tell.Refusal.{IsConflictOf, WasMoved}
 
 -- The request met eight intents since the last call was asked.
@@ -33,9 +32,10 @@ IsBelowEighth k =
     (conflict : Heard) → slice_get (conflicts_now k) (rounds_begun k) ≡ Some conflict
     → AtLeast (IsConflictOf conflict.request) MOST_CONFLICTS (take (rounds_begun k + 1) (conflicts_now k)) → ⊥
 
--- What the request itself asks for: a push begins no round of an eighth conflict, and a stage or commit follows no eighth move.
+-- What the request itself asks for: a push begins no round of an eighth conflict, and a refresh, stage or commit follows no eighth move.
 abbrev pub IsBeforeEighth : Known → Request → Type 0
 IsBeforeEighth k (requests.Push holder by level now goal) = IsBelowEighth k
+IsBeforeEighth k (requests.Refresh id from to span) = WasMovedEighth k → ⊥
 IsBeforeEighth k (requests.Stage meta ts now writes locks) = WasMovedEighth k → ⊥
 IsBeforeEighth k (requests.Commit meta ts locks) = WasMovedEighth k → ⊥
 IsBeforeEighth k _ = ⊤
@@ -52,27 +52,6 @@ IsMovedAnswer answer = (ts : ℕ) × (answer ≡ answers.Moved ts)
 pub record TellsTheEighth (k : Known) (s : Statement) (answer : Answer) : Type 0 where
   pub blocked : s.call ≢ calls.Commit → (request : Request) → MetEighth k request → IsBlockedAnswer answer
   pub moved : s.call ≡ calls.Commit → WasMovedEighth k → IsMovedAnswer answer
-
--- The conflict of this place is the eighth of its request, and has no round; or its round's push of this holder was refused.
-abbrev pub IsBlockAt : Known → ℕ → TxnId → Heard → Type 0
-IsBlockAt k place holder conflict =
-    ((rounds_begun k ≡ place) × AtLeast (IsConflictOf conflict.request) MOST_CONFLICTS (take (place + 1) (conflicts_now k)))
-    ⊎ ((rounds_begun k ≡ place + 1) × Any (λ h. IsTrue (was_refused holder h)) k.heard_now)
-
--- The first conflict without a finished round blocks the call, and is with this holder.
-pub record IsBlockedBy (k : Known) (holder : TxnId) : Type 0 where
-  pub place : ℕ
-  pub meta : TxnMeta
-  pub key : List ℕ
-  pub of : IsConflictAt k place meta key
-  pub whose : meta.id ≡ holder
-  pub before : (earlier : ℕ) → earlier < place → IsRoundOver k earlier
-  pub why : IsBlockAt k place holder of.conflict
-
--- A call that is told that it is blocked is so by the first conflict that is not settled.
-abbrev pub TellsFirstBlock : Known → Answer → Type 0
-TellsFirstBlock k (answers.Blocked holder) = IsBlockedBy k holder
-TellsFirstBlock k _ = ⊤
 
 -- In an open call nothing goes on past the eighth, and a call is told blocked in the order of its conflicts.
 abbrev pub StopsAtEighth : Known → Event → Type 0

@@ -1,7 +1,7 @@
 -- Finishing jobs: what a transaction leaves behind when it is over is settled by its own session, between calls: each of its locks in
 -- key order, and then its record is removed. SIGMOD 2020 paper, section 3.2, "asynchronous intent resolution"; the order and the
 -- removal are this project's own profile.
-use Rattle.std.specs.Prelude.{◌≡◌, ℕ, Bool, ◌&&◌, Option, None, Some, List, [], ◌∷◌, ◌++◌, All, Any, IsTrue, map, fold, is_some, if◌then◌else◌, slice_get, ⊤}
+use Rattle.std.specs.Prelude.{◌≡◌, ℕ, Bool, ◌&&◌, Option, None, Some, List, [], ◌∷◌, ◌++◌, All, IsTrue, map, fold, is_some, if◌then◌else◌, slice_get, ⊤}
 use Rattle.std.specs.List.{list_any}
 use Rattle.std.specs.Option.{option_or}
 use Rattle.pc_base.specs.declared.transaction.TxnId.{TxnId}
@@ -14,7 +14,7 @@ use Rattle.pc_proto.specs.declared.fate.Fate.{Fate}
 use Rattle.pc_proto.specs.declared.fate.Fate.TheVariants as fates
 use Rattle.pc_proto.specs.declared.request.Request.{Request}
 use Rattle.pc_proto.specs.declared.request.Request.TheVariants as requests
-use Rattle.pc_proto.specs.Requests.{is_abort_of, is_commit}
+use Rattle.pc_proto.specs.Requests.{is_commit}
 use Rattle.pc_world.specs.Known.{Known, learn, nothing_known, open_txn}
 use Rattle.pc_world.specs.Known.Transactions.{Txn, meta_of}
 use Rattle.pc_world.specs.Known.Traffic.{Heard}
@@ -111,9 +111,3 @@ pub record IsDue (k : Known) (jobs : List (List Request)) (request : Request) : 
 abbrev pub DoesJobs : Known → List (List Request) → Event → Type 0
 DoesJobs k jobs (events.Send number range request) = k.statement ≡ None → IsDue k jobs request
 DoesJobs k jobs _ = ⊤
-
--- A rollback of a transaction that has an anchor is told only once its abort was heard in the call.
-abbrev pub AbortsFirst : Known → Event → Type 0
-AbortsFirst k (events.Tell (answers.RolledBack id why)) =
-    (t : Txn) (anchor : List ℕ) → open_txn k ≡ Some t → t.anchor ≡ Some anchor → Any (λ h. IsTrue (is_abort_of t.id h.request)) k.heard_now
-AbortsFirst k _ = ⊤

@@ -1,7 +1,7 @@
 -- Refreshes of a commit: those that go out are of the spans which the transaction read in its epoch, in the order of spans and each once,
 -- all of them in one wave; and a restart is told for the first of them that did not hold. SIGMOD 2020 paper, section 3.4; the order is this
 -- project's own profile.
-use Rattle.std.specs.Prelude.{◌≡◌, ℕ, ◌⊎◌, Option, None, Some, List, All, Any, IsTrue, ⊤}
+use Rattle.std.specs.Prelude.{◌≡◌, ℕ, Option, None, Some, List, All, Any, IsTrue, ⊤}
 use Rattle.std.specs.Ordering.{is_lt}
 use Rattle.pc_base.specs.declared.span.Span.{Span}
 use Rattle.pc_base.specs.declared.transaction.TxnId.{TxnId}
@@ -14,9 +14,8 @@ use Rattle.pc_proto.specs.declared.reply.Reply.TheVariants as replies
 use Rattle.pc_proto.specs.declared.request.Request.{Request}
 use Rattle.pc_proto.specs.declared.request.Request.TheVariants as requests
 use Rattle.pc_world.specs.Known.{Known, open_txn}
-use Rattle.pc_world.specs.Known.Traffic.{Heard, Sent}
+use Rattle.pc_world.specs.Known.Traffic.{Heard}
 use Rattle.pc_world.specs.Known.Transactions.{Txn}
-use Rattle.pc_world.specs.SameRequest.{IsSameRequest}
 
 -- The open transaction read this span in its epoch.
 abbrev pub WasRead : Known → Span → Type 0
@@ -27,11 +26,10 @@ abbrev pub IsRefreshBefore : ℕ → Span → Request → Type 0
 IsRefreshBefore to span (requests.Refresh id from other earlier) = other ≡ to → IsTrue (is_lt (span_cmp earlier span))
 IsRefreshBefore to span _ = ⊤
 
--- A refresh is of a span that was read, and it is sent again or stands behind all that the call has sent to its timestamp.
+-- A refresh is of a span that was read, and stands behind all that the call has sent to its timestamp.
 abbrev pub IsItsRefresh : Known → Request → Type 0
 IsItsRefresh k (requests.Refresh id from to span) =
-    WasRead k span
-    × (Any (λ m. IsSameRequest (requests.Refresh id from to span) m.request) k.sent_now ⊎ All (λ m. IsRefreshBefore to span m.request) k.sent_now)
+    WasRead k span × All (λ m. IsRefreshBefore to span m.request) k.sent_now
 IsItsRefresh k _ = ⊤
 
 -- The refresh of this span did not hold: it met this write.

@@ -1,9 +1,8 @@
 -- Resends: in its call a request is sent again only once each message of it that went out there was answered there, since a quiet wire
 -- loses none; and then only after it met an intent there, whose holder was pushed since, and as the push said. A commit that was refused
--- goes out at the timestamp of its record, which is higher, so it is another request, unless the record is in a later epoch. A message of a
--- conflict's round is sent once for each conflict. Equal requests go to one range, but for the listings of records, which no session asks
--- for. Own profile.
-use Rattle.std.specs.Prelude.{◌≡◌, ℕ, ◌+◌, ◌<◌, ◌⊎◌, Option, None, Some, List, ◌∷◌, ◌++◌, All, Any, IsTrue, ⊤}
+-- goes out at the timestamp of its record, which is higher, so it is another request. A message of a conflict's round is sent once for each
+-- conflict. Equal requests go to one range, but for the listings of records, which no session asks for. Own profile.
+use Rattle.std.specs.Prelude.{◌≡◌, ℕ, ◌+◌, Option, None, Some, List, ◌∷◌, ◌++◌, All, Any, IsTrue, ⊤}
 use Rattle.pc_base.specs.declared.transaction.TxnId.{TxnId}
 use Rattle.pc_proto.specs.declared.event.Event.{Event}
 use Rattle.pc_proto.specs.declared.event.Event.TheVariants as events
@@ -15,7 +14,6 @@ use Rattle.pc_proto.specs.declared.reply.Reply.TheVariants as replies
 use Rattle.pc_proto.specs.declared.request.Request.{Request}
 use Rattle.pc_proto.specs.declared.request.Request.TheVariants as requests
 use Rattle.pc_proto.specs.declared.view.View.{View}
-use Rattle.pc_proto.specs.declared.view.View.TheVariants as views
 use Rattle.pc_proto.specs.Replies.{is_conflict_with}
 use Rattle.pc_proto.specs.Requests.{goal_in, is_push_of, round_of}
 use Rattle.pc_proto.specs.Views.{fate_after, final_fate}
@@ -85,16 +83,6 @@ pub record MetConflictNow (k : Known) (request : Request) : Type 0 where
   pub met : conflict.reply ≡ replies.Conflict holder ts key
   pub followed : WasFollowed holder.id key later
 
--- The reply shows that the record of this commit is not final, and in a later epoch.
-abbrev pub ShowsLaterEpoch : Request → Reply → Type 0
-ShowsLaterEpoch (requests.Commit meta ts locks) (replies.Status (views.Pending epoch at)) = meta.epoch < epoch
-ShowsLaterEpoch (requests.Commit meta ts locks) (replies.Status (views.Staging epoch at writes)) = meta.epoch < epoch
-ShowsLaterEpoch _ _ = ⊥
-
--- The request is a commit that was told since the last call was asked that its record is in a later epoch.
-abbrev pub MetLaterEpochNow : Known → Request → Type 0
-MetLaterEpochNow k request = Any (λ h. (h.request ≡ request) × ShowsLaterEpoch h.request h.reply) k.heard_now
-
 -- However often it was heard since the last call was asked, more conflicts with this transaction were.
 abbrev pub HasMoreConflicts : Known → Request → TxnId → Type 0
 HasMoreConflicts k request id =
@@ -103,7 +91,7 @@ HasMoreConflicts k request id =
 
 -- There is a reason to send the request once more in its call.
 abbrev pub MayGoAgain : Known → Request → Option TxnId → Type 0
-MayGoAgain k request None = MetConflictNow k request ⊎ MetLaterEpochNow k request
+MayGoAgain k request None = MetConflictNow k request
 MayGoAgain k request (Some id) = HasMoreConflicts k request id
 
 -- In an open call, where a message of the same request as one that goes out went out in it before, all such were answered, and there is

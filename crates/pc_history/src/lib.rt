@@ -21,6 +21,3 @@ pub use opener::Opener;
 pub use pair::Pair;
 pub use view::{Known, Part};
 pub use world::World;
-
-#[cfg(test)]
-mod tests;

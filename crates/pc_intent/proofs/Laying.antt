@@ -3,7 +3,6 @@ use Rattle.std.proofs.Common.{◌≡◌, ℕ, true, false, if◌then◌else◌, 
 use Rattle.std.proofs.lemmas.Grind.{common_steps}
 use Rattle.std.specs.BTreeMap.{insert_entry, is_at}
 use Rattle.std.specs.Cmp.Lexicographic.{slice_cmp}
-use Rattle.std.specs.Prelude.{OnSome}
 use Rattle.std.specs.List.Sorted.{IsStrictlySortedBy}
 use Rattle.std.specs.Map.{keys_of, lookup, set_value}
 use Rattle.std.specs.Ordering.{nat_cmp}
@@ -45,15 +44,3 @@ module _ (key : List ℕ) (es : List (List ℕ × Intent)) where
 
   pub own_is_nothing : (id : TxnId) → lookup (is_at (slice_cmp nat_cmp key)) es ≡ None → own_at id key es ≡ None
   own_is_nothing id absent = ap (kept_if (λ i. same_txn i.meta.id id)) (sym (key_lookup key es) ∙ absent)
-
-  -- the own intent is all that stands at its key
-  pub own_taken : (id : TxnId) (i : Intent) → own_at id key es ≡ Some i → lookup (is_at (slice_cmp nat_cmp key)) es ≡ own_at id key es
-  own_taken id i own = key_lookup key es ∙ by (intent_at key es) own
-    where
-      by : (o : Option Intent) → kept_if (λ i. same_txn i.meta.id id) o ≡ Some i → o ≡ kept_if (λ i. same_txn i.meta.id id) o
-      by None own = refl
-      by (Some j) own = grind (arith, common_steps)
-
-pub where_some : {T : Type 0} (o : Option T) (P : Type 0) → P → OnSome o P
-where_some None P h = tt
-where_some (Some x) P h = h

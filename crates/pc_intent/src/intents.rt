@@ -1,4 +1,4 @@
-ghost use Rattle.std.specs.Prelude.{◌≡◌, [], IfNone, IfOk, MatchOption, None, OnErr, OnOk, OnSome, filter, fold, map, max};
+ghost use Rattle.std.specs.Prelude.{◌≡◌, [], IfOk, MatchOption, None, OnErr, OnOk, filter, fold, map, max};
 ghost use Rattle.std.specs.BTreeMap.{insert_entry};
 ghost use Rattle.std.specs.BTreeSet.{insert_key};
 ghost use Rattle.std.specs.Cmp.Lexicographic.{slice_cmp};
@@ -7,16 +7,21 @@ ghost use Rattle.std.specs.Option.{option_copied, option_map};
 ghost use Rattle.std.specs.Ordering.{nat_cmp};
 ghost use Rattle.pc_base.specs.Keyed.{without};
 ghost use Rattle.pc_base.specs.Span.{contains, same_key};
+ghost use Rattle.pc_base.specs.Versions.{with_version};
 ghost use Rattle.pc_intent.specs.Coming.{comes_to};
 ghost use Rattle.pc_intent.specs.WithWrite.{with_write};
 ghost use Rattle.pc_proto.specs.Intents.{first_other, intent_at, other_at, own_at};
 ghost use Rattle.pc_world.specs.Evaluation.IntentChange.{intents_with};
 ghost use Rattle.pc_world.specs.Evaluation.Put.{put_change, put_reply};
+ghost use Rattle.pc_world.specs.Evaluation.Resolve.{versions_of};
 
 use crate::intent::{add_write, first, fresh, put_there};
+use crate::settle::keep;
 use pc_base::{Key, NoMemory, Span, Timestamp, TryCopy, TxnId, Value};
-use pc_proto::{Intent, Reply, TxnMeta};
+use pc_mvcc::Versions;
+use pc_proto::{Fate, Intent, Reply, TxnMeta};
 use std::alloc::Global;
+use std::collections::btree_map::Entry;
 use std::collections::{BTreeMap, BTreeSet};
 use std::marker::Model;
 
@@ -157,21 +162,35 @@ impl Intents {
         intent.ts = intent.ts.max(ts);
     }
 
-    /// Takes the transaction's own intent at a key away, and gives it.
-    pub fn settle(&mut self, key: &Key, id: TxnId) -> Option<Intent>
-        ensures own { result ≡ own_at id key.now self.old }
-        ensures taken { OnSome result (self.new ≡ without same_key key.now self.old) }
-        ensures absent { IfNone result (self.new ≡ self.old) }
+    /// Takes the transaction's own intent at a key away, once what a fate makes of it stands among the versions.
+    pub fn settle(
+        &mut self,
+        id: TxnId,
+        key: &Key,
+        fate: Fate,
+        versions: &mut Versions,
+    ) -> Result<(), NoMemory>
+        ensures taken { OnOk result (MatchOption (own_at id key.now self.old) (self.new ≡ self.old) (λ own. self.new ≡ without same_key key.now self.old)) }
+        ensures kept { OnOk result (MatchOption (own_at id key.now self.old) (versions.new ≡ versions.old) (λ own. versions.new ≡ fold with_version versions.old (versions_of id key.now fate own))) }
+        ensures err { OnErr result (self.new ≡ self.old) }
+        ensures left { OnErr result (versions.new ≡ versions.old) }
     {
-        self.own_at(id, key)?;
-        self.entries.remove(key)
-    }
-
-    /// Takes the intent at a key away, whose ever it is, and gives it.
-    pub fn take(&mut self, key: &Key) -> Option<Intent>
-        ensures taken { result ≡ intent_at key.now self.old }
-        ensures left { self.new ≡ without same_key key.now self.old }
-    {
-        self.entries.remove(key)
+        let own = match self.entries.entry(key.copy()?)? {
+            Entry::Occupied(own) => own,
+            Entry::Vacant(place) => {
+                // Of the calls that end a vacant place, this one alone says that the map stays.
+                let ended = Entry::Vacant(place).or_try_insert_with(|| Err(NoMemory));
+                return match ended {
+                    Ok(_) => unreachable!(),
+                    Err(_) => Ok(()),
+                };
+            }
+        };
+        if own.get().meta.id != id {
+            return Ok(());
+        }
+        keep(own.get(), id, key, fate, versions)?;
+        own.remove();
+        Ok(())
     }
 }

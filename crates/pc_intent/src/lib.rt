@@ -3,6 +3,7 @@
 
 mod intent;
 mod intents;
+mod settle;
 
 pub use intent::{conflict, last_seq, last_value, value_by};
 pub use intents::Intents;

@@ -14,6 +14,3 @@ pub use memory::{MemSink, MemSource};
 pub use reading::{ReadFault, Source, read_all};
 pub use standard::{StdSink, StdSource};
 pub use writing::{Sink, WriteStop, write_all};
-
-#[cfg(test)]
-mod tests;

@@ -1,11 +1,11 @@
 -- What a range knows when it evaluates a message whose note it took.
-use Rattle.std.proofs.Common.{◌≡◌, ℕ, ◌+◌, ◌<◌, ◌≤◌, ◌^◌, Bool, true, ◌&&◌, ◌==◌, All, Any, List, [], ◌∷◌, ◌++◌, length, Some, refl, sym, ap, subst, ◌∙◌, arith, length-append}
-use Rattle.std.proofs.lemmas.List.Elements.{All-contains, All-push, All-weaker}
+use Rattle.std.proofs.Common.{◌≡◌, ℕ, ◌+◌, ◌<◌, ◌≤◌, ◌^◌, Bool, true, ◌&&◌, ◌==◌, All, Any, Contains, List, [], ◌∷◌, ◌++◌, length, Some, refl, sym, ap, subst, ◌∙◌, arith, length-append}
+use Rattle.std.proofs.lemmas.List.Elements.{All-contains, All-push, All-weaker, Contains-append_left, Contains-append_right}
 use Rattle.std.proofs.lemmas.List.Sums.{fold-append}
 use Rattle.pc_base.specs.declared.actor.ActorId.{ActorId}
 use Rattle.pc_base.specs.declared.actor.ActorId.TheVariants as actors
 use Rattle.pc_base.specs.declared.entry.Entry.{Entry}
-use Rattle.pc_history.proofs.Callers.{can_spend-one, knows-told, names-told, uses-told}
+use Rattle.pc_history.proofs.Callers.{can_spend-one, knows-known, knows-told, names-told, uses-told}
 use Rattle.pc_history.proofs.Ids.{same_id-equal}
 use Rattle.pc_history.specs.declared.pair.Pair.{Pair}
 use Rattle.pc_history.specs.declared.view.Known.{Known as KnownEntry}
@@ -14,6 +14,7 @@ use Rattle.pc_history.specs.Closed.{IsSound}
 use Rattle.pc_history.specs.Meanings.{ActorMeaning}
 use Rattle.pc_history.specs.Own.{pair, same_id}
 use Rattle.pc_history.specs.Parts.{CanSpend, IsCausedFor, IsLocalFor, acted, entry_of, knowledge, known_entry, named_by, told, uses_left}
+use Rattle.pc_lists.proofs.Lists.{all_from_contains}
 use Rattle.pc_proto.specs.declared.event.Event.{Event}
 use Rattle.pc_proto.specs.declared.event.Event.TheVariants as events
 use Rattle.pc_proto.specs.declared.reply.Reply.{Reply}
@@ -21,7 +22,7 @@ use Rattle.pc_proto.specs.declared.request.Request.{Request}
 use Rattle.pc_proto.specs.Stamps.{request_stamps}
 use Rattle.pc_range.specs.Cell.{IsCell, IsEntered, message_end}
 use Rattle.pc_range.specs.Protocol.{unstaged_protocol}
-use Rattle.pc_range.specs.Message.{IsToldBefore, IsSendNote, evaluation, sending}
+use Rattle.pc_range.specs.Message.{ComesAfter, IsToldBefore, IsSendNote, evaluation, sending}
 use Rattle.pc_world.proofs.Stamps.{state_at_most}
 use Rattle.pc_world.specs.Caused.{IsSendTo}
 use Rattle.pc_world.specs.Evaluation.{reply, state_after}
@@ -173,3 +174,33 @@ module _ (before : ActorMeaning Head Event) (range number : ℕ) (sender : Actor
       let took' : mid ≡ record before { part = told note before.part } = subst (λ (l : List (KnownEntry Event)). mid ≡ record before { part = told l before.part }) o.tells took in
       let above' : All (λ (e : Entry Event). e.step < step) (knowledge (told note before.part)) = subst (λ (a : ActorMeaning Head Event). All (λ (e : Entry Event). e.step < step) (knowledge a.part)) took' above in
       subst (IsToldBefore step) (sym o.tells) (All-contains (λ (e : Entry Event). e.step < step) (knowledge (told note before.part)) send above' (knows-told before.part send o.place o.uses))
+
+-- what the actor knew before it took the note stands before its step
+pub known-before : (before mid : ActorMeaning Head Event) (ks : List (KnownEntry Event)) (step : ℕ) → mid ≡ record before { part = told ks before.part }
+    → All (λ (e : Entry Event). e.step < step) (knowledge mid.part) → ComesAfter step before.part.known
+known-before before mid ks step took above =
+    all_from_contains (λ (k : KnownEntry Event). k.entry.step < step) before.part.known (λ k there.
+    All-contains (λ (e : Entry Event). e.step < step) (knowledge (told ks before.part)) k.entry (subst (λ (a : ActorMeaning Head Event). All (λ (e : Entry Event). e.step < step) (knowledge a.part)) took above)
+    (knows-known (told ks before.part) k (Contains-append_left before.part.known ks k there)))
+
+-- what an actor that knows more than this one enters, this one enters
+pub entered-from : (before mid after : ActorMeaning Head Event) (sender : ActorId) (number range : ℕ) (request : Request) (step : ℕ) (answer : Reply)
+    → mid ≡ record before { part = record before.part { known = mid.part.known } } → IsEntered mid after sender number range request step answer → IsEntered before after sender number range request step answer
+entered-from before mid after sender number range request step answer same e = record {
+  sent = e.sent;
+  same_world = e.same_world ∙ ap (λ (a : ActorMeaning Head Event). a.world) same;
+  same_id = e.same_id ∙ ap (λ (a : ActorMeaning Head Event). a.part.id) same;
+  stored = e.stored ∙ ap (λ (a : ActorMeaning Head Event). a.part.own ++ pair (evaluation step range sender number answer) (Some (sending e.sent sender number range request)) ∷ []) same;
+  kept = e.kept;
+  early = e.early;
+  later = e.later;
+}
+
+-- what is known stands before the step
+pub all-before : (note known : List (KnownEntry Event)) (step : ℕ) → All (λ (k : KnownEntry Event). Contains known k) note → ComesAfter step known → ComesAfter step note
+all-before note known step there above =
+    All-weaker (λ (k : KnownEntry Event). Contains known k) (λ (k : KnownEntry Event). k.entry.step < step) (λ k knows. All-contains (λ (k : KnownEntry Event). k.entry.step < step) known k above knows) note there
+
+-- a note that was taken is known
+pub all-told : (known note : List (KnownEntry Event)) → All (λ (k : KnownEntry Event). Contains (known ++ note) k) note
+all-told known note = all_from_contains (λ (k : KnownEntry Event). Contains (known ++ note) k) note (λ k there. Contains-append_right known note k there)

@@ -1,5 +1,5 @@
 -- Messages to ranges, and what their notes tell.
-use Rattle.std.specs.Prelude.{◌≡◌, ℕ, ◌+◌, ◌<◌, List, [], ◌∷◌}
+use Rattle.std.specs.Prelude.{◌≡◌, ℕ, ◌+◌, ◌<◌, List, [], ◌∷◌, All}
 use Rattle.pc_base.specs.declared.actor.ActorId.{ActorId}
 use Rattle.pc_base.specs.declared.actor.ActorId.TheVariants as actors
 use Rattle.pc_base.specs.declared.entry.Entry.{Entry}
@@ -36,6 +36,10 @@ pub record IsEvalNote (sender : ActorId) (number range step : ℕ) (reply : Repl
 abbrev pub IsToldBefore : ℕ → List (KnownEntry Event) → Type 0
 IsToldBefore step [] = ⊥
 IsToldBefore step (k ∷ ks) = k.entry.step < step
+
+-- Everything that a note tells of comes before this step.
+abbrev pub ComesAfter : ℕ → List (KnownEntry Event) → Type 0
+ComesAfter step note = All (λ k. k.entry.step < step) note
 
 -- What a note tells is an entry of the range, which has at least so many entries up to it.
 pub record IsFullNote (range limit : ℕ) (note : List (KnownEntry Event)) : Type 0 where

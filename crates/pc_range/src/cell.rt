@@ -1,10 +1,10 @@
-ghost use Rattle.std.specs.Prelude.{◌≡◌, ◌<◌, ◌≤◌, ◌^◌, ◌⊎◌, length, slice_get, IfOk, IfErr, IsSome, OnOk, OnErr, Some};
+ghost use Rattle.std.specs.Prelude.{◌≡◌, ◌<◌, ◌≤◌, ◌^◌, ◌⊎◌, length, slice_get, All, Contains, IfOk, IfErr, IfSome, IsSome, OnOk, OnErr, Some};
 ghost use Rattle.pc_base.specs.declared.actor.ActorId.TheVariants.{Range};
 ghost use Rattle.pc_history.specs.Own.{entries_of};
 ghost use Rattle.pc_history.specs.Parts.{newcomer, noted, uses_left};
 ghost use Rattle.pc_proto.specs.Stamps.{request_stamps};
 ghost use Rattle.pc_range.specs.Cell.{StoresEvaluation, HasServed, IsEntered, IsFullFault, IsRefusal};
-ghost use Rattle.pc_range.specs.Message.{IsToldBefore, IsEvalNote};
+ghost use Rattle.pc_range.specs.Message.{ComesAfter, IsToldBefore, IsEvalNote};
 ghost use Rattle.pc_world.specs.Evaluation.{reply as reply_to};
 ghost use Rattle.pc_world.specs.Known.Traffic.{reply_named};
 ghost use Rattle.pc_world.specs.Stamps.{AllBelowGreatest};
@@ -62,8 +62,13 @@ impl<N: Named<CommitWorld>, const I: u32> RangeCell<N, I> {
     /// Evaluates a message, and stores the evaluation.
     ///
     /// A range that stores as many entries as it may have serves nothing more. Want of memory is met before the evaluation, and then
-    /// the range is as it was, or after it was stored.
-    pub fn serve(&mut self, limit: u64, msg: Message<N>) -> Result<ReplyMsg<N>, ServeFault<N>>
+    /// the range is as it was, or after it was stored. Where a note is given, the evaluation comes after what it tells of.
+    pub fn serve(
+        &mut self,
+        limit: u64,
+        msg: Message<N>,
+        after: Option<Note<CommitWorld, N>>,
+    ) -> Result<ReplyMsg<N>, ServeFault<N>>
         requires here { msg.range ≡ I }
         requires limit { (1 ≤ limit) × (limit < 2 ^ 32) }
         requires use_left { 1 ≤ uses_left msg.note.known }
@@ -71,13 +76,14 @@ impl<N: Named<CommitWorld>, const I: u32> RangeCell<N, I> {
         ensures evaluated { IfOk result (λ r. StoresEvaluation I self.old self.new msg.sender msg.number msg.request r.step r.reply) }
         ensures told { IfOk result (λ r. (r.number ≡ msg.number) × IsEvalNote msg.sender msg.number I r.step r.reply r.note.known) }
         ensures later { IfOk result (λ r. IsToldBefore r.step msg.note.known) }
+        ensures behind { IfOk result (λ r. IfSome after (λ n. ComesAfter r.step n.known)) }
         ensures room { OnOk result (length self.old.part.own < limit) }
         ensures refused { IfErr result (λ fault. IsRefusal I limit self.old self.new msg.sender msg.number msg.request fault) }
     {
         if self.actor.entries().len() as u64 >= limit {
             return Err(self.full());
         }
-        match self.evaluate(msg) {
+        match self.evaluate(msg, after) {
             Ok(reply) => Ok(reply),
             Err(NoMemory) => Err(ServeFault::NoMemory),
         }
@@ -97,7 +103,11 @@ impl<N: Named<CommitWorld>, const I: u32> RangeCell<N, I> {
     }
 
     /// Evaluates a message that it has room for.
-    fn evaluate(&mut self, msg: Message<N>) -> Result<ReplyMsg<N>, NoMemory>
+    fn evaluate(
+        &mut self,
+        msg: Message<N>,
+        after: Option<Note<CommitWorld, N>>,
+    ) -> Result<ReplyMsg<N>, NoMemory>
         requires here { msg.range ≡ I }
         requires short { length self.old.part.own < 2 ^ 32 }
         requires use_left { 1 ≤ uses_left msg.note.known }
@@ -105,14 +115,47 @@ impl<N: Named<CommitWorld>, const I: u32> RangeCell<N, I> {
         ensures evaluated { IfOk result (λ r. StoresEvaluation I self.old self.new msg.sender msg.number msg.request r.step r.reply) }
         ensures told { IfOk result (λ r. (r.number ≡ msg.number) × IsEvalNote msg.sender msg.number I r.step r.reply r.note.known) }
         ensures later { IfOk result (λ r. IsToldBefore r.step msg.note.known) }
+        ensures behind { IfOk result (λ r. IfSome after (λ n. ComesAfter r.step n.known)) }
         ensures refused { OnErr result ((self.new ≡ self.old) ⊎ HasServed I self.old self.new msg.sender msg.number msg.request) }
     {
         self.actor.room()?;
         let reply = self.state.eval(&msg.request)?;
         let place = self.actor.entries().len();
         let number = msg.number;
-        let step = enter(&mut self.actor, msg, reply);
+        let step = enter_after(&mut self.actor, msg, after, reply);
         answer(&mut self.actor, place, number, step)
+    }
+}
+
+/// Stores the evaluation of a message after what a note tells of, if one is given.
+fn enter_after<N: Named<CommitWorld>>(
+    actor: &mut Actor<CommitWorld, N>,
+    msg: Message<N>,
+    after: Option<Note<CommitWorld, N>>,
+    reply: Reply,
+) -> u64
+    requires room { (1 ≤ actor.old.spare) × (length actor.old.part.own < 2 ^ 32) }
+    requires whose { (actor.old.part.id ≡ Range msg.range) × (msg.range ≤ length actor.old.world.splits) }
+    requires use_left { 1 ≤ uses_left msg.note.known }
+    requires answers { reply ≡ reply_to msg.request (state_of actor.old.part.own) }
+    ensures stored { IsEntered actor.old actor.new msg.sender msg.number msg.range msg.request result reply }
+    ensures later { IsToldBefore result msg.note.known }
+    ensures behind { IfSome after (λ n. ComesAfter result n.known) }
+{
+    know(actor, after);
+    enter(actor, msg, reply)
+}
+
+/// Knows from now on what a note tells of, if one is given.
+fn know<N: Named<CommitWorld>>(
+    actor: &mut Actor<CommitWorld, N>,
+    note: Option<Note<CommitWorld, N>>,
+)
+    ensures same { actor.new ≡ record actor.old { part = record actor.old.part { known = actor.new.part.known } } }
+    ensures knows { IfSome note (λ n. All (λ k. Contains actor.new.part.known k) n.known) }
+{
+    if let Some(note) = note {
+        actor.take(note);
     }
 }
 
@@ -128,6 +171,7 @@ fn enter<N: Named<CommitWorld>>(
     requires answers { reply ≡ reply_to msg.request (state_of actor.old.part.own) }
     ensures stored { IsEntered actor.old actor.new msg.sender msg.number msg.range msg.request result reply }
     ensures later { IsToldBefore result msg.note.known }
+    ensures above { ComesAfter result actor.old.part.known }
 {
     let Message {
         sender,

@@ -1,9 +1,9 @@
 //! Eight ranges in a row.
-ghost use Rattle.std.specs.Prelude.{◌≡◌, ◌+◌, ◌<◌, ◌≤◌, ◌^◌, false, length, IfErr, IfOk, OnErr, OnOk};
+ghost use Rattle.std.specs.Prelude.{◌≡◌, ◌+◌, ◌<◌, ◌≤◌, ◌^◌, false, length, IfErr, IfOk, IfSome, OnErr, OnOk};
 ghost use Rattle.pc_history.specs.Parts.{uses_left};
 ghost use Rattle.pc_proto.specs.Stamps.{request_stamps};
 ghost use Rattle.pc_range.specs.Cell.{IsFullAt};
-ghost use Rattle.pc_range.specs.Message.{IsToldBefore, IsEvalNote};
+ghost use Rattle.pc_range.specs.Message.{ComesAfter, IsToldBefore, IsEvalNote};
 ghost use Rattle.pc_range.specs.Seats.{AreFree, AreInARow, HandsIn, HasSeated, eight_ids, ranges_there};
 ghost use Rattle.pc_world.specs.Stamps.{AllBelowGreatest};
 
@@ -12,7 +12,7 @@ use crate::gate::Gate;
 use crate::message::{Message, ReplyMsg, ServeFault};
 use crate::slot::{self, Slot};
 use pc_base::NoMemory;
-use pc_history::{Named, Opener};
+use pc_history::{Named, Note, Opener};
 use std::alloc::Global;
 use std::marker::Model;
 use std::sync::Wait;
@@ -118,6 +118,7 @@ impl<
         gate: &K,
         limit: u64,
         msg: Message<N>,
+        after: Option<Note<CommitWorld, N>>,
     ) -> Result<ReplyMsg<N>, ServeFault<N>>
         requires row { AreInARow A B C D E F G H }
         requires one { (A ≤ msg.range) × (msg.range ≤ H) }
@@ -127,24 +128,25 @@ impl<
         requires below { AllBelowGreatest (request_stamps msg.request) }
         ensures told { IfOk result (λ r. (r.number ≡ msg.number) × IsEvalNote msg.sender msg.number msg.range r.step r.reply r.note.known) }
         ensures later { IfOk result (λ r. IsToldBefore r.step msg.note.known) }
+        ensures behind { IfOk result (λ r. IfSome after (λ n. ComesAfter r.step n.known)) }
         ensures full { IfErr result (IsFullAt msg.range limit) }
     {
         if msg.range == A {
-            slot::serve(rt, &self.first, gate, limit, msg)
+            slot::serve(rt, &self.first, gate, limit, msg, after)
         } else if msg.range == B {
-            slot::serve(rt, &self.second, gate, limit, msg)
+            slot::serve(rt, &self.second, gate, limit, msg, after)
         } else if msg.range == C {
-            slot::serve(rt, &self.third, gate, limit, msg)
+            slot::serve(rt, &self.third, gate, limit, msg, after)
         } else if msg.range == D {
-            slot::serve(rt, &self.fourth, gate, limit, msg)
+            slot::serve(rt, &self.fourth, gate, limit, msg, after)
         } else if msg.range == E {
-            slot::serve(rt, &self.fifth, gate, limit, msg)
+            slot::serve(rt, &self.fifth, gate, limit, msg, after)
         } else if msg.range == F {
-            slot::serve(rt, &self.sixth, gate, limit, msg)
+            slot::serve(rt, &self.sixth, gate, limit, msg, after)
         } else if msg.range == G {
-            slot::serve(rt, &self.seventh, gate, limit, msg)
+            slot::serve(rt, &self.seventh, gate, limit, msg, after)
         } else {
-            slot::serve(rt, &self.eighth, gate, limit, msg)
+            slot::serve(rt, &self.eighth, gate, limit, msg, after)
         }
     }
 

@@ -1,9 +1,9 @@
-ghost use Rattle.std.specs.Prelude.{◌≡◌, ◌+◌, ◌<◌, ◌≤◌, ◌^◌, ◌++◌, false, length, Contains, IfErr, IfOk, OnErr, OnOk};
+ghost use Rattle.std.specs.Prelude.{◌≡◌, ◌+◌, ◌<◌, ◌≤◌, ◌^◌, ◌++◌, false, length, Contains, IfErr, IfOk, IfSome, OnErr, OnOk};
 ghost use Rattle.pc_base.specs.declared.actor.ActorId.TheVariants.{Range};
 ghost use Rattle.pc_history.specs.Parts.{uses_left};
 ghost use Rattle.pc_proto.specs.Stamps.{request_stamps};
 ghost use Rattle.pc_range.specs.Cell.{IsFullAt};
-ghost use Rattle.pc_range.specs.Message.{IsToldBefore, IsEvalNote};
+ghost use Rattle.pc_range.specs.Message.{ComesAfter, IsToldBefore, IsEvalNote};
 ghost use Rattle.pc_range.specs.Seats.{AreFree, HandsIn, range_ids};
 ghost use Rattle.pc_world.specs.Stamps.{AllBelowGreatest};
 
@@ -12,7 +12,7 @@ use crate::eight::Eight;
 use crate::gate::Gate;
 use crate::message::{Message, ReplyMsg, ServeFault};
 use pc_base::NoMemory;
-use pc_history::{Named, Opener};
+use pc_history::{Named, Note, Opener};
 use pc_proto::Keys;
 use std::alloc::Global;
 use std::marker::Model;
@@ -87,23 +87,29 @@ impl<'a, N: Named<CommitWorld>, G: Gate> Ranges<'a, N, G> {
         &self.splits
     }
 
-    /// Has the message's range evaluate it, under the lock of that range.
-    pub fn serve<R: Wait>(&self, rt: &R, msg: Message<N>) -> Result<ReplyMsg<N>, ServeFault<N>>
+    /// Has the message's range evaluate it, under the lock of that range. Where a note is given, the evaluation comes after what it tells of.
+    pub fn serve<R: Wait>(
+        &self,
+        rt: &R,
+        msg: Message<N>,
+        after: Option<Note<CommitWorld, N>>,
+    ) -> Result<ReplyMsg<N>, ServeFault<N>>
         requires there { msg.range ≤ length self.now.splits }
         requires use_left { 1 ≤ uses_left msg.note.known }
         requires below { AllBelowGreatest (request_stamps msg.request) }
         ensures told { IfOk result (λ r. (r.number ≡ msg.number) × IsEvalNote msg.sender msg.number msg.range r.step r.reply r.note.known) }
         ensures later { IfOk result (λ r. IsToldBefore r.step msg.note.known) }
+        ensures behind { IfOk result (λ r. IfSome after (λ n. ComesAfter r.step n.known)) }
         ensures full { IfErr result (IsFullAt msg.range self.now.limit) }
     {
         if msg.range < 8 {
-            self.first.serve(rt, self.gate, self.limit, msg)
+            self.first.serve(rt, self.gate, self.limit, msg, after)
         } else if msg.range < 16 {
-            self.second.serve(rt, self.gate, self.limit, msg)
+            self.second.serve(rt, self.gate, self.limit, msg, after)
         } else if msg.range < 24 {
-            self.third.serve(rt, self.gate, self.limit, msg)
+            self.third.serve(rt, self.gate, self.limit, msg, after)
         } else {
-            self.fourth.serve(rt, self.gate, self.limit, msg)
+            self.fourth.serve(rt, self.gate, self.limit, msg, after)
         }
     }
 

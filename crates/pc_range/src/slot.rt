@@ -1,10 +1,10 @@
 //! The place of one range, which may not be there.
-ghost use Rattle.std.specs.Prelude.{◌≡◌, ◌+◌, ◌<◌, ◌≤◌, ◌^◌, ◌∷◌, [], cond, false, is_some, length, nat_lt, IfErr, IfOk, IsSome, OnErr, OnOk};
+ghost use Rattle.std.specs.Prelude.{◌≡◌, ◌+◌, ◌<◌, ◌≤◌, ◌^◌, ◌∷◌, [], cond, false, is_some, length, nat_lt, IfErr, IfOk, IfSome, IsSome, OnErr, OnOk};
 ghost use Rattle.pc_base.specs.declared.actor.ActorId.TheVariants.{Range};
 ghost use Rattle.pc_history.specs.Parts.{uses_left};
 ghost use Rattle.pc_proto.specs.Stamps.{request_stamps};
 ghost use Rattle.pc_range.specs.Cell.{IsFullAt};
-ghost use Rattle.pc_range.specs.Message.{IsToldBefore, IsEvalNote};
+ghost use Rattle.pc_range.specs.Message.{ComesAfter, IsToldBefore, IsEvalNote};
 ghost use Rattle.pc_range.specs.Seats.{AreFree, HandsIn, HasSeated};
 ghost use Rattle.pc_world.specs.Stamps.{AllBelowGreatest};
 
@@ -13,7 +13,7 @@ use crate::commit_world::CommitWorld;
 use crate::gate::Gate;
 use crate::message::{Message, ReplyMsg, ServeFault};
 use pc_base::{ActorId, NoMemory};
-use pc_history::{Named, Opener};
+use pc_history::{Named, Note, Opener};
 use std::alloc::Global;
 use std::sync::{Mutex, Wait};
 
@@ -47,6 +47,7 @@ pub(crate) fn serve<N: Named<CommitWorld>, G: Gate, R: Wait, const I: u32>(
     gate: &G,
     limit: u64,
     msg: Message<N>,
+    after: Option<Note<CommitWorld, N>>,
 ) -> Result<ReplyMsg<N>, ServeFault<N>>
     requires there { IsSome slot.now }
     requires here { msg.range ≡ I }
@@ -55,13 +56,14 @@ pub(crate) fn serve<N: Named<CommitWorld>, G: Gate, R: Wait, const I: u32>(
     requires below { AllBelowGreatest (request_stamps msg.request) }
     ensures told { IfOk result (λ r. (r.number ≡ msg.number) × IsEvalNote msg.sender msg.number I r.step r.reply r.note.known) }
     ensures later { IfOk result (λ r. IsToldBefore r.step msg.note.known) }
+    ensures behind { IfOk result (λ r. IfSome after (λ n. ComesAfter r.step n.known)) }
     ensures full { IfErr result (IsFullAt I limit) }
 {
     match slot {
         Some(cell) => {
             let mut cell = cell.lock(rt);
             gate.before(I);
-            cell.serve(limit, msg)
+            cell.serve(limit, msg, after)
         }
         None => unreachable!(),
     }

@@ -9,6 +9,3 @@ mod replies;
 pub use laws::{reads_are_good, reads_stand_on};
 pub use reads::TxnReads;
 pub use replies::{first_unrefreshed, unrefreshed};
-
-#[cfg(test)]
-mod tests;

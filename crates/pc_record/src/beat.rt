@@ -1,12 +1,10 @@
 //! Beat: shows that the transaction is alive, by a PENDING record where there is none. It closes the race with a push that
 //! takes a silent holder for gone: the holder's activity goes up.
 
-ghost use Rattle.std.specs.Prelude.{◌≡◌, IfOk, OnOk, OnErr, [], max};
-ghost use Rattle.pc_proto.specs.RecordRows.{place_change, record_reply, table_after};
+ghost use Rattle.std.specs.Prelude.{◌≡◌, IfOk, OnOk, OnErr, []};
+ghost use Rattle.pc_proto.specs.RecordRows.{record_reply, table_after};
 ghost use Rattle.pc_proto.specs.RecordRows.Reached.{status_of};
-ghost use Rattle.pc_record.specs.RecordOf.{becoming};
 
-use crate::place::Place;
 use crate::table::RecordTable;
 use pc_base::{Items, NoMemory, Timestamp, TryCopy};
 use pc_proto::{Record, Reply, Request, Standing, Status, TxnMeta};
@@ -22,45 +20,18 @@ pub(crate) fn beat(
     ensures after { OnOk result (table.new ≡ table_after (Request.Beat meta.now ts now) table.old) }
     ensures err { OnErr result (table.new ≡ table.old) }
 {
-    let record = alive(table.alloc(), &table.place(meta.id), meta, ts, now)?;
-    table.write(meta.id, record)
-}
-
-/// The record to write, where the transaction is undecided.
-fn alive(
-    alloc: Global,
-    place: &Place<'_>,
-    meta: &TxnMeta,
-    ts: Timestamp,
-    now: u64,
-) -> Result<Option<Record>, NoMemory>
-    ensures { IfOk result (λ made. becoming made ≡ place_change (Request.Beat meta.now ts now) place.now) }
-{
+    let alloc = table.alloc();
+    let place = table.place(meta.id);
     if place.is_decided() {
-        return Ok(None);
+        return Ok(Reply::Status(place.view(alloc)?));
     }
-    let record = match place.record() {
-        Some(record) => active(record, now)?,
-        None => begun(alloc, meta, ts, now)?,
-    };
-    Ok(Some(record))
-}
-
-/// The record, active at this reading.
-fn active(kept: &Record, now: u64) -> Result<Record, NoMemory>
-    ensures { IfOk result (λ made. made ≡ record kept.now { activity = max kept.now.activity now }) }
-{
-    let meta = kept.meta.copy()?;
-    let status = kept.status.copy()?;
-    let writes = kept.writes.copy()?;
-    let locks = kept.locks.copy()?;
-    Ok(Record {
-        meta,
-        status,
-        activity: kept.activity.max(now),
-        writes,
-        locks,
-    })
+    if place.record().is_none() {
+        let record = begun(alloc, meta, ts, now)?;
+        return table.write(meta.id, Some(record));
+    }
+    let view = place.view(alloc)?;
+    table.stay_active(meta.id, now);
+    Ok(Reply::Status(view))
 }
 
 /// The first record of a transaction.

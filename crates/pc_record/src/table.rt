@@ -1,4 +1,4 @@
-ghost use Rattle.std.specs.Prelude.{◌≡◌, IfOk, OnOk, OnErr};
+ghost use Rattle.std.specs.Prelude.{◌≡◌, IfOk, MatchOption, OnOk, OnErr, max};
 ghost use Rattle.std.specs.Option.{option_copied};
 ghost use Rattle.pc_base.specs.Keyed.{at};
 ghost use Rattle.pc_base.specs.Transaction.{same_txn};
@@ -103,6 +103,16 @@ impl RecordTable {
     {
         self.records.insert(id, kept)?;
         Ok(())
+    }
+
+    /// The transaction was active at this reading, as its record says from now on, where it has one.
+    pub(crate) fn stay_active(&mut self, id: TxnId, now: u64)
+        ensures { MatchOption (at same_txn id self.old.records) (self.new ≡ self.old) (λ kept. self.new ≡ applied_to id (Become (record kept { activity = max kept.activity now })) self.old) }
+    {
+        let Some(record) = self.records.get_mut(&id) else {
+            return;
+        };
+        record.activity = record.activity.max(now);
     }
 
     /// Puts a transaction's mark in the place of its record.

@@ -4,10 +4,11 @@ use Rattle.std.proofs.lemmas.List.Elements.{All-head, All-nil, All-weaker, Conta
 use Rattle.std.specs.Prelude.{is_some}
 use Rattle.pc_desk.specs.declared.halt.Halt.{Halt}
 use Rattle.pc_desk.specs.Desk.{DeskMeaning, MaySendNow}
-use Rattle.pc_exchange.specs.Ending.{BreaksOff}
 use Rattle.pc_exchange.specs.Exchange.{WasExchanged}
+use Rattle.pc_history.specs.declared.pair.Pair.{Pair}
 use Rattle.pc_lists.proofs.Anywhere.{any_last}
 use Rattle.pc_lists.proofs.Same.{same_txn-self}
+use Rattle.pc_proto.specs.declared.event.Event.{Event}
 use Rattle.pc_proto.specs.declared.fate.Goal.TheVariants as goals
 use Rattle.pc_proto.specs.declared.meta.TxnMeta.{TxnMeta}
 use Rattle.pc_proto.specs.declared.reply.Reply.{Reply}
@@ -18,14 +19,17 @@ use Rattle.pc_proto.specs.Replies.{view_in}
 use Rattle.pc_proto.specs.Requests.{is_about}
 use Rattle.pc_proto.specs.Stamps.{reply_stamps, view_stamps}
 use Rattle.pc_recoverer.proofs.Anchored.{anchor_is}
+use Rattle.pc_recoverer.proofs.Breaking.{front_breaks}
+use Rattle.pc_recoverer.proofs.Fronts.{front_weaker, saying}
 use Rattle.pc_recoverer.proofs.Settling.{may_send_now}
-use Rattle.pc_recoverer.proofs.Traffic.{heard_is, heard_of, made_both, made_none, made_one, message_of, still_making, traffic_breaks, was_answered}
+use Rattle.pc_recoverer.specs.Broken.{AreFrontOf, AreFrontOfOne, BreaksOffIn, IsOneMessage}
+use Rattle.pc_recoverer.proofs.Traffic.{heard_is, heard_of, made_both, made_none, made_one, message_of, still_making, was_answered}
 use Rattle.pc_recoverer.specs.declared.maker.RoundMaker.{RoundMaker}
-use Rattle.pc_recoverer.specs.Exchanges.{RoundMessage}
+use Rattle.pc_recoverer.specs.Exchanges.{RoundMessage, requests_of}
 use Rattle.pc_recoverer.specs.InRound.{HasDealtWith, HasMadeTraffic, HasRecovered, HasSettled, IsMakingRound, MayPushNow, MayRecoverNow, MaySettleNow, WasShown}
 use Rattle.pc_recoverer.specs.Recovered.{name_of}
-use Rattle.pc_recoverer.specs.Round.{FollowsPush, listed_push}
-use Rattle.pc_turns.specs.Order.{IsInBetween}
+use Rattle.pc_recoverer.specs.Round.{FollowsPush, IsPartFor, listed_push}
+use Rattle.pc_recoverer.specs.Settled.{settling_of}
 use Rattle.pc_world.proofs.Exchange.{answered}
 use Rattle.pc_world.proofs.RoundReplies.{IsStagingView, push_answers}
 use Rattle.pc_world.specs.Exchange.{IsPossibleReply}
@@ -154,10 +158,42 @@ module _ {C : Type 0} (maker : RoundMaker) (old : DeskMeaning C) (meta : TxnMeta
   made-push = made_one old d (listed_push maker meta) told may.in_round.back x
 
   -- after the push
-  pub pushed_breaks : (new : DeskMeaning C) (halt : Halt) → BreaksOff (All IsInBetween) d new halt → BreaksOff (All IsInBetween) old new halt
-  pushed_breaks new halt breaks = traffic_breaks old d new (push_of ∷ []) halt made-push breaks
+  pushed-breaks : (More : List RoundMessage → Type 0) (new : DeskMeaning C) (halt : Halt) → ((ys : List RoundMessage) → More ys → FollowsPush maker meta told ys) → BreaksOffIn (AreFrontOf More) d new halt → BreaksOffIn (AreFrontOf (IsPartFor maker meta)) old new halt
+  pushed-breaks More new halt on breaks =
+      front_breaks old d new (push_of ∷ []) halt (IsPartFor maker meta) More made-push (λ ys more. record { push = push_of; after = ys; whole = refl; asked = refl; follows = on ys more }) breaks
 
-  -- after the recovery
-  pub recovered_breaks : (met view : View) (mid new : DeskMeaning C) (halt : Halt) → HasRecovered maker meta met d mid view → BreaksOff (All IsInBetween) mid new halt → BreaksOff (All IsInBetween) old new halt
-  recovered_breaks met view mid new halt recovered breaks =
-      traffic_breaks old mid new (push_of ∷ recovered.traffic) halt (made_both old d mid (push_of ∷ []) recovered.traffic made-push recovered.exchanged) breaks
+  -- in what its status asks for
+  pub settling_ends_early : (view : View) (new : DeskMeaning C) (halt : Halt) → told ≡ replies.Status view → BreaksOffIn (AreFrontOf (λ xs. requests_of xs ≡ settling_of meta view)) d new halt → BreaksOffIn (AreFrontOf (IsPartFor maker meta)) old new halt
+  settling_ends_early view new halt is breaks = pushed-breaks (λ xs. requests_of xs ≡ settling_of meta view) new halt (λ ys settles. subst (λ r. FollowsPush maker meta r ys) (sym is) settles) breaks
+
+  -- in the recovery
+  pub recovery_ends_early : (met : View) (new : DeskMeaning C) (halt : Halt) → told ≡ replies.Unsure met → BreaksOffIn (AreFrontOf (FollowsPush maker meta (replies.Unsure met))) d new halt → BreaksOffIn (AreFrontOf (IsPartFor maker meta)) old new halt
+  recovery_ends_early met new halt is breaks = pushed-breaks (FollowsPush maker meta (replies.Unsure met)) new halt (λ ys follows. subst (λ r. FollowsPush maker meta r ys) (sym is) follows) breaks
+
+  -- in what the recovery's view asks for
+  pub recovered_ends_early : (met view : View) (mid new : DeskMeaning C) (halt : Halt) → told ≡ replies.Unsure met → HasRecovered maker meta met d mid view → BreaksOffIn (AreFrontOf (λ xs. requests_of xs ≡ settling_of meta view)) mid new halt
+      → BreaksOffIn (AreFrontOf (IsPartFor maker meta)) old new halt
+  recovered_ends_early met view mid new halt is recovered breaks =
+      front_breaks old mid new (push_of ∷ recovered.traffic) halt (IsPartFor maker meta) (λ xs. requests_of xs ≡ settling_of meta view)
+      (made_both old d mid (push_of ∷ []) recovered.traffic made-push recovered.exchanged)
+      (λ ys settles. record {
+        push = push_of;
+        after = recovered.traffic ++ ys;
+        whole = refl;
+        asked = refl;
+        follows =
+            subst (λ r. FollowsPush maker meta r (recovered.traffic ++ ys)) (sym (is ∙ ap (λ v. replies.Unsure v) recovered.is)) (record {
+              first = recovered.traffic;
+              rest = ys;
+              whole = refl;
+              told = replies.Status view;
+              decided = recovered.decided;
+              settled = settles;
+            });
+      }) breaks
+
+-- or in the push
+pub push_ends_early : (maker : RoundMaker) (meta : TxnMeta) (q : List (Pair Event)) → AreFrontOfOne (listed_push maker meta) q → AreFrontOf (IsPartFor maker meta) q
+push_ends_early maker meta q one =
+    front_weaker (IsOneMessage (listed_push maker meta) replies.Removed) (IsPartFor maker meta) q
+    (λ xs is. subst (λ l. IsPartFor maker meta l) (sym is.1) (record { push = saying is.0 (listed_push maker meta) replies.Removed; after = []; whole = refl; asked = refl; follows = refl })) (one replies.Removed)

@@ -5,14 +5,16 @@ use Rattle.std.proofs.lemmas.List.Elements.{All-cons, All-nil}
 use Rattle.std.specs.List.{list_any}
 use Rattle.pc_desk.proofs.Making.{added}
 use Rattle.pc_desk.specs.declared.answered.Answered.{Answered}
-use Rattle.pc_desk.specs.Desk.{DeskMeaning, HasDelivered, HasHeardFirst, HasSentNext, MayHearNow, Posted, is_on_way}
+use Rattle.pc_desk.specs.declared.halt.Halt.{Halt}
+use Rattle.pc_desk.specs.Desk.{DeskMeaning, HasDelivered, HasHeardFirst, HasSentNext, KeepsTrack, MayHearNow, Posted, is_on_way}
+use Rattle.pc_desk.specs.Ending.{EndsOnly}
 use Rattle.pc_desk.specs.Keeping.{KeepsAs}
 use Rattle.pc_desk.specs.OwnLog.{LogMeaning}
 use Rattle.pc_exchange.proofs.Called.{next_unsent}
-use Rattle.pc_exchange.proofs.Growing.{grows_both, grows_else, grows_entered}
+use Rattle.pc_exchange.proofs.Growing.{grows_both, grows_else, grows_entered, grows_none}
 use Rattle.pc_exchange.proofs.HeardKinds.{heard_kind, heard_possible}
 use Rattle.pc_exchange.proofs.Knowing.{heard_then}
-use Rattle.pc_exchange.specs.Exchange.{WasExchanged, heard_pair, sent_pair}
+use Rattle.pc_exchange.specs.Exchange.{heard_pair, sent_pair}
 use Rattle.pc_exchange.specs.Growing.{HasAllBack, HasGrownBy}
 use Rattle.pc_history.specs.declared.pair.Pair.{Pair}
 use Rattle.pc_history.specs.Own.{pair}
@@ -20,11 +22,19 @@ use Rattle.pc_history.specs.Parts.{entry_of, knowledge, named_by}
 use Rattle.pc_lists.proofs.Lists.{contains_cons, contains_head, contains_nil, contains_tail, find_none}
 use Rattle.pc_proto.specs.declared.event.Event.{Event}
 use Rattle.pc_proto.specs.declared.event.Event.TheVariants as events
+use Rattle.pc_proto.specs.declared.meta.TxnMeta.{TxnMeta}
+use Rattle.pc_proto.specs.declared.reply.Reply.{Reply}
+use Rattle.pc_proto.specs.declared.reply.Reply.TheVariants as replies
 use Rattle.pc_proto.specs.declared.request.Request.{Request}
+use Rattle.pc_proto.specs.declared.request.Request.TheVariants as requests
 use Rattle.pc_range.specs.Message.{evaluation}
 use Rattle.pc_range.specs.Protocol.{unstaged_protocol}
-use Rattle.pc_recoverer.specs.InRound.{IsRecoverer}
+use Rattle.pc_recoverer.proofs.Breaking.{breaks_here, breaks_weaker}
+use Rattle.pc_recoverer.proofs.Fronts.{front_sent, front_unsent, front_unsent_to}
+use Rattle.pc_recoverer.specs.Broken.{AreFrontOf, AreFrontOfOne, AreFrontOfOneTo, BreaksOffIn, IsOneMessageTo}
+use Rattle.pc_recoverer.specs.InRound.{IsRecoverer, WasExchangedWith}
 use Rattle.pc_turns.specs.Order.{IsInBetween}
+use Rattle.pc_world.specs.Exchange.{IsPossibleReply}
 use Rattle.pc_world.specs.Known.{known_of, next_number}
 use Rattle.pc_world.specs.Known.Traffic.{Heard, heard_by}
 
@@ -124,26 +134,76 @@ module _ {C : Type 0} (old mid late : DeskMeaning C) (request : Request) (number
         (subst (λ p. HasGrownBy old.log new.log (added old.log sent.sent (events.Send number sent.range request) sent.entered ∷ p ∷ [])) second-is all)
 
     -- the exchange
-    pub was_exchanged : WasExchanged old new request a.reply
+    pub was_exchanged : WasExchangedWith sent.range old new request a.reply
     was_exchanged =
         let next = next_number (known_of old.log.part.own) in
         let h : Heard = record { number = next; request = request; reply = a.reply; step = a.step } in
         let there : Contains (known_of new.log.part.own).heard h =
         subst (λ own. Contains (known_of own).heard h) (sym grown.own) (heard_then old.log.part.own old.log.part.id sent.entered.step heard.entered.step next sent.range heard.range a.step request a.reply (next_unsent old back)) in
         record {
-          range = sent.range;
-          evaluated_by = heard.range;
-          sent_at = sent.entered.step;
-          evaluated_at = a.step;
-          heard_at = heard.entered.step;
-          goes = record {
-            grown = grown;
-            within =
-                All-cons IsInBetween (events.Send next sent.range request) (events.Hear next a.step ∷ []) tt
-                (All-cons IsInBetween (events.Hear next a.step) [] tt (All-nil IsInBetween));
-            back = record { track = heard.track; posted = heard.posted ∙ none; replies = none-left };
-            limit = heard.limit ∙ (delivered.limit ∙ sent.limit);
+          exchanged = record {
+            range = sent.range;
+            evaluated_by = heard.range;
+            sent_at = sent.entered.step;
+            evaluated_at = a.step;
+            heard_at = heard.entered.step;
+            goes = record {
+              grown = grown;
+              within =
+                  All-cons IsInBetween (events.Send next sent.range request) (events.Hear next a.step ∷ []) tt
+                  (All-cons IsInBetween (events.Hear next a.step) [] tt (All-nil IsInBetween));
+              back = record { track = heard.track; posted = heard.posted ∙ none; replies = none-left };
+              limit = heard.limit ∙ (delivered.limit ∙ sent.limit);
+            };
+            kind = heard_kind new.log heard.track.log h there;
+            possible = heard_possible new.log heard.track.log h there;
           };
-          kind = heard_kind new.log heard.track.log h there;
-          possible = heard_possible new.log heard.track.log h there;
+          there = refl;
         }
+
+-- ---- where its list ends once the message was sent
+
+module _ {C : Type 0} (old mid new : DeskMeaning C) (request : Request) (number : ℕ) (halt : Halt) (sent : HasSentNext old mid number request) where
+  grown-sent : HasGrownBy old.log mid.log (added old.log sent.sent (events.Send number sent.range request) sent.entered ∷ [])
+  grown-sent =
+      let one = grows_entered old.log sent.sent (events.Send number sent.range request) sent.entered refl in
+      let two : HasGrownBy sent.sent mid.log [] = grows_else sent.sent mid.log _ sent.sent.part.known sent.noted (λ k there. there) in
+      grows_both old.log sent.sent mid.log _ [] one two
+
+  -- it was not evaluated
+  pub ends_sent : EndsOnly mid new halt → BreaksOffIn (AreFrontOfOneTo sent.range request) old new halt
+  ends_sent ends =
+      let p = added old.log sent.sent (events.Send number sent.range request) sent.entered in
+      breaks_here old mid new (p ∷ []) grown-sent sent.limit sent.track (AreFrontOfOneTo sent.range request) halt (front_sent number sent.range request p refl) ends
+
+  -- or its reply was not heard
+  pub ends_delivered : (late : DeskMeaning C) → HasDelivered mid late → EndsOnly late new halt → BreaksOffIn (AreFrontOfOneTo sent.range request) old new halt
+  ends_delivered late delivered ends =
+      let p = added old.log sent.sent (events.Send number sent.range request) sent.entered in
+      let three : HasGrownBy mid.log late.log [] = grows_else mid.log late.log mid.log.part.given late.log.part.known delivered.own delivered.more in
+      let grown = grows_both old.log mid.log late.log (p ∷ []) [] grown-sent three in
+      breaks_here old late new (p ∷ []) grown (delivered.limit ∙ sent.limit) delivered.track (AreFrontOfOneTo sent.range request) halt (front_sent number sent.range request p refl) ends
+
+-- nor was it sent
+pub ends_unsent : {C : Type 0} (old new : DeskMeaning C) (request : Request) (halt : Halt) → KeepsTrack old → EndsOnly old new halt → BreaksOffIn (AreFrontOfOne request) old new halt
+ends_unsent old new request halt track ends = breaks_here old old new [] (grows_none old.log) refl track (AreFrontOfOne request) halt (front_unsent request) ends
+
+-- ---- a message to a range that the recoverer names
+
+pub ends_unsent_to : {C : Type 0} (old new : DeskMeaning C) (range : ℕ) (request : Request) (reply : Reply) (halt : Halt) → KeepsTrack old → EndsOnly old new halt → BreaksOffIn (AreFrontOf (IsOneMessageTo range request reply)) old new halt
+ends_unsent_to old new range request reply halt track ends = breaks_here old old new [] (grows_none old.log) refl track (AreFrontOf (IsOneMessageTo range request reply)) halt (front_unsent_to range request reply) ends
+
+pub ends_at : {C : Type 0} (old new : DeskMeaning C) (one range : ℕ) (request : Request) (reply : Reply) (halt : Halt) → one ≡ range → BreaksOffIn (AreFrontOfOneTo one request) old new halt → BreaksOffIn (AreFrontOf (IsOneMessageTo range request reply)) old new halt
+ends_at old new one range request reply halt same breaks =
+    breaks_weaker old new (AreFrontOfOneTo one request) (AreFrontOf (IsOneMessageTo range request reply)) halt (λ part f. subst (λ r. AreFrontOf (IsOneMessageTo r request reply) part) same (f reply)) breaks
+
+-- ---- a listing of records
+
+-- The reply lists these records.
+pub record IsListing (told : Reply) : Type 0 where
+  pub metas : List TxnMeta
+  pub is : told ≡ replies.Listed metas
+
+-- it is answered by a list
+pub listing_answers : (told : Reply) → IsPossibleReply requests.Records told → IsListing told
+listing_answers told possible = record { metas = _; is = possible.is }

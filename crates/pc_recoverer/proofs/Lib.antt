@@ -1,6 +1,10 @@
 pub mod Anchored
+pub mod Breaking
 pub mod Dealing
 pub mod Exchanging
+pub mod Fronts
 pub mod Recovering
+pub mod Rounding
 pub mod Settling
 pub mod Traffic
+pub mod Visiting

@@ -1,14 +1,16 @@
 -- A recoverer recovers a transaction: how it begins, what each exchange of its machine leaves, and how it ends.
 use Rattle.std.proofs.Common.{◌≡◌, ℕ, zero, suc, ◌+◌, ◌≤◌, ◌⊎◌, Bool, true, false, if◌then◌else◌, All, Any, List, [], ◌∷◌, ◌++◌, map, take, drop, length, slice_get, Option, Some, None, inl, inr, refl, sym, ap, ◌∙◌, subst, arith}
-use Rattle.std.proofs.lemmas.List.{map-append, take_more}
+use Rattle.std.proofs.lemmas.List.{append-nil, map-append, take_more}
 use Rattle.std.proofs.lemmas.List.Elements.{All-nil, All-push, All-weaker}
 use Rattle.std.proofs.lemmas.Option.{slice_get_cases}
 use Rattle.pc_base.specs.declared.actor.ActorId.{ActorId}
 use Rattle.pc_base.specs.declared.actor.ActorId.TheVariants as actors
 use Rattle.pc_desk.specs.Desk.{DeskMeaning, MaySendNow}
 use Rattle.pc_exchange.specs.Exchange.{WasExchanged}
+use Rattle.pc_history.specs.declared.pair.Pair.{Pair}
 use Rattle.pc_lists.proofs.Anywhere.{any_last}
 use Rattle.pc_lists.proofs.Same.{same_txn-self}
+use Rattle.pc_proto.specs.declared.event.Event.{Event}
 use Rattle.pc_proto.specs.declared.fate.Finding.{Finding}
 use Rattle.pc_proto.specs.declared.fate.Finding.TheVariants as findings
 use Rattle.pc_proto.specs.declared.machine.MachineNext.{MachineNext}
@@ -28,12 +30,15 @@ use Rattle.pc_recover.specs.declared.progress.Progress.{Progress}
 use Rattle.pc_recover.specs.declared.progress.Progress.TheVariants as progresses
 use Rattle.pc_recover.specs.RecoverKnows.{MayRecover, RecoverKnows, RecoveringMayCome}
 use Rattle.pc_recover.specs.Recovering.{IsRecoveryOf, Recovering, asked_for, is_staging_view, over_by, progress_after, progress_after_deciding, progress_after_query, query_of, recover_of, recovering_after, recovering_at, recovering_due, recovering_heard, recovering_next}
+use Rattle.pc_recoverer.proofs.Fronts.{front_before, front_behind, saying}
 use Rattle.pc_recoverer.proofs.Settling.{may_send_now}
+use Rattle.pc_recoverer.specs.Broken.{AreFrontOf, AreFrontOfOne, IsOneMessage}
 use Rattle.pc_recoverer.proofs.Traffic.{heard_is, heard_of, made_both, made_none, made_one, message_of, requests_both, was_answered}
 use Rattle.pc_recoverer.specs.declared.maker.RoundMaker.{RoundMaker}
 use Rattle.pc_recoverer.specs.Exchanges.{RoundMessage}
 use Rattle.pc_recoverer.specs.InRound.{HasRecovered, IsMakingRound, MayRecoverNow, WasShown}
-use Rattle.pc_recoverer.specs.Recovered.{HasQueried, WereAllFound, name_of, query_for}
+use Rattle.pc_recoverer.specs.Recovered.{HasQueried, IsRecovered, WereAllFound, name_of, query_for}
+use Rattle.pc_recoverer.specs.Round.{FollowsPush}
 use Rattle.pc_recoverer.specs.UnderWay.{HasRecoveredTo, IsBeingRecovered}
 use Rattle.pc_world.proofs.Exchange.{answered}
 use Rattle.pc_world.proofs.RoundReplies.{IsStatus, recovery_answers}
@@ -253,6 +258,85 @@ module _ {C : Type 0} (maker : RoundMaker) (old : DeskMeaning C) (meta : TxnMeta
           ∙ ap (λ (p : Progress). record { holder = meta; epoch = f.start.epoch; ts = f.start.ts; writes = f.start.writes; by = name_of maker; progress = p }) (sym (ap (λ (m : Recovering). m.progress) made)));
       come = subst (λ (m : Recovering). To m.progress) (sym made) (come-on m.progress f.come due);
     }
+
+-- ---- where its list ends in one of its steps
+
+module _ {C : Type 0} (maker : RoundMaker) (old : DeskMeaning C) (meta : TxnMeta) (met : View) (m : Recovering) (d : DeskMeaning C) (f : IsBeingRecovered maker old meta met m d) where
+  -- What the recovery would be as a whole.
+  abbrev Whole : List RoundMessage → Type 0
+  Whole = IsRecovered maker meta f.start.epoch f.start.ts f.start.writes
+
+  abbrev decision-by : Finding → Request
+  decision-by finding = requests.Recover meta.id f.start.epoch f.start.ts meta.anchor finding
+
+  -- what the queries found, and a decision by it that shows nothing
+  would-decide : (finding : Finding) (queries : List RoundMessage) (range : ℕ) → HasQueried maker meta f.start.epoch f.start.ts f.start.writes finding queries → Whole (queries ++ saying range (decision-by finding) replies.Removed ∷ [])
+  would-decide finding queries range queried =
+      let decision = saying range (decision-by finding) replies.Removed in
+      record {
+        first = queries ++ decision ∷ [];
+        rest = [];
+        whole = sym (append-nil (queries ++ decision ∷ []));
+        told = replies.Removed;
+        decided = record { queries = queries; decision = decision; whole = refl; finding = finding; queried = queried; asked = refl; is_told = refl };
+        settled = refl;
+      }
+
+  module _ (request : Request) (due : recovering_next m ≡ machine.Send request) (q : List (Pair Event)) (one : AreFrontOfOne request q) where
+    -- in the decision
+    ends-deciding : (finding : Finding) → HasQueried maker meta f.start.epoch f.start.ts f.start.writes finding f.traffic → request ≡ decision-by finding → AreFrontOf Whole (f.made.part ++ q)
+    ends-deciding finding queried is =
+        front_behind (IsOneMessage request replies.Removed) Whole f.traffic f.made.part q f.made.each
+        (λ ys one.
+        subst (λ l. Whole (f.traffic ++ l)) (sym one.1) (subst (λ r. Whole (f.traffic ++ saying one.0 r replies.Removed ∷ [])) (sym is) (would-decide finding f.traffic one.0 queried))) (one replies.Removed)
+
+    -- in a query
+    ends-querying : (n : ℕ) (w : List ℕ × ℕ) → slice_get f.start.writes n ≡ Some w → WereAllFound maker meta f.start.epoch f.start.ts (take n f.start.writes) f.traffic → request ≡ query_for maker meta f.start.epoch f.start.ts w → AreFrontOf Whole (f.made.part ++ q)
+    ends-querying n w at come is =
+        let finding = findings.Missing w.0 (name_of maker) in
+        let First : List RoundMessage → Type 0 = λ zs. (range : ℕ) × (zs ≡ f.traffic ++ saying range request replies.Missing ∷ []) in
+        front_before First Whole (f.made.part ++ q)
+        (λ zs is_first.
+        let last = saying is_first.0 request replies.Missing in
+        let queried : HasQueried maker meta f.start.epoch f.start.ts f.start.writes finding (f.traffic ++ last ∷ []) = (
+          refl,
+          record {
+            found = take n f.start.writes;
+            missing = w;
+            unasked = drop (n + 1) f.start.writes;
+            listed = cut-at f.start.writes n w at;
+            key_is = refl;
+            before = f.traffic;
+            last = last;
+            whole = refl;
+            all_found = come;
+            asked = is;
+            told = refl;
+          },
+        ) in
+        (saying 0 (decision-by finding) replies.Removed ∷ [], subst (λ l. Whole (l ++ saying 0 (decision-by finding) replies.Removed ∷ [])) (sym is_first.1) (would-decide finding (f.traffic ++ last ∷ []) 0 queried)))
+        (front_behind (IsOneMessage request replies.Missing) First f.traffic f.made.part q f.made.each (λ ys one. (one.0, ap (λ l. f.traffic ++ l) one.1)) (one replies.Missing))
+
+    ends-found : (n : ℕ) (w : Option (List ℕ × ℕ)) → slice_get m.writes n ≡ w → WereAllFound maker meta f.start.epoch f.start.ts (take n f.start.writes) f.traffic → request ≡ asked_for w m → AreFrontOf Whole (f.made.part ++ q)
+    ends-found n (Some w) at come asked = ends-querying n w (ap (λ l. slice_get l n) (sym (writes-is maker old meta met m d f)) ∙ at) come (asked ∙ query-is maker old meta met m d f w)
+    ends-found n None at come asked =
+        let all : take n f.start.writes ≡ f.start.writes = past-all f.start.writes n (ap (λ l. slice_get l n) (sym (writes-is maker old meta met m d f)) ∙ at) in
+        ends-deciding findings.All (subst (λ ws. WereAllFound maker meta f.start.epoch f.start.ts ws f.traffic) all come) (asked ∙ recover-is maker old meta met m d f findings.All)
+
+    over-asks : (b : Bool) (view : View) → over_by b view ≡ machine.Send request → ⊥
+    over-asks true view e = cc
+    over-asks false view e = cc
+
+    ends-at : (p : Progress) → HasRecoveredTo maker meta f.start.epoch f.start.ts f.start.writes p f.traffic (known_of d.log.part.own) → recovering_due p m ≡ machine.Send request → AreFrontOf Whole (f.made.part ++ q)
+    ends-at (progresses.Found n) come e = let asked : request ≡ asked_for (slice_get m.writes n) m = cc in ends-found n (slice_get m.writes n) refl come asked
+    ends-at (progresses.Missing key) come e =
+        let asked : request ≡ recover_of m (findings.Missing key m.by) = cc in
+        ends-deciding (findings.Missing key m.by) (by-is maker old meta met m d f, come) (asked ∙ recover-is maker old meta met m d f (findings.Missing key m.by))
+    ends-at (progresses.Over view) come e = absurd (over-asks (is_final_view view) view e)
+
+    -- that is a front of the recovery
+    pub recovering_breaks : AreFrontOf (FollowsPush maker meta (replies.Unsure met)) (f.made.part ++ q)
+    recovering_breaks = subst (λ v. AreFrontOf (FollowsPush maker meta (replies.Unsure v)) (f.made.part ++ q)) (sym f.start.is) (ends-at m.progress f.come due)
 
 -- ---- its end
 

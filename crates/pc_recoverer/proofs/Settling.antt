@@ -11,7 +11,9 @@ use Rattle.pc_exchange.proofs.Going.{answered_to_by}
 use Rattle.pc_exchange.proofs.Messages.{due_first, is_first, none_left}
 use Rattle.pc_exchange.specs.Exchange.{WasExchanged}
 use Rattle.pc_exchange.specs.Finishing.{messages_due}
+use Rattle.pc_history.specs.declared.pair.Pair.{Pair}
 use Rattle.pc_lists.proofs.Anywhere.{any_weaker}
+use Rattle.pc_proto.specs.declared.event.Event.{Event}
 use Rattle.pc_proto.specs.declared.event.Event.TheVariants as events
 use Rattle.pc_proto.specs.declared.fate.Fate.{Fate}
 use Rattle.pc_proto.specs.declared.fate.Fate.TheVariants as fates
@@ -19,6 +21,7 @@ use Rattle.pc_proto.specs.declared.machine.MachineNext.{MachineNext}
 use Rattle.pc_proto.specs.declared.machine.MachineNext.TheVariants as machine
 use Rattle.pc_proto.specs.declared.meta.TxnMeta.{TxnMeta}
 use Rattle.pc_proto.specs.declared.reply.Reply.{Reply}
+use Rattle.pc_proto.specs.declared.reply.Reply.TheVariants as replies
 use Rattle.pc_proto.specs.declared.request.Request.{Request}
 use Rattle.pc_proto.specs.declared.request.Request.TheVariants as requests
 use Rattle.pc_proto.specs.declared.view.View.{View}
@@ -26,9 +29,11 @@ use Rattle.pc_proto.specs.declared.view.View.TheVariants as views
 use Rattle.pc_proto.specs.declared.why.Why.{Why}
 use Rattle.pc_proto.specs.Stamps.{fate_stamps}
 use Rattle.pc_proto.specs.Views.{HasLocks, IsFateOf}
+use Rattle.pc_recoverer.proofs.Fronts.{front_before, front_behind, said_each, saying_each}
 use Rattle.pc_recoverer.proofs.Traffic.{made_both, made_none, made_one, message_of, requests_both}
 use Rattle.pc_recoverer.specs.declared.maker.RoundMaker.{RoundMaker}
-use Rattle.pc_recoverer.specs.Exchanges.{requests_of}
+use Rattle.pc_recoverer.specs.Broken.{AreFrontOf, AreFrontOfOne, IsOneMessage}
+use Rattle.pc_recoverer.specs.Exchanges.{RoundMessage, requests_of}
 use Rattle.pc_recoverer.specs.InRound.{HasSettled, IsMakingRound, MaySettleNow, WasShown}
 use Rattle.pc_recoverer.specs.Settled.{settling_of, settling_with}
 use Rattle.pc_recoverer.specs.UnderWay.{HasFinishedListed, IsBeingSettled, MayFinishInRound}
@@ -132,6 +137,17 @@ module _ {C : Type 0} (old : DeskMeaning C) (meta : TxnMeta) (fate : Fate) (lock
       may_send_now d f.start.maker request making_now
       (subst (FinishingMayCome d.log.head.splits id start k m) is (may d.log.head.splits id start k f.knows))
       (no_stage request kind) (for_one d.log.head.splits request kind)
+
+  -- where its list ends in the next message, that is a front of what the fate asks for
+  pub settling_breaks : (request : Request) → finishing_next m ≡ machine.Send request → (q : List (Pair Event)) → AreFrontOfOne request q → AreFrontOf (λ xs. requests_of xs ≡ settling_with meta fate locks) (f.made.part ++ q)
+  settling_breaks request due q one =
+      let first = due_first m request due in
+      let left = saying_each first.tail in
+      let Next : List RoundMessage → Type 0 = λ xs. requests_of xs ≡ request ∷ first.tail in
+      front_behind Next (λ xs. requests_of xs ≡ settling_with meta fate locks) f.traffic f.made.part q f.made.each
+      (λ ys is. requests_both f.traffic ys ∙ (ap (λ l. requests_of f.traffic ++ l) (is ∙ sym first.first) ∙ f.left))
+      (front_before (IsOneMessage request replies.Removed) Next q
+      (λ xs is. (left, requests_both xs left ∙ (ap (λ l. requests_of l ++ requests_of left) is.1 ∙ ap (λ l. request ∷ l) (said_each first.tail)))) (one replies.Removed))
 
   module _ (request : Request) (due : finishing_next m ≡ machine.Send request) (next : Resolving) (new : DeskMeaning C) (reply : Reply) (x : WasExchanged d new request reply) (made : next ≡ finishing_after reply m) where
     -- one exchange more

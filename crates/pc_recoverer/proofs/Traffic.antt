@@ -1,13 +1,11 @@
 -- A recoverer in its round goes on by one message after another.
-use Rattle.std.proofs.Common.{◌≡◌, List, [], ◌∷◌, ◌++◌, map, All, IfErr, OnOk, Result, Ok, Err, refl, sym, ap, ◌∙◌, subst}
+use Rattle.std.proofs.Common.{◌≡◌, List, [], ◌∷◌, ◌++◌, map, IfErr, OnOk, Result, Ok, Err, refl, sym, ap, ◌∙◌, subst}
 use Rattle.std.proofs.lemmas.List.{map-append}
 use Rattle.pc_desk.specs.declared.halt.Halt.{Halt}
 use Rattle.pc_desk.specs.Desk.{DeskMeaning}
 use Rattle.pc_exchange.proofs.Called.{next_unsent}
-use Rattle.pc_exchange.proofs.Ending.{goes_breaks}
 use Rattle.pc_exchange.proofs.Going.{answered_by, goes_both, goes_none, part_by}
 use Rattle.pc_exchange.proofs.Knowing.{known_then, with_reply_heard, with_sent}
-use Rattle.pc_exchange.specs.Ending.{BreaksOff}
 use Rattle.pc_exchange.specs.Exchange.{WasExchanged}
 use Rattle.pc_exchange.specs.Growing.{HasAllBack}
 use Rattle.pc_history.specs.declared.pair.Pair.{Pair}
@@ -17,7 +15,6 @@ use Rattle.pc_proto.specs.declared.request.Request.{Request}
 use Rattle.pc_recoverer.specs.declared.maker.RoundMaker.{RoundMaker}
 use Rattle.pc_recoverer.specs.Exchanges.{AreExchangesIn, RoundMessage, requests_of}
 use Rattle.pc_recoverer.specs.InRound.{HasMadeTraffic, IsMakingRound, IsRecoverer}
-use Rattle.pc_turns.specs.Order.{IsInBetween}
 use Rattle.pc_world.proofs.Exchange.{answered, later-itself, later-later}
 use Rattle.pc_world.specs.Exchange.{IsLater, WasAnswered}
 use Rattle.pc_world.specs.Known.{Known, known_of, next_number}
@@ -112,7 +109,3 @@ on_ok (Err halt) P Q f p = tt
 pub if_err : {X : Type 0} (r : Result X Halt) (P Q : Halt → Type 0) → ((halt : Halt) → P halt → Q halt) → IfErr r P → IfErr r Q
 if_err (Ok x) P Q f p = tt
 if_err (Err halt) P Q f p = f halt p
-
--- a list that went on by messages, and then broke off
-pub traffic_breaks : {C : Type 0} (old mid new : DeskMeaning C) (xs : List RoundMessage) (halt : Halt) → HasMadeTraffic old mid xs → BreaksOff (All IsInBetween) mid new halt → BreaksOff (All IsInBetween) old new halt
-traffic_breaks old mid new xs halt made breaks = goes_breaks old mid new made.part halt made.goes breaks

@@ -3,13 +3,16 @@ use Rattle.std.specs.Prelude.{◌≡◌, ℕ, ◌+◌, ◌≤◌, Some, List, []
 use Rattle.pc_base.specs.declared.actor.ActorId.{ActorId}
 use Rattle.pc_base.specs.declared.actor.ActorId.TheVariants as actors
 use Rattle.pc_base.specs.declared.transaction.TxnId.{TxnId}
-use Rattle.pc_desk.specs.Desk.{DeskMeaning}
+use Rattle.pc_desk.specs.Desk.{DeskMeaning, HasSentNext}
+use Rattle.pc_exchange.specs.Exchange.{WasExchanged}
 use Rattle.pc_exchange.specs.Growing.{HasAllBack, HasGoneBeside}
 use Rattle.pc_history.specs.declared.pair.Pair.{Pair}
 use Rattle.pc_proto.specs.declared.call.Call.TheVariants as calls
 use Rattle.pc_proto.specs.declared.event.Event.{Event}
 use Rattle.pc_proto.specs.declared.meta.TxnMeta.{TxnMeta}
+use Rattle.pc_proto.specs.declared.reply.Reply.{Reply}
 use Rattle.pc_proto.specs.declared.reply.Reply.TheVariants as replies
+use Rattle.pc_proto.specs.declared.request.Request.{Request}
 use Rattle.pc_proto.specs.declared.view.View.{View}
 use Rattle.pc_proto.specs.declared.view.View.TheVariants as views
 use Rattle.pc_proto.specs.Replies.{view_in}
@@ -18,7 +21,7 @@ use Rattle.pc_proto.specs.Stamps.{view_stamps}
 use Rattle.pc_recoverer.specs.declared.maker.RoundMaker.{RoundMaker}
 use Rattle.pc_recoverer.specs.Exchanges.{AreExchangesIn, RoundMessage, requests_of}
 use Rattle.pc_recoverer.specs.Recovered.{IsDecision}
-use Rattle.pc_recoverer.specs.Round.{IsPartFor}
+use Rattle.pc_recoverer.specs.Round.{ArePartsFor, ArePartsOf, IsPartFor, IsPartOf}
 use Rattle.pc_recoverer.specs.Settled.{settling_of}
 use Rattle.pc_world.specs.Exchange.{IsLater}
 use Rattle.pc_world.specs.Known.{known_of}
@@ -30,6 +33,20 @@ use Rattle.pc_world.specs.Views.{anchor_heard}
 -- The actor is a recoverer.
 abbrev pub IsRecoverer : ActorId → Type 0
 IsRecoverer id = (number : ℕ) × (id ≡ actors.Recoverer number)
+
+-- No message of the recoverer was on its way, and then it sent one.
+pub record HasOneAway {C : Type 0} (d : DeskMeaning C) : Type 0 where
+  pub before : DeskMeaning C
+  pub back : HasAllBack before
+  pub client : IsRecoverer before.log.part.id
+  pub request : Request
+  pub number : ℕ
+  pub sent : HasSentNext before d number request
+
+-- The recoverer sent this message to this range, and heard this reply.
+pub record WasExchangedWith {C : Type 0} (range : ℕ) (old new : DeskMeaning C) (request : Request) (reply : Reply) : Type 0 where
+  pub exchanged : WasExchanged old new request reply
+  pub there : exchanged.range ≡ range
 
 -- The recoverer is in this round, no message of it is on its way, and it began no transaction.
 pub record IsMakingRound {C : Type 0} (maker : RoundMaker) (d : DeskMeaning C) : Type 0 where
@@ -97,3 +114,26 @@ pub record HasDealtWith {C : Type 0} (maker : RoundMaker) (meta : TxnMeta) (old 
   pub traffic : List RoundMessage
   pub exchanged : HasMadeTraffic old new traffic
   pub is : IsPartFor maker meta traffic
+
+-- In its round the recoverer heard a range list just these transactions.
+pub record MayPushEach {C : Type 0} (maker : RoundMaker) (d : DeskMeaning C) (metas : List TxnMeta) : Type 0 where
+  pub in_round : IsMakingRound maker d
+  pub listed : Any (λ h. h.reply ≡ replies.Listed metas) (known_of d.log.part.own).heard_now
+
+-- Each of these listed transactions had its part.
+pub record HasDealtWithEach {C : Type 0} (maker : RoundMaker) (metas : List TxnMeta) (old new : DeskMeaning C) : Type 0 where
+  pub traffic : List RoundMessage
+  pub exchanged : HasMadeTraffic old new traffic
+  pub each : ArePartsFor maker metas traffic
+
+-- The range had its part.
+pub record HasVisited {C : Type 0} (maker : RoundMaker) (range : ℕ) (old new : DeskMeaning C) : Type 0 where
+  pub traffic : List RoundMessage
+  pub exchanged : HasMadeTraffic old new traffic
+  pub is : IsPartOf maker range traffic
+
+-- The first ranges, so many, had their parts.
+pub record HasVisitedEach {C : Type 0} (maker : RoundMaker) (count : ℕ) (old new : DeskMeaning C) : Type 0 where
+  pub traffic : List RoundMessage
+  pub exchanged : HasMadeTraffic old new traffic
+  pub each : ArePartsOf maker 0 count traffic

@@ -5,7 +5,10 @@ mod listed;
 mod maker;
 mod message;
 mod recover;
+mod recoverer;
+mod round;
 mod settle;
+mod visit;
 
-pub use listed::deal_with;
 pub use maker::RoundMaker;
+pub use recoverer::Recoverer;

@@ -1,8 +1,8 @@
-ghost use Rattle.std.specs.Prelude.{◌≡◌, IfErr, OnOk, All};
+ghost use Rattle.std.specs.Prelude.{◌≡◌, IfErr, OnOk};
 ghost use Rattle.pc_desk.specs.Desk.{HasHalted};
-ghost use Rattle.pc_exchange.specs.Ending.{BreaksOff};
+ghost use Rattle.pc_recoverer.specs.Broken.{AreFrontOf, BreaksOffIn};
 ghost use Rattle.pc_recoverer.specs.InRound.{HasDealtWith, MayPushNow};
-ghost use Rattle.pc_turns.specs.Order.{IsInBetween};
+ghost use Rattle.pc_recoverer.specs.Round.{IsPartFor};
 
 use crate::maker::RoundMaker;
 use crate::message::exchange;
@@ -19,7 +19,7 @@ use std::sync::Wait;
 
 /// What a round does for a transaction that a range has listed: pushes it, recovers it where the push met its record staging, and settles it
 /// where it is final.
-pub fn deal_with<N: Named<CommitWorld>, C: Clock, V: Wire, G: Gate, R: Wait>(
+pub(crate) fn deal_with<N: Named<CommitWorld>, C: Clock, V: Wire, G: Gate, R: Wait>(
     desk: &mut Desk<'_, N, C, V, G>,
     rt: &R,
     maker: RoundMaker,
@@ -29,7 +29,7 @@ pub fn deal_with<N: Named<CommitWorld>, C: Clock, V: Wire, G: Gate, R: Wait>(
     ensures ok { OnOk result (HasDealtWith maker meta.now desk.old desk.new) }
     ensures clock { desk.new.log.clock ≡ desk.old.log.clock }
     ensures err { IfErr result (HasHalted desk.old desk.new) }
-    ensures ended { IfErr result (BreaksOff (All IsInBetween) desk.old desk.new) }
+    ensures ended { IfErr result (BreaksOffIn (AreFrontOf (IsPartFor maker meta.now)) desk.old desk.new) }
 {
     let holder = match meta.copy() {
         Ok(holder) => holder,

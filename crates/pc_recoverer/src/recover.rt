@@ -1,15 +1,16 @@
-ghost use Rattle.std.specs.Prelude.{◌≡◌, IfErr, IfOk, OnOk, All};
+ghost use Rattle.std.specs.Prelude.{◌≡◌, IfErr, IfOk, OnOk};
 ghost use Rattle.pc_desk.specs.Desk.{DeskMeaning, HasHalted, MaySendNow};
-ghost use Rattle.pc_exchange.specs.Ending.{BreaksOff};
 ghost use Rattle.pc_exchange.specs.Growing.{HasAllBack};
 ghost use Rattle.pc_proto.specs.declared.machine.MachineNext.TheVariants as machines;
 ghost use Rattle.pc_proto.specs.declared.meta.TxnMeta.{TxnMeta};
+ghost use Rattle.pc_proto.specs.declared.reply.Reply.TheVariants as replies;
 ghost use Rattle.pc_proto.specs.declared.view.View.{View};
 ghost use Rattle.pc_recover.specs.Recovering.{recovering_next};
 ghost use Rattle.pc_recoverer.specs.declared.maker.RoundMaker.{RoundMaker};
+ghost use Rattle.pc_recoverer.specs.Broken.{AreFrontOf, AreFrontOfOne, BreaksOffIn};
 ghost use Rattle.pc_recoverer.specs.InRound.{HasRecovered, IsRecoverer, MayRecoverNow};
+ghost use Rattle.pc_recoverer.specs.Round.{FollowsPush};
 ghost use Rattle.pc_recoverer.specs.UnderWay.{IsBeingRecovered};
-ghost use Rattle.pc_turns.specs.Order.{IsInBetween};
 
 use crate::maker::RoundMaker;
 use crate::message::exchange;
@@ -35,7 +36,7 @@ pub(crate) fn recover<N: Named<CommitWorld>, C: Clock, V: Wire, G: Gate, R: Wait
     ensures ok { IfOk result (λ view. HasRecovered maker meta.now met desk.old desk.new view) }
     ensures clock { desk.new.log.clock ≡ desk.old.log.clock }
     ensures err { IfErr result (HasHalted desk.old desk.new) }
-    ensures ended { IfErr result (BreaksOff (All IsInBetween) desk.old desk.new) }
+    ensures ended { IfErr result (BreaksOffIn (AreFrontOf (FollowsPush maker meta.now (replies.Unsure met))) desk.old desk.new) }
 {
     let holder = match meta.copy() {
         Ok(holder) => holder,
@@ -70,7 +71,7 @@ fn recover_on<N: Named<CommitWorld>, C: Clock, V: Wire, G: Gate, R: Wait>(
     ensures ok { (maker : RoundMaker) (old : DeskMeaning C) (meta : TxnMeta) (met : View) → IsBeingRecovered maker old meta met machine.old desk.old → recovering_next machine.old ≡ machines.Send request → OnOk result (IsBeingRecovered maker old meta met machine.new desk.new) }
     ensures clock { desk.new.log.clock ≡ desk.old.log.clock }
     ensures err { IfErr result (HasHalted desk.old desk.new) }
-    ensures ended { IfErr result (BreaksOff (All IsInBetween) desk.old desk.new) }
+    ensures ended { IfErr result (BreaksOffIn (AreFrontOfOne request) desk.old desk.new) }
 {
     let reply = exchange(desk, rt, request)?;
     match machine.heard(&reply) {

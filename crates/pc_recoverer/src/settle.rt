@@ -1,14 +1,15 @@
-ghost use Rattle.std.specs.Prelude.{◌≡◌, ℕ, IfErr, List, OnOk, All};
+ghost use Rattle.std.specs.Prelude.{◌≡◌, ℕ, IfErr, List, OnOk};
 ghost use Rattle.pc_desk.specs.Desk.{DeskMeaning, HasHalted, MaySendNow};
-ghost use Rattle.pc_exchange.specs.Ending.{BreaksOff};
 ghost use Rattle.pc_exchange.specs.Growing.{HasAllBack};
 ghost use Rattle.pc_proto.specs.declared.fate.Fate.{Fate};
 ghost use Rattle.pc_proto.specs.declared.machine.MachineNext.TheVariants as machines;
 ghost use Rattle.pc_proto.specs.declared.meta.TxnMeta.{TxnMeta};
+ghost use Rattle.pc_recoverer.specs.Broken.{AreFrontOf, AreFrontOfOne, BreaksOffIn};
+ghost use Rattle.pc_recoverer.specs.Exchanges.{requests_of};
 ghost use Rattle.pc_recoverer.specs.InRound.{HasSettled, IsRecoverer, MaySettleNow};
+ghost use Rattle.pc_recoverer.specs.Settled.{settling_of, settling_with};
 ghost use Rattle.pc_recoverer.specs.UnderWay.{HasFinishedListed, IsBeingSettled, MayFinishInRound};
 ghost use Rattle.pc_resolve.specs.Resolving.{finishing_next};
-ghost use Rattle.pc_turns.specs.Order.{IsInBetween};
 
 use crate::message::exchange;
 use pc_base::{NoMemory, TryCopy};
@@ -32,7 +33,7 @@ pub(crate) fn settle<N: Named<CommitWorld>, C: Clock, V: Wire, G: Gate, R: Wait>
     ensures ok { OnOk result (HasSettled meta.now view desk.old desk.new) }
     ensures clock { desk.new.log.clock ≡ desk.old.log.clock }
     ensures err { IfErr result (HasHalted desk.old desk.new) }
-    ensures ended { IfErr result (BreaksOff (All IsInBetween) desk.old desk.new) }
+    ensures ended { IfErr result (BreaksOffIn (AreFrontOf (λ xs. requests_of xs ≡ settling_of meta.now view)) desk.old desk.new) }
 {
     match view {
         View::Committed { epoch, ts, locks } => {
@@ -57,7 +58,7 @@ fn settle_locks<N: Named<CommitWorld>, C: Clock, V: Wire, G: Gate, R: Wait>(
     ensures ok { OnOk result (HasFinishedListed desk.old desk.new meta.now fate locks) }
     ensures clock { desk.new.log.clock ≡ desk.old.log.clock }
     ensures err { IfErr result (HasHalted desk.old desk.new) }
-    ensures ended { IfErr result (BreaksOff (All IsInBetween) desk.old desk.new) }
+    ensures ended { IfErr result (BreaksOffIn (AreFrontOf (λ xs. requests_of xs ≡ settling_with meta.now fate locks)) desk.old desk.new) }
 {
     let anchor = match meta.anchor.copy() {
         Ok(anchor) => anchor,
@@ -93,7 +94,7 @@ fn settle_on<N: Named<CommitWorld>, C: Clock, V: Wire, G: Gate, R: Wait>(
     ensures ok { (old : DeskMeaning C) (meta : TxnMeta) (fate : Fate) (locks : List (List ℕ)) → IsBeingSettled old meta fate locks machine.old desk.old → finishing_next machine.old ≡ machines.Send request → OnOk result (IsBeingSettled old meta fate locks machine.new desk.new) }
     ensures clock { desk.new.log.clock ≡ desk.old.log.clock }
     ensures err { IfErr result (HasHalted desk.old desk.new) }
-    ensures ended { IfErr result (BreaksOff (All IsInBetween) desk.old desk.new) }
+    ensures ended { IfErr result (BreaksOffIn (AreFrontOfOne request) desk.old desk.new) }
 {
     let reply = exchange(desk, rt, request)?;
     match machine.heard(&reply) {

@@ -6,6 +6,3 @@ mod reads;
 
 pub use order::OrderedSpan;
 pub use reads::Reads;
-
-#[cfg(test)]
-mod tests;

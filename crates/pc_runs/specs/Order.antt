@@ -1,6 +1,6 @@
--- In which order the sessions of a workload ask their calls and do their jobs: in the turns that it states, or on threads where it states
--- none. Own profile.
-use Rattle.std.specs.Prelude.{ℕ, ◌-◌, Bool, true, Option, None, Some, List, slice_get}
+-- In which order the sessions of a workload ask their calls and do their jobs, and its recoverers make their rounds: in the turns that it
+-- states, or on threads where it states none. Own profile.
+use Rattle.std.specs.Prelude.{ℕ, ◌-◌, Bool, true, Option, None, Some, List, length, slice_get}
 use Rattle.pc_history.specs.declared.pair.Pair.{Pair}
 use Rattle.pc_proto.specs.declared.call.Call.{Call}
 use Rattle.pc_proto.specs.declared.event.Event.{Event}
@@ -8,6 +8,7 @@ use Rattle.pc_script.specs.Script.{next_call, script_position}
 use Rattle.pc_scripted.specs.Ended.{list_has_ended}
 use Rattle.pc_scripted.specs.Taking.{are_items_over}
 use Rattle.pc_turns.specs.Order.{GoInTurns, GoOnThreads, entries_by}
+use Rattle.pc_work.specs.declared.recoverer.RecovererWork.{RecovererWork}
 use Rattle.pc_work.specs.declared.session.SessionWork.{SessionWork}
 use Rattle.pc_work.specs.declared.turn.Turn.{Turn}
 use Rattle.pc_work.specs.declared.workload.Workload.{Workload}
@@ -30,8 +31,17 @@ is_opening_over opening reruns (Some session) order = are_items_over opening rer
 abbrev pub is_work_opened : Workload → List (Pair Event) → Bool
 is_work_opened work order = is_opening_over work.opening work.reruns (slice_get work.sessions 0) order
 
+-- How many rounds a recoverer makes; none where the workload has no such recoverer.
+abbrev pub rounds_of_work : Option RecovererWork → ℕ
+rounds_of_work None = 0
+rounds_of_work (Some recoverer) = recoverer.rounds
+
+-- How many rounds the recoverer of this number makes.
+abbrev pub rounds_in_work : Workload → ℕ → ℕ
+rounds_in_work work number = rounds_of_work (slice_get work.recoverers (number - 1))
+
 module _ (work : Workload) (full : ℕ → Bool) where
   -- The clients' entries go in these turns, or on threads where no turns are stated; this says which ranges are full.
   abbrev pub GoAsStated : Option (List Turn) → ℕ → List (Pair Event) → Type 0
-  GoAsStated (Some stated) sessions order = GoInTurns (next_in_work work) (list_has_ended work.limit full) (is_work_opened work) stated sessions order
+  GoAsStated (Some stated) sessions order = GoInTurns (next_in_work work) (list_has_ended work.limit full) (rounds_in_work work) (is_work_opened work) stated sessions (length work.recoverers) order
   GoAsStated None sessions order = GoOnThreads (next_in_work work) (list_has_ended work.limit full) (is_work_opened work) sessions order

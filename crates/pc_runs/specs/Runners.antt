@@ -15,7 +15,7 @@ use Rattle.pc_world.specs.Local.{Head}
 
 -- The head of a workload's history.
 abbrev pub head_in_work : Workload → Head
-head_in_work work = record { splits = work.splits; sessions = length work.sessions; recoverers = 0 }
+head_in_work work = record { splits = work.splits; sessions = length work.sessions; recoverers = length work.recoverers }
 
 -- The session goes by the script of this index of the workload, within its limits.
 pub record IsRunnerIn {C : Type 0} (work : Workload) (index : ℕ) (s : ScriptedMeaning C) : Type 0 where
@@ -54,8 +54,3 @@ pub record HasLeftAs {C : Type 0} (work : Workload) (rules : ActorId → ℕ →
   pub steps : (session : SessionWork) → slice_get work.sessions index ≡ Some session → EachAfter (KeepsWork work session (rules (actors.Session (index + 1)))) [] (own_list s)
   pub keeps : KeepsEach (actors.Session (index + 1)) work.splits work.pipelining (own_list s)
   pub within : length (own_list s) ≤ work.limit
-
--- All sessions have left, in order.
-pub record HaveAllLeft {C : Type 0} (work : Workload) (rules : ActorId → ℕ → ℕ → Bool) (sessions : List (ScriptedMeaning C)) (leavers : List Leaver) : Type 0 where
-  pub many : length leavers ≡ length sessions
-  pub each : (index : ℕ) (s : ScriptedMeaning C) (l : Leaver) → slice_get sessions index ≡ Some s → slice_get leavers index ≡ Some l → HasLeftAs work rules index s l

@@ -68,7 +68,7 @@ module _ {C : Type 0} (d : DeskMeaning C) (note : List (KnownEntry Event)) where
   not_lost_still m (inr (inl waits)) = inr (inl waits)
   not_lost_still m (inr (inr knows)) = inr (inr (record { evaluation = knows.evaluation; knows = Contains-append_left d.log.part.known note knows.evaluation knows.knows; of_it = knows.of_it }))
 
-  ends_still : IsAtOwnEnd d ⊎ IsAtFullRange d → IsAtOwnEnd taught ⊎ IsAtFullRange taught
+  pub ends_still : IsAtOwnEnd d ⊎ IsAtFullRange d → IsAtOwnEnd taught ⊎ IsAtFullRange taught
   ends_still (inl end) = inl (record { long = end.long; each = All-weaker (IsNotLost d) (IsNotLost taught) not_lost_still (known_of d.log.part.own).sent end.each; waits = end.waits })
   ends_still (inr end) = inr (record {
     range = end.range;

@@ -20,8 +20,8 @@ use Rattle.pc_scripted.proofs.Resting.{moved_by_none}
 use Rattle.pc_scripted.proofs.Tests.{has_ended_now}
 use Rattle.pc_scripted.specs.Ended.{SaysFull, list_has_ended}
 use Rattle.pc_scripted.specs.Scripted.{IsScripted, ScriptedMeaning, next_in_script, own_number, own_list}
-use Rattle.pc_scripted.specs.Taking.{AsksInTurn, FinishesInTurn, TakesNextAlone, GoesUntil, HasMoved, HasMovedBy, IsSameScripted, SaysWhetherDone, TakesOne, are_items_over, is_script_over}
-use Rattle.pc_turns.specs.Order.{AsksAfter, FinishesAfter, IsTakenIn, entries_by, turn_by_itself}
+use Rattle.pc_scripted.specs.Taking.{AsksInTurn, FinishesInTurn, TakesNextAlone, GoesUntil, HasMoved, HasMovedBy, IsSameScripted, SaysWhetherDone, are_items_over, is_script_over}
+use Rattle.pc_turns.specs.Order.{AsksAfter, FinishesAfter, TakesOne, entries_by}
 use Rattle.pc_turns.specs.Order.GoesByItself.{Ended, Onwards, Passed}
 use Rattle.pc_work.specs.declared.item.Item.{Item}
 use Rattle.pc_follows.specs.FinishingJobs.{jobs_of}
@@ -67,12 +67,6 @@ module _ {C : Type 0} (old mid new : ScriptedMeaning C) (p q : List (Pair Event)
     known = both.known;
   }
 
--- the turn of a session that goes by itself
-taken_one : (next : ℕ → List (Pair Event) → Option Call) (ended : List (Pair Event) → Bool) (number : ℕ) (jobs : List (List Request)) (before part : List (Pair Event)) → TakesOne next ended number jobs (entries_by number before) part
-    → IsTakenIn next ended (turn_by_itself number jobs) before part
-taken_one next ended number [] before part takes = takes
-taken_one next ended number (job ∷ jobs) before part takes = takes
-
 -- What a session has done by itself so far, until its own entries pass the test: whatever it does behind that, it does with that.
 pub record HasGoneSoFar {C : Type 0} (test : List (Pair Event) → Bool) (old new : ScriptedMeaning C) : Type 0 where
   pub part : List (Pair Event)
@@ -114,10 +108,8 @@ module _ {C : Type 0} (test : List (Pair Event) → Bool) (old mid : ScriptedMea
         (subst (λ l. T mid.at.reruns mid.script l number) gone.by.same.limit
         (subst (λ n. T mid.at.reruns mid.script mid.session.desk.log.limit n) gone.by.same.number (more.is full says))))
 
-    taken : (full : ℕ → Bool) → SaysFull full new.session.desk → IsTakenIn next (ended full) (turn_by_itself number (jobs_of (entries_by number before))) before more.part
-    taken full says =
-        taken_one next (ended full) number (jobs_of (entries_by number before)) before more.part
-        (subst (λ own. TakesOne next (ended full) number (jobs_of own) own more.part) (sym mine) (takes-as full says))
+    taken : (full : ℕ → Bool) → SaysFull full new.session.desk → TakesOne next (ended full) number (jobs_of (entries_by number before)) (entries_by number before) more.part
+    taken full says = subst (λ own. TakesOne next (ended full) number (jobs_of own) own more.part) (sym mine) (takes-as full says)
 
     still : jobs_of (entries_by number before) ≡ [] → test (entries_by number before) ≡ true → ⊥
     still none passed = not_yet.1 (ap jobs_of (sym mine) ∙ none) (ap test (sym mine) ∙ passed)

@@ -13,7 +13,7 @@ use Rattle.pc_scripted.proofs.Going.{moved_both, says_before}
 use Rattle.pc_scripted.specs.Ended.{SaysFull, list_has_ended}
 use Rattle.pc_scripted.specs.Scripted.{ScriptedMeaning, next_in_script, own_number, own_list}
 use Rattle.pc_scripted.specs.Taking.{GoesUntil, HasMoved, are_items_over, is_script_over}
-use Rattle.pc_turns.specs.Order.{AsksAfter, AsksIfNext, FinishesAfter, GoesByItself, IsTakenIn, UnlessEnded, entries_by, turn_by_itself}
+use Rattle.pc_turns.specs.Order.{AsksAfter, AsksIfNext, FinishesAfter, GoesByItself, TakesOne, UnlessEnded, entries_by}
 use Rattle.pc_turns.specs.Order.GoesByItself.{Ended, Onwards, Passed}
 use Rattle.pc_work.specs.declared.item.Item.{Item}
 use Rattle.pc_follows.specs.FinishingJobs.{jobs_of}
@@ -50,7 +50,8 @@ module _ (next other : ℕ → List (Pair Event) → Option Call) (ended : List 
   pub finishes_among : (mine order part : List (Pair Event)) → mine ≡ entries_by number order → FinishesAfter next ended number mine part → FinishesAfter other ended number (entries_by number order) part
   finishes_among mine order part is finishes = subst (λ m. FinishesAfter other ended number m part) is finishes
 
-  taken-among : (jobs : List (List Request)) (mine order part : List (Pair Event)) → entries_by number mine ≡ entries_by number order → IsTakenIn next ended (turn_by_itself number jobs) mine part → IsTakenIn other ended (turn_by_itself number jobs) order part
+  taken-among : (jobs : List (List Request)) (mine order part : List (Pair Event)) → entries_by number mine ≡ entries_by number order → TakesOne next ended number jobs (entries_by number mine) part
+      → TakesOne other ended number jobs (entries_by number order) part
   taken-among [] mine order part is taken = asks_among (entries_by number mine) order part is taken
   taken-among (job ∷ jobs) mine order part is taken = finishes_among (entries_by number mine) order part is taken
 
@@ -60,7 +61,7 @@ module _ (next other : ℕ → List (Pair Event) → Option Call) (ended : List 
   goes_among test (Ended mine over) order is = Ended order (ap ended (sym is) ∙ over)
   goes_among test (Onwards mine part rest still taken goes) order is =
       Onwards order part rest (λ none passed. still (ap jobs_of is ∙ none) (ap test is ∙ passed))
-      (subst (λ m. IsTakenIn other ended (turn_by_itself number (jobs_of m)) order part) is (taken-among (jobs_of (entries_by number mine)) mine order part is taken))
+      (subst (λ m. TakesOne other ended number (jobs_of m) (entries_by number order) part) is (taken-among (jobs_of (entries_by number mine)) mine order part is taken))
       (goes_among test goes (order ++ part) (grown mine order part is))
     where
       grown : (mine order part : List (Pair Event)) → entries_by number mine ≡ entries_by number order → entries_by number (mine ++ part) ≡ entries_by number (order ++ part)

@@ -12,7 +12,7 @@ use Rattle.pc_scripted.specs.Ended.{SaysFull, list_has_ended}
 use Rattle.pc_scripted.specs.Scripted.{IsScripted, ScriptedMeaning, next_in_script, own_number, own_list}
 use Rattle.pc_turns.specs.Clients.{RisesFrom}
 use Rattle.pc_turns.specs.Laws.{AreAboveKnown}
-use Rattle.pc_turns.specs.Order.{AsksAfter, FinishesAfter, GoesByItself, entries_by}
+use Rattle.pc_turns.specs.Order.{AsksAfter, FinishesAfter, GoesByItself, TakesOne, entries_by}
 use Rattle.pc_work.specs.declared.item.Item.{Item}
 use Rattle.pc_work.specs.declared.session.SessionWork.{SessionWork}
 use Rattle.pc_work.specs.declared.workload.Workload.{Workload}
@@ -47,11 +47,6 @@ pub record HasMoved {C : Type 0} (Is : Move) (old new : ScriptedMeaning C) : Typ
   pub part : List (Pair Event)
   pub by : HasMovedBy old new part
   pub is : (full : ℕ → Bool) → SaysFull full new.session.desk → Is (list_has_ended old.session.desk.log.limit full) (own_list old) part
-
--- The part is the oldest of these jobs where one waits, else the session's next call.
-abbrev pub TakesOne : (ℕ → List (Pair Event) → Option Call) → (List (Pair Event) → Bool) → ℕ → List (List Request) → List (Pair Event) → List (Pair Event) → Type 0
-TakesOne next ended number [] mine part = AsksAfter next ended number mine part
-TakesOne next ended number (job ∷ jobs) mine part = FinishesAfter next ended number mine part
 
 module _ {C : Type 0} (s : ScriptedMeaning C) where
   -- The session asks its script's next call, and is told its answer.

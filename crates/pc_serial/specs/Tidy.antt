@@ -9,7 +9,8 @@ use Rattle.pc_proto.specs.declared.request.Request.{Request}
 use Rattle.pc_proto.specs.declared.request.Request.TheVariants as requests
 use Rattle.pc_follows.specs.CallMessages.{SendsForCall}
 use Rattle.pc_follows.specs.EarlyTell.{TellsEarly}
-use Rattle.pc_follows.specs.FinishingJobs.{AbortsFirst, first_message}
+use Rattle.pc_follows.specs.FinishingJobs.{first_message}
+use Rattle.pc_follows.specs.Rollbacks.{AbortsFirst}
 use Rattle.pc_world.specs.Known.{Known, call_of, open_txn}
 use Rattle.pc_world.specs.Known.Traffic.{Sent}
 use Rattle.pc_world.specs.Known.Transactions.{Txn}

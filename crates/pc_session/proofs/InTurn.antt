@@ -40,7 +40,7 @@ use Rattle.pc_wave.specs.declared.step.Step.TheVariants as steps
 use Rattle.pc_wave.specs.Messages.{awaits_at, back_with, conflicts_at, first_changed, goes_again, is_in_conflict, is_to_send, sent_under, step_of, wave_awaits}
 use Rattle.pc_wave.specs.Standing.{AreOfTwo, IsAsFar, MessageStands, MetConflict, Pairwise, WaveStands}
 use Rattle.pc_world.specs.Counting.{AtLeast}
-use Rattle.pc_follows.specs.Eighth.{IsBlockedBy, TellsFirstBlock}
+use Rattle.pc_follows.specs.FirstBlock.{IsBlockedBy, TellsFirstBlock}
 use Rattle.pc_follows.specs.Rounds.{AreConflictsOver, AreRoundsOver, conflicts_now, rounds_begun}
 use Rattle.pc_world.specs.Known.{Known, known_of}
 use Rattle.pc_world.specs.Known.Statements.{Statement}

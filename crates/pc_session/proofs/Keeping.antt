@@ -19,12 +19,14 @@ use Rattle.pc_proto.specs.declared.request.Request.TheVariants as requests
 use Rattle.pc_proto.specs.Requests.{IsPutOn, goal_in, is_abort, is_commit, is_get, is_put, is_refresh, is_scan, round_of}
 use Rattle.pc_session.proofs.Lost.{tells_eighth}
 use Rattle.pc_follows.specs.CallMessages.{IsFor, IsForCall}
-use Rattle.pc_follows.specs.Eighth.{TellsFirstBlock}
+use Rattle.pc_follows.specs.FirstBlock.{TellsFirstBlock}
 use Rattle.pc_follows.specs.PipelinedPuts.{IsPutWaitedFor}
 use Rattle.pc_follows.specs.Resends.{AreAnsweredNow, MayGoAgain}
 use Rattle.pc_follows.specs.Refreshes.{IsOfWholeRefresh}
 use Rattle.pc_follows.specs.Rounds.{AreConflictsOver, IsInItsRound}
-use Rattle.pc_follows.specs.WaveOrder.{EndsWaves, IsOldestUnheard, SentAllPieces}
+use Rattle.pc_follows.specs.OldestUnheard.{IsOldestUnheard}
+use Rattle.pc_follows.specs.ScanPieces.{SentAllPieces}
+use Rattle.pc_follows.specs.WaveOrder.{EndsWaves}
 use Rattle.pc_world.specs.Known.{Known, call_in, known_of}
 use Rattle.pc_world.specs.Known.Statements.{Statement}
 use Rattle.pc_world.specs.Known.Traffic.{Heard}

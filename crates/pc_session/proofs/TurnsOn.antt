@@ -48,7 +48,8 @@ use Rattle.pc_wave.specs.Due.{FollowsConflict, MadeRound}
 use Rattle.pc_wave.specs.Messages.{awaits_at, back_with, conflicts_at, first_changed, goes_again, is_to_send, progress_awaits, sent_under, step_of, wave_awaits}
 use Rattle.pc_wave.specs.Standing.{HasMore, IsAsFar, IsHeardTo, MessageStands}
 use Rattle.pc_world.specs.Counting.{AtLeast}
-use Rattle.pc_follows.specs.Eighth.{IsBlockedBy, MetEighth}
+use Rattle.pc_follows.specs.Eighth.{MetEighth}
+use Rattle.pc_follows.specs.FirstBlock.{IsBlockedBy}
 use Rattle.pc_follows.specs.Rounds.{AreConflictsOver, rounds_begun}
 use Rattle.pc_world.specs.Known.{Known, next_number}
 use Rattle.pc_world.specs.Known.Traffic.{Heard, Sent}

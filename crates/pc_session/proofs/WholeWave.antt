@@ -39,7 +39,7 @@ use Rattle.pc_wave.specs.declared.step.Step.TheVariants as steps
 use Rattle.pc_wave.specs.Messages.{conflict_by, first_in_conflict, has_answer, is_in_conflict, is_to_send, progress_in_conflict, progress_to_send, step_by, step_in, step_of, wave_awaits}
 use Rattle.pc_wave.specs.Standing.{IsAsFar, IsMessageAt, MessageStands}
 use Rattle.pc_follows.specs.Refreshes.{IsOfWholeRefresh}
-use Rattle.pc_follows.specs.WaveOrder.{IsScanOf, SentAllPieces}
+use Rattle.pc_follows.specs.ScanPieces.{IsScanOf, SentAllPieces}
 use Rattle.pc_world.specs.Known.{Known, call_in, call_of, first_if}
 use Rattle.pc_world.specs.Known.Statements.{Statement}
 use Rattle.pc_world.specs.Known.Traffic.{Heard, Sent, request_sent}

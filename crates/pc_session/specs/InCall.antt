@@ -15,7 +15,8 @@ use Rattle.pc_session.specs.Session.{AreOfOneSession, HasLeft, IsAtRest, Session
 use Rattle.pc_turns.specs.Order.{IsInBetween, events_of}
 use Rattle.pc_follows.specs.CallMessages.{IsForCall}
 use Rattle.pc_follows.specs.Refreshes.{IsOfWholeRefresh}
-use Rattle.pc_follows.specs.WaveOrder.{EndsWaves, SentAllPieces}
+use Rattle.pc_follows.specs.ScanPieces.{SentAllPieces}
+use Rattle.pc_follows.specs.WaveOrder.{EndsWaves}
 use Rattle.pc_world.specs.Known.{Known}
 use Rattle.pc_world.specs.Known.Statements.{Statement}
 use Rattle.pc_world.specs.Known.Traffic.{Heard, request_sent}

@@ -9,7 +9,7 @@ use Rattle.pc_wave.specs.declared.message.Progress.{Progress}
 use Rattle.pc_wave.specs.declared.message.Progress.TheVariants as progresses
 use Rattle.pc_wave.specs.Messages.{is_in_conflict, is_out, is_to_send}
 use Rattle.pc_wave.specs.Standing.{Pairwise}
-use Rattle.pc_follows.specs.Eighth.{TellsFirstBlock}
+use Rattle.pc_follows.specs.FirstBlock.{TellsFirstBlock}
 use Rattle.pc_follows.specs.Rounds.{AreRoundsOver, conflicts_now, rounds_begun}
 use Rattle.pc_world.specs.Known.{Known}
 use Rattle.pc_world.specs.Known.Traffic.{Heard}

@@ -4,8 +4,6 @@
 #[cfg(test)]
 mod drawn;
 #[cfg(test)]
-mod full;
-#[cfg(test)]
 mod many;
 #[cfg(test)]
 mod meeting;

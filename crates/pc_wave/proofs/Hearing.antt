@@ -11,13 +11,13 @@ use Rattle.pc_proto.specs.declared.reply.Reply.{Reply}
 use Rattle.pc_proto.specs.declared.reply.Reply.TheVariants as replies
 use Rattle.pc_proto.specs.Replies.{is_conflict}
 use Rattle.pc_wave.proofs.Changed.{changed_other, found_all, found_passes, found_some, pairwise_changed}
-use Rattle.pc_wave.proofs.Lists.{any_last_of, at_least-before, at_least-kept, counted_more, counted_no_more}
+use Rattle.pc_wave.proofs.Lists.{any_last_of, at_least-before, at_least-kept, counted_more, counted_no_more, counted_one}
 use Rattle.pc_wave.proofs.Standings.{IsOther, IsOtherSent, heard-kept, out-kept, stands-kept}
 use Rattle.pc_wave.specs.declared.message.Message.{Message}
 use Rattle.pc_wave.specs.declared.message.Progress.{Progress}
 use Rattle.pc_wave.specs.declared.message.Progress.TheVariants as progresses
 use Rattle.pc_wave.specs.Messages.{awaits_at, back_with, back_with_by, first_changed, one_conflict_more, progress_awaits, wave_awaits}
-use Rattle.pc_wave.specs.Standing.{AreOfTwo, HasMore, IsAsFar, IsOnItsWay, IsHeardTo, IsReplyAt, MessageStands, WaveStands}
+use Rattle.pc_wave.specs.Standing.{AreOfTwo, HasMore, IsAsFar, IsOnItsWay, IsHeardTo, IsReplyAt, MessageStands, WaveStands, sends_counted}
 use Rattle.pc_world.specs.Answering.{MayAnswer}
 use Rattle.pc_world.specs.Counting.{AtLeast}
 use Rattle.pc_follows.specs.Resends.{AreAnsweredNow}
@@ -66,6 +66,12 @@ module _ (k now : Known) (ms : List Message) (w : WaveStands k ms) (number : ℕ
       ] in
       subst (λ ms. All Q ms) (sym (more.sent_now ∙ append-nil k.sent_now)) (All-weaker P Q (λ s. by s (s.number == number) refl) k.sent_now far_m.0.rest)
 
+  -- it was sent once more than it met conflicts so far
+  sent_m : AtLeast (λ s. IsSameRequest m.request s.request) (m.conflicts + 1) now.sent_now
+  sent_m =
+      let P : Sent → Type 0 = λ s. IsSameRequest m.request s.request in
+      subst (λ ms. AtLeast P (m.conflicts + 1) ms) (sym (more.sent_now ∙ append-nil k.sent_now)) (subst (λ p. AtLeast P (sends_counted m.conflicts p) k.sent_now) waits stands_m.sent)
+
   comes_by : (r : Reply) → reply ≡ r → MessageStands now (back_with_by (is_conflict r) number r m)
   comes_by (replies.Conflict holder ts key) e =
       let P : Heard → Type 0 = IsConflictOf m.request in
@@ -90,6 +96,7 @@ module _ (k now : Known) (ms : List Message) (w : WaveStands k ms) (number : ℕ
           heard = subst (λ hs. AtLeast P (one_conflict_more m.conflicts) hs) (sym more.heard_now) (counted_more P m.conflicts far_m.1 k.heard_now h stands_m.counted.heard conflict);
           no_more = λ a. counted_no_more P m.conflicts far_m.1 k.heard_now h stands_m.counted.no_more (subst (λ hs. AtLeast P (one_conflict_more m.conflicts + 1) hs) more.heard_now a);
         };
+        sent = counted_one (λ s. IsSameRequest m.request s.request) m.conflicts far_m.1 now.sent_now sent_m;
         no_round = stands_m.no_round;
       }
   comes_by r e =
@@ -110,6 +117,7 @@ module _ (k now : Known) (ms : List Message) (w : WaveStands k ms) (number : ℕ
           heard = subst (λ hs. AtLeast P m.conflicts hs) (sym more.heard_now) (at_least-kept P m.conflicts k.heard_now (h ∷ []) stands_m.counted.heard);
           no_more = λ a. stands_m.counted.no_more (at_least-before P (m.conflicts + 1) k.heard_now (h ∷ []) (All-cons (λ g. P g → ⊥) h [] none (All-nil (λ g. P g → ⊥))) (subst (λ hs. AtLeast P (m.conflicts + 1) hs) more.heard_now a));
         };
+        sent = sent_m;
         no_round = stands_m.no_round;
       }
 

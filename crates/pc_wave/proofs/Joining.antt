@@ -29,6 +29,7 @@ wave_joined k ms request w join = record {
   stand = All-push (MessageStands k) ms (message_to_send request) w.stand (record {
     as_far = (join.out, lit< tt);
     counted = record { heard = tt; no_more = join.unmet };
+    sent = tt;
     no_round = join.no_round;
   });
   differ = all_two request ms join.differ join.back w.differ;

@@ -45,6 +45,9 @@ module _ {X : Type 0} (P : X → Type 0) where
   at_least-push (suc n) (y ∷ ys) x (inl (q, h)) p = inl (q, at_least-push n ys x h p)
   at_least-push (suc n) (y ∷ ys) x (inr h) p = inr (at_least-push (suc n) ys x h p)
 
+  pub at_least-one : (n : ℕ) (xs : List X) (x : X) → AtLeast P n xs → P x → AtLeast P (n + 1) (xs ++ x ∷ [])
+  at_least-one n xs x h p = let e : suc n ≡ n + 1 = omega arith in subst (λ m. AtLeast P m (xs ++ x ∷ [])) e (at_least-push n xs x h p)
+
   -- one fewer is so without the last
   pub at_least-pop : (n : ℕ) (xs : List X) (x : X) → AtLeast P (suc n) (xs ++ x ∷ []) → AtLeast P n xs
   at_least-pop zero xs x h = tt
@@ -82,6 +85,9 @@ module _ {X : Type 0} (P : X → Type 0) where
 
     pub counted_more : (xs : List X) (x : X) → AtLeast P n xs → P x → AtLeast P (one_conflict_more n) (xs ++ x ∷ [])
     counted_more xs x a p = subst (λ m. AtLeast P m (xs ++ x ∷ [])) (suc_is ∙ sym one_more_is) (at_least-push n xs x a p)
+
+    pub counted_one : (xs : List X) → AtLeast P (n + 1) xs → AtLeast P (one_conflict_more n) xs
+    counted_one xs a = subst (λ m. AtLeast P m xs) (sym one_more_is) a
 
     pub counted_no_more : (xs : List X) (x : X) → (AtLeast P (n + 1) xs → ⊥) → AtLeast P (one_conflict_more n + 1) (xs ++ x ∷ []) → ⊥
     counted_no_more xs x none a =

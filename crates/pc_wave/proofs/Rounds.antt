@@ -11,7 +11,7 @@ use Rattle.pc_proto.specs.declared.request.Request.{Request}
 use Rattle.pc_proto.specs.declared.request.Request.TheVariants as requests
 use Rattle.pc_proto.specs.Replies.{holder_in}
 use Rattle.pc_wave.proofs.Changed.{any_none, changed_other, found_all, pairwise_changed}
-use Rattle.pc_wave.proofs.Standings.{IsOther, IsOtherSent, answered-kept, counted-kept, stands-kept}
+use Rattle.pc_wave.proofs.Standings.{IsOther, IsOtherSent, answered-kept, counted-kept, sent-kept, stands-kept}
 use Rattle.pc_wave.specs.declared.message.Message.{Message}
 use Rattle.pc_wave.specs.declared.message.Progress.{Progress}
 use Rattle.pc_wave.specs.declared.message.Progress.TheVariants as progresses
@@ -19,10 +19,11 @@ use Rattle.pc_wave.specs.declared.step.Step.{Step}
 use Rattle.pc_wave.specs.declared.step.Step.TheVariants as steps
 use Rattle.pc_wave.specs.Due.{FollowsConflict, MadeRound}
 use Rattle.pc_wave.specs.Messages.{conflict_by, conflicts_at, first_changed, first_in_conflict, goes_again, has_answer, is_out, is_in_conflict, is_to_send, progress_out, progress_conflicts, progress_in_conflict, step_by, step_in, step_of}
-use Rattle.pc_wave.specs.Standing.{AreOfTwo, IsAsFar, MessageStands, MetConflict, WaveStands, goes_beside}
+use Rattle.pc_wave.specs.Standing.{AreOfTwo, IsAsFar, MessageStands, MetConflict, WaveStands, goes_beside, sends_counted}
 use Rattle.pc_follows.specs.Resends.{MetConflictNow, WasFollowed}
 use Rattle.pc_world.specs.Known.{Known}
 use Rattle.pc_world.specs.Known.Traffic.{Heard}
+use Rattle.pc_world.specs.Counting.{AtLeast}
 use Rattle.pc_world.specs.SameRequest.{IsSameRequest}
 
 abbrev number_in : Step → ℕ
@@ -146,11 +147,14 @@ module _ (k now : Known) (ms : List Message) (w : WaveStands k ms) (number : ℕ
     as_far = (
       record {
         answered = answered-kept k now made.sent_more made.heard_more made.more m.request (news m stands_m) (others m stands_m) met.answered;
-        again = λ some. inl met_now;
+        again = λ some. met_now;
       },
       in_round.below (λ none. let e : Some met.holder.id ≡ None = sym (ap holder_in met.is) ∙ none in absurd cc),
     );
     counted = counted-kept k now made.sent_more made.heard_more made.more m.request (news m stands_m) (others m stands_m) m.conflicts stands_m.counted;
+    sent =
+        sent-kept k now made.sent_more made.heard_more made.more m.request (news m stands_m) (others m stands_m) m.conflicts
+        (subst (λ p. AtLeast (λ s. IsSameRequest m.request s.request) (sends_counted m.conflicts p) k.sent_now) in_round.progress stands_m.sent);
     no_round = stands_m.no_round;
   }
 

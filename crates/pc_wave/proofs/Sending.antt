@@ -1,5 +1,5 @@
 -- The first message that is to be sent goes out.
-use Rattle.std.proofs.Common.{◌≡◌, ◌≢◌, ℕ, ◌+◌, ◌≤◌, Bool, true, false, List, [], ◌∷◌, find, length, None, Some, Option, refl, sym, ap, ◌∙◌, subst, arith, All, Any, IsTrue, length-append, cond, nat_le, ◌<◌}
+use Rattle.std.proofs.Common.{◌≡◌, ◌≢◌, ℕ, ◌+◌, ◌≤◌, Bool, true, false, inl, List, [], ◌∷◌, find, length, None, Some, Option, refl, sym, ap, ◌∙◌, subst, arith, All, Any, IsTrue, length-append, cond, nat_le, ◌<◌}
 use Rattle.std.specs.List.{list_all}
 use Rattle.std.specs.Option.{option_map}
 use Rattle.std.proofs.lemmas.List.{append-nil}
@@ -11,7 +11,7 @@ use Rattle.pc_proto.specs.declared.reply.Reply.{Reply}
 use Rattle.pc_proto.specs.Replies.{holder_in}
 use Rattle.pc_proto.specs.declared.request.Request.{Request}
 use Rattle.pc_wave.proofs.Changed.{changed_other, found_all, found_passes, pairwise_changed}
-use Rattle.pc_wave.proofs.Lists.{find-last}
+use Rattle.pc_wave.proofs.Lists.{at_least-one, find-last}
 use Rattle.pc_wave.proofs.Standings.{IsOther, IsOtherSent, heard-kept, stands-kept}
 use Rattle.pc_wave.specs.declared.message.Message.{Message}
 use Rattle.pc_wave.specs.declared.message.Progress.{Progress}
@@ -19,7 +19,7 @@ use Rattle.pc_wave.specs.declared.message.Progress.TheVariants as progresses
 use Rattle.pc_wave.specs.declared.step.Step.{Step}
 use Rattle.pc_wave.specs.declared.step.Step.TheVariants as steps
 use Rattle.pc_wave.specs.Messages.{conflict_by, first_changed, first_in_conflict, has_answer, is_to_send, progress_to_send, step_by, step_in, step_of, sent_under}
-use Rattle.pc_wave.specs.Standing.{AreAnsweredBut, AreNumbered, AreOfTwo, HasMore, IsAsFar, IsMessageAt, MessageStands, WaveStands}
+use Rattle.pc_wave.specs.Standing.{AreAnsweredBut, AreNumbered, AreOfTwo, HasMore, IsAsFar, IsMessageAt, MessageStands, WaveStands, sends_counted}
 use Rattle.pc_world.specs.Counting.{AtLeast}
 use Rattle.pc_follows.specs.Resends.{AreAnsweredNow}
 use Rattle.pc_world.specs.Known.{Known, next_number}
@@ -80,6 +80,12 @@ module _ (k now : Known) (ms : List Message) (w : WaveStands k ms) (numbered : A
     few (progresses.Met number conflict) is far = absurd cc
     few (progresses.Answered number reply) is far = absurd cc
 
+    so_often : (p : Progress) → progress_to_send p ≡ true → sends_counted m.conflicts p ≡ m.conflicts
+    so_often progresses.ToSend is = refl
+    so_often (progresses.Sent number) is = absurd cc
+    so_often (progresses.Met number conflict) is = refl
+    so_often (progresses.Answered number reply) is = absurd cc
+
     low : (x : ℕ) → x ≤ length k.sent → x ≢ n
     low x h e = absurd (omega arith)
 
@@ -107,6 +113,10 @@ module _ (k now : Known) (ms : List Message) (w : WaveStands k ms) (numbered : A
             heard = subst (λ hs. AtLeast (IsConflictOf m.request) m.conflicts hs) (sym same) stands_m.counted.heard;
             no_more = λ a. stands_m.counted.no_more (subst (λ hs. AtLeast (IsConflictOf m.request) (m.conflicts + 1) hs) same a);
           };
+      sent =
+          let P : Sent → Type 0 = λ s. IsSameRequest m.request s.request in
+          let before : AtLeast P m.conflicts k.sent_now = subst (λ n. AtLeast P n k.sent_now) (so_often m.progress (found_passes is_to_send ms m found)) stands_m.sent in
+          subst (λ ms. AtLeast P (m.conflicts + 1) ms) (sym more.sent_now) (at_least-one P m.conflicts k.sent_now new before (inl refl));
       no_round = stands_m.no_round;
     }
 

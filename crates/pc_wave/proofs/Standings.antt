@@ -1,5 +1,5 @@
 -- A message stands on while its session sends and hears what is of other requests.
-use Rattle.std.proofs.Common.{◌≡◌, ◌≢◌, ℕ, ◌+◌, ◌==◌, inl, inr, List, ◌∷◌, ◌++◌, find, length, None, Some, Option, refl, sym, ap, ◌∙◌, subst, arith, All, Any, IsTrue, length-append}
+use Rattle.std.proofs.Common.{◌≡◌, ◌≢◌, ℕ, ◌+◌, ◌==◌, List, ◌∷◌, ◌++◌, find, length, None, Some, Option, refl, sym, ap, ◌∙◌, subst, arith, All, Any, IsTrue, length-append}
 use Rattle.std.specs.List.{list_any}
 use Rattle.std.specs.Option.{option_map, option_or}
 use Rattle.std.proofs.lemmas.List.{append_assoc}
@@ -15,9 +15,9 @@ use Rattle.pc_wave.proofs.Lists.{any_before, any_true_kept, at_least-before, at_
 use Rattle.pc_wave.specs.declared.message.Message.{Message}
 use Rattle.pc_wave.specs.declared.message.Progress.{Progress}
 use Rattle.pc_wave.specs.declared.message.Progress.TheVariants as progresses
-use Rattle.pc_wave.specs.Standing.{AreAnsweredBut, AreCounted, HasComeBack, HasMore, IsAsFar, IsMessageAt, IsOnItsWay, IsReplyAt, MayGoOut, MessageStands, MetConflict, IsSentUnder}
+use Rattle.pc_wave.specs.Standing.{AreAnsweredBut, AreCounted, HasComeBack, HasMore, IsAsFar, IsMessageAt, IsOnItsWay, IsReplyAt, MayGoOut, MessageStands, MetConflict, IsSentUnder, sends_counted}
 use Rattle.pc_world.specs.Counting.{AtLeast}
-use Rattle.pc_follows.specs.Resends.{AreAnsweredNow, MayGoAgain, MetConflictNow, MetLaterEpochNow, ShowsLaterEpoch, WasDone, WasFollowed}
+use Rattle.pc_follows.specs.Resends.{AreAnsweredNow, MetConflictNow, WasDone, WasFollowed}
 use Rattle.pc_world.specs.Known.{Known}
 use Rattle.pc_world.specs.Known.Traffic.{Heard, Sent, request_sent}
 use Rattle.pc_world.specs.SameRequest.{IsSameRequest}
@@ -93,15 +93,6 @@ module _ (k k2 : Known) (sent_more : List Sent) (heard_more : List Heard) (more 
       followed = followed-more m.holder.id m.key m.later heard_more m.followed;
     }
 
-    epoch-kept : MetLaterEpochNow k request → MetLaterEpochNow k2 request
-    epoch-kept met =
-        let P : Heard → Type 0 = λ h. (h.request ≡ request) × ShowsLaterEpoch h.request h.reply in
-        subst (λ hs. Any P hs) (sym more.heard_now) (any_kept P k.heard_now heard_more met)
-
-    again-kept : MayGoAgain k request None → MayGoAgain k2 request None
-    again-kept (inl met) = inl (met-kept met)
-    again-kept (inr met) = inr (epoch-kept met)
-
     pub answered-kept : AreAnsweredNow k request → AreAnsweredNow k2 request
     answered-kept a =
         let P : Sent → Type 0 = λ m. IsSameRequest request m.request → IsTrue (is_heard k.heard_now m) in
@@ -139,7 +130,7 @@ module _ (k k2 : Known) (sent_more : List Sent) (heard_more : List Heard) (more 
       answered = answered-kept g.answered;
       again = λ some.
           let P : Sent → Type 0 = λ m. IsSameRequest request m.request in
-          again-kept (g.again (any_before P k.sent_now sent_more news (subst (λ ms. Any P ms) more.sent_now some)));
+          met-kept (g.again (any_before P k.sent_now sent_more news (subst (λ ms. Any P ms) more.sent_now some)));
     }
 
     pub conflict-kept : (number : ℕ) (conflict : Reply) → MetConflict k number request conflict → MetConflict k2 number request conflict
@@ -168,6 +159,12 @@ module _ (k k2 : Known) (sent_more : List Sent) (heard_more : List Heard) (more 
           no_more = λ a. c.no_more (at_least-before P (n + 1) k.heard_now heard_more none (subst (λ hs. AtLeast P (n + 1) hs) more.heard_now a));
         }
 
+    -- it was sent as often
+    pub sent-kept : (n : ℕ) → AtLeast (λ m. IsSameRequest request m.request) n k.sent_now → AtLeast (λ m. IsSameRequest request m.request) n k2.sent_now
+    sent-kept n a =
+        let P : Sent → Type 0 = λ m. IsSameRequest request m.request in
+        subst (λ ms. AtLeast P n ms) (sym more.sent_now) (at_least-kept P n k.sent_now sent_more a)
+
     pub far-kept : (n : ℕ) (p : Progress) → ((number : ℕ) → p ≡ progresses.Sent number → All (λ h. h.number ≢ number) heard_more) → IsAsFar k request n p → IsAsFar k2 request n p
     far-kept n progresses.ToSend apart f = (go_out-kept f.0, f.1)
     far-kept n (progresses.Sent number) apart f = (awaited-kept number (apart number refl) f.0, f.1)
@@ -180,5 +177,6 @@ module _ (k k2 : Known) (sent_more : List Sent) (heard_more : List Heard) (more 
   stands-kept m news others apart s = record {
     as_far = far-kept m.request news others m.conflicts m.progress apart s.as_far;
     counted = counted-kept m.request news others m.conflicts s.counted;
+    sent = sent-kept m.request news others (sends_counted m.conflicts m.progress) s.sent;
     no_round = s.no_round;
   }

@@ -1,12 +1,12 @@
 -- How the messages of a wave stand beside what their session knows.
-use Rattle.std.specs.Prelude.{◌≡◌, ◌≢◌, ℕ, ◌+◌, ◌≤◌, ◌<◌, Bool, true, false, None, List, [], ◌∷◌, ◌++◌, length, All, Any, IsTrue, Some}
+use Rattle.std.specs.Prelude.{◌≡◌, ◌≢◌, ℕ, ◌+◌, ◌≤◌, ◌<◌, Bool, true, false, None, List, [], ◌∷◌, ◌++◌, length, All, Any, Contains, IsTrue, Some, ⊤}
 use Rattle.pc_base.specs.declared.limits.TheConstants.{MOST_CONFLICTS}
 use Rattle.pc_proto.specs.declared.meta.TxnMeta.{TxnMeta}
 use Rattle.pc_proto.specs.declared.reply.Reply.{Reply}
 use Rattle.pc_proto.specs.declared.reply.Reply.TheVariants as replies
 use Rattle.pc_proto.specs.declared.request.Request.{Request}
 use Rattle.pc_proto.specs.declared.request.Request.TheVariants as requests
-use Rattle.pc_proto.specs.Replies.{is_conflict}
+use Rattle.pc_proto.specs.Replies.{is_conflict, is_undecided_status, status_ts}
 use Rattle.pc_wave.specs.declared.message.Message.{Message}
 use Rattle.pc_wave.specs.declared.message.Progress.{Progress}
 use Rattle.pc_wave.specs.declared.message.Progress.TheVariants as progresses
@@ -15,6 +15,7 @@ use Rattle.pc_world.specs.Counting.{AtLeast}
 use Rattle.pc_follows.specs.Resends.{AreAnsweredNow, MayGoAgain}
 use Rattle.pc_world.specs.Known.{Known}
 use Rattle.pc_world.specs.Known.Traffic.{Heard, Sent, request_sent}
+use Rattle.pc_world.specs.Known.Transactions.{Txn}
 use Rattle.pc_world.specs.SameRequest.{IsSameRequest}
 use Rattle.pc_world.specs.Tell.Refusal.{IsConflictOf, is_heard}
 
@@ -87,6 +88,13 @@ pub record AreCounted (k : Known) (request : Request) (conflicts : ℕ) : Type 0
   pub heard : AtLeast (IsConflictOf request) conflicts k.heard_now
   pub no_more : AtLeast (IsConflictOf request) (conflicts + 1) k.heard_now → ⊥
 
+-- How often the message went out in the call, beside the conflicts that it met: once more where it is out or was answered.
+abbrev pub sends_counted : ℕ → Progress → ℕ
+sends_counted conflicts progresses.ToSend = conflicts
+sends_counted conflicts (progresses.Sent number) = conflicts + 1
+sends_counted conflicts (progresses.Met number conflict) = conflicts
+sends_counted conflicts (progresses.Answered number reply) = conflicts + 1
+
 -- The request is one that a session sends beside its waves: of a conflict's round, or of a finishing job.
 abbrev pub goes_beside : Request → Bool
 goes_beside (requests.Push holder by level now goal) = true
@@ -96,10 +104,12 @@ goes_beside (requests.Resolve id key fate) = true
 goes_beside (requests.Remove id anchor) = true
 goes_beside _ = false
 
--- The message is as far as the wave has it, and met as many conflicts. It is none that is sent beside a wave.
+-- The message is as far as the wave has it, and met as many conflicts; it went out for each of them, and once more where it is out or was
+-- answered. It is none that is sent beside a wave.
 pub record MessageStands (k : Known) (m : Message) : Type 0 where
   pub as_far : IsAsFar k m.request m.conflicts m.progress
   pub counted : AreCounted k m.request m.conflicts
+  pub sent : AtLeast (λ other. IsSameRequest m.request other.request) (sends_counted m.conflicts m.progress) k.sent_now
   pub no_round : goes_beside m.request ≡ false
 
 -- The two messages are of different requests.
@@ -130,12 +140,19 @@ pub record HasMore (before now : Known) (sent_more : List Sent) (heard_more : Li
   pub heard : now.heard ≡ before.heard ++ heard_more
   pub heard_now : now.heard_now ≡ before.heard_now ++ heard_more
 
--- What was heard is the reply to the message of this number, and one that may be given to it.
+-- If the request commits the transaction in an epoch that it has not left, a record which the reply shows, and which is not final, is past it.
+abbrev pub IsPastWhereUndecided : Txn → Request → Reply → Type 0
+IsPastWhereUndecided t (requests.Commit meta ts locks) reply = meta.id ≡ t.id → t.epoch ≤ meta.epoch → is_undecided_status reply ≡ true → ts < status_ts reply
+IsPastWhereUndecided t _ reply = ⊤
+
+-- What was heard is the reply to the message of this number, and one that may be given to it: no record is in a later epoch than the session
+-- has reached.
 pub record IsHeardTo (k : Known) (number : ℕ) (reply : Reply) (h : Heard) : Type 0 where
   pub numbered : h.number ≡ number
   pub asked : request_sent number k.sent ≡ Some h.request
   pub told : h.reply ≡ reply
   pub kind : MayAnswer h.request reply
+  pub past : (t : Txn) → Contains k.txns t → IsPastWhereUndecided t h.request reply
 
 -- The request may join the wave: it may go out, met no intent in the call, is none that is sent beside a wave, and is of none of the messages'
 -- requests.

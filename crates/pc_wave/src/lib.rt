@@ -8,6 +8,3 @@ mod wave;
 pub use message::{Message, Progress};
 pub use step::Step;
 pub use wave::Wave;
-
-#[cfg(test)]
-mod tests;

@@ -12,6 +12,7 @@ pub mod Members
 pub mod Number
 pub mod Priority
 pub mod Reading
+pub mod Recoverer
 pub mod Session
 pub mod Span
 pub mod Splits

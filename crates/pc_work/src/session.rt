@@ -1,10 +1,6 @@
-ghost use Rattle.serde_json.specs.View.{view};
-ghost use Rattle.pc_work.specs.Clock.{clock_of};
-ghost use Rattle.pc_work.specs.Members.{member_if};
-ghost use Rattle.pc_work.specs.Reading.{Gives};
 ghost use Rattle.pc_work.specs.Session.{session_of};
 
-use crate::clock::{ClockWork, clock_of};
+use crate::clock::{ClockWork, clock_if};
 use crate::fault::Misfit;
 use crate::item::Script;
 use crate::json::{FromJson, has_only, list, member};
@@ -34,15 +30,5 @@ impl FromJson for SessionWork {
         let clock = clock_if(json, "clock")?;
         let script: Script = list(alloc, member(json, "script")?)?;
         Ok(SessionWork { script, clock })
-    }
-}
-
-/// The clock in the member of this name, where it is there.
-fn clock_if(json: &Json, name: &str) -> Result<Option<ClockWork>, Misfit>
-    ensures { Gives result (member_if clock_of name.now (view json.now)) }
-{
-    match json.get(name) {
-        Some(stated) => Ok(Some(clock_of(stated)?)),
-        None => Ok(None),
     }
 }

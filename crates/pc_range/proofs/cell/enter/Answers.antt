@@ -1,4 +1,4 @@
-use Rattle.pc_range.proofs.Serving.{before-step, can-enter, entered}
+use Rattle.pc_range.proofs.Serving.{before-step, can-enter, entered, known-before}
 use Rattle.pc_range.proofs.cell.enter.Goals as goal
 
 pub act-requires-clause-local : goal.act-requires-clause-local
@@ -25,3 +25,6 @@ pub returns-clause-later : goal.returns-clause-later
 returns-clause-later g c =
     before-step c.args.actor.now c.args.msg.range c.args.msg.number c.args.msg.sender c.args.msg.request c.args.reply c.args.msg.note.known
     c.args.msg.noted c.take.new.self c.act.result c.take.ensures.told c.act.ensures.above
+
+pub returns-clause-above : goal.returns-clause-above
+returns-clause-above g c = known-before c.args.actor.now c.take.new.self c.args.msg.note.known c.act.result c.take.ensures.told c.act.ensures.above

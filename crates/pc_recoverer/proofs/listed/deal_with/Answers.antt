@@ -1,15 +1,18 @@
-use Rattle.std.proofs.Common.{All, sym, subst}
+use Rattle.std.proofs.Common.{◌≡◌, sym, subst}
 use Rattle.std.proofs.lemmas.Result.{err_from_is_err_and}
 use Rattle.pc_base.specs.declared.transaction.Who.TheVariants as whos
 use Rattle.pc_desk.specs.Desk.{MaySendNow}
-use Rattle.pc_exchange.specs.Ending.{BreaksOff}
 use Rattle.pc_exchange.specs.Exchange.{WasExchanged}
 use Rattle.pc_proto.specs.declared.fate.Goal.TheVariants as goals
 use Rattle.pc_proto.specs.declared.request.Request.TheVariants as requests
-use Rattle.pc_recoverer.proofs.Dealing.{dealt_alone, dealt_recovered, dealt_settled, may_push, may_recover, may_settle, pushed_breaks, recovered_breaks}
+use Rattle.pc_recoverer.proofs.Breaking.{breaks_weaker}
+use Rattle.pc_recoverer.proofs.Dealing.{dealt_alone, dealt_recovered, dealt_settled, may_push, may_recover, may_settle, push_ends_early, recovered_ends_early, recovery_ends_early, settling_ends_early}
 use Rattle.pc_recoverer.proofs.Traffic.{if_err, is_recoverer, on_ok}
+use Rattle.pc_recoverer.specs.Broken.{AreFrontOf, AreFrontOfOne, BreaksOffIn}
+use Rattle.pc_recoverer.specs.Exchanges.{requests_of}
 use Rattle.pc_recoverer.specs.InRound.{HasDealtWith, HasSettled}
-use Rattle.pc_turns.specs.Order.{IsInBetween}
+use Rattle.pc_recoverer.specs.Round.{IsPartFor, listed_push}
+use Rattle.pc_recoverer.specs.Settled.{settling_of}
 use Rattle.pc_recoverer.proofs.listed.deal_with.Goals as goal
 
 pub exchange-requires-clause-back : goal.exchange-requires-clause-back
@@ -57,16 +60,27 @@ returns-clause-ok g c =
 pub returns-in-Status-clause-ended : goal.returns-in-Status-clause-ended
 returns-in-Status-clause-ended g c =
     let x = subst (λ h. WasExchanged c.args.desk.now c.exchange.new.desk (requests.Push h (whos.Recoverer c.args.maker.number) c.args.maker.level c.args.maker.reading goals.Abort) c.in_ok-reply.reply) c.in-Ok.ensures c.in_ok-reply.ensures.ok in
-    if_err c.settle.result (BreaksOff (All IsInBetween) c.exchange.new.desk c.settle.new.desk) (BreaksOff (All IsInBetween) c.args.desk.now c.settle.new.desk) (pushed_breaks c.args.maker c.args.desk.now c.args.meta.now c.requires c.exchange.new.desk c.in_ok-reply.reply x c.settle.new.desk) c.settle.ensures.ended
+    if_err c.settle.result (BreaksOffIn (AreFrontOf (λ xs. requests_of xs ≡ settling_of c.args.meta.now c.in-Status.view)) c.exchange.new.desk c.settle.new.desk) (BreaksOffIn (AreFrontOf (IsPartFor c.args.maker c.args.meta.now)) c.args.desk.now c.settle.new.desk)
+    (λ halt. settling_ends_early c.args.maker c.args.desk.now c.args.meta.now c.requires c.exchange.new.desk c.in_ok-reply.reply x c.in-Status.view c.settle.new.desk halt c.in-Status.is) c.settle.ensures.ended
 
 pub returns-in-Unsure-clause-ended : goal.returns-in-Unsure-clause-ended
 returns-in-Unsure-clause-ended g c =
     let x = subst (λ h. WasExchanged c.args.desk.now c.exchange.new.desk (requests.Push h (whos.Recoverer c.args.maker.number) c.args.maker.level c.args.maker.reading goals.Abort) c.in_ok-reply.reply) c.in-Ok.ensures c.in_ok-reply.ensures.ok in
-    if_err c.settle-in-Unsure.result (BreaksOff (All IsInBetween) c.recover.new.desk c.settle-in-Unsure.new.desk) (BreaksOff (All IsInBetween) c.args.desk.now c.settle-in-Unsure.new.desk)
-    (λ halt. recovered_breaks c.args.maker c.args.desk.now c.args.meta.now c.requires c.exchange.new.desk c.in_ok-reply.reply x c.in-Unsure.met c.in_ok-view-in-Unsure.view c.recover.new.desk c.settle-in-Unsure.new.desk halt c.in_ok-view-in-Unsure.ensures.ok) c.settle-in-Unsure.ensures.ended
+    let view = c.in_ok-view-in-Unsure.view in
+    if_err c.settle-in-Unsure.result (BreaksOffIn (AreFrontOf (λ xs. requests_of xs ≡ settling_of c.args.meta.now view)) c.recover.new.desk c.settle-in-Unsure.new.desk) (BreaksOffIn (AreFrontOf (IsPartFor c.args.maker c.args.meta.now)) c.args.desk.now c.settle-in-Unsure.new.desk)
+    (λ halt. recovered_ends_early c.args.maker c.args.desk.now c.args.meta.now c.requires c.exchange.new.desk c.in_ok-reply.reply x c.in-Unsure.met view c.recover.new.desk c.settle-in-Unsure.new.desk halt c.in-Unsure.is c.in_ok-view-in-Unsure.ensures.ok) c.settle-in-Unsure.ensures.ended
 
 pub returns-in_err-view-in-Unsure-clause-ended : goal.returns-in_err-view-in-Unsure-clause-ended
 returns-in_err-view-in-Unsure-clause-ended g c =
     let x = subst (λ h. WasExchanged c.args.desk.now c.exchange.new.desk (requests.Push h (whos.Recoverer c.args.maker.number) c.args.maker.level c.args.maker.reading goals.Abort) c.in_ok-reply.reply) c.in-Ok.ensures c.in_ok-reply.ensures.ok in
     let p = err_from_is_err_and c.from_residual-in_err-view-in-Unsure.result c.from_residual-in_err-view-in-Unsure.ensures.1 in
-    rw (p.1, p.2) (pushed_breaks c.args.maker c.args.desk.now c.args.meta.now c.requires c.exchange.new.desk c.in_ok-reply.reply x c.recover.new.desk c.in_err-view-in-Unsure.field-0.0 c.in_err-view-in-Unsure.ensures.ended)
+    rw (p.1, p.2)
+    (recovery_ends_early c.args.maker c.args.desk.now c.args.meta.now c.requires c.exchange.new.desk c.in_ok-reply.reply x c.in-Unsure.met c.recover.new.desk c.in_err-view-in-Unsure.field-0.0 c.in-Unsure.is c.in_err-view-in-Unsure.ensures.ended)
+
+pub returns-in_err-reply-clause-ended : goal.returns-in_err-reply-clause-ended
+returns-in_err-reply-clause-ended g c =
+    let p = err_from_is_err_and c.from_residual.result c.from_residual.ensures.1 in
+    let push = listed_push c.args.maker c.args.meta.now in
+    rw (p.1, p.2)
+    (breaks_weaker c.args.desk.now c.exchange.new.desk (AreFrontOfOne push) (AreFrontOf (IsPartFor c.args.maker c.args.meta.now)) c.in_err-reply.field-0.0 (push_ends_early c.args.maker c.args.meta.now)
+    (subst (λ h. BreaksOffIn (AreFrontOfOne (requests.Push h (whos.Recoverer c.args.maker.number) c.args.maker.level c.args.maker.reading goals.Abort)) c.args.desk.now c.exchange.new.desk c.in_err-reply.field-0.0) c.in-Ok.ensures c.in_err-reply.ensures.ended))

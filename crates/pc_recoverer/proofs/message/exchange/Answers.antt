@@ -1,37 +1,22 @@
-use Rattle.std.proofs.Common.{◌≡◌, [], IfNone, IfSome, subst}
-use Rattle.std.proofs.lemmas.Result.{err_from_is_err_and}
-use Rattle.pc_desk.specs.Desk.{HasHeardFirst}
-use Rattle.pc_exchange.proofs.Ending.{only_breaks}
-use Rattle.pc_exchange.proofs.Exchanging.{ends_delivered, ends_sent}
-use Rattle.pc_recoverer.proofs.Exchanging.{has_reply, may_hear_it, was_exchanged}
+use Rattle.std.proofs.lemmas.Result.{IfOk-weaker, err_from_is_err_and}
+use Rattle.pc_recoverer.proofs.Breaking.{breaks_weaker_if}
+use Rattle.pc_recoverer.proofs.Exchanging.{ends_unsent}
+use Rattle.pc_recoverer.proofs.Fronts.{front_of_one}
+use Rattle.pc_recoverer.specs.Broken.{AreFrontOfOne, AreFrontOfOneTo}
 use Rattle.pc_recoverer.proofs.message.exchange.Goals as goal
 
-pub hear-requires-clause-may : goal.hear-requires-clause-may
-hear-requires-clause-may g c =
-    may_hear_it c.args.desk.now c.send.new.self c.deliver.new.self c.args.request _ c.requires.back c.in_ok-send.ensures.ok c.in_ok-deliver.ensures.ok c.in_ok-deliver.ensures.all c.requires.client
-
-pub unreachable-requires : goal.unreachable-requires
-unreachable-requires g c =
-    has_reply c.args.desk.now c.send.new.self c.deliver.new.self c.args.request _ c.requires.back c.in_ok-send.ensures.ok c.in_ok-deliver.ensures.ok c.in_ok-deliver.ensures.all
-    (subst (λ heard. IfNone heard ((c.deliver.new.self.replies ≡ []) × (c.hear.new.self ≡ c.deliver.new.self))) c.in-None.is c.in_ok-heard.ensures.none).0
+pub hear_reply-requires : goal.hear_reply-requires
+hear_reply-requires g c = record { before = c.args.desk.now; back = c.requires.back; client = c.requires.client; request = c.args.request; number = _; sent = c.in_ok-send.ensures.ok }
 
 pub returns-clause-ok : goal.returns-clause-ok
-returns-clause-ok g c =
-    was_exchanged c.args.desk.now c.send.new.self c.deliver.new.self c.args.request _ c.requires.back c.in_ok-send.ensures.ok c.in_ok-deliver.ensures.ok c.in_ok-deliver.ensures.all c.hear.new.self c.in-Some.answered
-    (subst (λ heard. IfSome heard (HasHeardFirst c.deliver.new.self c.hear.new.self)) c.in-Some.is c.in_ok-heard.ensures.ok)
+returns-clause-ok g c = IfOk-weaker c.hear_reply.result _ _ (λ reply was. was.exchanged) (c.hear_reply.ensures.ok c.args.desk.now c.args.request _ c.in_ok-send.ensures.ok c.requires.back)
+
+pub returns-clause-ended : goal.returns-clause-ended
+returns-clause-ended g c =
+    let range = c.in_ok-send.ensures.ok.range in
+    breaks_weaker_if c.hear_reply.result c.args.desk.now c.hear_reply.new.desk (AreFrontOfOneTo range c.args.request) (AreFrontOfOne c.args.request) (front_of_one range c.args.request) (c.hear_reply.ensures.ended c.args.desk.now c.args.request _ c.in_ok-send.ensures.ok)
 
 pub returns-in_err-send-clause-ended : goal.returns-in_err-send-clause-ended
 returns-in_err-send-clause-ended g c =
     let p = err_from_is_err_and c.from_residual.result c.from_residual.ensures.1 in
-    rw (p.1, p.2) (only_breaks c.args.desk.now c.send.new.self c.in_err-send.field-0.0 c.requires.back.track c.in_err-send.ensures.ended)
-
-pub returns-in_err-deliver-clause-ended : goal.returns-in_err-deliver-clause-ended
-returns-in_err-deliver-clause-ended g c =
-    let p = err_from_is_err_and c.from_residual-in_err-deliver.result c.from_residual-in_err-deliver.ensures.1 in
-    rw (p.1, p.2) (ends_sent c.args.desk.now c.send.new.self c.args.request _ c.in_ok-send.ensures.ok c.deliver.new.self c.in_err-deliver.field-0.0 c.in_err-deliver.ensures.ended)
-
-pub returns-in_err-heard-clause-ended : goal.returns-in_err-heard-clause-ended
-returns-in_err-heard-clause-ended g c =
-    let p = err_from_is_err_and c.from_residual-in_err-heard.result c.from_residual-in_err-heard.ensures.1 in
-    rw (p.1, p.2)
-    (ends_delivered c.args.desk.now c.send.new.self c.args.request _ c.in_ok-send.ensures.ok c.deliver.new.self c.hear.new.self c.in_err-heard.field-0.0 c.in_ok-deliver.ensures.ok c.in_err-heard.ensures.ended)
+    rw (p.1, p.2) (ends_unsent c.args.desk.now c.send.new.self c.args.request c.in_err-send.field-0.0 c.requires.back.track c.in_err-send.ensures.ended)

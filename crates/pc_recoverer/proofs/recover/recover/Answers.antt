@@ -1,8 +1,12 @@
 use Rattle.std.proofs.Common.{refl, sym, subst, inl, inr, ◌∙◌}
 use Rattle.std.proofs.lemmas.Result.{err_from_is_err_and}
 use Rattle.pc_recover.specs.Recovering.{IsRecoveryOf}
-use Rattle.pc_recoverer.proofs.Recovering.{is_staging, recovering_asks, recovering_begins, recovering_ends}
-use Rattle.pc_recoverer.proofs.Traffic.{is_recoverer, traffic_breaks}
+use Rattle.pc_proto.specs.declared.reply.Reply.TheVariants as replies
+use Rattle.pc_recoverer.proofs.Breaking.{traffic_breaks}
+use Rattle.pc_recoverer.proofs.Recovering.{is_staging, recovering_asks, recovering_begins, recovering_breaks, recovering_ends}
+use Rattle.pc_recoverer.proofs.Traffic.{is_recoverer}
+use Rattle.pc_recoverer.specs.Broken.{AreFrontOf, AreFrontOfOne}
+use Rattle.pc_recoverer.specs.Round.{FollowsPush}
 use Rattle.pc_recoverer.specs.Recovered.{name_of}
 use Rattle.pc_recoverer.proofs.recover.recover.Goals as goal
 
@@ -41,5 +45,8 @@ loop-preserved g c = (
 
 pub returns-in_err-recover_on-in-Send-clause-ended : goal.returns-in_err-recover_on-in-Send-clause-ended
 returns-in_err-recover_on-in-Send-clause-ended g c =
+    let f = c.loop.invariant.0 in
     let p = err_from_is_err_and c.from_residual.result c.from_residual.ensures.1 in
-    rw (p.1, p.2) (traffic_breaks c.args.desk.now c.loop.desk c.recover_on.new.desk c.loop.invariant.0.traffic c.in_err-recover_on-in-Send.field-0.0 c.loop.invariant.0.made c.in_err-recover_on-in-Send.ensures.ended)
+    rw (p.1, p.2)
+    (traffic_breaks c.args.desk.now c.loop.desk c.recover_on.new.desk f.traffic c.in_err-recover_on-in-Send.field-0.0 (AreFrontOf (FollowsPush c.args.maker c.args.meta.now (replies.Unsure c.args.met))) (AreFrontOfOne c.in-Send.request) f.made
+    (recovering_breaks c.args.maker c.args.desk.now c.args.meta.now c.args.met c.loop.machine c.loop.desk f c.in-Send.request (sym c.in-Ok-next.ensures.due ∙ c.in-Send.is)) c.in_err-recover_on-in-Send.ensures.ended)

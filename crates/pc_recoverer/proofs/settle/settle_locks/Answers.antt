@@ -1,7 +1,11 @@
-use Rattle.std.proofs.Common.{refl, sym, ◌∙◌}
+use Rattle.std.proofs.Common.{◌≡◌, refl, sym, ◌∙◌}
 use Rattle.std.proofs.lemmas.Result.{err_from_is_err_and}
-use Rattle.pc_recoverer.proofs.Settling.{settling_asks, settling_begins, settling_ends}
-use Rattle.pc_recoverer.proofs.Traffic.{is_recoverer, traffic_breaks}
+use Rattle.pc_recoverer.proofs.Breaking.{traffic_breaks}
+use Rattle.pc_recoverer.proofs.Settling.{settling_asks, settling_begins, settling_breaks, settling_ends}
+use Rattle.pc_recoverer.proofs.Traffic.{is_recoverer}
+use Rattle.pc_recoverer.specs.Broken.{AreFrontOf, AreFrontOfOne}
+use Rattle.pc_recoverer.specs.Exchanges.{requests_of}
+use Rattle.pc_recoverer.specs.Settled.{settling_with}
 use Rattle.pc_recoverer.proofs.settle.settle_locks.Goals as goal
 
 pub loop-init : goal.loop-init
@@ -30,5 +34,8 @@ loop-preserved g c = (
 
 pub returns-in_err-settle_on-in-Send-clause-ended : goal.returns-in_err-settle_on-in-Send-clause-ended
 returns-in_err-settle_on-in-Send-clause-ended g c =
+    let f = c.loop.invariant.0 in
     let p = err_from_is_err_and c.from_residual.result c.from_residual.ensures.1 in
-    rw (p.1, p.2) (traffic_breaks c.args.desk.now c.loop.desk c.settle_on.new.desk c.loop.invariant.0.traffic c.in_err-settle_on-in-Send.field-0.0 c.loop.invariant.0.made c.in_err-settle_on-in-Send.ensures.ended)
+    rw (p.1, p.2)
+    (traffic_breaks c.args.desk.now c.loop.desk c.settle_on.new.desk f.traffic c.in_err-settle_on-in-Send.field-0.0 (AreFrontOf (λ xs. requests_of xs ≡ settling_with c.args.meta.now c.args.fate c.args.locks)) (AreFrontOfOne c.in-Send.request) f.made
+    (settling_breaks c.args.desk.now c.args.meta.now c.args.fate c.args.locks c.loop.machine c.loop.desk f c.in-Send.request (sym c.in-Ok-next.ensures.due ∙ c.in-Send.is)) c.in_err-settle_on-in-Send.ensures.ended)

@@ -8,7 +8,6 @@ use Rattle.pc_wave.specs.Standing.{IsHeardTo}
 use Rattle.pc_call.specs.declared.over.Over.{Over}
 use Rattle.pc_coord.proofs.Coming.{finished_comes}
 use Rattle.pc_coord.specs.Coming.{IsBlockOf}
-use Rattle.pc_proto.specs.declared.answer.Answer.{Answer}
 use Rattle.pc_coord.proofs.coordinator.Coordinator.commit_heard.Goals as goal
 
 pub returns-in-Committed-clause-knows : goal.returns-in-Committed-clause-knows

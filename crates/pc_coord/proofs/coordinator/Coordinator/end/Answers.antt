@@ -1,7 +1,4 @@
-use Rattle.std.proofs.Common.{sym, ap, ◌∙◌, subst}
 use Rattle.pc_coord.proofs.Coming.{answered_none}
-use Rattle.pc_coord.specs.Coming.{ComesOf}
-use Rattle.pc_coord.specs.Coordination.{Coordination}
 use Rattle.pc_coord.proofs.coordinator.Coordinator.end.Goals as goal
 
 pub returns-in-Read-clause-comes : goal.returns-in-Read-clause-comes

@@ -9,7 +9,6 @@ use Rattle.pc_coord.specs.Knows.{is_under_way}
 use Rattle.pc_wave.specs.Messages.{wave_awaits}
 use Rattle.pc_proto.specs.declared.answer.Answer.TheVariants as answers
 use Rattle.pc_coord.proofs.Coming.{called_comes, told_comes}
-use Rattle.pc_coord.specs.Coming.{ComesOf}
 use Rattle.pc_coord.proofs.coordinator.Coordinator.go_on.Goals as goal
 
 pub returns-in-Answered-clause-knows : goal.returns-in-Answered-clause-knows

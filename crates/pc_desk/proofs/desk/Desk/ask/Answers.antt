@@ -8,7 +8,7 @@ use Rattle.pc_desk.proofs.desk.Desk.ask.Goals as goal
 
 pub returns-clause-ok : goal.returns-clause-ok
 returns-clause-ok g c =
-    IfOk-weaker c.ask.result _ _ (λ reading entered. has_done _ c.args.self.now c.ask.new.self (events.Ask c.args.call reading) c.self.view_is refl (λ named sent. refl) refl c.requires.track entered) c.ask.ensures.ok
+    IfOk-weaker c.ask.result _ _ (λ reading entered. has_done _ c.args.self.now c.ask.new.self (events.Ask c.args.call reading) c.self.view_is refl (λ named sent. refl) refl (λ sends. sends) (λ hears. hears) c.requires.track entered) c.ask.ensures.ok
 
 pub returns-clause-ended : goal.returns-clause-ended
 returns-clause-ended g c =

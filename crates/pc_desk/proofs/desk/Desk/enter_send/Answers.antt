@@ -10,3 +10,6 @@ returns-in_err-enter-clause-ended g c =
     let p = err_from_is_err_and c.from_residual.result c.from_residual.ensures.1 in
     rw (p.1, p.2)
     (λ track. ended_so (λ (made : Event). made ≡ events.Send c.args.number c.args.range c.args.request) _ c.args.self.now c.enter.new.self _ c.in_err-enter.field-0.0 c.self.view_is track c.in_err-enter.ensures.err)
+
+pub enter-requires-clause-waves : goal.enter-requires-clause-waves
+enter-requires-clause-waves g c = record { whole = tt; order = λ one. tt }

@@ -8,8 +8,11 @@ use Rattle.pc_desk.proofs.desk.Desk.meet.Goals as goal
 
 pub returns-clause-ok : goal.returns-clause-ok
 returns-clause-ok g c =
-    on_ok_weaker c.enter.result (λ entered. has_done _ c.args.self.now c.enter.new.self (events.Meet c.args.id c.args.step) c.self.view_is refl (λ named sent. refl) refl c.requires.track entered) c.enter.ensures.ok
+    on_ok_weaker c.enter.result (λ entered. has_done _ c.args.self.now c.enter.new.self (events.Meet c.args.id c.args.step) c.self.view_is refl (λ named sent. refl) refl (λ sends. sends) (λ hears. hears) c.requires.track entered) c.enter.ensures.ok
 
 pub returns-clause-ended : goal.returns-clause-ended
 returns-clause-ended g c =
     ended_if (λ (made : Event). made ≡ events.Meet c.args.id c.args.step) _ c.args.self.now c.enter.new.self c.enter.result c.self.view_is c.requires.track c.enter.ensures.err
+
+pub enter-requires-clause-waves : goal.enter-requires-clause-waves
+enter-requires-clause-waves g c = record { whole = tt; order = λ one. tt }

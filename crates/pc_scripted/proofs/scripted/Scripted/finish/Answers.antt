@@ -10,5 +10,5 @@ pub returns-clause-keeps : goal.returns-clause-keeps
 returns-clause-keeps g c = λ work session rule does same.
     let scripted = subst (λ s. IsScripted s) (sym c.self.view_is) c.requires in
     subst (λ s. EachAfter (KeepsWork work session rule) [] (own_list s)) c.self.view_is
-    (keeps_work work session rule (g.C.Clock.rule c.self.inside.session.desk.log.clock) _ _ scripted c.finish.ensures.log scripted.id c.finish.ensures.reads (subst (λ s. DoesWork work session s) (sym c.self.view_is) does)
+    (keeps_work work session rule (g.C.Clock.rule c.self.inside.session.desk.log.clock) _ scripted c.finish.ensures.reads (subst (λ s. DoesWork work session s) (sym c.self.view_is) does)
     (ap (λ s. g.C.Clock.rule s.session.desk.log.clock) c.self.view_is ∙ same))

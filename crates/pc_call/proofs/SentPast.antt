@@ -1,0 +1,76 @@
+-- Where nothing of an open call is to be sent, and none of its messages met a conflict, each of its requests was sent once more than it met intents.
+use Rattle.std.proofs.Common.{◌≡◌, ℕ, ◌+◌, true, false, ◌⊎◌, inl, inr, List, [], ◌∷◌, refl, sym, ◌∙◌, All, IsTrue}
+use Rattle.std.proofs.lemmas.List.Elements.{All-cons, All-head, All-nil, All-tail, All-weaker}
+use Rattle.pc_call.proofs.Beside.{IsSentOnceMore, all_past}
+use Rattle.pc_call.specs.declared.purpose.Purpose.{Purpose}
+use Rattle.pc_call.specs.Serving.{InCall}
+use Rattle.pc_follows.specs.AgainInOneWave.{AreAllSentPast, WasSentPastConflicts}
+use Rattle.pc_follows.specs.CallMessages.{IsFor, IsForCall}
+use Rattle.pc_proto.specs.declared.call.Call.{Call}
+use Rattle.pc_proto.specs.declared.call.Call.TheVariants as calls
+use Rattle.pc_proto.specs.declared.request.Request.{Request}
+use Rattle.pc_proto.specs.declared.request.Request.TheVariants as requests
+use Rattle.pc_proto.specs.Requests.{IsPutOn, is_abort, is_commit, is_get, is_refresh, is_scan}
+use Rattle.pc_txn.specs.declared.txn.OpenTxn.{OpenTxn}
+use Rattle.pc_wave.specs.declared.message.Message.{Message}
+use Rattle.pc_wave.specs.declared.message.Progress.{Progress}
+use Rattle.pc_wave.specs.declared.message.Progress.TheVariants as progresses
+use Rattle.pc_wave.specs.Messages.{is_in_conflict, is_to_send, progress_in_conflict, progress_to_send}
+use Rattle.pc_wave.specs.Standing.{goes_beside, sends_counted}
+use Rattle.pc_world.specs.Known.{Known}
+use Rattle.pc_world.specs.Known.Traffic.{Sent}
+
+get_for : (r : Request) → IsTrue (is_get r) → goes_beside r ≡ false
+get_for (requests.Get id epoch seq ts key) is = refl
+get_for r is = absurd cc
+
+scan_for : (r : Request) → IsTrue (is_scan r) → goes_beside r ≡ false
+scan_for (requests.Scan id epoch seq ts span) is = refl
+scan_for r is = absurd cc
+
+put_for : (key : List ℕ) (r : Request) → IsPutOn key r → goes_beside r ≡ false
+put_for key (requests.Put meta seq ts own value) is = refl
+put_for key r is = absurd is
+
+commit_for : (r : Request) → IsTrue (is_commit r) → goes_beside r ≡ false
+commit_for (requests.Commit meta ts locks) is = refl
+commit_for r is = absurd cc
+
+refresh_for : (r : Request) → IsTrue (is_refresh r) → goes_beside r ≡ false
+refresh_for (requests.Refresh id from to span) is = refl
+refresh_for r is = absurd cc
+
+abort_for : (r : Request) → IsTrue (is_abort r) → goes_beside r ≡ false
+abort_for (requests.Abort meta why locks) is = refl
+abort_for r is = absurd cc
+
+-- what is sent for a call does not go beside its waves
+none_beside : (call : Call) (r : Request) → IsFor call r → goes_beside r ≡ false
+none_beside (calls.Get key) r is = get_for r is
+none_beside (calls.Scan span) r is = scan_for r is
+none_beside (calls.Put key value) r is = put_for key r is
+none_beside (calls.Delete key) r is = put_for key r is
+none_beside calls.Commit r (inl is) = commit_for r is
+none_beside calls.Commit r (inr is) = refresh_for r is
+none_beside calls.Rollback r is = abort_for r is
+none_beside call r is = absurd is
+
+once_more : (m : Message) (p : Progress) → progress_to_send p ≡ false → progress_in_conflict p ≡ false → sends_counted m.conflicts p ≡ m.conflicts + 1
+once_more m progresses.ToSend out plain = absurd cc
+once_more m (progresses.Sent number) out plain = refl
+once_more m (progresses.Met number conflict) out plain = absurd cc
+once_more m (progresses.Answered number reply) out plain = refl
+
+all_once_more : (ms : List Message) → All (λ m. is_to_send m ≡ false) ms → All (λ m. is_in_conflict m ≡ false) ms → All IsSentOnceMore ms
+all_once_more [] out plain = All-nil IsSentOnceMore
+all_once_more (m ∷ ms) out plain =
+    All-cons IsSentOnceMore m ms (once_more m m.progress (All-head (λ m. is_to_send m ≡ false) m ms out) (All-head (λ m. is_in_conflict m ≡ false) m ms plain))
+    (all_once_more ms (All-tail (λ m. is_to_send m ≡ false) m ms out) (All-tail (λ m. is_in_conflict m ≡ false) m ms plain))
+
+pub sent_past : (splits : List (List ℕ)) (k : Known) (x : OpenTxn) (p : Purpose) (ms : List Message) → InCall splits k x p ms → All (λ m. is_to_send m ≡ false) ms → All (λ m. is_in_conflict m ≡ false) ms → AreAllSentPast k
+sent_past splits k x p ms w out plain =
+    All-weaker (λ m. IsTrue (goes_beside m.request) ⊎ WasSentPastConflicts k m.request) (λ m. IsForCall k m.request → WasSentPastConflicts k m.request) by k.sent_now (all_past k ms w.wave w.done (all_once_more ms out plain))
+  where
+    by : (m : Sent) → IsTrue (goes_beside m.request) ⊎ WasSentPastConflicts k m.request → IsForCall k m.request → WasSentPastConflicts k m.request
+    by m (inl beside) kind = let e : false ≡ true = sym (none_beside kind.s.call m.request kind.kind) ∙ beside in absurd cc
+    by m (inr past) kind = past
