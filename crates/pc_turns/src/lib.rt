@@ -33,12 +33,12 @@ pub fn marks_keep_order()
     ensures { MarksKeepOrder }
 {}
 
-/// A law: where one more session took the mark of the last entry and made its entries, all own lists are their sessions' shares still.
+/// A law: where one more client took the mark of the last entry and made its entries, all own lists are their clients' shares still.
 pub fn turns_add_up()
     ensures { TurnsAddUp }
 {}
 
-/// A law: own lists that are the sessions' shares make up what the clients stored, once they were handed in.
+/// A law: own lists that are the clients' shares make up what the clients stored, once they were handed in.
 pub fn shares_make_up()
     ensures { SharesMakeUp }
 {}
