@@ -1,9 +1,9 @@
-use Rattle.std.proofs.Common.{All, subst}
+use Rattle.std.proofs.Common.{All, subst, ◌∙◌}
 use Rattle.std.proofs.lemmas.List.Elements.{All-head, All-tail}
-use Rattle.pc_scripted.specs.Scripted.{IsScripted}
+use Rattle.pc_scripted.specs.Scripted.{IsScripted, own_list}
 use Rattle.pc_threads.proofs.Places.{is_cut}
-use Rattle.pc_threads.proofs.Whole.{if_ok}
 use Rattle.pc_threads.specs.Lanes.{LeadsIn}
+use Rattle.pc_threads.specs.RoundLanes.{WaitInLanes}
 use Rattle.pc_threads.proofs.on_threads.start.Goals as goal
 
 pub open-requires : goal.open-requires
@@ -18,7 +18,7 @@ line_up-requires g c =
 
 pub returns : goal.returns
 returns g c =
-    if_ok c.put_in_front.result _ _ c.put_in_front.ensures (λ lanes leads. record {
+    let started = λ lanes leads. record {
       first = c.remove-first.result;
       others = c.remove-first.new.self.items;
       whole = is_cut c.args.sessions.items c.remove-first.new.self.items c.remove-first.result c.requires.some c.remove-first.ensures.value c.remove-first.ensures.items;
@@ -26,6 +26,7 @@ returns g c =
       opens = c.in_ok-open.ensures.ok;
       kept = c.in_ok-open.ensures.rule;
       rest = c.in_ok-others.others.items;
-      leads = subst (λ f. LeadsIn f c.in_ok-others.others.items lanes.items) c.in_ok-others.ensures.same leads;
+      leads = subst (λ f. LeadsIn f c.in_ok-others.others.items lanes) (c.in_ok-behind.ensures.same ∙ c.in_ok-others.ensures.same) leads;
       follow = c.in_ok-others.ensures.follow;
-    })
+    } in
+    (started c.in_ok-put_in_front.field-0.items c.in_ok-put_in_front.ensures, subst (λ f. WaitInLanes (own_list f) c.args.recoverers.items c.in_ok-behind.behind.items) c.in_ok-others.ensures.same c.in_ok-behind.ensures.follow)
