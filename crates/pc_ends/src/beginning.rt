@@ -85,7 +85,6 @@ where
     ensures runners { IfOk result (λ r. AreRunners work.now r.items) }
     ensures fresh { IfOk result (λ r. All (λ s. own_list s ≡ []) r.items) }
     ensures clocks { IfOk result (λ r. HaveClocks (session_rule M.Clock.rule) (M.rules clocks.old) work.now r.items) }
-    ensures kept { OnOk result (M.rules clocks.new ≡ M.rules clocks.old) }
 {
     let mut runners = Vec::new(alloc);
     for actor in actors {

@@ -76,7 +76,7 @@ recoverers_set {C} work recoverers index now are within runner = record { many =
     each-so other x got (inr differ) = are.each other x (sym (get_set_other recoverers index other now differ) ∙ got)
 
 -- its rounds are those of the workload
-pub rounds_are : {C : Type 0} (work : Workload) (index : ℕ) (r : CountedMeaning C) → IsRecovererIn work index r → r.rounds ≡ rounds_in_work work (index + 1)
+rounds_are : {C : Type 0} (work : Workload) (index : ℕ) (r : CountedMeaning C) → IsRecovererIn work index r → r.rounds ≡ rounds_in_work work (index + 1)
 rounds_are work index r runner =
     let at : (index + 1) - 1 ≡ index = omega arith in
     let there : slice_get work.recoverers ((index + 1) - 1) ≡ Some runner.recoverer = ap (slice_get work.recoverers) at ∙ runner.listed in

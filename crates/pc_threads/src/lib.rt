@@ -7,7 +7,6 @@ ghost use Rattle.pc_threads.specs.Laws.{ThreadsAreAsStated};
 mod lane;
 mod on_threads;
 mod round_lane;
-mod runs;
 
 pub use on_threads::go_on_threads;
 use pc_clock::Clock;

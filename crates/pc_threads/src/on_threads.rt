@@ -4,13 +4,12 @@ ghost use Rattle.pc_base.specs.declared.actor.ActorId.{ActorId as Whose};
 ghost use Rattle.pc_rounds.specs.Counted.{GoesInRounds, entries_made};
 ghost use Rattle.pc_runs.specs.Together.{AreAtEnds, AreClients, HaveClientClocks};
 ghost use Rattle.pc_scripted.specs.Scripted.{IsScripted, own_list};
-ghost use Rattle.pc_threads.specs.Lanes.{HasLeftLane, HaveStarted, LeadsIn, StandsBehind, StandsBehindIn};
+ghost use Rattle.pc_threads.specs.Lanes.{HasLeftLane, HasRunLane, HaveStarted, LeadsIn, StandsBehind, StandsBehindIn};
 ghost use Rattle.pc_threads.specs.OnThreads.{HaveGoneOnThreads};
-ghost use Rattle.pc_threads.specs.RoundLanes.{HasLeftRoundLane, HaveRunToEnds, WaitInLanes, WaitsBehind};
+ghost use Rattle.pc_threads.specs.RoundLanes.{HasLeftRoundLane, HasRunRounds, HaveRunToEnds, WaitInLanes, WaitsBehind};
 
 use crate::lane::Lane;
 use crate::round_lane::RoundLane;
-use crate::runs::run_both;
 use pc_base::NoMemory;
 use pc_clock::Clock;
 use pc_history::Named;
@@ -21,6 +20,7 @@ use pc_wire::Wire;
 use pc_work::Workload;
 use std::marker::{Send, Sync};
 use std::sync::Wait;
+use std::thread;
 use std::thread::Threads;
 
 /// The lanes of the sessions, and those of the recoverers.
@@ -172,6 +172,29 @@ fn put_behind<'a, N: Named<CommitWorld>, C: Clock + Drop, V: Wire + Drop, G: Gat
     Ok(other)
 }
 
+/// All sessions go to the ends of their scripts, each on a thread of its own where one can be made.
+fn run_all<
+    'a,
+    N: Named<CommitWorld> + Send + Sync,
+    C: Clock + Drop + Send,
+    V: Wire + Drop + Send,
+    G: Gate + Sync,
+    R: Wait + Threads + Sync,
+>(rt: &R, lanes: &mut [Lane<'a, N, C, V, G>])
+    requires some { 1 ≤ length lanes.old }
+    requires scripted { All (λ l. IsScripted l.session) lanes.old }
+    ensures { AllZip (HasRunLane C.rule) lanes.old lanes.new }
+{
+    let threads = lanes.len();
+    let run = |_: usize, lane: &mut Lane<'_, N, C, V, G>|
+        requires { IsScripted lane.old.session }
+        ensures { HasRunLane C.rule lane.old lane.new }
+    {
+        lane.run(rt);
+    };
+    thread::for_each_mut(rt, lanes, threads, &run);
+}
+
 /// The sessions out of their lanes again, in order, where memory ran out in none.
 fn take_back<'a, N: Named<CommitWorld>, C: Clock + Drop, V: Wire + Drop, G: Gate>(
     lanes: Vec<Lane<'a, N, C, V, G>>,
@@ -183,6 +206,54 @@ fn take_back<'a, N: Named<CommitWorld>, C: Clock + Drop, V: Wire + Drop, G: Gate
         sessions.push(lane.finish()?)?;
     }
     Ok(sessions)
+}
+
+/// All sessions go to the ends of their scripts and all recoverers make their rounds, beside each other.
+fn run_both<
+    'a,
+    N: Named<CommitWorld> + Send + Sync,
+    C: Clock + Drop + Send,
+    V: Wire + Drop + Send,
+    G: Gate + Sync,
+    R: Wait + Threads + Sync,
+>(rt: &R, lanes: &mut [Lane<'a, N, C, V, G>], round_lanes: &mut [RoundLane<'a, N, C, V, G>])
+    requires some { 1 ≤ length lanes.old }
+    requires scripted { All (λ l. IsScripted l.session) lanes.old }
+    requires counted { All (λ l. GoesInRounds l.recoverer) round_lanes.old }
+    ensures sessions { AllZip (HasRunLane C.rule) lanes.old lanes.new }
+    ensures recoverers { AllZip (HasRunRounds C.rule) round_lanes.old round_lanes.new }
+{
+    let mut scripts = ||
+        requires { (1 ≤ length lanes.now) × All (λ l. IsScripted l.session) lanes.now }
+        ensures { AllZip (HasRunLane C.rule) lanes.entry.now lanes.exit.now }
+    { run_all(rt, lanes) };
+    let mut rounds = ||
+        requires { All (λ l. GoesInRounds l.recoverer) round_lanes.now }
+        ensures { AllZip (HasRunRounds C.rule) round_lanes.entry.now round_lanes.exit.now }
+    { run_rounds(rt, round_lanes) };
+    thread::join_mut(rt, &mut scripts, &mut rounds);
+}
+
+/// All recoverers make their rounds, each on a thread of its own where one can be made.
+fn run_rounds<
+    'a,
+    N: Named<CommitWorld> + Send + Sync,
+    C: Clock + Drop + Send,
+    V: Wire + Drop + Send,
+    G: Gate + Sync,
+    R: Wait + Threads + Sync,
+>(rt: &R, lanes: &mut [RoundLane<'a, N, C, V, G>])
+    requires { All (λ l. GoesInRounds l.recoverer) lanes.old }
+    ensures { AllZip (HasRunRounds C.rule) lanes.old lanes.new }
+{
+    let threads = lanes.len() + 1;
+    let make = |_: usize, lane: &mut RoundLane<'_, N, C, V, G>|
+        requires { GoesInRounds lane.old.recoverer }
+        ensures { HasRunRounds C.rule lane.old lane.new }
+    {
+        lane.run(rt);
+    };
+    thread::for_each_mut(rt, lanes, threads, &make);
 }
 
 /// The recoverers out of their lanes again, in order, where memory ran out in none.

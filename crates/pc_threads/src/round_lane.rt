@@ -2,7 +2,6 @@ ghost use Rattle.std.specs.Prelude.{◌≡◌, IfOk};
 ghost use Rattle.pc_rounds.specs.Counted.{GoesInRounds};
 ghost use Rattle.pc_threads.specs.RoundLanes.{HasLeftRoundLane, HasRunRounds};
 
-use crate::runs::Runs;
 use pc_base::NoMemory;
 use pc_clock::Clock;
 use pc_history::Named;
@@ -44,23 +43,19 @@ impl<'a, N: Named<CommitWorld>, C: Clock + Drop, V: Wire + Drop, G: Gate> RoundL
         }
     }
 
+    /// The recoverer makes the rounds that are left to it.
+    pub(crate) fn run<R: Wait>(&mut self, rt: &R)
+        requires { GoesInRounds self.old.recoverer }
+        ensures { HasRunRounds C.rule self.old self.new }
+    {
+        self.ended = self.recoverer.make_all(rt);
+    }
+
     /// The recoverer again, where memory did not run out.
     pub(crate) fn finish(self) -> Result<CountedRecoverer<'a, N, C, V, G>, NoMemory>
         ensures { IfOk result (HasLeftRoundLane self.entry) }
     {
         self.ended?;
         Ok(self.recoverer)
-    }
-}
-
-impl<'a, N: Named<CommitWorld>, C: Clock + Drop, V: Wire + Drop, G: Gate> Runs
-    for RoundLane<'a, N, C, V, G> {
-    ghost may_run = { λ l. GoesInRounds l.recoverer };
-
-    ghost has_run = { HasRunRounds C.rule };
-
-    /// The recoverer makes the rounds that are left to it.
-    fn run<R: Wait>(&mut self, rt: &R) {
-        self.ended = self.recoverer.make_all(rt);
     }
 }

@@ -79,6 +79,3 @@ returns-clause-clocks g c =
     let none = empty_list c.loop-actor.actor-iterator.rest.items c.loop-actor.actor-iterator.rest.len c.loop-actor.actor-iterator.rest.ok.0 c.in-None.ensures.steps.0 in
     let so_far = subst (λ ls. HaveBegunBut (HasBegun rule rules c.args.work.now) c.args.actors.items ls c.loop-actor.runners.items) none c.loop-actor.invariant.0 in
     all_clocks rule rules c.args.work.now c.args.actors.items c.loop-actor.runners.items c.requires.actors so_far
-
-pub returns-clause-kept : goal.returns-clause-kept
-returns-clause-kept g c = c.loop-actor.invariant.1

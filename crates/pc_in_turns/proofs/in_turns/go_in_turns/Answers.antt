@@ -1,12 +1,6 @@
-use Rattle.std.proofs.Common.{All, length, refl, subst, sym}
+use Rattle.std.proofs.Common.{refl}
 use Rattle.pc_in_turns.proofs.Whole.{begins, clients_in_turns, clocks_in_turns, ends_in_turns, order_in_turns}
-use Rattle.pc_work.specs.Built.{IsTurnOf}
-use Rattle.pc_work.specs.declared.workload.Workload.{Workload}
 use Rattle.pc_in_turns.proofs.in_turns.go_in_turns.Goals as goal
-
-pub take_all-requires-clause-there : goal.take_all-requires-clause-there
-take_all-requires-clause-there g c =
-    subst (λ (w : Workload). All (IsTurnOf (length w.sessions) (length w.recoverers)) c.args.stated.now) (sym c.in_ok-open.ensures.work) c.requires.turns
 
 pub returns-clause-clients : goal.returns-clause-clients
 returns-clause-clients g c =

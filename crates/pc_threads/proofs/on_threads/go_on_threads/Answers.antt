@@ -14,13 +14,13 @@ pub start-requires-clause-counted : goal.start-requires-clause-counted
 start-requires-clause-counted g c = all_counted c.args.work.now c.args.recoverers.items c.requires.clients.recoverers
 
 pub run_to_ends-requires-clause-some : goal.run_to_ends-requires-clause-some
-run_to_ends-requires-clause-some g c κs within = lanes_some g.C.Clock.rule c.args.work.now.opening c.args.sessions.items c.in_ok-lanes.lanes.0.items c.in_ok-lanes.ensures.0
+run_to_ends-requires-clause-some g c = lanes_some g.C.Clock.rule c.args.work.now.opening c.args.sessions.items c.in_ok-lanes.lanes.0.items c.in_ok-lanes.ensures.0
 
 pub run_to_ends-requires-clause-scripted : goal.run_to_ends-requires-clause-scripted
-run_to_ends-requires-clause-scripted g c κs within = lanes_scripted g.C.Clock.rule c.args.work.now.opening c.args.sessions.items c.in_ok-lanes.lanes.0.items c.in_ok-lanes.ensures.0
+run_to_ends-requires-clause-scripted g c = lanes_scripted g.C.Clock.rule c.args.work.now.opening c.args.sessions.items c.in_ok-lanes.lanes.0.items c.in_ok-lanes.ensures.0
 
 pub run_to_ends-requires-clause-counted : goal.run_to_ends-requires-clause-counted
-run_to_ends-requires-clause-counted g c κs within = lanes_counted (own_list c.in_ok-lanes.ensures.0.opened) c.args.recoverers.items c.in_ok-lanes.lanes.1.items c.in_ok-lanes.ensures.1
+run_to_ends-requires-clause-counted g c = lanes_counted (own_list c.in_ok-lanes.ensures.0.opened) c.args.recoverers.items c.in_ok-lanes.lanes.1.items c.in_ok-lanes.ensures.1
 
 pub returns-clause-clients : goal.returns-clause-clients
 returns-clause-clients g c =

@@ -1,4 +1,4 @@
-use Rattle.std.proofs.Common.{◌+◌, ap, refl, ◌∙◌, arith}
+use Rattle.std.proofs.Common.{refl, arith}
 use Rattle.pc_in_turns.proofs.Recovering.{entries_after, entries_before, followed_round_there, followed_rounds_in_turns, round_grown, round_rested, rounded_so}
 use Rattle.pc_in_turns.proofs.in_turns.InTurns.recover.Goals as goal
 
@@ -13,7 +13,7 @@ returns-then-len-entries-clause-gone g c =
     let made = c.in_ok-round.ensures in
     let before = entries_before c.args.index c.args.self.now c.follow_in_rounds.new.self c.requires.in_turns c.in_ok-follow_in_rounds.ensures g.C.Clock.rule c.round.new.self made _ c.index.result.now c.len-entries.result c.self.view_is c.index.ensures c.len-entries.ensures in
     let after = entries_after c.args.index c.args.self.now c.follow_in_rounds.new.self c.requires.in_turns c.in_ok-follow_in_rounds.ensures g.C.Clock.rule c.round.new.self made _ c.index-2.result.now c.len.result c.self-2.view_is c.index-2.ensures c.len.ensures in
-    round_grown c.args.index c.args.self.now c.follow_in_rounds.new.self c.requires.in_turns c.in_ok-follow_in_rounds.ensures g.C.Clock.rule c.round.new.self made _ (c.len-then-len-entries.result + c.args.index) c.self-2.view_is (ap (λ n. n + c.args.index) (c.len-then-len-entries.ensures ∙ c.self-2.inside.sessions.ok.0)) (omega (arith, before, after, c.if-len-entries.true))
+    round_grown c.args.index c.args.self.now c.follow_in_rounds.new.self c.requires.in_turns c.in_ok-follow_in_rounds.ensures g.C.Clock.rule c.round.new.self made _ _ c.self-2.view_is refl (omega (arith, before, after, c.if-len-entries.true))
 
 pub returns-then-len-entries-clause-others : goal.returns-then-len-entries-clause-others
 returns-then-len-entries-clause-others g c =

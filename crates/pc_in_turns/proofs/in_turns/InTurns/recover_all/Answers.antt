@@ -9,7 +9,7 @@ pub loop-taken-init : goal.loop-taken-init
 loop-taken-init g c =
     let at = at_round _ c.args.self.now c.self.view_is c.requires.in_turns c.args.index c.requires.there c.index.result.now c.index.ensures in (
       turned_none g.C.Clock.rule c.args.self.now c.requires.in_turns (c.args.index + 1),
-      taken_none c.args.index c.rounds-rounds.result c.args.self.now c.index.result.now (subst (λ t. slice_get t.recoverers c.args.index ≡ Some c.index.result.now) c.self.view_is at) c.rounds-rounds.ensures,
+      taken_none c.args.index c.rounds.result c.args.self.now c.index.result.now (subst (λ t. slice_get t.recoverers c.args.index ≡ Some c.index.result.now) c.self.view_is at) c.rounds.ensures,
       omega arith,
     )
 
@@ -23,7 +23,7 @@ recover-requires-clause-there g c =
 pub loop-taken-preserved : goal.loop-taken-preserved
 loop-taken-preserved g c = (
   turned_next g.C.Clock.rule c.args.self.now c.requires.in_turns c.loop-taken.self c.recover.new.self (c.args.index + 1) c.loop-taken.taken c.loop-taken.invariant.0 c.in_ok-recover.ensures.gone,
-  taken_more c.args.index c.rounds-rounds.result c.loop-taken.taken c.args.self.now c.loop-taken.self c.recover.new.self c.loop-taken.invariant.1 c.in_ok-recover.ensures.others,
+  taken_more c.args.index c.rounds.result c.loop-taken.taken c.args.self.now c.loop-taken.self c.recover.new.self c.loop-taken.invariant.1.0 c.in_ok-recover.ensures.others,
   omega (arith, c.loop-taken-test.true),
 )
 
@@ -32,16 +32,16 @@ returns-clause-gone g c =
     let at = at_round _ c.args.self.now c.self.view_is c.requires.in_turns c.args.index c.requires.there c.index.result.now c.index.ensures in
     let here = subst (λ t. slice_get t.recoverers c.args.index ≡ Some c.index.result.now) c.self.view_is at in
     let runner = c.requires.in_turns.recoverers.each c.args.index c.index.result.now here in
-    let all : c.loop-taken.taken ≡ c.rounds-rounds.result = omega (arith, c.loop-taken-test.false, c.loop-taken.invariant.2) in
+    let all : c.loop-taken.taken ≡ c.rounds.result = omega (arith, c.loop-taken-test.false, c.loop-taken.invariant.1.1) in
     subst (λ n. HaveGoneOn g.C.Clock.rule (TakeTurns c.args.self.now.work (recoverer_turns (c.args.index + 1) n)) c.args.self.now c.loop-taken.self)
-    (all ∙ (c.rounds-rounds.ensures ∙ rounds_are c.args.self.now.work c.args.index c.index.result.now runner)) c.loop-taken.invariant.0
+    (all ∙ (c.rounds.ensures ∙ rounds_are c.args.self.now.work c.args.index c.index.result.now runner)) c.loop-taken.invariant.0
 
 pub returns-clause-sessions : goal.returns-clause-sessions
-returns-clause-sessions g c = c.loop-taken.invariant.1.sessions
+returns-clause-sessions g c = c.loop-taken.invariant.1.0.sessions
 
 pub returns-clause-others : goal.returns-clause-others
-returns-clause-others g c = c.loop-taken.invariant.1.others
+returns-clause-others g c = c.loop-taken.invariant.1.0.others
 
 pub returns-clause-over : goal.returns-clause-over
 returns-clause-over g c =
-    taken_whole c.args.index c.rounds-rounds.result c.loop-taken.taken c.args.self.now c.loop-taken.self (omega (arith, c.loop-taken-test.false)) c.loop-taken.invariant.1
+    taken_whole c.args.index c.rounds.result c.loop-taken.taken c.args.self.now c.loop-taken.self (omega (arith, c.loop-taken-test.false)) c.loop-taken.invariant.1.0
