@@ -11,7 +11,7 @@ use Rattle.pc_call.specs.Serving.{InCall}
 use Rattle.pc_call.specs.Suiting.{SuitsFlight}
 use Rattle.pc_call.specs.Telling.{StandsOpen}
 use Rattle.pc_coord.proofs.Awaited.{awaited_out, sends_own}
-use Rattle.pc_coord.proofs.Beside.{counted-beside, heard_goes-beside, more-beside, other-beside, sent_goes-beside}
+use Rattle.pc_coord.proofs.Beside.{counted-beside, heard_goes-beside, more-beside, other-beside, sent_goes-beside, unqueried-beside}
 use Rattle.pc_coord.proofs.Counting.{counted-heard, counted-sent}
 use Rattle.pc_coord.proofs.Fresh.{all_unsent, unsent_idle}
 use Rattle.pc_coord.proofs.Knowing.{rests}
@@ -213,6 +213,7 @@ module _ (c : Coordination) (k : Known) (x : OpenTxn) (call : OpenCall) (knows :
       in_call = in_call;
       waited = waits;
       heard = record { numbered = refl; asked = out.1; told = refl; kind = is.kind out.0 out.1; past = is.past out.0 out.1 };
+      alive = is.alive out.0 out.1;
       ready = record {
         rising = knows.rising;
         ranged = ranged_heard c.splits k knows.ranged h out.1;
@@ -236,6 +237,7 @@ module _ (c : Coordination) (start k : Known) (x : OpenTxn) (call : OpenCall) (k
     sent_beside = sent_goes-beside c start k later;
     heard_beside = heard_goes-beside c start k later;
     other = other-beside c start k later x held;
+    unqueried = unqueried-beside c start k later x held;
     statement = later.statement;
     is_open = later.is_open;
     txns = later.txns;

@@ -1,5 +1,5 @@
 -- What each step of a coordinator comes to, by what it makes of the coordinator.
-use Rattle.std.proofs.Common.{◌≡◌, ℕ, Bool, true, false, ◌||◌, ◌==◌, List, Option, Some, None, refl, sym, ap, ◌∙◌, subst, OnOk, Result, Ok, Err}
+use Rattle.std.proofs.Common.{◌≡◌, ℕ, ◌<◌, ◌≤◌, Bool, true, false, ◌||◌, ◌==◌, List, [], ◌∷◌, length, slice_index_or, Option, Some, None, refl, sym, ap, ◌∙◌, subst, arith, OnOk, Result, Ok, Err}
 use Rattle.std.specs.Option.{option_map}
 use Rattle.std.proofs.lemmas.Bool.{eq-eqb}
 use Rattle.std.proofs.lemmas.Option.{same_Some}
@@ -9,7 +9,6 @@ use Rattle.pc_base.specs.declared.transaction.TxnId.{TxnId}
 use Rattle.pc_call.specs.declared.call.OpenCall.{OpenCall}
 use Rattle.pc_call.specs.declared.over.Over.{Over}
 use Rattle.pc_call.specs.Finished.{MayTellOver}
-use Rattle.pc_call.specs.Fresh.{IsFresh}
 use Rattle.pc_call.specs.Learned.{known_asked, known_sent}
 use Rattle.pc_call.specs.Rounding.{RefusesRound}
 use Rattle.pc_call.specs.Serving.{InCall, write_call}
@@ -29,7 +28,7 @@ use Rattle.pc_coord.specs.declared.due.Opened.{Opened}
 use Rattle.pc_coord.specs.declared.job.Job.{Job}
 use Rattle.pc_coord.specs.declared.kinds.Decision.TheVariants as decisions
 use Rattle.pc_coord.specs.declared.next.Next.TheVariants as nexts
-use Rattle.pc_coord.specs.Events.{IsAsked}
+use Rattle.pc_coord.specs.Events.{IsAsked, ShowsUncommitted}
 use Rattle.pc_coord.specs.Going.{BeginsNothing, StandsReady}
 use Rattle.pc_coord.specs.Kinds.{begins_at, conflict_due, decision_in, decision_of, status_in, told_outside, written_at}
 use Rattle.pc_coord.specs.Knows.{Knows, KnowsAt, is_under_way}
@@ -48,16 +47,14 @@ use Rattle.pc_proto.specs.declared.view.View.TheVariants as views
 use Rattle.pc_proto.specs.declared.why.Why.{Why}
 use Rattle.pc_proto.specs.Replies.{holder_in, is_conflict}
 use Rattle.pc_txn.specs.Counted.{IsCounted}
-use Rattle.pc_txn.specs.declared.flight.InFlight.{InFlight}
+use Rattle.pc_flight.specs.declared.write.WriteInFlight.{WriteInFlight}
 use Rattle.pc_txn.specs.declared.txn.OpenTxn.{OpenTxn}
-use Rattle.pc_txn.specs.Standing.{AreProved, IsLaying}
 use Rattle.pc_wave.specs.declared.message.Message.{Message}
 use Rattle.pc_wave.specs.declared.step.Step.{Step}
 use Rattle.pc_wave.specs.declared.step.Step.TheVariants as steps
 use Rattle.pc_wave.specs.Messages.{step_of}
 use Rattle.pc_world.specs.Answering.{IsAbortReply, IsCommitReply, IsPutReply}
 use Rattle.pc_world.specs.Known.{Known, learn, next_number}
-use Rattle.pc_world.specs.Known.Statements.{Statement}
 use Rattle.pc_world.specs.Local.{is_outside, is_round}
 
 -- an answer is due, and the transaction stays open
@@ -117,10 +114,10 @@ asked_outside old mid new k p call reading r left none knows is on =
 
 -- or while one is
 pub asked_inside : (old mid new : Coordination) (k : Known) (p : Pair Event) (call : Call) (reading : ℕ) (x : OpenTxn) (r : Result (Unit {0}) NoMemory) → mid ≡ without_txn old → old.txn ≡ Some x → Knows old k → IsAsked old call reading k p
-    → ((k : Known) (reading : ℕ) → StandsReady mid k → k.statement ≡ None → StandsOpen k x → SuitsFlight call x.in_flight → is_outside call ≡ false → is_round call ≡ false → OnOk r (Knows new (known_asked call reading k))) → OnOk r (Knows new (known_asked call reading k))
+    → ((k : Known) → StandsReady mid k → k.statement ≡ None → StandsOpen k x → SuitsFlight call x.in_flight → is_outside call ≡ false → is_round call ≡ false → OnOk r (Knows new (known_asked call reading k))) → OnOk r (Knows new (known_asked call reading k))
 asked_inside old mid new k p call reading x r left held knows is on =
     let o = standing old k x knows is.none_open held in
-    on k reading (subst (λ n. StandsReady n k) (sym left) (ready old k None knows is.none_open is.handed)) is.none_open o (suiting old x call is.suits held) (inside k x call o is.outside) is.no_round
+    on k (subst (λ n. StandsReady n k) (sym left) (ready old k None knows is.none_open is.handed)) is.none_open o (suiting old x call is.suits held) (inside k x call o is.outside) is.no_round
 
 -- then the session knows that it asked
 pub asked_learnt : (new : Coordination) (k : Known) (p : Pair Event) (old : Coordination) (call : Call) (reading : ℕ) (r : Result (Unit {0}) NoMemory) → IsAsked old call reading k p → OnOk r (Knows new (known_asked call reading k)) → OnOk r (Knows new (learn p k))
@@ -254,6 +251,23 @@ pub decided : (meta : TxnMeta) (ts : ℕ) (reply : Reply) → IsCommitReply meta
 decided meta ts (replies.Status view) kind is = none_view meta ts view kind is
 decided meta ts reply kind is = kind
 
+-- a heartbeat whose record was not committed is told where that stands, or why it was aborted
+pub alive_uncommitted : (reply : Reply) (epoch ts : ℕ) → ShowsUncommitted reply → decision_of reply ≡ decisions.Committed epoch ts → ⊥
+alive_uncommitted (replies.Status (views.Pending at on)) epoch ts is e = cc
+alive_uncommitted (replies.Status (views.Aborted at why locks)) epoch ts is e = cc
+alive_uncommitted (replies.Status views.Nothing) epoch ts is e = is
+alive_uncommitted (replies.Status (views.Staging at on writes)) epoch ts is e = is
+alive_uncommitted (replies.Status (views.Committed at on locks)) epoch ts is e = is
+alive_uncommitted reply epoch ts is e = is
+
+pub alive_decided : (reply : Reply) → ShowsUncommitted reply → decision_of reply ≡ decisions.Nothing → ⊥
+alive_decided (replies.Status (views.Pending at on)) is e = cc
+alive_decided (replies.Status (views.Aborted at why locks)) is e = cc
+alive_decided (replies.Status views.Nothing) is e = is
+alive_decided (replies.Status (views.Staging at on writes)) is e = is
+alive_decided (replies.Status (views.Committed at on locks)) is e = is
+alive_decided reply is e = is
+
 status_is : (reply : Reply) (view : View) → status_in reply ≡ Some view → reply ≡ replies.Status view
 status_is (replies.Status shown) view e = ap replies.Status (same_Some shown view e)
 status_is reply view e = absurd cc
@@ -282,24 +296,37 @@ pub ready_asked : (c : Coordination) (k : Known) (call : Call) (reading : ℕ) �
 ready_asked c k call reading r = record { rising = r.rising; ranged = ranged_asked c.splits k r.ranged call reading; counted = counted-asked c.session c.clock c.begun k r.counted call reading; handed = r.handed }
 
 -- where the call suits no write in flight, none is
-pub reads_alone : (call is : Call) (flight : Option InFlight) → call ≡ is → SuitsFlight call flight → ((w : InFlight) → SuitsFlight is (Some w) → ⊥) → flight ≡ None
-reads_alone call is None same suits none = refl
-reads_alone call is (Some w) same suits none = absurd (none w (subst (λ c. SuitsFlight c (Some w)) same suits))
+pub reads_alone : (call is : Call) (flight : List WriteInFlight) → call ≡ is → SuitsFlight call flight → ((w : WriteInFlight) (ws : List WriteInFlight) → SuitsFlight is (w ∷ ws) → ⊥) → flight ≡ []
+reads_alone call is [] same suits none = refl
+reads_alone call is (w ∷ ws) same suits none = absurd (none w ws (subst (λ c. SuitsFlight c (w ∷ ws)) same suits))
 
-pub suits_as : (call is : Call) (f g : Option InFlight) → call ≡ is → g ≡ f → SuitsFlight call f → SuitsFlight is g
+pub suits_as : (call is : Call) (f g : List WriteInFlight) → call ≡ is → g ≡ f → SuitsFlight call f → SuitsFlight is g
 suits_as call is f g same flight suits = subst (λ c. SuitsFlight c g) same (subst (SuitsFlight call) (sym flight) suits)
 
-flight_is : (key : List ℕ) (value : Option (List ℕ)) (w : InFlight) → SuitsFlight (write_call key value) (Some w) → w ≡ record { key = key; value = value }
-flight_is key None w suits = suits
-flight_is key (Some value) w suits = suits
+-- The write in flight is the only one, and the one of this key and value.
+record IsOnlyWrite (key : List ℕ) (value : Option (List ℕ)) (w : WriteInFlight) (ws : List WriteInFlight) : Type 0 where
+  pub alone : ws ≡ []
+  pub place : w.key ≡ key
+  pub what : w.value ≡ value
 
--- a write that suits one in flight is the same
-pub flight_same : (key : List ℕ) (value : Option (List ℕ)) (f : Option InFlight) (w : InFlight) → f ≡ Some w → SuitsFlight (write_call key value) f → f ≡ Some (record { key = key; value = value })
-flight_same key value f w is suits = is ∙ ap Some (flight_is key value w (subst (SuitsFlight (write_call key value)) is suits))
+flight_is : (key : List ℕ) (value : Option (List ℕ)) (w : WriteInFlight) (ws : List WriteInFlight) → SuitsFlight (write_call key value) (w ∷ ws) → IsOnlyWrite key value w ws
+flight_is key None w [] suits = record { alone = refl; place = suits.0; what = suits.1 }
+flight_is key None w (v ∷ vs) suits = absurd suits
+flight_is key (Some value) w [] suits = record { alone = refl; place = suits.0; what = suits.1 }
+flight_is key (Some value) w (v ∷ vs) suits = absurd suits
 
--- a write that is in flight has an anchor
-pub flight_anchored : (k : Known) (x : OpenTxn) (s : Statement) (why : Why) (w : InFlight) → IsFresh k x s why → x.in_flight ≡ Some w → x.anchor ≡ None → ⊥
-flight_anchored k x s why w fresh flight none =
-    let laying : IsLaying fresh.t w = subst (AreProved fresh.t) flight fresh.stands.proved in
-    let e : None ≡ Some laying.anchor = sym none ∙ ap (λ x. x.anchor) fresh.stands.same ∙ laying.anchored in
-    absurd cc
+-- a write that suits those in flight is the only one of them
+pub flight_same : (key : List ℕ) (value : Option (List ℕ)) (f : List WriteInFlight) (w : WriteInFlight) (ws : List WriteInFlight) (call : Call) → call ≡ write_call key value → f ≡ w ∷ ws → SuitsFlight (write_call key value) f → (call ≡ write_call w.key w.value) × (f ≡ w ∷ [])
+flight_same key value f w ws call asked is suits =
+    let one = flight_is key value w ws (subst (SuitsFlight (write_call key value)) is suits) in
+    (asked ∙ ap (λ key. write_call key value) (sym one.place) ∙ ap (write_call w.key) (sym one.what), is ∙ ap (λ ws. w ∷ ws) one.alone)
+
+-- a list of which nothing is in flight
+pub none_in_flight : (ws f : List WriteInFlight) → ws ≡ f → length ws < 1 → f ≡ []
+none_in_flight [] f is low = sym is
+none_in_flight (w ∷ ws) f is low = absurd (omega (arith, low))
+
+-- the first write that is in flight
+pub first_in_flight : (ws f : List WriteInFlight) (w : WriteInFlight) → ws ≡ f → 1 ≤ length ws → w ≡ slice_index_or ws 0 w → (later : List WriteInFlight) × (f ≡ w ∷ later)
+first_in_flight [] f w is some at = absurd (omega (arith, some))
+first_in_flight (v ∷ vs) f w is some at = (vs, sym is ∙ ap (λ u. u ∷ vs) (sym at))
