@@ -100,6 +100,14 @@ made '{"version":1,"pipelining":false,"sessions":[{"clock":{"start":10,"step":1}
 same 'who calls in turns' '1 2 2 1 1 2' "$(sed -n 's/^[0-9]* s\([12]\) ask .*/\1/p' "$output" | paste -sd' ')"
 same 'who sends in turns' '2 1 1 1 1 2 2 2' "$(sed -n 's/^[0-9]* s\([12]\) send .*/\1/p' "$output" | paste -sd' ')"
 
+# Two recoverers that find nothing, in turns that stop before their ends, one turn more than the first has rounds; then the rounds that are left.
+made '{"version":1,"pipelining":false,"sessions":[{"clock":{"start":10,"step":1},"script":[{"do":[]}]}],"recoverers":[{"rounds":2,"clock":{"start":10,"step":1}},{"rounds":3,"clock":{"start":10,"step":1}}],"turns":["v2","s1","v1","v1","v1","v2"]}'
+same 'who asks, recoverers too' 'v2 s1 v1 v1 v2 s1 v2' "$(sed -n 's/^[0-9]* \([sv][12]\) ask .*/\1/p' "$output" | paste -sd' ')"
+
+# A recoverer that stops just where its first round is over, and one that stops where it has sent for the records: that message is evaluated at the end.
+made '{"version":1,"pipelining":false,"sessions":[{"clock":{"start":10,"step":1},"script":[{"do":[]}]}],"recoverers":[{"rounds":3,"stop":4,"clock":{"start":10,"step":1}},{"stop":2,"clock":{"start":10,"step":1}}],"turns":["v1","v1","v2","v2"]}'
+same 'a recoverer that stops' '0 v1 ask round @10|1 v1 send 1 r0 records|2 r0 eval v1 1 listed -|3 v1 hear 1 2|4 v1 tell done|5 v2 ask round @10|6 v2 send 1 r0 records|11 r0 eval v2 1 listed -' "$(sed -n '/ \(v[12]\|r0\) /p' "$output" | paste -sd'|')"
+
 # Twenty puts in one transaction, where each actor may have 64 entries. The sixteenth is the last that is sent: with it the session has 64 entries. Its message is evaluated
 # at the end, as entry 79.
 puts=

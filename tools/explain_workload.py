@@ -113,18 +113,42 @@ def item(value, place, sessions, in_turns):
     return 2 + sum(statement(one, f"{place}.do[{at}]") for at, one in enumerate(value["do"]))
 
 
-def session(value, place, sessions, in_turns):
-    members(value, place, ("clock", "script"), ("script",))
+def clock(value, place):
     if "clock" in value:
         members(value["clock"], f"{place}.clock", ("start", "step"), ("start", "step"))
         for name in ("start", "step"):
             number(value["clock"][name], f"{place}.clock.{name}")
+
+
+def stop(value, place):
+    number(value.get("stop", 1), f"{place}.stop", 2**32 - 1)
+    need(value.get("stop", 1) >= 1, f"{place}.stop", "it is at least 1")
+
+
+def session(value, place, sessions, in_turns):
+    members(value, place, ("clock", "script", "stop"), ("script",))
+    clock(value, place)
+    stop(value, place)
     listed(value["script"], f"{place}.script")
     return sum(item(one, f"{place}.script[{at}]", sessions, in_turns) for at, one in enumerate(value["script"]))
 
 
+def recoverer(value, place):
+    members(value, place, ("level", "rounds", "clock", "stop"), ())
+    need(value.get("level", "normal") in ("low", "normal", "high"), f"{place}.level", "it is low, normal or high")
+    number(value.get("rounds", 1), f"{place}.rounds", 1_000)
+    clock(value, place)
+    stop(value, place)
+
+
+def turn(value, place, sessions, recoverers):
+    named = is_text(value) and re.fullmatch(r"([sbv])([1-9][0-9]*)", value)
+    there = recoverers if named and named[1] == "v" else sessions
+    need(named and int(named[2]) <= there, place, f"`{value}` is no sN or bN of a session that is there, and no vN of a recoverer that is")
+
+
 def workload(value):
-    names = ("version", "pipelining", "turns", "sessions", "splits", "limit", "reruns", "opening")
+    names = ("version", "pipelining", "turns", "sessions", "recoverers", "splits", "limit", "reruns", "opening")
     members(value, "workload", names, ("version", "pipelining", "sessions"))
     number(value["version"], "version")
     need(value["version"] == 1, "version", "it is 1")
@@ -133,6 +157,11 @@ def workload(value):
     need(1 <= len(value["sessions"]) <= 64, "sessions", "there are 1 to 64")
     counts = [session(one, f"sessions[{at}]", len(value["sessions"]), "turns" in value) for at, one in enumerate(value["sessions"])]
     need(sum(counts) <= 100_000, "sessions", "there are more than 100,000 statements")
+    recoverers = value.get("recoverers", [])
+    listed(recoverers, "recoverers")
+    need(len(recoverers) <= 8, "recoverers", "there are at most 8")
+    for at, one in enumerate(recoverers):
+        recoverer(one, f"recoverers[{at}]")
     splits = value.get("splits", [])
     listed(splits, "splits")
     for at, one in enumerate(splits):
@@ -147,8 +176,7 @@ def workload(value):
     listed(stated, "turns")
     need(len(stated) <= 1_000_000, "turns", "there are at most 1,000,000")
     for at, one in enumerate(stated):
-        named = is_text(one) and re.fullmatch(r"[sb]([1-9][0-9]*)", one)
-        need(named and int(named[1]) <= len(value["sessions"]), f"turns[{at}]", f"`{one}` is no sN or bN of a session that is there")
+        turn(one, f"turns[{at}]", len(value["sessions"]), len(recoverers))
 
 
 def explain(data):

@@ -26,10 +26,9 @@ use Rattle.pc_proto.specs.declared.event.Event.TheVariants as events
 use Rattle.pc_proto.specs.declared.request.Request.{Request}
 use Rattle.pc_proto.specs.declared.request.Request.TheVariants as requests
 use Rattle.pc_runs.specs.Follows.{FollowsByItself, FollowsWork}
-use Rattle.pc_runs.specs.Order.{GoAsStated, is_work_opened, next_in_work}
+use Rattle.pc_runs.specs.Order.{GoAsStated, GoInTurnsOf, ended_in_work, is_work_opened, next_in_work, recoverer_ended_in_work, rounds_in_work}
 use Rattle.pc_closing.specs.Full.{range_is_full}
 use Rattle.pc_closing.specs.Served.{IsServedOnce}
-use Rattle.pc_scripted.specs.Ended.{list_has_ended}
 use Rattle.pc_serial.proofs.AloneStanding.{contains_split, heard_evaluated, sent-there}
 use Rattle.pc_alone.proofs.OneInOrder.{AllGood, HearsEach, IsGoodAt, TellsHeard, heard_ever, hears-before, in-turns, on-threads}
 use Rattle.pc_alone.specs.OneSession.{IsForOneSession}
@@ -147,6 +146,10 @@ module _ (work : Workload) (rules : ActorId → ℕ → ℕ → Bool) (head : He
   mine : All (λ p. p.entry.actor ≡ actors.Session 1) list
   mine = all_from_contains (λ p. p.entry.actor ≡ actors.Session 1) list (λ p there. (own-contains (protocol head) the_session history p there).1)
 
+  -- there is no recoverer
+  unaided : head.recoverers ≡ 0
+  unaided = follows.recoverers ∙ ap length of.unaided
+
   -- who does an entry
   doer : (a : ActorId) → IsActorOf head a → (a ≡ the_session) ⊎ ((range : ℕ) × (a ≡ actors.Range range))
   doer (actors.Range range) there = inr (range, refl)
@@ -158,7 +161,7 @@ module _ (work : Workload) (rules : ActorId → ℕ → ℕ → Bool) (head : He
   doer (actors.Recoverer number) there =
       let some = there.0 in
       let most = there.1 in
-      let none = follows.recoverers in
+      let none : head.recoverers ≡ 0 = unaided in
       absurd (let nothing : ⊥ = omega (arith, some, most, none) in nothing)
 
   may-at : (before : List (Entry Event)) (e : Entry Event) (later : List (Entry Event)) → history ≡ before ++ e ∷ later → MayFollow (protocol head) before e
@@ -184,8 +187,10 @@ module _ (work : Workload) (rules : ActorId → ℕ → ℕ → Bool) (head : He
   good = stated work.turns of.no_turns (subst (GoAsStated work full work.turns 1) clients-own (subst (λ n. GoAsStated work full work.turns n (client_pairs head history)) of.one follows.order))
     where
       stated : (turns : Option (List Turn)) → (turns ≡ None) ⊎ (turns ≡ Some []) → GoAsStated work full turns 1 list → AllGood [] list
-      stated None none goes = on-threads list tells-heard (next_in_work work) (list_has_ended work.limit full) mine (is_work_opened work) goes
-      stated (Some []) none goes = in-turns list tells-heard (next_in_work work) (list_has_ended work.limit full) mine (is_work_opened work) goes
+      stated None none goes = on-threads list tells-heard (next_in_work work) (ended_in_work work full) mine (is_work_opened work) goes
+      stated (Some []) none goes =
+          in-turns list tells-heard (next_in_work work) (ended_in_work work full) mine (is_work_opened work) (recoverer_ended_in_work work full) (rounds_in_work work)
+          (subst (λ n. GoInTurnsOf work full [] 1 n list) (ap length of.unaided) goes)
       stated (Some (turn ∷ turns)) none goes = absurd (elim none [ inl is ↦ (let no : ⊥ = cc is in no) | inr is ↦ (let no : ⊥ = cc is in no) ])
 
   good-at : (before : List (Entry Event)) (e : Entry Event) (later : List (Entry Event)) → history ≡ before ++ e ∷ later → e.actor ≡ the_session
@@ -260,7 +265,7 @@ module _ (work : Workload) (rules : ActorId → ℕ → ℕ → Bool) (head : He
   alone-so : IsAlone head history
   alone-so = record {
     one = one;
-    unaided = follows.recoverers;
+    unaided = unaided;
     wire = record {
       once = once;
       in_time = λ before e later split me talks ends.

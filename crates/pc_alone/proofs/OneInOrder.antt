@@ -16,7 +16,7 @@ use Rattle.pc_proto.specs.declared.call.Call.{Call}
 use Rattle.pc_proto.specs.declared.event.Event.{Event}
 use Rattle.pc_proto.specs.declared.event.Event.TheVariants as events
 use Rattle.pc_proto.specs.declared.request.Request.{Request}
-use Rattle.pc_turns.specs.Order.{AsksAfter, AsksIfNext, AsksPartly, AsksWhole, FinishesAfter, FinishesIfLeft, GoInTurns, GoOnThreads, GoesByItself, IsInBetween, IsTakenIn, UnlessEnded, entries_by, events_of, is_at_end, turn_by_itself}
+use Rattle.pc_turns.specs.Order.{AsksAfter, AsksIfNext, AsksPartly, AsksWhole, FinishesAfter, FinishesIfLeft, GoInTurns, GoOnThreads, GoesByItself, IsInBetween, TakesOne, UnlessEnded, entries_by, events_of, is_at_end}
 use Rattle.pc_turns.specs.Order.GoesByItself.{Passed, Ended, Onwards}
 use Rattle.pc_world.proofs.Knowing.{known_push}
 use Rattle.pc_follows.specs.FinishingJobs.{jobs_of}
@@ -282,17 +282,17 @@ module _ (own : List (Pair Event)) (heard : TellsHeard own) where
         | inr there ↦ subst IsInBetween is (All-contains IsInBetween c.between p.entry.event c.within there)
       ]
 
-  module _ (next : ℕ → List (Pair Event) → Option Call) (ended : List (Pair Event) → Bool) where
+  module _ (next : ℕ → List (Pair Event) → Option Call) (ended : ℕ → List (Pair Event) → Bool) where
     -- all was heard, or the list has ended
     abbrev Goes : List (Pair Event) → Type 0
-    Goes before = HearsEach (known_of before) ⊎ (ended before ≡ true)
+    Goes before = HearsEach (known_of before) ⊎ (ended 1 before ≡ true)
 
     still : (before part : List (Pair Event)) → part ≡ [] → Goes before → Goes (before ++ part)
     still before part none goes = subst Goes (sym (append-nil before) ∙ ap (λ l. before ++ l) (sym none)) goes
 
-    asks-good : (before part after : List (Pair Event)) → own ≡ before ++ (part ++ after) → Goes before → jobs_of before ≡ [] → (o : Option Call) → UnlessEnded (ended before) part (AsksIfNext next ended 1 o before part)
+    asks-good : (before part after : List (Pair Event)) → own ≡ before ++ (part ++ after) → Goes before → jobs_of before ≡ [] → (o : Option Call) → UnlessEnded (ended 1 before) part (AsksIfNext next ended 1 o before part)
         → AllGood before part × Goes (before ++ part)
-    asks-good before part after whole goes none o takes = by (ended before) refl takes goes
+    asks-good before part after whole goes none o takes = by (ended 1 before) refl takes goes
       where
         heard-or : (call : Option Call) → HearsEach (known_of before) → AsksIfNext next ended 1 call before part → AllGood before part × Goes (before ++ part)
         heard-or None all is = (nothing-good before part is, still before part is (inl all))
@@ -301,13 +301,13 @@ module _ (own : List (Pair Event)) (heard : TellsHeard own) where
           | inr broken ↦ (broken-good 1 call before part all none broken.0, inr broken.1)
         ]
 
-        by : (b : Bool) → ended before ≡ b → UnlessEnded b part (AsksIfNext next ended 1 o before part) → Goes before → AllGood before part × Goes (before ++ part)
+        by : (b : Bool) → ended 1 before ≡ b → UnlessEnded b part (AsksIfNext next ended 1 o before part) → Goes before → AllGood before part × Goes (before ++ part)
         by true is nothing goes = (nothing-good before part nothing, still before part nothing goes)
         by false is takes (inl all) = heard-or o all takes
         by false is takes (inr over) = absurd (let both = sym over ∙ is in cc both)
 
-    finishes-good : (before part : List (Pair Event)) → Goes before → (jobs : List (List Request)) → UnlessEnded (ended before) part (FinishesIfLeft next ended 1 jobs before part) → AllGood before part × Goes (before ++ part)
-    finishes-good before part goes jobs takes = by (ended before) takes
+    finishes-good : (before part : List (Pair Event)) → Goes before → (jobs : List (List Request)) → UnlessEnded (ended 1 before) part (FinishesIfLeft next ended 1 jobs before part) → AllGood before part × Goes (before ++ part)
+    finishes-good before part goes jobs takes = by (ended 1 before) takes
       where
         left : (jobs : List (List Request)) → FinishesIfLeft next ended 1 jobs before part → AllGood before part × Goes (before ++ part)
         left [] nothing = (nothing-good before part nothing, still before part nothing goes)
@@ -331,15 +331,15 @@ module _ (own : List (Pair Event)) (heard : TellsHeard own) where
               let rest = by ps (λ q there. all q (contains_tail p ps q there)) in
               ap (λ b. cond b (p ∷ entries_by 1 ps) (entries_by 1 ps)) it ∙ ap (λ l. p ∷ l) rest
 
-      turn-good : (before part after : List (Pair Event)) → own ≡ before ++ (part ++ after) → Goes before → IsTakenIn next ended (turn_by_itself 1 (jobs_of (entries_by 1 before))) before part
+      turn-good : (before part after : List (Pair Event)) → own ≡ before ++ (part ++ after) → Goes before → TakesOne next ended 1 (jobs_of (entries_by 1 before)) (entries_by 1 before) part
           → AllGood before part × Goes (before ++ part)
       turn-good before part after whole goes turn =
           let it : entries_by 1 before ≡ before = share before (part ++ after) whole in
-          by (jobs_of before) refl (subst (λ l. IsTakenIn next ended (turn_by_itself 1 (jobs_of l)) before part) it turn) it
+          by (jobs_of before) refl (subst (λ l. TakesOne next ended 1 (jobs_of l) l part) it turn)
         where
-          by : (jobs : List (List Request)) → jobs_of before ≡ jobs → IsTakenIn next ended (turn_by_itself 1 jobs) before part → entries_by 1 before ≡ before → AllGood before part × Goes (before ++ part)
-          by [] none turn it = asks-good before part after whole goes none (next 1 before) (subst (λ l. AsksAfter next ended 1 l part) it turn)
-          by (job ∷ jobs) some turn it = finishes-good before part goes (jobs_of before) (subst (λ l. FinishesAfter next ended 1 l part) it turn)
+          by : (jobs : List (List Request)) → jobs_of before ≡ jobs → TakesOne next ended 1 jobs before part → AllGood before part × Goes (before ++ part)
+          by [] none turn = asks-good before part after whole goes none (next 1 before) turn
+          by (job ∷ jobs) some turn = finishes-good before part goes (jobs_of before) turn
 
       goes-good : (test : List (Pair Event) → Bool) (before part after : List (Pair Event)) → own ≡ before ++ (part ++ after) → Goes before → GoesByItself next ended 1 test before part
           → AllGood before part × Goes (before ++ part)
@@ -353,19 +353,20 @@ module _ (own : List (Pair Event)) (heard : TellsHeard own) where
       nothing-sent : Goes []
       nothing-sent = inl (hears-each (known_of []) (λ m there. absurd (contains_nil m there)))
 
-      -- in turns of which none is stated
-      pub in-turns : (opened : List (Pair Event) → Bool) → GoInTurns next ended opened [] 1 own → AllGood [] own
-      in-turns opened t =
+      -- in turns of which none is stated, without recoverers
+      pub in-turns : (opened : List (Pair Event) → Bool) (recoverer_ended : ℕ → List (Pair Event) → Bool) (rounds : ℕ → ℕ) → GoInTurns next ended recoverer_ended rounds opened [] 1 0 own → AllGood [] own
+      in-turns opened recoverer_ended rounds t =
           let none : t.taken ≡ [] = t.takes in
           let b = t.opening ++ t.taken in
-          let first = goes-good opened [] t.opening (t.taken ++ t.left) t.whole nothing-sent t.opens in
+          let unaided : own ≡ t.opening ++ (t.taken ++ t.left) = t.whole ∙ ap (λ l. t.opening ++ (t.taken ++ l)) (ap (λ l. t.left ++ l) t.recovers ∙ append-nil t.left) in
+          let first = goes-good opened [] t.opening (t.taken ++ t.left) unaided nothing-sent t.opens in
           let opened_all : AllGood [] b = both-good [] t.opening t.taken first.0 (nothing-good t.opening t.taken none) in
           let goes : Goes b = still t.opening t.taken none first.1 in
           let left : List (Pair Event) = t.ends.0 in
           let behind : List (Pair Event) = t.ends.1 in
           let parts : t.left ≡ left ++ behind = t.ends.2 in
           let ends : behind ≡ [] = t.ends.4 in
-          let whole : own ≡ b ++ (left ++ behind) = t.whole ∙ sym (append_assoc t.opening t.taken t.left) ∙ ap (λ l. b ++ l) parts in
+          let whole : own ≡ b ++ (left ++ behind) = unaided ∙ sym (append_assoc t.opening t.taken t.left) ∙ ap (λ l. b ++ l) parts in
           let last = goes-good (is_at_end next 1) b left behind whole goes t.ends.3 in
           let all = both-good [] b left opened_all last.0 in
           subst (AllGood []) (sym (whole ∙ ap (λ l. b ++ (left ++ l)) ends ∙ ap (λ l. b ++ l) (append-nil left))) all

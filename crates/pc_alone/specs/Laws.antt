@@ -10,7 +10,7 @@ use Rattle.pc_work.specs.declared.workload.Workload.{Workload}
 use Rattle.pc_world.specs.Local.{Head}
 use Rattle.pc_world.specs.Run.{IsRun}
 
--- One session that follows such a workload is alone: its wire is quiet, and it keeps what it owes beside the protocol, also where its list ends
+-- One session that follows such a workload, which has no recoverer, is alone: its wire is quiet, and it keeps what it owes beside the protocol, also where its list ends
 -- before its script.
 abbrev pub OneSessionIsAlone : Type 0
 OneSessionIsAlone =

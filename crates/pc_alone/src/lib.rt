@@ -1,4 +1,4 @@
-//! A workload of one session that states no turns: whoever follows it is alone, so that the law of one session alone speaks of it.
+//! A workload of one session that states no recoverers and no turns: whoever follows it is alone, so that the law of one session alone speaks of it.
 #![tactic(auto)]
 
 ghost use Rattle.pc_alone.specs.Laws.{OneSessionIsAlone};

@@ -51,6 +51,15 @@ pub const MOST_SESSIONS: usize = 64;
 /// The most statements of a workload, each begin, each end and each learn counted, and an add as two.
 pub const MOST_STATEMENTS: u64 = 100_000;
 
+/// The most recoverers of a workload.
+pub const MOST_RECOVERERS: usize = 8;
+
+/// The most rounds of a recoverer.
+pub const MOST_ROUNDS: u32 = 1000;
+
+/// How many rounds a recoverer makes, where the workload doesn't say.
+pub const DEFAULT_ROUNDS: u32 = 1;
+
 /// The most turns of a workload.
 pub const MOST_TURNS: usize = 1_000_000;
 

@@ -4,6 +4,7 @@ use Rattle.std.specs.List.{list_any}
 use Rattle.std.proofs.lemmas.Bool.{eq-eqb}
 use Rattle.std.proofs.lemmas.List.Elements.{All-append, All-cons, All-head, All-map, All-nil, All-tail, All-weaker}
 use Rattle.pc_base.specs.declared.limits.TheConstants.{MOST_CONFLICTS}
+use Rattle.pc_call.proofs.Beating.{IsSilentHeard, IsSilentSent, beaten_beside, not_nil}
 use Rattle.pc_call.proofs.Facts.{before_is}
 use Rattle.pc_call.proofs.Hearing.{refresh_kind}
 use Rattle.pc_call.proofs.Holders.{holders_again}
@@ -14,7 +15,8 @@ use Rattle.pc_call.specs.declared.purpose.Purpose.{Purpose}
 use Rattle.pc_call.specs.declared.purpose.Purpose.TheVariants as purposes
 use Rattle.pc_call.specs.Paced.{IsPaced}
 use Rattle.pc_call.specs.Rounding.{KeepsPace, MakesRound, IsPushedOnce}
-use Rattle.pc_call.specs.Serving.{AreReadsOf, InCall, IsReadFor, IsSplit, LaysLast, LaysNext, NoOtherMetEighth, Serves, ServesRead, ServesWrite, holder_met, holders_met, out_of}
+use Rattle.pc_call.specs.Serving.{AreReadsOf, HasBeatenBy, InCall, IsReadFor, IsSplit, LaysLast, LaysNext, NoOtherMetEighth, Serves, ServesRead, ServesWrite, holder_met, holders_met, out_of}
+use Rattle.pc_follows.specs.Heartbeats.{HasBeaten, is_heartbeat}
 use Rattle.pc_proto.specs.declared.reply.Reply.{Reply}
 use Rattle.pc_proto.specs.declared.reply.Reply.TheVariants as replies
 use Rattle.pc_proto.specs.declared.request.Request.{Request}
@@ -47,7 +49,12 @@ pub beside_quiet : (r : Request) → goes_beside r ≡ true → is_plain r ≡ t
 beside_quiet (requests.Put meta seq ts key value) e = absurd cc
 beside_quiet (requests.Stage meta ts now writes locks) e = absurd cc
 beside_quiet (requests.Commit meta ts locks) e = absurd cc
+beside_quiet (requests.Beat meta ts now) e = absurd cc
 beside_quiet r e = refl
+
+pub beside_silent : (r : Request) → goes_beside r ≡ true → is_heartbeat r ≡ false
+beside_silent (requests.Beat meta ts now) e = absurd cc
+beside_silent r e = refl
 
 beside_no_read : (r : Request) (reply : Reply) → goes_beside r ≡ true → read_heard r reply ≡ []
 beside_no_read (requests.Get id epoch seq ts key) reply e = absurd cc
@@ -143,6 +150,23 @@ module _ (splits : List (List ℕ)) (start k : Known) (x : OpenTxn) (p : Purpose
       heard = made.more.heard ∙ ap (λ hs. hs ++ made.heard_more) w.split.heard ∙ append_assoc w.split.heard_first start.heard_now made.heard_more ∙ ap (λ hs. w.split.heard_first ++ hs) (sym made.more.heard_now);
     }
 
+    beaten2 : HasBeatenBy p k w.t
+    beaten2 = by p w.beaten
+      where
+        on : HasBeaten start w.t → HasBeaten k w.t
+        on b =
+            beaten_beside start k w.t made.sent_more made.heard_more made.more made.statement w.open_in
+            (All-weaker (λ m. IsTrue (goes_beside m.request)) IsSilentSent (λ m of. beside_silent m.request of) made.sent_more made.sent_beside)
+            (All-weaker (λ h. IsTrue (goes_beside h.request)) IsSilentHeard (λ h of. beside_silent h.request of) made.heard_more made.heard_beside) b
+
+        by : (q : Purpose) → HasBeatenBy q start w.t → HasBeatenBy q k w.t
+        by (purposes.Beat call reading) b = tt
+        by purposes.Read b = on b
+        by (purposes.Write again) b = on b
+        by (purposes.Refresh n) b = on b
+        by (purposes.Commit n) b = on b
+        by (purposes.Abort why) b = on b
+
     goes_on : out_of p ms2 ≡ out_of p ms → Serves splits k w.s w.t x p ms2 → InCall splits k x p ms2
     goes_on out serves = record {
       t = w.t;
@@ -156,6 +180,7 @@ module _ (splits : List (List ℕ)) (start k : Known) (x : OpenTxn) (p : Purpose
       paced = paced2;
       fewer = fewer2;
       done = done2;
+      beaten = beaten2;
       serves = serves;
     }
 
@@ -222,6 +247,7 @@ module _ (splits : List (List ℕ)) (start k : Known) (x : OpenTxn) (p : Purpose
     kind = subst (MayAnswer m.request) met.is met.kind
 
     again_by : (q : Purpose) → p ≡ q → Serves splits start w.s w.t x q ms → InCall splits k x p ms2
+    again_by (purposes.Beat call reading) e r = absurd (not_nil met.before met.h met.later (sym met.whole ∙ r.unheard))
     again_by purposes.Read e r = goes_on (ap (λ q. out_of q ms2) e ∙ sym (ap (λ q. out_of q ms) e)) (subst (λ q. Serves splits k w.s w.t x q ms2) (sym e) (read_serves r))
     again_by (purposes.Write again) e r = goes_on (ap (λ q. out_of q ms2) e ∙ sym (ap (λ q. out_of q ms) e)) (subst (λ q. Serves splits k w.s w.t x q ms2) (sym e) (write_serves again r))
     again_by (purposes.Refresh n) e r =

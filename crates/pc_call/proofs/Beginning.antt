@@ -1,5 +1,5 @@
 -- A call of the open transaction begins with messages that are all to be sent.
-use Rattle.std.proofs.Common.{◌≡◌, ℕ, ◌+◌, Bool, true, false, cond, ◌||◌, inl, inr, List, [], ◌∷◌, ◌++◌, map, Option, Some, None, refl, sym, ap, ◌∙◌, subst, arith, All, Any, IsTrue, count_by, lit<, zero, suc}
+use Rattle.std.proofs.Common.{◌≡◌, ℕ, ◌+◌, ◌≤◌, Bool, true, false, cond, ◌||◌, inl, inr, List, [], ◌∷◌, ◌++◌, map, Option, Some, None, refl, sym, ap, ◌∙◌, subst, arith, All, Any, IsTrue, count_by, lit<, zero, suc}
 use Rattle.std.specs.List.{list_any}
 use Rattle.std.proofs.lemmas.List.{append-nil, map-append}
 use Rattle.std.proofs.lemmas.List.Elements.{All-cons, All-head, All-map, All-nil, All-tail, All-weaker}
@@ -7,21 +7,33 @@ use Rattle.pc_base.specs.declared.span.Span.{Span}
 use Rattle.pc_base.specs.declared.span.Span.TheVariants.{One, Between}
 use Rattle.pc_base.specs.Rising.{AreRising}
 use Rattle.pc_base.specs.Span.{is_empty}
+use Rattle.pc_base.specs.declared.limits.TheConstants.{MOST_CONFLICTS}
+use Rattle.pc_base.specs.declared.transaction.TxnId.{TxnId}
+use Rattle.pc_call.proofs.Beside.{asked_anew, past_unmet}
 use Rattle.pc_call.proofs.Facts.{before_is}
-use Rattle.pc_call.specs.Beside.{IsAskedOrDone}
+use Rattle.pc_call.specs.Beside.{AreAskedOrDone}
 use Rattle.pc_call.specs.declared.purpose.Purpose.{Purpose}
 use Rattle.pc_call.specs.declared.purpose.Purpose.TheVariants as purposes
-use Rattle.pc_call.specs.Fresh.{IsFresh}
+use Rattle.pc_call.specs.Fresh.{IsFresh, ShowsAlive}
 use Rattle.pc_call.specs.Paced.{IsPaced, shows_resolve, was_pushed}
 use Rattle.pc_call.specs.Pieces.{scan_messages, span_piece, spans_from, spans_in}
-use Rattle.pc_call.specs.Serving.{AreReadsOf, InCall, IsReadFor, IsSplit, Serves, holders_met, out_of, write_call}
+use Rattle.pc_call.specs.Serving.{AreReadsOf, HasBeatenBy, InCall, IsOpenIn, IsReadFor, IsSplit, Serves, holders_met, out_of, write_call}
+use Rattle.pc_follows.specs.Heartbeats.{HasBeaten, is_heartbeat}
+use Rattle.pc_lists.proofs.Anywhere.{any_of}
+use Rattle.pc_lists.proofs.Counts.{count-cons, one_if}
 use Rattle.pc_proto.specs.declared.call.Call.TheVariants as calls
+use Rattle.pc_proto.specs.declared.reply.Reply.{Reply}
+use Rattle.pc_proto.specs.declared.reply.Reply.TheVariants as replies
 use Rattle.pc_proto.specs.declared.request.Request.{Request}
+use Rattle.pc_proto.specs.declared.request.Request.TheVariants as requests
 use Rattle.pc_proto.specs.declared.why.Why.{Why}
-use Rattle.pc_proto.specs.Requests.{is_put_of}
+use Rattle.pc_proto.specs.declared.why.Why.TheVariants as whys
+use Rattle.pc_proto.specs.Replies.{is_conflict}
+use Rattle.pc_proto.specs.Requests.{is_push_of, is_put_of, is_resolve_of}
 use Rattle.pc_txn.specs.declared.txn.OpenTxn.{OpenTxn}
 use Rattle.pc_txn.specs.Opened.{last_put, next_put, own_abort, own_get, own_scan}
-use Rattle.pc_txn.specs.Standing.{TxnStands, WasLaid}
+use Rattle.pc_txn.specs.Standing.{ShowsPending, TxnStands, WasLaid}
+use Rattle.pc_wave.proofs.Lists.{any_before, at_least-before, at_least-fewer}
 use Rattle.pc_wave.specs.Messages.{message_to_send}
 use Rattle.pc_wave.specs.Standing.{AreOfTwo, MayGoOut, MessageStands, Pairwise, WaveStands, goes_beside}
 use Rattle.pc_world.proofs.Pieces.{pieces-differ}
@@ -29,19 +41,18 @@ use Rattle.pc_world.specs.Counting.{AtLeast}
 use Rattle.pc_world.specs.Known.{Known}
 use Rattle.pc_world.specs.Known.Statements.{Statement}
 use Rattle.pc_world.specs.Known.Traffic.{Heard, Sent}
+use Rattle.pc_world.specs.Known.Reads.{read_heard}
+use Rattle.pc_world.specs.Known.Transactions.{Txn}
 use Rattle.pc_world.specs.Known.Writes.{last_seq_of}
 use Rattle.pc_world.specs.RangeOf.{AreDistinct, earlier_end, later_start, piece, pieces, pieces_from}
-use Rattle.pc_world.specs.SameRequest.{IsSameRequest}
-use Rattle.pc_world.specs.Tell.Data.{IsFirstPut, sent_before}
+use Rattle.pc_world.specs.SameRequest.{IsSamePut, IsSameRequest}
+use Rattle.pc_world.specs.Tell.Data.{IsFirstPut, IsPutFor, sent_before}
 use Rattle.pc_world.specs.Tell.Refusal.{IsConflictOf, is_heard}
 
 -- The two requests are not of one.
 pub record AreTwo (one other : Request) : Type 0 where
   pub differ : IsSameRequest one other → ⊥
   pub back : IsSameRequest other one → ⊥
-
-none_any : {X : Type 0} (P : X → Type 0) (xs : List X) → xs ≡ [] → Any P xs → ⊥
-none_any P xs none some = absurd (omega (arith, (subst (λ xs. Any P xs) none some).2))
 
 -- nothing is held
 pub none_held : (rs : List Request) → holders_met (map message_to_send rs) ≡ []
@@ -61,25 +72,94 @@ any_true test (x ∷ xs) (suc n, y, inside, at, is) = or_true (test x) (list_any
     or_true true b h = refl
     or_true false b h = h
 
-module _ (k : Known) (x : OpenTxn) (s : Statement) (why : Why) (f : IsFresh k x s why) where
-  fresh_goes : (r : Request) → MayGoOut k r
-  fresh_goes r = record {
-    answered = subst (λ ms. All (λ m. IsSameRequest r m.request → IsTrue (is_heard k.heard_now m)) ms) (sym f.none_sent) (All-nil (λ (m : Sent). IsSameRequest r m.request → IsTrue (is_heard k.heard_now m)));
-    again = λ some. absurd (none_any (λ (m : Sent). IsSameRequest r m.request) k.sent_now f.none_sent some);
+-- what is said of a heartbeat and its reply
+no_push_beat : (id : TxnId) (r : Request) → is_heartbeat r ≡ true → is_push_of id r ≡ false
+no_push_beat id (requests.Beat meta ts now) beat = refl
+no_push_beat id r beat = absurd cc
+
+no_resolve_beat : (id : TxnId) (r : Request) → is_heartbeat r ≡ true → is_resolve_of id r ≡ false
+no_resolve_beat id (requests.Beat meta ts now) beat = refl
+no_resolve_beat id r beat = absurd cc
+
+beat_no_read : (r : Request) (reply : Reply) → is_heartbeat r ≡ true → read_heard r reply ≡ []
+beat_no_read (requests.Beat meta ts now) reply beat = refl
+beat_no_read r reply beat = absurd cc
+
+beat_no_put : (t : Txn) (key : List ℕ) (value : Option (List ℕ)) (seq : ℕ) (r : Request) → is_heartbeat r ≡ true → IsPutFor t key value seq r → ⊥
+beat_no_put t key value seq (requests.Beat meta ts now) beat put = put
+beat_no_put t key value seq r beat put = absurd cc
+
+beat_not_put : (id : TxnId) (epoch seq : ℕ) (r : Request) → is_heartbeat r ≡ true → IsTrue (is_put_of id epoch seq r) → ⊥
+beat_not_put id epoch seq (requests.Beat meta ts now) beat put = cc
+beat_not_put id epoch seq r beat put = absurd cc
+
+module _ (test : Heard → Bool) (no : (h : Heard) → is_heartbeat h.request ≡ true → test h ≡ false) where
+  none_counted : (hs : List Heard) → All ShowsAlive hs → count_by test hs ≡ 0
+  none_counted [] a = refl
+  none_counted (h ∷ hs) a =
+      let here : test h ≡ false = no h (All-head ShowsAlive h hs a).beat in
+      let later : count_by test hs ≡ 0 = none_counted hs (All-tail ShowsAlive h hs a) in
+      let e : count_by test (h ∷ hs) ≡ one_if (test h) + count_by test hs = count-cons test h hs in
+      let none : one_if (test h) ≡ 0 = ap one_if here in
+      omega (arith, e, none, later)
+
+-- The request was not sent in the call.
+abbrev pub IsUnsentIn : List Sent → Request → Type 0
+IsUnsentIn sent_now r = All (λ m. IsSameRequest r m.request → ⊥) sent_now
+
+silent_unsent : (r : Request) (sent_now : List Sent) → is_heartbeat r ≡ false → All (λ m. is_heartbeat m.request ≡ true) sent_now → IsUnsentIn sent_now r
+silent_unsent r sent_now silent beats = All-weaker (λ m. is_heartbeat m.request ≡ true) (λ m. IsSameRequest r m.request → ⊥) (λ m beat same. differ m.request beat same) sent_now beats
+  where
+    no_put : (r q : Request) → is_heartbeat q ≡ true → IsSamePut r q → ⊥
+    no_put (requests.Put meta seq ts key value) (requests.Beat other at now) beat same = same
+    no_put r (requests.Beat other at now) beat same = same
+    no_put r q beat same = absurd cc
+
+    differ : (q : Request) → is_heartbeat q ≡ true → IsSameRequest r q → ⊥
+    differ q beat (inl e) = let f : false ≡ true = sym silent ∙ ap is_heartbeat e ∙ beat in cc
+    differ q beat (inr put) = no_put r q beat put
+
+-- what met no intent met none of a request
+module _ (k : Known) (unmet : All (λ h. is_conflict h.reply ≡ false) k.heard_now) where
+  no_conflict : (r : Request) → All (λ h. IsConflictOf r h → ⊥) k.heard_now
+  no_conflict r = All-weaker (λ h. is_conflict h.reply ≡ false) (λ h. IsConflictOf r h → ⊥) (λ h none c. let e : false ≡ true = sym none ∙ c.conflict in absurd cc) k.heard_now unmet
+
+  pub none_met : (r : Request) → AtLeast (IsConflictOf r) 1 k.heard_now → ⊥
+  none_met r one = at_least-before (IsConflictOf r) 1 [] k.heard_now (no_conflict r) one
+
+pub pending_plain : (reply : Reply) → ShowsPending reply → is_conflict reply ≡ false
+pending_plain (replies.Conflict holder ts key) is = absurd is
+pending_plain reply is = refl
+
+module _ (k : Known) (t : Txn) (x : OpenTxn) (s : Statement) (open_in : IsOpenIn k t) (stands : TxnStands k None t x) (client : x.cause ≡ whys.Client) (opened : k.statement ≡ Some s) (split : IsSplit k) (heard : All ShowsAlive k.heard_now) where
+  pub unmet_now : All (λ h. is_conflict h.reply ≡ false) k.heard_now
+  unmet_now = All-weaker ShowsAlive (λ h. is_conflict h.reply ≡ false) (λ h a. pending_plain h.reply a.pending) k.heard_now heard
+
+  pub none_paced : IsPaced [] k.heard_now
+  none_paced = record {
+    pushes = λ id. let e : count_by (was_pushed id) k.heard_now ≡ 0 = none_counted (was_pushed id) (λ h beat. no_push_beat id h.request beat) k.heard_now heard in omega arith;
+    resolves = λ id. let e : count_by (shows_resolve id) k.heard_now ≡ 0 = none_counted (shows_resolve id) (λ h beat. no_resolve_beat id h.request beat) k.heard_now heard in omega arith;
   }
 
-  fresh_stands : (r : Request) → goes_beside r ≡ false → MessageStands k (message_to_send r)
-  fresh_stands r beside = record {
-    as_far = (fresh_goes r, lit< tt);
-    counted = record { heard = tt; no_more = λ one. subst (λ hs. AtLeast (IsConflictOf r) 1 hs) f.none_heard one };
+  unsent_goes : (r : Request) → IsUnsentIn k.sent_now r → MayGoOut k r
+  unsent_goes r none = record {
+    answered = All-weaker (λ m. IsSameRequest r m.request → ⊥) (λ m. IsSameRequest r m.request → IsTrue (is_heard k.heard_now m)) (λ m no same. absurd (no same)) k.sent_now none;
+    again = λ some. let f = any_of (λ m. IsSameRequest r m.request → ⊥) (λ m. IsSameRequest r m.request) k.sent_now none some in absurd (f.1 f.2);
+  }
+
+  unsent_stands : (r : Request) → goes_beside r ≡ false → IsUnsentIn k.sent_now r → MessageStands k (message_to_send r)
+  unsent_stands r beside none = record {
+    as_far = (unsent_goes r none, lit< tt);
+    counted = record { heard = tt; no_more = λ one. none_met k unmet_now r one };
     sent = tt;
     no_round = beside;
   }
 
-  all_stand : (rs : List Request) → All (λ r. goes_beside r ≡ false) rs → All (MessageStands k) (map message_to_send rs)
-  all_stand [] a = All-nil (MessageStands k)
-  all_stand (r ∷ rs) a =
-      All-cons (MessageStands k) (message_to_send r) (map message_to_send rs) (fresh_stands r (All-head (λ r. goes_beside r ≡ false) r rs a)) (all_stand rs (All-tail (λ r. goes_beside r ≡ false) r rs a))
+  all_stand : (rs : List Request) → All (λ r. goes_beside r ≡ false) rs → All (IsUnsentIn k.sent_now) rs → All (MessageStands k) (map message_to_send rs)
+  all_stand [] a u = All-nil (MessageStands k)
+  all_stand (r ∷ rs) a u =
+      All-cons (MessageStands k) (message_to_send r) (map message_to_send rs) (unsent_stands r (All-head (λ r. goes_beside r ≡ false) r rs a) (All-head (IsUnsentIn k.sent_now) r rs u))
+      (all_stand rs (All-tail (λ r. goes_beside r ≡ false) r rs a) (All-tail (IsUnsentIn k.sent_now) r rs u))
 
   all_two : (r : Request) (rs : List Request) → All (AreTwo r) rs → All (AreOfTwo (message_to_send r)) (map message_to_send rs)
   all_two r [] a = All-nil (AreOfTwo (message_to_send r))
@@ -91,44 +171,40 @@ module _ (k : Known) (x : OpenTxn) (s : Statement) (why : Why) (f : IsFresh k x 
   each_two [] two = tt
   each_two (r ∷ rs) two = (all_two r rs two.0, each_two rs two.1)
 
-  fresh_wave : (rs : List Request) → All (λ r. goes_beside r ≡ false) rs → Pairwise AreTwo rs → WaveStands k (map message_to_send rs)
-  fresh_wave rs own two = record { stand = all_stand rs own; differ = each_two rs two }
-
-  pub fresh_split : IsSplit k
-  fresh_split = record {
-    sent_first = k.sent;
-    sent = sym (append-nil k.sent) ∙ ap (λ ms. k.sent ++ ms) (sym f.none_sent);
-    heard_first = k.heard;
-    heard = sym (append-nil k.heard) ∙ ap (λ hs. k.heard ++ hs) (sym f.none_heard);
-  }
-
-  before_all : sent_before k ≡ k.sent
-  unfolding fresh_split
-  before_all = before_is k fresh_split
-
-  pub none_paced : IsPaced [] k.heard_now
-  none_paced = record {
-    pushes = λ id. let e : count_by (was_pushed id) k.heard_now ≡ 0 = ap (count_by (was_pushed id)) f.none_heard in omega arith;
-    resolves = λ id. let e : count_by (shows_resolve id) k.heard_now ≡ 0 = ap (count_by (shows_resolve id)) f.none_heard in omega arith;
-  }
-
-  -- the call stands with messages that are all to be sent, where they serve their purpose
-  pub begins : (splits : List (List ℕ)) (p : Purpose) (rs : List Request) → All (λ r. goes_beside r ≡ false) rs → Pairwise AreTwo rs → out_of p (map message_to_send rs) ≡ None → Serves splits k s f.t x p (map message_to_send rs)
+  -- the call stands with messages that are all to be sent and were not sent before, where they serve their purpose
+  pub begins_so : (splits : List (List ℕ)) (p : Purpose) (rs : List Request) → All (λ r. goes_beside r ≡ false) rs → All (IsUnsentIn k.sent_now) rs → Pairwise AreTwo rs → out_of p (map message_to_send rs) ≡ None → HasBeatenBy p k t → Serves splits k s t x p (map message_to_send rs)
       → InCall splits k x p (map message_to_send rs)
-  begins splits p rs own two out serves = record {
-    t = f.t;
-    open_in = f.open_in;
-    stands = subst (λ o. TxnStands k o f.t x) (sym out) f.stands;
-    cause = f.client;
+  begins_so splits p rs own none two out beaten serves = record {
+    t = t;
+    open_in = open_in;
+    stands = subst (λ o. TxnStands k o t x) (sym out) stands;
+    cause = client;
     s = s;
-    opened = f.opened;
-    split = fresh_split;
-    wave = fresh_wave rs own two;
+    opened = opened;
+    split = split;
+    wave = record { stand = all_stand rs own none; differ = each_two rs two };
     paced = subst (λ hs. IsPaced hs k.heard_now) (sym (none_held rs)) none_paced;
-    fewer = λ r none eight. subst (λ hs. AtLeast (IsConflictOf r) 8 hs) f.none_heard eight;
-    done = subst (λ sent. All (IsAskedOrDone k (map (λ m. m.request) (map message_to_send rs))) sent) (sym f.none_sent) (All-nil (IsAskedOrDone k (map (λ m. m.request) (map message_to_send rs))));
+    fewer = λ r none eight. none_met k unmet_now r (at_least-fewer (IsConflictOf r) 1 MOST_CONFLICTS k.heard_now (omega arith) eight);
+    done = subst (AreAskedOrDone k) (sym (requests_are rs)) (asked_anew k rs (past_unmet k unmet_now) none);
+    beaten = beaten;
     serves = serves;
   }
+
+module _ (k : Known) (x : OpenTxn) (s : Statement) (why : Why) (f : IsFresh k x s why) where
+  -- what was sent before the call holds the puts
+  before_all : sent_before k ≡ f.split.sent_first
+  before_all = before_is k f.split
+
+  fresh_unsent : (rs : List Request) → All (λ r. is_heartbeat r ≡ false) rs → All (IsUnsentIn k.sent_now) rs
+  fresh_unsent rs a = All-weaker (λ r. is_heartbeat r ≡ false) (IsUnsentIn k.sent_now) (λ r silent. silent_unsent r k.sent_now silent f.sent) rs a
+
+  -- the call stands with messages that are all to be sent, where they serve their purpose
+  begins : (splits : List (List ℕ)) (p : Purpose) (rs : List Request) → All (λ r. goes_beside r ≡ false) rs → All (λ r. is_heartbeat r ≡ false) rs → Pairwise AreTwo rs → out_of p (map message_to_send rs) ≡ None → HasBeatenBy p k f.t → Serves splits k s f.t x p (map message_to_send rs)
+      → InCall splits k x p (map message_to_send rs)
+  begins splits p rs own silent two out beaten serves = begins_so k f.t x s f.open_in f.stands f.client f.opened f.split f.heard splits p rs own (fresh_unsent rs silent) two out beaten serves
+
+  one_silent : (r : Request) → is_heartbeat r ≡ false → All (λ r. is_heartbeat r ≡ false) (r ∷ [])
+  one_silent r silent = All-cons (λ r. is_heartbeat r ≡ false) r [] silent (All-nil (λ r. is_heartbeat r ≡ false))
 
   one_alone : (r : Request) → goes_beside r ≡ false → All (λ r. goes_beside r ≡ false) (r ∷ [])
   one_alone r own = All-cons (λ r. goes_beside r ≡ false) r [] own (All-nil (λ r. goes_beside r ≡ false))
@@ -136,35 +212,39 @@ module _ (k : Known) (x : OpenTxn) (s : Statement) (why : Why) (f : IsFresh k x 
   one_two : (r : Request) → Pairwise AreTwo (r ∷ [])
   one_two r = (All-nil (AreTwo r), tt)
 
-  none_heard_of : (P : Heard → Type 0) → All P k.heard_now
-  none_heard_of P = subst (λ hs. All P hs) (sym f.none_heard) (All-nil P)
+  no_read : (asked : List Request) → All (IsReadFor asked) k.heard_now
+  no_read asked = All-weaker ShowsAlive (IsReadFor asked) (λ h a. inl (beat_no_read h.request h.reply a.beat)) k.heard_now f.heard
 
-  none_sent_of : (P : Sent → Type 0) → All P k.sent_now
-  none_sent_of P = subst (λ ms. All P ms) (sym f.none_sent) (All-nil P)
+  no_new : All (λ m. IsFirstPut k s f.t m → ⊥) k.sent_now
+  no_new = All-weaker (λ m. is_heartbeat m.request ≡ true) (λ m. IsFirstPut k s f.t m → ⊥) (λ m beat first. beat_no_put f.t first.key first.value first.seq m.request beat first.put) k.sent_now f.sent
 
   pub get_begins : (splits : List (List ℕ)) (key : List ℕ) → s.call ≡ calls.Get key → x.in_flight ≡ None → InCall splits k x purposes.Read (message_to_send (own_get x key) ∷ [])
   get_begins splits key is none =
-      begins splits purposes.Read (own_get x key ∷ []) (one_alone (own_get x key) refl) (one_two (own_get x key)) refl
-      (record { asked = subst (λ c. AreReadsOf splits x c (own_get x key ∷ [])) (sym is) refl; none_in_flight = none; heard = none_heard_of (IsReadFor (own_get x key ∷ [])) })
+      begins splits purposes.Read (own_get x key ∷ []) (one_alone (own_get x key) refl) (one_silent (own_get x key) refl) (one_two (own_get x key)) refl f.beaten
+      (record { asked = subst (λ c. AreReadsOf splits x c (own_get x key ∷ [])) (sym is) refl; none_in_flight = none; heard = no_read (own_get x key ∷ []) })
 
   pub write_begins : (splits : List (List ℕ)) (key : List ℕ) (value : Option (List ℕ)) → s.call ≡ write_call key value → x.in_flight ≡ None → InCall splits k x (purposes.Write false) (message_to_send (next_put x key value) ∷ [])
   write_begins splits key value is none =
-      begins splits (purposes.Write false) (next_put x key value ∷ []) (one_alone (next_put x key value) refl) (one_two (next_put x key value)) refl
+      begins splits (purposes.Write false) (next_put x key value ∷ []) (one_alone (next_put x key value) refl) (one_silent (next_put x key value) refl) (one_two (next_put x key value)) refl f.beaten
       (record {
         key = key;
         value = value;
         call = is;
         m = message_to_send (next_put x key value);
         one = refl;
-        lays = inl (record { none_in_flight = none; said = refl; own = refl; to_send = refl; new = none_sent_of (λ m. IsFirstPut k s f.t m → ⊥) });
+        lays = inl (record { none_in_flight = none; said = refl; own = refl; to_send = refl; new = no_new });
       })
 
   pub again_begins : (splits : List (List ℕ)) (anchor key : List ℕ) (value : Option (List ℕ)) → s.call ≡ write_call key value → x.in_flight ≡ Some (record { key = key; value = value }) → x.anchor ≡ Some anchor
       → InCall splits k x (purposes.Write true) (message_to_send (last_put x anchor key value) ∷ [])
   again_begins splits anchor key value is some anchored =
-      let laid : Any (λ m. IsTrue (is_put_of f.t.id f.t.epoch (last_seq_of f.t.writes) m.request)) k.sent = subst (λ w. WasLaid f.t k.sent w) some f.stands.laid in
+      let P : Sent → Type 0 = λ m. IsTrue (is_put_of f.t.id f.t.epoch (last_seq_of f.t.writes) m.request) in
+      let laid : Any P f.split.sent_first =
+      any_before P f.split.sent_first k.sent_now
+      (All-weaker (λ m. is_heartbeat m.request ≡ true) (λ m. P m → ⊥) (λ m beat put. beat_not_put f.t.id f.t.epoch (last_seq_of f.t.writes) m.request beat put) k.sent_now f.sent)
+      (subst (λ ms. Any P ms) f.split.sent (subst (λ w. WasLaid f.t k.sent w) some f.stands.laid)) in
       let seq : last_seq_of f.t.writes ≡ x.seq = sym (ap (λ x. x.seq) f.stands.same) in
-      begins splits (purposes.Write true) (last_put x anchor key value ∷ []) (one_alone (last_put x anchor key value) refl) (one_two (last_put x anchor key value)) refl
+      begins splits (purposes.Write true) (last_put x anchor key value ∷ []) (one_alone (last_put x anchor key value) refl) (one_silent (last_put x anchor key value) refl) (one_two (last_put x anchor key value)) refl f.beaten
       (record {
         key = key;
         value = value;
@@ -177,17 +257,17 @@ module _ (k : Known) (x : OpenTxn) (s : Statement) (why : Why) (f : IsFresh k x 
           anchored = sym (ap (λ x. x.anchor) f.stands.same) ∙ anchored;
           said = refl;
           first = λ e. absurd cc;
-          old = λ e. none_sent_of (λ m. IsFirstPut k s f.t m → ⊥);
+          old = λ e. no_new;
           before = λ e.
               ap (λ ms. list_any (λ other. is_put_of f.t.id f.t.epoch x.seq other.request) ms) before_all
-              ∙ ap (λ n. list_any (λ other. is_put_of f.t.id f.t.epoch n other.request) k.sent) (sym seq)
-              ∙ any_true (λ other. is_put_of f.t.id f.t.epoch (last_seq_of f.t.writes) other.request) k.sent laid;
+              ∙ ap (λ n. list_any (λ other. is_put_of f.t.id f.t.epoch n other.request) f.split.sent_first) (sym seq)
+              ∙ any_true (λ other. is_put_of f.t.id f.t.epoch (last_seq_of f.t.writes) other.request) f.split.sent_first laid;
         });
       })
 
   pub abort_begins : (splits : List (List ℕ)) (anchor : List ℕ) → s.call ≡ calls.Rollback → x.anchor ≡ Some anchor → InCall splits k x (purposes.Abort why) (message_to_send (own_abort x why anchor) ∷ [])
   abort_begins splits anchor is anchored =
-      begins splits (purposes.Abort why) (own_abort x why anchor ∷ []) (one_alone (own_abort x why anchor) refl) (one_two (own_abort x why anchor)) refl
+      begins splits (purposes.Abort why) (own_abort x why anchor ∷ []) (one_alone (own_abort x why anchor) refl) (one_silent (own_abort x why anchor) refl) (one_two (own_abort x why anchor)) refl f.beaten
       (record {
         call = is;
         anchor = anchor;
@@ -216,6 +296,10 @@ module _ (k : Known) (x : OpenTxn) (s : Statement) (why : Why) (f : IsFresh k x 
   scans_own : (spans : List Span) → All (λ r. goes_beside r ≡ false) (map (own_scan x) spans)
   scans_own [] = All-nil (λ r. goes_beside r ≡ false)
   scans_own (span ∷ spans) = All-cons (λ r. goes_beside r ≡ false) (own_scan x span) (map (own_scan x) spans) refl (scans_own spans)
+
+  scans_silent : (spans : List Span) → All (λ r. is_heartbeat r ≡ false) (map (own_scan x) spans)
+  scans_silent [] = All-nil (λ r. is_heartbeat r ≡ false)
+  scans_silent (span ∷ spans) = All-cons (λ r. is_heartbeat r ≡ false) (own_scan x span) (map (own_scan x) spans) refl (scans_silent spans)
 
   piece-spans : (r : ℕ) (from to : Option (List ℕ)) → span_piece from to ≡ map (λ p. p.1) (piece r from to)
   piece-spans r from to = elim (is_empty from to) as (λ b. cond b [] (Between from to ∷ []) ≡ map (λ (p : ℕ × Span). p.1) (cond b [] ((r, Between from to) ∷ []))) [ true ↦ refl | false ↦ refl ]
@@ -247,9 +331,9 @@ module _ (k : Known) (x : OpenTxn) (s : Statement) (why : Why) (f : IsFresh k x 
       let distinct : AreDistinct spans = subst AreDistinct (sym (spans-pieces splits span)) (pieces-differ splits span rising) in
       let asked : rs ≡ map (λ p. own_scan x p.1) (pieces splits span) = ap (map (own_scan x)) (spans-pieces splits span) ∙ mapped (pieces splits span) in
       subst (λ ms. InCall splits k x purposes.Read ms) (sym (messages_are spans))
-      (begins splits purposes.Read rs (scans_own spans) (scans_two spans distinct) refl
+      (begins splits purposes.Read rs (scans_own spans) (scans_silent spans) (scans_two spans distinct) refl f.beaten
       (record {
         asked = subst (λ c. AreReadsOf splits x c (map (λ m. m.request) (map message_to_send rs))) (sym is) (requests_are rs ∙ asked);
         none_in_flight = none;
-        heard = none_heard_of (IsReadFor (map (λ m. m.request) (map message_to_send rs)));
+        heard = no_read (map (λ m. m.request) (map message_to_send rs));
       }))

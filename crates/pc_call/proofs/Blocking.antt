@@ -4,7 +4,9 @@ use Rattle.std.proofs.lemmas.List.Elements.{All-cons, All-head, All-nil, All-tai
 use Rattle.std.proofs.lemmas.Option.{same_Some}
 use Rattle.std.specs.Option.{option_map}
 use Rattle.pc_base.specs.declared.transaction.TxnId.{TxnId}
-use Rattle.pc_call.proofs.Again.{beside_quiet}
+use Rattle.pc_call.proofs.Beating.{IsSilentHeard, IsSilentSent, beaten_beside, beaten_tells}
+use Rattle.pc_follows.specs.Heartbeats.{HasBeaten}
+use Rattle.pc_call.proofs.Again.{beside_quiet, beside_silent}
 use Rattle.pc_call.proofs.Eighths.{told_blocked}
 use Rattle.pc_call.proofs.Rounding.{IsBlockable, blocked_due, flight_suits, none_out, round_blocks}
 use Rattle.pc_call.proofs.Told.{blocked_keeps, may_tell, stays_as_is, unavailable_keeps}
@@ -48,7 +50,7 @@ blocks_no_rollback call may e = subst MayBlock e may
 blocks_no_round : (call : Call) → MayBlock call → call ≡ calls.Round → ⊥
 blocks_no_round call may e = subst MayBlock e may
 
-module _ (splits : List (List ℕ)) (session : ℕ) (k : Known) (t : Txn) (x : OpenTxn) (s : Statement) (open_in : IsOpenIn k t) (st : TxnStands k None t x) (client : x.cause ≡ whys.Client) (opened : k.statement ≡ Some s) (b : IsBlockable s) (flight : SuitsFlight s.call x.in_flight) where
+module _ (splits : List (List ℕ)) (session : ℕ) (k : Known) (t : Txn) (x : OpenTxn) (s : Statement) (open_in : IsOpenIn k t) (st : TxnStands k None t x) (client : x.cause ≡ whys.Client) (opened : k.statement ≡ Some s) (b : IsBlockable s) (flight : SuitsFlight s.call x.in_flight) (beaten : HasBeaten k t) where
   suits_again : (other : Statement) → k.statement ≡ Some other → SuitsFlight other.call x.in_flight
   suits_again other is = subst (λ (s : Statement). SuitsFlight s.call x.in_flight) (same_Some s other (sym opened ∙ is)) flight
 
@@ -62,6 +64,7 @@ module _ (splits : List (List ℕ)) (session : ℕ) (k : Known) (t : Txn) (x : O
       rolled_back = tt;
       restarts = tt;
       eighth = told_blocked k s (answers.Blocked holder) opened b.other (holder, refl);
+      beats = beaten_tells k t (answers.Blocked holder) open_in beaten;
     };
     left = refl;
     after = stays_as_is k t x open_in st client (answers.Blocked holder) (blocked_keeps holder) refl;
@@ -74,11 +77,14 @@ module _ (session clock count : ℕ) (splits : List (List ℕ)) (k : Known) (x :
   blocked_by_eighth holder due =
       let b = blocked_due session clock count splits k x p ms counted w holder due in
       blocked splits session k w.t x w.s w.open_in (subst (λ o. TxnStands k o w.t x) (none_out session clock count splits k x p ms counted w b.0) w.stands) w.cause w.opened b.0
-      (flight_suits session clock count splits k x p ms counted w b.0) holder (inr b.1)
+      (flight_suits session clock count splits k x p ms counted w b.0) b.2 holder (inr b.1)
 
   module _ (now : Known) (number : ℕ) (conflict : Reply) (due : step_of ms ≡ steps.Round number conflict) (g : GoesOnBeside k now x.id) where
+    blocks : IsBlockable w.s × HasBeaten k w.t
+    blocks = round_blocks session clock count splits k x p ms counted w number conflict due
+
     b : IsBlockable w.s
-    b = round_blocks session clock count splits k x p ms counted w number conflict due
+    b = blocks.0
 
     gone : HasMovedOn k now g.sent_more g.heard_more
     gone = record { sent = g.more.sent; heard = g.more.heard; begun = g.begun; high = g.high }
@@ -103,10 +109,16 @@ module _ (session clock count : ℕ) (splits : List (List ℕ)) (k : Known) (x :
     open_now : IsOpenIn now w.t
     open_now = record { others = w.open_in.others; is_open = g.is_open ∙ w.open_in.is_open; first = g.txns ∙ w.open_in.first }
 
+    beaten_now : HasBeaten now w.t
+    beaten_now =
+        beaten_beside k now w.t g.sent_more g.heard_more g.more g.statement w.open_in
+        (All-weaker (λ m. IsTrue (goes_beside m.request)) IsSilentSent (λ m of. beside_silent m.request of) g.sent_more g.sent_beside)
+        (All-weaker (λ h. IsTrue (goes_beside h.request)) IsSilentHeard (λ h of. beside_silent h.request of) g.heard_more g.heard_beside) blocks.1
+
     -- by a push that was refused
     pub blocked_by_push : (holder : TxnId) → Any (λ h. IsTrue (was_refused holder h)) now.heard_now → MayTellOpen splits session now (answers.Blocked holder) x
     blocked_by_push holder refused =
-        blocked splits session now w.t x w.s open_now stands_now w.cause (g.statement ∙ w.opened) b (flight_suits session clock count splits k x p ms counted w b) holder (inl refused)
+        blocked splits session now w.t x w.s open_now stands_now w.cause (g.statement ∙ w.opened) b (flight_suits session clock count splits k x p ms counted w b) beaten_now holder (inl refused)
 
     -- or it is not answered
     pub lost_in_round : (faults : ℕ) → WasLost now faults → MayTellOpen splits session now (answers.Unavailable faults) x
@@ -123,10 +135,11 @@ module _ (session clock count : ℕ) (splits : List (List ℕ)) (k : Known) (x :
         rolled_back = tt;
         restarts = tt;
         eighth = λ s is. tt;
+        beats = beaten_tells now w.t (answers.Unavailable faults) open_now beaten_now;
       };
       left = refl;
       after = stays_as_is now w.t x open_now stands_now w.cause (answers.Unavailable faults) (unavailable_keeps faults) refl;
-      suits = suits_again splits session now w.t x w.s open_now stands_now w.cause (g.statement ∙ w.opened) b (flight_suits session clock count splits k x p ms counted w b);
+      suits = suits_again splits session now w.t x w.s open_now stands_now w.cause (g.statement ∙ w.opened) b (flight_suits session clock count splits k x p ms counted w b) beaten_now;
     }
 
   -- what is told where the push was refused

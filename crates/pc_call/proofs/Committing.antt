@@ -5,7 +5,7 @@ use Rattle.std.proofs.lemmas.Option.{same_Some}
 use Rattle.std.proofs.lemmas.List.Elements.{All-cons, All-head, All-map, All-nil, All-tail, All-weaker}
 use Rattle.pc_base.specs.declared.limits.TheConstants.{MOST_CONFLICTS}
 use Rattle.pc_base.specs.declared.span.Span.{Span}
-use Rattle.pc_call.proofs.Beginning.{AreTwo, any_true, fresh_split, none_held, none_paced, requests_are}
+use Rattle.pc_call.proofs.Beginning.{AreTwo, any_true, none_held, none_met, none_paced, pending_plain, requests_are, unmet_now}
 use Rattle.pc_call.proofs.Meeting.{none_low}
 use Rattle.pc_call.proofs.Turning.{turn_begun}
 use Rattle.pc_call.specs.Committing.{CommitsNow, CommitsOn, CommitsUpTo}
@@ -13,11 +13,15 @@ use Rattle.pc_call.proofs.Beside.{asked_anew, past_unmet, unsent_unmet}
 use Rattle.pc_call.specs.Beside.{AreAskedOrDone}
 use Rattle.pc_call.specs.declared.purpose.Purpose.{Purpose}
 use Rattle.pc_call.specs.declared.purpose.Purpose.TheVariants as purposes
-use Rattle.pc_call.specs.Fresh.{IsFresh}
+use Rattle.pc_call.specs.Fresh.{IsFresh, ShowsAlive}
 use Rattle.pc_call.specs.Paced.{IsPaced}
-use Rattle.pc_call.specs.Serving.{InCall, IsCommitBelow, IsMetUpTo, IsOutHere, IsRefreshGoneOut, IsRefreshUpTo, IsRefusedBy, MetNoOtherWrite, MetNoWrite, Serves, WasRefusedIfCommit, out_of}
+use Rattle.pc_call.specs.Pieces.{scan_messages}
+use Rattle.pc_call.specs.Serving.{InCall, IsCommitBelow, IsMetUpTo, IsOutHere, IsRefreshGoneOut, IsRefreshUpTo, IsRefusedBy, HasBeatenBy, MetNoOtherWrite, MetNoWrite, Serves, WasRefusedIfCommit, out_of}
+use Rattle.pc_follows.specs.Heartbeats.{is_heartbeat}
 use Rattle.pc_lists.proofs.Anywhere.{any_of}
 use Rattle.pc_proto.specs.declared.call.Call.TheVariants as calls
+use Rattle.pc_proto.specs.declared.reply.Reply.{Reply}
+use Rattle.pc_proto.specs.declared.reply.Reply.TheVariants as replies
 use Rattle.pc_proto.specs.declared.request.Request.{Request}
 use Rattle.pc_proto.specs.declared.request.Request.TheVariants as requests
 use Rattle.pc_proto.specs.declared.why.Why.{Why}
@@ -25,9 +29,10 @@ use Rattle.pc_proto.specs.Replies.{is_conflict}
 use Rattle.pc_proto.specs.Requests.{is_commit}
 use Rattle.pc_reads.proofs.Ordered.{sorted_apart}
 use Rattle.pc_reads.specs.ReadsStanding.{refresh_to}
+use Rattle.pc_reads.specs.Replies.{unrefreshed_by}
 use Rattle.pc_txn.specs.declared.txn.OpenTxn.{OpenTxn}
-use Rattle.pc_txn.specs.Opened.{own_commit}
-use Rattle.pc_txn.specs.Standing.{TxnStands}
+use Rattle.pc_txn.specs.Opened.{own_commit, own_scan}
+use Rattle.pc_txn.specs.Standing.{ShowsPending, TxnStands}
 use Rattle.pc_wave.proofs.Lists.{at_least-before, at_least-fewer}
 use Rattle.pc_wave.specs.Messages.{is_to_send, message_to_send}
 use Rattle.pc_wave.specs.Standing.{AreOfTwo, MayGoOut, MessageStands, Pairwise, WaveStands, goes_beside}
@@ -38,17 +43,12 @@ use Rattle.pc_world.specs.Known.Statements.{Statement}
 use Rattle.pc_world.specs.Known.Traffic.{Heard, Sent}
 use Rattle.pc_world.specs.Known.Transactions.{Txn}
 use Rattle.pc_world.specs.SameRequest.{IsSameRequest}
-use Rattle.pc_world.specs.Tell.Refusal.{IsConflictOf, WasMoved, is_heard}
+use Rattle.pc_world.specs.Tell.Data.{was_sent_now}
+use Rattle.pc_world.specs.Tell.Refusal.{IsConflictOf, WasMoved, is_heard, is_moved}
 
 module _ (k : Known) (unmet : All (λ h. is_conflict h.reply ≡ false) k.heard_now) where
-  no_conflict : (r : Request) → All (λ h. IsConflictOf r h → ⊥) k.heard_now
-  no_conflict r = All-weaker (λ h. is_conflict h.reply ≡ false) (λ h. IsConflictOf r h → ⊥) (λ h none c. let e : false ≡ true = sym none ∙ c.conflict in absurd cc) k.heard_now unmet
-
-  none_met : (r : Request) → AtLeast (IsConflictOf r) 1 k.heard_now → ⊥
-  none_met r one = at_least-before (IsConflictOf r) 1 [] k.heard_now (no_conflict r) one
-
   ready_to_go : (r : Request) → goes_beside r ≡ false → MayGoOut k r → MessageStands k (message_to_send r)
-  ready_to_go r own out = record { as_far = (out, lit< tt); counted = record { heard = tt; no_more = none_met r }; sent = tt; no_round = own }
+  ready_to_go r own out = record { as_far = (out, lit< tt); counted = record { heard = tt; no_more = none_met k unmet r }; sent = tt; no_round = own }
 
   all_go : (rs : List Request) → All (λ r. goes_beside r ≡ false) rs → All (MayGoOut k) rs → All (MessageStands k) (map message_to_send rs)
   all_go [] own out = All-nil (MessageStands k)
@@ -71,9 +71,9 @@ module _ (k : Known) (unmet : All (λ h. is_conflict h.reply ≡ false) k.heard_
 
 module _ (splits : List (List ℕ)) (bound n : ℕ) (k : Known) (t : Txn) (x : OpenTxn) (s : Statement) (c : CommitsUpTo bound n k t x s) where
   -- the commit goes on with these messages
-  goes_on : (p : Purpose) (rs : List Request) → All (λ r. goes_beside r ≡ false) rs → All (MayGoOut k) rs → Pairwise AreTwo rs → out_of p (map message_to_send rs) ≡ None → Serves splits k s t x p (map message_to_send rs)
+  goes_on : (p : Purpose) (rs : List Request) → All (λ r. goes_beside r ≡ false) rs → All (MayGoOut k) rs → Pairwise AreTwo rs → out_of p (map message_to_send rs) ≡ None → HasBeatenBy p k t → Serves splits k s t x p (map message_to_send rs)
       → InCall splits k x p (map message_to_send rs)
-  goes_on p rs own goes two out serves = record {
+  goes_on p rs own goes two out beaten serves = record {
     t = t;
     open_in = c.open_in;
     stands = subst (λ o. TxnStands k o t x) (sym out) c.stands;
@@ -87,6 +87,7 @@ module _ (splits : List (List ℕ)) (bound n : ℕ) (k : Known) (t : Txn) (x : O
     done =
         subst (AreAskedOrDone k) (sym (requests_are rs))
         (asked_anew k rs (past_unmet k c.commits.unmet) (All-weaker (MayGoOut k) (λ r. All (λ m. IsSameRequest r m.request → ⊥) k.sent_now) (unsent_unmet k c.commits.unmet) rs goes));
+    beaten = beaten;
     serves = serves;
   }
 
@@ -133,7 +134,7 @@ module _ (n : ℕ) (k : Known) (x : OpenTxn) (s : Statement) (c : CommitsNow n k
   pub commit_begins : (splits : List (List ℕ)) → InCall splits k x (purposes.Commit n) (message_to_send said ∷ [])
   commit_begins splits =
       goes_on splits c.t.write_ts n k c.t x s c.on (purposes.Commit n) (said ∷ []) (All-cons (λ r. goes_beside r ≡ false) said [] refl (All-nil (λ r. goes_beside r ≡ false)))
-      (All-cons (MayGoOut k) said [] commit_goes (All-nil (MayGoOut k))) (All-nil (AreTwo said), tt) refl
+      (All-cons (MayGoOut k) said [] commit_goes (All-nil (MayGoOut k))) (All-nil (AreTwo said), tt) refl c.on.beaten
       (record {
         commits = c.on.commits;
         refused =
@@ -196,7 +197,7 @@ module _ (n : ℕ) (k : Known) (x : OpenTxn) (c : CommitsOn n k x) (behind : x.r
   pub refresh_begins : (splits : List (List ℕ)) → InCall splits k x (purposes.Refresh n) (map message_to_send (map asks x.reads.spans))
   refresh_begins splits =
       goes_on splits c.t.read_ts n k c.t x c.s c.on (purposes.Refresh n) (map asks x.reads.spans) (all_asked (λ r. goes_beside r ≡ false) (λ span. refl) x.reads.spans)
-      (all_asked (MayGoOut k) refresh_goes x.reads.spans) (are_two x.reads.spans (sorted_apart x.reads.spans c.on.stands.reads.ordered)) refl
+      (all_asked (MayGoOut k) refresh_goes x.reads.spans) (are_two x.reads.spans (sorted_apart x.reads.spans c.on.stands.reads.ordered)) refl c.on.beaten
       (record {
         commits = c.on.commits;
         refused = c.on.refused;
@@ -232,9 +233,32 @@ commits_at_once n k x c good = record {
         All-weaker (λ m. IsRefreshUpTo c.t.read_ts m.request) (λ m. IsRefreshUpTo c.t.write_ts m.request)
         (λ m up. refresh-more c.t.read_ts c.t.write_ts m.request (omega (arith, c.on.stands.behind)) up) k.sent_now c.on.refreshes;
     held = c.on.held;
+    beaten = c.on.beaten;
   };
   good = subst (λ ts. All (IsGoodAt c.t.id k.heard ts) c.t.reads) (ap (λ x. x.write_ts) c.on.stands.same) good;
 }
+
+-- a heartbeat decides nothing, and its reply moves nothing
+beat_no_commit : (r : Request) → is_heartbeat r ≡ true → IsTrue (is_commit r) → ⊥
+beat_no_commit (requests.Beat meta ts now) beat commits = cc
+beat_no_commit r beat commits = absurd cc
+
+beat_no_refresh : (ts : ℕ) (r : Request) → is_heartbeat r ≡ true → IsRefreshUpTo ts r
+beat_no_refresh ts (requests.Beat meta at now) beat = tt
+beat_no_refresh ts r beat = absurd cc
+
+pending_no_write : (reply : Reply) → ShowsPending reply → unrefreshed_by reply ≡ None
+pending_no_write (replies.Status view) is = refl
+pending_no_write reply is = absurd is
+
+beat_moves : (r : Request) (reply : Reply) → is_heartbeat r ≡ true → is_moved r reply ≡ false
+beat_moves (requests.Beat meta ts now) reply beat = refl
+beat_moves r reply beat = absurd cc
+
+pub beats_unmoved : (k : Known) → All (λ h. is_heartbeat h.request ≡ true) k.heard_now → AtLeast (WasMoved k) 1 k.heard_now → ⊥
+beats_unmoved k heard one =
+    at_least-before (WasMoved k) 1 [] k.heard_now
+    (All-weaker (λ h. is_heartbeat h.request ≡ true) (λ h. WasMoved k h → ⊥) (λ h beat moved. let e : is_moved h.request h.reply ≡ false = beat_moves h.request h.reply beat in let f = (and_parts (was_sent_now k h) (is_moved h.request h.reply) moved).1 in absurd cc) k.heard_now heard) one
 
 -- a commit that was just asked goes on
 pub commit_asked_now : (k : Known) (x : OpenTxn) (s : Statement) (why : Why) (anchor : List ℕ) → IsFresh k x s why → s.call ≡ calls.Commit → x.anchor ≡ Some anchor → x.in_flight ≡ None → CommitsOn 0 k x
@@ -246,20 +270,21 @@ commit_asked_now k x s why anchor f call anchored none = record {
     stands = f.stands;
     client = f.client;
     opened = f.opened;
-    split = fresh_split k x s why f;
-    paced = none_paced k x s why f;
+    split = f.split;
+    paced = none_paced k f.t x s f.open_in f.stands f.client f.opened f.split f.heard;
     commits = record {
       call = call;
       anchor = anchor;
       anchored = sym (ap (λ x. x.anchor) f.stands.same) ∙ anchored;
       none_in_flight = none;
       few = lit< tt;
-      moves = record { moved = tt; no_more = λ one. subst (λ hs. AtLeast (WasMoved k) 1 hs) f.none_heard one };
-      unmet = subst (λ hs. All (λ h. is_conflict h.reply ≡ false) hs) (sym f.none_heard) (All-nil (λ (h : Heard). is_conflict h.reply ≡ false));
+      moves = record { moved = tt; no_more = λ one. beats_unmoved k (All-weaker ShowsAlive (λ h. is_heartbeat h.request ≡ true) (λ h a. a.beat) k.heard_now f.heard) one };
+      unmet = unmet_now k f.t x s f.open_in f.stands f.client f.opened f.split f.heard;
     };
-    refused = subst (λ ms. All (WasRefusedIfCommit f.t.write_ts k.heard_now) ms) (sym f.none_sent) (All-nil (WasRefusedIfCommit f.t.write_ts k.heard_now));
-    refreshes = subst (λ ms. All (λ m. IsRefreshUpTo f.t.read_ts m.request) ms) (sym f.none_sent) (All-nil (λ (m : Sent). IsRefreshUpTo f.t.read_ts m.request));
-    held = subst (λ hs. All MetNoWrite hs) (sym f.none_heard) (All-nil MetNoWrite);
+    refused = All-weaker (λ m. is_heartbeat m.request ≡ true) (WasRefusedIfCommit f.t.write_ts k.heard_now) (λ m beat commits. absurd (beat_no_commit m.request beat commits)) k.sent_now f.sent;
+    refreshes = All-weaker (λ m. is_heartbeat m.request ≡ true) (λ m. IsRefreshUpTo f.t.read_ts m.request) (λ m beat. beat_no_refresh f.t.read_ts m.request beat) k.sent_now f.sent;
+    held = All-weaker ShowsAlive MetNoWrite (λ h a. pending_no_write h.reply a.pending) k.heard_now f.heard;
+    beaten = f.beaten;
   };
 }
 
@@ -282,3 +307,7 @@ anchor_now n k x s c anchor is = same_Some c.on.commits.anchor anchor (sym c.on.
 pub all_to_send : (rs : List Request) → All (λ m. is_to_send m ≡ true) (map message_to_send rs)
 all_to_send [] = All-nil (λ m. is_to_send m ≡ true)
 all_to_send (r ∷ rs) = All-cons (λ m. is_to_send m ≡ true) (message_to_send r) (map message_to_send rs) refl (all_to_send rs)
+
+pub scans_to_send : (x : OpenTxn) (spans : List Span) → All (λ m. is_to_send m ≡ true) (scan_messages x spans)
+scans_to_send x [] = All-nil (λ m. is_to_send m ≡ true)
+scans_to_send x (span ∷ spans) = All-cons (λ m. is_to_send m ≡ true) (message_to_send (own_scan x span)) (scan_messages x spans) refl (scans_to_send x spans)

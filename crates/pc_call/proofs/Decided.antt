@@ -7,7 +7,11 @@ use Rattle.pc_call.proofs.Closing.{closing-committed, closing-left, closing-may,
 use Rattle.pc_call.proofs.Eighths.{no_eighth_move}
 use Rattle.pc_call.proofs.Ending.{EndsWith, IsFinalAs, final_aborted, final_committed}
 use Rattle.pc_call.proofs.Facts.{unmoved}
-use Rattle.pc_call.proofs.Hearing.{more, numbered_now, one_asked}
+use Rattle.pc_call.proofs.Beating.{beaten_tells}
+use Rattle.pc_call.proofs.Hearing.{beaten_on, more, numbered_now, one_asked}
+use Rattle.pc_call.proofs.Silent.{IsBeatPurpose}
+use Rattle.pc_follows.specs.Heartbeats.{KeepsHeartbeats}
+use Rattle.pc_proto.specs.declared.event.Event.TheVariants as events
 use Rattle.pc_call.proofs.Told.{may_tell, still_open}
 use Rattle.pc_call.specs.declared.purpose.Purpose.{Purpose}
 use Rattle.pc_call.specs.declared.purpose.Purpose.TheVariants as purposes
@@ -99,6 +103,12 @@ module _ (session clock count : ℕ) (splits : List (List ℕ)) (k : Known) (x :
   pub within : is_past_range w.s ≡ false
   within = ap (λ call. is_past_range (record { call = call; reading = w.s.reading })) commits.commits.call
 
+  decided_beats : (answer : Answer) → KeepsHeartbeats k2 (events.Tell answer)
+  decided_beats answer =
+      beaten_tells k2 t2 answer
+      (record { others = map (txn_heard k.sent (Some h)) w.open_in.others; is_open = w.open_in.is_open; first = ap (map (txn_heard k.sent (Some h))) w.open_in.first })
+      (beaten_on session clock count splits k x p ms counted w number (replies.Status view) h waited is (λ beat. subst IsBeatPurpose e beat))
+
   module _ (decided : is_undecided_status h.reply ≡ false) where
     unmoved2 : WasMovedEighth k2 → ⊥
     unmoved2 =
@@ -147,6 +157,7 @@ module _ (session clock count : ℕ) (splits : List (List ℕ)) (k : Known) (x :
           rolled_back = tt;
           restarts = tt;
           eighth = decided_eighth decided answer;
+          beats = decided_beats answer;
         };
         left = closing-committed k x w.t commits.commits.anchor fate h w.open_in w.stands.same over ts told;
         closed = refl;
@@ -170,6 +181,7 @@ module _ (session clock count : ℕ) (splits : List (List ℕ)) (k : Known) (x :
           rolled_back = λ is. let e : Some calls.Commit ≡ Some calls.Rollback = sym (ap call_in w.opened ∙ ap Some commits.commits.call) ∙ is in absurd cc;
           restarts = tt;
           eighth = decided_eighth decided answer;
+          beats = decided_beats answer;
         };
         left = closing-left k x w.t commits.commits.anchor fates.Aborted h w.open_in w.stands.same over;
         closed = refl;

@@ -8,12 +8,14 @@ use Rattle.std.proofs.lemmas.Option.{same_Some}
 use Rattle.pc_base.specs.declared.limits.TheConstants.{MOST_CONFLICTS}
 use Rattle.pc_base.specs.declared.transaction.TxnId.{TxnId}
 use Rattle.pc_base.specs.Transaction.{same_txn}
+use Rattle.pc_call.proofs.Beating.{beaten_heard}
 use Rattle.pc_call.proofs.Beside.{IsAskedOrBeside, IsSentOnceMore, all_past, asked-kept}
 use Rattle.pc_call.proofs.Eighths.{none_eighth, same_sym}
 use Rattle.pc_call.proofs.Facts.{are_numbered, open_is}
 use Rattle.pc_call.proofs.Holders.{holders_heard, is_id, met_by}
 use Rattle.pc_call.proofs.Lists.{all_behind, all_unmapped, kept_by, only_found}
 use Rattle.pc_call.proofs.Meeting.{any_changed, gone_out_on, low-more, low_now, met-more}
+use Rattle.pc_call.proofs.Silent.{AreSilent, IsBeatPurpose, IsSilent, silent}
 use Rattle.pc_call.proofs.Turning.{back_out, turn_heard}
 use Rattle.pc_call.specs.Beside.{AreAskedOrDone, ArePastOrBeside}
 use Rattle.pc_call.specs.declared.purpose.Purpose.{Purpose}
@@ -21,7 +23,8 @@ use Rattle.pc_call.specs.declared.purpose.Purpose.TheVariants as purposes
 use Rattle.pc_call.specs.Learned.{known_heard}
 use Rattle.pc_call.specs.Opening.{GoesOn}
 use Rattle.pc_call.specs.Paced.{IsPaced, shows_resolve, was_met, was_pushed}
-use Rattle.pc_call.specs.Serving.{AreReadsOf, InCall, IsAnswerTo, IsMetUpTo, IsOpenIn, IsReadFor, IsRefreshGoneOut, IsRefusedBy, IsSplit, LaysLast, LaysNext, MetNoOtherWrite, NoOtherMetEighth, Serves, ServesRead, ServesRefresh, ServesWrite, WasRefusedIfCommit, WroteNothingNew, holders_met, out_of, write_call}
+use Rattle.pc_call.specs.Serving.{AreReadsOf, HasBeatenBy, InCall, IsAnswerTo, IsMetUpTo, IsOpenIn, IsReadFor, IsRefreshGoneOut, IsRefusedBy, IsSplit, LaysLast, LaysNext, MetNoOtherWrite, NoOtherMetEighth, Serves, ServesRead, ServesRefresh, ServesWrite, WasRefusedIfCommit, WroteNothingNew, holders_met, out_of, write_call}
+use Rattle.pc_follows.specs.Heartbeats.{HasBeaten}
 use Rattle.pc_lists.proofs.Anywhere.{any_head, any_kept, any_last, any_later}
 use Rattle.pc_lists.proofs.Counts.{count-cons, count-push, one_if}
 use Rattle.pc_proto.specs.declared.call.Call.{Call}
@@ -199,6 +202,7 @@ pub record IsLanded (flight : Option InFlight) (again : Bool) (k : Known) (x : O
   pub paced : IsPaced [] k.heard_now
   pub unmet : (r : Request) → MetEighth k r → ⊥
   pub past : ArePastOrBeside k
+  pub beaten : HasBeaten k t
   pub told : again ≡ false → MayTellWritten k s
   pub heard : again ≡ false → IsHeardOf false k s t
   pub next : again ≡ true → WroteNothingNew k s t
@@ -285,6 +289,32 @@ module _ (session clock count : ℕ) (splits : List (List ℕ)) (k : Known) (x :
       (asked-kept k k2 [] (h ∷ []) more (map (λ m. m.request) ms) (All-nil (IsAskedOrBeside (map (λ (m : Message). m.request) ms)))
       (λ r none. All-cons (λ h. IsConflictOf r h → ⊥) h [] (λ c. of_request (λ q. IsSameRequest q r → ⊥) none (same_sym r h.request c.same)) (All-nil (λ h. IsConflictOf r h → ⊥))) w.done)
 
+  -- a heartbeat is heard only where that is the purpose
+  pub beaten_on : (IsBeatPurpose p → ⊥) → HasBeaten k2 t2
+  beaten_on other = by p other w.beaten (silent splits k w.s w.t x p ms w.serves)
+    where
+      on : All (λ m. IsSilent m.request) ms → HasBeaten k w.t → HasBeaten k2 t2
+      on none b = beaten_heard k w.t h w.open_in (subst IsSilent (sym same_request) (found_all (awaits_at number) (λ (m : Message). IsSilent m.request) ms found.0 found.1 none)) b
+
+      by : (q : Purpose) → (IsBeatPurpose q → ⊥) → HasBeatenBy q k w.t → AreSilent q ms → HasBeaten k2 t2
+      by (purposes.Beat call reading) never b none = absurd (never tt)
+      by purposes.Read never b none = on none b
+      by (purposes.Write again) never b none = on none b
+      by (purposes.Refresh n) never b none = on none b
+      by (purposes.Commit n) never b none = on none b
+      by (purposes.Abort why) never b none = on none b
+
+  beaten2 : HasBeatenBy p k2 t2
+  beaten2 = by p beaten_on
+    where
+      by : (q : Purpose) → ((IsBeatPurpose q → ⊥) → HasBeaten k2 t2) → HasBeatenBy q k2 t2
+      by (purposes.Beat call reading) on = tt
+      by purposes.Read on = on (λ is. is)
+      by (purposes.Write again) on = on (λ is. is)
+      by (purposes.Refresh n) on = on (λ is. is)
+      by (purposes.Commit n) on = on (λ is. is)
+      by (purposes.Abort why) on = on (λ is. is)
+
   pub split2 : IsSplit k2
   split2 = record {
     sent_first = w.split.sent_first;
@@ -309,6 +339,7 @@ module _ (session clock count : ℕ) (splits : List (List ℕ)) (k : Known) (x :
     paced = paced2;
     fewer = fewer2;
     done = done2;
+    beaten = subst (HasBeatenBy p k2) same beaten2;
     serves = serves;
   }
 
@@ -422,7 +453,7 @@ module _ (session clock count : ℕ) (splits : List (List ℕ)) (k : Known) (x :
           ∙ conflict_heard w.t k.sent h.number h.step reply meta x.seq x.write_ts r.key r.value conflict in
           let put_now : PutsUpTo w.t (last_seq_of w.t.writes) (last_put x l.anchor r.key r.value) =
           subst (λ y. PutsUpTo w.t (last_seq_of w.t.writes) (last_put y l.anchor r.key r.value)) (sym st.same)
-          (puts-one w.t (last_seq_of w.t.writes) (last_seq_of w.t.writes) (last_put (opened_as x.cause x.reads.spans x.in_flight w.t) l.anchor r.key r.value)
+          (puts-one w.t (last_seq_of w.t.writes) (last_seq_of w.t.writes) (last_put (opened_as x.shown x.cause x.reads.spans x.in_flight w.t) l.anchor r.key r.value)
           (own_put (meta_of w.t l.anchor) (last_seq_of w.t.writes) w.t.write_ts r.key r.value) (omega arith)) in
           let leaves : LeavesAsIs w.t h = record {
             pending = λ about. let f : is_about w.t.id h.request ≡ false = ap (is_about w.t.id) said in absurd cc;
@@ -509,6 +540,7 @@ module _ (session clock count : ℕ) (splits : List (List ℕ)) (k : Known) (x :
             paced = record { pushes = λ id. let a = paced2.pushes id in omega arith; resolves = paced2.resolves };
             unmet = unmet2 (ap is_conflict (is.told ∙ written));
             past = all_past k2 ms2 wave2 done2 (subst (λ ms. All IsSentOnceMore ms) (sym ms2_is) (All-cons IsSentOnceMore (back_with number reply r.m) [] (came_back (ap is_conflict written)) (All-nil IsSentOnceMore)));
+            beaten = beaten_on (λ beat. subst IsBeatPurpose e beat);
             told = λ own. record { t = t2; opened = open_is k2 t2 opened2; sent = (out.0, out.1, out.2, out.3, first own) };
             heard = λ own.
                 any_last (λ h. IsToOwnPut k2 w.s t2 h × IsTrue (is_written h.reply)) k.heard_now h
@@ -528,6 +560,7 @@ module _ (session clock count : ℕ) (splits : List (List ℕ)) (k : Known) (x :
       write_landed = landed r.lays
 
   heard_by : (q : Purpose) → p ≡ q → Serves splits k w.s w.t x q ms → GoesOn q reply → InCall splits k2 x p ms2
+  heard_by (purposes.Beat call reading) e r on = absurd on
   heard_by purposes.Read e r on =
       let still : is_still h.request ≡ true = of_request (λ r. is_still r ≡ true) (reads_still splits x w.s.call (map (λ m. m.request) ms) r.asked) in
       gone_on (still_same still) (still_leaves still) (ap (λ q. out_of q ms2) e ∙ sym (ap (λ q. out_of q ms) e)) (subst (λ q. Serves splits k2 w.s w.t x q ms2) (sym e) (read_serves r))

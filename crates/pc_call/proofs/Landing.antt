@@ -4,6 +4,7 @@ use Rattle.std.proofs.Common.{◌≡◌, ℕ, ◌+◌, ◌≤◌, Bool, true, fa
 use Rattle.std.proofs.lemmas.Bool.{and_from, eq-eqb}
 use Rattle.std.proofs.lemmas.List.Elements.{All-cons, All-nil, All-weaker}
 use Rattle.pc_base.specs.Transaction.{same_txn}
+use Rattle.pc_call.proofs.Beating.{beaten_tells}
 use Rattle.pc_call.proofs.Beside.{asked_anew}
 use Rattle.pc_call.proofs.Eighths.{no_eighth}
 use Rattle.pc_call.proofs.Facts.{open_is}
@@ -83,6 +84,7 @@ module _ (splits : List (List ℕ)) (session : ℕ) (flight : Option InFlight) (
       rolled_back = tt;
       restarts = tt;
       eighth = no_eighth k l.s answers.Written l.opened other l.unmet;
+      beats = beaten_tells k l.t answers.Written l.open_in l.beaten;
     };
     left = refl;
     after = stays_as_is k l.t x l.open_in l.stands l.cause answers.Written written_keeps refl;
@@ -137,6 +139,7 @@ module _ (splits : List (List ℕ)) (session : ℕ) (flight : Option InFlight) (
     fewer = λ r none eight. l.unmet r eight;
     done =
         asked_anew k (put ∷ []) l.past (All-cons (λ r. All (λ m. IsSameRequest r m.request → ⊥) k.sent_now) put [] unsent (All-nil (λ r. All (λ m. IsSameRequest r m.request → ⊥) k.sent_now)));
+    beaten = l.beaten;
     serves = record {
       key = l.key;
       value = l.value;

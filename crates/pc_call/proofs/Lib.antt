@@ -1,5 +1,6 @@
 pub mod Again
 pub mod Beginning
+pub mod Beating
 pub mod Beside
 pub mod Blocking
 pub mod Closing
@@ -9,6 +10,7 @@ pub mod Eighths
 pub mod Ending
 pub mod Facts
 pub mod Hearing
+pub mod Heartbeats
 pub mod Holders
 pub mod Landing
 pub mod Lists
@@ -22,6 +24,7 @@ pub mod RolledBack
 pub mod Rounding
 pub mod Sending
 pub mod SentPast
+pub mod Silent
 pub mod Steps
 pub mod Told
 pub mod Turning

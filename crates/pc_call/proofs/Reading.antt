@@ -7,13 +7,15 @@ use Rattle.pc_base.specs.declared.actor.ActorId.TheVariants as actors
 use Rattle.pc_base.specs.declared.limits.TheConstants.{MOST_CONFLICTS}
 use Rattle.pc_base.specs.declared.span.Span.{Span}
 use Rattle.pc_base.specs.declared.span.Span.TheVariants.{One}
+use Rattle.pc_call.proofs.Beating.{beaten_tells}
+use Rattle.pc_follows.specs.Heartbeats.{HasBeaten}
 use Rattle.pc_call.proofs.Beginning.{any_true}
 use Rattle.pc_call.proofs.Eighths.{no_eighth, none_eighth}
 use Rattle.pc_call.proofs.Told.{may_tell, rows_keep, stays_open, value_keeps}
 use Rattle.pc_call.specs.declared.purpose.Purpose.{Purpose}
 use Rattle.pc_call.specs.declared.purpose.Purpose.TheVariants as purposes
 use Rattle.pc_call.specs.Reading.{answer_by, answer_read, rows_answered, rows_found, span_read, spans_read, value_answered, with_spans}
-use Rattle.pc_call.specs.Serving.{AreReadsOf, InCall, IsReadFor, Serves, ServesRead, out_of}
+use Rattle.pc_call.specs.Serving.{HasBeatenBy, AreReadsOf, InCall, IsReadFor, Serves, ServesRead, out_of}
 use Rattle.pc_call.specs.Telling.{MayTellOpen}
 use Rattle.pc_lists.proofs.Anywhere.{any_behind, any_head, any_kept, any_of, any_weaker}
 use Rattle.pc_proto.specs.declared.answer.Answer.{Answer}
@@ -286,6 +288,9 @@ module _ (session clock count : ℕ) (splits : List (List ℕ)) (k : Known) (x :
   none_met : (r : Request) → MetEighth k r → ⊥
   none_met = none_eighth k ms w.fewer w.wave.stand (all_few k ms w.wave.stand answered)
 
+  beaten : HasBeaten k w.t
+  beaten = subst (λ q. HasBeatenBy q k w.t) e w.beaten
+
   tells_value : (value : Option (List ℕ)) → (w.s.call ≡ calls.Commit → ⊥) → is_past_range w.s ≡ false → MayTellRow splits (actors.Session session) k w.s (answers.Value value) → MayTellOpen splits session k (answers.Value value) x2
   tells_value value other within row = record {
     may = record {
@@ -295,6 +300,7 @@ module _ (session clock count : ℕ) (splits : List (List ℕ)) (k : Known) (x :
       rolled_back = tt;
       restarts = tt;
       eighth = no_eighth k w.s (answers.Value value) w.opened other none_met;
+      beats = beaten_tells k w.t (answers.Value value) w.open_in beaten;
     };
     left = refl;
     after = stays_open k w.t x w.open_in st w.cause (answers.Value value) (value_keeps value) spans2 read_stands;
@@ -310,6 +316,7 @@ module _ (session clock count : ℕ) (splits : List (List ℕ)) (k : Known) (x :
       rolled_back = tt;
       restarts = tt;
       eighth = no_eighth k w.s (answers.Rows rows) w.opened other none_met;
+      beats = beaten_tells k w.t (answers.Rows rows) w.open_in beaten;
     };
     left = refl;
     after = stays_open k w.t x w.open_in st w.cause (answers.Rows rows) (rows_keep rows) spans2 read_stands;

@@ -10,7 +10,7 @@ use Rattle.pc_call.proofs.Facts.{asks_for, none_staged, open_is, put_for, unmove
 use Rattle.pc_call.proofs.Lists.{all_unmapped}
 use Rattle.pc_call.specs.declared.purpose.Purpose.{Purpose}
 use Rattle.pc_call.specs.declared.purpose.Purpose.TheVariants as purposes
-use Rattle.pc_call.specs.Serving.{AreReadsOf, IsOpenIn, LaysLast, LaysNext, Serves, ServesAbort, ServesCommit, ServesRefresh, ServesWrite, commit_asked, out_of, write_call}
+use Rattle.pc_call.specs.Serving.{AreReadsOf, IsOpenIn, LaysLast, LaysNext, Serves, ServesAbort, ServesBeat, ServesCommit, ServesRefresh, ServesWrite, commit_asked, out_of, write_call}
 use Rattle.pc_lists.proofs.Lists.{all_from_contains}
 use Rattle.pc_lists.proofs.Same.{same_txn-is}
 use Rattle.pc_proto.specs.declared.call.Call.{Call}
@@ -23,19 +23,21 @@ use Rattle.pc_proto.specs.Requests.{is_put_of}
 use Rattle.pc_proto.specs.Stamps.{request_stamps}
 use Rattle.pc_reads.proofs.Goods.{holds_itself}
 use Rattle.pc_reads.specs.ReadsStanding.{refresh_to}
+use Rattle.pc_txn.proofs.Alive.{may_beat}
 use Rattle.pc_txn.proofs.Puts.{same_put}
 use Rattle.pc_txn.proofs.Rows.{may_abort, may_commit, may_get, may_last, may_next, may_scan}
 use Rattle.pc_txn.specs.Counted.{IsCounted}
 use Rattle.pc_txn.specs.declared.flight.InFlight.{InFlight}
 use Rattle.pc_txn.specs.declared.txn.OpenTxn.{OpenTxn}
 use Rattle.pc_txn.specs.Opened.{last_put, next_put, own_abort, own_commit, own_get, own_scan}
+use Rattle.pc_txn.specs.Silence.{own_beat}
 use Rattle.pc_txn.specs.Standing.{AreUnwritten, IsNotWritten, TxnStands, WasLaid}
 use Rattle.pc_wave.specs.declared.message.Message.{Message}
 use Rattle.pc_wave.specs.Messages.{is_to_send}
 use Rattle.pc_follows.specs.CallMessages.{IsFor, IsForCall}
 use Rattle.pc_follows.specs.Eighth.{IsBeforeEighth}
 use Rattle.pc_follows.specs.OneWrite.{IsItsPut}
-use Rattle.pc_world.specs.Known.{Known, call_in, call_of, open_txn}
+use Rattle.pc_world.specs.Known.{Known, call_in, call_of, open_txn, reading_in}
 use Rattle.pc_world.specs.Known.Reads.{IsGoodAt, IsGoodTo, holds_span}
 use Rattle.pc_world.specs.Known.Statements.{Statement}
 use Rattle.pc_world.specs.Known.Transactions.{Txn}
@@ -47,6 +49,7 @@ use Rattle.pc_world.specs.Send.Put.{AsksFor}
 use Rattle.pc_world.specs.Send.Refresh.{MaySendRefresh}
 use Rattle.pc_world.specs.StageFate.{IsDead, IsLate}
 use Rattle.pc_world.specs.Tell.Data.{IsFirstPut}
+use Rattle.pc_world.specs.Tell.Refusal.{MayBlock}
 
 -- The request may be sent as far as its transaction and its call go.
 pub record IsReady (splits : List (List ℕ)) (session : ℕ) (k : Known) (r : Request) : Type 0 where
@@ -81,7 +84,7 @@ module _ (session clock count : ℕ) (splits : List (List ℕ)) (k : Known) (t :
   call_is call is = ap call_in opened ∙ ap (λ c. Some c) is
 
   for_call : (call : Call) (r : Request) → s.call ≡ call → IsFor call r → IsForCall k r
-  for_call call r is kind = record { s = s; opened = opened; kind = subst (λ c. IsFor c r) (sym is) kind }
+  for_call call r is kind = record { s = s; opened = opened; kind = inl (subst (λ c. IsFor c r) (sym is) kind) }
 
   low_read : x.reads.ts ≤ k.top + 1
   low_read = omega (arith, reads_at, st.behind, st.below, counted.below)
@@ -204,6 +207,15 @@ module _ (session clock count : ℕ) (splits : List (List ℕ)) (k : Known) (t :
     own = tt;
   }
 
+  ready_beat : (call : Call) (reading : ℕ) (ms : List Message) (r : ServesBeat call reading k s t x ms) → IsReady splits session k (own_beat x reading r.anchor)
+  ready_beat call reading ms r = record {
+    row = may_beat splits (actors.Session session) k t x st open_now reading r.anchor r.anchored (ap reading_in opened ∙ ap (λ (s : Statement). Some s.reading) r.asked);
+    stamps = one_low x.write_ts low_write;
+    kind = record { s = s; opened = opened; kind = inr (subst (λ c. MayBlock c) (sym (ap (λ (s : Statement). s.call) r.asked)) r.asks, refl) };
+    before = tt;
+    own = tt;
+  }
+
   ready_abort : (why : _) (ms : List Message) (r : ServesAbort why k s t x ms) → IsReady splits session k (own_abort x why r.anchor)
   ready_abort why ms r = record {
     row = may_abort splits (actors.Session session) k t x st open_now why r.anchor r.anchored (call_is calls.Rollback r.call) r.cause (none_staged t.id (IsDead k.heard) session clock count k counted);
@@ -240,7 +252,12 @@ module _ (session clock count : ℕ) (splits : List (List ℕ)) (k : Known) (cou
       let none : out_of (purposes.Commit n) ms ≡ None = ap (out_of (purposes.Commit n)) c.one ∙ ap (λ b. cond b None (commit_asked c.m.request)) to_send in
       subst (λ r. IsReady splits session k r) (sym c.said) (ready_commit session clock count splits k t x s counted (subst (λ o. TxnStands k o t x) none st) open_in opened n ms c to_send))
 
+  beat_ready : (call : Call) (reading : ℕ) (t : Txn) (x : OpenTxn) (s : Statement) (ms : List Message) → TxnStands k None t x → IsOpenIn k t → k.statement ≡ Some s → ServesBeat call reading k s t x ms → All (IsReadyToSend splits session k) ms
+  beat_ready call reading t x s ms st open_in opened r =
+      one_ready splits session k ms r.m r.one (λ to_send. subst (λ q. IsReady splits session k q) (sym r.said) (ready_beat session clock count splits k t x s counted st open_in opened call reading ms r))
+
   pub ready : (p : Purpose) (t : Txn) (x : OpenTxn) (s : Statement) (ms : List Message) → TxnStands k (out_of p ms) t x → IsOpenIn k t → k.statement ≡ Some s → Serves splits k s t x p ms → All (IsReadyToSend splits session k) ms
+  ready (purposes.Beat call reading) t x s ms st open_in opened r = beat_ready call reading t x s ms st open_in opened r
   ready purposes.Read t x s ms st open_in opened r =
       all_ready splits session k ms (ready_reads session clock count splits k t x s counted st open_in opened s.call (map (λ m. m.request) ms) r.none_in_flight refl r.asked)
   ready (purposes.Write again) t x s ms st open_in opened r = write_ready again t x s ms st open_in opened r

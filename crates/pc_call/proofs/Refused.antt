@@ -3,10 +3,13 @@ use Rattle.std.proofs.Common.{◌≡◌, ℕ, ◌+◌, ◌<◌, ◌≤◌, max, 
 use Rattle.std.proofs.lemmas.Bool.{ltb-false, ltb-true}
 use Rattle.std.proofs.lemmas.List.Elements.{All-push, All-weaker}
 use Rattle.pc_base.specs.declared.limits.TheConstants.{MOST_REFUSALS}
+use Rattle.pc_call.proofs.Beating.{beaten_tells}
+use Rattle.pc_call.proofs.Silent.{IsBeatPurpose}
+use Rattle.pc_follows.specs.Heartbeats.{HasBeaten}
 use Rattle.pc_call.proofs.Decided.{commit_known, commit_out, commit_said, commit_stands, commits, one_out, within}
 use Rattle.pc_call.proofs.Eighths.{told_moved}
 use Rattle.pc_call.proofs.Facts.{none_staged, open_is, unmoved}
-use Rattle.pc_call.proofs.Hearing.{far, gone, paced2, split2}
+use Rattle.pc_call.proofs.Hearing.{beaten_on, far, gone, paced2, split2}
 use Rattle.pc_call.proofs.Reading.{sent_in}
 use Rattle.pc_call.proofs.Told.{may_tell, moved_keeps, stays_as_is}
 use Rattle.pc_call.specs.Committing.{AreRefusals, CommitsOn, IsRefusalOf, IsUsedUp}
@@ -148,6 +151,9 @@ module _ (session clock count : ℕ) (splits : List (List ℕ)) (k : Known) (x :
   reads_there =
       c.there (ap progress_to_send (commit_out session clock count splits k x p ms counted w number view h waited is n e))
 
+  beaten_now : HasBeaten k2 t2
+  beaten_now = beaten_on session clock count splits k x p ms counted w number (replies.Status view) h waited is (λ beat. subst IsBeatPurpose e beat)
+
   -- the commit goes on where it was moved fewer times than it may be
   pub refused_goes_on : (n2 : ℕ) → CountsMoves k2 n2 → (WasMovedEighth k2 → ⊥) → CommitsOn n2 k2 x2
   refused_goes_on n2 counts fewer = record {
@@ -172,6 +178,7 @@ module _ (session clock count : ℕ) (splits : List (List ℕ)) (k : Known) (x :
       refused = refused2;
       refreshes = subst (λ ts. All (λ m. IsRefreshUpTo ts m.request) k.sent_now) (sym reads_there) c.refreshes;
       held = All-push MetNoWrite k.heard_now h c.held (ap unrefreshed_by is.told);
+      beaten = beaten_now;
     };
   }
     where
@@ -199,6 +206,7 @@ module _ (session clock count : ℕ) (splits : List (List ℕ)) (k : Known) (x :
       rolled_back = tt;
       restarts = tt;
       eighth = told_moved k2 w.s (answers.Moved recorded) w.opened c.commits.call (recorded, refl);
+      beats = beaten_tells k2 t2 (answers.Moved recorded) open2 beaten_now;
     };
     left = refl;
     after = stays_as_is k2 t2 x2 open2 stands2 w.cause (answers.Moved recorded) (moved_keeps recorded) refl;

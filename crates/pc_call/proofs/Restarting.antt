@@ -13,6 +13,8 @@ use Rattle.std.proofs.lemmas.List.Elements.{All-cons, All-head, All-nil, All-con
 use Rattle.pc_base.specs.declared.span.Span.{Span}
 use Rattle.pc_base.specs.declared.transaction.TxnId.{TxnId}
 use Rattle.pc_base.specs.SpanOrder.{span_cmp}
+use Rattle.pc_call.proofs.Beating.{beaten_tells}
+use Rattle.pc_follows.specs.Heartbeats.{HasBeaten}
 use Rattle.pc_call.proofs.Eighths.{no_eighth_move}
 use Rattle.pc_call.proofs.Facts.{none_staged, open_is, unmoved}
 use Rattle.pc_call.proofs.Told.{may_tell, still_open}
@@ -23,7 +25,7 @@ use Rattle.pc_call.specs.declared.refreshes.Refreshed.{Refreshed}
 use Rattle.pc_call.specs.declared.refreshes.Refreshed.TheVariants as refreshes
 use Rattle.pc_call.specs.Learned.{known_told}
 use Rattle.pc_call.specs.Refreshing.{IsRefreshed}
-use Rattle.pc_call.specs.Serving.{InCall, IsAnswerTo, IsMetUpTo, MetNoOtherWrite, MetNoWrite, Serves, ServesRefresh, out_of}
+use Rattle.pc_call.specs.Serving.{HasBeatenBy, InCall, IsAnswerTo, IsMetUpTo, MetNoOtherWrite, MetNoWrite, Serves, ServesRefresh, out_of}
 use Rattle.pc_call.specs.Telling.{MayTellOpen}
 use Rattle.pc_lists.proofs.Anywhere.{any_head, any_later, any_of, any_weaker}
 use Rattle.pc_proto.specs.declared.answer.Answer.{Answer}
@@ -142,6 +144,9 @@ module _ (session clock count : ℕ) (splits : List (List ℕ)) (k : Known) (x :
   abbrev r : ServesRefresh n k w.s w.t x ms
   r = subst (λ q. Serves splits k w.s w.t x q ms) e w.serves
 
+  beaten : HasBeaten k w.t
+  beaten = subst (λ q. HasBeatenBy q k w.t) e w.beaten
+
   answered : All (WasAnsweredWith k) ms
   answered = subst (MayBeDue k ms) due (may_be_due k ms w.wave)
 
@@ -192,6 +197,7 @@ module _ (session clock count : ℕ) (splits : List (List ℕ)) (k : Known) (x :
           refused = r.refused;
           refreshes = r.refreshes;
           held = All-weaker (MetNoOtherWrite ms) MetNoWrite (held_now none) k.heard_now r.held;
+          beaten = beaten;
         };
         good = subst (λ ts. All (IsGoodAt w.t.id k.heard ts) w.t.reads) writes stand.good;
       }
@@ -301,6 +307,7 @@ module _ (session clock count : ℕ) (splits : List (List ℕ)) (k : Known) (x :
         rolled_back = tt;
         restarts = record { span = span; met = met_now; first = All-weaker (MetNoOtherWrite ms) (λ h. IsNoneBefore span h.request h.reply) first_met k.heard_now r.held };
         eighth = no_eighth_move k w.s (answers.Restart key ts) w.opened r.commits.call (unmoved k n r.commits.moves (omega (arith, r.commits.few)));
+        beats = beaten_tells k w.t (answers.Restart key ts) w.open_in beaten;
       };
       left = refl;
       after = record {

@@ -8,7 +8,9 @@ use Rattle.pc_call.proofs.Closing.{closing-left, closing-may, opened3}
 use Rattle.pc_call.proofs.Decided.{one_out}
 use Rattle.pc_call.proofs.Eighths.{no_eighth, none_eighth}
 use Rattle.pc_call.proofs.Ending.{EndsWith, IsFinalAs, final_aborted, final_committed}
-use Rattle.pc_call.proofs.Hearing.{one_asked}
+use Rattle.pc_call.proofs.Beating.{beaten_tells, not_aborted}
+use Rattle.pc_call.proofs.Hearing.{beaten_on, one_asked}
+use Rattle.pc_call.proofs.Silent.{IsBeatPurpose}
 use Rattle.pc_call.proofs.Lists.{all_behind}
 use Rattle.pc_call.proofs.Told.{may_tell, still_open}
 use Rattle.pc_call.specs.declared.over.Over.{Over}
@@ -53,16 +55,7 @@ use Rattle.pc_world.specs.Views.{ShowsAborted, WasAborted}
 
 -- a reply that shows a pending record shows none that is aborted
 pending_not_aborted : (t : Txn) (h : Heard) (why : Why) → IsPendingOf t h → ShowsAborted t.id why h → ⊥
-pending_not_aborted t h why pending shows = by h.reply (pending shows.about).pending shows.view shows.told shows.cause
-  where
-    by : (reply : Reply) → ShowsPending reply → (view : View) → view_in reply ≡ Some view → AbortsWith why view → ⊥
-    by (replies.Status (views.Pending epoch ts)) is (views.Aborted at cause locks) e c = cc
-    by (replies.Status (views.Pending epoch ts)) is view e c = c
-    by (replies.Status views.Nothing) is view e c = is
-    by (replies.Status (views.Staging epoch ts writes)) is view e c = is
-    by (replies.Status (views.Committed epoch ts locks)) is view e c = is
-    by (replies.Status (views.Aborted epoch cause locks)) is view e c = is
-    by reply is view e c = is
+pending_not_aborted t h why pending shows = not_aborted why h.reply (pending shows.about).pending shows.view shows.told shows.cause
 
 module _ (session clock count : ℕ) (splits : List (List ℕ)) (k : Known) (x : OpenTxn) (p : Purpose) (ms : List Message) (counted : IsCounted session clock count k) (w : InCall splits k x p ms)
     (number : ℕ) (view : View) (h : Heard) (waited : wave_awaits number ms ≡ true) (is : IsHeardTo k number (replies.Status view) h) (why : Why) (e : p ≡ purposes.Abort why) where
@@ -136,6 +129,10 @@ module _ (session clock count : ℕ) (splits : List (List ℕ)) (k : Known) (x :
             rolled_back = tt;
             restarts = tt;
             eighth = no_eighth k2 w.s answer w.opened (λ commit. let f : calls.Rollback ≡ calls.Commit = sym a.call ∙ commit in cc) unmet;
+            beats =
+                beaten_tells k2 t2 answer
+                (record { others = map (txn_heard k.sent (Some h)) w.open_in.others; is_open = w.open_in.is_open; first = ap (map (txn_heard k.sent (Some h))) w.open_in.first })
+                (beaten_on session clock count splits k x p ms counted w number (replies.Status view) h waited is (λ beat. subst IsBeatPurpose e beat));
           };
           left = closing-left k x w.t a.anchor fate h w.open_in w.stands.same over;
           closed = refl;

@@ -4,6 +4,7 @@ use Rattle.std.specs.List.{list_all}
 use Rattle.std.proofs.lemmas.List.Elements.{All-cons, All-map, All-nil, Contains-append_right}
 use Rattle.pc_base.specs.declared.span.Span.{Span}
 use Rattle.pc_base.specs.declared.transaction.TxnId.{TxnId}
+use Rattle.pc_call.proofs.Beating.{not_nil}
 use Rattle.pc_call.proofs.Facts.{open_is}
 use Rattle.pc_call.proofs.Holders.{holder_counted}
 use Rattle.pc_call.proofs.Lists.{all_unmapped}
@@ -11,8 +12,9 @@ use Rattle.pc_call.specs.declared.purpose.Purpose.{Purpose}
 use Rattle.pc_call.specs.declared.purpose.Purpose.TheVariants as purposes
 use Rattle.pc_call.specs.Opening.{reader_of}
 use Rattle.pc_call.specs.Sending.{IsConflictNow, read_at}
-use Rattle.pc_call.specs.Serving.{AreReadsOf, InCall, LaysLast, LaysNext, Serves, ServesWrite, holder_met, out_of, write_call}
+use Rattle.pc_call.specs.Serving.{AreReadsOf, HasBeatenBy, InCall, LaysLast, LaysNext, Serves, ServesWrite, holder_met, out_of, write_call}
 use Rattle.pc_call.specs.Suiting.{SuitsFlight}
+use Rattle.pc_follows.specs.Heartbeats.{HasBeaten}
 use Rattle.pc_proto.specs.declared.call.Call.{Call}
 use Rattle.pc_proto.specs.declared.call.Call.TheVariants as calls
 use Rattle.pc_proto.specs.declared.meta.TxnMeta.{TxnMeta}
@@ -117,17 +119,18 @@ module _ (splits : List (List ℕ)) (k : Known) (t : Txn) (x : OpenTxn) (s : Sta
       let P : Message → Type 0 = λ m. IsOurs k s t r m.request in
       subst (λ ms. All P ms) (sym one) (All-cons P m [] ours (All-nil P))
 
-  ours : (p : Purpose) (ms : List Message) → Serves splits k s t x p ms → All (λ m. IsOurs k s t (reader_of p x) m.request) ms
-  ours purposes.Read ms r = all_unmapped (IsOurs k s t (Some x.reads.ts)) (λ m. m.request) ms (reads_ours s.call (map (λ m. m.request) ms) refl r.asked)
-  ours (purposes.Write again) ms w = one_ours None ms w.m w.one (write_ours w.key w.value again w.m w.call w.lays)
-  ours (purposes.Refresh n) ms r =
+  ours : (p : Purpose) (ms : List Message) → (k.heard_now ≡ [] → ⊥) → Serves splits k s t x p ms → All (λ m. IsOurs k s t (reader_of p x) m.request) ms
+  ours (purposes.Beat call reading) ms some r = absurd (some r.unheard)
+  ours purposes.Read ms some r = all_unmapped (IsOurs k s t (Some x.reads.ts)) (λ m. m.request) ms (reads_ours s.call (map (λ m. m.request) ms) refl r.asked)
+  ours (purposes.Write again) ms some w = one_ours None ms w.m w.one (write_ours w.key w.value again w.m w.call w.lays)
+  ours (purposes.Refresh n) ms some r =
       all_unmapped (IsOurs k s t None) (λ m. m.request) ms
       (subst (λ rs. All (IsOurs k s t None) rs) (sym r.asked)
       (All-map (IsOurs k s t None) (refresh_to x.id x.reads.ts x.write_ts) x.reads.spans
       (every (λ span. IsOurs k s t None (refresh_to x.id x.reads.ts x.write_ts span)) (λ span. record { other = λ holder ts at may e. may; reads = refl; blocks = λ holder ts at may. absurd may }) x.reads.spans)))
-  ours (purposes.Commit n) ms c =
+  ours (purposes.Commit n) ms some c =
       one_ours None ms c.m c.one (subst (λ r. IsOurs k s t None r) (sym c.said) (record { other = λ holder ts at may e. may; reads = refl; blocks = λ holder ts at may. absurd may }))
-  ours (purposes.Abort why) ms a =
+  ours (purposes.Abort why) ms some a =
       one_ours None ms a.m a.one (subst (λ r. IsOurs k s t None r) (sym a.said) (record { other = λ holder ts at may e. may; reads = refl; blocks = λ holder ts at may. absurd may }))
 
 blocked_conflict : (o : Option TxnId) (number : ℕ) (conflict : Reply) (holder : TxnId) → conflict_by o number conflict ≡ steps.Blocked holder → o ≡ Some holder
@@ -157,8 +160,12 @@ module _ (session clock count : ℕ) (splits : List (List ℕ)) (k : Known) (x :
   same_id : x.id ≡ w.t.id
   same_id = ap (λ x. x.id) w.stands.same
 
-  all_ours : All (λ m. IsOurs k w.s w.t (reader_of p x) m.request) ms
-  all_ours = ours splits k w.t x w.s same_id p ms w.serves
+  all_ours : (k.heard_now ≡ [] → ⊥) → All (λ m. IsOurs k w.s w.t (reader_of p x) m.request) ms
+  all_ours some = ours splits k w.t x w.s same_id p ms some w.serves
+
+  -- where a message met an intent, something was heard
+  met_some : (number : ℕ) (r : Request) (conflict : Reply) → MetConflict k number r conflict → k.heard_now ≡ [] → ⊥
+  met_some number r conflict met none = not_nil met.before met.h met.later (sym met.whole ∙ none)
 
   read_low : IfSome (reader_of p x) (λ ts. ts ≤ k.top)
   read_low = by p
@@ -167,11 +174,24 @@ module _ (session clock count : ℕ) (splits : List (List ℕ)) (k : Known) (x :
       low = let e : x.reads.ts ≡ w.t.read_ts = ap (λ x. x.reads.ts) w.stands.same in omega (arith, w.stands.behind, w.stands.below, counted.below)
 
       by : (p : Purpose) → IfSome (reader_of p x) (λ ts. ts ≤ k.top)
+      by (purposes.Beat call reading) = tt
       by purposes.Read = low
       by (purposes.Write again) = tt
       by (purposes.Refresh n) = tt
       by (purposes.Commit n) = tt
       by (purposes.Abort why) = tt
+
+  -- and the purpose is no heartbeat
+  pub has_beaten : (k.heard_now ≡ [] → ⊥) → HasBeaten k w.t
+  has_beaten some = by p w.serves w.beaten
+    where
+      by : (q : Purpose) → Serves splits k w.s w.t x q ms → HasBeatenBy q k w.t → HasBeaten k w.t
+      by (purposes.Beat call reading) r b = absurd (some r.unheard)
+      by purposes.Read r b = b
+      by (purposes.Write again) r b = b
+      by (purposes.Refresh n) r b = b
+      by (purposes.Commit n) r b = b
+      by (purposes.Abort why) r b = b
 
   -- a conflict whose round is due was met now
   pub round_due : (number : ℕ) (conflict : Reply) → step_of ms ≡ steps.Round number conflict → IsConflictNow k number conflict (reader_of p x)
@@ -181,7 +201,8 @@ module _ (session clock count : ℕ) (splits : List (List ℕ)) (k : Known) (x :
       let found : find is_in_conflict ms ≡ Some m = (first_found ms m f.1).0 in
       let stands_m : MessageStands k m = found_all is_in_conflict (MessageStands k) ms m found w.wave.stand in
       let met : MetConflict k number m.request conflict = subst (λ p. IsAsFar k m.request m.conflicts p) f.2.progress stands_m.as_far in
-      let our : IsOurs k w.s w.t (reader_of p x) m.request = found_all is_in_conflict (λ m. IsOurs k w.s w.t (reader_of p x) m.request) ms m found all_ours in
+      let some = met_some number m.request conflict met in
+      let our : IsOurs k w.s w.t (reader_of p x) m.request = found_all is_in_conflict (λ m. IsOurs k w.s w.t (reader_of p x) m.request) ms m found (all_ours some) in
       let holder_is : holder_met m.progress ≡ Some met.holder.id = ap holder_met f.2.progress ∙ ap holder_in met.is in
       let one = holder_counted met.holder.id is_in_conflict ms m found holder_is in
       let is_due : IsRoundDue k number conflict = subst (MayBeDue k ms) due (may_be_due k ms w.wave) in
@@ -191,6 +212,7 @@ module _ (session clock count : ℕ) (splits : List (List ℕ)) (k : Known) (x :
         t = w.t;
         open_is = open_is k w.t w.open_in;
         undecided = undecided k (out_of p ms) w.t x w.stands (open_is k w.t w.open_in);
+        beaten = has_beaten some;
         holder = met.holder;
         ts = met.ts;
         key = met.key;
@@ -210,11 +232,11 @@ module _ (session clock count : ℕ) (splits : List (List ℕ)) (k : Known) (x :
   -- a message that met an intent may block the call
   blocks_with : (m : Message) → find is_in_conflict ms ≡ Some m → (number : ℕ) (conflict : Reply) → MetConflict k number m.request conflict → IsBlockable w.s
   blocks_with m found number conflict met =
-      let our : IsOurs k w.s w.t (reader_of p x) m.request = found_all is_in_conflict (λ m. IsOurs k w.s w.t (reader_of p x) m.request) ms m found all_ours in
+      let our : IsOurs k w.s w.t (reader_of p x) m.request = found_all is_in_conflict (λ m. IsOurs k w.s w.t (reader_of p x) m.request) ms m found (all_ours (met_some number m.request conflict met)) in
       our.blocks met.holder met.ts met.key (subst (MayAnswer m.request) met.is met.kind)
 
   -- what blocks the call may, by its eighth
-  pub blocked_due : (holder : TxnId) → step_of ms ≡ steps.Blocked holder → IsBlockable w.s × MetEight holder k.heard_now
+  pub blocked_due : (holder : TxnId) → step_of ms ≡ steps.Blocked holder → IsBlockable w.s × MetEight holder k.heard_now × HasBeaten k w.t
   blocked_due holder due =
       let f = blocked_first (first_in_conflict ms) (find is_to_send ms) (list_all has_answer ms) holder due in
       let m : Message = f.0 in
@@ -222,22 +244,24 @@ module _ (session clock count : ℕ) (splits : List (List ℕ)) (k : Known) (x :
       let stands_m : MessageStands k m = found_all is_in_conflict (MessageStands k) ms m found w.wave.stand in
       let has : HasMetOne k m = met_as k m m.progress refl (found_passes is_in_conflict ms m found) stands_m.as_far in
       let eight : MetEight holder k.heard_now = subst (MayBeDue k ms) due (may_be_due k ms w.wave) in
-      (blocks_with m found has.number has.conflict has.met, eight)
+      (blocks_with m found has.number has.conflict has.met, eight, has_beaten (met_some has.number m.request has.conflict has.met))
 
   -- or by a round that it waits for
-  pub round_blocks : (number : ℕ) (conflict : Reply) → step_of ms ≡ steps.Round number conflict → IsBlockable w.s
+  pub round_blocks : (number : ℕ) (conflict : Reply) → step_of ms ≡ steps.Round number conflict → IsBlockable w.s × HasBeaten k w.t
   round_blocks number conflict due =
       let f = due_round ms number conflict due in
       let m : Message = f.0 in
       let found : find is_in_conflict ms ≡ Some m = (first_found ms m f.1).0 in
       let stands_m : MessageStands k m = found_all is_in_conflict (MessageStands k) ms m found w.wave.stand in
-      blocks_with m found number conflict (subst (λ p. IsAsFar k m.request m.conflicts p) f.2.progress stands_m.as_far)
+      let met : MetConflict k number m.request conflict = subst (λ p. IsAsFar k m.request m.conflicts p) f.2.progress stands_m.as_far in
+      (blocks_with m found number conflict met, has_beaten (met_some number m.request conflict met))
 
   -- no commit of it is out
   pub none_out : IsBlockable w.s → out_of p ms ≡ None
   none_out b = by p refl w.serves
     where
       by : (q : Purpose) → p ≡ q → Serves splits k w.s w.t x q ms → out_of p ms ≡ None
+      by (purposes.Beat call reading) e r = ap (λ q. out_of q ms) e
       by purposes.Read e r = ap (λ q. out_of q ms) e
       by (purposes.Write again) e r = ap (λ q. out_of q ms) e
       by (purposes.Refresh n) e r = ap (λ q. out_of q ms) e
@@ -257,6 +281,7 @@ module _ (session clock count : ℕ) (splits : List (List ℕ)) (k : Known) (x :
           same_write key (Some value) = refl
 
       by : (q : Purpose) → p ≡ q → Serves splits k w.s w.t x q ms → SuitsFlight w.s.call x.in_flight
+      by (purposes.Beat call reading) e r = subst (λ c. SuitsFlight c x.in_flight) (sym (ap (λ (s : Statement). s.call) r.asked)) r.suits
       by purposes.Read e r = subst (λ f. SuitsFlight w.s.call f) (sym r.none_in_flight) tt
       by (purposes.Write again) e r = write_suits again r r.lays
       by (purposes.Refresh n) e r = subst (λ f. SuitsFlight w.s.call f) (sym r.commits.none_in_flight) tt

@@ -1,13 +1,15 @@
 -- What is due of an open call may be given.
-use Rattle.std.proofs.Common.{◌≡◌, ℕ, nat_le, Bool, true, false, cond, List, find, Option, None, Some, Result, Ok, Err, IfOk, refl, sym, subst, All}
+use Rattle.std.proofs.Common.{◌≡◌, ℕ, nat_le, Bool, true, false, cond, List, find, Option, None, Some, Result, Ok, Err, IfOk, refl, sym, ◌∙◌, subst, All}
 use Rattle.pc_base.specs.declared.limits.TheConstants.{MOST_CONFLICTS}
 use Rattle.pc_base.specs.declared.transaction.TxnId.{TxnId}
 use Rattle.std.specs.List.{list_all}
+use Rattle.std.proofs.lemmas.Option.{same_Some}
 use Rattle.pc_call.proofs.Blocking.{blocked_by_eighth}
 use Rattle.pc_call.proofs.Facts.{open_is}
 use Rattle.pc_call.proofs.Ready.{IsReady, IsReadyToSend, ready}
 use Rattle.pc_call.proofs.Rounding.{round_due}
-use Rattle.pc_call.proofs.Turns.{its_refresh}
+use Rattle.pc_call.proofs.Turns.{beats_first, its_refresh}
+use Rattle.pc_follows.specs.Heartbeats.{BeatsFirst}
 use Rattle.pc_call.specs.declared.purpose.Purpose.{Purpose}
 use Rattle.pc_call.specs.Giving.{MayBeGiven}
 use Rattle.pc_call.specs.Sending.{IsSendable}
@@ -72,6 +74,7 @@ module _ (session clock count : ℕ) (splits : List (List ℕ)) (k : Known) (x :
         before = here.before;
         own = here.own;
         refresh = subst (IsItsRefresh k) f.2 (its_refresh splits k x p ms w f.0 f.1);
+        beats = λ t opened. subst (λ t. BeatsFirst k t request) (same_Some w.t t (sym (open_is k w.t w.open_in) ∙ opened)) (subst (BeatsFirst k w.t) f.2 (beats_first splits k x p ms w f.0 f.1));
       }
 
   given : (step : Step) → step_of ms ≡ step → MayBeDue k ms step → MayBeGiven session splits k x p ms step

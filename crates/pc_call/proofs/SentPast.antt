@@ -5,6 +5,7 @@ use Rattle.pc_call.proofs.Beside.{IsSentOnceMore, all_past}
 use Rattle.pc_call.specs.declared.purpose.Purpose.{Purpose}
 use Rattle.pc_call.specs.Serving.{InCall}
 use Rattle.pc_follows.specs.AgainInOneWave.{AreAllSentPast, WasSentPastConflicts}
+use Rattle.pc_follows.specs.Heartbeats.{is_heartbeat}
 use Rattle.pc_follows.specs.CallMessages.{IsFor, IsForCall}
 use Rattle.pc_proto.specs.declared.call.Call.{Call}
 use Rattle.pc_proto.specs.declared.call.Call.TheVariants as calls
@@ -55,6 +56,10 @@ none_beside calls.Commit r (inr is) = refresh_for r is
 none_beside calls.Rollback r is = abort_for r is
 none_beside call r is = absurd is
 
+beat_beside : (r : Request) → IsTrue (is_heartbeat r) → goes_beside r ≡ false
+beat_beside (requests.Beat meta ts now) is = refl
+beat_beside r is = absurd cc
+
 once_more : (m : Message) (p : Progress) → progress_to_send p ≡ false → progress_in_conflict p ≡ false → sends_counted m.conflicts p ≡ m.conflicts + 1
 once_more m progresses.ToSend out plain = absurd cc
 once_more m (progresses.Sent number) out plain = refl
@@ -72,5 +77,5 @@ sent_past splits k x p ms w out plain =
     All-weaker (λ m. IsTrue (goes_beside m.request) ⊎ WasSentPastConflicts k m.request) (λ m. IsForCall k m.request → WasSentPastConflicts k m.request) by k.sent_now (all_past k ms w.wave w.done (all_once_more ms out plain))
   where
     by : (m : Sent) → IsTrue (goes_beside m.request) ⊎ WasSentPastConflicts k m.request → IsForCall k m.request → WasSentPastConflicts k m.request
-    by m (inl beside) kind = let e : false ≡ true = sym (none_beside kind.s.call m.request kind.kind) ∙ beside in absurd cc
+    by m (inl beside) kind = let e : false ≡ true = sym (elim kind.kind [ inl is ↦ none_beside kind.s.call m.request is | inr shows ↦ beat_beside m.request shows.1 ]) ∙ beside in absurd cc
     by m (inr past) kind = past

@@ -6,10 +6,12 @@ use Rattle.std.proofs.lemmas.List.{append-nil}
 use Rattle.std.proofs.lemmas.List.Elements.{All-cons, All-map, All-nil, All-push, All-weaker}
 use Rattle.std.proofs.lemmas.Bool.{eq-eqb}
 use Rattle.pc_base.specs.declared.transaction.TxnId.{TxnId}
+use Rattle.pc_call.proofs.Beating.{beaten_sent, not_nil}
 use Rattle.pc_call.proofs.Facts.{are_numbered}
 use Rattle.pc_call.proofs.Holders.{holders_sent}
 use Rattle.pc_call.proofs.Lists.{all_behind, all_front, all_unmapped, kept_by, only_found}
 use Rattle.pc_call.proofs.Meeting.{any_changed, gone_now, gone_out_on, low-more, met-more}
+use Rattle.pc_call.proofs.Silent.{AreSilent, IsSilent, silent}
 use Rattle.pc_call.proofs.Turning.{turn_sent}
 use Rattle.pc_call.proofs.Beside.{IsAskedOrBeside, asked-kept, found_asked}
 use Rattle.pc_call.specs.Beside.{AreAskedOrDone}
@@ -18,7 +20,8 @@ use Rattle.pc_call.specs.declared.purpose.Purpose.TheVariants as purposes
 use Rattle.pc_call.specs.Learned.{known_sent}
 use Rattle.pc_call.specs.Opening.{after_send, laid_first, laid_with}
 use Rattle.pc_call.specs.Paced.{IsPaced}
-use Rattle.pc_call.specs.Serving.{AreReadsOf, HasGoneOut, InCall, IsCommitCall, IsMetUpTo, IsOpenIn, IsOutHere, IsReadFor, IsRefreshGoneOut, IsRefreshUpTo, IsSplit, LaysLast, LaysNext, MetNoOtherWrite, NoOtherMetEighth, Serves, ServesAbort, ServesCommit, ServesRead, ServesRefresh, ServesWrite, WasRefusedIfCommit, commit_asked, holders_met, out_of, write_call}
+use Rattle.pc_call.specs.Serving.{AreReadsOf, HasBeatenBy, HasGoneOut, InCall, IsCommitCall, IsMetUpTo, IsOpenIn, IsOutHere, IsReadFor, IsRefreshGoneOut, IsRefreshUpTo, IsSplit, LaysLast, LaysNext, MetNoOtherWrite, NoOtherMetEighth, Serves, ServesAbort, ServesBeat, ServesCommit, ServesRead, ServesRefresh, ServesWrite, WasRefusedIfCommit, commit_asked, holders_met, out_of, write_call}
+use Rattle.pc_follows.specs.Heartbeats.{HasBeaten}
 use Rattle.pc_proto.specs.declared.call.Call.{Call}
 use Rattle.pc_proto.specs.declared.call.Call.TheVariants as calls
 use Rattle.pc_proto.specs.declared.request.Request.{Request}
@@ -31,6 +34,7 @@ use Rattle.pc_reads.specs.ReadsStanding.{refresh_to}
 use Rattle.pc_reads.specs.Replies.{unrefreshed_in}
 use Rattle.pc_refusals.proofs.Counted.{refusals_go}
 use Rattle.pc_refusals.specs.Moves.{CountsMoves, IsNoMove}
+use Rattle.pc_txn.proofs.Alive.{beat_sent}
 use Rattle.pc_txn.proofs.Commits.{commit_now, commit_sent}
 use Rattle.pc_txn.proofs.Keeping.{quiet_sent, stands_on}
 use Rattle.pc_txn.proofs.Laying.{last_laid, next_laid}
@@ -39,6 +43,7 @@ use Rattle.pc_txn.specs.Counted.{IsCounted}
 use Rattle.pc_txn.specs.declared.flight.InFlight.{InFlight}
 use Rattle.pc_txn.specs.declared.txn.OpenTxn.{OpenTxn}
 use Rattle.pc_txn.specs.Opened.{last_put, next_put, own_commit, own_get, own_scan, reading_on, with_next_write}
+use Rattle.pc_txn.specs.Silence.{own_beat, shown_at}
 use Rattle.pc_txn.specs.Standing.{HasMovedOn, LeavesAsIs, PutsUpTo, TxnStands, is_plain}
 use Rattle.pc_wave.proofs.Changed.{found_all, found_passes}
 use Rattle.pc_wave.proofs.Sending.{sends_first, wave_sent}
@@ -53,6 +58,7 @@ use Rattle.pc_world.specs.Known.Traffic.{Heard, Sent}
 use Rattle.pc_world.specs.Known.Transactions.{Txn, txn_sent}
 use Rattle.pc_world.specs.Known.Writes.{last_seq_of}
 use Rattle.pc_world.specs.RangeOf.{pieces}
+use Rattle.pc_world.specs.Send.Abort.{own_cause}
 use Rattle.pc_world.specs.Tell.Refusal.{IsConflictOf}
 use Rattle.pc_world.specs.SameRequest.{IsSameRequest}
 use Rattle.pc_world.specs.Tell.Data.{IsFirstPut, IsPutFor, sent_before}
@@ -154,6 +160,21 @@ module _ (session clock count : ℕ) (splits : List (List ℕ)) (k : Known) (x :
     heard = w.split.heard;
   }
 
+  -- what went out is a heartbeat only where that is the purpose
+  beaten2 : HasBeatenBy p k2 t2
+  beaten2 = by p w.beaten (silent splits k w.s w.t x p ms w.serves)
+    where
+      on : All (λ m. IsSilent m.request) ms → HasBeaten k w.t → HasBeaten k2 t2
+      on none b = beaten_sent k w.t number range request w.open_in (subst IsSilent first_one.2 (found_all is_to_send (λ (m : Message). IsSilent m.request) ms first_one.0 first_one.1 none)) b
+
+      by : (q : Purpose) → HasBeatenBy q k w.t → AreSilent q ms → HasBeatenBy q k2 t2
+      by (purposes.Beat call reading) b none = tt
+      by purposes.Read b none = on none b
+      by (purposes.Write again) b none = on none b
+      by (purposes.Refresh n) b none = on none b
+      by (purposes.Commit n) b none = on none b
+      by (purposes.Abort why) b none = on none b
+
   -- the call stands where its transaction and its purpose do
   gone_out : (x2 : OpenTxn) → TxnStands k2 (out_of p ms2) t2 x2 → x2.cause ≡ whys.Client → Serves splits k2 w.s t2 x2 p ms2 → InCall splits k2 x2 p ms2
   gone_out x2 st client serves = record {
@@ -168,6 +189,7 @@ module _ (session clock count : ℕ) (splits : List (List ℕ)) (k : Known) (x :
     paced = paced2;
     fewer = fewer2;
     done = done2;
+    beaten = beaten2;
     serves = serves;
   }
 
@@ -417,7 +439,35 @@ module _ (session clock count : ℕ) (splits : List (List ℕ)) (k : Known) (x :
           let f : false ≡ true = sym (none_waited s.number m to_send) ∙ ap (wave_awaits s.number) (sym one) ∙ o.waited in absurd cc
       earlier m one to_send s (inr r) = inr r
 
+  -- a heartbeat goes out
+  beat_out : (call : Call) (reading : ℕ) → p ≡ purposes.Beat call reading → ServesBeat call reading k w.s w.t x ms → TxnStands k None w.t x → InCall splits k2 (shown_at reading x) p ms2
+  beat_out call reading is r st =
+      let o = one_message r.m r.one in
+      let said : request ≡ own_beat x reading r.anchor = sym o.0 ∙ r.said in
+      let due = r.due o.1 in
+      let gone2 : HasMovedOn k k2 (record { number = number; range = range; request = own_beat x reading r.anchor } ∷ []) [] =
+      subst (λ r. HasMovedOn k k2 (record { number = number; range = range; request = r } ∷ []) []) said gone in
+      let st2 : TxnStands k2 None t2 (shown_at reading x) =
+      subst (λ r. TxnStands k2 None (txn_sent r w.t) (shown_at reading x)) (sym said) (beat_sent k k2 w.t x r.anchor reading number range st gone2) in
+      gone_out (shown_at reading x) (subst (λ q. TxnStands k2 (out_of q ms2) t2 (shown_at reading x)) (sym is) st2) w.cause
+      (subst (λ q. Serves splits k2 w.s t2 (shown_at reading x) q ms2) (sym is) (record {
+        asked = r.asked;
+        asks = r.asks;
+        suits = r.suits;
+        anchor = r.anchor;
+        anchored = ap (λ q. (txn_sent q w.t).anchor) said ∙ r.anchored;
+        m = sent_under number r.m;
+        one = ap (first_changed is_to_send (sent_under number)) r.one ∙ one_sent number r.m o.1;
+        said = r.said;
+        due = λ e. absurd cc;
+        sent = All-push (λ s. s.request ≡ own_beat x reading r.anchor) k.sent_now m2 r.sent said;
+        some = λ e none. not_nil k.sent_now m2 [] none;
+        unheard = r.unheard;
+        low = All-weaker (λ ts. ts ≤ k.top + 1) (λ ts. ts ≤ k2.top + 1) (λ ts low. omega (arith, low)) (why_stamps (own_cause w.t.restart)) r.low;
+      }))
+
   sent_by : (q : Purpose) → p ≡ q → Serves splits k w.s w.t x q ms → TxnStands k (out_of q ms) w.t x → InCall splits k2 (after_send q ms x) p ms2
+  sent_by (purposes.Beat call reading) is r st = beat_out call reading is r st
   sent_by purposes.Read is r st =
       let quiet : is_plain request ≡ true = of_request (λ q. is_plain q ≡ true) (quiet_reads splits x w.s.call (map (λ m. m.request) ms) r.asked) in
       gone_out x (subst (λ q. TxnStands k2 (out_of q ms2) t2 x) (sym is) (quiet_stands quiet None st)) w.cause (subst (λ q. Serves splits k2 w.s t2 x q ms2) (sym is) (read_serves r))

@@ -9,10 +9,11 @@ use Rattle.pc_base.specs.declared.span.Span.{Span}
 use Rattle.pc_base.specs.declared.transaction.TxnId.{TxnId}
 use Rattle.pc_base.specs.SpanOrder.{span_cmp}
 use Rattle.pc_call.proofs.Facts.{open_is}
+use Rattle.pc_call.proofs.Silent.{AreSilent, IsSilent, silent}
 use Rattle.pc_call.proofs.Restarting.{any_cons, asks, behind, same_span_of, span_of}
 use Rattle.pc_call.specs.declared.purpose.Purpose.{Purpose}
 use Rattle.pc_call.specs.declared.purpose.Purpose.TheVariants as purposes
-use Rattle.pc_call.specs.Serving.{AreReadsOf, HasGoneOut, InCall, IsRefreshGoneOut, IsSentBefore, LaysLast, LaysNext, Serves, ServesRefresh, ServesWrite}
+use Rattle.pc_call.specs.Serving.{AreReadsOf, HasBeatenBy, HasGoneOut, InCall, IsRefreshGoneOut, IsSentBefore, LaysLast, LaysNext, Serves, ServesRefresh, ServesWrite}
 use Rattle.pc_lists.proofs.Anywhere.{any_head, any_later, any_of}
 use Rattle.pc_proto.specs.declared.call.Call.{Call}
 use Rattle.pc_proto.specs.declared.call.Call.TheVariants as calls
@@ -20,13 +21,17 @@ use Rattle.pc_proto.specs.declared.request.Request.{Request}
 use Rattle.pc_proto.specs.declared.request.Request.TheVariants as requests
 use Rattle.pc_reads.specs.ReadsStanding.{refresh_to}
 use Rattle.pc_txn.specs.declared.txn.OpenTxn.{OpenTxn}
+use Rattle.pc_follows.specs.Heartbeats.{BeatsFirst, HasBeaten, is_heartbeat}
 use Rattle.pc_txn.specs.Opened.{own_get, own_scan}
+use Rattle.pc_txn.specs.Silence.{own_beat}
+use Rattle.pc_wave.proofs.Changed.{found_all, found_passes}
 use Rattle.pc_wave.specs.declared.message.Message.{Message}
 use Rattle.pc_wave.specs.Messages.{is_to_send}
 use Rattle.pc_wave.specs.Standing.{Pairwise}
 use Rattle.pc_follows.specs.Refreshes.{IsItsRefresh, IsRefreshBefore}
-use Rattle.pc_world.specs.Known.{Known}
-use Rattle.pc_world.specs.Known.Transactions.{Txn}
+use Rattle.pc_world.specs.Known.{Known, reading_in}
+use Rattle.pc_world.specs.Known.Statements.{Statement}
+use Rattle.pc_world.specs.Known.Transactions.{Txn, meta_of}
 use Rattle.pc_world.specs.RangeOf.{pieces}
 
 every : {X : Type 0} (P : X → Type 0) → ((x : X) → P x) → (xs : List X) → All P xs
@@ -142,8 +147,38 @@ module _ (splits : List (List ℕ)) (k : Known) (x : OpenTxn) (p : Purpose) (ms 
     its_refresh = by p refl w.serves
       where
         by : (q : Purpose) → p ≡ q → Serves splits k w.s w.t x q ms → IsItsRefresh k m.request
+        by (purposes.Beat call reading) e r = subst (λ (m : Message). IsItsRefresh k m.request) (one_of r.m r.one) (subst (IsItsRefresh k) (sym r.said) tt)
         by purposes.Read e r = all_unmap (IsItsRefresh k) ms (reads_refresh splits k x w.s.call (map (λ (m : Message). m.request) ms) r.asked) m found
         by (purposes.Write again) e r = write_no_refresh again r r.lays
         by (purposes.Refresh n) e r = refresh_in_turn n r
         by (purposes.Commit n) e r = subst (λ (m : Message). IsItsRefresh k m.request) (one_of r.m r.one) (subst (IsItsRefresh k) (sym r.said) tt)
         by (purposes.Abort why) e r = subst (λ (m : Message). IsItsRefresh k m.request) (one_of r.m r.one) (subst (IsItsRefresh k) (sym r.said) tt)
+
+    -- a heartbeat that is to be sent is due, and another message goes out where none is
+    pub beats_first : BeatsFirst k w.t m.request
+    beats_first = by p w.serves w.beaten (silent splits k w.s w.t x p ms w.serves)
+      where
+        other : All (λ m. IsSilent m.request) ms → HasBeaten k w.t → BeatsFirst k w.t m.request
+        other none b =
+            inr (b, λ beat. let e : is_heartbeat m.request ≡ false = found_all is_to_send (λ (m : Message). IsSilent m.request) ms m found none in let f : false ≡ true = sym e ∙ beat in absurd cc)
+
+        by : (q : Purpose) → Serves splits k w.s w.t x q ms → HasBeatenBy q k w.t → AreSilent q ms → BeatsFirst k w.t m.request
+        by (purposes.Beat call reading) r b none =
+            let is : r.m ≡ m = one_of r.m r.one in
+            let to_send : is_to_send r.m ≡ true = ap is_to_send is ∙ found_passes is_to_send ms m found in
+            let said : m.request ≡ own_beat x reading r.anchor = ap (λ (m : Message). m.request) (sym is) ∙ r.said in
+            inl (
+              r.due to_send,
+              record {
+                meta = meta_of w.t r.anchor;
+                whose = record { anchored = r.anchored; same = refl };
+                now = reading;
+                read_now = ap reading_in w.opened ∙ ap (λ (s : Statement). Some s.reading) r.asked;
+                is = said ∙ ap (λ x. own_beat x reading r.anchor) w.stands.same;
+              },
+            )
+        by purposes.Read r b none = other none b
+        by (purposes.Write again) r b none = other none b
+        by (purposes.Refresh n) r b none = other none b
+        by (purposes.Commit n) r b none = other none b
+        by (purposes.Abort why) r b none = other none b

@@ -1,17 +1,24 @@
 -- A transaction that wrote nothing is committed, or rolled back, without a message.
-use Rattle.std.proofs.Common.{◌≡◌, ℕ, List, [], ◌++◌, Option, None, Some, refl, sym, ap, ◌∙◌, subst, arith, All, Any, inl, inr}
+use Rattle.std.proofs.Common.{◌≡◌, ℕ, true, List, [], ◌++◌, Option, None, Some, refl, sym, ap, ◌∙◌, subst, arith, All, Any, inl, inr}
+use Rattle.std.proofs.lemmas.List.Elements.{All-weaker}
 use Rattle.std.proofs.lemmas.Option.{same_Some}
 use Rattle.pc_base.specs.declared.limits.TheConstants.{MOST_CONFLICTS, MOST_REFUSALS}
+use Rattle.pc_call.proofs.Beating.{beaten_tells, not_aborted}
+use Rattle.pc_call.proofs.Beginning.{none_met, unmet_now}
+use Rattle.pc_call.proofs.Committing.{beats_unmoved}
 use Rattle.pc_call.proofs.Eighths.{no_eighth, no_eighth_move}
 use Rattle.pc_call.proofs.Facts.{open_is}
 use Rattle.pc_call.proofs.Told.{may_tell}
 use Rattle.pc_call.specs.Finished.{MayTellOver}
-use Rattle.pc_call.specs.Fresh.{IsFresh}
+use Rattle.pc_call.specs.Fresh.{IsFresh, ShowsAlive}
+use Rattle.pc_lists.proofs.Anywhere.{any_of}
+use Rattle.pc_follows.specs.Heartbeats.{is_heartbeat}
 use Rattle.pc_proto.specs.declared.answer.Answer.TheVariants as answers
 use Rattle.pc_proto.specs.declared.call.Call.TheVariants as calls
 use Rattle.pc_proto.specs.declared.fate.Fate.{Fate}
 use Rattle.pc_proto.specs.declared.why.Why.{Why}
 use Rattle.pc_txn.specs.declared.txn.OpenTxn.{OpenTxn}
+use Rattle.pc_wave.proofs.Lists.{at_least-fewer}
 use Rattle.pc_world.specs.Counting.{AtLeast}
 use Rattle.pc_follows.specs.FinishingJobs.{committed_fate, committing, left_committed, left_if, settling}
 use Rattle.pc_world.specs.Known.{Known, open_txn}
@@ -21,14 +28,11 @@ use Rattle.pc_world.specs.Known.Traffic.{Heard}
 use Rattle.pc_world.specs.Known.Transactions.{IsGood, Txn}
 use Rattle.pc_world.specs.MayTell.{is_past_range}
 use Rattle.pc_world.specs.Tell.Refusal.{IsConflictOf, WasMoved}
-use Rattle.pc_world.specs.Views.{ShowsAborted, fate_heard}
+use Rattle.pc_world.specs.Views.{ShowsAborted, WasAborted, fate_heard}
 
 settling_none : (t : Txn) (o : Option Fate) → settling t o None ≡ []
 settling_none t None = refl
 settling_none t (Some fate) = refl
-
-none_of : (P : Heard → Type 0) (hs : List Heard) → hs ≡ [] → Any P hs → ⊥
-none_of P hs none some = absurd (omega (arith, (subst (λ hs. Any P hs) none some).2))
 
 module _ (splits : List (List ℕ)) (session : ℕ) (k : Known) (x : OpenTxn) (s : Statement) (why : Why) (f : IsFresh k x s why) (none : x.anchor ≡ None) where
   unwritten : f.t.anchor ≡ None
@@ -36,6 +40,12 @@ module _ (splits : List (List ℕ)) (session : ℕ) (k : Known) (x : OpenTxn) (s
 
   opened : open_txn k ≡ Some f.t
   opened = open_is k f.t f.open_in
+
+  -- nothing that was heard in the call shows the transaction aborted
+  alive_now : (other : Why) → WasAborted k.heard_now f.t.id other → ⊥
+  alive_now other was =
+      let f2 = any_of ShowsAlive (ShowsAborted f.t.id other) k.heard_now f.heard was in
+      not_aborted other f2.0.reply f2.1.pending f2.2.view f2.2.told f2.2.cause
 
   good : IsGood k.heard f.t f.t.begin
   good = record {
@@ -60,7 +70,8 @@ module _ (splits : List (List ℕ)) (session : ℕ) (k : Known) (x : OpenTxn) (s
           aborts = tt;
           rolled_back = tt;
           restarts = tt;
-          eighth = no_eighth_move k s answer f.opened call (λ eight. subst (λ hs. AtLeast (WasMoved k) MOST_REFUSALS hs) f.none_heard eight);
+          eighth = no_eighth_move k s answer f.opened call (λ eight. beats_unmoved k (All-weaker ShowsAlive (λ h. is_heartbeat h.request ≡ true) (λ h a. a.beat) k.heard_now f.heard) (at_least-fewer (WasMoved k) 1 MOST_REFUSALS k.heard_now (omega arith) eight));
+          beats = beaten_tells k f.t answer f.open_in f.beaten;
         };
         left =
             sym (settling_none f.t (committed_fate k f.t x.begin)) ∙ sym (ap (λ a. committing k f.t x.begin a ++ settling f.t (committed_fate k f.t x.begin) a) unwritten)
@@ -79,7 +90,7 @@ module _ (splits : List (List ℕ)) (session : ℕ) (k : Known) (x : OpenTxn) (s
             opened = opened;
             asked = call;
             whose = ap (λ x. x.id) f.stands.same;
-            cause = inr ((λ other was. none_of (ShowsAborted f.t.id other) k.heard_now f.none_heard was), f.cause);
+            cause = inr ((λ other was. alive_now other was), f.cause);
           });
           written = tt;
           aborts = λ t anchor is some.
@@ -88,7 +99,8 @@ module _ (splits : List (List ℕ)) (session : ℕ) (k : Known) (x : OpenTxn) (s
               absurd cc;
           rolled_back = tt;
           restarts = tt;
-          eighth = no_eighth k s answer f.opened (λ commit. let e : calls.Rollback ≡ calls.Commit = sym call ∙ commit in cc) (λ r eight. subst (λ hs. AtLeast (IsConflictOf r) MOST_CONFLICTS hs) f.none_heard eight);
+          eighth = no_eighth k s answer f.opened (λ commit. let e : calls.Rollback ≡ calls.Commit = sym call ∙ commit in cc) (λ r eight. none_met k (unmet_now k f.t x s f.open_in f.stands f.client f.opened f.split f.heard) r (at_least-fewer (IsConflictOf r) 1 MOST_CONFLICTS k.heard_now (omega arith) eight));
+          beats = beaten_tells k f.t answer f.open_in f.beaten;
         };
         left =
             sym (settling_none f.t (fate_heard f.t.id k.heard)) ∙ sym (ap (λ a. settling f.t (fate_heard f.t.id k.heard) a) unwritten) ∙ sym (ap (left_if k) opened);

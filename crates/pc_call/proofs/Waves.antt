@@ -72,6 +72,7 @@ module _ (session clock count : ℕ) (splits : List (List ℕ)) (k : Known) (x :
   write_whole again r (inr l) = one_whole r.m r.one (subst (IsOfWholeRefresh k) (sym l.said) tt)
 
   all_whole : (q : Purpose) → p ≡ q → Serves splits k w.s w.t x q ms → All (IsOfWholeRefresh k) (map (λ m. m.request) ms)
+  all_whole (purposes.Beat call reading) e r = one_whole r.m r.one (subst (IsOfWholeRefresh k) (sym r.said) tt)
   all_whole purposes.Read e r = reads_whole splits k x w.s.call (map (λ m. m.request) ms) r.asked
   all_whole (purposes.Write again) e r = write_whole again r r.lays
   all_whole (purposes.Refresh n) e r =

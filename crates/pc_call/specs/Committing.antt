@@ -11,14 +11,15 @@ use Rattle.pc_txn.specs.declared.txn.OpenTxn.{OpenTxn}
 use Rattle.pc_txn.specs.Standing.{TxnStands}
 use Rattle.pc_world.specs.Counting.{LastIs}
 use Rattle.pc_follows.specs.Eighth.{WasMovedEighth}
+use Rattle.pc_follows.specs.Heartbeats.{HasBeaten}
 use Rattle.pc_world.specs.Known.{Known}
 use Rattle.pc_world.specs.Known.Reads.{IsGoodAt}
 use Rattle.pc_world.specs.Known.Statements.{Statement}
 use Rattle.pc_world.specs.Known.Transactions.{Txn}
 use Rattle.pc_world.specs.Tell.Refusal.{WasMoved}
 
--- The open transaction commits, after its commit was moved so often: every commit that was sent in the call was refused, and each refresh was to
--- a timestamp that is no later than this one, and held.
+-- The open transaction commits, after its commit was moved so often: every commit that was sent in the call was refused, each refresh was to a
+-- timestamp that is no later than this one, and held, and heartbeats went out where they were due.
 pub record CommitsUpTo (bound refusals : ℕ) (k : Known) (t : Txn) (x : OpenTxn) (s : Statement) : Type 0 where
   pub open_in : IsOpenIn k t
   pub stands : TxnStands k None t x
@@ -30,6 +31,7 @@ pub record CommitsUpTo (bound refusals : ℕ) (k : Known) (t : Txn) (x : OpenTxn
   pub refused : All (WasRefusedIfCommit t.write_ts k.heard_now) k.sent_now
   pub refreshes : All (λ m. IsRefreshUpTo bound m.request) k.sent_now
   pub held : All MetNoWrite k.heard_now
+  pub beaten : HasBeaten k t
 
 -- It commits where its reads are good at its write timestamp.
 pub record CommitsNow (refusals : ℕ) (k : Known) (x : OpenTxn) (s : Statement) : Type 0 where

@@ -1,18 +1,25 @@
--- A call of the open transaction was just asked: nothing was sent or heard in it.
-use Rattle.std.specs.Prelude.{◌≡◌, ◌+◌, ◌≤◌, None, Some, [], All}
-use Rattle.pc_call.specs.Serving.{IsOpenIn}
+-- A call of the open transaction begins: nothing was sent or heard in it, or a heartbeat alone.
+use Rattle.std.specs.Prelude.{◌≡◌, ℕ, ◌+◌, ◌≤◌, true, None, Some, List, [], All}
+use Rattle.pc_call.specs.Serving.{IsOpenIn, IsSplit}
 use Rattle.pc_proto.specs.declared.why.Why.{Why}
 use Rattle.pc_proto.specs.declared.why.Why.TheVariants as whys
 use Rattle.pc_proto.specs.Stamps.{why_stamps}
 use Rattle.pc_txn.specs.declared.txn.OpenTxn.{OpenTxn}
-use Rattle.pc_txn.specs.Standing.{TxnStands}
+use Rattle.pc_txn.specs.Standing.{ShowsPending, TxnStands}
+use Rattle.pc_follows.specs.Heartbeats.{HasBeaten, is_heartbeat}
 use Rattle.pc_world.specs.Known.{Known}
 use Rattle.pc_world.specs.Known.Statements.{Statement}
+use Rattle.pc_world.specs.Known.Traffic.{Heard}
 use Rattle.pc_world.specs.Known.Transactions.{Txn}
 use Rattle.pc_world.specs.Send.Abort.{own_cause}
 
--- The open transaction stands, and this is why a rollback would abort it.
-pub record IsFresh (k : Known) (x : OpenTxn) (s : Statement) (why : Why) : Type 0 where
+-- The reply is to a heartbeat, and shows a PENDING record.
+pub record ShowsAlive (h : Heard) : Type 0 where
+  pub beat : is_heartbeat h.request ≡ true
+  pub pending : ShowsPending h.reply
+
+-- The open transaction stands, its call was just asked, and this is why a rollback would abort it.
+pub record IsJustAsked (k : Known) (x : OpenTxn) (s : Statement) (why : Why) : Type 0 where
   pub t : Txn
   pub open_in : IsOpenIn k t
   pub stands : TxnStands k None t x
@@ -22,3 +29,17 @@ pub record IsFresh (k : Known) (x : OpenTxn) (s : Statement) (why : Why) : Type 
   pub opened : k.statement ≡ Some s
   pub none_sent : k.sent_now ≡ []
   pub none_heard : k.heard_now ≡ []
+
+-- So it does where the call begins: no heartbeat is due, and one that was sent in it found the transaction alive.
+pub record IsFresh (k : Known) (x : OpenTxn) (s : Statement) (why : Why) : Type 0 where
+  pub t : Txn
+  pub open_in : IsOpenIn k t
+  pub stands : TxnStands k None t x
+  pub client : x.cause ≡ whys.Client
+  pub cause : why ≡ own_cause t.restart
+  pub low : All (λ ts. ts ≤ k.top + 1) (why_stamps why)
+  pub opened : k.statement ≡ Some s
+  pub split : IsSplit k
+  pub sent : All (λ m. is_heartbeat m.request ≡ true) k.sent_now
+  pub heard : All ShowsAlive k.heard_now
+  pub beaten : HasBeaten k t

@@ -1,4 +1,5 @@
 -- An open call, and how its messages stand beside what its session knows.
+pub mod Alive
 pub mod Beside
 pub mod Committing
 pub mod Ended

@@ -9,6 +9,7 @@ use Rattle.pc_proto.specs.Replies.{is_conflict}
 use Rattle.pc_txn.specs.declared.flight.InFlight.{InFlight}
 use Rattle.pc_txn.specs.declared.txn.OpenTxn.{OpenTxn}
 use Rattle.pc_txn.specs.Opened.{reading_on, with_next_write}
+use Rattle.pc_txn.specs.Silence.{shown_at}
 use Rattle.pc_wave.specs.declared.message.Message.{Message}
 
 abbrev pub laid_with : Option InFlight → Request → OpenTxn → OpenTxn
@@ -19,9 +20,10 @@ abbrev pub laid_first : List Message → OpenTxn → OpenTxn
 laid_first [] x = x
 laid_first (m ∷ messages) x = laid_with x.in_flight m.request x
 
--- The transaction once a message of this purpose was sent, the first of these: a write that was not in flight is, and a commit reads where
--- it writes.
+-- The transaction once a message of this purpose was sent, the first of these: a heartbeat shows that it is alive, a write that was not in flight
+-- is, and a commit reads where it writes.
 abbrev pub after_send : Purpose → List Message → OpenTxn → OpenTxn
+after_send (purposes.Beat call reading) messages x = shown_at reading x
 after_send purposes.Read messages x = x
 after_send (purposes.Write again) messages x = laid_first messages x
 after_send (purposes.Refresh refusals) messages x = x
@@ -30,6 +32,7 @@ after_send (purposes.Abort why) messages x = x
 
 -- The reply leaves the open call going on, and its transaction as it is: any reply to a read or a refresh, and a conflict of a write.
 abbrev pub GoesOn : Purpose → Reply → Type 0
+GoesOn (purposes.Beat call reading) reply = ⊥
 GoesOn purposes.Read reply = ⊤
 GoesOn (purposes.Write again) reply = is_conflict reply ≡ true
 GoesOn (purposes.Refresh refusals) reply = ⊤

@@ -12,6 +12,7 @@ use Rattle.pc_wave.specs.Due.{IsRoundDue}
 use Rattle.pc_follows.specs.CallMessages.{IsForCall}
 use Rattle.pc_follows.specs.EarlyTell.{IsCommitKnown}
 use Rattle.pc_follows.specs.Eighth.{IsBeforeEighth, MetEighth}
+use Rattle.pc_follows.specs.Heartbeats.{BeatsFirst, HasBeaten}
 use Rattle.pc_follows.specs.OneWrite.{IsItsPut}
 use Rattle.pc_follows.specs.Refreshes.{IsItsRefresh}
 use Rattle.pc_follows.specs.Resends.{AreAnsweredNow, MayGoAgain}
@@ -24,8 +25,8 @@ use Rattle.pc_world.specs.SameRequest.{IsSameRequest}
 
 -- The request may be sent: its row allows it, and none of its timestamps is past the one after the greatest that the session knows; it is
 -- for the open call, which is not decided; where it was sent in the call before, all such were answered, and there is a reason to send it
--- again; neither it nor the commit has met its eighth; a put is of the open transaction, and the call's only new write; and a refresh is of a span
--- that was read, behind all that went out to its timestamp.
+-- again; neither it nor the commit has met its eighth; a put is of the open transaction, and the call's only new write; a refresh is of a span
+-- that was read, behind all that went out to its timestamp; and a heartbeat goes out first where one is due, and nowhere else.
 pub record IsSendable (splits : List (List ℕ)) (session : ℕ) (k : Known) (request : Request) : Type 0 where
   pub row : MaySendRow splits (actors.Session session) k request
   pub stamps : All (λ ts. ts ≤ k.top + 1) (request_stamps request)
@@ -37,6 +38,7 @@ pub record IsSendable (splits : List (List ℕ)) (session : ℕ) (k : Known) (re
   pub before : IsBeforeEighth k request
   pub own : IsItsPut k request
   pub refresh : IsItsRefresh k request
+  pub beats : (t : Txn) → open_txn k ≡ Some t → BeatsFirst k t request
 
 -- The timestamp at which a request reads.
 abbrev pub read_at : Request → Option ℕ
@@ -45,13 +47,14 @@ read_at (requests.Scan id epoch seq ts span) = Some ts
 read_at _ = None
 
 -- The message of this number met this conflict in the open call, which is not decided, and it was not the eighth of its request; a reader is
--- at the timestamp at which it reads; and more conflicts with the holder were heard in the call than pushes of it.
+-- at the timestamp at which it reads; more conflicts with the holder were heard in the call than pushes of it; and no heartbeat is due.
 pub record IsConflictNow (k : Known) (number : ℕ) (conflict : Reply) (reader : Option ℕ) : Type 0 where
   pub s : Statement
   pub opened : k.statement ≡ Some s
   pub t : Txn
   pub open_is : open_txn k ≡ Some t
   pub undecided : (t : Txn) (ts : ℕ) → IsCommitKnown k t ts → ⊥
+  pub beaten : HasBeaten k t
   pub holder : TxnMeta
   pub ts : ℕ
   pub key : List ℕ

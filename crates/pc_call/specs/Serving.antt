@@ -1,5 +1,5 @@
 -- How the messages of an open call stand beside what their session knows: what they are sent for.
-use Rattle.std.specs.Prelude.{◌≡◌, ℕ, ◌+◌, ◌<◌, ◌≤◌, Bool, true, false, ◌⊎◌, if◌then◌else◌, Option, None, Some, List, [], ◌∷◌, ◌++◌, map, All, Any, IfSome, IsTrue, ⊤}
+use Rattle.std.specs.Prelude.{◌≡◌, ◌≢◌, ℕ, ◌+◌, ◌<◌, ◌≤◌, Bool, true, false, ◌⊎◌, if◌then◌else◌, Option, None, Some, List, [], ◌∷◌, ◌++◌, map, All, Any, IfSome, IsTrue, ⊤}
 use Rattle.std.specs.List.{flat_map, list_any}
 use Rattle.std.specs.Option.{option_to_list}
 use Rattle.pc_base.specs.declared.limits.TheConstants.{MOST_CONFLICTS, MOST_REFUSALS}
@@ -8,6 +8,8 @@ use Rattle.pc_call.specs.Beside.{AreAskedOrDone}
 use Rattle.pc_call.specs.declared.purpose.Purpose.{Purpose}
 use Rattle.pc_call.specs.declared.purpose.Purpose.TheVariants as purposes
 use Rattle.pc_call.specs.Paced.{IsPaced}
+use Rattle.pc_call.specs.Suiting.{SuitsFlight}
+use Rattle.pc_follows.specs.Heartbeats.{HasBeaten, IsBeatDue, is_heartbeat}
 use Rattle.pc_proto.specs.declared.call.Call.{Call}
 use Rattle.pc_proto.specs.declared.call.Call.TheVariants as calls
 use Rattle.pc_proto.specs.declared.request.Request.{Request}
@@ -22,6 +24,7 @@ use Rattle.pc_reads.specs.Replies.{unrefreshed_by, unrefreshed_in}
 use Rattle.pc_refusals.specs.Moves.{CountsMoves}
 use Rattle.pc_txn.specs.declared.txn.OpenTxn.{OpenTxn}
 use Rattle.pc_txn.specs.Opened.{last_put, next_put, own_abort, own_commit, own_get, own_scan}
+use Rattle.pc_txn.specs.Silence.{own_beat}
 use Rattle.pc_txn.specs.Standing.{TxnStands}
 use Rattle.pc_wave.specs.declared.message.Message.{Message}
 use Rattle.pc_wave.specs.declared.message.Progress.{Progress}
@@ -39,7 +42,7 @@ use Rattle.pc_world.specs.SameRequest.{IsSameRequest}
 use Rattle.pc_world.specs.Send.Abort.{own_cause}
 use Rattle.pc_world.specs.StageFate.{SentCommit}
 use Rattle.pc_world.specs.Tell.Data.{IsFirstPut, sent_before}
-use Rattle.pc_world.specs.Tell.Refusal.{IsConflictOf}
+use Rattle.pc_world.specs.Tell.Refusal.{IsConflictOf, MayBlock}
 
 -- The requests are those that the call asks for: a get of its key, or a scan of each part of its span.
 abbrev pub AreReadsOf : List (List ℕ) → OpenTxn → Call → List Request → Type 0
@@ -195,8 +198,25 @@ pub record ServesAbort (why : Why) (k : Known) (s : Statement) (t : Txn) (x : Op
   pub cause : why ≡ own_cause t.restart
   pub low : All (λ ts. ts ≤ k.top + 1) (why_stamps why)
 
+-- A heartbeat, at the reading at which its call was asked; nothing was heard in the call yet, which suits the transaction.
+pub record ServesBeat (call : Call) (reading : ℕ) (k : Known) (s : Statement) (t : Txn) (x : OpenTxn) (messages : List Message) : Type 0 where
+  pub asked : s ≡ record { call = call; reading = reading }
+  pub asks : MayBlock call
+  pub suits : SuitsFlight call x.in_flight
+  pub anchor : List ℕ
+  pub anchored : t.anchor ≡ Some anchor
+  pub m : Message
+  pub one : messages ≡ m ∷ []
+  pub said : m.request ≡ own_beat x reading anchor
+  pub due : is_to_send m ≡ true → IsBeatDue k t
+  pub sent : All (λ s. s.request ≡ own_beat x reading anchor) k.sent_now
+  pub some : is_to_send m ≡ false → k.sent_now ≢ []
+  pub unheard : k.heard_now ≡ []
+  pub low : All (λ ts. ts ≤ k.top + 1) (why_stamps (own_cause t.restart))
+
 -- The messages serve this purpose.
 abbrev pub Serves : List (List ℕ) → Known → Statement → Txn → OpenTxn → Purpose → List Message → Type 0
+Serves splits k s t x (purposes.Beat call reading) messages = ServesBeat call reading k s t x messages
 Serves splits k s t x purposes.Read messages = ServesRead splits k s x messages
 Serves splits k s t x (purposes.Write again) messages = ServesWrite again k s t x messages
 Serves splits k s t x (purposes.Refresh refusals) messages = ServesRefresh refusals k s t x messages
@@ -240,9 +260,14 @@ pub record IsOpenIn (k : Known) (t : Txn) : Type 0 where
   pub is_open : k.is_open ≡ true
   pub first : k.txns ≡ t ∷ others
 
+-- Unless a heartbeat is the purpose, none is due in the call, and each that went out found the transaction alive.
+abbrev pub HasBeatenBy : Purpose → Known → Txn → Type 0
+HasBeatenBy (purposes.Beat call reading) k t = ⊤
+HasBeatenBy _ k t = HasBeaten k t
+
 -- The messages of an open call stand beside what its session knows: the open transaction stands; each message is as far as it is; the rounds
--- keep pace; no other request went past its eighth conflict, and each was sent once more than it met intents; and the messages are those that
--- serve their purpose.
+-- keep pace; no other request went past its eighth conflict, and each was sent once more than it met intents; heartbeats went out where they were
+-- due; and the messages are those that serve their purpose.
 pub record InCall (splits : List (List ℕ)) (k : Known) (x : OpenTxn) (purpose : Purpose) (messages : List Message) : Type 0 where
   pub t : Txn
   pub open_in : IsOpenIn k t
@@ -255,4 +280,5 @@ pub record InCall (splits : List (List ℕ)) (k : Known) (x : OpenTxn) (purpose 
   pub paced : IsPaced (holders_met messages) k.heard_now
   pub fewer : NoOtherMetEighth k.heard_now messages
   pub done : AreAskedOrDone k (map (λ m. m.request) messages)
+  pub beaten : HasBeatenBy purpose k t
   pub serves : Serves splits k s t x purpose messages

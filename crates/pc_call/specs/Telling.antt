@@ -12,6 +12,7 @@ use Rattle.pc_txn.specs.declared.txn.OpenTxn.{OpenTxn}
 use Rattle.pc_txn.specs.Standing.{TxnStands}
 use Rattle.pc_follows.specs.Eighth.{TellsTheEighth}
 use Rattle.pc_follows.specs.FinishingJobs.{left_by}
+use Rattle.pc_follows.specs.Heartbeats.{KeepsHeartbeats}
 use Rattle.pc_follows.specs.Rollbacks.{AbortsFirst, TellsRollbacks}
 use Rattle.pc_follows.specs.PipelinedPuts.{TellsWritten}
 use Rattle.pc_follows.specs.Refreshes.{RefreshesReads}
@@ -27,7 +28,8 @@ TellsAfterEighth k s (answers.Unavailable faults) = ⊤
 TellsAfterEighth k s answer = TellsTheEighth k s answer
 
 -- The open call may be told this: its row allows it; a call that is told written heard so of its own put, a rollback of a transaction that wrote
--- heard its abort, and no rollback is told aborted, a restart is for the first refresh that did not hold, and after an eighth the call is told of it.
+-- heard its abort, and no rollback is told aborted, a restart is for the first refresh that did not hold, after an eighth the call is told of it, and
+-- where a heartbeat was due it was heard, and an abort that it found is told.
 pub record MayBeTold (splits : List (List ℕ)) (session : ℕ) (k : Known) (answer : Answer) : Type 0 where
   pub may : MayTell splits (actors.Session session) k answer
   pub written : TellsWritten false k (events.Tell answer)
@@ -35,6 +37,7 @@ pub record MayBeTold (splits : List (List ℕ)) (session : ℕ) (k : Known) (ans
   pub rolled_back : TellsRollbacks k (events.Tell answer)
   pub restarts : RefreshesReads k (events.Tell answer)
   pub eighth : (s : Statement) → k.statement ≡ Some s → TellsAfterEighth k s answer
+  pub beats : KeepsHeartbeats k (events.Tell answer)
 
 -- Between calls the open transaction stands; a rollback that is asked next aborts it for its cause.
 pub record StandsOpen (k : Known) (x : OpenTxn) : Type 0 where

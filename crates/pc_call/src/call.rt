@@ -123,6 +123,10 @@ impl OpenCall {
         ensures { OnOk result (txn.new ≡ after_send self.now.purpose self.now.wave txn.old) }
     {
         match &self.purpose {
+            Purpose::Beat { reading, .. } => {
+                txn.show(*reading);
+                Ok(())
+            }
             Purpose::Write { .. } => lay_first(self.wave.messages(), txn),
             Purpose::Commit { .. } => {
                 txn.read_on();

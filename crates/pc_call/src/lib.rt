@@ -2,6 +2,7 @@
 #![tactic(auto)]
 
 mod aborts;
+mod alive;
 mod blocks;
 mod call;
 mod commits;

@@ -25,6 +25,7 @@ use std::alloc::Global;
 impl OpenCall {
     /// The open transaction reads a key.
     pub fn get(alloc: Global, txn: &OpenTxn, key: &Key) -> Result<OpenCall, NoMemory>
+        ensures unsent { IfOk result (λ call. All (λ m. is_to_send m ≡ true) call.wave) }
         ensures stands { (splits : List (List ℕ)) (k : Known) (s : Statement) (why : Why) → IsFresh k txn.now s why → s.call ≡ calls.Get key.now → txn.now.in_flight ≡ None → IfOk result (λ call. InCall splits k txn.now call.purpose call.wave) }
     {
         let wave = wave_of(alloc, txn.get(key)?)?;
@@ -41,6 +42,7 @@ impl OpenCall {
         txn: &OpenTxn,
         span: &Span,
     ) -> Result<OpenCall, NoMemory>
+        ensures unsent { IfOk result (λ call. All (λ m. is_to_send m ≡ true) call.wave) }
         ensures stands { (k : Known) (s : Statement) (why : Why) → AreRising splits.now → IsFresh k txn.now s why → s.call ≡ calls.Scan span.now → txn.now.in_flight ≡ None → IfOk result (λ call. InCall splits.now k txn.now call.purpose call.wave) }
     {
         let wave = scan_wave(alloc, splits, txn, span)?;
@@ -75,6 +77,7 @@ impl OpenCall {
         key: &Key,
         value: &Option<Value>,
     ) -> Result<OpenCall, NoMemory>
+        ensures unsent { IfOk result (λ call. All (λ m. is_to_send m ≡ true) call.wave) }
         ensures stands { (splits : List (List ℕ)) (k : Known) (s : Statement) (why : Why) → IsFresh k txn.now s why → s.call ≡ write_call key.now value.now → txn.now.in_flight ≡ Some (record { key = key.now; value = value.now }) → txn.now.anchor ≡ Some anchor.now → IfOk result (λ call. InCall splits k txn.now call.purpose call.wave) }
     {
         let wave = wave_of(alloc, txn.last_put(anchor, key, value)?)?;
@@ -116,6 +119,7 @@ impl OpenCall {
 
     /// The open transaction, which wrote, is rolled back for this cause.
     pub fn abort(alloc: Global, txn: &OpenTxn, anchor: &Key, why: Why) -> Result<OpenCall, NoMemory>
+        ensures unsent { IfOk result (λ call. All (λ m. is_to_send m ≡ true) call.wave) }
         ensures stands { (splits : List (List ℕ)) (k : Known) (s : Statement) → IsFresh k txn.now s why → s.call ≡ calls.Rollback → txn.now.anchor ≡ Some anchor.now → IfOk result (λ call. InCall splits k txn.now call.purpose call.wave) }
     {
         let wave = wave_of(alloc, txn.abort(anchor, &why)?)?;
@@ -126,7 +130,7 @@ impl OpenCall {
     }
 }
 
-fn wave_of(alloc: Global, request: Request) -> Result<Wave, NoMemory>
+pub(crate) fn wave_of(alloc: Global, request: Request) -> Result<Wave, NoMemory>
     ensures { IfOk result (λ wave. wave ≡ message_to_send request ∷ []) }
 {
     let mut wave = Wave::new(alloc);

@@ -1,10 +1,12 @@
-use pc_proto::Why;
+use pc_proto::{Call, Why};
 use pc_refusals::Refusals;
 
 /// What an open call sends its messages for.
 #[derive(Drop)]
 pub enum Purpose {
-    /// The open transaction reads.
+    /// The open transaction shows that it is alive, at the reading at which this call was asked; the call goes on after that.
+    Beat { call: Call, reading: u64 },
+    /// It reads.
     Read,
     /// It writes. A write of an earlier call that is still in flight goes out again first, and is followed by the call's own.
     Write { again: bool },

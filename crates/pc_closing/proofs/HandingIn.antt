@@ -1,4 +1,4 @@
--- Sessions are handed in one after another, and then the history is closed.
+-- Sessions and recoverers are handed in one after another, and then the history is closed.
 use Rattle.std.proofs.Common.{◌≡◌, ℕ, zero, suc, ◌+◌, ◌<◌, ◌≤◌, ◌⊎◌, inl, inr, true, All, Contains, List, [], ◌∷◌, ◌++◌, length, map, slice_get, Result, Some, IfOk, refl, sym, ap, subst, ◌∙◌, arith}
 use Rattle.std.proofs.lemmas.Bool.{false≢true}
 use Rattle.std.proofs.lemmas.List.{append-nil, append_assoc, length-map, map-append}
@@ -7,13 +7,12 @@ use Rattle.std.proofs.lemmas.Option.{slice_get_within}
 use Rattle.std.proofs.lemmas.Result.{IfOk-weaker}
 use Rattle.std.specs.Global.{Vec}
 use Rattle.pc_base.specs.declared.actor.ActorId.{ActorId}
-use Rattle.pc_base.specs.declared.actor.ActorId.TheVariants as actors
 use Rattle.pc_base.specs.declared.entry.Entry.{Entry}
-use Rattle.pc_closing.proofs.Seating.{one_more, range_no_client}
+use Rattle.pc_closing.proofs.Seating.{range_no_client}
 use Rattle.pc_closing.proofs.Serving.{kept_in}
 use Rattle.pc_closing.specs.Closing.{IsClosedOver, IsKeptIn, lists_of}
 use Rattle.pc_closing.specs.Leaving.{AreLeavers, HasSettledAll, IsLeaver, Leaver}
-use Rattle.pc_closing.specs.Opening.{opener_of, seats_of, session_ids}
+use Rattle.pc_closing.specs.Opening.{client_ids, opener_of, seats_up_to}
 use Rattle.pc_history.specs.Closed.{AllHandedIn, IsClosedPart, IsHistoryOf, ids_of}
 use Rattle.pc_history.specs.declared.view.Part.{Part}
 use Rattle.pc_history.specs.History.{IsFine, IsFineAfter}
@@ -24,8 +23,9 @@ use Rattle.pc_proto.specs.declared.event.Event.{Event}
 use Rattle.pc_range.specs.Protocol.{unstaged_protocol}
 use Rattle.pc_range.specs.Seats.{HandsIn, range_ids}
 use Rattle.pc_range.specs.Unstaged.{unstaged_run}
+use Rattle.pc_turns.proofs.Shares.{client_once}
 use Rattle.pc_turns.specs.Clients.{is_client}
-use Rattle.pc_turns.specs.Shares.{AreHandedIn, IsPartAt}
+use Rattle.pc_turns.specs.Shares.{AreHandedIn, IsPartAt, client_at}
 use Rattle.pc_world.specs.Local.{Head}
 use Rattle.pc_world.specs.Run.{IsRun, protocol}
 use Rattle.pc_world.specs.Unstaged.{IsNoStage, NothingIsStaged, OnSent}
@@ -38,14 +38,14 @@ sent-after head before (e ∷ es) fine = All-cons (λ (x : Entry Event). OnSent 
 unstaged-sent : (head : Head) (history : List (Entry Event)) → IsFine (unstaged_protocol head) history → NothingIsStaged history
 unstaged-sent head history fine = sent-after head [] history fine
 
--- The part is what one of these sessions stored, once what it left was evaluated.
+-- The part is what one of these stored, once what it left was evaluated.
 pub record IsHandedBy (limit : ℕ) (leavers : List Leaver) (part : Part Event) : Type 0 where
   pub index : ℕ
   pub leaver : Leaver
   pub at : slice_get leavers index ≡ Some leaver
   pub left : HasSettledAll limit leaver.0.part part
 
--- So far all of these sessions were handed in but those that are left.
+-- So far all of these were handed in but those that are left.
 pub record AreHandedBut (limit : ℕ) (all left : List Leaver) (before now : OpenerMeaning Head Event) : Type 0 where
   pub done : List Leaver
   pub whole : all ≡ done ++ left
@@ -68,7 +68,7 @@ module _ (limit : ℕ) (head : Head) (all : List Leaver) (l : Leaver) (left : Li
       ∙ get_append (so_far.done ++ l ∷ []) left (length so_far.done) l (get_push so_far.done l)
 
   -- the next one may leave
-  pub next_leaver : IsLeaver limit head (length so_far.done + 1) l
+  pub next_leaver : IsLeaver limit head (length so_far.done) l
   next_leaver = leavers.each (length so_far.done) l at-next
 
   -- and is handed in
@@ -111,17 +111,17 @@ module _ (limit : ℕ) (head : Head) (all : List Leaver) (now after : OpenerMean
   pub world_is : after.world ≡ head
   world_is = ap (λ (o : OpenerMeaning Head Event). o.world) ranges.handed ∙ ap (λ (o : OpenerMeaning Head Event). o.world) so_far.rest
 
-  seated-are : after.seated ≡ seats_of head
+  seated-are : after.seated ≡ seats_up_to head (head.sessions + head.recoverers)
   seated-are = ap (λ (o : OpenerMeaning Head Event). o.seated) ranges.handed ∙ ap (λ (o : OpenerMeaning Head Event). o.seated) so_far.rest
 
   all-done : all ≡ so_far.done
   all-done = so_far.whole ∙ append-nil so_far.done
 
-  -- each session has a part
-  has-part : (index : ℕ) → index < length all → Contains (ids_of now.parts) (actors.Session (index + 1))
+  -- each client has a part
+  has-part : (index : ℕ) → index < length all → Contains (ids_of now.parts) (client_at head index)
   has-part index within =
       let at = get_there all index within in
-      let whose : at.0.0.part.id ≡ actors.Session (index + 1) = (leavers.each index at.0 at.1).whose in
+      let whose : at.0.0.part.id ≡ client_at head index = (leavers.each index at.0 at.1).whose in
       subst (Contains (ids_of now.parts)) whose (All-contains (λ (l : Leaver). Contains (ids_of now.parts) l.0.part.id) so_far.done at.0 so_far.there (subst (λ ls. Contains ls at.0) all-done (get_contains all index at.0 at.1)))
     where
       get_there : (ls : List Leaver) (i : ℕ) → i < length ls → (l : Leaver) × (slice_get ls i ≡ Some l)
@@ -129,24 +129,25 @@ module _ (limit : ℕ) (head : Head) (all : List Leaver) (now after : OpenerMean
       get_there (l ∷ ls) zero h = (l, refl)
       get_there (l ∷ ls) (suc i) h = get_there ls i (omega arith)
 
-  has-session : (n : ℕ) → n ≤ length all → (id : ActorId) → Contains (session_ids n) id → Contains (ids_of now.parts) id
-  has-session zero few id c = absurd (contains_nil id c)
-  has-session (suc n) few id c = elim (Contains-push_cases (session_ids n) (actors.Session (suc n)) id c) [
-    | inl earlier ↦ has-session n (omega arith) id earlier
-    | inr here ↦ subst (Contains (ids_of now.parts)) (ap actors.Session (one_more n) ∙ here) (has-part n (omega arith))
+  has-client : (n : ℕ) → n ≤ length all → (id : ActorId) → Contains (client_ids head n) id → Contains (ids_of now.parts) id
+  has-client zero few id c = absurd (contains_nil id c)
+  has-client (suc n) few id c = elim (Contains-push_cases (client_ids head n) (client_at head n) id c) [
+    | inl earlier ↦ has-client n (omega arith) id earlier
+    | inr here ↦ subst (Contains (ids_of now.parts)) here (has-part n (omega arith))
   ]
 
   pub handed_all : AllHandedIn after.seated after.parts
-  handed_all = subst (λ ids. All (Contains (ids_of after.parts)) ids) (sym seated-are) (all_from_contains (Contains (ids_of after.parts)) (seats_of head) (λ id c. subst (λ is. Contains is id) (sym ids-are) (by id (Contains-append_cases (range_ids (length head.splits + 1)) (session_ids head.sessions) id c))))
+  handed_all = subst (λ ids. All (Contains (ids_of after.parts)) ids) (sym seated-are) (all_from_contains (Contains (ids_of after.parts)) (seats_up_to head (head.sessions + head.recoverers))
+      (λ id c. subst (λ is. Contains is id) (sym ids-are) (by id (Contains-append_cases (range_ids (length head.splits + 1)) (client_ids head (head.sessions + head.recoverers)) id c))))
     where
-      by : (id : ActorId) → Contains (range_ids (length head.splits + 1)) id ⊎ Contains (session_ids head.sessions) id → Contains (ids_of now.parts ++ range_ids (length head.splits + 1)) id
+      by : (id : ActorId) → Contains (range_ids (length head.splits + 1)) id ⊎ Contains (client_ids head (head.sessions + head.recoverers)) id → Contains (ids_of now.parts ++ range_ids (length head.splits + 1)) id
       by id (inl range) = Contains-append_right (ids_of now.parts) (range_ids (length head.splits + 1)) id range
-      by id (inr session) = Contains-append_left (ids_of now.parts) (range_ids (length head.splits + 1)) id (has-session head.sessions (let c = leavers.count in omega arith) id session)
+      by id (inr client) = Contains-append_left (ids_of now.parts) (range_ids (length head.splits + 1)) id (has-client (head.sessions + head.recoverers) (let c = leavers.count in omega arith) id client)
 
-  -- a part of a client is one of the sessions'
+  -- a part of a client is one of theirs
   part-by : (part : Part Event) → Contains after.parts part → is_client part.id ≡ true → IsHandedBy limit all part
   part-by part c client = elim (Contains-append_cases now.parts ranges.more part (subst (λ ps. Contains ps part) parts-are c)) [
-    | inl session ↦ All-contains (IsHandedBy limit all) now.parts part so_far.theirs session
+    | inl client ↦ All-contains (IsHandedBy limit all) now.parts part so_far.theirs client
     | inr range ↦ absurd (false≢true (sym (range_no_client (length head.splits + 1) part.id (subst (λ is. Contains is part.id) ranges.whose (contains_map (λ (p : Part Event). p.id) ranges.more part range))) ∙ client))
   ]
 
@@ -155,20 +156,17 @@ module _ (limit : ℕ) (head : Head) (all : List Leaver) (now after : OpenerMean
   list-at zero l (x ∷ ls) at = let same : x ≡ l = cc in ap (λ (y : Leaver). Some y.0.part.own) same
   list-at (suc index) l (x ∷ ls) at = list-at index l ls at
 
-  handed-in : AreHandedIn (lists_of all) after.parts
+  handed-in : AreHandedIn head (lists_of all) after.parts
   handed-in = record {
-    theirs = all_from_contains (λ (part : Part Event). is_client part.id ≡ true → IsPartAt (lists_of all) part) after.parts (λ part c client.
+    theirs = all_from_contains (λ (part : Part Event). is_client part.id ≡ true → IsPartAt head (lists_of all) part) after.parts (λ part c client.
         let by = part-by part c client in record {
           index = by.index;
           whose = by.left.id ∙ (leavers.each by.index by.leaver by.at).whose;
           stored = list-at by.index by.leaver all by.at ∙ ap Some (sym by.left.own);
         });
-    all = λ index within. subst (λ is. Contains is (actors.Session (index + 1))) (sym ids-are)
-        (Contains-append_left (ids_of now.parts) (range_ids (length head.splits + 1)) (actors.Session (index + 1)) (has-part index (subst (λ n. index < n) (length-map all (λ (l : Leaver). l.0.part.own)) within)));
+    all = λ index within. subst (λ is. Contains is (client_at head index)) (sym ids-are)
+        (Contains-append_left (ids_of now.parts) (range_ids (length head.splits + 1)) (client_at head index) (has-part index (subst (λ n. index < n) (length-map all (λ (l : Leaver). l.0.part.own)) within)));
   }
-
-  same-number : (i j : ℕ) → actors.Session (i + 1) ≡ actors.Session (j + 1) → i ≡ j
-  same-number i j e = let s : i + 1 ≡ j + 1 = cc in omega arith
 
   module _ (history : List (Entry Event)) (closed : IsHistoryOf (unstaged_protocol head) history after.parts) where
     run : IsRun head history
@@ -177,16 +175,16 @@ module _ (limit : ℕ) (head : Head) (all : List Leaver) (now after : OpenerMean
     part-closed : (part : Part Event) → IsClosedPart (unstaged_protocol head) history part → IsClosedPart (protocol head) history part
     part-closed part c = record { list = c.list; stand = c.stand; uses = c.uses }
 
-    kept-each : (index : ℕ) (l : Leaver) → slice_get all index ≡ Some l → IsKeptIn limit head history (index + 1) l.0.part
+    kept-each : (index : ℕ) (l : Leaver) → slice_get all index ≡ Some l → IsKeptIn limit head history (client_at head index) l.0.part
     kept-each index l at =
         let within : index < length all = slice_get_within all index l at in
-        let found = contains_in_map (λ (p : Part Event). p.id) now.parts (actors.Session (index + 1)) (has-part index within) in
+        let found = contains_in_map (λ (p : Part Event). p.id) now.parts (client_at head index) (has-part index within) in
         let part = found.0 in
         let by : IsHandedBy limit all part = All-contains (IsHandedBy limit all) now.parts part so_far.theirs found.1 in
-        let number : by.index ≡ index = same-number by.index index (sym (by.left.id ∙ (leavers.each by.index by.leaver by.at).whose) ∙ found.2) in
+        let number : by.index ≡ index = client_once head by.index index (sym (by.left.id ∙ (leavers.each by.index by.leaver by.at).whose) ∙ found.2) in
         let same : by.leaver ≡ l = (let e : Some by.leaver ≡ Some l = sym by.at ∙ (ap (slice_get all) number ∙ at) in cc) in
         let there : Contains after.parts part = subst (λ ps. Contains ps part) (sym parts-are) (Contains-append_left now.parts ranges.more part found.1) in
-        kept_in limit head history (index + 1) l.0.part part run
+        kept_in limit head history (client_at head index) l.0.part part run
         (part-closed part (All-contains (IsClosedPart (unstaged_protocol head) history) after.parts part closed.parts_are there)) (subst (λ (x : Leaver). HasSettledAll limit x.0.part part) same by.left) found.2
 
     pub closed_over : IsClosedOver limit head all history

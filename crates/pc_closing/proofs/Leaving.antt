@@ -4,7 +4,7 @@ use Rattle.std.proofs.lemmas.List.Elements.{All-contains, All-nil, All-weaker, C
 use Rattle.pc_base.specs.declared.actor.ActorId.{ActorId}
 use Rattle.pc_closing.specs.Leaving.{HasSettledAll, IsSettled, KnowsHeldUp, MayLeave, WaitsOrIsSettled}
 use Rattle.pc_desk.specs.Desk.{DeskMeaning, GivesOnce, IsReadyToGo, KnowsFull, Posted, WaitingMessage, as_sent}
-use Rattle.pc_desk.specs.Ending.{IsAtFullRange, IsAtOwnEnd, IsNotLost, KnowsEvaluation, WaitsStill, WaitsUnheard}
+use Rattle.pc_desk.specs.Ending.{IsAtFullRange, IsAtOwnEnd, IsAtStop, IsNotLost, KnowsEvaluation, WaitsStill, WaitsUnheard}
 use Rattle.pc_desk.specs.Rest.{HasOnlyLearnt, IsEvaluatedIn}
 use Rattle.pc_history.specs.declared.view.Known.{Known as KnownEntry}
 use Rattle.pc_history.specs.declared.view.Part.{Part}
@@ -42,6 +42,14 @@ module _ {C : Type 0} (d : DeskMeaning C) (rest : List WaitingMessage) (posted :
   -- its own list is full
   pub own_end_may_leave : IsAtOwnEnd d → MayLeave d.range_limit d.log.part rest
   own_end_may_leave end = record {
+    given = given;
+    waits = waits-posted end.waits;
+    messages = All-weaker (IsNotLost d) (WaitsOrIsSettled d.range_limit d.log.part rest) not-lost (known_of d.log.part.own).sent end.each;
+  }
+
+  -- its list is at its stop
+  pub stop_may_leave : IsAtStop d → MayLeave d.range_limit d.log.part rest
+  stop_may_leave end = record {
     given = given;
     waits = waits-posted end.waits;
     messages = All-weaker (IsNotLost d) (WaitsOrIsSettled d.range_limit d.log.part rest) not-lost (known_of d.log.part.own).sent end.each;

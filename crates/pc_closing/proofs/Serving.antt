@@ -98,7 +98,7 @@ module _ (limit : ℕ) (head : Head) (history : List (Entry Event)) (run : IsRun
         let p = contains-own (protocol head) history w.send w.listed in
         let mine : Contains part.own p.0 = subst (λ ps. Contains ps p.0) (ap (λ id. own (protocol head) id history) w.whose ∙ closed.list) p.1 in
         let at = contains_get part.own p.0 mine in
-        let uses : spenders (protocol head) p.0.entry.step history ≤ slice_index part.given at.0 = closed.uses at.0 p.0 at.1 in
+        let uses : spenders (protocol head) p.0.entry.step history ≤ slice_index part.given at.0 = (let with_own = closed.uses at.0 p.0 at.1 in omega arith) in
         let few : slice_index part.given at.0 ≤ 1 = index-once part.given at.0 given.once in
         let spent : spenders (protocol head) w.send.step history ≤ 1 = subst (λ (x : Entry Event). spenders (protocol head) x.step history ≤ 1) p.2 (omega arith) in
         served_is_evaluated_once head history part.id m.number run (record {
@@ -143,10 +143,10 @@ module _ (limit : ℕ) (head : Head) (history : List (Entry Event)) (run : IsRun
     pub served : All (IsSettled limit part) k.sent → AreServed (range_is_full limit head history) part.id history k
     served settled = all_from_contains (IsServedOnce (range_is_full limit head history) part.id history k) k.sent (λ m there. served-once m there (All-contains (IsSettled limit part) k.sent m settled there))
 
--- a session that was handed in is kept in the history
-pub kept_in : (limit : ℕ) (head : Head) (history : List (Entry Event)) (number : ℕ) (old new : Part Event) → IsRun head history → IsClosedPart (protocol head) history new → HasSettledAll limit old new → new.id ≡ actors.Session number
-    → IsKeptIn limit head history number old
-kept_in limit head history number old new run closed left id = record {
+-- an actor that was handed in is kept in the history
+pub kept_in : (limit : ℕ) (head : Head) (history : List (Entry Event)) (actor : ActorId) (old new : Part Event) → IsRun head history → IsClosedPart (protocol head) history new → HasSettledAll limit old new → new.id ≡ actor
+    → IsKeptIn limit head history actor old
+kept_in limit head history actor old new run closed left id = record {
   list = ap (λ i. own (protocol head) i history) (sym id) ∙ (closed.list ∙ left.own);
   served = subst (λ (i : ActorId). AreServed (range_is_full limit head history) i history (known_of old.own)) id
       (subst (λ o. AreServed (range_is_full limit head history) new.id history (known_of o)) left.own (served limit head history run new closed left.given left.settled));

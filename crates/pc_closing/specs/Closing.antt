@@ -1,6 +1,6 @@
--- The one history that sessions leave once they have finished.
-use Rattle.std.specs.Prelude.{◌≡◌, ℕ, ◌+◌, true, Some, List, map, slice_get}
-use Rattle.pc_base.specs.declared.actor.ActorId.TheVariants as actors
+-- The one history that sessions and recoverers leave once they have finished.
+use Rattle.std.specs.Prelude.{◌≡◌, ℕ, true, Some, List, map, slice_get}
+use Rattle.pc_base.specs.declared.actor.ActorId.{ActorId}
 use Rattle.pc_base.specs.declared.entry.Entry.{Entry}
 use Rattle.pc_closing.specs.Full.{range_is_full}
 use Rattle.pc_closing.specs.Leaving.{Leaver}
@@ -11,28 +11,28 @@ use Rattle.pc_history.specs.declared.view.Part.{Part}
 use Rattle.pc_history.specs.Own.{own}
 use Rattle.pc_proto.specs.declared.event.Event.{Event}
 use Rattle.pc_turns.specs.Clients.{IsStoredBy}
-use Rattle.pc_turns.specs.Shares.{AreHandedIn}
+use Rattle.pc_turns.specs.Shares.{AreHandedIn, client_at}
 use Rattle.pc_world.specs.Known.{known_of}
 use Rattle.pc_world.specs.Local.{Head}
 use Rattle.pc_world.specs.Run.{IsRun, protocol}
 use Rattle.pc_world.specs.Unstaged.{NothingIsStaged}
 
--- The own lists of these sessions.
+-- The own lists of these clients.
 abbrev pub lists_of : List Leaver → List (List (Pair Event))
 lists_of leavers = map (λ l. l.0.part.own) leavers
 
--- The session's own list is what the history has of it, each message of it is evaluated once unless it is held up, and the ranges that it
+-- The actor's own list is what the history has of it, each message of it is evaluated once unless it is held up, and the ranges that it
 -- knows to be full are.
-pub record IsKeptIn (limit : ℕ) (head : Head) (history : List (Entry Event)) (number : ℕ) (part : Part Event) : Type 0 where
-  pub list : own (protocol head) (actors.Session number) history ≡ part.own
-  pub served : AreServed (range_is_full limit head history) (actors.Session number) history (known_of part.own)
+pub record IsKeptIn (limit : ℕ) (head : Head) (history : List (Entry Event)) (id : ActorId) (part : Part Event) : Type 0 where
+  pub list : own (protocol head) id history ≡ part.own
+  pub served : AreServed (range_is_full limit head history) id history (known_of part.own)
   pub full : (range : ℕ) → KnowsFull range limit part.known → range_is_full limit head history range ≡ true
 
--- The history is a run, without stages; it is what the ranges and these sessions stored, each of which is kept in it.
+-- The history is a run, without stages; it is what the ranges and these clients stored, each of which is kept in it.
 pub record IsClosedOver (limit : ℕ) (head : Head) (leavers : List Leaver) (history : List (Entry Event)) : Type 0 where
   pub run : IsRun head history
   pub unstaged : NothingIsStaged history
   pub parts : List (Part Event)
   pub stored : IsStoredBy head history parts
-  pub handed : AreHandedIn (lists_of leavers) parts
-  pub each : (index : ℕ) (l : Leaver) → slice_get leavers index ≡ Some l → IsKeptIn limit head history (index + 1) l.0.part
+  pub handed : AreHandedIn head (lists_of leavers) parts
+  pub each : (index : ℕ) (l : Leaver) → slice_get leavers index ≡ Some l → IsKeptIn limit head history (client_at head index) l.0.part

@@ -1,12 +1,12 @@
--- What a session that has finished leaves: its own list, what it knows, and the messages that still wait to be evaluated.
+-- What a session or a recoverer that has finished leaves: its own list, what it knows, and the messages that still wait to be evaluated.
 use Rattle.std.specs.Prelude.{◌≡◌, ℕ, ◌+◌, ◌≤◌, ◌⊎◌, false, Some, List, length, map, slice_get, All, Contains, IsTrue}
-use Rattle.pc_base.specs.declared.actor.ActorId.TheVariants as actors
 use Rattle.pc_desk.specs.Desk.{GivesOnce, IsReadyToGo, KnowsFull, WaitingMessage}
 use Rattle.pc_desk.specs.Ending.{KnowsEvaluation, WaitsStill, WaitsUnheard}
 use Rattle.pc_history.specs.declared.view.Known.{Known as KnownEntry}
 use Rattle.pc_history.specs.declared.view.Part.{Part}
 use Rattle.pc_history.specs.Meanings.{ActorMeaning}
 use Rattle.pc_proto.specs.declared.event.Event.{Event}
+use Rattle.pc_turns.specs.Shares.{client_at}
 use Rattle.pc_world.specs.Known.{known_of}
 use Rattle.pc_world.specs.Known.Traffic.{Sent}
 use Rattle.pc_world.specs.Local.{Head}
@@ -38,16 +38,16 @@ pub record MayLeave (limit : ℕ) (part : Part Event) (rest : List WaitingMessag
   pub waits : All (λ w. WaitsUnheard (known_of part.own) w.posted) rest
   pub messages : All (WaitsOrIsSettled limit part rest) (known_of part.own).sent
 
--- The session of this number has finished, and its messages that wait may go.
-pub record IsLeaver (limit : ℕ) (head : Head) (number : ℕ) (l : Leaver) : Type 0 where
-  pub whose : l.0.part.id ≡ actors.Session number
+-- The client of this index has finished, and its messages that wait may go.
+pub record IsLeaver (limit : ℕ) (head : Head) (index : ℕ) (l : Leaver) : Type 0 where
+  pub whose : l.0.part.id ≡ client_at head index
   pub ready : All (IsReadyToGo l.0.part.id head.splits) l.1
   pub may : MayLeave limit l.0.part l.1
 
--- These are the sessions of the head, in order, and each has finished.
+-- These are the clients of the head, in order, its sessions first, and each has finished.
 pub record AreLeavers (limit : ℕ) (head : Head) (leavers : List Leaver) : Type 0 where
-  pub count : length leavers ≡ head.sessions
-  pub each : (index : ℕ) (l : Leaver) → slice_get leavers index ≡ Some l → IsLeaver limit head (index + 1) l
+  pub count : length leavers ≡ head.sessions + head.recoverers
+  pub each : (index : ℕ) (l : Leaver) → slice_get leavers index ≡ Some l → IsLeaver limit head index l
 
 -- What is left of the actor's messages was evaluated, but for those that are held up; it made no entry, and forgot nothing.
 pub record HasSettledAll (limit : ℕ) (old new : Part Event) : Type 0 where

@@ -1,4 +1,4 @@
--- From sessions that have finished to the one history.
+-- From sessions and recoverers that have finished to the one history.
 pub mod Full
 pub mod Served
 pub mod Leaving

@@ -13,10 +13,10 @@ use pc_proto::Event;
 use pc_range::{CommitWorld, Gate, Ranges, ServeFault};
 use std::sync::Wait;
 
-/// A session that has finished: its actor, and what is still in its outbox.
+/// A session or a recoverer that has finished: its actor, and what is still in its outbox.
 pub type Leaver<N> = (Actor<CommitWorld, N>, Rest<N>);
 
-/// Evaluates what the sessions have left in their outboxes, one session after another, and closes the history.
+/// Evaluates what all have left in their outboxes, one after another, the sessions first, and closes the history.
 pub fn close<N: Named<CommitWorld>, G: Gate, R: Wait>(
     rt: &R,
     opener: Opener<CommitWorld, N>,
@@ -36,7 +36,7 @@ pub fn close<N: Named<CommitWorld>, G: Gate, R: Wait>(
     opener.close()
 }
 
-/// Evaluates what the session has left in its outbox, and hands its actor in.
+/// Evaluates what one has left in its outbox, and hands its actor in.
 fn leave<N: Named<CommitWorld>, G: Gate, R: Wait>(
     rt: &R,
     opener: &mut Opener<CommitWorld, N>,

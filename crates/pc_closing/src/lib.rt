@@ -1,4 +1,4 @@
-//! From the ranges and sessions of one history at its beginning to that history at its end, once all sessions have finished.
+//! From the ranges, sessions and recoverers of one history at its beginning to that history at its end, once all of them have finished.
 #![tactic(auto)]
 
 mod closing;

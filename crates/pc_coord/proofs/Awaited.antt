@@ -106,6 +106,9 @@ module _ (session : ℕ) (splits : List (List ℕ)) (k : Known) (x : OpenTxn) (p
   own_writes key value again m (inr l) = own_put m.request _ x.seq x.write_ts key value l.said refl
 
   all_own : (p : Purpose) → Serves splits k w.s w.t x p ms → All (λ m. IsOwn session k.begun m.request) ms
+  all_own (purposes.Beat call reading) s =
+      own_one s.m s.one (subst (IsOwn session k.begun) (sym s.said)
+      (record { write = tt; record_of = λ id about whose. let e : x.id ≡ id = same_Some x.id id about in omega (arith, low, ap (λ i. i.number) e) }))
   all_own purposes.Read s = all_unmapped (IsOwn session k.begun) (λ m. m.request) ms (own_reads w.s.call _ s.asked)
   all_own (purposes.Write again) s = own_one s.m s.one (own_writes s.key s.value again s.m s.lays)
   all_own (purposes.Refresh n) s =

@@ -10,15 +10,17 @@ use Rattle.pc_call.specs.Finished.{ends_rolled_back}
 use Rattle.pc_call.specs.Reading.{answer_by, answer_read}
 use Rattle.pc_call.specs.Refreshing.{IsRestart}
 use Rattle.pc_coord.proofs.Dues.{answered_all}
-use Rattle.pc_coord.proofs.Onward.{commit_kind, served_commit, served_write}
+use Rattle.pc_coord.proofs.Onward.{beat_kind, commit_kind, served_beat, served_commit, served_write}
 use Rattle.pc_coord.specs.Coming.{AreUnsent, ComesOf, IsBlockOf}
 use Rattle.pc_coord.specs.Coordination.{Coordination, calling, job_left, telling}
 use Rattle.pc_coord.specs.declared.due.Due.{Due}
 use Rattle.pc_coord.specs.declared.due.Due.TheVariants as dues
 use Rattle.pc_coord.specs.declared.job.Job.{Job}
+use Rattle.pc_coord.specs.Events.{ShowsUncommitted}
 use Rattle.pc_coord.specs.Going.{HearsNow}
 use Rattle.pc_proto.specs.declared.answer.Answer.{Answer}
 use Rattle.pc_proto.specs.declared.answer.Answer.TheVariants as answers
+use Rattle.pc_proto.specs.declared.call.Call.{Call}
 use Rattle.pc_proto.specs.declared.meta.TxnMeta.{TxnMeta}
 use Rattle.pc_proto.specs.declared.reply.Reply.{Reply}
 use Rattle.pc_proto.specs.declared.reply.Reply.TheVariants as replies
@@ -157,12 +159,22 @@ plain_commit : (meta : TxnMeta) (ts : ℕ) (reply : Reply) → IsCommitReply met
 plain_commit meta ts (replies.Status view) kind = refl
 plain_commit meta ts reply kind = absurd kind
 
+plain_alive : (reply : Reply) → ShowsUncommitted reply → is_conflict reply ≡ false
+plain_alive (replies.Conflict holder ts key) is = absurd is
+plain_alive reply is = refl
+
 module _ (c : Coordination) (call : OpenCall) (x : OpenTxn) (number : ℕ) (reply : Reply) (k : Known) (h : Heard) (is : HearsNow c call x number reply k h) where
   -- once its write was written, no conflict waits
   pub written_none : (again : Bool) → call.purpose ≡ purposes.Write again → is_conflict reply ≡ false → list_any is_in_conflict (first_changed (awaits_at number) (back_with number reply) call.wave) ≡ false
   written_none again writes plain =
       let s = served_write c.splits k x call.purpose call.wave is.in_call again writes in
       one_back number reply call.wave s.m s.one plain is.waited
+
+  -- nor once its heartbeat was answered
+  pub beaten_none : (kept : Call) (reading : ℕ) → call.purpose ≡ purposes.Beat kept reading → list_any is_in_conflict (first_changed (awaits_at number) (back_with number reply) call.wave) ≡ false
+  beaten_none kept reading beats =
+      let s = served_beat c.splits k x call.purpose call.wave is.in_call kept reading beats in
+      one_back number reply call.wave s.m s.one (plain_alive reply (beat_kind c call x number reply k h is kept reading beats)) is.waited
 
   -- nor once its commit was answered
   pub committed_none : (n : ℕ) → call.purpose ≡ purposes.Commit n → list_any is_in_conflict (first_changed (awaits_at number) (back_with number reply) call.wave) ≡ false

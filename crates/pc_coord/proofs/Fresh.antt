@@ -1,32 +1,39 @@
 -- A call was just asked of the open transaction: nothing was sent in it.
-use Rattle.std.proofs.Common.{◌≡◌, ℕ, ◌+◌, ◌≤◌, Bool, true, false, ◌&&◌, ◌||◌, List, [], ◌∷◌, Option, None, refl, sym, ap, ◌∙◌, subst, arith, All, Any}
+use Rattle.std.proofs.Common.{◌≡◌, ℕ, ◌+◌, ◌≤◌, Bool, true, false, ◌&&◌, ◌||◌, List, [], ◌∷◌, Option, None, Result, Ok, Err, IfOk, refl, sym, ap, ◌∙◌, subst, arith, All, Any}
 use Rattle.std.specs.List.{list_all}
 use Rattle.std.proofs.lemmas.List.{append-nil}
-use Rattle.std.proofs.lemmas.List.Elements.{All-head, All-nil, All-tail, All-weaker}
+use Rattle.std.proofs.lemmas.List.Elements.{All-cons, All-head, All-nil, All-tail, All-weaker}
 use Rattle.pc_call.specs.declared.purpose.Purpose.{Purpose}
 use Rattle.pc_call.specs.declared.purpose.Purpose.TheVariants as purposes
-use Rattle.pc_call.specs.Fresh.{IsFresh}
+use Rattle.pc_call.specs.declared.call.OpenCall.{OpenCall}
+use Rattle.pc_call.specs.Ended.{laying}
+use Rattle.pc_call.specs.Fresh.{IsJustAsked}
 use Rattle.pc_call.specs.Learned.{known_asked}
 use Rattle.pc_call.specs.Serving.{InCall, Serves}
 use Rattle.pc_call.specs.Telling.{StandsOpen}
 use Rattle.pc_coord.specs.Going.{IsForMany, caused}
 use Rattle.pc_proto.specs.declared.call.Call.{Call}
+use Rattle.pc_proto.specs.declared.call.Call.TheVariants as calls
 use Rattle.pc_proto.specs.declared.request.Request.{Request}
 use Rattle.pc_proto.specs.declared.why.Why.{Why}
 use Rattle.pc_proto.specs.declared.why.Why.TheVariants as whys
 use Rattle.pc_proto.specs.Stamps.{why_stamps}
 use Rattle.pc_txn.proofs.Keeping.{stands_on}
 use Rattle.pc_txn.specs.declared.txn.OpenTxn.{OpenTxn}
+use Rattle.pc_txn.specs.Opened.{next_put}
 use Rattle.pc_txn.specs.Standing.{HasMovedOn, LeavesAsIs, TxnStands, is_plain}
 use Rattle.pc_wave.specs.declared.message.Message.{Message}
 use Rattle.pc_wave.specs.declared.message.Progress.{Progress}
 use Rattle.pc_wave.specs.declared.message.Progress.TheVariants as progresses
 use Rattle.pc_wave.specs.declared.step.Step.TheVariants as steps
-use Rattle.pc_wave.specs.Messages.{has_answer, is_to_send, progress_awaits, progress_has_answer, progress_to_send, step_of, wave_awaits}
+use Rattle.pc_wave.specs.Messages.{has_answer, is_to_send, message_to_send, progress_awaits, progress_has_answer, progress_to_send, step_of, wave_awaits}
 use Rattle.pc_wave.specs.Standing.{IsAsFar, IsMessageAt, IsSentUnder, MessageStands}
 use Rattle.pc_coord.proofs.Dues.{answered_all}
 use Rattle.pc_world.specs.Known.{Known}
+use Rattle.pc_world.specs.Known.Statements.{Statement}
 use Rattle.pc_world.specs.Known.Transactions.{Txn}
+use Rattle.pc_world.specs.Local.{is_outside, is_round}
+use Rattle.pc_world.specs.Tell.Refusal.{MayBlock}
 use Rattle.pc_world.specs.StageFate.{SentCommit}
 
 stands_caused : (k : Known) (out : Option SentCommit) (t : Txn) (x : OpenTxn) (why : Why) → TxnStands k out t x → TxnStands k out t (caused why x)
@@ -39,6 +46,7 @@ stands_caused k out t x why st = record {
   below = st.below;
   refused = st.refused;
   views = st.views;
+  shown = st.shown;
   puts = st.puts;
   put_heard = st.put_heard;
   laid = st.laid;
@@ -48,7 +56,7 @@ stands_caused k out t x why st = record {
 }
 
 -- a call is asked of the open transaction
-pub fresh_asked : (call : Call) (reading : ℕ) (k : Known) (x : OpenTxn) → StandsOpen k x → IsFresh (known_asked call reading k) (caused whys.Client x) (record { call = call; reading = reading }) x.cause
+pub fresh_asked : (call : Call) (reading : ℕ) (k : Known) (x : OpenTxn) → StandsOpen k x → IsJustAsked (known_asked call reading k) (caused whys.Client x) (record { call = call; reading = reading }) x.cause
 fresh_asked call reading k x o =
     let k2 = known_asked call reading k in
     let on : HasMovedOn k k2 [] [] = record { sent = sym (append-nil k.sent); heard = sym (append-nil k.heard); begun = omega arith; high = omega arith } in
@@ -118,8 +126,27 @@ pub unsent_many : (splits : List (List ℕ)) (k : Known) (x : OpenTxn) (p : Purp
 unsent_many splits k x p ms w a due = by p w.serves
   where
     by : (p : Purpose) → Serves splits k w.s w.t x p ms → IsForMany p
+    by (purposes.Beat call reading) s = absurd (one_unsent ms s.m s.one a due)
     by purposes.Read s = tt
     by (purposes.Refresh n) s = tt
     by (purposes.Write again) s = absurd (one_unsent ms s.m s.one a due)
     by (purposes.Commit n) s = absurd (one_unsent ms s.m s.one a due)
     by (purposes.Abort why) s = absurd (one_unsent ms s.m s.one a due)
+
+-- a call that is no rollback, and is asked inside a transaction, shows life
+pub may_block : (call : Call) → is_outside call ≡ false → is_round call ≡ false → (call ≡ calls.Rollback → ⊥) → MayBlock call
+may_block (calls.Get key) inside plain other = tt
+may_block (calls.Scan span) inside plain other = tt
+may_block (calls.Put key value) inside plain other = tt
+may_block (calls.Delete key) inside plain other = tt
+may_block calls.Commit inside plain other = tt
+may_block calls.Rollback inside plain other = other refl
+may_block (calls.Begin priority) inside plain other = absurd cc
+may_block (calls.Learn id) inside plain other = absurd cc
+may_block calls.Round inside plain other = absurd cc
+
+-- a call's own write is to be sent
+pub laying_unsent : {E : Type 0} (x : OpenTxn) (key : List ℕ) (value : Option (List ℕ)) (r : Result OpenCall E) → IfOk r (λ call. call ≡ laying x key value) → IfOk r (λ call. All (λ m. is_to_send m ≡ true) call.wave)
+laying_unsent x key value (Ok call) is =
+    subst (λ (call : OpenCall). All (λ m. is_to_send m ≡ true) call.wave) (sym is) (All-cons (λ (m : Message). is_to_send m ≡ true) (message_to_send (next_put x key value)) [] refl (All-nil (λ (m : Message). is_to_send m ≡ true)))
+laying_unsent x key value (Err error) is = is

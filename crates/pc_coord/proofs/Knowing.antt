@@ -35,6 +35,7 @@ use Rattle.pc_follows.specs.FinishingJobs.{left_by}
 use Rattle.pc_world.specs.Known.{Known}
 use Rattle.pc_world.specs.Known.Clock.{high_told}
 use Rattle.pc_world.specs.Known.Statements.{Statement, begun_told}
+use Rattle.pc_world.specs.Tell.Refusal.{MayBlock}
 use Rattle.pc_world.specs.MayTell.{MayTell, is_begin, is_past_range, needs_txn}
 use Rattle.pc_world.specs.Tell.Begin.{MayTellBegun}
 
@@ -64,7 +65,7 @@ none_begun splits actor k answer m none = (refl, refl)
 
 -- what may be told may be due
 pub tellable : {c : Coordination} {k : Known} {answer : Answer} → MayBeTold c.splits c.session k answer → messages_left c.job ≡ left_by answer k → ((s : Statement) → k.statement ≡ Some s → SuitsNext answer s.call c.txn) → IsTellable c k answer
-tellable m left suits = record { may = m.may; written = m.written; aborts = m.aborts; rolled_back = m.rolled_back; restarts = m.restarts; eighth = m.eighth; left = left; suits = suits }
+tellable m left suits = record { may = m.may; written = m.written; aborts = m.aborts; rolled_back = m.rolled_back; restarts = m.restarts; eighth = m.eighth; beats = m.beats; left = left; suits = suits }
 
 pub no_job : (job : Option Job) (k : Known) → job ≡ None → IfSome job (MayFinishJob k)
 no_job job k none = subst (λ j. IfSome j (MayFinishJob k)) (sym none) tt
@@ -118,11 +119,16 @@ write_begin : (key : List ℕ) (value : Option (List ℕ)) → is_begin (write_c
 write_begin key None = refl
 write_begin key (Some value) = refl
 
+blocks_begin : (call : Call) → MayBlock call → is_begin call ≡ false
+blocks_begin (calls.Begin priority) may = absurd may
+blocks_begin call may = refl
+
 -- a call that is served begins nothing
 pub served_begins : (splits : List (List ℕ)) (k : Known) (x : OpenTxn) (p : Purpose) (ms : List Message) → InCall splits k x p ms → BeginsNothing k
 served_begins splits k x p ms w = λ s is. subst (λ s. is_begin s.call ≡ false) (same_Some w.s s (sym w.opened ∙ is)) (by p w.serves)
   where
     by : (p : Purpose) → Serves splits k w.s w.t x p ms → is_begin w.s.call ≡ false
+    by (purposes.Beat call reading) s = ap (λ (s : Statement). is_begin s.call) s.asked ∙ blocks_begin call s.asks
     by purposes.Read s = reads_begin splits x w.s.call _ s.asked
     by (purposes.Write again) s = ap is_begin s.call ∙ write_begin s.key s.value
     by (purposes.Refresh n) s = ap is_begin s.commits.call

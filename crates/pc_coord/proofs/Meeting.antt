@@ -12,7 +12,7 @@ use Rattle.pc_base.specs.Transaction.{same_txn}
 use Rattle.pc_call.specs.Learned.{known_told}
 use Rattle.pc_coord.proofs.Knowing.{no_job, tellable}
 use Rattle.pc_coord.proofs.Learned.{learn-by, told_is}
-use Rattle.pc_coord.proofs.Outside.{none_heard}
+use Rattle.pc_coord.proofs.Outside.{closed_beats, none_heard}
 use Rattle.pc_coord.specs.Coordination.{Coordination}
 use Rattle.pc_coord.specs.declared.job.Job.{Job}
 use Rattle.pc_coord.specs.Knows.{IsHeld, Knows, KnowsAt, Rests, TellsNow, messages_left}
@@ -110,6 +110,7 @@ module _ (c : Coordination) (k : Known) (p : Pair Event) (id : TxnId) (step ts :
                 rolled_back = tt;
                 restarts = tt;
                 eighth = λ s opened. none_heard k2 answers.Learnt is.quiet s opened;
+                beats = closed_beats k2 answers.Learnt is.closed;
               }) now.may.left (λ s opened. subst (λ txn. SuitsNext answers.Learnt s.call txn) (sym closed) tt);
           after =
               subst (λ k. Rests c.session (max c.clock ts) c.begun c.txn c.job k) (sym (told_is answers.Learnt k2))

@@ -1,18 +1,21 @@
 -- An open call goes on after a reply or a round: what its messages may come to, and which replies end it.
-use Rattle.std.proofs.Common.{◌≡◌, ℕ, Bool, true, false, cond, not, ◌&&◌, ◌||◌, ◌==◌, ◌⊎◌, inl, inr, List, [], ◌∷◌, find, Option, Some, refl, sym, ap, ◌∙◌, subst}
+use Rattle.std.proofs.Common.{◌≡◌, ℕ, Bool, true, false, cond, not, ◌&&◌, ◌||◌, ◌==◌, ◌⊎◌, inl, inr, List, [], ◌∷◌, find, Option, None, Some, refl, sym, ap, ◌∙◌, subst}
 use Rattle.std.specs.List.{list_all, list_any}
 use Rattle.std.proofs.lemmas.Bool.{eq-eqb, eqb-true}
 use Rattle.pc_base.specs.declared.transaction.TxnId.{TxnId}
+use Rattle.pc_call.proofs.Facts.{none_staged, open_is}
 use Rattle.pc_call.proofs.Hearing.{one_asked}
 use Rattle.pc_call.specs.declared.call.OpenCall.{OpenCall}
 use Rattle.pc_call.specs.declared.purpose.Purpose.{Purpose}
 use Rattle.pc_call.specs.declared.purpose.Purpose.TheVariants as purposes
 use Rattle.pc_call.specs.Opening.{GoesOn}
-use Rattle.pc_call.specs.Serving.{InCall, LaysLast, LaysNext, Serves, ServesAbort, ServesCommit, ServesWrite}
+use Rattle.pc_call.specs.Serving.{InCall, LaysLast, LaysNext, Serves, ServesAbort, ServesBeat, ServesCommit, ServesWrite, out_of}
 use Rattle.pc_coord.proofs.Dues.{answered_all}
 use Rattle.pc_coord.specs.Coordination.{Coordination}
+use Rattle.pc_coord.specs.Events.{IsAnsweredAlive, ShowsUncommitted}
 use Rattle.pc_coord.specs.Going.{HearsNow, IsForMany}
 use Rattle.pc_coord.specs.Knows.{is_under_way}
+use Rattle.pc_proto.specs.declared.call.Call.{Call}
 use Rattle.pc_proto.specs.declared.meta.TxnMeta.{TxnMeta}
 use Rattle.pc_proto.specs.declared.reply.Reply.{Reply}
 use Rattle.pc_proto.specs.declared.reply.Reply.TheVariants as replies
@@ -20,7 +23,10 @@ use Rattle.pc_proto.specs.declared.request.Request.{Request}
 use Rattle.pc_proto.specs.declared.why.Why.{Why}
 use Rattle.pc_proto.specs.Replies.{is_conflict}
 use Rattle.pc_txn.specs.declared.txn.OpenTxn.{OpenTxn}
+use Rattle.pc_txn.proofs.Rows.{is_uncommitted}
 use Rattle.pc_txn.specs.Opened.{meta_now}
+use Rattle.pc_txn.specs.Silence.{own_beat}
+use Rattle.pc_txn.specs.Standing.{TxnStands}
 use Rattle.pc_wave.proofs.Rounds.{due_round, first_found}
 use Rattle.pc_wave.specs.declared.message.Message.{Message}
 use Rattle.pc_wave.specs.declared.message.Progress.{Progress}
@@ -30,6 +36,7 @@ use Rattle.pc_wave.specs.Messages.{awaits_at, back_with, back_with_by, conflicts
 use Rattle.pc_world.specs.Answering.{IsAbortReply, IsCommitReply, IsPutReply, MayAnswer}
 use Rattle.pc_world.specs.Known.{Known}
 use Rattle.pc_world.specs.Known.Traffic.{Heard}
+use Rattle.pc_world.specs.StageFate.{IsDead}
 
 and_false : (a b : Bool) → b ≡ false → (a && b) ≡ false
 and_false true b e = e
@@ -54,6 +61,7 @@ back_unanswered number reply is m = ap (λ b. has_answer (back_with_by b number 
 
 -- after a reply by which the call goes on, all is answered only where many may answer
 pub many_heard : (p : Purpose) (number : ℕ) (reply : Reply) (ms : List Message) → GoesOn p reply → wave_awaits number ms ≡ true → step_of (first_changed (awaits_at number) (back_with number reply) ms) ≡ steps.Answered → IsForMany p
+many_heard (purposes.Beat call reading) number reply ms on waits due = absurd on
 many_heard purposes.Read number reply ms on waits due = tt
 many_heard (purposes.Refresh n) number reply ms on waits due = tt
 many_heard (purposes.Write again) number reply ms on waits due =
@@ -133,7 +141,13 @@ served_commit splits k x p ms w n e = subst (λ q. Serves splits k w.s w.t x q m
 served_abort : (splits : List (List ℕ)) (k : Known) (x : OpenTxn) (p : Purpose) (ms : List Message) (w : InCall splits k x p ms) (why : Why) → p ≡ purposes.Abort why → ServesAbort why k w.s w.t x ms
 served_abort splits k x p ms w why e = subst (λ q. Serves splits k w.s w.t x q ms) e w.serves
 
+pub served_beat : (splits : List (List ℕ)) (k : Known) (x : OpenTxn) (p : Purpose) (ms : List Message) (w : InCall splits k x p ms) (call : Call) (reading : ℕ) → p ≡ purposes.Beat call reading → ServesBeat call reading k w.s w.t x ms
+served_beat splits k x p ms w call reading e = subst (λ q. Serves splits k w.s w.t x q ms) e w.serves
+
 -- where a call has one message, which is waited for, no other is
+pub beat_waits : (number other : ℕ) (splits : List (List ℕ)) (k : Known) (x : OpenTxn) (p : Purpose) (ms : List Message) → InCall splits k x p ms → (call : Call) (reading : ℕ) → p ≡ purposes.Beat call reading → wave_awaits number ms ≡ true → false ≡ (wave_awaits other ms && not (number == other))
+beat_waits number other splits k x p ms w call reading e waits = let s = served_beat splits k x p ms w call reading e in one_waits number other ms s.m s.one waits
+
 pub write_waits : (number other : ℕ) (splits : List (List ℕ)) (k : Known) (x : OpenTxn) (p : Purpose) (ms : List Message) → InCall splits k x p ms → (again : Bool) → p ≡ purposes.Write again → wave_awaits number ms ≡ true → false ≡ (wave_awaits other ms && not (number == other))
 write_waits number other splits k x p ms w again e waits = let s = served_write splits k x p ms w again e in one_waits number other ms s.m s.one waits
 
@@ -152,6 +166,15 @@ module _ (c : Coordination) (call : OpenCall) (x : OpenTxn) (number : ℕ) (repl
   commit_kind n e =
       let s = served_commit c.splits k x call.purpose call.wave is.in_call n e in
       (meta_now x s.commits.anchor, x.write_ts, subst (λ r. MayAnswer r reply) (asked_one s.m s.one ∙ s.said) is.heard.kind)
+
+  -- that to a heartbeat shows a record that was not committed
+  pub beat_kind : (kept : Call) (reading : ℕ) → call.purpose ≡ purposes.Beat kept reading → ShowsUncommitted reply
+  beat_kind kept reading e =
+      let w = is.in_call in
+      let s = served_beat c.splits k x call.purpose call.wave w kept reading e in
+      let st : TxnStands k None w.t x = subst (λ o. TxnStands k o w.t x) (ap (λ q. out_of q call.wave) e) w.stands in
+      let alive : IsAnsweredAlive k (own_beat x reading s.anchor) reply = subst (λ r. IsAnsweredAlive k r reply) (asked_one s.m s.one ∙ s.said) is.alive in
+      alive w.t (open_is k w.t w.open_in) (ap (λ x. x.id) w.stands.same) (is_uncommitted k w.t x st (none_staged w.t.id (IsDead k.heard) c.session is.before c.begun k is.counted))
 
   -- that to an abort too
   pub abort_kind : (why : Why) → call.purpose ≡ purposes.Abort why → IsAbortReply reply

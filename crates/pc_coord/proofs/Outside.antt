@@ -1,5 +1,5 @@
 -- A call is asked where no transaction is open: it begins one, or is told that there is none.
-use Rattle.std.proofs.Common.{◌≡◌, ℕ, ◌+◌, ◌*◌, ◌/◌, ◌^◌, ◌<◌, ◌≤◌, nat_lt, Bool, true, false, not, cond, ◌&&◌, length, [], Option, Some, None, refl, sym, ap, ◌∙◌, subst, arith}
+use Rattle.std.proofs.Common.{◌≡◌, ℕ, ◌+◌, ◌*◌, ◌/◌, ◌^◌, ◌<◌, ◌≤◌, nat_lt, Bool, true, false, not, cond, ◌&&◌, length, List, [], ◌∷◌, Option, Some, None, refl, sym, ap, ◌∙◌, subst, arith}
 use Rattle.std.specs.Bool.{MatchBool}
 use Rattle.std.specs.Option.{option_map_or}
 use Rattle.std.proofs.lemmas.Bool.{and_parts, le-ltb, lt-ltb, ltb-false, ltb-true}
@@ -31,6 +31,7 @@ use Rattle.pc_proto.specs.declared.request.Request.TheVariants as requests
 use Rattle.pc_proto.specs.declared.why.Why.TheVariants as whys
 use Rattle.pc_proto.specs.Requests.{subject}
 use Rattle.pc_reads.proofs.Goods.{none_read}
+use Rattle.pc_txn.proofs.Shown.{shown-new}
 use Rattle.pc_txn.specs.Counted.{IsCounted, IsOwnHeard, IsOwnSent, IsOwnWrite}
 use Rattle.pc_txn.specs.declared.txn.OpenTxn.{OpenTxn}
 use Rattle.pc_txn.specs.Opened.{opened_as}
@@ -41,7 +42,8 @@ use Rattle.pc_follows.specs.FinishingJobs.{left_by}
 use Rattle.pc_follows.specs.Rollbacks.{AbortsFirst, TellsRollbacks}
 use Rattle.pc_follows.specs.PipelinedPuts.{TellsWritten}
 use Rattle.pc_follows.specs.Refreshes.{RefreshesReads}
-use Rattle.pc_world.specs.Known.{Known}
+use Rattle.pc_follows.specs.Heartbeats.{KeepsHeartbeats}
+use Rattle.pc_world.specs.Known.{Known, first_if}
 use Rattle.pc_world.specs.Known.Clock.{high_told}
 use Rattle.pc_world.specs.Known.Statements.{Statement, begun_told, is_open_told}
 use Rattle.pc_world.specs.Known.Transactions.{Txn, begun}
@@ -62,6 +64,15 @@ match_true b P Q e p = subst (λ b. MatchBool b P Q) (sym e) p
 
 match_false : (b : Bool) (P Q : Type 0) → b ≡ false → Q → MatchBool b P Q
 match_false b P Q e q = subst (λ b. MatchBool b P Q) (sym e) q
+
+none_open : (b : Bool) (txns : List Txn) (t : Txn) → b ≡ false → first_if b txns ≡ Some t → ⊥
+none_open true txns t closed e = cc
+none_open false [] t closed e = cc
+none_open false (u ∷ txns) t closed e = cc
+
+-- where no transaction is open, no heartbeat is due
+pub closed_beats : (k : Known) (answer : Answer) → k.is_open ≡ false → KeepsHeartbeats k (events.Tell answer)
+closed_beats k answer closed s t opened whose = absurd (none_open k.is_open k.txns t closed whose)
 
 -- where nothing was heard in the call, nothing was met or moved eight times
 pub none_heard : (k : Known) (answer : Answer) → k.heard_now ≡ [] → (s : Statement) → k.statement ≡ Some s → TellsTheEighth k s answer
@@ -122,6 +133,7 @@ module _ (c : Coordination) (k : Known) (r : StandsReady c k) (closed : k.is_ope
                 rolled_back = simple.rolled_back k2;
                 restarts = simple.restarts k2;
                 eighth = simple.eighth k2 refl;
+                beats = closed_beats k2 answer closed;
               }) (ap messages_left r.handed ∙ sym (simple.left k2)) (λ s is. subst (λ txn. SuitsNext answer s.call txn) (sym unheld) tt);
           after =
               subst (λ k. Rests c.session c.clock c.begun c.txn c.job k) (sym (told_is answer k2))
@@ -162,7 +174,7 @@ module _ (c : Coordination) (k : Known) (r : StandsReady c k) (closed : k.is_ope
     t = begun id priority reading ts
 
     abbrev x : OpenTxn
-    x = opened_as whys.Client [] None t
+    x = opened_as reading whys.Client [] None t
 
     abbrev answer : Answer
     answer = answers.Begun id ts
@@ -202,6 +214,7 @@ module _ (c : Coordination) (k : Known) (r : StandsReady c k) (closed : k.is_ope
       views =
           All-weaker (IsOwnHeard c.session k.begun (length k.sent)) (IsPendingOf t)
           (λ h own about. let low : id.number ≤ k.begun = own.own.record_of id (about_same id (subject h.request) about) refl in absurd (omega (arith, new))) k.heard r.counted.heard;
+      shown = sym (shown-new c.session (length k.sent) k.begun id refl new reading k.sent r.counted.sent);
       puts = All-weaker (IsOwnSent c.session k.begun (length k.sent)) (λ m. PutsUpTo t 0 m.request) (λ m own. new_put t k.begun m.request new own.own.write) k.sent r.counted.sent;
       put_heard = All-weaker (IsOwnHeard c.session k.begun (length k.sent)) (λ h. PutsUpTo t 0 h.request) (λ h own. new_put t k.begun h.request new own.own.write) k.heard r.counted.heard;
       laid = tt;
@@ -233,6 +246,7 @@ module _ (c : Coordination) (k : Known) (r : StandsReady c k) (closed : k.is_ope
               rolled_back = tt;
               restarts = tt;
               eighth = none_heard k2 answer refl;
+              beats = closed_beats k2 answer closed;
             }) (ap messages_left r.handed) (λ s is. refl);
         after =
             subst (λ k. Rests c.session ts (c.begun + 1) (Some x) c.job k) (sym (told_is answer k2))

@@ -158,6 +158,7 @@ module _ (splits : List (List ℕ)) (k : Known) (x : OpenTxn) (p : Purpose) (ms 
   spans_one = All-weaker (λ span. Any (λ r. r.span ≡ span) w.t.reads) (LiesInOne splits) of_read x.reads.spans w.stands.reads.of_reads
 
   all_one : (p : Purpose) → Serves splits k w.s w.t x p ms → All (λ m. IsForOne splits m.request) ms
+  all_one (purposes.Beat call reading) s = one_of s.m s.one (subst (IsForOne splits) (sym s.said) tt)
   all_one purposes.Read s = all_unmapped (IsForOne splits) (λ m. m.request) ms (reads_one w.s.call _ s.asked)
   all_one (purposes.Write again) s = one_of s.m s.one (writes_one s.key s.value again s.m s.lays)
   all_one (purposes.Refresh n) s =

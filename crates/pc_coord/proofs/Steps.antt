@@ -213,6 +213,7 @@ module _ (c : Coordination) (k : Known) (x : OpenTxn) (call : OpenCall) (knows :
       in_call = in_call;
       waited = waits;
       heard = record { numbered = refl; asked = out.1; told = refl; kind = is.kind out.0 out.1; past = is.past out.0 out.1 };
+      alive = is.alive out.0 out.1;
       ready = record {
         rising = knows.rising;
         ranged = ranged_heard c.splits k knows.ranged h out.1;

@@ -29,7 +29,7 @@ use Rattle.pc_coord.specs.declared.due.Opened.{Opened}
 use Rattle.pc_coord.specs.declared.job.Job.{Job}
 use Rattle.pc_coord.specs.declared.kinds.Decision.TheVariants as decisions
 use Rattle.pc_coord.specs.declared.next.Next.TheVariants as nexts
-use Rattle.pc_coord.specs.Events.{IsAsked}
+use Rattle.pc_coord.specs.Events.{IsAsked, ShowsUncommitted}
 use Rattle.pc_coord.specs.Going.{BeginsNothing, StandsReady}
 use Rattle.pc_coord.specs.Kinds.{begins_at, conflict_due, decision_in, decision_of, status_in, told_outside, written_at}
 use Rattle.pc_coord.specs.Knows.{Knows, KnowsAt, is_under_way}
@@ -117,10 +117,10 @@ asked_outside old mid new k p call reading r left none knows is on =
 
 -- or while one is
 pub asked_inside : (old mid new : Coordination) (k : Known) (p : Pair Event) (call : Call) (reading : ℕ) (x : OpenTxn) (r : Result (Unit {0}) NoMemory) → mid ≡ without_txn old → old.txn ≡ Some x → Knows old k → IsAsked old call reading k p
-    → ((k : Known) (reading : ℕ) → StandsReady mid k → k.statement ≡ None → StandsOpen k x → SuitsFlight call x.in_flight → is_outside call ≡ false → is_round call ≡ false → OnOk r (Knows new (known_asked call reading k))) → OnOk r (Knows new (known_asked call reading k))
+    → ((k : Known) → StandsReady mid k → k.statement ≡ None → StandsOpen k x → SuitsFlight call x.in_flight → is_outside call ≡ false → is_round call ≡ false → OnOk r (Knows new (known_asked call reading k))) → OnOk r (Knows new (known_asked call reading k))
 asked_inside old mid new k p call reading x r left held knows is on =
     let o = standing old k x knows is.none_open held in
-    on k reading (subst (λ n. StandsReady n k) (sym left) (ready old k None knows is.none_open is.handed)) is.none_open o (suiting old x call is.suits held) (inside k x call o is.outside) is.no_round
+    on k (subst (λ n. StandsReady n k) (sym left) (ready old k None knows is.none_open is.handed)) is.none_open o (suiting old x call is.suits held) (inside k x call o is.outside) is.no_round
 
 -- then the session knows that it asked
 pub asked_learnt : (new : Coordination) (k : Known) (p : Pair Event) (old : Coordination) (call : Call) (reading : ℕ) (r : Result (Unit {0}) NoMemory) → IsAsked old call reading k p → OnOk r (Knows new (known_asked call reading k)) → OnOk r (Knows new (learn p k))
@@ -253,6 +253,23 @@ none_view meta ts views.Nothing kind is = kind.0
 pub decided : (meta : TxnMeta) (ts : ℕ) (reply : Reply) → IsCommitReply meta ts reply → decision_of reply ≡ decisions.Nothing → ⊥
 decided meta ts (replies.Status view) kind is = none_view meta ts view kind is
 decided meta ts reply kind is = kind
+
+-- a heartbeat whose record was not committed is told where that stands, or why it was aborted
+pub alive_uncommitted : (reply : Reply) (epoch ts : ℕ) → ShowsUncommitted reply → decision_of reply ≡ decisions.Committed epoch ts → ⊥
+alive_uncommitted (replies.Status (views.Pending at on)) epoch ts is e = cc
+alive_uncommitted (replies.Status (views.Aborted at why locks)) epoch ts is e = cc
+alive_uncommitted (replies.Status views.Nothing) epoch ts is e = is
+alive_uncommitted (replies.Status (views.Staging at on writes)) epoch ts is e = is
+alive_uncommitted (replies.Status (views.Committed at on locks)) epoch ts is e = is
+alive_uncommitted reply epoch ts is e = is
+
+pub alive_decided : (reply : Reply) → ShowsUncommitted reply → decision_of reply ≡ decisions.Nothing → ⊥
+alive_decided (replies.Status (views.Pending at on)) is e = cc
+alive_decided (replies.Status (views.Aborted at why locks)) is e = cc
+alive_decided (replies.Status views.Nothing) is e = is
+alive_decided (replies.Status (views.Staging at on writes)) is e = is
+alive_decided (replies.Status (views.Committed at on locks)) is e = is
+alive_decided reply is e = is
 
 status_is : (reply : Reply) (view : View) → status_in reply ≡ Some view → reply ≡ replies.Status view
 status_is (replies.Status shown) view e = ap replies.Status (same_Some shown view e)

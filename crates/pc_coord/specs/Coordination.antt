@@ -89,7 +89,7 @@ job_left (Some l) = Some (record { meta = l.meta; staged = None; fate = l.fate; 
 abbrev pub beginning : Priority → ℕ → ℕ → Coordination → Coordination
 beginning priority reading ts c =
     let id : TxnId = record { session = c.session; number = c.begun + 1 } in
-    record c { begun = c.begun + 1; txn = Some (opened_as whys.Client [] None (begun id priority reading ts)); due = dues.Tell (answers.Begun id ts) }
+    record c { begun = c.begun + 1; txn = Some (opened_as reading whys.Client [] None (begun id priority reading ts)); due = dues.Tell (answers.Begun id ts) }
 
 -- The open transaction was taken out.
 abbrev pub without_txn : Coordination → Coordination

@@ -1,5 +1,5 @@
 -- The session's next event, as its coordinator is told of it.
-use Rattle.std.specs.Prelude.{◌≡◌, ℕ, true, false, None, Some, Contains}
+use Rattle.std.specs.Prelude.{◌≡◌, ℕ, true, false, None, Some, Contains, ⊤}
 use Rattle.pc_base.specs.declared.actor.ActorId.{ActorId}
 use Rattle.pc_base.specs.declared.entry.Entry.{Entry}
 use Rattle.pc_coord.specs.Coordination.{Coordination, awaits_number, next_of}
@@ -11,13 +11,17 @@ use Rattle.pc_proto.specs.declared.call.Call.{Call}
 use Rattle.pc_proto.specs.declared.event.Event.{Event}
 use Rattle.pc_proto.specs.declared.event.Event.TheVariants as events
 use Rattle.pc_proto.specs.declared.reply.Reply.{Reply}
+use Rattle.pc_proto.specs.declared.reply.Reply.TheVariants as replies
 use Rattle.pc_proto.specs.declared.request.Request.{Request}
+use Rattle.pc_proto.specs.declared.request.Request.TheVariants as requests
+use Rattle.pc_proto.specs.declared.view.View.TheVariants as views
 use Rattle.pc_wave.specs.Standing.{IsPastWhereUndecided}
 use Rattle.pc_world.specs.Answering.{MayAnswer}
-use Rattle.pc_world.specs.Known.{Known, next_number}
+use Rattle.pc_world.specs.Known.{Known, next_number, open_txn}
 use Rattle.pc_world.specs.Known.Traffic.{request_sent}
 use Rattle.pc_world.specs.Known.Transactions.{Txn}
 use Rattle.pc_world.specs.Local.{is_outside, is_round}
+use Rattle.pc_world.specs.StageFate.{IsUncommitted}
 
 -- The entry is this event, and names none.
 pub record IsOf (event : Event) (p : Pair Event) : Type 0 where
@@ -40,8 +44,20 @@ pub record SendsDue (c : Coordination) (number range : ℕ) (request : Request) 
   pub is : IsOf (events.Send number range request) p
   pub next : number ≡ next_number k
 
+-- The record is there, and was not committed.
+abbrev pub ShowsUncommitted : Reply → Type 0
+ShowsUncommitted (replies.Status (views.Pending epoch ts)) = ⊤
+ShowsUncommitted (replies.Status (views.Aborted epoch why locks)) = ⊤
+ShowsUncommitted _ = ⊥
+
+-- If the request is a heartbeat of the open transaction, none of whose stages and commits may have committed it, the record that the reply shows was
+-- not committed.
+abbrev pub IsAnsweredAlive : Known → Request → Reply → Type 0
+IsAnsweredAlive k (requests.Beat meta ts now) reply = (t : Txn) → open_txn k ≡ Some t → meta.id ≡ t.id → IsUncommitted t.id k.sent k.heard → ShowsUncommitted reply
+IsAnsweredAlive k _ reply = ⊤
+
 -- The reply that was waited for was heard: the entry names an evaluation that answered so, as the message may be answered where
--- nothing is staged, and by no record in a later epoch than the session has reached.
+-- nothing is staged, by no record in a later epoch than the session has reached, and to a heartbeat by no commit.
 pub record HearsAwaited (c : Coordination) (number step : ℕ) (reply : Reply) (k : Known) (p : Pair Event) : Type 0 where
   pub waited : awaits_number number c.due ≡ true
   pub event : p.entry.event ≡ events.Hear number step
@@ -52,6 +68,7 @@ pub record HearsAwaited (c : Coordination) (number step : ℕ) (reply : Reply) (
   pub told : evaluation.event ≡ events.Eval actor asked reply
   pub kind : (request : Request) → request_sent number k.sent ≡ Some request → MayAnswer request reply
   pub past : (request : Request) → request_sent number k.sent ≡ Some request → (t : Txn) → Contains k.txns t → IsPastWhereUndecided t request reply
+  pub alive : (request : Request) → request_sent number k.sent ≡ Some request → IsAnsweredAlive k request reply
 
 -- The answer that was due was told.
 pub record IsTold (c : Coordination) (answer : Answer) (p : Pair Event) : Type 0 where

@@ -24,6 +24,7 @@ use Rattle.pc_wave.specs.declared.step.Step.{Step}
 use Rattle.pc_wave.specs.declared.step.Step.TheVariants as steps
 use Rattle.pc_wave.specs.Messages.{step_of}
 use Rattle.pc_follows.specs.FinishingJobs.{finishing_messages, left_by}
+use Rattle.pc_follows.specs.Heartbeats.{KeepsHeartbeats}
 use Rattle.pc_follows.specs.Rollbacks.{AbortsFirst, TellsRollbacks}
 use Rattle.pc_follows.specs.PipelinedPuts.{TellsWritten}
 use Rattle.pc_follows.specs.Refreshes.{RefreshesReads}
@@ -90,6 +91,7 @@ pub record IsTellable (c : Coordination) (k : Known) (answer : Answer) : Type 0 
   pub rolled_back : TellsRollbacks k (events.Tell answer)
   pub restarts : RefreshesReads k (events.Tell answer)
   pub eighth : (s : Statement) → k.statement ≡ Some s → TellsAfterEighth k s answer
+  pub beats : KeepsHeartbeats k (events.Tell answer)
   pub left : messages_left c.job ≡ left_by answer k
   pub suits : (s : Statement) → k.statement ≡ Some s → SuitsNext answer s.call c.txn
 

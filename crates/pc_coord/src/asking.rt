@@ -1,4 +1,4 @@
-ghost use Rattle.std.specs.Prelude.{◌≡◌, ℕ, ◌+◌, ◌<◌, ◌↔◌, false, List, Option, None, Some, IfErr, IfOk, IsErr, OnErr, OnOk};
+ghost use Rattle.std.specs.Prelude.{◌≡◌, ℕ, ◌+◌, ◌<◌, ◌↔◌, true, false, All, List, Option, None, Some, IfErr, IfOk, IsErr, OnErr, OnOk};
 ghost use Rattle.pc_base.specs.Clock.{clock_now};
 ghost use Rattle.pc_base.specs.declared.limits.TheConstants.{GREATEST_READING};
 ghost use Rattle.pc_base.specs.Timestamp.{greatest};
@@ -6,7 +6,7 @@ ghost use Rattle.pc_base.specs.declared.transaction.TxnId.{TxnId};
 ghost use Rattle.pc_proto.specs.declared.answer.Answer.TheVariants as answers;
 ghost use Rattle.pc_call.specs.Fresh.{IsFresh};
 ghost use Rattle.pc_call.specs.Learned.{known_asked};
-ghost use Rattle.pc_call.specs.Serving.{InCall, write_call};
+ghost use Rattle.pc_call.specs.Serving.{InCall};
 ghost use Rattle.pc_call.specs.Suiting.{SuitsFlight};
 ghost use Rattle.pc_call.specs.Telling.{StandsOpen};
 ghost use Rattle.pc_coord.specs.Coordination.{beginning, telling, with_clock};
@@ -16,6 +16,7 @@ ghost use Rattle.pc_coord.specs.Knows.{Knows};
 ghost use Rattle.pc_proto.specs.declared.call.Call.TheVariants as calls;
 ghost use Rattle.pc_proto.specs.declared.why.Why.{Why};
 ghost use Rattle.pc_proto.specs.declared.why.Why.TheVariants as whys;
+ghost use Rattle.pc_wave.specs.Messages.{is_to_send};
 ghost use Rattle.pc_world.specs.Known.{Known};
 ghost use Rattle.pc_world.specs.Known.Statements.{Statement};
 ghost use Rattle.pc_world.specs.Local.{is_outside, is_round};
@@ -23,11 +24,10 @@ ghost use Rattle.pc_world.specs.Local.{is_outside, is_round};
 use crate::coordinator::Coordinator;
 use crate::due::Due;
 use crate::kinds::{begins_at, told_outside};
-use pc_base::{Key, NoMemory, Priority, Span, Timestamp, TryCopy, TxnId, Value};
+use pc_base::{NoMemory, Priority, Timestamp, TxnId};
 use pc_call::OpenCall;
 use pc_hlc::ClockRange;
 use pc_proto::{Answer, Call, Why};
-use pc_refusals::Refusals;
 use pc_txn::OpenTxn;
 use std::alloc::Global;
 use std::mem;
@@ -102,72 +102,21 @@ impl<'a> Coordinator<'a> {
     }
 
     /// A call is asked while this transaction is open.
-    pub(crate) fn ask_inside(&mut self, call: &Call, mut txn: OpenTxn) -> Result<(), NoMemory>
-        ensures knows { (k : Known) (reading : ℕ) → StandsReady self.old k → k.statement ≡ None → StandsOpen k txn → SuitsFlight call.now txn.in_flight → is_outside call.now ≡ false → is_round call.now ≡ false → OnOk result (Knows self.new (known_asked call.now reading k)) }
+    pub(crate) fn ask_inside(
+        &mut self,
+        call: Call,
+        reading: u64,
+        mut txn: OpenTxn,
+    ) -> Result<(), NoMemory>
+        ensures knows { (k : Known) → StandsReady self.old k → k.statement ≡ None → StandsOpen k txn → SuitsFlight call txn.in_flight → is_outside call ≡ false → is_round call ≡ false → OnOk result (Knows self.new (known_asked call reading k)) }
         ensures session { self.new.session ≡ self.old.session }
         ensures splits { self.new.splits ≡ self.old.splits }
     {
         let why = take_cause(&mut txn);
         match call {
-            Call::Get(key) => self.get(txn, key),
-            Call::Scan(span) => self.scan(txn, span),
-            Call::Put(key, value) => {
-                let laid = value.copy()?;
-                self.write(txn, key, &Some(laid))
-            }
-            Call::Delete(key) => self.write(txn, key, &None),
-            Call::Commit => self.commit(txn),
             Call::Rollback => self.roll_back(txn, why),
-            Call::Begin(_) | Call::Learn(_) | Call::Round => Ok(()),
+            call => self.show_or_serve(call, reading, txn),
         }
-    }
-
-    fn get(&mut self, txn: OpenTxn, key: &Key) -> Result<(), NoMemory>
-        ensures knows { (k : Known) (s : Statement) (why : Why) → StandsReady self.old k → IsFresh k txn s why → s.call ≡ calls.Get key.now → txn.in_flight ≡ None → OnOk result (Knows self.new k) }
-        ensures session { self.new.session ≡ self.old.session }
-        ensures splits { self.new.splits ≡ self.old.splits }
-    {
-        let call = OpenCall::get(self.alloc, &txn, key)?;
-        self.go_on(call, txn)
-    }
-
-    fn scan(&mut self, txn: OpenTxn, span: &Span) -> Result<(), NoMemory>
-        ensures knows { (k : Known) (s : Statement) (why : Why) → StandsReady self.old k → IsFresh k txn s why → s.call ≡ calls.Scan span.now → txn.in_flight ≡ None → OnOk result (Knows self.new k) }
-        ensures session { self.new.session ≡ self.old.session }
-        ensures splits { self.new.splits ≡ self.old.splits }
-    {
-        let call = OpenCall::scan(self.alloc, self.splits, &txn, span)?;
-        self.go_on(call, txn)
-    }
-
-    /// The call writes; no value is a deletion. A write that is in flight, which is the same one, goes out again first.
-    fn write(&mut self, txn: OpenTxn, key: &Key, value: &Option<Value>) -> Result<(), NoMemory>
-        ensures knows { (k : Known) (s : Statement) (why : Why) → StandsReady self.old k → IsFresh k txn s why → s.call ≡ write_call key.now value.now → SuitsFlight (write_call key.now value.now) txn.in_flight → OnOk result (Knows self.new k) }
-        ensures session { self.new.session ≡ self.old.session }
-        ensures splits { self.new.splits ≡ self.old.splits }
-    {
-        let put = lay(self.alloc, &txn, key, value)?;
-        self.go_on(put, txn)
-    }
-
-    fn commit(&mut self, txn: OpenTxn) -> Result<(), NoMemory>
-        ensures knows { (k : Known) (s : Statement) (why : Why) → StandsReady self.old k → IsFresh k txn s why → s.call ≡ calls.Commit → txn.in_flight ≡ None → OnOk result (Knows self.new k) }
-        ensures session { self.new.session ≡ self.old.session }
-        ensures splits { self.new.splits ≡ self.old.splits }
-    {
-        match &txn.anchor {
-            Some(_) => self.commit_written(txn),
-            None => self.finish(OpenCall::commit_unwritten(txn)),
-        }
-    }
-
-    fn commit_written(&mut self, txn: OpenTxn) -> Result<(), NoMemory>
-        ensures knows { (k : Known) (s : Statement) (why : Why) (anchor : List ℕ) → StandsReady self.old k → IsFresh k txn s why → s.call ≡ calls.Commit → txn.in_flight ≡ None → txn.anchor ≡ Some anchor → OnOk result (Knows self.new k) }
-        ensures session { self.new.session ≡ self.old.session }
-        ensures splits { self.new.splits ≡ self.old.splits }
-    {
-        let call = OpenCall::commits(self.alloc, &txn, Refusals::new())?;
-        self.go_on(call, txn)
     }
 
     fn roll_back(&mut self, txn: OpenTxn, why: Why) -> Result<(), NoMemory>
@@ -192,34 +141,11 @@ impl<'a> Coordinator<'a> {
 }
 
 fn abort_of(alloc: Global, txn: &OpenTxn, why: Why) -> Result<OpenCall, NoMemory>
+    ensures unsent { IfOk result (λ call. All (λ m. is_to_send m ≡ true) call.wave) }
     ensures stands { (splits : List (List ℕ)) (k : Known) (s : Statement) → IsFresh k txn.now s why → s.call ≡ calls.Rollback → IfOk result (λ call. InCall splits k txn.now call.purpose call.wave) }
 {
     match &txn.anchor {
         Some(anchor) => OpenCall::abort(alloc, txn, anchor, why),
-        None => Err(NoMemory),
-    }
-}
-
-/// The messages of a call that writes; no value is a deletion. A write that is in flight, which is the same one, goes out again first.
-fn lay(alloc: Global, txn: &OpenTxn, key: &Key, value: &Option<Value>) -> Result<OpenCall, NoMemory>
-    ensures stands { (splits : List (List ℕ)) (k : Known) (s : Statement) (why : Why) → IsFresh k txn.now s why → s.call ≡ write_call key.now value.now → SuitsFlight (write_call key.now value.now) txn.now.in_flight → IfOk result (λ call. InCall splits k txn.now call.purpose call.wave) }
-{
-    match &txn.in_flight {
-        None => OpenCall::write(alloc, txn, key, value),
-        Some(_) => lay_again(alloc, txn, key, value),
-    }
-}
-
-fn lay_again(
-    alloc: Global,
-    txn: &OpenTxn,
-    key: &Key,
-    value: &Option<Value>,
-) -> Result<OpenCall, NoMemory>
-    ensures stands { (splits : List (List ℕ)) (k : Known) (s : Statement) (why : Why) → IsFresh k txn.now s why → s.call ≡ write_call key.now value.now → txn.now.in_flight ≡ Some (record { key = key.now; value = value.now }) → IfOk result (λ call. InCall splits k txn.now call.purpose call.wave) }
-{
-    match &txn.anchor {
-        Some(anchor) => OpenCall::write_again(alloc, txn, anchor, key, value),
         None => Err(NoMemory),
     }
 }

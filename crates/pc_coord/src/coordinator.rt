@@ -41,8 +41,8 @@ use std::mem;
 /// Runs the transactions of one session, one after another: it is asked calls, says which messages go out, hears the
 /// replies, and says what the call is told.
 ///
-/// It begins, reads, writes without pipelining, commits with no write in flight, refreshing what it read, and rolls back. Where a message
-/// meets an intent, it asks for the round of that conflict, and the session makes it. After a refusal for want of memory nothing is
+/// It begins, reads, writes without pipelining, commits with no write in flight, refreshing what it read, and rolls back. Where its transaction has
+/// been silent for a second, a call shows first that it is alive. Where a message meets an intent, it asks for the round of that conflict, and the session makes it. After a refusal for want of memory nothing is
 /// promised of it any more.
 #[derive(Drop)]
 pub struct Coordinator<'a> {
@@ -117,7 +117,7 @@ impl<'a> Coordinator<'a> {
         let txn = self.take_txn();
         match txn {
             None => self.ask_outside(&call, reading),
-            Some(txn) => self.ask_inside(&call, txn),
+            Some(txn) => self.ask_inside(call, reading, txn),
         }
     }
 

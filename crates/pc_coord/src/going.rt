@@ -108,7 +108,10 @@ impl<'a> Coordinator<'a> {
         match &call.purpose {
             Purpose::Read => self.read(call, txn),
             Purpose::Refresh { .. } => self.refreshed(call, txn),
-            Purpose::Write { .. } | Purpose::Commit { .. } | Purpose::Abort { .. } => {
+            Purpose::Beat { .. }
+            | Purpose::Write { .. }
+            | Purpose::Commit { .. }
+            | Purpose::Abort { .. } => {
                 self.told();
                 Ok(())
             }
@@ -171,6 +174,7 @@ impl<'a> Coordinator<'a> {
         ensures splits { self.new.splits ≡ self.old.splits }
     {
         match &call.purpose {
+            Purpose::Beat { .. } => self.beat_heard(call, txn, reply),
             Purpose::Read | Purpose::Refresh { .. } => self.come_back(call, txn, number, reply),
             Purpose::Write { .. } => self.write_heard(call, txn, number, reply),
             Purpose::Commit { .. } => self.commit_heard(call, txn, reply),

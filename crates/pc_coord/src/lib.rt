@@ -1,6 +1,7 @@
 //! The coordinator of a session's transactions: what it sends, and what it tells, after what it was asked and heard.
 #![tactic(auto)]
 
+mod alive;
 mod asking;
 mod coordinator;
 mod due;
@@ -11,6 +12,7 @@ mod laws;
 mod next;
 mod pusher;
 mod round;
+mod serving;
 
 pub use coordinator::Coordinator;
 pub use job::Job;

@@ -8,8 +8,8 @@ use Rattle.pc_desk.specs.declared.answered.Answered.{Answered}
 use Rattle.pc_desk.specs.declared.halt.Halt.{Halt}
 use Rattle.pc_desk.specs.declared.halt.Halt.TheVariants as halts
 use Rattle.pc_desk.specs.Desk.{DeskMeaning, IsAnsweredBy, HasTakenFirst, IsOneSent, KeepsTrack, Posted, as_sent, posted_as, times_sent}
-use Rattle.pc_desk.specs.Ending.{EndsOnly, HasEnded, IsEndedBy, IsNotLost, WaitsUnheard}
-use Rattle.pc_desk.specs.OwnLog.{IsHalt, LogMeaning, Took}
+use Rattle.pc_desk.specs.Ending.{EndsBy, EndsOnly, HasEnded, HasMadeLast, IsNotLost, WaitsUnheard}
+use Rattle.pc_desk.specs.OwnLog.{HasStopped, IsHalt, LogMeaning, Took}
 use Rattle.pc_history.specs.declared.view.Known.{Known as KnownEntry}
 use Rattle.pc_history.specs.Parts.{known_entry, told}
 use Rattle.pc_lists.proofs.Lists.{all_from_contains, contains_head, contains_nil, contains_cons, contains_tail}
@@ -88,20 +88,25 @@ module _ {C : Type 0} (d : DeskMeaning C) (track : KeepsTrack d) where
 ended-at : {C : Type 0} (old : DeskMeaning C) (rs : List Answered) → KeepsTrack old → ◌≡◌ {A = ℕ} (length old.log.part.own) old.log.limit → HasEnded old (record old { log = record old.log { stopped = true }; replies = rs })
 ended-at old rs track full = record { known = λ x there. there; rest = refl; limit = refl; end = inl (record { long = full; each = not_lost old track; waits = all_wait old track }) }
 
-ended-by : {C : Type 0} (P : Event → Type 0) (old : DeskMeaning C) (after : LogMeaning C) (rs : List Answered) (halt : Halt) → KeepsTrack old → IsHalt P old.log after halt → EndsOnly old (record old { log = after; replies = rs }) halt
-ended-by P old after rs halts.Stopped track (inl h) = λ going none. absurd (let e : true ≡ false = sym h.0 ∙ going in cc e)
-ended-by P old after rs halts.Stopped track (inr h) = λ going none. absurd (let e = sym h.stop ∙ none in cc e)
-ended-by {C} P old after rs (halts.Full actor) track h = λ going none. subst (λ (l : LogMeaning C). HasEnded old (record old { log = l; replies = rs })) (sym h.3) (ended-at old rs track h.2)
-ended-by P old after rs halts.NoMemory track h = λ going none. tt
+-- The list's stop leaves the desk so.
+abbrev StopsSo : {C : Type 0} → (Event → Type 0) → (Event → Type 0) → DeskMeaning C → LogMeaning C → List Answered → Type 0
+StopsSo P Is old after rs = HasStopped P old.log after → HasMadeLast Is old (record old { log = after; replies = rs })
 
--- one more entry was not made, at which nothing but a reply was taken
-pub ended_so : {C : Type 0} (P : Event → Type 0) (v old : DeskMeaning C) (after : LogMeaning C) (rs : List Answered) (halt : Halt) → v ≡ old → KeepsTrack old → IsHalt P v.log after halt → EndsOnly old (record v { log = after; replies = rs }) halt
-ended_so {C} P v old after rs halt same track h =
-    subst (λ (x : DeskMeaning C). IsHalt P x.log after halt → EndsOnly old (record x { log = after; replies = rs }) halt) (sym same) (ended-by P old after rs halt track) h
+ended-by : {C : Type 0} (P Is : Event → Type 0) (old : DeskMeaning C) (after : LogMeaning C) (rs : List Answered) (halt : Halt) → KeepsTrack old → StopsSo P Is old after rs → IsHalt P old.log after halt → EndsOnly Is old (record old { log = after; replies = rs }) halt
+ended-by P Is old after rs halts.Stopped track last (inl h) = λ going. absurd (let e : true ≡ false = sym h.0 ∙ going in cc e)
+ended-by P Is old after rs halts.Stopped track last (inr h) = λ going. last h
+ended-by {C} P Is old after rs (halts.Full actor) track last h = λ going. subst (λ (l : LogMeaning C). HasEnded old (record old { log = l; replies = rs })) (sym h.3) (ended-at old rs track h.2)
+ended-by P Is old after rs halts.NoMemory track last h = λ going. tt
 
-pub ended_if : {C X : Type 0} (P : Event → Type 0) (v old : DeskMeaning C) (after : LogMeaning C) (r : Result X Halt) → v ≡ old → KeepsTrack old → IfErr r (IsHalt P v.log after) → IfErr r (EndsOnly old (record v { log = after }))
-ended_if P v old after (Ok x) same track h = tt
-ended_if P v old after (Err halt) same track h = ended_so P v old after v.replies halt same track h
+-- one more entry was the last, or was not made, at which nothing but a reply was taken
+pub ended_so : {C : Type 0} (P Is : Event → Type 0) (v old : DeskMeaning C) (after : LogMeaning C) (rs : List Answered) (halt : Halt) → v ≡ old → KeepsTrack old → StopsSo P Is old after rs → IsHalt P v.log after halt → EndsOnly Is old (record v { log = after; replies = rs }) halt
+ended_so {C} P Is v old after rs halt same track last h =
+    subst (λ (x : DeskMeaning C). IsHalt P x.log after halt → EndsOnly Is old (record x { log = after; replies = rs }) halt) (sym same) (ended-by P Is old after rs halt track last) h
+
+pub ended_if : {C X : Type 0} (P : Event → Type 0) (v old : DeskMeaning C) (after : LogMeaning C) (r : Result X Halt) → v ≡ old → KeepsTrack old → StopsSo P P old after old.replies → IfErr r (IsHalt P v.log after) → IfErr r (EndsOnly P old (record v { log = after }))
+ended_if P v old after (Ok x) same track last h = tt
+ended_if {C} P v old after (Err halt) same track last h =
+    subst (λ (x : DeskMeaning C). IsHalt P x.log after halt → EndsOnly P old (record x { log = after }) halt) (sym same) (ended-by P P old after old.replies halt track last) h
 
 -- ---- a range that is full
 
@@ -162,9 +167,9 @@ ended_refused {C} v d old m note mid after same took halted track taken full =
     subst (λ (l : LogMeaning C). HasEnded old (record v { log = l })) (sym (halted ∙ ap (λ (l : LogMeaning C). record l { stopped = true }) took.told_this)) (ended_at_range v d old m note same track taken full)
 
 -- first messages were delivered, then the list ended
-pub ended_later : {C : Type 0} (old mid new : DeskMeaning C) (halt : Halt) → mid.log.stopped ≡ old.log.stopped → mid.log.stop ≡ old.log.stop → ((k : KnownEntry Event) → Contains old.log.part.known k → Contains mid.log.part.known k)
-    → mid.log ≡ record old.log { part = record old.log.part { known = mid.log.part.known } } → mid.range_limit ≡ old.range_limit → EndsOnly mid new halt → EndsOnly old new halt
-ended_later {C} old mid new halt stopped stop more same limit ends = λ going none. by halt (ends (stopped ∙ going) (stop ∙ none))
+pub ended_later : {C : Type 0} (old mid new : DeskMeaning C) (halt : Halt) → mid.log.stopped ≡ old.log.stopped → ((k : KnownEntry Event) → Contains old.log.part.known k → Contains mid.log.part.known k)
+    → mid.log ≡ record old.log { part = record old.log.part { known = mid.log.part.known } } → mid.range_limit ≡ old.range_limit → EndsOnly (λ made. ⊥) mid new halt → EndsOnly (λ made. ⊥) old new halt
+ended_later {C} old mid new halt stopped more same limit ends = λ going. by halt (ends (stopped ∙ going))
   where
     on : HasEnded mid new → HasEnded old new
     on e = record {
@@ -174,11 +179,11 @@ ended_later {C} old mid new halt stopped stop more same limit ends = λ going no
       end = e.end;
     }
 
-    by : (halt : Halt) → IsEndedBy halt (HasEnded mid new) → IsEndedBy halt (HasEnded old new)
-    by halts.Stopped e = on e
+    by : (halt : Halt) → EndsBy (λ made. ⊥) mid new halt → EndsBy (λ made. ⊥) old new halt
+    by halts.Stopped e = absurd e.is
     by (halts.Full actor) e = on e
     by halts.NoMemory e = tt
 
 -- want of memory
-pub ended_memory : {C : Type 0} (old new : DeskMeaning C) (halt : Halt) → halt ≡ halts.NoMemory → EndsOnly old new halt
-ended_memory old new halt want = λ going none. subst (λ (h : Halt). IsEndedBy h (HasEnded old new)) (sym want) tt
+pub ended_memory : {C : Type 0} (Is : Event → Type 0) (old new : DeskMeaning C) (halt : Halt) → halt ≡ halts.NoMemory → EndsOnly Is old new halt
+ended_memory Is old new halt want = λ going. subst (EndsBy Is old new) (sym want) tt

@@ -50,6 +50,7 @@ ask_keeps (actors.Session number) splits pipelining own call reading = record {
   puts = tt;
   resends = tt;
   calls = tt;
+  beats = tt;
   finishes = tt;
   aborts = tt;
   rolled_back = tt;

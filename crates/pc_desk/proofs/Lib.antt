@@ -11,3 +11,4 @@ pub mod Going
 pub mod Desking
 pub mod Leaving
 pub mod Ending
+pub mod Stopping

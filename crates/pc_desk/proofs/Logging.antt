@@ -1,5 +1,6 @@
 -- What an actor's list is once an event was made, from what its parts say.
-use Rattle.std.proofs.Common.{◌≡◌, ℕ, ◌+◌, ◌-◌, ◌<◌, ◌≤◌, ◌^◌, Bool, true, false, min, All, [], ◌∷◌, ◌++◌, length, Option, Result, Ok, Err, IfOk, OnOk, sym, ap, subst, ◌∙◌, arith}
+use Rattle.std.proofs.Common.{◌≡◌, ℕ, ◌+◌, ◌-◌, ◌<◌, ◌≤◌, ◌^◌, Bool, true, false, min, All, [], ◌∷◌, ◌++◌, length, length-append, Option, None, Some, Result, Ok, Err, IfOk, OnOk, refl, sym, ap, subst, ◌∙◌, arith}
+use Rattle.std.proofs.lemmas.Bool.{eqb-true}
 use Rattle.std.proofs.lemmas.List.Sums.{count_by-le-length}
 use Rattle.std.specs.Prelude.{is_err}
 use Rattle.pc_base.specs.Counts.{saturating_next}
@@ -9,7 +10,7 @@ use Rattle.pc_desk.proofs.Places.{places_grown}
 use Rattle.pc_desk.specs.Asks.{ReadsClock, asks_in, is_ask}
 use Rattle.pc_desk.specs.Commits.{HasCommitPlaces, KeepsPlace, commit_told_by}
 use Rattle.pc_desk.specs.Keeping.{KeepsNext, ReadsEach}
-use Rattle.pc_desk.specs.OwnLog.{HasEntered, IsOwnLog, IsReady, LogMeaning, is_last, with_event}
+use Rattle.pc_desk.specs.OwnLog.{HasEntered, HasMadeEntry, HasStopped, IsOwnLog, IsReady, LogMeaning, is_last, with_event}
 use Rattle.pc_desk.specs.Waves.{KeepsWavesNext}
 use Rattle.pc_history.specs.declared.pair.Pair.{Pair}
 use Rattle.pc_history.specs.declared.view.Part.{Part}
@@ -96,6 +97,44 @@ module _ {C : Type 0} (old ready : LogMeaning C) (actor after : ActorMeaning Hea
 
   own-grown : after ≡ doing step event actor → after.part.own ≡ actor.part.own ++ pair (entry_of step actor.part.id event) (named_by (unstaged_protocol actor.world) actor.part event) ∷ []
   own-grown did = ap (λ (a : ActorMeaning Head Event). a.part.own) did
+
+  stop-at : (stop : Option ℕ) (long now : ℕ) → is_last stop long ≡ true → now ≡ long + 1 → stop ≡ Some now
+  stop-at None long now is grown = absurd (let e : false ≡ true = is in cc e)
+  stop-at (Some n) long now is grown = ap Some (eqb-true n (long + 1) is ∙ sym grown)
+
+  stopped-at : (v : LogMeaning C) (spare left : ℕ) → record old { spare = spare } ≡ v → last ≡ true
+      → ◌≡◌ {A = LogMeaning C} (grown step event last left now v) (record (with_event step event old) { spare = left; clock = now; stopped = true })
+  stopped-at v spare left same stops =
+      subst (λ (x : LogMeaning C). ◌≡◌ {A = LogMeaning C} (grown step event last left now x) (record (with_event step event old) { spare = left; clock = now; stopped = true })) same
+      (ap (λ b. record (with_event step event old) { spare = left; clock = now; stopped = b }) stops)
+
+  -- the entry at which the list stops
+  pub made_stop : (P : Event → Type 0) → P event → before_it ≡ ready → IsReady old ready last → last ≡ true → after ≡ doing step event actor → All (λ e. e.step < step) (knowledge actor.part) → step < 2 ^ 48 → IsOwnLog (after_it after)
+      → HasStopped P old (after_it after)
+  made_stop P so view is stops did above small log =
+      let part : actor.part ≡ old.part = sym (ap (λ (l : LogMeaning C). l.part) (as-it-was view is)) in
+      let p : Pair Event = pair (entry_of step actor.part.id event) (named_by (unstaged_protocol actor.world) actor.part event) in
+      let long : length after.part.own ≡ length old.part.own + 1 = ap length (own-grown did) ∙ (length-append actor.part.own (p ∷ []) ∙ ap (λ (q : Part Event). length q.own + 1) part) in
+      record {
+        event = event;
+        step = step;
+        is = so;
+        was = is.was;
+        stored = subst (λ (a : ActorMeaning Head Event). ◌≡◌ {A = LogMeaning C} (after_it a) (record (with_event step event old) { spare = a.spare; clock = now; stopped = true })) (sym did)
+            (stopped-at before_it ready.spare (actor.spare - 1) (as-it-was view is) stops);
+        stop = stop-at old.stop (length old.part.own) (length after.part.own) (sym is.is ∙ stops) long;
+        above = subst (λ (q : Part Event). All (λ e. e.step < step) (knowledge q)) part above;
+        small = small;
+        log = log;
+      }
+
+  -- whichever it is
+  pub made_either : before_it ≡ ready → IsReady old ready last → after ≡ doing step event actor → All (λ e. e.step < step) (knowledge actor.part) → step < 2 ^ 48 → IsOwnLog (after_it after) → HasMadeEntry old (after_it after) event last
+  made_either view is did above small log = by last refl
+    where
+      by : (b : Bool) → last ≡ b → HasMadeEntry old (after_it after) event b
+      by false goes_on = made_entry view is goes_on did above small log
+      by true stops = made_stop (λ made. made ≡ event) refl view is stops did above small log
 
   pub made_reads : (rule then : ℕ → ℕ → Bool) → then ≡ rule → after ≡ doing step event actor → ReadsEach rule actor.part.own → ReadsClock rule (asks_in actor.part.own) event → ReadsEach then after.part.own
   made_reads rule then kept did reads one =

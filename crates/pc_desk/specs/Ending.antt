@@ -1,11 +1,13 @@
--- How an actor's list ends before its work does: where it has as many entries as it may have, or a range has; and what becomes of its messages
--- then.
-use Rattle.std.specs.Prelude.{◌≡◌, ℕ, ◌<◌, true, false, ◌⊎◌, None, List, length, All, Contains, IsTrue, ⊤}
+-- How an actor's list ends before its work does: where it has as many entries as it may have, or a range has, or at its stated stop; and what
+-- becomes of its messages then.
+use Rattle.std.specs.Prelude.{◌≡◌, ℕ, ◌<◌, true, false, ◌⊎◌, Some, List, [], ◌∷◌, ◌++◌, length, All, Contains, IsTrue, ⊤}
 use Rattle.pc_desk.specs.declared.halt.Halt.{Halt}
 use Rattle.pc_desk.specs.declared.halt.Halt.TheVariants as halts
-use Rattle.pc_desk.specs.Desk.{DeskMeaning, KnowsFull, Posted, as_sent}
+use Rattle.pc_desk.specs.Desk.{DeskMeaning, KeepsTrack, KnowsFull, Posted, as_sent}
+use Rattle.pc_history.specs.declared.pair.Pair.{Pair}
 use Rattle.pc_history.specs.declared.view.Known.{Known as KnownEntry}
 use Rattle.pc_history.specs.declared.view.Part.{Part}
+use Rattle.pc_history.specs.Parts.{knowledge}
 use Rattle.pc_proto.specs.declared.event.Event.{Event}
 use Rattle.pc_world.specs.Caused.{Evaluates}
 use Rattle.pc_world.specs.Known.{Known, known_of}
@@ -39,6 +41,12 @@ pub record IsAtOwnEnd {C : Type 0} (d : DeskMeaning C) : Type 0 where
   pub each : All (IsNotLost d) (known_of d.log.part.own).sent
   pub waits : All (WaitsUnheard (known_of d.log.part.own)) d.posted
 
+-- The list has just as many entries as are stated for its stop, and no message was lost: those that were not evaluated wait.
+pub record IsAtStop {C : Type 0} (d : DeskMeaning C) : Type 0 where
+  pub long : d.log.stop ≡ Some (length d.log.part.own)
+  pub each : All (IsNotLost d) (known_of d.log.part.own).sent
+  pub waits : All (WaitsUnheard (known_of d.log.part.own)) d.posted
+
 -- A range has as many entries as it may have, and a message to it was not heard. No other message was lost, and those that wait to be
 -- evaluated were sent later.
 pub record IsAtFullRange {C : Type 0} (d : DeskMeaning C) : Type 0 where
@@ -52,19 +60,43 @@ pub record IsAtFullRange {C : Type 0} (d : DeskMeaning C) : Type 0 where
   pub waits : All (WaitsUnheard (known_of d.log.part.own)) d.posted
   pub later : All (λ p. message.number < p.number) d.posted
 
--- The actor made no entry, and makes none from now on, since its list has ended.
+-- The list has ended before its work: at the limit of its entries, at a range that is full, or at its stop.
+abbrev pub EndsEarly : {C : Type 0} → DeskMeaning C → Type 0
+EndsEarly d = IsAtOwnEnd d ⊎ IsAtFullRange d ⊎ IsAtStop d
+
+-- The actor made no entry, and makes none from now on, since its list or a range is full.
 pub record HasEnded {C : Type 0} (old new : DeskMeaning C) : Type 0 where
   pub known : (k : KnownEntry Event) → Contains old.log.part.known k → Contains new.log.part.known k
   pub rest : new.log ≡ record old.log { part = record old.log.part { known = new.log.part.known }; stopped = true }
   pub limit : new.range_limit ≡ old.range_limit
   pub end : IsAtOwnEnd new ⊎ IsAtFullRange new
 
--- Want of memory leaves nothing to say; where the list has ended this is so.
-abbrev pub IsEndedBy : Halt → Type 0 → Type 0
-IsEndedBy halts.Stopped So = So
-IsEndedBy (halts.Full actor) So = So
-IsEndedBy halts.NoMemory So = ⊤
+-- The actor made one entry, whose event is so and whose step is above those of all that it stored or knew; and none from now on, since its list
+-- stops at that one. It forgot nothing, and each of its messages stands at its stage still.
+pub record HasMadeLast {C : Type 0} (Is : Event → Type 0) (old new : DeskMeaning C) : Type 0 where
+  pub last : Pair Event
+  pub is : Is last.entry.event
+  pub own : new.log.part.own ≡ old.log.part.own ++ last ∷ []
+  pub above : All (λ e. e.step < last.entry.step) (knowledge old.log.part)
+  pub known : (k : KnownEntry Event) → Contains old.log.part.known k → Contains new.log.part.known k
+  pub rest :
+      new.log ≡ record old.log {
+        part = record old.log.part { own = new.log.part.own; given = new.log.part.given; known = new.log.part.known };
+        spare = new.log.spare;
+        clock = new.log.clock;
+        stopped = true;
+      }
+  pub limit : new.range_limit ≡ old.range_limit
+  pub track : KeepsTrack new
+  pub end : IsAtStop new
 
--- Where it had not stopped, and no entry is stated at which it stops: its list has ended, or memory was wanted.
-abbrev pub EndsOnly : {C : Type 0} → DeskMeaning C → DeskMeaning C → Halt → Type 0
-EndsOnly old new halt = old.log.stopped ≡ false → old.log.stop ≡ None → IsEndedBy halt (HasEnded old new)
+-- The list stopped with one last entry, whose event is so; or it or a range was full, and no entry was made; or memory was wanted, which leaves
+-- nothing to say.
+abbrev pub EndsBy : {C : Type 0} → (Event → Type 0) → DeskMeaning C → DeskMeaning C → Halt → Type 0
+EndsBy Is old new halts.Stopped = HasMadeLast Is old new
+EndsBy Is old new (halts.Full actor) = HasEnded old new
+EndsBy Is old new halts.NoMemory = ⊤
+
+-- Where it had not stopped, it ended so.
+abbrev pub EndsOnly : {C : Type 0} → (Event → Type 0) → DeskMeaning C → DeskMeaning C → Halt → Type 0
+EndsOnly Is old new halt = old.log.stopped ≡ false → EndsBy Is old new halt

@@ -15,6 +15,7 @@ use Rattle.pc_follows.specs.EarlyProof.{ProvesNothingEarly}
 use Rattle.pc_follows.specs.EarlyTell.{TellsEarly}
 use Rattle.pc_follows.specs.Eighth.{StopsAtEighth}
 use Rattle.pc_follows.specs.FinishingJobs.{DoesJobs, jobs_of}
+use Rattle.pc_follows.specs.Heartbeats.{KeepsHeartbeats}
 use Rattle.pc_follows.specs.Rollbacks.{AbortsFirst, TellsRollbacks}
 use Rattle.pc_follows.specs.OneWrite.{WritesOnce}
 use Rattle.pc_follows.specs.PieceOrder.{SendsPiecesInOrder}
@@ -36,6 +37,7 @@ pub record KeepsSessionStep (splits : List (List ℕ)) (pipelining : Bool) (own 
   pub puts : HearsOnlyItsPuts (known_of own) h
   pub resends : ResendsOnlyAnswered (known_of own) event
   pub calls : SendsForCall (known_of own) event
+  pub beats : KeepsHeartbeats (known_of own) event
   pub finishes : DoesJobs (known_of own) (jobs_of own) event
   pub aborts : AbortsFirst (known_of own) event
   pub rolled_back : TellsRollbacks (known_of own) event

@@ -76,7 +76,7 @@ pub record HasEntered {C : Type 0} (old new : LogMeaning C) (event : Event) : Ty
   pub small : step < 2 ^ 48
   pub log : IsOwnLog new
 
--- Such an event was made, at which the actor stops.
+-- Such an event was made, at which the actor stops. Its step is above those of all that the actor stored or knew.
 pub record HasStopped {C : Type 0} (P : Event → Type 0) (old new : LogMeaning C) : Type 0 where
   pub event : Event
   pub step : ℕ
@@ -84,6 +84,14 @@ pub record HasStopped {C : Type 0} (P : Event → Type 0) (old new : LogMeaning 
   pub was : old.stopped ≡ false
   pub stored : new ≡ record (with_event step event old) { spare = new.spare; clock = new.clock; stopped = true }
   pub stop : old.stop ≡ Some (length new.part.own)
+  pub above : All (λ e. e.step < step) (knowledge old.part)
+  pub small : step < 2 ^ 48
+  pub log : IsOwnLog new
+
+-- The event was made, and whether it is that at which the actor stops.
+abbrev pub HasMadeEntry : {C : Type 0} → LogMeaning C → LogMeaning C → Event → Bool → Type 0
+HasMadeEntry old new event false = HasEntered old new event
+HasMadeEntry old new event true = HasStopped (λ made. made ≡ event) old new
 
 -- Why no such event was made, or none after it. It had stopped before, or such an event was that at which it stops; or it has as many
 -- entries as it may have; or memory was wanted.

@@ -5,7 +5,7 @@ ghost use Rattle.pc_desk.specs.Commits.{IsCommitPlace};
 ghost use Rattle.pc_desk.specs.Desk.{DeskMeaning, EndsWithSend, HasDelivered, HasDone, HasHalted, HasHeardFirst, HasKept, HasPosted, HasSentNext, HasSentTo, HasTakenFirst, IsReadyToGo, KeepsTrack, MayHearNow, MaySendNow, MaySendTo, Posted, new_desk, posted_as, uses_by};
 ghost use Rattle.pc_desk.specs.Ending.{EndsOnly};
 ghost use Rattle.pc_desk.specs.Keeping.{ReadsEach};
-ghost use Rattle.pc_desk.specs.OwnLog.{HasEntered, IsNoRange, IsOwnLog, MayEnter};
+ghost use Rattle.pc_desk.specs.OwnLog.{HasMadeEntry, IsNoRange, IsOwnLog, MayEnter};
 ghost use Rattle.pc_desk.specs.Waiting.{IsBehindAll, IsNewest};
 ghost use Rattle.pc_history.specs.Own.{entries_of};
 ghost use Rattle.pc_history.specs.Parts.{newcomer, noted, told, with_uses, without_uses};
@@ -170,7 +170,7 @@ impl<'a, N: Named<CommitWorld>, C: Clock, V: Wire, G: Gate> Desk<'a, N, C, V, G>
         ensures ok { IfOk result (λ reading. HasDone self.old self.new (events.Ask call reading)) }
         ensures rule { C.rule self.new.log.clock ≡ C.rule self.old.log.clock }
         ensures err { IfErr result (HasHalted self.old self.new) }
-        ensures ended { IfErr result (EndsOnly self.old self.new) }
+        ensures ended { IfErr result (EndsOnly (λ made. (reading : ℕ) × (made ≡ events.Ask call reading)) self.old self.new) }
     {
         self.log.ask(call)
     }
@@ -182,7 +182,7 @@ impl<'a, N: Named<CommitWorld>, C: Clock, V: Wire, G: Gate> Desk<'a, N, C, V, G>
         ensures ok { OnOk result (HasDone self.old self.new (events.Tell answer)) }
         ensures clock { self.new.log.clock ≡ self.old.log.clock }
         ensures err { IfErr result (HasHalted self.old self.new) }
-        ensures ended { IfErr result (EndsOnly self.old self.new) }
+        ensures ended { IfErr result (EndsOnly (λ made. made ≡ events.Tell answer) self.old self.new) }
     {
         self.log.enter(Event::Tell(answer))
     }
@@ -194,7 +194,7 @@ impl<'a, N: Named<CommitWorld>, C: Clock, V: Wire, G: Gate> Desk<'a, N, C, V, G>
         ensures ok { OnOk result (HasDone self.old self.new (events.Meet id step)) }
         ensures clock { self.new.log.clock ≡ self.old.log.clock }
         ensures err { IfErr result (HasHalted self.old self.new) }
-        ensures ended { IfErr result (EndsOnly self.old self.new) }
+        ensures ended { IfErr result (EndsOnly (λ made. made ≡ events.Meet id step) self.old self.new) }
     {
         self.log.enter(Event::Meet { id, step })
     }
@@ -208,7 +208,7 @@ impl<'a, N: Named<CommitWorld>, C: Clock, V: Wire, G: Gate> Desk<'a, N, C, V, G>
         ensures ok { IfOk result (λ number. HasSentNext self.old self.new number request) }
         ensures clock { self.new.log.clock ≡ self.old.log.clock }
         ensures err { IfErr result (HasHalted self.old self.new) }
-        ensures ended { IfErr result (EndsOnly self.old self.new) }
+        ensures ended { IfErr result (EndsOnly (λ made. (number : ℕ) × (range : ℕ) × (made ≡ events.Send number range request)) self.old self.new) }
     {
         let range = range_for(self.ranges.splits(), &request);
         self.send_to(range, request)
@@ -222,35 +222,40 @@ impl<'a, N: Named<CommitWorld>, C: Clock, V: Wire, G: Gate> Desk<'a, N, C, V, G>
         ensures ok { IfOk result (λ number. HasSentTo self.old self.new number range request) }
         ensures clock { self.new.log.clock ≡ self.old.log.clock }
         ensures err { IfErr result (HasHalted self.old self.new) }
-        ensures ended { IfErr result (EndsOnly self.old self.new) }
+        ensures ended { IfErr result (EndsOnly (λ made. (number : ℕ) × (made ≡ events.Send number range request)) self.old self.new) }
     {
         let number = self.sends + 1;
-        match request.copy() {
-            Ok(copy) => self.enter_send(number, range, copy)?,
+        let copy = match request.copy() {
+            Ok(copy) => copy,
+            Err(NoMemory) => return Err(self.want_memory()),
+        };
+        let last = self.enter_send(number, range, copy)?;
+        match self.post(number, range, request) {
+            Ok(()) => {}
             Err(NoMemory) => return Err(self.want_memory()),
         }
-        match self.post(number, range, request) {
-            Ok(()) => Ok(number),
-            Err(NoMemory) => Err(self.want_memory()),
+        if last {
+            return Err(Halt::Stopped);
         }
+        Ok(number)
     }
 
-    /// Makes the entry of a message that is sent.
-    fn enter_send(&mut self, number: u64, range: u32, request: Request) -> Result<(), Halt>
+    /// Makes the entry of a message that is sent. Gives whether it is the one at which the actor stops.
+    fn enter_send(&mut self, number: u64, range: u32, request: Request) -> Result<bool, Halt>
         requires may { MayEnter self.old.log (events.Send number range request) }
-        ensures ok { OnOk result (HasEntered self.old.log self.new.log (events.Send number range request)) }
+        ensures ok { IfOk result (HasMadeEntry self.old.log self.new.log (events.Send number range request)) }
         ensures rest { OnOk result (self.new ≡ record self.old { log = self.new.log; sends = number }) }
         ensures clock { self.new.log.clock ≡ self.old.log.clock }
         ensures err { IfErr result (HasHalted self.old self.new) }
-        ensures ended { IfErr result (λ halt. KeepsTrack self.old → EndsOnly self.old self.new halt) }
+        ensures ended { IfErr result (λ halt. KeepsTrack self.old → EndsOnly (λ made. ⊥) self.old self.new halt) }
     {
-        self.log.enter(Event::Send {
+        let last = self.log.add(Event::Send {
             number,
             range,
             request,
         })?;
         self.sends = number;
-        Ok(())
+        Ok(last)
     }
 
     /// Puts the message that was sent last into the outbox.
@@ -300,7 +305,7 @@ impl<'a, N: Named<CommitWorld>, C: Clock, V: Wire, G: Gate> Desk<'a, N, C, V, G>
         ensures all { OnOk result (self.new.posted ≡ []) }
         ensures clock { self.new.log.clock ≡ self.old.log.clock }
         ensures err { IfErr result (HasHalted self.old self.new) }
-        ensures ended { IfErr result (EndsOnly self.old self.new) }
+        ensures ended { IfErr result (EndsOnly (λ made. ⊥) self.old self.new) }
     {
         if self.waiting() == 0 {
             return Ok(());
@@ -320,7 +325,7 @@ impl<'a, N: Named<CommitWorld>, C: Clock, V: Wire, G: Gate> Desk<'a, N, C, V, G>
         ensures same { OnOk result (self.new ≡ self.old) }
         ensures clock { self.new.log.clock ≡ self.old.log.clock }
         ensures err { IfErr result (HasHalted self.old self.new) }
-        ensures ended { IfErr result (EndsOnly self.old self.new) }
+        ensures ended { IfErr result (EndsOnly (λ made. ⊥) self.old self.new) }
     {
         match self.log.note(0) {
             Ok(note) => Ok(note),
@@ -342,7 +347,7 @@ impl<'a, N: Named<CommitWorld>, C: Clock, V: Wire, G: Gate> Desk<'a, N, C, V, G>
         ensures newest { IfOk result (λ n. IsNewest self.new.log.part.own self.new.replies n.known) }
         ensures clock { self.new.log.clock ≡ self.old.log.clock }
         ensures err { IfErr result (HasHalted self.old self.new) }
-        ensures ended { IfErr result (EndsOnly self.old self.new) }
+        ensures ended { IfErr result (EndsOnly (λ made. ⊥) self.old self.new) }
     {
         let message = match self.outbox.take_first() {
             Some((_, message)) => message,
@@ -402,7 +407,7 @@ impl<'a, N: Named<CommitWorld>, C: Clock, V: Wire, G: Gate> Desk<'a, N, C, V, G>
         requires { (range : ℕ) × IsFullAt range self.old.range_limit fault }
         ensures halted { HasHalted self.old self.new result }
         ensures clock { self.new.log.clock ≡ self.old.log.clock }
-        ensures ended { (old : DeskMeaning C) (m : Posted) → KeepsTrack old → HasTakenFirst old self.old m → IsFullAt m.range self.old.range_limit fault → EndsOnly old self.new result }
+        ensures ended { (old : DeskMeaning C) (m : Posted) → KeepsTrack old → HasTakenFirst old self.old m → IsFullAt m.range self.old.range_limit fault → EndsOnly (λ made. ⊥) old self.new result }
     {
         match fault {
             ServeFault::Full { range, last } => {
@@ -425,7 +430,7 @@ impl<'a, N: Named<CommitWorld>, C: Clock, V: Wire, G: Gate> Desk<'a, N, C, V, G>
         ensures none { IfOk result (λ heard. IfNone heard ((self.old.replies ≡ []) × (self.new ≡ self.old))) }
         ensures clock { self.new.log.clock ≡ self.old.log.clock }
         ensures err { IfErr result (HasHalted self.old self.new) }
-        ensures ended { IfErr result (EndsOnly self.old self.new) }
+        ensures ended { IfErr result (EndsOnly (λ made. (number : ℕ) × (step : ℕ) × (made ≡ events.Hear number step)) self.old self.new) }
     {
         let answered = match self.replies.pop_front() {
             Some(answered) => answered,

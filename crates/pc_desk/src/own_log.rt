@@ -1,7 +1,7 @@
 ghost use Rattle.std.specs.Prelude.{◌≡◌, ℕ, ◌+◌, ◌-◌, ◌<◌, ◌≤◌, ◌^◌, true, false, length, IfErr, IfOk, IfSome, OnErr, OnOk, Some};
 ghost use Rattle.pc_desk.specs.Commits.{IsCommitPlace};
 ghost use Rattle.pc_desk.specs.Keeping.{ReadsEach};
-ghost use Rattle.pc_desk.specs.OwnLog.{HasEntered, IsNoRange, IsHalt, IsOwnLog, IsReady, LogMeaning, MayEnter, Took};
+ghost use Rattle.pc_desk.specs.OwnLog.{HasEntered, HasMadeEntry, IsNoRange, IsHalt, IsOwnLog, IsReady, LogMeaning, MayEnter, Took};
 ghost use Rattle.pc_desk.specs.Waves.{KeepsWavesNext};
 ghost use Rattle.pc_history.specs.Own.{entries_of};
 ghost use Rattle.pc_history.specs.Parts.{gave, named_by, newcomer, noted};
@@ -184,16 +184,27 @@ impl<N: Named<CommitWorld>, C: Clock> OwnLog<N, C> {
         ensures clock { self.new.clock ≡ self.old.clock }
         ensures err { IfErr result (IsHalt (λ made. made ≡ event) self.old self.new) }
     {
+        if self.add(event)? {
+            return Err(Halt::Stopped);
+        }
+        Ok(())
+    }
+
+    /// Makes an event that asks no call. Gives whether it is the one at which it stops.
+    pub fn add(&mut self, event: Event) -> Result<bool, Halt>
+        requires may { MayEnter self.old event }
+        requires waves { KeepsWavesNext self.old.beside self.old.part.own event (named_by (unstaged_protocol self.old.head) self.old.part event) }
+        ensures ok { IfOk result (HasMadeEntry self.old self.new event) }
+        ensures clock { self.new.clock ≡ self.old.clock }
+        ensures err { IfErr result (IsHalt (λ made. ⊥) self.old self.new) }
+    {
         let last = self.ready()?;
         if make(&mut self.actor, &mut self.commits, event).is_err() {
             self.stopped = true;
             return Err(Halt::NoMemory);
         }
         self.stopped = last;
-        if last {
-            return Err(Halt::Stopped);
-        }
-        Ok(())
+        Ok(last)
     }
 
     /// Whether the next entry is the one at which it stops. There is room for it.

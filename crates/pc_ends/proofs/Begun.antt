@@ -1,6 +1,7 @@
--- The sessions of a workload begin one after another.
-use Rattle.std.proofs.Common.{◌≡◌, ℕ, ◌+◌, ◌<◌, inl, inr, Bool, All, List, [], ◌∷◌, ◌++◌, length, slice_get, Option, Some, Result, Ok, Err, IfOk, refl, sym, ap, subst, ◌∙◌, arith, length-append, false}
+-- The sessions, and the recoverers, of a workload begin one after another.
+use Rattle.std.proofs.Common.{◌≡◌, ℕ, ◌+◌, ◌<◌, ◌≤◌, inl, inr, Bool, false, All, List, [], ◌∷◌, ◌++◌, length, slice_get, Option, None, Some, IfSome, Result, Ok, Err, IfOk, refl, sym, ap, subst, ◌∙◌, arith, length-append}
 use Rattle.std.proofs.lemmas.List.{append-nil, append_assoc}
+use Rattle.std.proofs.lemmas.List.Elements.{All-contains}
 use Rattle.std.proofs.lemmas.Option.{slice_get_within}
 use Rattle.pc_base.specs.declared.actor.ActorId.{ActorId}
 use Rattle.pc_base.specs.declared.actor.ActorId.TheVariants as actors
@@ -9,23 +10,43 @@ use Rattle.pc_desk.specs.Desk.{DeskMeaning, new_desk}
 use Rattle.pc_history.specs.declared.view.Part.{Part}
 use Rattle.pc_history.specs.Meanings.{ActorMeaning}
 use Rattle.pc_history.specs.Parts.{newcomer}
-use Rattle.pc_lists.proofs.Lists.{all_from_contains, contains_get, get_append, get_push, get_push_cases}
+use Rattle.pc_lists.proofs.Lists.{all_from_contains, contains_get, get_append, get_contains, get_push, get_push_cases}
 use Rattle.pc_proto.specs.declared.event.Event.{Event}
+use Rattle.pc_recoverer.specs.Recoverer.{RecovererMeaning}
+use Rattle.pc_rounds.specs.Counted.{CountedMeaning, GoesInRounds, entries_made}
+use Rattle.pc_runs.specs.Recoverers.{AreRecoverers, HaveRecovererClocks, IsRecovererIn}
 use Rattle.pc_runs.specs.Runners.{AreRunners, HaveClocks, IsRunnerIn, head_in_work}
 use Rattle.pc_script.specs.Clocks.{clock_rule}
 use Rattle.pc_script.specs.Script.{Position, opened}
 use Rattle.pc_scripted.proofs.Telling.{opened_reruns}
 use Rattle.pc_scripted.specs.Scripted.{IsScripted, ScriptedMeaning, own_list, session_number}
 use Rattle.pc_session.specs.Session.{SessionMeaning}
+use Rattle.pc_turns.proofs.Shares.{recoverer_at, session_at}
+use Rattle.pc_work.specs.Accepted.{IsAccepted, StopsWithin}
+use Rattle.pc_work.specs.declared.recoverer.RecovererWork.{RecovererWork}
+use Rattle.pc_work.specs.Recoverer.{IsRecovererWithin}
+use Rattle.pc_work.specs.Stop.{IsStop}
 use Rattle.pc_work.specs.declared.session.SessionWork.{SessionWork}
 use Rattle.pc_work.specs.declared.workload.Workload.{Workload}
 use Rattle.pc_world.specs.Local.{Head}
 
+some_entry : (stop : Option ℕ) → IsStop stop → IfSome stop (λ n. 1 ≤ n)
+some_entry None within = tt
+some_entry (Some n) within = within.0
+
+-- a stop that is stated is that of an entry
+pub stop_from : (work : Workload) (index : ℕ) (stated : SessionWork) → IsAccepted work → slice_get work.sessions index ≡ Some stated → IfSome stated.stop (λ n. 1 ≤ n)
+stop_from work index stated accepted listed = some_entry stated.stop (All-contains StopsWithin work.sessions stated accepted.stops (get_contains work.sessions index stated listed))
+
+pub recoverer_stop_from : (work : Workload) (index : ℕ) (stated : RecovererWork) → IsAccepted work → slice_get work.recoverers index ≡ Some stated → IfSome stated.stop (λ n. 1 ≤ n)
+recoverer_stop_from work index stated accepted listed =
+    some_entry stated.stop (All-contains IsRecovererWithin work.recoverers stated accepted.recoverers (get_contains work.recoverers index stated listed)).stop
+
 -- a session that was made with its script is that of its place
 pub runner_begun : {C : Type 0} (work : Workload) (index : ℕ) (stated : SessionWork) (s : ScriptedMeaning C) (d : SessionMeaning C) (head : Head) (part : Part Event) (spare : ℕ) (clock : C) (pipelining : Bool) (limit : ℕ) (stop : Option ℕ) (range_limit : ℕ)
     → slice_get work.sessions index ≡ Some stated → IsScripted s → s ≡ record { session = d; script = stated.script; at = opened stated.script work.reruns }
-    → d.desk ≡ new_desk head part spare clock pipelining false limit stop range_limit → head ≡ head_in_work work → part ≡ newcomer (actors.Session (index + 1)) → limit ≡ work.limit → range_limit ≡ work.limit → IsRunnerIn work index s
-runner_begun {C} work index stated s d head part spare clock pipelining limit stop range_limit listed scripted is desk head_is part_is limit_is range_is =
+    → d.desk ≡ new_desk head part spare clock pipelining false limit stop range_limit → head ≡ head_in_work work → part ≡ newcomer (actors.Session (index + 1)) → limit ≡ work.limit → stop ≡ stated.stop → range_limit ≡ work.limit → IsRunnerIn work index s
+runner_begun {C} work index stated s d head part spare clock pipelining limit stop range_limit listed scripted is desk head_is part_is limit_is stop_is range_is =
     let on : s.session.desk ≡ new_desk head part spare clock pipelining false limit stop range_limit = ap (λ (x : ScriptedMeaning C). x.session.desk) is ∙ desk in
     record {
       scripted = scripted;
@@ -36,16 +57,17 @@ runner_begun {C} work index stated s d head part spare clock pipelining limit st
       reruns = sym (ap (λ (x : ScriptedMeaning C). x.at.reruns) is ∙ opened_reruns stated.script work.reruns);
       head = ap (λ (x : DeskMeaning C). x.log.head) on ∙ head_is;
       limit = ap (λ (x : DeskMeaning C). x.log.limit) on ∙ limit_is;
+      stop = ap (λ (x : DeskMeaning C). x.log.stop) on ∙ stop_is;
       range_limit = ap (λ (x : DeskMeaning C). x.range_limit) on ∙ range_is;
     }
 
 -- where it was made
 pub runner_if : {C E : Type 0} (r : Result (ScriptedMeaning C) E) (work : Workload) (index : ℕ) (stated : SessionWork) (d : SessionMeaning C) (head : Head) (part : Part Event) (spare : ℕ) (clock : C) (pipelining : Bool) (limit : ℕ) (stop : Option ℕ) (range_limit : ℕ)
     → slice_get work.sessions index ≡ Some stated → IfOk r IsScripted → IfOk r (λ s. s ≡ record { session = d; script = stated.script; at = opened stated.script work.reruns })
-    → d.desk ≡ new_desk head part spare clock pipelining false limit stop range_limit → head ≡ head_in_work work → part ≡ newcomer (actors.Session (index + 1)) → limit ≡ work.limit → range_limit ≡ work.limit → IfOk r (IsRunnerIn work index)
-runner_if (Ok s) work index stated d head part spare clock pipelining limit stop range_limit listed scripted is desk head_is part_is limit_is range_is =
-    runner_begun work index stated s d head part spare clock pipelining limit stop range_limit listed scripted is desk head_is part_is limit_is range_is
-runner_if (Err e) work index stated d head part spare clock pipelining limit stop range_limit listed scripted is desk head_is part_is limit_is range_is = tt
+    → d.desk ≡ new_desk head part spare clock pipelining false limit stop range_limit → head ≡ head_in_work work → part ≡ newcomer (actors.Session (index + 1)) → limit ≡ work.limit → stop ≡ stated.stop → range_limit ≡ work.limit → IfOk r (IsRunnerIn work index)
+runner_if (Ok s) work index stated d head part spare clock pipelining limit stop range_limit listed scripted is desk head_is part_is limit_is stop_is range_is =
+    runner_begun work index stated s d head part spare clock pipelining limit stop range_limit listed scripted is desk head_is part_is limit_is stop_is range_is
+runner_if (Err e) work index stated d head part spare clock pipelining limit stop range_limit listed scripted is desk head_is part_is limit_is stop_is range_is = tt
 
 -- its clock has the rule of its work
 pub clock_if : {C E : Type 0} (r : Result (ScriptedMeaning C) E) (rule : C → ℕ → ℕ → Bool) (given : ℕ → ℕ → Bool) (work : Workload) (index : ℕ) (stated : SessionWork) (d : SessionMeaning C) (at : Position) (clock : C)
@@ -59,6 +81,59 @@ clock_if {C} (Ok s) rule given work index stated d at clock listed is on has = �
     same_work x y e = cc
 clock_if (Err e) rule given work index stated d at clock listed is on has = tt
 
+-- What was made for each actor of these, in order, but for those that are left.
+pub record HaveBegunBut {X : Type 0} (Has : ℕ → X → Type 0) (all left : List (ActorMeaning Head Event)) (made : List X) : Type 0 where
+  pub done : List (ActorMeaning Head Event)
+  pub whole : all ≡ done ++ left
+  pub many : length made ≡ length done
+  pub each : (index : ℕ) (x : X) → slice_get made index ≡ Some x → Has index x
+
+module _ {X : Type 0} (Has : ℕ → X → Type 0) where
+  pub none_begun : (all : List (ActorMeaning Head Event)) → HaveBegunBut Has all all []
+  none_begun all = record { done = []; whole = refl; many = refl; each = λ index x at. absurd cc }
+
+  module _ (all left : List (ActorMeaning Head Event)) (a : ActorMeaning Head Event) (made : List X) (so_far : HaveBegunBut Has all (a ∷ left) made) where
+    at-next : slice_get all (length made) ≡ Some a
+    at-next =
+        ap (λ n. slice_get all n) so_far.many
+        ∙ (ap (λ ls. slice_get ls (length so_far.done)) (so_far.whole ∙ sym (append_assoc so_far.done (a ∷ []) left))
+        ∙ get_append (so_far.done ++ a ∷ []) left (length so_far.done) a (get_push so_far.done a))
+
+    -- the next one has the next seat
+    pub next_seated : (head : Head) (from to : ℕ) → AreSeatedFor head from to all → IsSeatedFor head (from + length made) a
+    next_seated head from to seated = seated.each (length made) a at-next
+
+    pub next_there : (head : Head) (from to : ℕ) → AreSeatedFor head from to all → from + length made < to
+    next_there head from to seated = let lt : length made < length all = slice_get_within all (length made) a at-next in let m = seated.many in omega arith
+
+    pub one_begun : (x : X) → Has (length made) x → HaveBegunBut Has all left (made ++ x ∷ [])
+    one_begun x begun = record {
+      done = so_far.done ++ a ∷ [];
+      whole = so_far.whole ∙ sym (append_assoc so_far.done (a ∷ []) left);
+      many = length-append made (x ∷ []) ∙ (ap (λ n. n + 1) so_far.many ∙ sym (length-append so_far.done (a ∷ [])));
+      each = λ index y at. elim (get_push_cases made x index y at) [
+        | inl earlier ↦ so_far.each index y earlier
+        | inr last ↦ subst (Has index) last.1 (subst (λ i. Has i x) (sym last.0) begun)
+      ];
+    }
+
+  -- so many were made
+  pub all_made : (head : Head) (from to : ℕ) (all : List (ActorMeaning Head Event)) (made : List X) → AreSeatedFor head from to all → HaveBegunBut Has all [] made → from + length made ≡ to
+  all_made head from to all made seated so_far =
+      let long : length made ≡ length all = so_far.many ∙ (ap length (sym (append-nil so_far.done) ∙ sym so_far.whole)) in
+      let m = seated.many in
+      omega arith
+
+pub below_behind : (front n count : ℕ) → front + n < front + count → n < count
+below_behind front n count lt = omega arith
+
+-- the seats of sessions, and of recoverers
+pub session_seat : (work : Workload) (index : ℕ) (a : ActorMeaning Head Event) → index < length work.sessions → IsSeatedFor (head_in_work work) index a → a.part ≡ newcomer (actors.Session (index + 1))
+session_seat work index a lt seated = seated.part ∙ ap newcomer (session_at (head_in_work work) index lt)
+
+pub recoverer_seat : (work : Workload) (index : ℕ) (a : ActorMeaning Head Event) → IsSeatedFor (head_in_work work) (length work.sessions + index) a → a.part ≡ newcomer (actors.Recoverer (index + 1))
+recoverer_seat work index a seated = seated.part ∙ ap newcomer (recoverer_at (head_in_work work) index)
+
 module _ {C : Type 0} (rule : C → ℕ → ℕ → Bool) (rules : ActorId → ℕ → ℕ → Bool) (work : Workload) where
   -- The session of this index has begun, and done nothing; its clock has the rule of its work.
   pub record HasBegun (index : ℕ) (s : ScriptedMeaning C) : Type 0 where
@@ -66,45 +141,10 @@ module _ {C : Type 0} (rule : C → ℕ → ℕ → Bool) (rules : ActorId → �
     pub fresh : own_list s ≡ []
     pub clock : (session : SessionWork) → slice_get work.sessions index ≡ Some session → rule s.session.desk.log.clock ≡ clock_rule session.clock (rules (actors.Session (index + 1)))
 
-  -- So far the sessions of all actors have begun but those that are left.
-  pub record HaveBegunBut (all left : List (ActorMeaning Head Event)) (runners : List (ScriptedMeaning C)) : Type 0 where
-    pub done : List (ActorMeaning Head Event)
-    pub whole : all ≡ done ++ left
-    pub many : length runners ≡ length done
-    pub each : (index : ℕ) (s : ScriptedMeaning C) → slice_get runners index ≡ Some s → HasBegun index s
-
-  pub none_begun : (all : List (ActorMeaning Head Event)) → HaveBegunBut all all []
-  none_begun all = record { done = []; whole = refl; many = refl; each = λ index s at. absurd cc }
-
-  module _ (all left : List (ActorMeaning Head Event)) (a : ActorMeaning Head Event) (runners : List (ScriptedMeaning C)) (so_far : HaveBegunBut all (a ∷ left) runners) where
-    at-next : slice_get all (length runners) ≡ Some a
-    at-next =
-        ap (λ n. slice_get all n) so_far.many
-        ∙ (ap (λ ls. slice_get ls (length so_far.done)) (so_far.whole ∙ sym (append_assoc so_far.done (a ∷ []) left))
-        ∙ get_append (so_far.done ++ a ∷ []) left (length so_far.done) a (get_push so_far.done a))
-
-    -- the next one is that of the next session
-    pub next_seated : (count : ℕ) → AreSeatedFor (head_in_work work) count all → IsSeatedFor (head_in_work work) (length runners + 1) a
-    next_seated count seated = seated.each (length runners) a at-next
-
-    pub next_there : (count : ℕ) → AreSeatedFor (head_in_work work) count all → length runners < count
-    next_there count seated = let lt : length runners < length all = slice_get_within all (length runners) a at-next in let m : length all ≡ count = seated.many in omega arith
-
-    pub one_begun : (s : ScriptedMeaning C) → HasBegun (length runners) s → HaveBegunBut all left (runners ++ s ∷ [])
-    one_begun s begun = record {
-      done = so_far.done ++ a ∷ [];
-      whole = so_far.whole ∙ sym (append_assoc so_far.done (a ∷ []) left);
-      many = length-append runners (s ∷ []) ∙ (ap (λ n. n + 1) so_far.many ∙ sym (length-append so_far.done (a ∷ [])));
-      each = λ index x at. elim (get_push_cases runners s index x at) [
-        | inl earlier ↦ so_far.each index x earlier
-        | inr last ↦ subst (HasBegun index) last.1 (subst (λ i. HasBegun i s) (sym last.0) begun)
-      ];
-    }
-
-  module _ (all : List (ActorMeaning Head Event)) (runners : List (ScriptedMeaning C)) (seated : AreSeatedFor (head_in_work work) (length work.sessions) all) (so_far : HaveBegunBut all [] runners) where
+  module _ (all : List (ActorMeaning Head Event)) (runners : List (ScriptedMeaning C)) (seated : AreSeatedFor (head_in_work work) 0 (length work.sessions) all) (so_far : HaveBegunBut HasBegun all [] runners) where
     pub all_runners : AreRunners work runners
     all_runners = record {
-      many = so_far.many ∙ (ap length (sym (append-nil so_far.done) ∙ sym so_far.whole) ∙ seated.many);
+      many = (let m = all_made HasBegun (head_in_work work) 0 (length work.sessions) all runners seated so_far in omega arith);
       each = λ index s at. (so_far.each index s at).runner;
     }
 
@@ -113,3 +153,53 @@ module _ {C : Type 0} (rule : C → ℕ → ℕ → Bool) (rules : ActorId → �
 
     pub all_clocks : HaveClocks rule rules work runners
     all_clocks index s session at listed = (so_far.each index s at).clock session listed
+
+  -- The recoverer of this index is before its first round; its clock has the rule of its work.
+  pub record HasBegunRounds (index : ℕ) (r : CountedMeaning C) : Type 0 where
+    pub recoverer : IsRecovererIn work index r
+    pub fresh : entries_made r ≡ []
+    pub clock : (stated : RecovererWork) → slice_get work.recoverers index ≡ Some stated → rule r.recoverer.desk.log.clock ≡ clock_rule stated.clock (rules (actors.Recoverer (index + 1)))
+
+  module _ (all : List (ActorMeaning Head Event)) (recoverers : List (CountedMeaning C)) (seated : AreSeatedFor (head_in_work work) (length work.sessions) (length work.sessions + length work.recoverers) all)
+      (so_far : HaveBegunBut HasBegunRounds all [] recoverers) where
+    pub all_recoverers : AreRecoverers work recoverers
+    all_recoverers = record {
+      many = (let m = all_made HasBegunRounds (head_in_work work) (length work.sessions) (length work.sessions + length work.recoverers) all recoverers seated so_far in omega arith);
+      each = λ index r at. (so_far.each index r at).recoverer;
+    }
+
+    pub all_fresh_rounds : All (λ r. entries_made r ≡ []) recoverers
+    all_fresh_rounds = all_from_contains (λ r. entries_made r ≡ []) recoverers (λ r c. let at = contains_get recoverers r c in (so_far.each at.0 r at.1).fresh)
+
+    pub all_round_clocks : HaveRecovererClocks rule rules work recoverers
+    all_round_clocks index r stated at listed = (so_far.each index r at).clock stated listed
+
+-- a recoverer that was made with its rounds is that of its place
+pub recoverer_begun : {C : Type 0} (work : Workload) (index : ℕ) (stated : RecovererWork) (r : CountedMeaning C) (m : RecovererMeaning C) (head : Head) (part : Part Event) (spare : ℕ) (clock : C) (limit : ℕ) (stop : Option ℕ) (range_limit : ℕ)
+    → slice_get work.recoverers index ≡ Some stated → GoesInRounds r → r ≡ record { recoverer = m; rounds = stated.rounds; made = 0 } → m.number ≡ index + 1 → m.level ≡ stated.level
+    → m.desk ≡ new_desk head part spare clock false false limit stop range_limit → head ≡ head_in_work work → limit ≡ work.limit → stop ≡ stated.stop → range_limit ≡ work.limit → IsRecovererIn work index r
+recoverer_begun {C} work index stated r m head part spare clock limit stop range_limit listed counted is number level desk head_is limit_is stop_is range_is =
+    let on : r.recoverer.desk ≡ new_desk head part spare clock false false limit stop range_limit = ap (λ (x : CountedMeaning C). x.recoverer.desk) is ∙ desk in
+    record {
+      counted = counted;
+      number = ap (λ (x : CountedMeaning C). x.recoverer.number) is ∙ number;
+      recoverer = stated;
+      listed = listed;
+      level = sym (ap (λ (x : CountedMeaning C). x.recoverer.level) is ∙ level);
+      rounds = sym (ap (λ (x : CountedMeaning C). x.rounds) is);
+      head = ap (λ (x : DeskMeaning C). x.log.head) on ∙ head_is;
+      limit = ap (λ (x : DeskMeaning C). x.log.limit) on ∙ limit_is;
+      stop = ap (λ (x : DeskMeaning C). x.log.stop) on ∙ stop_is;
+      range_limit = ap (λ (x : DeskMeaning C). x.range_limit) on ∙ range_is;
+    }
+
+-- its clock has the rule of its work
+pub round_clock : {C : Type 0} (r : CountedMeaning C) (m : RecovererMeaning C) (rule : C → ℕ → ℕ → Bool) (given : ℕ → ℕ → Bool) (work : Workload) (index : ℕ) (stated : RecovererWork) (clock : C)
+    → slice_get work.recoverers index ≡ Some stated → r ≡ record { recoverer = m; rounds = stated.rounds; made = 0 } → m.desk.log.clock ≡ clock → rule clock ≡ clock_rule stated.clock given
+    → (recoverer : RecovererWork) → slice_get work.recoverers index ≡ Some recoverer → rule r.recoverer.desk.log.clock ≡ clock_rule recoverer.clock given
+round_clock {C} r m rule given work index stated clock listed is on has recoverer here =
+    let same : stated ≡ recoverer = same_work stated recoverer (sym listed ∙ here) in
+    ap (λ (x : CountedMeaning C). rule x.recoverer.desk.log.clock) is ∙ (ap rule on ∙ (has ∙ ap (λ (w : RecovererWork). clock_rule w.clock given) same))
+  where
+    same_work : (x y : RecovererWork) → Some x ≡ Some y → x ≡ y
+    same_work x y e = cc

@@ -1,2 +1,3 @@
 -- Both ends of a workload's run.
 pub mod SessionClock
+pub mod Finishing

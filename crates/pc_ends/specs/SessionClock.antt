@@ -1,4 +1,4 @@
--- A session's clock: the one that the workload states, or the one that was handed in. Own profile.
+-- The clock of a session or a recoverer: the one that the workload states, or the one that was handed in. Own profile.
 use Rattle.std.specs.Prelude.{ℕ, Bool}
 use Rattle.pc_clock.specs.Stepped.{stepped_rule}
 use Rattle.pc_ends.specs.declared.session_clock.SessionClock.{SessionClock}

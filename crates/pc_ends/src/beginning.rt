@@ -1,19 +1,25 @@
 ghost use Rattle.std.specs.Prelude.{◌≡◌, ◌+◌, ◌<◌, All, IfOk, OnOk, Some, [], length, slice_get};
 ghost use Rattle.pc_base.specs.declared.actor.ActorId.TheVariants as actors;
-ghost use Rattle.pc_closing.specs.Opening.{AreSeatedFor, IsSeatedFor, opener_of};
+ghost use Rattle.pc_closing.specs.Opening.{AreSeatedFor, opener_of};
 ghost use Rattle.pc_ends.specs.SessionClock.{session_rule};
+ghost use Rattle.pc_history.specs.Parts.{newcomer};
+ghost use Rattle.pc_rounds.specs.Counted.{entries_made};
+ghost use Rattle.pc_runs.specs.Recoverers.{AreRecoverers, HaveRecovererClocks, IsRecovererIn};
 ghost use Rattle.pc_runs.specs.Runners.{AreRunners, HaveClocks, IsRunnerIn, head_in_work};
 ghost use Rattle.pc_script.specs.Clocks.{clock_rule};
 ghost use Rattle.pc_scripted.specs.Scripted.{own_list};
 ghost use Rattle.pc_work.specs.Accepted.{IsAccepted};
+ghost use Rattle.pc_work.specs.declared.recoverer.RecovererWork.{RecovererWork as RoundWork};
 ghost use Rattle.pc_work.specs.declared.session.SessionWork.{SessionWork as Work};
 
 use crate::session_clock::{SessionClock, clock_for};
-use pc_base::{NoMemory, TryCopy};
+use pc_base::{ActorId, NoMemory, TryCopy};
 use pc_clock::Clocks;
 use pc_closing::{Opened, open};
 use pc_history::{Actor, Blank, Named};
 use pc_range::{CommitWorld, Gate, Ranges};
+use pc_recoverer::Recoverer;
+use pc_rounds::CountedRecoverer;
 use pc_scripted::Scripted;
 use pc_session::Session;
 use pc_wire::Quiet;
@@ -23,16 +29,20 @@ use std::alloc::Global;
 /// A session of a workload with its script, over a quiet wire.
 pub type Runner<'a, N, C, G> = Scripted<'a, N, SessionClock<C>, Quiet, G>;
 
+/// A recoverer of a workload with its rounds, over a quiet wire.
+pub type RoundRunner<'a, N, C, G> = CountedRecoverer<'a, N, SessionClock<C>, Quiet, G>;
+
 /// The table of the workload's history.
 pub fn blank_of(alloc: Global, work: &Workload) -> Result<Blank<CommitWorld>, NoMemory>
     requires { IsAccepted work.now }
     ensures { IfOk result (λ b. b.world ≡ head_in_work work.now) }
 {
-    let world = CommitWorld::new(work.splits.copy()?, work.sessions.len() as u32, 0);
+    let sessions = work.sessions.len() as u32;
+    let world = CommitWorld::new(work.splits.copy()?, sessions, work.recoverers.len() as u32);
     Blank::new(alloc, world)
 }
 
-/// Seats the workload's ranges and sessions.
+/// Seats the workload's ranges, sessions and recoverers.
 pub fn open_work<'a, N: Named<CommitWorld>, G: Gate>(
     alloc: Global,
     blank: Blank<CommitWorld>,
@@ -44,7 +54,8 @@ pub fn open_work<'a, N: Named<CommitWorld>, G: Gate>(
     requires accepted { IsAccepted work.now }
     ensures opener { IfOk result (λ o. o.opener ≡ opener_of (head_in_work work.now)) }
     ensures ranges { IfOk result (λ o. o.ranges ≡ record { splits = work.now.splits; limit = work.now.limit }) }
-    ensures actors { IfOk result (λ o. AreSeatedFor (head_in_work work.now) (length work.now.sessions) o.actors.items) }
+    ensures sessions { IfOk result (λ o. AreSeatedFor (head_in_work work.now) 0 (length work.now.sessions) o.sessions.items) }
+    ensures recoverers { IfOk result (λ o. AreSeatedFor (head_in_work work.now) (length work.now.sessions) (length work.now.sessions + length work.now.recoverers) o.recoverers.items) }
 {
     let sessions = work.sessions.len() as u32;
     open(
@@ -52,6 +63,7 @@ pub fn open_work<'a, N: Named<CommitWorld>, G: Gate>(
         blank,
         work.splits.copy()?,
         sessions,
+        work.recoverers.len() as u32,
         work.limit,
         gate,
     )
@@ -69,10 +81,11 @@ where
     M::Clock: Drop,
     requires accepted { IsAccepted work.now }
     requires ranges { ranges.now ≡ record { splits = work.now.splits; limit = work.now.limit } }
-    requires actors { AreSeatedFor (head_in_work work.now) (length work.now.sessions) actors.items }
+    requires actors { AreSeatedFor (head_in_work work.now) 0 (length work.now.sessions) actors.items }
     ensures runners { IfOk result (λ r. AreRunners work.now r.items) }
     ensures fresh { IfOk result (λ r. All (λ s. own_list s ≡ []) r.items) }
     ensures clocks { IfOk result (λ r. HaveClocks (session_rule M.Clock.rule) (M.rules clocks.old) work.now r.items) }
+    ensures kept { OnOk result (M.rules clocks.new ≡ M.rules clocks.old) }
 {
     let mut runners = Vec::new(alloc);
     for actor in actors {
@@ -96,7 +109,8 @@ where
     requires accepted { IsAccepted work.now }
     requires there { index < length work.now.sessions }
     requires ranges { ranges.now ≡ record { splits = work.now.splits; limit = work.now.limit } }
-    requires seated { IsSeatedFor (head_in_work work.now) (index + 1) actor }
+    requires world { actor.world ≡ head_in_work work.now }
+    requires part { actor.part ≡ newcomer (actors.Session (index + 1)) }
     ensures runner { IfOk result (IsRunnerIn work.now index) }
     ensures fresh { IfOk result (λ s. own_list s ≡ []) }
     ensures clock { IfOk result (λ s. (session : Work) → slice_get work.now.sessions index ≡ Some session →
@@ -105,7 +119,7 @@ where
 {
     let stated = &work.sessions.as_slice()[index];
     let number = index as u32 + 1;
-    let clock = clock_for(clocks, stated.clock, number);
+    let clock = clock_for(clocks, stated.clock, ActorId::Session(number));
     let session = Session::new(
         alloc,
         number,
@@ -116,7 +130,71 @@ where
         work.tries,
         work.pipelining,
         work.limit,
-        None,
+        stated.stop,
     );
     Scripted::new(alloc, session, &stated.script, work.reruns)
+}
+
+/// The workload's recoverers, each before its first round.
+pub fn begin_recoverers<'a, N: Named<CommitWorld>, M: Clocks, G: Gate>(
+    alloc: Global,
+    work: &'a Workload,
+    clocks: &mut M,
+    ranges: &'a Ranges<'a, N, G>,
+    actors: Vec<Actor<CommitWorld, N>>,
+) -> Result<Vec<RoundRunner<'a, N, M::Clock, G>>, NoMemory>
+where
+    M::Clock: Drop,
+    requires accepted { IsAccepted work.now }
+    requires ranges { ranges.now ≡ record { splits = work.now.splits; limit = work.now.limit } }
+    requires actors { AreSeatedFor (head_in_work work.now) (length work.now.sessions) (length work.now.sessions + length work.now.recoverers) actors.items }
+    ensures recoverers { IfOk result (λ r. AreRecoverers work.now r.items) }
+    ensures fresh { IfOk result (λ r. All (λ x. entries_made x ≡ []) r.items) }
+    ensures clocks { IfOk result (λ r. HaveRecovererClocks (session_rule M.Clock.rule) (M.rules clocks.old) work.now r.items) }
+{
+    let mut recoverers = Vec::new(alloc);
+    for actor in actors {
+        let recoverer = begin_recoverer(alloc, work, clocks, ranges, actor, recoverers.len());
+        recoverers.push(recoverer)?;
+    }
+    Ok(recoverers)
+}
+
+/// The recoverer of this index, from 0.
+fn begin_recoverer<'a, N: Named<CommitWorld>, M: Clocks, G: Gate>(
+    alloc: Global,
+    work: &'a Workload,
+    clocks: &mut M,
+    ranges: &'a Ranges<'a, N, G>,
+    actor: Actor<CommitWorld, N>,
+    index: usize,
+) -> RoundRunner<'a, N, M::Clock, G>
+where
+    M::Clock: Drop,
+    requires accepted { IsAccepted work.now }
+    requires there { index < length work.now.recoverers }
+    requires ranges { ranges.now ≡ record { splits = work.now.splits; limit = work.now.limit } }
+    requires world { actor.world ≡ head_in_work work.now }
+    requires part { actor.part ≡ newcomer (actors.Recoverer (index + 1)) }
+    ensures recoverer { IsRecovererIn work.now index result }
+    ensures fresh { entries_made result ≡ [] }
+    ensures clock { (recoverer : RoundWork) → slice_get work.now.recoverers index ≡ Some recoverer →
+        session_rule M.Clock.rule result.recoverer.desk.log.clock ≡ clock_rule recoverer.clock (M.rules clocks.old (actors.Recoverer (index + 1))) }
+    ensures kept { M.rules clocks.new ≡ M.rules clocks.old }
+{
+    let asked = &work.recoverers.as_slice()[index];
+    let number = index as u32 + 1;
+    let clock = clock_for(clocks, asked.clock, ActorId::Recoverer(number));
+    let recoverer = Recoverer::new(
+        alloc,
+        number,
+        actor,
+        ranges,
+        clock,
+        Quiet::new(),
+        asked.level,
+        work.limit,
+        asked.stop,
+    );
+    CountedRecoverer::new(recoverer, asked.rounds)
 }

@@ -1,10 +1,11 @@
-//! Both ends of a workload's run: its sessions with their scripts at the beginning, and what they leave at the end.
+//! Both ends of a workload's run: its sessions with their scripts and its recoverers with their rounds at the beginning, and what they leave
+//! at the end.
 #![tactic(auto)]
 
 mod beginning;
 mod ending;
 mod session_clock;
 
-pub use beginning::{Runner, begin, blank_of, open_work};
+pub use beginning::{RoundRunner, Runner, begin, begin_recoverers, blank_of, open_work};
 pub use ending::finish;
 pub use session_clock::SessionClock;

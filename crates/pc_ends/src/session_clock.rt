@@ -1,5 +1,4 @@
 ghost use Rattle.std.specs.Prelude.{◌≡◌};
-ghost use Rattle.pc_base.specs.declared.actor.ActorId.TheVariants as actors;
 ghost use Rattle.pc_ends.specs.SessionClock.{session_reads, session_rule};
 ghost use Rattle.pc_script.specs.Clocks.{clock_rule};
 
@@ -7,7 +6,7 @@ use pc_base::ActorId;
 use pc_clock::{Clock, Clocks, Stepped};
 use pc_work::ClockWork;
 
-/// A session's clock: the one that the workload states, or the one that was handed in.
+/// The clock of a session or a recoverer: the one that the workload states, or the one that was handed in.
 #[derive(Drop)]
 pub enum SessionClock<C> {
     Stated(Stepped),
@@ -27,18 +26,18 @@ impl<C: Clock> Clock for SessionClock<C> {
     }
 }
 
-/// The clock of the session of this number, on which no read was made yet.
+/// The clock of this client, on which no read was made yet.
 pub(crate) fn clock_for<M: Clocks>(
     clocks: &mut M,
     stated: Option<ClockWork>,
-    number: u32,
+    id: ActorId,
 ) -> SessionClock<M::Clock>
-    ensures rule { session_rule M.Clock.rule result ≡ clock_rule stated (M.rules clocks.old (actors.Session number)) }
+    ensures rule { session_rule M.Clock.rule result ≡ clock_rule stated (M.rules clocks.old id) }
     ensures unread { session_reads M.Clock.reads result ≡ 0 }
     ensures kept { M.rules clocks.new ≡ M.rules clocks.old }
 {
     match stated {
         Some(clock) => SessionClock::Stated(Stepped::new(clock.start, clock.step)),
-        None => SessionClock::Handed(clocks.clock(ActorId::Session(number))),
+        None => SessionClock::Handed(clocks.clock(id)),
     }
 }

@@ -16,7 +16,7 @@ use Rattle.pc_desk.specs.Ending.{EndsOnly}
 use Rattle.pc_desk.specs.Keeping.{KeepsAs}
 use Rattle.pc_desk.specs.OwnLog.{LogMeaning}
 use Rattle.pc_exchange.proofs.Called.{next_unsent}
-use Rattle.pc_exchange.proofs.Ending.{breaks_only, made_by}
+use Rattle.pc_exchange.proofs.Ending.{breaks_only, hears_within, made_by, within_then}
 use Rattle.pc_exchange.proofs.Growing.{grows_both, grows_else, grows_entered}
 use Rattle.pc_exchange.proofs.HeardKinds.{heard_kind, heard_possible}
 use Rattle.pc_exchange.proofs.Knowing.{heard_then}
@@ -74,6 +74,7 @@ hears-as (actors.Session session) splits pipelining own number step h none no_re
   puts = λ call asked. waits-none (known_of own) call h.request none;
   resends = tt;
   calls = tt;
+  beats = tt;
   finishes = tt;
   aborts = tt;
   rolled_back = tt;
@@ -82,7 +83,7 @@ hears-as (actors.Session session) splits pipelining own number step h none no_re
   rounds = tt;
   eighth = tt;
   waves = tt;
-  pieces = whole-scan splits (known_of own) h.request round;
+  pieces = λ plain beat. whole-scan splits (known_of own) h.request round plain;
   refresh_wave = whole-refresh (known_of own) h.request no_refresh;
   again = λ s opened plain ends. let r = round s opened in let both : None ≡ Some r.0 = sym plain ∙ r.1 in absurd cc;
   piece_order = tt;
@@ -264,12 +265,14 @@ module _ {C : Type 0} (old mid : DeskMeaning C) (request : Request) (number : �
   within-first : All IsInBetween (events_of first-part)
   within-first = All-cons IsInBetween (events.Send number sent.range request) [] tt (All-nil IsInBetween)
 
-  pub ends_sent : (new : DeskMeaning C) (halt : Halt) → EndsOnly mid new halt → BreaksOff (All IsInBetween) old new halt
-  ends_sent new halt ends = breaks_only old mid new first-part sent-grown sent.limit (made_by old.log mid first-part sent.track sent-grown) (All IsInBetween) halt sent.track within-first ends
+  pub ends_sent : (new : DeskMeaning C) (halt : Halt) → EndsOnly (λ made. ⊥) mid new halt → BreaksOff (All IsInBetween) old new halt
+  ends_sent new halt ends =
+      breaks_only old mid new first-part sent-grown sent.limit (made_by old.log mid first-part sent.track sent-grown) (λ made. ⊥) (All IsInBetween) halt sent.track within-first (λ stopped event none. absurd none) ends
 
   -- or once it was evaluated
-  pub ends_delivered : (late new : DeskMeaning C) (halt : Halt) → HasDelivered mid late → EndsOnly late new halt → BreaksOff (All IsInBetween) old new halt
+  pub ends_delivered : (late new : DeskMeaning C) (halt : Halt) → HasDelivered mid late → EndsOnly (λ made. (number : ℕ) × (step : ℕ) × (made ≡ events.Hear number step)) late new halt → BreaksOff (All IsInBetween) old new halt
   ends_delivered late new halt delivered ends =
       let three : HasGrownBy mid.log late.log [] = grows_else mid.log late.log mid.log.part.given late.log.part.known delivered.own delivered.more in
       let grown = grows_both old.log mid.log late.log first-part [] sent-grown three in
-      breaks_only old late new first-part grown (delivered.limit ∙ sent.limit) (made_by old.log late first-part delivered.track grown) (All IsInBetween) halt delivered.track within-first ends
+      breaks_only old late new first-part grown (delivered.limit ∙ sent.limit) (made_by old.log late first-part delivered.track grown) (λ made. (number : ℕ) × (step : ℕ) × (made ≡ events.Hear number step)) (All IsInBetween) halt delivered.track within-first
+      (λ stopped. within_then (λ made. (number : ℕ) × (step : ℕ) × (made ≡ events.Hear number step)) (events_of first-part) hears_within within-first) ends

@@ -95,6 +95,7 @@ module _ {C : Type 0} (old : DeskMeaning C) (job : Job) (m : Resolving) (d : Des
           kind = λ s opened. let both = sym closed ∙ opened in absurd cc;
           eighth = λ s opened. let both = sym closed ∙ opened in absurd cc;
           in_turn = λ s opened. let both = sym closed ∙ opened in absurd cc;
+          beats = λ s t opened is. let both = sym closed ∙ opened in absurd cc;
           due = λ none. record {
             next = ap first_message f.waiting ∙ ap (λ l. first_message (with_rest l f.start.waiting)) first.first;
             heard = all_heard_ever d f.goes.back;

@@ -39,9 +39,9 @@ rises-both n m (x ∷ p) q rp rq least across = (
 )
 
 -- what an actor knows that stored more and forgot nothing
-knows-more : (a b : Part Event) (p : List (Pair Event)) → b.own ≡ a.own ++ p → ((k : KnownEntry Event) → Contains a.known k → Contains b.known k)
+pub knows_more : (a b : Part Event) (p : List (Pair Event)) → b.own ≡ a.own ++ p → ((k : KnownEntry Event) → Contains a.known k → Contains b.known k)
     → (e : Entry Event) → Contains (knowledge a) e → Contains (knowledge b) e
-knows-more a b p own more e c =
+knows_more a b p own more e c =
     elim (Contains-append_cases (entries_of a.own) (told_entries a.known) e c) [
       | inl stored ↦
           knows-own b e (subst (λ l. Contains l e) (sym (ap entries_of own ∙ map-append (λ (q : Pair Event). q.entry) a.own p)) (Contains-append_left (entries_of a.own) (entries_of p) e stored))
@@ -58,7 +58,7 @@ module _ {C : Type 0} (a b d : LogMeaning C) (p q : List (Pair Event)) (x : HasG
   above-was : AreAboveKnown (knowledge a.part) q
   above-was =
       All-weaker (IsAbove (knowledge b.part)) (IsAbove (knowledge a.part))
-      (λ s all. all_from_contains (λ (e : Entry Event). e.step < s.entry.step) (knowledge a.part) (λ e c. All-contains (λ (e : Entry Event). e.step < s.entry.step) (knowledge b.part) e all (knows-more a.part b.part p x.own x.known e c)))
+      (λ s all. all_from_contains (λ (e : Entry Event). e.step < s.entry.step) (knowledge a.part) (λ e c. All-contains (λ (e : Entry Event). e.step < s.entry.step) (knowledge b.part) e all (knows_more a.part b.part p x.own x.known e c)))
       q y.above
 
   first-below : (s t : Pair Event) → Contains p s → Contains q t → s.entry.step < t.entry.step

@@ -1,4 +1,6 @@
+pub mod AnsweredAlive
 pub mod Aside
+pub mod Beaten
 pub mod Called
 pub mod Coordinator
 pub mod Ending

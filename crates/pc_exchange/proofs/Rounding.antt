@@ -1,7 +1,7 @@
 -- A conflict's round, step by step: each of its messages may be sent when it is due, and what was heard is what its machine stands at.
 use Rattle.std.proofs.Common.{◌≡◌, ℕ, zero, suc, ◌+◌, ◌≤◌, Bool, true, false, ◌&&◌, inl, inr, List, [], ◌∷◌, ◌++◌, All, Any, Contains, Option, Some, None, IfSome, IsTrue, refl, sym, ap, ◌∙◌, subst, arith, count_by, is_some}
 use Rattle.std.proofs.lemmas.List.{append_assoc}
-use Rattle.std.proofs.lemmas.List.Elements.{All-cons, All-contains, All-nil, All-weaker, Contains-append_cases}
+use Rattle.std.proofs.lemmas.List.Elements.{All-cons, All-nil, All-weaker}
 use Rattle.std.specs.Option.{option_map_or}
 use Rattle.pc_base.specs.declared.actor.ActorId.TheVariants as actors
 use Rattle.pc_base.specs.declared.transaction.TxnId.{TxnId}
@@ -13,6 +13,7 @@ use Rattle.pc_coord.specs.declared.round.Round.TheVariants as rounds
 use Rattle.pc_coord.specs.Pusher.{IsPusherOf}
 use Rattle.pc_coord.specs.Rounds.{EndsRound, IsRefusedRound, IsSettledRound}
 use Rattle.pc_exchange.proofs.Aside.{open_same}
+use Rattle.pc_exchange.proofs.Beaten.{any_front, beaten_still}
 use Rattle.pc_exchange.proofs.Going.{not_same}
 use Rattle.pc_exchange.proofs.InTurn.{push_in_turn, resolve_in_turn}
 use Rattle.pc_exchange.proofs.Pushed.{push_decides}
@@ -44,6 +45,7 @@ use Rattle.pc_world.specs.Counting.{AtLeast}
 use Rattle.pc_world.specs.Exchange.{IsPossibleReply}
 use Rattle.pc_follows.specs.EarlyTell.{IsCommitKnown}
 use Rattle.pc_follows.specs.Eighth.{IsBeforeEighth, MetEighth}
+use Rattle.pc_follows.specs.Heartbeats.{HasBeaten}
 use Rattle.pc_follows.specs.Resends.{HasMoreConflicts, MayGoAgain}
 use Rattle.pc_follows.specs.Rounds.{IsInItsRound, rounds_begun}
 use Rattle.pc_world.specs.Known.{Known, call_in, open_txn, reading_of}
@@ -95,14 +97,6 @@ push_settles_none id request is = absurd cc
 
 -- ---- the messages of the round
 
--- one that is so is in front, where none behind is
-any-front : {X : Type 0} (P : X → Type 0) (xs ys : List X) → Any P (xs ++ ys) → All (λ y. P y → ⊥) ys → Any P xs
-any-front P xs ys any none =
-    elim (Contains-append_cases xs ys any.1 (any.0, any.2, any.3)) [
-      | inl front ↦ (front.0, any.1, front.1, front.2, any.4)
-      | inr behind ↦ absurd (All-contains (λ y. P y → ⊥) ys any.1 none behind any.4)
-    ]
-
 module _ (session : ℕ) (start : Known) (number : ℕ) (conflict : Reply) (reader : Option ℕ) (met : IsConflictNow start number conflict reader) where
   -- The machine makes this round, and its holder was begun.
   pub record IsMade (m : Pushing) : Type 0 where
@@ -127,7 +121,7 @@ module _ (session : ℕ) (start : Known) (number : ℕ) (conflict : Reply) (read
     -- what was heard since speaks of no record of the open transaction
     heard-before : (t : Txn) → open_txn start ≡ Some t → (p : Heard → Bool) → ((h : Heard) → is_about t.id h.request ≡ false → p h ≡ false) → Any (λ h. IsTrue (p h)) k.heard → Any (λ h. IsTrue (p h)) start.heard
     heard-before t opened p none any =
-        any-front (λ h. IsTrue (p h)) start.heard later.heard_more (subst (Any (λ h. IsTrue (p h))) later.heard any)
+        any_front (λ h. IsTrue (p h)) start.heard later.heard_more (subst (Any (λ h. IsTrue (p h))) later.heard any)
         (All-weaker (λ (h : Heard). IsAside session start h.request) (λ h. IsTrue (p h) → ⊥) (λ h aside is. let no : p h ≡ false = none h (aside.other t opened) in cc) later.heard_more later.heard_aside)
 
     not_decided : (t : Txn) (ts : ℕ) → IsCommitKnown k t ts → ⊥
@@ -156,6 +150,10 @@ module _ (session : ℕ) (start : Known) (number : ℕ) (conflict : Reply) (read
       eighth = λ s opened. unmet;
       in_turn = λ s opened. turn;
       due = λ none. let both = sym in_call ∙ none in absurd cc;
+      beats = λ s t opened is.
+          let open_then : open_txn start ≡ Some t = sym (open_same session start k last later) ∙ is in
+          let is_t : met.t ≡ t = let both = sym met.open_is ∙ open_then in cc both in
+          subst (HasBeaten k) is_t (beaten_still session start k last later met.t met.beaten);
     }
 
     -- more conflicts with the holder were heard than pushes of it

@@ -1,5 +1,5 @@
 -- A message of a round or of a job may be sent now.
-use Rattle.std.proofs.Common.{◌≡◌, ℕ, ◌⊎◌, inl, inr, Bool, true, false, List, None, Some, Any, refl, sym, subst}
+use Rattle.std.proofs.Common.{◌≡◌, ℕ, ◌⊎◌, inl, inr, Bool, true, false, List, None, Some, Any, IsTrue, refl, sym, subst}
 use Rattle.pc_base.specs.declared.actor.ActorId.{ActorId}
 use Rattle.pc_base.specs.declared.actor.ActorId.TheVariants as actors
 use Rattle.pc_base.specs.declared.transaction.TxnId.{TxnId}
@@ -19,17 +19,18 @@ use Rattle.pc_proto.specs.declared.request.Request.{Request}
 use Rattle.pc_proto.specs.declared.request.Request.TheVariants as requests
 use Rattle.pc_proto.specs.Requests.{is_put, is_refresh, round_of}
 use Rattle.pc_world.specs.Exchange.{IsAllowed}
-use Rattle.pc_follows.specs.CallMessages.{IsFor, IsForCall, IsOfRound}
+use Rattle.pc_follows.specs.CallMessages.{IsFor, IsForCall, IsOfRound, ShowsLife}
 use Rattle.pc_follows.specs.EarlyTell.{IsCommitKnown}
 use Rattle.pc_follows.specs.Eighth.{IsBeforeEighth, MetEighth}
 use Rattle.pc_follows.specs.FinishingJobs.{IsDue, jobs_of}
+use Rattle.pc_follows.specs.Heartbeats.{HasBeaten, is_heartbeat}
 use Rattle.pc_follows.specs.OneWrite.{IsItsPut}
 use Rattle.pc_follows.specs.PieceOrder.{IsNextPiece}
 use Rattle.pc_follows.specs.Refreshes.{IsItsRefresh}
 use Rattle.pc_follows.specs.Resends.{AreAnsweredNow, MayGoAgain}
 use Rattle.pc_follows.specs.Rounds.{IsInItsRound}
 use Rattle.pc_follows.specs.WaveOrder.{EndsWaves}
-use Rattle.pc_world.specs.Known.{Known, known_of}
+use Rattle.pc_world.specs.Known.{Known, known_of, open_txn}
 use Rattle.pc_world.specs.Known.Statements.{Statement}
 use Rattle.pc_world.specs.Known.Transactions.{Txn}
 use Rattle.pc_world.specs.RangeOf.{IsForOne}
@@ -37,8 +38,8 @@ use Rattle.pc_world.specs.SameRequest.{IsSameRequest}
 use Rattle.pc_world.specs.Unstaged.{IsNoStage}
 
 -- The message goes out when its session's work has it: in no call that is decided; in a call again only once all of the same were answered
--- and where it may go again, for it, or as one of a conflict's round in its turn, and not past its eighth conflict; and between calls where it is
--- the next one of the oldest job.
+-- and where it may go again, for it, or as one of a conflict's round in its turn, not past its eighth conflict, and once the heartbeats went out
+-- that were due; and between calls where it is the next one of the oldest job.
 pub record IsTimely (k : Known) (jobs : List (List Request)) (request : Request) : Type 0 where
   pub undecided : (t : Txn) (ts : ℕ) → IsCommitKnown k t ts → ⊥
   pub again : (s : Statement) → k.statement ≡ Some s → Any (λ m. IsSameRequest request m.request) k.sent_now → AreAnsweredNow k request × MayGoAgain k request (round_of request)
@@ -46,6 +47,14 @@ pub record IsTimely (k : Known) (jobs : List (List Request)) (request : Request)
   pub eighth : (s : Statement) → k.statement ≡ Some s → MetEighth k request → ⊥
   pub in_turn : (s : Statement) → k.statement ≡ Some s → IsInItsRound k request × IsBeforeEighth k request
   pub due : k.statement ≡ None → IsDue k jobs request
+  pub beats : (s : Statement) (t : Txn) → k.statement ≡ Some s → open_txn k ≡ Some t → HasBeaten k t
+
+-- it is no heartbeat
+pub no_beat : (request : Request) → is_of_round_or_job request ≡ true → IsTrue (is_heartbeat request) → ⊥
+no_beat (requests.Push holder by level now goal) kind is = let e : false ≡ true = is in cc
+no_beat (requests.Resolve id key fate) kind is = let e : false ≡ true = is in cc
+no_beat (requests.Remove id anchor) kind is = let e : false ≡ true = is in cc
+no_beat request kind is = cc
 
 its-put : (k : Known) (request : Request) → is_of_round_or_job request ≡ true → IsItsPut k request
 its-put k (requests.Push holder by level now goal) is = tt
@@ -76,6 +85,7 @@ sends-as id session splits pipelining own number range request whose kind t ends
       puts = tt;
       resends = t.again;
       calls = t.kind;
+      beats = λ s txn opened is. inr (t.beats s txn opened is, λ beat. absurd (no_beat request kind beat));
       finishes = t.due;
       aborts = tt;
       rolled_back = tt;
@@ -126,10 +136,14 @@ for-none (calls.Delete key) id anchor is = is
 for-none calls.Rollback id anchor is = cc
 for-none call id anchor is = is
 
+kind-none : (call : Call) (id : TxnId) (anchor : List ℕ) → IsFor call (requests.Remove id anchor) ⊎ ShowsLife call (requests.Remove id anchor) → ⊥
+kind-none call id anchor (inl is) = for-none call id anchor is
+kind-none call id anchor (inr life) = no_beat (requests.Remove id anchor) refl life.1
+
 of-round : (k : Known) (request : Request) → is_of_round_or_job request ≡ true → IsForCall k request ⊎ IsOfRound request → IsOfRound request
 of-round k (requests.Push holder by level now goal) is kind = (holder.id, refl)
 of-round k (requests.Resolve id key fate) is kind = (id, refl)
-of-round k (requests.Remove id anchor) is (inl kind) = absurd (for-none kind.s.call id anchor kind.kind)
+of-round k (requests.Remove id anchor) is (inl kind) = absurd (kind-none kind.s.call id anchor kind.kind)
 of-round k (requests.Remove id anchor) is (inr round) = round
 of-round k request is kind = absurd cc
 

@@ -1,8 +1,9 @@
 -- How an actor's list breaks off in the middle of what it did: it made some entries, and then its list had ended.
-use Rattle.std.specs.Prelude.{◌≡◌, ◌≤◌, false, true, ◌⊎◌, None, List, ◌++◌, length, All, Contains}
+use Rattle.std.specs.Prelude.{◌≡◌, ◌≤◌, false, true, List, ◌++◌, length, All, Contains, ⊤}
 use Rattle.pc_desk.specs.declared.halt.Halt.{Halt}
+use Rattle.pc_desk.specs.declared.halt.Halt.TheVariants as halts
 use Rattle.pc_desk.specs.Desk.{DeskMeaning, GivesOnce}
-use Rattle.pc_desk.specs.Ending.{IsAtFullRange, IsAtOwnEnd, IsEndedBy}
+use Rattle.pc_desk.specs.Ending.{EndsEarly}
 use Rattle.pc_history.specs.declared.pair.Pair.{Pair}
 use Rattle.pc_history.specs.declared.view.Known.{Known as KnownEntry}
 use Rattle.pc_history.specs.Parts.{knowledge}
@@ -30,8 +31,14 @@ pub record HasBrokenOff {C : Type 0} (Are : List Event → Type 0) (old new : De
   pub limit : new.range_limit ≡ old.range_limit
   pub given : GivesOnce new.log.part
   pub within : length new.log.part.own ≤ new.log.limit
-  pub end : IsAtOwnEnd new ⊎ IsAtFullRange new
+  pub end : EndsEarly new
 
--- Where it had not stopped, and no entry is stated at which it stops: its list broke off so, or memory was wanted.
+-- Want of memory leaves nothing to say; where the list has ended this is so.
+abbrev pub IsEndedBy : Halt → Type 0 → Type 0
+IsEndedBy halts.Stopped So = So
+IsEndedBy (halts.Full actor) So = So
+IsEndedBy halts.NoMemory So = ⊤
+
+-- Where it had not stopped: its list broke off so, or memory was wanted.
 abbrev pub BreaksOff : {C : Type 0} → (List Event → Type 0) → DeskMeaning C → DeskMeaning C → Halt → Type 0
-BreaksOff Are old new halt = old.log.stopped ≡ false → old.log.stop ≡ None → IsEndedBy halt (HasBrokenOff Are old new)
+BreaksOff Are old new halt = old.log.stopped ≡ false → IsEndedBy halt (HasBrokenOff Are old new)

@@ -8,6 +8,7 @@ pub mod Eighth
 pub mod EvaluationOrder
 pub mod FinishingJobs
 pub mod FirstBlock
+pub mod Heartbeats
 pub mod OldestUnheard
 pub mod OneWrite
 pub mod PieceOrder

@@ -133,7 +133,7 @@ module _ {W E : Type 0} (sense : W → Sense E) (w : W) where
         uses = (λ m.
             let total : uses_in m (slice_set views seat after) + view_uses m v ≡ uses_in m views + view_uses m after = sum_set (view_uses m) views seat v after at in
             let grown : spenders S m (history ++ e ∷ []) ≡ spenders S m history + cond (S.spends event && names_step S m (named_in S history event)) 1 0 = spenders-push S m history e in
-            let once : view_uses m after + cond (S.spends event && names_step S m (named_by S v.part event)) 1 0 ≡ view_uses m v = spent-once S m (S.spends event) (named_by S v.part event) v.part.known can in
+            let once = spent-once S m (S.spends event) (named_by S v.part event) v.part.known can in
             let same : cond {A = ℕ} (S.spends event && names_step S m (named_by S v.part event)) 1 0 ≡ cond {A = ℕ} (S.spends event && names_step S m (named_in S history event)) 1 0 = ap (λ o. cond {A = ℕ} (S.spends event && names_step S m o) 1 0) named in
             let old = table.uses m in
             omega arith);

@@ -1,5 +1,5 @@
 -- The opener closes the history.
-use Rattle.std.proofs.Common.{◌≡◌, ◌≢◌, ℕ, suc, ◌+◌, ◌*◌, ◌≤◌, ◌<◌, inl, inr, cond, eqb, List, [], ◌∷◌, ◌++◌, length, refl, ap, sym, ◌∙◌, subst, arith, length-append, Contains, Some, Option, slice_get, slice_index, slice_index_or, sum_by, IsPermutation}
+use Rattle.std.proofs.Common.{◌≡◌, ◌≢◌, ℕ, suc, ◌+◌, ◌*◌, ◌≤◌, ◌<◌, inl, inr, cond, eqb, List, [], ◌∷◌, ◌++◌, length, refl, ap, sym, ◌∙◌, subst, arith, length-append, Contains, Some, Option, slice_get, slice_index, slice_set, slice_index_or, sum_by, IsPermutation}
 use Rattle.std.proofs.lemmas.Bool.{eq-eqb, ne_eqb}
 use Rattle.std.proofs.lemmas.List.Sums.{sum_by-cons, sum_by-append}
 use Rattle.std.proofs.lemmas.List.Elements.{All-contains, Contains-append_cases}
@@ -20,25 +20,45 @@ use Rattle.pc_history.specs.Own.{own, pairs_of, entries_of}
 use Rattle.pc_history.specs.History.{IsFineAfter}
 use Rattle.pc_history.specs.World.{IsWorld}
 use Rattle.pc_history.specs.Closed.{Stands, ids_of, IsClosedPart, IsHistoryOf, AllHandedIn}
-use Rattle.pc_history.specs.Table.{IsHandedIn, Rules, IsStepTable, count_of}
-use Rattle.pc_history.specs.Steps.{TellsClose, Closes}
+use Rattle.pc_history.specs.Parts.{uses_of}
+use Rattle.pc_history.specs.Table.{IsHandedIn, Rules, IsStepTable, count_of, uses_in, view_uses}
+use Rattle.pc_history.specs.Steps.{TellsClose, Closes, spent}
 use Rattle.pc_history.specs.Ties.{entries_in}
 use Rattle.pc_history.proofs.Histories.{own-contains, fine-kept, pairs_of-entries}
 use Rattle.pc_history.proofs.Counts.{count-some, sum_same, sum-own}
 use Rattle.pc_history.proofs.NoteStep.{get-map}
 use Rattle.pc_history.proofs.LookStep.{loaded}
 use Rattle.pc_history.proofs.Fitting.{fits-opener, word-is}
-use Rattle.pc_lists.proofs.Lists.{all_from_contains, contains_cons, contains_head, contains_in_map, contains_map, contains_nil, contains_tail, nothing_contained}
+use Rattle.pc_lists.proofs.Lists.{all_from_contains, contains_cons, contains_head, contains_in_map, contains_map, contains_nil, contains_tail, nothing_contained, sum_set}
+
+-- one of those that are summed is at most the sum
+one_within : {A : Type 0} (f : A → ℕ) (xs : List A) (x : A) → Contains xs x → f x ≤ sum_by f xs
+one_within f [] x c = absurd (contains_nil x c)
+one_within f (y ∷ ys) x c =
+    let all : sum_by f (y ∷ ys) ≡ f y + sum_by f ys = sum_by-cons f y ys in
+    elim (contains_cons y ys x c) [
+      | inl same ↦ let here : f y ≡ f x = ap f same in omega arith
+      | inr later ↦ let rest : f x ≤ sum_by f ys = one_within f ys x later in omega arith
+    ]
 
 module _ {W E : Type 0} (S : Sense E) (world : Option W) (words : List ℕ) (views : List (View W E)) where
-  closed-part : (table : IsStepTable S world words views) (part : Part E) → IsHandedIn S world table.history table.books part → IsClosedPart S table.history part
-  closed-part table part h = record {
+  -- what one view has is within what all have
+  view-within : (seat : ℕ) (v : View W E) (n : ℕ) → get_elem? views seat ≡ found.some v → view_uses n v ≤ uses_in n views
+  view-within seat v n at =
+      let without : uses_in n (slice_set views seat spent) + view_uses n v ≡ uses_in n views + view_uses n (spent {W = W} {E = E}) = sum_set (view_uses n) views seat v spent at in
+      let z : view_uses n (spent {W = W} {E = E}) ≡ 0 = omega arith in
+      omega arith
+
+  closed-part : (table : IsStepTable S world words views) (seat : ℕ) (v : View W E) (part : Part E) → get_elem? views seat ≡ found.some v → Contains v.parts part → IsHandedIn S world table.history table.books part → IsClosedPart S table.history part
+  closed-part table seat v part at-seat there h = record {
     list = sym h.part_is.list;
     stand = all_from_contains (Stands S table.history) part.known h.part_is.stand;
     uses = (λ place p at.
         let given = get_or_from_slice_get part.given place (table.books.given_of p.entry.step) 0
         (subst (λ gs. slice_get gs place ≡ Some (table.books.given_of p.entry.step)) (sym h.part_is.gifts) (get-map (λ (q : Pair E). table.books.given_of q.entry.step) part.own place p at)) in
         let all = table.uses p.entry.step in
+        let mine = one_within (λ (q : Part E). uses_of p.entry.step q.known) v.parts part there in
+        let within = view-within seat v p.entry.step at-seat in
         omega arith);
   }
 
@@ -52,7 +72,7 @@ module _ {W E : Type 0} (S : Sense E) (world : Option W) (words : List ℕ) (vie
         record {
           fine = table.fine;
           kept = fine-kept S laws table.history table.fine;
-          parts_are = all_from_contains (IsClosedPart S table.history) v.parts (λ p c. closed-part table p (opener.parts_are p c));
+          parts_are = all_from_contains (IsClosedPart S table.history) v.parts (λ p c. closed-part table seat v p at c (opener.parts_are p c));
           only = all_from_contains (λ e. Contains (ids_of v.parts) e.actor) table.history
               (λ e c. All-contains (λ id. Contains (ids_of v.parts) id) v.seated e.actor handed (subst (λ ids. Contains ids e.actor) (sym opener.seated_are) (table.actors e c)));
         },

@@ -1,5 +1,5 @@
 -- A note is copied.
-use Rattle.std.proofs.Common.{◌≡◌, ℕ, ◌+◌, ◌-◌, ◌≤◌, inl, inr, List, [], ◌∷◌, subst, arith, Some}
+use Rattle.std.proofs.Common.{◌≡◌, ℕ, ◌-◌, ◌≤◌, inl, inr, List, [], ◌∷◌, subst, arith, Some}
 use Rattle.atomic_table.specs.Table.{Splits}
 use Rattle.pc_base.specs.declared.Entry.{Entry}
 use Rattle.pc_history.specs.declared.view.Role.TheVariants.{Noting}
@@ -8,7 +8,7 @@ use Rattle.pc_history.specs.declared.view.View.{View}
 use Rattle.pc_history.specs.Sense.{Sense}
 use Rattle.pc_history.specs.Parts.{uses_left, without_uses, with_uses}
 use Rattle.pc_history.specs.Closed.{Stands}
-use Rattle.pc_history.specs.Table.{AllStand, Rules, view_uses, Fits}
+use Rattle.pc_history.specs.Table.{AllStand, Rules, Fits}
 use Rattle.pc_history.specs.Steps.{after_copying, copied_view}
 use Rattle.pc_history.proofs.Uses.{uses_of-split}
 use Rattle.pc_history.proofs.SeatStep.{at_split, uses-split}
@@ -52,7 +52,7 @@ module _ {X W E : Type 0} (sense : W → Sense E) (w : W) where
         fresh = table.fresh;
         uses = (λ n.
             let total = uses-split n s.views seat v left right at in
-            let both : view_uses n left + view_uses n right ≡ view_uses n v = uses_of-split n uses v.part.known enough in
+            let both = uses_of-split n uses v.part.known enough in
             let old = table.uses n in
             omega arith);
         fits = (λ k u at_k.

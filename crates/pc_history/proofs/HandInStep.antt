@@ -2,6 +2,7 @@
 use Rattle.std.proofs.Common.{◌≡◌, ◌≢◌, ℕ, ◌+◌, ◌≤◌, inl, inr, Bool, true, false, cond, [], ◌∷◌, refl, ap, sym, ◌∙◌, subst, arith, Contains, Some, slice_set}
 use Rattle.std.proofs.lemmas.List.{map-append}
 use Rattle.std.proofs.lemmas.List.Elements.{Contains-push_cases}
+use Rattle.std.proofs.lemmas.List.Sums.{sum_by_push}
 use mathlib.Core.Option as found
 use lib.ListN.{get_elem?}
 use Rattle.atomic_table.specs.Table.{Joins}
@@ -12,6 +13,7 @@ use Rattle.pc_history.specs.declared.view.Part.{Part}
 use Rattle.pc_history.specs.declared.view.View.{View}
 use Rattle.pc_history.specs.Sense.{Sense}
 use Rattle.pc_history.specs.Own.{same_id}
+use Rattle.pc_history.specs.Parts.{uses_of}
 use Rattle.pc_history.specs.Closed.{ids_of}
 use Rattle.pc_history.specs.Table.{Books, IsHandedIn, Rules, uses_in, Fits, count_of}
 use Rattle.pc_history.specs.Steps.{after_handing_in, spent}
@@ -64,7 +66,7 @@ module _ {X W E : Type 0} (sense : W → Sense E) (w : W) where
         fresh = table.fresh;
         uses = (λ n.
             let less : uses_in n (slice_set (slice_set s.views seat (after_handing_in v actor)) other spent) ≤ uses_in n s.views =
-            uses-joined n s.views seat other v actor (after_handing_in v actor) at apart at' (omega arith) in
+            uses-joined n s.views seat other v actor (after_handing_in v actor) at apart at' (let e = sum_by_push (λ (p : Part E). uses_of n p.known) v.parts actor.part in omega arith) in
             let old = table.uses n in
             omega arith);
         fits = (λ k u at_k.

@@ -12,7 +12,7 @@ use Rattle.pc_history.specs.Sense.{Sense}
 use Rattle.pc_history.specs.Own.{own, entries_of}
 use Rattle.pc_history.specs.Parts.{known_entry, known_entry_at, uses_of, noted, gave}
 use Rattle.pc_history.specs.Closed.{Stands}
-use Rattle.pc_history.specs.Table.{Books, IsPart, Rules, view_uses, Fits}
+use Rattle.pc_history.specs.Table.{Books, IsPart, Rules, Fits}
 use Rattle.pc_history.specs.Steps.{after_noting, noted_view}
 use Rattle.pc_history.specs.History.{IsFine}
 use Rattle.pc_history.proofs.Histories.{Rises, own-contains, own-rises, fine-one, fine-below}
@@ -95,7 +95,7 @@ module _ {X W E : Type 0} (sense : W → Sense E) (w : W) where
             ap (λ b. books.given_of n + cond b uses 0) no' ∙ (let z = table.fresh n past in omega arith));
         uses = (λ n.
             let total = uses-split n s.views seat v left right at in
-            let new' : view_uses n right ≡ cond (eqb p.entry.step n) uses 0 = ap (λ ks. uses_of n ks) tells ∙ (let c = uses_of-cons n (known_entry p.entry place uses) [] in let z : uses_of {E = E} n [] ≡ 0 = refl in omega arith) in
+            let new' : uses_of n right.part.known ≡ cond (eqb p.entry.step n) uses 0 = ap (λ ks. uses_of n ks) tells ∙ (let c = uses_of-cons n (known_entry p.entry place uses) [] in let z : uses_of {E = E} n [] ≡ 0 = refl in omega arith) in
             let old = table.uses n in
             omega arith);
         fits = (λ k u at_k.

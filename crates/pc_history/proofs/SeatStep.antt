@@ -82,7 +82,7 @@ module _ {X W E : Type 0} (sense : W → Sense E) (w : W) where
         fresh = table.fresh;
         uses = (λ m.
             let total = uses-split m s.views seat v left right at in
-            let none' : view_uses m right ≡ 0 = refl in
+            let none' : view_uses m right ≡ 0 = omega arith in
             let old = table.uses m in
             omega arith);
         fits = (λ k u at_k.

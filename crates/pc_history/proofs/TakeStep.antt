@@ -1,5 +1,5 @@
 -- An actor takes a note.
-use Rattle.std.proofs.Common.{◌≡◌, ◌≢◌, ℕ, ◌+◌, ◌≤◌, ◌⊎◌, inl, inr, List, refl, sym, ◌∙◌, subst, arith, Some, slice_set}
+use Rattle.std.proofs.Common.{◌≡◌, ◌≢◌, ℕ, ◌+◌, ◌≤◌, ◌⊎◌, inl, inr, List, sym, ◌∙◌, subst, arith, Some, slice_set}
 use Rattle.std.proofs.lemmas.List.Elements.{Contains-append_cases}
 use mathlib.Core.Option as found
 use lib.ListN.{get_elem?}
@@ -26,7 +26,7 @@ pub uses-joined : {W E : Type 0} (n : ℕ) (views : List (View W E)) (seat other
 uses-joined {W} {E} n views seat other v w both at apart at' few =
     let a : uses_in n (slice_set views seat both) + view_uses n v ≡ uses_in n views + view_uses n both = sum_set (view_uses n) views seat v both at in
     let b : uses_in n (slice_set (slice_set views seat both) other spent) + view_uses n w ≡ uses_in n (slice_set views seat both) + view_uses n (spent {W = W} {E = E}) = sum_set (view_uses n) (slice_set views seat both) other w spent at' in
-    let z : view_uses n (spent {W = W} {E = E}) ≡ 0 = refl in
+    let z : view_uses n (spent {W = W} {E = E}) ≡ 0 = omega arith in
     omega arith
 
 module _ {X W E : Type 0} (sense : W → Sense E) (w : W) where

@@ -1,5 +1,5 @@
 -- What actors learn of the history while it grows, and what it is at its end.
-use Rattle.std.specs.Prelude.{◌≡◌, ℕ, ◌≤◌, ◌^◌, length, Bool, false, eqb, ◌&&◌, List, map, Option, Some, None, slice_get, slice_index, count_by, All, Contains}
+use Rattle.std.specs.Prelude.{◌≡◌, ℕ, ◌+◌, ◌≤◌, ◌^◌, length, Bool, false, eqb, ◌&&◌, List, map, Option, Some, None, slice_get, slice_index, count_by, All, Contains}
 use Rattle.pc_base.specs.declared.ActorId.{ActorId}
 use Rattle.pc_base.specs.declared.Entry.{Entry}
 use Rattle.pc_history.specs.declared.pair.Pair.{Pair}
@@ -8,6 +8,7 @@ use Rattle.pc_history.specs.declared.view.Part.{Part}
 use Rattle.pc_history.specs.Sense.{Sense}
 use Rattle.pc_history.specs.Own.{own, pairs_of, entries_of}
 use Rattle.pc_history.specs.History.{IsFine, AllKept}
+use Rattle.pc_history.specs.Parts.{uses_of}
 use Rattle.pc_history.specs.World.{NamesAtMostOne}
 
 -- Different entries have different numbers.
@@ -56,8 +57,8 @@ module _ {E : Type 0} (S : Sense E) where
     pub list : own S part.id history ≡ part.own
     -- What it knew stands in the history.
     pub stand : All (Stands history) part.known
-    -- Each of its entries was spent no more often than it gave uses.
-    pub uses : (place : ℕ) (p : Pair E) → slice_get part.own place ≡ Some p → spenders p.entry.step history ≤ slice_index part.given place
+    -- Each of its entries was spent no more often than it gave uses, less those that it has itself in the end.
+    pub uses : (place : ℕ) (p : Pair E) → slice_get part.own place ≡ Some p → spenders p.entry.step history + uses_of p.entry.step part.known ≤ slice_index part.given place
 
   -- The history is the one of these parts.
   pub record IsHistoryOf (history : List (Entry E)) (parts : List (Part E)) : Type 0 where

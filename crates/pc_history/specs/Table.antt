@@ -17,16 +17,20 @@ use Rattle.pc_history.specs.History.{IsFine}
 use Rattle.pc_history.specs.Parts.{newcomer, uses_of}
 use Rattle.pc_history.specs.Closed.{Stands, spenders, ids_of}
 
+-- The uses of the entry of this step that these parts have.
+abbrev pub uses_within : {E : Type 0} → ℕ → List (Part E) → ℕ
+uses_within step parts = sum_by (λ p. uses_of step p.known) parts
+
 module _ {W E : Type 0} where
   -- The opener before anybody is seated.
   abbrev pub opening_view : W → View W E
   opening_view w = record { role = Opening; world = Some w; part = newcomer (Range 0); seated = []; parts = [] }
 
-  -- The uses of the entry of this step that one view has.
+  -- The uses of the entry of this step that one view has, with those of the parts that were handed in to it.
   abbrev pub view_uses : ℕ → View W E → ℕ
-  view_uses step v = uses_of step v.part.known
+  view_uses step v = uses_of step v.part.known + uses_within step v.parts
 
-  -- The uses of the entry of this step that notes and actors have.
+  -- The uses of the entry of this step that notes, actors and handed-in parts have.
   abbrev pub uses_in : ℕ → List (View W E) → ℕ
   uses_in step views = sum_by (view_uses step) views
 
@@ -112,7 +116,7 @@ pub record IsStepTable {W E : Type 0} (S : Sense E) (world : Option W) (words : 
   pub seats : (id : ActorId) → (books.seat_of id ≡ 0) ⊎ Contains books.seated id
   -- No uses were given yet for an entry to come.
   pub fresh : (step : ℕ) → length history ≤ step → books.given_of step ≡ 0
-  -- The uses that notes and actors have, and the entries that spent one, are at most those that were given.
+  -- The uses that notes, actors and handed-in parts have, and the entries that spent one, are at most those that were given.
   pub uses : (step : ℕ) → uses_in step views + spenders S step history ≤ books.given_of step
   -- Each view fits the history and the books.
   pub fits : (seat : ℕ) (v : View W E) → get_elem? views seat ≡ found.some v → Fits S world history books seat v

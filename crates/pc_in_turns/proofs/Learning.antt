@@ -14,7 +14,7 @@ use Rattle.pc_history.proofs.Ids.{same_id-differ, same_id-equal, same_id-true}
 use Rattle.pc_history.specs.declared.pair.Pair.{Pair}
 use Rattle.pc_history.specs.Own.{entries_of, same_id}
 use Rattle.pc_in_turns.proofs.Places.{get_set_other, get_set_same, get_some, same_some}
-use Rattle.pc_in_turns.specs.Learning.{AreEntriesOf, OwnerWasUntold, LearnsBehind}
+use Rattle.pc_in_turns.specs.Learning.{AreEntriesOf, IsNoOtherSession, OwnerWasUntold, LearnsBehind}
 use Rattle.pc_lists.proofs.Each.{each-append, each-unmap, each-weaker}
 use Rattle.pc_lists.proofs.Lists.{contains_filter, contains_in_filter, contains_in_map, contains_map, length_set}
 use Rattle.pc_proto.specs.declared.answer.Answer.{Answer}
@@ -31,13 +31,12 @@ use Rattle.pc_script.specs.Script.{learnt_of, next_call}
 use Rattle.pc_scripted.proofs.Going.{all_mine}
 use Rattle.pc_scripted.proofs.Passing.{each_join}
 use Rattle.pc_scripted.proofs.Tests.{has_ended_now}
-use Rattle.pc_scripted.specs.Ended.{list_has_ended}
+use Rattle.pc_scripted.specs.Ended.{ended_in_script}
 use Rattle.pc_scripted.specs.Learning.{AreOfLearn, LearnsInTurn, learn_events, learnt_ahead}
 use Rattle.pc_scripted.specs.Scripted.{IsScripted, ScriptedMeaning, next_in_script, own_list, own_number}
 use Rattle.pc_scripted.specs.Taking.{AsksInTurn, FinishesInTurn, HasMoved, HasMovedBy}
 use Rattle.pc_turns.specs.Clients.{share_of}
 use Rattle.pc_turns.specs.Order.{AsksIfNext, FinishesIfLeft, IsInBetween, UnlessEnded, entries_by, events_of}
-use Rattle.pc_turns.specs.Shares.{IsSessionOf}
 use Rattle.pc_world.proofs.Knowing.{known_push}
 use Rattle.pc_world.specs.Caused.{TellsCommitted}
 use Rattle.pc_follows.specs.FinishingJobs.{jobs_of}
@@ -76,9 +75,9 @@ module _ {C : Type 0} (sessions : List (ScriptedMeaning C)) (index : ℕ) (s now
   pub entries_grow : (order part : List (Pair Event)) → AreEntriesOf sessions order → HasMovedBy s now part → AreEntriesOf (slice_set sessions index now) (order ++ part)
   entries_grow order part are by = record {
     each = λ other x got. each-so other x got (cases_eq other index);
-    only = subst (λ n. All (λ (p : Pair Event). IsSessionOf n p.entry.actor) (order ++ part)) (sym (length_set sessions index now))
-        (All-append (λ (p : Pair Event). IsSessionOf (length sessions) p.entry.actor) order part are.only
-        (All-weaker (IsOf (index + 1)) (λ (p : Pair Event). IsSessionOf (length sessions) p.entry.actor) (λ p is. subst (IsSessionOf (length sessions)) (sym is) (omega arith, omega arith)) part mine));
+    only = subst (λ n. All (λ (p : Pair Event). IsNoOtherSession n p.entry.actor) (order ++ part)) (sym (length_set sessions index now))
+        (All-append (λ (p : Pair Event). IsNoOtherSession (length sessions) p.entry.actor) order part are.only
+        (All-weaker (IsOf (index + 1)) (λ (p : Pair Event). IsNoOtherSession (length sessions) p.entry.actor) (λ p is. subst (IsNoOtherSession (length sessions)) (sym is) (omega arith, omega arith)) part mine));
   }
     where
       mine : All (IsOf (index + 1)) part
@@ -96,7 +95,7 @@ module _ {C : Type 0} (sessions : List (ScriptedMeaning C)) (index : ℕ) (s now
   pub entries_same : (order : List (Pair Event)) → AreEntriesOf sessions order → own_list now ≡ own_list s → AreEntriesOf (slice_set sessions index now) order
   entries_same order are same = record {
     each = λ other x got. each-so other x got (cases_eq other index);
-    only = subst (λ n. All (λ (p : Pair Event). IsSessionOf n p.entry.actor) order) (sym (length_set sessions index now)) are.only;
+    only = subst (λ n. All (λ (p : Pair Event). IsNoOtherSession n p.entry.actor) order) (sym (length_set sessions index now)) are.only;
   }
     where
       each-so : (other : ℕ) (x : ScriptedMeaning C) → slice_get (slice_set sessions index now) other ≡ Some x → (other ≡ index) ⊎ (other ≢ index) → own_list x ≡ entries_by (other + 1) order
@@ -146,11 +145,11 @@ module _ {C : Type 0} (s now : ScriptedMeaning C) (scripted : IsScripted s) wher
   abbrev next : ℕ → List (Pair Event) → Option Call
   next = next_in_script s.at.reruns s.script
 
-  abbrev ended : List (Pair Event) → Bool
-  ended = list_has_ended s.session.desk.log.limit everywhere
+  abbrev ended : ℕ → List (Pair Event) → Bool
+  ended = ended_in_script s.session.desk.log.limit s.session.desk.log.stop everywhere
 
-  nothing-made : s.session.desk.log.stopped ≡ true → (part : List (Pair Event)) (So : Type 0) → UnlessEnded (ended (own_list s)) part So → part ≡ []
-  nothing-made stopped part So is = by (ended (own_list s)) (has_ended_now s.session.desk everywhere (λ range knows. refl) (scripted.ends stopped)) is
+  nothing-made : s.session.desk.log.stopped ≡ true → (part : List (Pair Event)) (So : Type 0) → UnlessEnded (ended (own_number s) (own_list s)) part So → part ≡ []
+  nothing-made stopped part So is = by (ended (own_number s) (own_list s)) (has_ended_now s.session.desk everywhere (λ range knows. refl) (scripted.ends stopped)) is
     where
       by : (b : Bool) → b ≡ true → UnlessEnded b part So → part ≡ []
       by true e is = is
@@ -168,12 +167,12 @@ module _ {C : Type 0} (s now : ScriptedMeaning C) (scripted : IsScripted s) wher
   pub finishes_quiet : (m : HasMoved (FinishesInTurn s) s now) → IsQuiet s m.part
   finishes_quiet m = by s.session.desk.log.stopped refl
     where
-      is : UnlessEnded (ended (own_list s)) m.part (FinishesIfLeft next ended (own_number s) (jobs_of (own_list s)) (own_list s) m.part)
+      is : UnlessEnded (ended (own_number s) (own_list s)) m.part (FinishesIfLeft next ended (own_number s) (jobs_of (own_list s)) (own_list s) m.part)
       is = m.is everywhere (λ range knows. refl)
 
       by : (b : Bool) → s.session.desk.log.stopped ≡ b → IsQuiet s m.part
       by true stopped = inl (nothing-made stopped m.part (FinishesIfLeft next ended (own_number s) (jobs_of (own_list s)) (own_list s) m.part) is)
-      by false going = elim (unless (ended (own_list s)) m.part (FinishesIfLeft next ended (own_number s) (jobs_of (own_list s)) (own_list s) m.part) is) [
+      by false going = elim (unless (ended (own_number s) (own_list s)) m.part (FinishesIfLeft next ended (own_number s) (jobs_of (own_list s)) (own_list s) m.part) is) [
         | inl none ↦ inl none
         | inr so ↦ elim (job-quiet (jobs_of (own_list s)) m.part so) [ inl none ↦ inl none | inr asks ↦ inr (closed going, asks) ]
       ]
@@ -195,7 +194,7 @@ module _ {C : Type 0} (s now : ScriptedMeaning C) (scripted : IsScripted s) wher
       call : Option Call
       call = next (own_number s) (own_list s)
 
-      is : UnlessEnded (ended (own_list s)) m.part (AsksIfNext next ended (own_number s) (next (own_number s) (own_list s)) (own_list s) m.part)
+      is : UnlessEnded (ended (own_number s) (own_list s)) m.part (AsksIfNext next ended (own_number s) (next (own_number s) (own_list s)) (own_list s) m.part)
       is = m.is everywhere (λ range knows. refl)
 
       by : (b : Bool) → s.session.desk.log.stopped ≡ b → IsQuiet s m.part
@@ -203,7 +202,7 @@ module _ {C : Type 0} (s now : ScriptedMeaning C) (scripted : IsScripted s) wher
       by false going =
           let no : learnt_of (next_call s.at) ≡ None = ap (λ b. cond b None (learnt_of (next_call s.at))) (sym going) ∙ other in
           let none : learnt_of (next (own_number s) (own_list s)) ≡ None = ap (λ at. learnt_of (next_call at)) (sym (scripted.goes going).place) ∙ no in
-          elim (unless (ended (own_list s)) m.part (AsksIfNext next ended (own_number s) (next (own_number s) (own_list s)) (own_list s) m.part) is) [
+          elim (unless (ended (own_number s) (own_list s)) m.part (AsksIfNext next ended (own_number s) (next (own_number s) (own_list s)) (own_list s) m.part) is) [
             | inl empty ↦ inl empty
             | inr so ↦ elim (call-quiet (next (own_number s) (own_list s)) m.part none so) [ inl empty ↦ inl empty | inr asks ↦ inr (closed going, asks) ]
           ]
@@ -228,7 +227,7 @@ untold_among sessions id order are untold (k, x, there, is, tells) =
     let p = contains_in_map (λ (q : Pair Event). q.entry) mine x (k, there, is) in
     let c = contains_filter (λ (q : Pair Event). same_id (actors.Session id.session) q.entry.actor) order p.0 p.1 in
     let whose : actors.Session id.session ≡ p.0.entry.actor = same_id-true (actors.Session id.session) p.0.entry.actor c.1 in
-    let of : IsSessionOf (length sessions) (actors.Session id.session) = subst (IsSessionOf (length sessions)) (sym whose) (All-contains (λ (q : Pair Event). IsSessionOf (length sessions) q.entry.actor) order p.0 are.only c.0) in
+    let of : IsNoOtherSession (length sessions) (actors.Session id.session) = subst (IsNoOtherSession (length sessions)) (sym whose) (All-contains (λ (q : Pair Event). IsNoOtherSession (length sessions) q.entry.actor) order p.0 are.only c.0) in
     let from : 1 ≤ id.session = of.0 in
     let to : id.session ≤ length sessions = of.1 in
     let same : (id.session - 1) + 1 ≡ id.session = omega arith in

@@ -3,7 +3,9 @@ pub mod Among
 pub mod Learning
 pub mod Runners
 pub mod Acting
+pub mod Stepping
 pub mod Moving
+pub mod Recovering
 pub mod Following
 pub mod Onwards
 pub mod Parts

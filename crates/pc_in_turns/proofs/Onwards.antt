@@ -1,11 +1,11 @@
--- Sessions that go on further.
+-- Clients that go on further.
 use Rattle.std.proofs.Common.{◌≡◌, ℕ, Bool, List, [], ◌++◌, refl, sym, subst, ◌∙◌}
 use Rattle.std.proofs.lemmas.List.{append-nil, append_assoc}
 use Rattle.pc_base.specs.declared.actor.ActorId.{ActorId}
 use Rattle.pc_history.specs.declared.pair.Pair.{Pair}
-use Rattle.pc_in_turns.specs.Moving.{AreInTurns, HaveGoneOn, HaveMade, Stretch, TurnsMeaning}
+use Rattle.pc_in_turns.specs.Moving.{AreInTurns, HaveGoneOn, HaveMade, Stretch, TurnsMeaning, clients_in}
 use Rattle.pc_proto.specs.declared.event.Event.{Event}
-use Rattle.pc_runs.specs.Runners.{HaveClocks, SaysAllFull}
+use Rattle.pc_runs.specs.Together.{HaveClientClocks}
 use Rattle.pc_work.specs.declared.workload.Workload.{Workload}
 
 module _ {C : Type 0} (rule : C → ℕ → ℕ → Bool) where
@@ -38,7 +38,7 @@ module _ {C : Type 0} (rule : C → ℕ → ℕ → Bool) where
     work = b.work ∙ a.work;
     knows = λ full says. a.knows full (b.knows full says);
     clocks = λ rules have.
-        subst (λ (w : Workload). HaveClocks rule rules w new.sessions) a.work (b.clocks rules (subst (λ (w : Workload). HaveClocks rule rules w mid.sessions) (sym a.work) (a.clocks rules have)));
+        subst (λ (w : Workload). HaveClientClocks rule rules w (clients_in new)) a.work (b.clocks rules (subst (λ (w : Workload). HaveClientClocks rule rules w (clients_in mid)) (sym a.work) (a.clocks rules have)));
     goes = λ order made.
         let g = a.goes order made in
         let h = b.goes (order ++ g.0) g.1 in (

@@ -1,5 +1,5 @@
 -- What stands at a place of a list after a write, and at its end.
-use Rattle.std.proofs.Common.{◌≡◌, ◌≢◌, ℕ, zero, suc, ◌<◌, ◌≤◌, List, [], ◌∷◌, ◌++◌, length, take, get_or, slice_get, slice_set, Option, Some, refl, sym, ap, ◌∙◌, arith}
+use Rattle.std.proofs.Common.{◌≡◌, ◌≢◌, ℕ, zero, suc, ◌<◌, ◌≤◌, ◌+◌, List, [], ◌∷◌, ◌++◌, length, map, take, get_or, slice_get, slice_set, Option, Some, refl, sym, ap, ◌∙◌, arith}
 use Rattle.std.proofs.lemmas.Option.{slice_get_read}
 
 module _ {X : Type 0} where
@@ -64,3 +64,34 @@ module _ {X : Type 0} where
   take-all zero (x ∷ xs) le = absurd (omega arith)
   take-all (suc i) [] le = refl
   take-all (suc i) (x ∷ xs) le = ap (λ ys. x ∷ ys) (take-all i xs (omega arith))
+
+  -- two lists, of which one is changed
+  pub set_front : (xs ys : List X) (i : ℕ) (x : X) → i < length xs → slice_set (xs ++ ys) i x ≡ slice_set xs i x ++ ys
+  set_front [] ys i x lt = absurd (omega arith)
+  set_front (z ∷ zs) ys zero x lt = refl
+  set_front (z ∷ zs) ys (suc i) x lt = ap (λ l. z ∷ l) (set_front zs ys i x (omega arith))
+
+  pub set_behind : (xs ys : List X) (n i : ℕ) (x : X) → n ≡ length xs + i → slice_set (xs ++ ys) n x ≡ xs ++ slice_set ys i x
+  set_behind [] ys n i x is = let here : n ≡ i = omega arith in ap (λ m. slice_set ys m x) here
+  set_behind (z ∷ zs) ys zero i x is = absurd (omega arith)
+  set_behind (z ∷ zs) ys (suc n) i x is = ap (λ l. z ∷ l) (set_behind zs ys n i x (omega arith))
+
+  pub get_front : (xs ys : List X) (i : ℕ) → i < length xs → slice_get (xs ++ ys) i ≡ slice_get xs i
+  get_front [] ys i lt = absurd (omega arith)
+  get_front (z ∷ zs) ys zero lt = refl
+  get_front (z ∷ zs) ys (suc i) lt = get_front zs ys i (omega arith)
+
+  pub get_behind : (xs ys : List X) (n i : ℕ) → n ≡ length xs + i → slice_get (xs ++ ys) n ≡ slice_get ys i
+  get_behind [] ys n i is = let here : n ≡ i = omega arith in ap (slice_get ys) here
+  get_behind (z ∷ zs) ys zero i is = absurd (omega arith)
+  get_behind (z ∷ zs) ys (suc n) i is = get_behind zs ys n i (omega arith)
+
+pub get_map : {X Y : Type 0} (f : X → Y) (xs : List X) (i : ℕ) (x : X) → slice_get xs i ≡ Some x → slice_get (map f xs) i ≡ Some (f x)
+get_map f [] i x at = absurd cc
+get_map f (y ∷ ys) zero x at = let same : y ≡ x = same_some (Some y) y x refl at in ap (λ z. Some (f z)) same
+get_map f (y ∷ ys) (suc i) x at = get_map f ys i x at
+
+pub get_of_map : {X Y : Type 0} (f : X → Y) (xs : List X) (i : ℕ) (y : Y) → slice_get (map f xs) i ≡ Some y → (x : X) × (y ≡ f x) × (slice_get xs i ≡ Some x)
+get_of_map f [] i y at = absurd cc
+get_of_map f (x ∷ xs) zero y at = (x, same_some (Some (f x)) y (f x) at refl, refl)
+get_of_map f (x ∷ xs) (suc i) y at = get_of_map f xs i y at

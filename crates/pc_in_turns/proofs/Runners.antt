@@ -27,6 +27,7 @@ module _ {C : Type 0} (work : Workload) (index : ℕ) (s now : ScriptedMeaning C
         reruns = runner.reruns ∙ sym same.reruns;
         head = same.head ∙ runner.head;
         limit = same.limit ∙ runner.limit;
+        stop = same.stop ∙ runner.stop;
         range_limit = same.range_limit ∙ runner.range_limit;
       }
 
@@ -41,6 +42,7 @@ runner_told work index s note runner scripted = record {
   reruns = runner.reruns;
   head = runner.head;
   limit = runner.limit;
+  stop = runner.stop;
   range_limit = runner.range_limit;
 }
 
@@ -58,8 +60,10 @@ module _ {C : Type 0} (index : ℕ) (old : TurnsMeaning C) (in_turns : AreInTurn
   -- one of them is as this one now
   pub in_turns_set : (now : ScriptedMeaning C) → index < length old.sessions → IsRunnerIn old.work index now → AreInTurns (record old { sessions = slice_set old.sessions index now })
   in_turns_set now within runner = record {
+    some = in_turns.some;
     runners = runners_set old.work old.sessions index now in_turns.runners within runner;
-    there = subst (λ n. old.last < n) (sym (length_set old.sessions index now)) in_turns.there;
+    recoverers = in_turns.recoverers;
+    there = subst (λ n. old.last < n + length old.recoverers) (sym (length_set old.sessions index now)) in_turns.there;
   }
 
   -- they go in turns still

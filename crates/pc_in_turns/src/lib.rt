@@ -1,4 +1,4 @@
-//! The sessions of a workload, which go in the turns that it states: each moves behind all that was done before it.
+//! The sessions and recoverers of a workload, which go in the turns that it states: each moves behind all that was done before it.
 #![tactic(auto)]
 
 mod in_turns;

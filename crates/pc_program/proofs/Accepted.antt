@@ -12,7 +12,7 @@ output_is_run : (work : Workload) (rules : ActorId → ℕ → ℕ → Bool) (te
 output_is_run work rules text output = record {
   splits = work.splits;
   sessions = length work.sessions;
-  recoverers = 0;
+  recoverers = length work.recoverers;
   entries = output.entries;
   run = output.is.run;
   head_fits = output.head;

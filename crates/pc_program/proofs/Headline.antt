@@ -47,11 +47,11 @@ pub few_over : (work : Workload) → IsAccepted work → length work.splits + 1 
 few_over work accepted = omega (arith, accepted.few_splits)
 
 -- The head of such a workload's journal has a spelling.
-head_fits : (work : Workload) → IsAccepted work → FitsKeys work.splits → FitsHead work.splits (length work.sessions) 0
+head_fits : (work : Workload) → IsAccepted work → FitsKeys work.splits → FitsHead work.splits (length work.sessions) (length work.recoverers)
 head_fits work accepted keys = record {
   cuts = record { keys = keys; rise = accepted.splits; count = omega (arith, accepted.few_splits) };
   first_count = omega (arith, accepted.few_sessions);
-  second_count = omega arith;
+  second_count = omega (arith, accepted.few_recoverers);
 }
 
 -- The entries are a run over the workload's splits.

@@ -23,7 +23,7 @@ use Rattle.pc_program.specs.PlainReport.{ReportsPlainly}
 
 -- The journal of a history under the head of this workload, and below it a report.
 abbrev pub output_text : Workload → List (Entry Event) → Report → List ℕ
-output_text work entries report = journal_text work.splits (length work.sessions) 0 entries ++ report_text report
+output_text work entries report = journal_text work.splits (length work.sessions) (length work.recoverers) entries ++ report_text report
 
 -- The history is the run that the workload asks for, where these are the rules of the clocks that were handed in: a run of the protocol
 -- that follows the workload, in its turns or on threads. In it no two decisions differ, what is aborted or told to be over commits nowhere,
@@ -43,7 +43,7 @@ pub record IsRunOf (work : Workload) (rules : ActorId → ℕ → ℕ → Bool) 
 pub record IsOutput (work : Workload) (rules : ActorId → ℕ → ℕ → Bool) (text : List ℕ) : Type 0 where
   pub entries : List (Entry Event)
   pub is : IsRunOf work rules entries
-  pub head : FitsHead work.splits (length work.sessions) 0
+  pub head : FitsHead work.splits (length work.sessions) (length work.recoverers)
   pub spelled : FitsEntries entries
   pub report_spelled : FitsReport (report_of (head_in_work work) entries)
   pub whole : text ≡ output_text work entries (report_of (head_in_work work) entries)

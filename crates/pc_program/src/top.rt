@@ -24,8 +24,8 @@ use std::thread::Threads;
 /// The whole program, in the mode that its words ask for.
 ///
 /// Mode run reads a workload from the source, runs it, and writes its journal and report to the sink; mode check reads such an output, and
-/// writes the line `run` where it is a run with its report. The words are those behind the program's name. A session whose clock the workload
-/// does not state reads the one that is handed in for it. The gate is asked before each evaluation.
+/// writes the line `run` where it is a run with its report. The words are those behind the program's name. A session or recoverer whose clock the
+/// workload does not state reads the one that is handed in for it. The gate is asked before each evaluation.
 pub fn pcommit<S: Source, K: Sink, M: Clocks, G: Gate + Sync, R: Wait + Threads + Sync>(
     rt: &R,
     alloc: Global,

@@ -16,6 +16,7 @@ use Rattle.pc_exchange.proofs.HeardKinds.{heard_kind, heard_possible}
 use Rattle.pc_exchange.proofs.Knowing.{heard_then}
 use Rattle.pc_exchange.specs.Exchange.{heard_pair, sent_pair}
 use Rattle.pc_exchange.specs.Growing.{HasAllBack, HasGrownBy}
+use Rattle.pc_follows.specs.WaveOrder.{IsHearing}
 use Rattle.pc_history.specs.declared.pair.Pair.{Pair}
 use Rattle.pc_history.specs.Own.{pair}
 use Rattle.pc_history.specs.Parts.{entry_of, knowledge, named_by}
@@ -30,7 +31,7 @@ use Rattle.pc_proto.specs.declared.request.Request.TheVariants as requests
 use Rattle.pc_range.specs.Message.{evaluation}
 use Rattle.pc_range.specs.Protocol.{unstaged_protocol}
 use Rattle.pc_recoverer.proofs.Breaking.{breaks_here, breaks_weaker}
-use Rattle.pc_recoverer.proofs.Fronts.{front_sent, front_unsent, front_unsent_to}
+use Rattle.pc_recoverer.proofs.Fronts.{front_of_one, front_sent, front_unsent, front_unsent_to}
 use Rattle.pc_recoverer.specs.Broken.{AreFrontOf, AreFrontOfOne, AreFrontOfOneTo, BreaksOffIn, IsOneMessageTo}
 use Rattle.pc_recoverer.specs.InRound.{IsRecoverer, WasExchangedWith}
 use Rattle.pc_turns.specs.Order.{IsInBetween}
@@ -171,27 +172,30 @@ module _ {C : Type 0} (old mid new : DeskMeaning C) (request : Request) (number 
       grows_both old.log sent.sent mid.log _ [] one two
 
   -- it was not evaluated
-  pub ends_sent : EndsOnly mid new halt → BreaksOffIn (AreFrontOfOneTo sent.range request) old new halt
+  pub ends_sent : EndsOnly (λ made. ⊥) mid new halt → BreaksOffIn (AreFrontOfOneTo sent.range request) old new halt
   ends_sent ends =
       let p = added old.log sent.sent (events.Send number sent.range request) sent.entered in
-      breaks_here old mid new (p ∷ []) grown-sent sent.limit sent.track (AreFrontOfOneTo sent.range request) halt (front_sent number sent.range request p refl) ends
+      breaks_here old mid new (p ∷ []) grown-sent sent.limit sent.track (AreFrontOfOneTo sent.range request) halt (λ made. ⊥) (front_sent number sent.range request p refl) (λ stopped q its. absurd its.is) ends
 
   -- or its reply was not heard
-  pub ends_delivered : (late : DeskMeaning C) → HasDelivered mid late → EndsOnly late new halt → BreaksOffIn (AreFrontOfOneTo sent.range request) old new halt
+  pub ends_delivered : (late : DeskMeaning C) → HasDelivered mid late → EndsOnly (λ made. (number : ℕ) × (step : ℕ) × (made ≡ events.Hear number step)) late new halt → BreaksOffIn (AreFrontOfOneTo sent.range request) old new halt
   ends_delivered late delivered ends =
       let p = added old.log sent.sent (events.Send number sent.range request) sent.entered in
       let three : HasGrownBy mid.log late.log [] = grows_else mid.log late.log mid.log.part.given late.log.part.known delivered.own delivered.more in
       let grown = grows_both old.log mid.log late.log (p ∷ []) [] grown-sent three in
-      breaks_here old late new (p ∷ []) grown (delivered.limit ∙ sent.limit) delivered.track (AreFrontOfOneTo sent.range request) halt (front_sent number sent.range request p refl) ends
+      breaks_here old late new (p ∷ []) grown (delivered.limit ∙ sent.limit) delivered.track (AreFrontOfOneTo sent.range request) halt (λ made. (number : ℕ) × (step : ℕ) × (made ≡ events.Hear number step)) (front_sent number sent.range request p refl)
+      (λ stopped h its. inr (record { before = []; sending = p; hearing = h; whole = refl; sends = tt; hears = subst IsHearing (sym its.is.2) tt; are = front_sent number sent.range request p refl })) ends
 
 -- nor was it sent
-pub ends_unsent : {C : Type 0} (old new : DeskMeaning C) (request : Request) (halt : Halt) → KeepsTrack old → EndsOnly old new halt → BreaksOffIn (AreFrontOfOne request) old new halt
-ends_unsent old new request halt track ends = breaks_here old old new [] (grows_none old.log) refl track (AreFrontOfOne request) halt (front_unsent request) ends
+pub ends_unsent : {C : Type 0} (old new : DeskMeaning C) (request : Request) (halt : Halt) → KeepsTrack old → EndsOnly (λ made. (number : ℕ) × (range : ℕ) × (made ≡ events.Send number range request)) old new halt → BreaksOffIn (AreFrontOfOne request) old new halt
+ends_unsent old new request halt track ends = breaks_here old old new [] (grows_none old.log) refl track (AreFrontOfOne request) halt (λ made. (number : ℕ) × (range : ℕ) × (made ≡ events.Send number range request)) (front_unsent request)
+    (λ stopped p its. inl (front_of_one its.is.1 request (p ∷ []) (front_sent its.is.0 its.is.1 request p its.is.2))) ends
 
 -- ---- a message to a range that the recoverer names
 
-pub ends_unsent_to : {C : Type 0} (old new : DeskMeaning C) (range : ℕ) (request : Request) (reply : Reply) (halt : Halt) → KeepsTrack old → EndsOnly old new halt → BreaksOffIn (AreFrontOf (IsOneMessageTo range request reply)) old new halt
-ends_unsent_to old new range request reply halt track ends = breaks_here old old new [] (grows_none old.log) refl track (AreFrontOf (IsOneMessageTo range request reply)) halt (front_unsent_to range request reply) ends
+pub ends_unsent_to : {C : Type 0} (old new : DeskMeaning C) (range : ℕ) (request : Request) (reply : Reply) (halt : Halt) → KeepsTrack old → EndsOnly (λ made. (number : ℕ) × (made ≡ events.Send number range request)) old new halt → BreaksOffIn (AreFrontOf (IsOneMessageTo range request reply)) old new halt
+ends_unsent_to old new range request reply halt track ends = breaks_here old old new [] (grows_none old.log) refl track (AreFrontOf (IsOneMessageTo range request reply)) halt (λ made. (number : ℕ) × (made ≡ events.Send number range request)) (front_unsent_to range request reply)
+    (λ stopped p its. inl (front_sent its.is.0 range request p its.is.1 reply)) ends
 
 pub ends_at : {C : Type 0} (old new : DeskMeaning C) (one range : ℕ) (request : Request) (reply : Reply) (halt : Halt) → one ≡ range → BreaksOffIn (AreFrontOfOneTo one request) old new halt → BreaksOffIn (AreFrontOf (IsOneMessageTo range request reply)) old new halt
 ends_at old new one range request reply halt same breaks =

@@ -1,5 +1,5 @@
 -- A recoverer's whole round: it is asked, each range is visited, and the recoverer is told that it is done.
-use Rattle.std.proofs.Common.{◌≡◌, ℕ, ◌+◌, Bool, true, false, All, List, [], ◌∷◌, ◌++◌, length, cond, map, None, refl, sym, ap, ◌∙◌, subst}
+use Rattle.std.proofs.Common.{◌≡◌, ℕ, ◌+◌, Bool, true, false, inl, All, List, [], ◌∷◌, ◌++◌, length, cond, map, None, refl, sym, ap, ◌∙◌, subst}
 use Rattle.std.proofs.lemmas.List.{append-nil, append_assoc}
 use Rattle.std.proofs.lemmas.List.Elements.{All-append, All-cons, All-nil}
 use Rattle.pc_base.specs.declared.actor.ActorId.{ActorId}
@@ -8,6 +8,7 @@ use Rattle.pc_base.specs.declared.transaction.Priority.{Priority}
 use Rattle.pc_desk.proofs.Entering.{local_does}
 use Rattle.pc_desk.proofs.Making.{added, known_after_it}
 use Rattle.pc_desk.specs.declared.halt.Halt.{Halt}
+use Rattle.pc_desk.specs.declared.halt.Halt.TheVariants as halts
 use Rattle.pc_desk.specs.Desk.{DeskMeaning, HasDone, KeepsTrack}
 use Rattle.pc_desk.specs.Ending.{EndsOnly}
 use Rattle.pc_desk.specs.Keeping.{KeepsNext}
@@ -25,7 +26,7 @@ use Rattle.pc_proto.specs.declared.event.Event.TheVariants as events
 use Rattle.pc_range.specs.Protocol.{unstaged_protocol}
 use Rattle.pc_recoverer.proofs.Breaking.{breaks_behind, breaks_by, breaks_here}
 use Rattle.pc_recoverer.proofs.Fronts.{are_entries, entries_for, listings_of, made_as, made_by_another, would_list}
-use Rattle.pc_recoverer.specs.Broken.{AreFrontOf, AreOfBrokenRound, BreaksOffIn}
+use Rattle.pc_recoverer.specs.Broken.{AreFrontOf, AreOfBrokenRound, AreOfEndedRound, BreaksOffIn}
 use Rattle.pc_recoverer.specs.declared.maker.RoundMaker.{RoundMaker}
 use Rattle.pc_recoverer.specs.Exchanges.{AreExchangesIn, RoundMessage}
 use Rattle.pc_recoverer.specs.InRound.{HasVisitedEach, IsMakingRound}
@@ -49,6 +50,9 @@ AreIts number part = All (λ p. p.entry.actor ≡ actors.Recoverer number) part
 its-own : (number : ℕ) (r : List (Pair Event)) → AreIts number (map (made_as (actors.Recoverer number)) r)
 its-own number [] = All-nil (λ (p : Pair Event). p.entry.actor ≡ actors.Recoverer number)
 its-own number (p ∷ r) = All-cons (λ (p : Pair Event). p.entry.actor ≡ actors.Recoverer number) (made_as (actors.Recoverer number) p) (map (made_as (actors.Recoverer number)) r) refl (its-own number r)
+
+its-one : (number : ℕ) (p : Pair Event) → p.entry.actor ≡ actors.Recoverer number → AreIts number (p ∷ [])
+its-one number p is = All-cons (λ (p : Pair Event). p.entry.actor ≡ actors.Recoverer number) p [] is (All-nil (λ (p : Pair Event). p.entry.actor ≡ actors.Recoverer number))
 
 -- The entry that would ask it.
 abbrev ask_for : ℕ → Pair Event
@@ -113,6 +117,23 @@ module _ (splits : List (List ℕ)) (number : ℕ) (level : Priority) where
             (whole-round reading ask (tell_for number) f.traffic (q ++ rest) first (All-append Its q rest its (its-own number f.rest)) its-tell asks refl (made_by_another id f.traffic q f.rest f.exchanged) f.are);
       }
 
+  -- however its list ended
+  ended-round : (halt : Halt) (q : List (Pair Event)) → AreOfBrokenRound splits number level q → AreOfEndedRound splits number level halt q
+  ended-round halts.Stopped q broken = record { rest = broken.rest ++ broken.last ∷ []; whole = broken.whole }
+  ended-round (halts.Full actor) q broken = broken
+  ended-round halts.NoMemory q broken = broken
+
+  -- where it stopped, the round may be whole
+  whole-ended : (halt : Halt) (q : List (Pair Event)) → halt ≡ halts.Stopped → IsWholeRound splits number level q → AreOfEndedRound splits number level halt q
+  whole-ended halt q stopped whole =
+      subst (λ h. AreOfEndedRound splits number level h q) (sym stopped) (record { rest = []; whole = subst (IsWholeRound splits number level) (sym (append-nil q)) whole })
+
+  -- no message is a front of all
+  front-of-none : (reading : ℕ) → AreFrontOf (ArePartsOf (maker_at number level reading) 0 (length splits + 1)) []
+  front-of-none reading =
+      let traffic = listings_of 0 (length splits + 1) in
+      record { traffic = traffic; are = would_list (maker_at number level reading) 0 (length splits + 1); rest = entries_for traffic; exchanged = are_entries traffic }
+
   -- all its messages are such a front
   pub front_of_all : (reading : ℕ) (traffic : List RoundMessage) (between : List (Pair Event)) → AreExchangesIn traffic between → ArePartsOf (maker_at number level reading) 0 (length splits + 1) traffic
       → AreFrontOf (ArePartsOf (maker_at number level reading) 0 (length splits + 1)) between
@@ -166,12 +187,12 @@ module _ {C : Type 0} (number : ℕ) (level : Priority) (reading : ℕ) (old d :
 
   module _ (count : ℕ) (there : count ≡ length old.log.head.splits + 1) where
     -- its list ends in the messages
-    pub round_ends_early : (new : DeskMeaning C) (halt : Halt) → BreaksOffIn (AreFrontOf (ArePartsOf maker 0 count)) d new halt → BreaksOffIn (AreOfBrokenRound old.log.head.splits number level) old new halt
+    pub round_ends_early : (new : DeskMeaning C) (halt : Halt) → BreaksOffIn (AreFrontOf (ArePartsOf maker 0 count)) d new halt → BreaksOffIn (AreOfEndedRound old.log.head.splits number level halt) old new halt
     round_ends_early new halt breaks =
         let id : d.log.part.id ≡ actors.Recoverer number = asked_making.whose in
         let Its : List (Pair Event) → Type 0 = λ q. AreIts number q × AreFrontOf (ArePartsOf maker 0 count) q in
-        breaks_behind old d new (asking ∷ []) grown-asked limit-asked done.track (AreOfBrokenRound old.log.head.splits number level) halt Its
-        (λ q both. unfinished_round old.log.head.splits number level reading asking q its-asking both.0 refl (subst (λ n. AreFrontOf (ArePartsOf maker 0 n) q) there both.1))
+        breaks_behind old d new (asking ∷ []) grown-asked limit-asked done.track (AreOfEndedRound old.log.head.splits number level halt) halt Its
+        (λ q both. ended-round old.log.head.splits number level halt (asking ∷ q) (unfinished_round old.log.head.splits number level reading asking q its-asking both.0 refl (subst (λ n. AreFrontOf (ArePartsOf maker 0 n) q) there both.1)))
         (breaks_by d new (AreFrontOf (ArePartsOf maker 0 count)) halt number id breaks)
 
     module _ (late : DeskMeaning C) (visited : HasVisitedEach maker count d late) where
@@ -208,11 +229,13 @@ module _ {C : Type 0} (number : ℕ) (level : Priority) (reading : ℕ) (old d :
           }
 
       -- its list ends before that
-      pub telling_ends_early : (new : DeskMeaning C) (halt : Halt) → EndsOnly late new halt → BreaksOffIn (AreOfBrokenRound old.log.head.splits number level) old new halt
+      pub telling_ends_early : (new : DeskMeaning C) (halt : Halt) → EndsOnly (λ made. made ≡ events.Tell answers.Done) late new halt → BreaksOffIn (AreOfEndedRound old.log.head.splits number level halt) old new halt
       telling_ends_early new halt ends =
-          breaks_here old late new (asking ∷ visited.exchanged.part) grown-visited (visited.exchanged.goes.limit ∙ limit-asked) making-late.back.track (AreOfBrokenRound old.log.head.splits number level) halt
-          (unfinished_round old.log.head.splits number level reading asking visited.exchanged.part its-asking its-messages refl
-          (front_of_all old.log.head.splits number level reading visited.traffic visited.exchanged.part visited.exchanged.each each-is)) ends
+          breaks_here old late new (asking ∷ visited.exchanged.part) grown-visited (visited.exchanged.goes.limit ∙ limit-asked) making-late.back.track (AreOfEndedRound old.log.head.splits number level halt) halt (λ made. made ≡ events.Tell answers.Done)
+          (ended-round old.log.head.splits number level halt (asking ∷ visited.exchanged.part) (unfinished_round old.log.head.splits number level reading asking visited.exchanged.part its-asking its-messages refl
+          (front_of_all old.log.head.splits number level reading visited.traffic visited.exchanged.part visited.exchanged.each each-is)))
+          (λ stopped p its. inl (whole-ended old.log.head.splits number level halt ((asking ∷ visited.exchanged.part) ++ p ∷ []) stopped
+          (whole-round old.log.head.splits number level reading asking p visited.traffic visited.exchanged.part its-asking its-messages (its-one number p (its.whose ∙ whose)) refl its.is visited.exchanged.each each-is))) ends
 
       -- it was told
       pub has_made_round : (new : DeskMeaning C) → HasDone late new (events.Tell answers.Done) → HasMadeWholeRound number level old new
@@ -233,5 +256,10 @@ module _ {C : Type 0} (number : ℕ) (level : Priority) (reading : ℕ) (old d :
           }
 
 -- it was not asked
-pub ask_ends_early : {C : Type 0} (number : ℕ) (level : Priority) (old new : DeskMeaning C) (halt : Halt) → KeepsTrack old → EndsOnly old new halt → BreaksOffIn (AreOfBrokenRound old.log.head.splits number level) old new halt
-ask_ends_early number level old new halt track ends = breaks_here old old new [] (grows_none old.log) refl track (AreOfBrokenRound old.log.head.splits number level) halt (unasked_round old.log.head.splits number level) ends
+pub ask_ends_early : {C : Type 0} (number : ℕ) (level : Priority) (old new : DeskMeaning C) (halt : Halt) → KeepsTrack old → old.log.part.id ≡ actors.Recoverer number → EndsOnly (λ made. (reading : ℕ) × (made ≡ events.Ask calls.Round reading)) old new halt → BreaksOffIn (AreOfEndedRound old.log.head.splits number level halt) old new halt
+ask_ends_early number level old new halt track whose ends =
+    let splits = old.log.head.splits in
+    breaks_here old old new [] (grows_none old.log) refl track (AreOfEndedRound splits number level halt) halt (λ made. (reading : ℕ) × (made ≡ events.Ask calls.Round reading))
+    (ended-round splits number level halt [] (unasked_round splits number level))
+    (λ stopped p its. inl (ended-round splits number level halt (p ∷ [])
+    (unfinished_round splits number level its.is.0 p [] (its-one number p (its.whose ∙ whose)) (All-nil (λ (p : Pair Event). p.entry.actor ≡ actors.Recoverer number)) its.is.1 (front-of-none splits number level its.is.0)))) ends

@@ -1,10 +1,13 @@
--- What a recoverer has made where its list ends in the middle of a round: a front of a whole round. Own profile.
-use Rattle.std.specs.Prelude.{◌≡◌, ℕ, false, None, List, [], ◌∷◌, ◌++◌, ⊤}
+-- What a recoverer has made where its list ends in the middle of a round: a front of a whole round; or, where it stops at the end of one, a whole
+-- round. Own profile.
+use Rattle.std.specs.Prelude.{◌≡◌, ℕ, false, ◌⊎◌, List, [], ◌∷◌, ◌++◌, ⊤}
 use Rattle.pc_base.specs.declared.transaction.Priority.{Priority}
 use Rattle.pc_desk.specs.declared.halt.Halt.{Halt}
+use Rattle.pc_desk.specs.declared.halt.Halt.TheVariants as halts
 use Rattle.pc_desk.specs.Desk.{DeskMeaning}
-use Rattle.pc_desk.specs.Ending.{IsEndedBy}
-use Rattle.pc_exchange.specs.Ending.{HasBrokenOff}
+use Rattle.pc_exchange.specs.Ending.{HasBrokenOff, IsEndedBy}
+use Rattle.pc_follows.specs.WaveEvaluation.{IsSending}
+use Rattle.pc_follows.specs.WaveOrder.{IsHearing}
 use Rattle.pc_history.specs.declared.pair.Pair.{Pair}
 use Rattle.pc_proto.specs.declared.event.Event.{Event}
 use Rattle.pc_proto.specs.declared.reply.Reply.{Reply}
@@ -42,11 +45,40 @@ pub record AreOfBrokenRound (splits : List (List ℕ)) (number : ℕ) (level : P
   pub last : Pair Event
   pub whole : IsWholeRound splits number level (part ++ (rest ++ last ∷ []))
 
+-- The entries are a front of a round of this recoverer, or all of it: others behind them, if there are any, would make the round whole.
+pub record AreFrontOfRound (splits : List (List ℕ)) (number : ℕ) (level : Priority) (part : List (Pair Event)) : Type 0 where
+  pub rest : List (Pair Event)
+  pub whole : IsWholeRound splits number level (part ++ rest)
+
+-- The entries are a round of this recoverer in which its list ended so: one that is broken off; where it stopped, that may be at the round's end.
+abbrev pub AreOfEndedRound : List (List ℕ) → ℕ → Priority → Halt → List (Pair Event) → Type 0
+AreOfEndedRound splits number level halts.Stopped part = AreFrontOfRound splits number level part
+AreOfEndedRound splits number level halt part = AreOfBrokenRound splits number level part
+
+-- The entries are so but for the last of them, which hears a reply; the one before it sent the message.
+pub record HearLast (Are : List (Pair Event) → Type 0) (part : List (Pair Event)) : Type 0 where
+  pub before : List (Pair Event)
+  pub sending : Pair Event
+  pub hearing : Pair Event
+  pub whole : part ≡ before ++ (sending ∷ hearing ∷ [])
+  pub sends : IsSending sending.entry.event
+  pub hears : IsHearing hearing.entry.event
+  pub are : Are (before ++ sending ∷ [])
+
+-- The entries are so, or they are so but for a last one that hears a reply.
+abbrev pub OrHearLast : (List (Pair Event) → Type 0) → List (Pair Event) → Type 0
+OrHearLast Are part = Are part ⊎ HearLast Are part
+
+-- What is so of entries with which a list ended so: where it stopped, the last of them may be a hearing.
+abbrev pub AreAtHalt : Halt → (List (Pair Event) → Type 0) → List (Pair Event) → Type 0
+AreAtHalt halts.Stopped Are part = OrHearLast Are part
+AreAtHalt halt Are part = Are part
+
 -- The actor made entries that are so, and then no more: its list has ended.
 pub record HasBrokenOffIn {C : Type 0} (Are : List (Pair Event) → Type 0) (old new : DeskMeaning C) : Type 0 where
   pub broke : HasBrokenOff (λ made. ⊤) old new
   pub are : Are broke.part
 
--- Where it had not stopped, and no entry is stated at which it stops: its list broke off so, or memory was wanted.
+-- Where it had not stopped: its list broke off so, or memory was wanted.
 abbrev pub BreaksOffIn : {C : Type 0} → (List (Pair Event) → Type 0) → DeskMeaning C → DeskMeaning C → Halt → Type 0
-BreaksOffIn Are old new halt = old.log.stopped ≡ false → old.log.stop ≡ None → IsEndedBy halt (HasBrokenOffIn Are old new)
+BreaksOffIn Are old new halt = old.log.stopped ≡ false → IsEndedBy halt (HasBrokenOffIn (AreAtHalt halt Are) old new)

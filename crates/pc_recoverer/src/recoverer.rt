@@ -6,7 +6,7 @@ ghost use Rattle.pc_desk.specs.Desk.{HasHalted, IsReadyToGo, new_desk};
 ghost use Rattle.pc_desk.specs.Keeping.{ReadsEach};
 ghost use Rattle.pc_desk.specs.OwnLog.{IsOwnLog};
 ghost use Rattle.pc_history.specs.Parts.{newcomer, noted, told};
-ghost use Rattle.pc_recoverer.specs.Broken.{AreOfBrokenRound, BreaksOffIn};
+ghost use Rattle.pc_recoverer.specs.Broken.{AreOfEndedRound, BreaksOffIn};
 ghost use Rattle.pc_recoverer.specs.Recoverer.{HasMadeWholeRound, IsBetweenOrStopped, IsBetweenRounds};
 ghost use Rattle.pc_wire.specs.declared.verdict.Verdict.TheVariants as verdicts;
 ghost use Rattle.pc_world.specs.Local.{IsActorOf};
@@ -122,7 +122,7 @@ impl<'a, N: Named<CommitWorld>, C: Clock, V: Wire, G: Gate> Recoverer<'a, N, C, 
         ensures between { IsBetweenOrStopped self.new }
         ensures stopped { self.old.desk.log.stopped ≡ true → (result ≡ Err halts.Stopped) × (self.new ≡ self.old) }
         ensures err { IfErr result (HasHalted self.old.desk self.new.desk) }
-        ensures ended { IfErr result (BreaksOffIn (AreOfBrokenRound self.old.desk.log.head.splits self.old.number self.old.level) self.old.desk self.new.desk) }
+        ensures ended { IfErr result (λ halt. BreaksOffIn (AreOfEndedRound self.old.desk.log.head.splits self.old.number self.old.level halt) self.old.desk self.new.desk halt) }
         ensures rule { C.rule self.new.desk.log.clock ≡ C.rule self.old.desk.log.clock }
     {
         if self.desk.has_stopped() {

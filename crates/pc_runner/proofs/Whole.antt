@@ -1,4 +1,4 @@
--- What the laws of runs say of the history that a workload's sessions left.
+-- What the laws of runs say of the history that a workload's sessions and recoverers left.
 use Rattle.std.proofs.Common.{◌≡◌, ℕ, Bool, List, Some, None, All, IfOk, IfSome, Result, Ok, Err, length, subst}
 use Rattle.std.proofs.lemmas.Option.{slice_get-get_or}
 use Rattle.pc_base.specs.declared.actor.ActorId.{ActorId}
@@ -10,14 +10,16 @@ use Rattle.pc_in_turns.specs.InTurns.{HaveGoneInTurns}
 use Rattle.pc_proto.specs.declared.event.Event.{Event}
 use Rattle.pc_runner.specs.Leaving.{HaveLeft}
 use Rattle.pc_runner.specs.WorkRun.{IsWorkRun}
-use Rattle.pc_runs.proofs.Finished.{sessions_leave}
+use Rattle.pc_rounds.specs.Counted.{GoesInRounds}
+use Rattle.pc_runs.proofs.Finished.{clients_leave}
 use Rattle.pc_runs.proofs.Learnless.{transactions_learn_nothing}
-use Rattle.pc_runs.proofs.Whole.{history_follows, learns_are_kept, says_all_full, turns_are_as_stated}
+use Rattle.pc_runs.proofs.Whole.{history_follows, learns_are_kept, say_full, turns_are_as_stated}
 use Rattle.pc_runs.specs.Learning.{LearnInOrder}
 use Rattle.pc_runs.specs.Order.{GoAsStated}
 use Rattle.pc_runs.specs.Laws.{HaveFinished}
-use Rattle.pc_runs.specs.Runners.{AreRunOut, AreRunners, HaveAllLeft, HaveClocks, head_in_work}
-use Rattle.pc_scripted.specs.Scripted.{IsScripted, ScriptedMeaning}
+use Rattle.pc_runs.specs.Runners.{head_in_work}
+use Rattle.pc_runs.specs.Together.{AreAtEnds, AreClients, ClientsMeaning, HaveAllLeft, HaveClientClocks}
+use Rattle.pc_scripted.specs.Scripted.{IsScripted}
 use Rattle.pc_threads.proofs.OnThreads.{threads_are_as_stated}
 use Rattle.pc_threads.specs.OnThreads.{HaveGoneOnThreads}
 use Rattle.pc_turns.specs.Clients.{client_pairs}
@@ -27,13 +29,13 @@ use Rattle.pc_work.specs.declared.turn.Turn.{Turn}
 use Rattle.pc_work.specs.declared.workload.Workload.{Workload}
 
 module _ {C : Type 0} (rule : C → ℕ → ℕ → Bool) (rules : ActorId → ℕ → ℕ → Bool) (work : Workload) (accepted : IsAccepted work) (leavers : List Leaver) where
-  module _ (Went : List (ScriptedMeaning C) → Type 0) (left : HaveLeft rule rules work Went leavers) where
+  module _ (Went : ClientsMeaning C → Type 0) (left : HaveLeft rule rules work Went leavers) where
     -- what may be closed
     pub leavers_are : AreLeavers work.limit (head_in_work work) leavers
-    leavers_are = (sessions_leave rule work rules left.sessions leavers left.runners left.finished left.clocks accepted.pipelining).0
+    leavers_are = (clients_leave rule work rules left.clients leavers left.are left.finished left.clocks accepted.pipelining).0
 
-    have_left : HaveAllLeft work rules left.sessions leavers
-    have_left = (sessions_leave rule work rules left.sessions leavers left.runners left.finished left.clocks accepted.pipelining).1
+    have_left : HaveAllLeft work rules left.clients leavers
+    have_left = (clients_leave rule work rules left.clients leavers left.are left.finished left.clocks accepted.pipelining).1
 
     -- a history whose clients go and learn as they should
     follows_so : (history : List (Entry Event)) → IsClosedOver work.limit (head_in_work work) leavers history
@@ -41,7 +43,7 @@ module _ {C : Type 0} (rule : C → ℕ → ℕ → Bool) (rules : ActorId → �
         → LearnInOrder (client_pairs (head_in_work work) history) → IsWorkRun work rules history
     follows_so history closed goes learns = record {
       run = closed.run;
-      follows = history_follows C work rules left.sessions leavers history left.runners have_left closed left.over goes learns;
+      follows = history_follows C work rules left.clients leavers history left.are have_left closed left.over goes learns;
       unstaged = closed.unstaged;
     }
 
@@ -51,10 +53,10 @@ module _ {C : Type 0} (rule : C → ℕ → ℕ → Bool) (rules : ActorId → �
   follows_turns stated is left history closed =
       let went = left.went in
       let all = have_left (HaveGoneInTurns work stated) left in
-      let says = says_all_full work rules left.sessions leavers history left.runners all closed in
+      let says = say_full work rules left.clients leavers history left.are all closed in
       follows_so (HaveGoneInTurns work stated) left history closed
-      (turns_are_as_stated C work rules left.sessions leavers history went.order stated all closed went.shares is (went.goes (range_is_full work.limit (head_in_work work) history) says))
-      (learns_are_kept C work rules left.sessions leavers history went.order all closed went.shares went.learns)
+      (turns_are_as_stated C work rules left.clients leavers history went.order stated all closed went.shares is (went.goes (range_is_full work.limit (head_in_work work) history) says))
+      (learns_are_kept C work rules left.clients leavers history went.order all closed went.shares went.learns)
 
   -- the history of sessions that went on threads
   pub follows_threads : work.turns ≡ None → HaveLeft rule rules work (HaveGoneOnThreads work) leavers
@@ -62,21 +64,24 @@ module _ {C : Type 0} (rule : C → ℕ → ℕ → Bool) (rules : ActorId → �
   follows_threads none left history closed =
       let all = have_left (HaveGoneOnThreads work) left in
       follows_so (HaveGoneOnThreads work) left history closed
-      (threads_are_as_stated C work rules left.sessions leavers history left.runners all closed left.went none)
-      (transactions_learn_nothing C work rules left.sessions leavers history left.runners all closed (accepted.learns none))
+      (threads_are_as_stated C work rules left.clients leavers history left.are all closed left.went none)
+      (transactions_learn_nothing C work rules left.clients leavers history left.are all closed (accepted.learns none))
 
--- runners go by their scripts
-pub all_scripted : {C : Type 0} (work : Workload) (sessions : List (ScriptedMeaning C)) → AreRunners work sessions → All IsScripted sessions
-all_scripted work sessions runners = λ index s lt. (runners.each index _ (slice_get-get_or sessions index s lt)).scripted
+-- runners go by their scripts, and in their rounds
+pub all_scripted : {C : Type 0} (work : Workload) (clients : ClientsMeaning C) → AreClients work clients → All IsScripted clients.sessions
+all_scripted work clients are = λ index s lt. (are.runners.each index _ (slice_get-get_or clients.sessions index s lt)).scripted
 
--- the turns that an accepted workload states are turns of its sessions
-pub stated_there : (work : Workload) (stated : List Turn) → IsAccepted work → work.turns ≡ Some stated → AreTurnsOf (length work.sessions) stated
-stated_there work stated accepted is = subst (λ turns. IfSome turns (AreTurnsOf (length work.sessions))) is accepted.turns
+pub all_counted : {C : Type 0} (work : Workload) (clients : ClientsMeaning C) → AreClients work clients → All GoesInRounds clients.recoverers
+all_counted work clients are = λ index r lt. (are.recoverers.each index _ (slice_get-get_or clients.recoverers index r lt)).counted
 
--- what sessions leave that went to their ends so, where they finish
-pub left_if : {C V E : Type 0} (r : Result V E) (items : V → List Leaver) (rule : C → ℕ → ℕ → Bool) (rules : ActorId → ℕ → ℕ → Bool) (work : Workload) (Went : List (ScriptedMeaning C) → Type 0) (sessions : List (ScriptedMeaning C))
-    → AreRunners work sessions → HaveClocks rule rules work sessions → AreRunOut sessions → Went sessions
-    → IfOk r (λ v. HaveFinished rule sessions (items v)) → IfOk r (λ v. HaveLeft rule rules work Went (items v))
-left_if (Ok v) items rule rules work Went sessions runners clocks over went finished =
-    record { sessions = sessions; runners = runners; clocks = clocks; over = over; went = went; finished = finished }
-left_if (Err e) items rule rules work Went sessions runners clocks over went finished = tt
+-- the turns that an accepted workload states are turns of its clients
+pub stated_there : (work : Workload) (stated : List Turn) → IsAccepted work → work.turns ≡ Some stated → AreTurnsOf (length work.sessions) (length work.recoverers) stated
+stated_there work stated accepted is = subst (λ turns. IfSome turns (AreTurnsOf (length work.sessions) (length work.recoverers))) is accepted.turns
+
+-- what clients leave that went to their ends so, where they finish
+pub left_if : {C V E : Type 0} (r : Result V E) (items : V → List Leaver) (rule : C → ℕ → ℕ → Bool) (rules : ActorId → ℕ → ℕ → Bool) (work : Workload) (Went : ClientsMeaning C → Type 0) (clients : ClientsMeaning C)
+    → AreClients work clients → HaveClientClocks rule rules work clients → AreAtEnds clients → Went clients
+    → IfOk r (λ v. HaveFinished rule clients (items v)) → IfOk r (λ v. HaveLeft rule rules work Went (items v))
+left_if (Ok v) items rule rules work Went clients are clocks over went finished =
+    record { clients = clients; are = are; clocks = clocks; over = over; went = went; finished = finished }
+left_if (Err e) items rule rules work Went clients are clocks over went finished = tt

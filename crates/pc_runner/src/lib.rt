@@ -1,4 +1,5 @@
-//! Runs a workload: its sessions go through their scripts, in turns or on threads, over ranges of one history.
+//! Runs a workload: its sessions go through their scripts and its recoverers make their rounds, in turns or on threads, over ranges of one
+//! history.
 #![tactic(auto)]
 
 mod leaving;

@@ -25,8 +25,8 @@ use std::thread::Threads;
 /// What every run keeps, this one keeps: the laws `decisions_do_not_differ` and `outcomes_are_true` of `pc_implicit`, `commits_are_ordered`,
 /// `histories_are_legal` and `one_session_runs_plainly` of `pc_serial`.
 ///
-/// A workload that was read is of the form that is required. Readings are in nanoseconds; a session that states no clock reads the one that
-/// is handed in for it. An entry's step is its place in the list. `NoMemory` comes where memory runs out, or a number of 64 bits.
+/// A workload that was read is of the form that is required. Readings are in nanoseconds; a session or recoverer that states no clock reads
+/// the one that is handed in for it. An entry's step is its place in the list. `NoMemory` comes where memory runs out, or a number of 64 bits.
 pub fn run_turns<M: Clocks, G: Gate, R: Wait>(
     rt: &R,
     alloc: Global,
@@ -51,7 +51,7 @@ where
     }
 }
 
-/// Runs a workload that states no turns: each session on a thread of its own, behind the opening. Gives its history: a run of the protocol,
+/// Runs a workload that states no turns: each session and each recoverer on a thread of its own, behind the opening. Gives its history: a run of the protocol,
 /// which follows the workload. Which of the many that do is left to the threads.
 ///
 /// All else is as for `run_turns`.
@@ -95,9 +95,12 @@ where
     let Opened {
         opener,
         ranges,
-        actors,
+        sessions,
+        recoverers,
     } = open_work::<N, _>(alloc, blank, work, gate)?;
-    let leavers = leave_turns(rt, alloc, work, stated, clocks, &ranges, actors)?;
+    let leavers = leave_turns(
+        rt, alloc, work, stated, clocks, &ranges, sessions, recoverers,
+    )?;
     close(rt, opener, ranges, leavers)
 }
 
@@ -126,8 +129,9 @@ where
     let Opened {
         opener,
         ranges,
-        actors,
+        sessions,
+        recoverers,
     } = open_work::<N, _>(alloc, blank, work, gate)?;
-    let leavers = leave_threads(rt, alloc, work, clocks, &ranges, actors)?;
+    let leavers = leave_threads(rt, alloc, work, clocks, &ranges, sessions, recoverers)?;
     close(rt, opener, ranges, leavers)
 }

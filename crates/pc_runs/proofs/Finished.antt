@@ -1,21 +1,26 @@
--- What the sessions of a workload leave when they finish.
-use Rattle.std.proofs.Common.{◌≡◌, ℕ, zero, suc, ◌+◌, ◌<◌, ◌≤◌, ◌⊎◌, inl, inr, Bool, true, false, All, List, [], ◌∷◌, ◌++◌, length, slice_get, Some, refl, sym, ap, subst, ◌∙◌, arith}
+-- What the sessions and recoverers of a workload leave when they finish.
+use Rattle.std.proofs.Common.{◌≡◌, ℕ, zero, suc, ◌+◌, ◌-◌, ◌<◌, ◌≤◌, ◌⊎◌, inl, inr, Bool, true, false, All, List, [], ◌∷◌, ◌++◌, length, map, slice_get, Some, refl, sym, ap, subst, ◌∙◌, arith}
 use Rattle.std.proofs.lemmas.Option.{slice_get_within}
 use Rattle.std.specs.Prelude.{is_none}
 use Rattle.pc_base.specs.declared.actor.ActorId.{ActorId}
 use Rattle.pc_base.specs.declared.actor.ActorId.TheVariants as actors
-use Rattle.pc_closing.proofs.Leaving.{full_range_may_leave, heard_may_leave, own_end_may_leave}
+use Rattle.pc_closing.proofs.Leaving.{full_range_may_leave, heard_may_leave, own_end_may_leave, stop_may_leave}
 use Rattle.pc_closing.specs.Leaving.{AreLeavers, IsLeaver, Leaver, MayLeave}
-use Rattle.pc_desk.specs.Desk.{IsReadyToGo}
-use Rattle.pc_desk.specs.Ending.{IsAtFullRange, IsAtOwnEnd}
-use Rattle.pc_desk.specs.Keeping.{EachAfter, KeepsEach}
+use Rattle.pc_desk.specs.Desk.{DeskMeaning, GivesOnce, IsReadyToGo, WaitingMessage}
+use Rattle.pc_desk.specs.Ending.{EndsEarly}
+use Rattle.pc_desk.specs.Keeping.{EachAfter, KeepsEach, ReadsEach}
 use Rattle.pc_desk.specs.Waves.{KeepsWavesEach, KeepsWavesNext}
+use Rattle.pc_exchange.proofs.Called.{all_heard_ever}
 use Rattle.pc_history.specs.declared.pair.Pair.{Pair}
 use Rattle.pc_history.specs.declared.view.Part.{Part}
 use Rattle.pc_proto.specs.declared.event.Event.{Event}
-use Rattle.pc_runs.specs.Laws.{HasFinished, HaveFinished, SessionsLeave}
-use Rattle.pc_runs.specs.Runners.{AreRunners, HaveAllLeft, HaveClocks, head_in_work}
+use Rattle.pc_rounds.specs.Counted.{CountedMeaning, GoesInRounds, entries_made}
+use Rattle.pc_runs.specs.Laws.{ClientsLeave, HasFinished, HasFinishedInRounds, HaveFinished}
+use Rattle.pc_runs.specs.Runners.{head_in_work}
+use Rattle.pc_runs.specs.Together.{AreClients, ClientsMeaning, HaveAllLeft, HaveClientClocks}
 use Rattle.pc_scripted.specs.Scripted.{IsScripted, ScriptedMeaning, own_list}
+use Rattle.pc_turns.proofs.Shares.{recoverer_at, session_at}
+use Rattle.pc_turns.specs.Shares.{client_at}
 use Rattle.pc_work.specs.declared.session.SessionWork.{SessionWork}
 use Rattle.pc_work.specs.declared.workload.Workload.{Workload}
 use Rattle.pc_world.specs.Local.{Head}
@@ -25,66 +30,112 @@ waves-on : (beside : Bool) (before own : List (Pair Event)) → EachAfter (λ b 
 waves-on beside before [] each = tt
 waves-on beside before (p ∷ own) each = (record { whole = each.0.whole; order = λ one. each.0.order refl }, waves-on beside (before ++ p ∷ []) own each.1)
 
-module _ {C : Type 0} (work : Workload) (rule : C → ℕ → ℕ → Bool) (all : List (ScriptedMeaning C)) (leavers : List Leaver) (runners : AreRunners work all) (finished : HaveFinished rule all leavers) where
-  as-many : length leavers ≡ length all
-  as-many = finished.many
+pub there : {X : Type 0} (xs : List X) (i : ℕ) → i < length xs → (x : X) × (slice_get xs i ≡ Some x)
+there [] i lt = absurd (omega arith)
+there (x ∷ xs) zero lt = (x, refl)
+there (x ∷ xs) (suc i) lt = there xs i (omega arith)
 
-  of-all : (index : ℕ) (s : ScriptedMeaning C) (l : Leaver) → slice_get all index ≡ Some s → slice_get leavers index ≡ Some l → HasFinished rule s l
-  of-all index s l at there = finished.each index s l at there
+pub below_or_not : (i n : ℕ) → (i < n) ⊎ (n ≤ i)
+below_or_not i zero = inr (omega arith)
+below_or_not zero (suc n) = inl (omega arith)
+below_or_not (suc i) (suc n) = elim (below_or_not i n) [
+  | inl lt ↦ inl (omega arith)
+  | inr le ↦ inr (omega arith)
+]
 
+-- where its list has ended
+ended-may-leave : {C : Type 0} (d : DeskMeaning C) (l : Leaver) → map (λ (w : WaitingMessage). w.posted) l.1 ≡ d.posted → GivesOnce d.log.part → EndsEarly d → MayLeave d.range_limit d.log.part l.1
+ended-may-leave d l posted given (inl end) = own_end_may_leave d l.1 posted given end
+ended-may-leave d l posted given (inr (inl end)) = full_range_may_leave d l.1 posted given end
+ended-may-leave d l posted given (inr (inr end)) = stop_may_leave d l.1 posted given end
+
+module _ {C : Type 0} (work : Workload) (rule : C → ℕ → ℕ → Bool) (c : ClientsMeaning C) (leavers : List Leaver) (clients : AreClients work c) (finished : HaveFinished rule c leavers) where
   may-leave : (s : ScriptedMeaning C) (l : Leaver) → IsScripted s → HasFinished rule s l → MayLeave s.session.desk.range_limit s.session.desk.log.part l.1
   may-leave s l scripted f = by s.session.desk.log.stopped refl
     where
-      ended : IsAtOwnEnd s.session.desk ⊎ IsAtFullRange s.session.desk → MayLeave s.session.desk.range_limit s.session.desk.log.part l.1
-      ended (inl end) = own_end_may_leave s.session.desk l.1 f.posted scripted.given end
-      ended (inr end) = full_range_may_leave s.session.desk l.1 f.posted scripted.given end
-
       by : (b : Bool) → s.session.desk.log.stopped ≡ b → MayLeave s.session.desk.range_limit s.session.desk.log.part l.1
-      by true stopped = ended (scripted.ends stopped)
+      by true stopped = ended-may-leave s.session.desk l f.posted scripted.given (scripted.ends stopped)
       by false going = let rest = (scripted.goes going).rest in heard_may_leave s.session.desk l.1 f.posted scripted.given rest.posted rest.heard
 
-  pub all_leavers : AreLeavers work.limit (head_in_work work) leavers
-  all_leavers = record { count = as-many ∙ runners.many; each = λ index l there. leaver index l there (here index (let n = slice_get_within leavers index l there in let m = as-many in omega arith)) }
+  may-leave-rounds : (r : CountedMeaning C) (l : Leaver) → GoesInRounds r → HasFinishedInRounds rule r l → MayLeave r.recoverer.desk.range_limit r.recoverer.desk.log.part l.1
+  may-leave-rounds r l counted f = by r.recoverer.desk.log.stopped refl
     where
-      here : (index : ℕ) → index < length all → (s : ScriptedMeaning C) × (slice_get all index ≡ Some s)
-      here index lt = at all index lt
-        where
-          at : (xs : List (ScriptedMeaning C)) (i : ℕ) → i < length xs → (s : ScriptedMeaning C) × (slice_get xs i ≡ Some s)
-          at [] i h = absurd (omega arith)
-          at (x ∷ xs) zero h = (x, refl)
-          at (x ∷ xs) (suc i) h = at xs i (omega arith)
+      by : (b : Bool) → r.recoverer.desk.log.stopped ≡ b → MayLeave r.recoverer.desk.range_limit r.recoverer.desk.log.part l.1
+      by true stopped = ended-may-leave r.recoverer.desk l f.posted counted.given (counted.ends stopped).end
+      by false going =
+          let back = (counted.goes going).between.back in
+          heard_may_leave r.recoverer.desk l.1 f.posted counted.given back.posted (all_heard_ever r.recoverer.desk back)
 
-      leaver : (index : ℕ) (l : Leaver) → slice_get leavers index ≡ Some l → (s : ScriptedMeaning C) × (slice_get all index ≡ Some s) → IsLeaver work.limit (head_in_work work) (index + 1) l
-      leaver index l there s =
-          let r = runners.each index s.0 s.1 in
-          let f = of-all index s.0 l s.1 there in
-          let id : l.0.part.id ≡ s.0.session.desk.log.part.id = ap (λ (p : Part Event). p.id) f.part in
-          record {
-            whose = id ∙ (r.scripted.id ∙ ap actors.Session r.number);
-            ready = subst (λ (i : ActorId). All (IsReadyToGo i work.splits) l.1) (sym id) (subst (λ (h : Head). All (IsReadyToGo s.0.session.desk.log.part.id h.splits) l.1) r.head f.ready);
-            may = subst (λ n. MayLeave n l.0.part l.1) r.range_limit (subst (λ (p : Part Event). MayLeave s.0.session.desk.range_limit p l.1) (sym f.part) (may-leave s.0 l r.scripted f));
-          }
+  -- a session leaves
+  leaver : (index : ℕ) (l : Leaver) → slice_get leavers index ≡ Some l → (s : ScriptedMeaning C) → slice_get c.sessions index ≡ Some s → IsLeaver work.limit (head_in_work work) index l
+  leaver index l at s here =
+      let r = clients.runners.each index s here in
+      let f = finished.sessions index s l here at in
+      let id : l.0.part.id ≡ s.session.desk.log.part.id = ap (λ (p : Part Event). p.id) f.part in
+      let within : index < length c.sessions = slice_get_within c.sessions index s here in
+      let many = clients.runners.many in
+      record {
+        whose = id ∙ (r.scripted.id ∙ (ap actors.Session r.number ∙ sym (session_at (head_in_work work) index (omega arith))));
+        ready = subst (λ (i : ActorId). All (IsReadyToGo i work.splits) l.1) (sym id) (subst (λ (h : Head). All (IsReadyToGo s.session.desk.log.part.id h.splits) l.1) r.head f.ready);
+        may = subst (λ n. MayLeave n l.0.part l.1) r.range_limit (subst (λ (p : Part Event). MayLeave s.session.desk.range_limit p l.1) (sym f.part) (may-leave s l r.scripted f));
+      }
 
-  pub all_left : (rules : ActorId → ℕ → ℕ → Bool) → work.pipelining ≡ false → HaveClocks rule rules work all → HaveAllLeft work rules all leavers
+  -- a recoverer leaves
+  leaver-rounds : (index : ℕ) (l : Leaver) → slice_get leavers (length c.sessions + index) ≡ Some l → (r : CountedMeaning C) → slice_get c.recoverers index ≡ Some r → IsLeaver work.limit (head_in_work work) (length c.sessions + index) l
+  leaver-rounds index l at x here =
+      let r = clients.recoverers.each index x here in
+      let f = finished.recoverers index x l here at in
+      let id : l.0.part.id ≡ x.recoverer.desk.log.part.id = ap (λ (p : Part Event). p.id) f.part in
+      let place : client_at (head_in_work work) (length c.sessions + index) ≡ actors.Recoverer (index + 1) =
+      ap (λ n. client_at (head_in_work work) (n + index)) clients.runners.many ∙ recoverer_at (head_in_work work) index in
+      record {
+        whose = id ∙ (r.counted.id ∙ (ap actors.Recoverer r.number ∙ sym place));
+        ready = subst (λ (i : ActorId). All (IsReadyToGo i work.splits) l.1) (sym id) (subst (λ (h : Head). All (IsReadyToGo x.recoverer.desk.log.part.id h.splits) l.1) r.head f.ready);
+        may = subst (λ n. MayLeave n l.0.part l.1) r.range_limit (subst (λ (p : Part Event). MayLeave x.recoverer.desk.range_limit p l.1) (sym f.part) (may-leave-rounds x l r.counted f));
+      }
+
+  pub all_leavers : AreLeavers work.limit (head_in_work work) leavers
+  all_leavers = record { count = (let many = finished.many in let sessions = clients.runners.many in let recoverers = clients.recoverers.many in omega arith); each = λ index l at. by index l at (below_or_not index (length c.sessions)) }
+    where
+      by : (index : ℕ) (l : Leaver) → slice_get leavers index ≡ Some l → (index < length c.sessions) ⊎ (length c.sessions ≤ index) → IsLeaver work.limit (head_in_work work) index l
+      by index l at (inl lt) = let s = there c.sessions index lt in leaver index l at s.0 s.1
+      by index l at (inr le) =
+          let within : index < length leavers = slice_get_within leavers index l at in
+          let many = finished.many in
+          let same : length c.sessions + (index - length c.sessions) ≡ index = omega arith in
+          let r = there c.recoverers (index - length c.sessions) (omega arith) in
+          subst (λ n. IsLeaver work.limit (head_in_work work) n l) same (leaver-rounds (index - length c.sessions) l (subst (λ n. slice_get leavers n ≡ Some l) (sym same) at) r.0 r.1)
+
+  pub all_left : (rules : ActorId → ℕ → ℕ → Bool) → work.pipelining ≡ false → HaveClientClocks rule rules work c → HaveAllLeft work rules c leavers
   all_left rules unpiped clocks = record {
-    many = as-many;
-    each = λ index s l at there.
-        let r = runners.each index s at in
-        let f = of-all index s l at there in
+    many = finished.many;
+    sessions = λ index s l at here.
+        let r = clients.runners.each index s at in
+        let f = finished.sessions index s l at here in
         record {
           part = f.part;
           steps = λ session listed. f.keeps work session (rules (actors.Session (index + 1)))
-              (record { unpiped = unpiped; script = ap (λ (w : SessionWork). w.script) (same_work session r.session (sym listed ∙ r.listed)) ∙ r.script; reruns = r.reruns }) (clocks index s session at listed);
+              (record { unpiped = unpiped; script = ap (λ (w : SessionWork). w.script) (same_work session r.session (sym listed ∙ r.listed)) ∙ r.script; reruns = r.reruns }) (clocks.sessions index s session at listed);
           keeps = subst (λ b. KeepsEach (actors.Session (index + 1)) work.splits b (own_list s)) (r.scripted.unpiped ∙ sym unpiped)
               (subst (λ (h : Head). KeepsEach (actors.Session (index + 1)) h.splits s.session.desk.log.pipelining (own_list s)) r.head
               (subst (λ (i : ActorId). KeepsEach i s.session.desk.log.head.splits s.session.desk.log.pipelining (own_list s)) (r.scripted.id ∙ ap actors.Session r.number) f.log.keeps));
           waves = waves-on (is_none work.turns) [] (own_list s) (subst (λ b. KeepsWavesEach b (own_list s)) r.scripted.one_by_one f.log.waves);
           within = subst (λ n. length (own_list s) ≤ n) r.limit r.scripted.within;
+          no_later = f.log.at_stop;
+        };
+    recoverers = λ index x l at here.
+        let r = clients.recoverers.each index x at in
+        let f = finished.recoverers index x l at here in
+        record {
+          part = f.part;
+          readings = λ recoverer listed. subst (λ (k : ℕ → ℕ → Bool). ReadsEach k (entries_made x)) (clocks.recoverers index x recoverer at listed) f.reads;
+          within = subst (λ n. length (entries_made x) ≤ n) r.limit r.counted.within;
+          no_later = f.log.at_stop;
         };
   }
     where
       same_work : (x y : SessionWork) → Some x ≡ Some y → x ≡ y
       same_work x y e = cc
 
-pub sessions_leave : {C : Type 0} (rule : C → ℕ → ℕ → Bool) → SessionsLeave rule
-sessions_leave rule work rules sessions leavers runners finished clocks unpiped = (all_leavers work rule sessions leavers runners finished, all_left work rule sessions leavers runners finished rules unpiped clocks)
+pub clients_leave : {C : Type 0} (rule : C → ℕ → ℕ → Bool) → ClientsLeave rule
+clients_leave rule work rules c leavers clients finished clocks unpiped = (all_leavers work rule c leavers clients finished, all_left work rule c leavers clients finished rules unpiped clocks)

@@ -1,10 +1,11 @@
--- The history that sessions leave follows their workload.
-use Rattle.std.proofs.Common.{◌≡◌, ℕ, ◌+◌, ◌-◌, ◌<◌, ◌⊎◌, inl, inr, Bool, true, false, List, [], ◌∷◌, length, map, slice_get, zero, suc, Option, Some, refl, sym, ap, subst, ◌∙◌, arith}
+-- The history that sessions and recoverers leave follows their workload.
+use Rattle.std.proofs.Common.{◌≡◌, ℕ, ◌+◌, ◌-◌, ◌<◌, ◌≤◌, ◌⊎◌, IfSome, inl, inr, Bool, true, false, List, [], ◌∷◌, ◌++◌, length, map, slice_get, suc, Option, Some, refl, sym, ap, subst, ◌∙◌, arith}
 use Rattle.std.proofs.lemmas.Option.{slice_get_within}
 use Rattle.pc_base.specs.declared.actor.ActorId.{ActorId}
 use Rattle.pc_base.specs.declared.actor.ActorId.TheVariants as actors
+use Rattle.pc_base.specs.declared.transaction.Priority.{Priority}
 use Rattle.pc_base.specs.declared.entry.Entry.{Entry}
-use Rattle.pc_closing.specs.Closing.{IsClosedOver, lists_of}
+use Rattle.pc_closing.specs.Closing.{IsClosedOver, IsKeptIn, lists_of}
 use Rattle.pc_closing.specs.Full.{range_is_full}
 use Rattle.pc_closing.specs.Leaving.{Leaver}
 use Rattle.pc_closing.specs.Served.{AreServed}
@@ -13,12 +14,18 @@ use Rattle.pc_history.specs.declared.pair.Pair.{Pair}
 use Rattle.pc_history.specs.declared.view.Part.{Part}
 use Rattle.pc_history.specs.Own.{own}
 use Rattle.pc_proto.specs.declared.event.Event.{Event}
+use Rattle.pc_rounds.specs.Counted.{CountedMeaning, GoesInRounds, entries_made}
+use Rattle.pc_rounds.specs.Made.{AreWholeRounds, StopsBefore}
 use Rattle.pc_runs.specs.Follows.{FollowsByItself, FollowsWork}
+use Rattle.pc_runs.proofs.Finished.{there}
 use Rattle.pc_runs.proofs.Learning.{all_learn_truly}
 use Rattle.pc_runs.specs.Laws.{HistoryFollows, LearnsAreKept, TurnsAreAsStated}
 use Rattle.pc_runs.specs.Learning.{LearnInOrder}
-use Rattle.pc_runs.specs.Order.{GoAsStated, is_work_opened, next_in_work}
-use Rattle.pc_runs.specs.Runners.{AreRunOut, AreRunners, HaveAllLeft, SaysAllFull, head_in_work}
+use Rattle.pc_runs.specs.Order.{GoAsStated, GoInTurnsOf, ended_in_work, is_work_opened, next_in_work, recoverer_ended_in_work, rounds_in_work}
+use Rattle.pc_runs.specs.Recoverers.{HasNoRoundLeft, HaveNoRoundLeft}
+use Rattle.pc_runs.specs.Rounds.{FollowsInRounds}
+use Rattle.pc_runs.specs.Runners.{AreRunOut, head_in_work}
+use Rattle.pc_runs.specs.Together.{AreAtEnds, AreClients, ClientsMeaning, ClientsSayFull, HaveAllLeft, client_lists}
 use Rattle.pc_script.specs.End.{IsScriptEnd}
 use Rattle.pc_script.specs.Script.{next_call, script_position}
 use Rattle.pc_scripted.proofs.Tests.{has_ended_now}
@@ -27,55 +34,92 @@ use Rattle.pc_scripted.specs.Scripted.{IsScripted, ScriptedMeaning, own_list}
 use Rattle.pc_scripted.specs.Taking.{IsRunOut}
 use Rattle.pc_turns.proofs.Moves.{turns_are_kept}
 use Rattle.pc_turns.proofs.Order.{clients_keep_order}
-use Rattle.pc_turns.proofs.Shares.{shares_make_up}
+use Rattle.pc_turns.proofs.Shares.{recoverer_at, session_at, shares_make_up}
 use Rattle.pc_turns.specs.Clients.{MakesUpEach, client_pairs}
-use Rattle.pc_turns.specs.Order.{GoInTurns}
-use Rattle.pc_turns.specs.Shares.{AreHandedIn, AreShares}
+use Rattle.pc_turns.specs.Shares.{AreHandedIn, AreShares, client_at}
 use Rattle.pc_work.specs.declared.item.Item.{Item}
+use Rattle.pc_work.specs.declared.recoverer.RecovererWork.{RecovererWork}
 use Rattle.pc_work.specs.declared.session.SessionWork.{SessionWork}
 use Rattle.pc_work.specs.declared.turn.Turn.{Turn}
 use Rattle.pc_work.specs.declared.workload.Workload.{Workload}
 use Rattle.pc_world.specs.Known.{known_of}
+use Rattle.pc_world.specs.Local.{Head}
 use Rattle.pc_world.specs.Run.{protocol}
-
-there : {X : Type 0} (xs : List X) (i : ℕ) → i < length xs → (x : X) × (slice_get xs i ≡ Some x)
-there [] i lt = absurd (omega arith)
-there (x ∷ xs) zero lt = (x, refl)
-there (x ∷ xs) (suc i) lt = there xs i (omega arith)
 
 -- a session whose list has ended, or whose script is over
 pub ends_so : {C : Type 0} (s : ScriptedMeaning C) (full : ℕ → Bool) → IsScripted s → IsRunOut s → SaysFull full s.session.desk
-    → IsScriptEnd (script_position s.at.reruns s.script (own_list s)) (own_list s) ⊎ (list_has_ended s.session.desk.log.limit full (own_list s) ≡ true)
+    → IsScriptEnd (script_position s.at.reruns s.script (own_list s)) (own_list s) ⊎ (list_has_ended s.session.desk.log.limit s.session.desk.log.stop full (own_list s) ≡ true)
 ends_so s full scripted out says = by s.session.desk.log.stopped refl
   where
-    by : (b : Bool) → s.session.desk.log.stopped ≡ b → IsScriptEnd (script_position s.at.reruns s.script (own_list s)) (own_list s) ⊎ (list_has_ended s.session.desk.log.limit full (own_list s) ≡ true)
+    by : (b : Bool) → s.session.desk.log.stopped ≡ b → IsScriptEnd (script_position s.at.reruns s.script (own_list s)) (own_list s) ⊎ (list_has_ended s.session.desk.log.limit s.session.desk.log.stop full (own_list s) ≡ true)
     by true stopped = inr (has_ended_now s.session.desk full says (scripted.ends stopped))
     by false going = inl (record { no_next = ap next_call (sym (scripted.goes going).place) ∙ out.over going; none_open = (scripted.goes going).rest.closed })
 
-module _ {C : Type 0} (work : Workload) (rules : ActorId → ℕ → ℕ → Bool) (sessions : List (ScriptedMeaning C)) (leavers : List Leaver) (history : List (Entry Event)) (runners : AreRunners work sessions) (left : HaveAllLeft work rules sessions leavers)
+-- All rounds were made, or fewer, and the list has ended.
+abbrev HasMadeOrEnded : List (List ℕ) → ℕ → Priority → ℕ → ℕ → Option ℕ → (ℕ → Bool) → List (Pair Event) → Type 0
+HasMadeOrEnded splits number level rounds limit stop full list = AreWholeRounds splits number level rounds list ⊎ (StopsBefore splits number level rounds list × (list_has_ended limit stop full list ≡ true))
+
+-- a recoverer whose list has ended, or whose rounds are made
+rounds_so : {C : Type 0} (r : CountedMeaning C) (full : ℕ → Bool) → GoesInRounds r → HasNoRoundLeft r → SaysFull full r.recoverer.desk
+    → HasMadeOrEnded r.recoverer.desk.log.head.splits r.recoverer.number r.recoverer.level r.rounds r.recoverer.desk.log.limit r.recoverer.desk.log.stop full (entries_made r)
+rounds_so r full counted out says = by r.recoverer.desk.log.stopped refl
+  where
+    by : (b : Bool) → r.recoverer.desk.log.stopped ≡ b → HasMadeOrEnded r.recoverer.desk.log.head.splits r.recoverer.number r.recoverer.level r.rounds r.recoverer.desk.log.limit r.recoverer.desk.log.stop full (entries_made r)
+    by true stopped = elim ((counted.ends stopped).stops) [
+      | inl all ↦ inl all
+      | inr stops ↦ inr (stops, has_ended_now r.recoverer.desk full says (counted.ends stopped).end)
+    ]
+    by false going =
+        let few = counted.few in
+        let most = out.over going in
+        let all : r.made ≡ r.rounds = omega arith in
+        inl (subst (λ n. AreWholeRounds r.recoverer.desk.log.head.splits r.recoverer.number r.recoverer.level n (entries_made r)) all (counted.goes going).are)
+
+module _ {C : Type 0} (work : Workload) (rules : ActorId → ℕ → ℕ → Bool) (c : ClientsMeaning C) (leavers : List Leaver) (history : List (Entry Event)) (clients : AreClients work c) (left : HaveAllLeft work rules c leavers)
     (closed : IsClosedOver work.limit (head_in_work work) leavers history) where
   abbrev full : ℕ → Bool
   full = range_is_full work.limit (head_in_work work) history
 
-  -- what each session knows of full ranges is so
-  pub says_all_full : SaysAllFull full sessions
-  says_all_full index s at range knows =
-      let l = there leavers index (let n : index < length sessions = slice_get_within sessions index s at in let m = left.many in omega arith) in
-      let r = runners.each index s at in
-      let gone = left.each index s l.0 at l.1 in
-      (closed.each index l.0 l.1).full range
-      (subst (λ n. KnowsFull range n l.0.0.part.known) r.range_limit (subst (λ (p : Part Event). KnowsFull range s.session.desk.range_limit p.known) (sym gone.part) knows))
+  abbrev head : Head
+  head = head_in_work work
 
-  pub follows_each : AreRunOut sessions → (index : ℕ) (session : SessionWork) → slice_get work.sessions index ≡ Some session
-      → FollowsByItself work session (rules (actors.Session (index + 1))) full (actors.Session (index + 1)) (own (protocol (head_in_work work)) (actors.Session (index + 1)) history) history
+  -- what a session left
+  leaver-of : (index : ℕ) (s : ScriptedMeaning C) → slice_get c.sessions index ≡ Some s → (l : Leaver) × (slice_get leavers index ≡ Some l)
+  leaver-of index s at = there leavers index (let n : index < length c.sessions = slice_get_within c.sessions index s at in let m = left.many in omega arith)
+
+  -- and a recoverer
+  leaver-behind : (index : ℕ) (r : CountedMeaning C) → slice_get c.recoverers index ≡ Some r → (l : Leaver) × (slice_get leavers (length c.sessions + index) ≡ Some l)
+  leaver-behind index r at = there leavers (length c.sessions + index) (let n : index < length c.recoverers = slice_get_within c.recoverers index r at in let m = left.many in omega arith)
+
+  -- what each knows of full ranges is so
+  pub say_full : ClientsSayFull full c
+  say_full = record {
+    sessions = λ index s at range knows.
+        let l = leaver-of index s at in
+        let r = clients.runners.each index s at in
+        let gone = left.sessions index s l.0 at l.1 in
+        (closed.each index l.0 l.1).full range
+        (subst (λ n. KnowsFull range n l.0.0.part.known) r.range_limit (subst (λ (p : Part Event). KnowsFull range s.session.desk.range_limit p.known) (sym gone.part) knows));
+    recoverers = λ index x at range knows.
+        let l = leaver-behind index x at in
+        let r = clients.recoverers.each index x at in
+        let gone = left.recoverers index x l.0 at l.1 in
+        (closed.each (length c.sessions + index) l.0 l.1).full range
+        (subst (λ n. KnowsFull range n l.0.0.part.known) r.range_limit (subst (λ (p : Part Event). KnowsFull range x.recoverer.desk.range_limit p.known) (sym gone.part) knows));
+  }
+
+  pub follows_each : AreRunOut c.sessions → (index : ℕ) (session : SessionWork) → slice_get work.sessions index ≡ Some session
+      → FollowsByItself work session (rules (actors.Session (index + 1))) full (actors.Session (index + 1)) (own (protocol head) (actors.Session (index + 1)) history) history
   follows_each out index session listed =
-      let s = there sessions index (let n : index < length work.sessions = slice_get_within work.sessions index session listed in let m = runners.many in omega arith) in
-      let l = there leavers index (let n : index < length sessions = slice_get_within sessions index s.0 s.1 in let m = left.many in omega arith) in
-      let r = runners.each index s.0 s.1 in
-      let gone = left.each index s.0 l.0 s.1 l.1 in
-      let kept = closed.each index l.0 l.1 in
-      let list : own (protocol (head_in_work work)) (actors.Session (index + 1)) history ≡ own_list s.0 = kept.list ∙ ap (λ (p : Part Event). p.own) gone.part in
+      let within : index < length work.sessions = slice_get_within work.sessions index session listed in
+      let s = there c.sessions index (let m = clients.runners.many in omega arith) in
+      let l = leaver-of index s.0 s.1 in
+      let r = clients.runners.each index s.0 s.1 in
+      let gone = left.sessions index s.0 l.0 s.1 l.1 in
+      let kept : IsKeptIn work.limit head history (actors.Session (index + 1)) l.0.0.part = subst (λ (i : ActorId). IsKeptIn work.limit head history i l.0.0.part) (session_at head index within) (closed.each index l.0 l.1) in
+      let list : own (protocol head) (actors.Session (index + 1)) history ≡ own_list s.0 = kept.list ∙ ap (λ (p : Part Event). p.own) gone.part in
       let script : session.script ≡ s.0.script = ap (λ (w : SessionWork). w.script) (same_some session r.session (sym listed ∙ r.listed)) ∙ r.script in
+      let stop : s.0.session.desk.log.stop ≡ session.stop = r.stop ∙ ap (λ (w : SessionWork). w.stop) (sym (same_some session r.session (sym listed ∙ r.listed))) in
       let P : List (Pair Event) → Type 0 = λ list. FollowsByItself work session (rules (actors.Session (index + 1))) full (actors.Session (index + 1)) list history in
       subst P (sym list) (record {
         steps = gone.steps session listed;
@@ -83,60 +127,115 @@ module _ {C : Type 0} (work : Workload) (rules : ActorId → ℕ → ℕ → Boo
         waves = gone.waves;
         wire = subst (λ (p : Part Event). AreServed full (actors.Session (index + 1)) history (known_of p.own)) gone.part kept.served;
         within = gone.within;
-        end = subst (λ n. IsScriptEnd (script_position n session.script (own_list s.0)) (own_list s.0) ⊎ (list_has_ended work.limit full (own_list s.0) ≡ true)) (sym r.reruns)
-            (subst (λ (sc : List Item). IsScriptEnd (script_position s.0.at.reruns sc (own_list s.0)) (own_list s.0) ⊎ (list_has_ended work.limit full (own_list s.0) ≡ true)) (sym script)
-            (subst (λ n. IsScriptEnd (script_position s.0.at.reruns s.0.script (own_list s.0)) (own_list s.0) ⊎ (list_has_ended n full (own_list s.0) ≡ true)) r.limit
-            (ends_so s.0 full r.scripted (out index s.0 s.1) (says_all_full index s.0 s.1))));
+        no_later = subst (λ (o : Option ℕ). IfSome o (λ stop. length (own_list s.0) ≤ stop)) stop gone.no_later;
+        end = subst (λ n. IsScriptEnd (script_position n session.script (own_list s.0)) (own_list s.0) ⊎ (list_has_ended work.limit session.stop full (own_list s.0) ≡ true)) (sym r.reruns)
+            (subst (λ (sc : List Item). IsScriptEnd (script_position s.0.at.reruns sc (own_list s.0)) (own_list s.0) ⊎ (list_has_ended work.limit session.stop full (own_list s.0) ≡ true)) (sym script)
+            (subst (λ n. IsScriptEnd (script_position s.0.at.reruns s.0.script (own_list s.0)) (own_list s.0) ⊎ (list_has_ended n session.stop full (own_list s.0) ≡ true)) r.limit
+            (subst (λ (o : Option ℕ). IsScriptEnd (script_position s.0.at.reruns s.0.script (own_list s.0)) (own_list s.0) ⊎ (list_has_ended s.0.session.desk.log.limit o full (own_list s.0) ≡ true)) stop
+            (ends_so s.0 full r.scripted (out index s.0 s.1) (say_full.sessions index s.0 s.1)))));
       })
     where
       same_some : (x y : SessionWork) → Some x ≡ Some y → x ≡ y
       same_some x y e = cc
 
+  -- a recoverer's rounds
+  pub follows_rounds : HaveNoRoundLeft c.recoverers → (index : ℕ) (recoverer : RecovererWork) → slice_get work.recoverers index ≡ Some recoverer
+      → FollowsInRounds work recoverer (rules (actors.Recoverer (index + 1))) full (index + 1) (own (protocol head) (actors.Recoverer (index + 1)) history) history
+  follows_rounds out index recoverer listed =
+      let within : index < length work.recoverers = slice_get_within work.recoverers index recoverer listed in
+      let x = there c.recoverers index (let m = clients.recoverers.many in omega arith) in
+      let l = leaver-behind index x.0 x.1 in
+      let r = clients.recoverers.each index x.0 x.1 in
+      let gone = left.recoverers index x.0 l.0 x.1 l.1 in
+      let place : client_at head (length c.sessions + index) ≡ actors.Recoverer (index + 1) = ap (λ n. client_at head (n + index)) clients.runners.many ∙ recoverer_at head index in
+      let kept : IsKeptIn work.limit head history (actors.Recoverer (index + 1)) l.0.0.part = subst (λ (i : ActorId). IsKeptIn work.limit head history i l.0.0.part) place (closed.each (length c.sessions + index) l.0 l.1) in
+      let list : own (protocol head) (actors.Recoverer (index + 1)) history ≡ entries_made x.0 = kept.list ∙ ap (λ (p : Part Event). p.own) gone.part in
+      let P : List (Pair Event) → Type 0 = λ list. FollowsInRounds work recoverer (rules (actors.Recoverer (index + 1))) full (index + 1) list history in
+      let same : recoverer ≡ r.recoverer = same_some recoverer r.recoverer (sym listed ∙ r.listed) in
+      let D = x.0.recoverer in
+      let stop : D.desk.log.stop ≡ recoverer.stop = r.stop ∙ ap (λ (w : RecovererWork). w.stop) (sym same) in
+      let R : ℕ → Option ℕ → ℕ → Priority → List (List ℕ) → Type 0 = λ limit stop number level splits. HasMadeOrEnded splits number level recoverer.rounds limit stop full (entries_made x.0) in
+      let made : HasMadeOrEnded D.desk.log.head.splits D.number D.level x.0.rounds D.desk.log.limit D.desk.log.stop full (entries_made x.0) = rounds_so x.0 full r.counted (out index x.0 x.1) (say_full.recoverers index x.0 x.1) in
+      let rounds : R D.desk.log.limit D.desk.log.stop D.number D.level D.desk.log.head.splits =
+      subst (λ n. HasMadeOrEnded D.desk.log.head.splits D.number D.level n D.desk.log.limit D.desk.log.stop full (entries_made x.0)) (sym (ap (λ (w : RecovererWork). w.rounds) same ∙ r.rounds)) made in
+      let levels : R D.desk.log.limit D.desk.log.stop D.number recoverer.level D.desk.log.head.splits =
+      subst (λ v. R D.desk.log.limit D.desk.log.stop D.number v D.desk.log.head.splits) (sym (ap (λ (w : RecovererWork). w.level) same ∙ r.level)) rounds in
+      let numbers : R D.desk.log.limit D.desk.log.stop (index + 1) recoverer.level D.desk.log.head.splits = subst (λ n. R D.desk.log.limit D.desk.log.stop n recoverer.level D.desk.log.head.splits) r.number levels in
+      let limits : R work.limit D.desk.log.stop (index + 1) recoverer.level D.desk.log.head.splits = subst (λ n. R n D.desk.log.stop (index + 1) recoverer.level D.desk.log.head.splits) r.limit numbers in
+      let stops : R work.limit recoverer.stop (index + 1) recoverer.level D.desk.log.head.splits = subst (λ (o : Option ℕ). R work.limit o (index + 1) recoverer.level D.desk.log.head.splits) stop limits in
+      let all : R work.limit recoverer.stop (index + 1) recoverer.level work.splits = subst (λ (h : Head). R work.limit recoverer.stop (index + 1) recoverer.level h.splits) r.head stops in
+      subst P (sym list) (record {
+        readings = gone.readings recoverer listed;
+        wire = subst (λ (p : Part Event). AreServed full (actors.Recoverer (index + 1)) history (known_of p.own)) gone.part kept.served;
+        within = gone.within;
+        no_later = subst (λ (o : Option ℕ). IfSome o (λ n. length (entries_made x.0) ≤ n)) stop gone.no_later;
+        rounds = all;
+      })
+    where
+      same_some : (x y : RecovererWork) → Some x ≡ Some y → x ≡ y
+      same_some x y e = cc
+
   -- the whole
-  pub follows_whole : AreRunOut sessions → GoAsStated work full work.turns (length work.sessions) (client_pairs (head_in_work work) history) → LearnInOrder (client_pairs (head_in_work work) history)
-      → FollowsWork work rules (head_in_work work) history
+  pub follows_whole : AreAtEnds c → GoAsStated work full work.turns (length work.sessions) (client_pairs head history) → LearnInOrder (client_pairs head history) → FollowsWork work rules head history
   follows_whole out order learns = record {
     splits = refl;
     sessions = refl;
     recoverers = refl;
     order = order;
-    learns = all_learn_truly (head_in_work work) history closed.run learns;
+    learns = all_learn_truly head history closed.run learns;
     each = λ number session from listed.
         let same : (number - 1) + 1 ≡ number = omega arith in
-        subst (λ n. FollowsByItself work session (rules (actors.Session n)) full (actors.Session n) (own (protocol (head_in_work work)) (actors.Session n) history) history) same (follows_each out (number - 1) session listed);
+        subst (λ n. FollowsByItself work session (rules (actors.Session n)) full (actors.Session n) (own (protocol head) (actors.Session n) history) history) same (follows_each out.sessions (number - 1) session listed);
+    rounds = λ number recoverer from listed.
+        let same : (number - 1) + 1 ≡ number = omega arith in
+        subst (λ n. FollowsInRounds work recoverer (rules (actors.Recoverer n)) full n (own (protocol head) (actors.Recoverer n) history) history) same (follows_rounds out.recoverers (number - 1) recoverer listed);
   }
 
 pub history_follows : (C : Type 0) → HistoryFollows C
-history_follows C work rules sessions leavers history runners left closed out order learns = follows_whole work rules sessions leavers history runners left closed out order learns
+history_follows C work rules c leavers history clients left closed out order learns = follows_whole work rules c leavers history clients left closed out order learns
 
 -- ---- turns
 
-module _ {C : Type 0} (work : Workload) (rules : ActorId → ℕ → ℕ → Bool) where
+module _ {C : Type 0} where
   -- the own lists are those that were left
-  lists-are : (sessions : List (ScriptedMeaning C)) (leavers : List Leaver) → length leavers ≡ length sessions
-      → ((index : ℕ) (s : ScriptedMeaning C) (l : Leaver) → slice_get sessions index ≡ Some s → slice_get leavers index ≡ Some l → l.0.part ≡ s.session.desk.log.part) → lists_of leavers ≡ map own_list sessions
-  lists-are [] [] many each = refl
-  lists-are [] (l ∷ ls) many each = absurd (omega arith)
-  lists-are (s ∷ ss) [] many each = absurd (omega arith)
-  lists-are (s ∷ ss) (l ∷ ls) many each =
-      let first : l.0.part.own ≡ own_list s = ap (λ (p : Part Event). p.own) (each 0 s l refl refl) in
-      let rest : lists_of ls ≡ map own_list ss = lists-are ss ls (omega arith) (λ index x y at there. each (suc index) x y at there) in
+  lists-behind : (rs : List (CountedMeaning C)) (leavers : List Leaver) → length leavers ≡ length rs
+      → ((index : ℕ) (r : CountedMeaning C) (l : Leaver) → slice_get rs index ≡ Some r → slice_get leavers index ≡ Some l → l.0.part ≡ r.recoverer.desk.log.part) → lists_of leavers ≡ map entries_made rs
+  lists-behind [] [] many each = refl
+  lists-behind [] (l ∷ ls) many each = absurd (omega arith)
+  lists-behind (r ∷ rs) [] many each = absurd (omega arith)
+  lists-behind (r ∷ rs) (l ∷ ls) many each =
+      let first : l.0.part.own ≡ entries_made r = ap (λ (p : Part Event). p.own) (each 0 r l refl refl) in
+      let rest : lists_of ls ≡ map entries_made rs = lists-behind rs ls (omega arith) (λ index x y at here. each (suc index) x y at here) in
       λ i. first i ∷ rest i
 
--- sessions that have left made up their order
-order-made : {C : Type 0} (work : Workload) (rules : ActorId → ℕ → ℕ → Bool) (sessions : List (ScriptedMeaning C)) (leavers : List Leaver) (history : List (Entry Event)) (order : List (Pair Event)) → HaveAllLeft work rules sessions leavers
-    → (closed : IsClosedOver work.limit (head_in_work work) leavers history) → AreShares (map own_list sessions) order → MakesUpEach closed.parts order
-order-made work rules sessions leavers history order left closed shares =
-    let lists : lists_of leavers ≡ map own_list sessions = lists-are work rules sessions leavers left.many (λ index s l at there. (left.each index s l at there).part) in
-    shares_make_up (map own_list sessions) order closed.parts shares (subst (λ ls. AreHandedIn ls closed.parts) lists closed.handed)
+  lists-are : (ss : List (ScriptedMeaning C)) (rs : List (CountedMeaning C)) (leavers : List Leaver) → length leavers ≡ length ss + length rs
+      → ((index : ℕ) (s : ScriptedMeaning C) (l : Leaver) → slice_get ss index ≡ Some s → slice_get leavers index ≡ Some l → l.0.part ≡ s.session.desk.log.part)
+      → ((index : ℕ) (r : CountedMeaning C) (l : Leaver) → slice_get rs index ≡ Some r → slice_get leavers (length ss + index) ≡ Some l → l.0.part ≡ r.recoverer.desk.log.part)
+      → lists_of leavers ≡ map own_list ss ++ map entries_made rs
+  lists-are [] rs leavers many each behind =
+      lists-behind rs leavers (omega arith) (λ index r l at here. behind index r l at (let same : index ≡ 0 + index = omega arith in subst (λ n. slice_get leavers n ≡ Some l) same here))
+  lists-are (s ∷ ss) rs [] many each behind = absurd (omega arith)
+  lists-are (s ∷ ss) rs (l ∷ ls) many each behind =
+      let first : l.0.part.own ≡ own_list s = ap (λ (p : Part Event). p.own) (each 0 s l refl refl) in
+      let rest : lists_of ls ≡ map own_list ss ++ map entries_made rs =
+      lists-are ss rs ls (omega arith) (λ index x y at here. each (suc index) x y at here)
+      (λ index x y at here. behind index x y at (let same : suc (length ss + index) ≡ suc (length ss) + index = omega arith in subst (λ n. slice_get (l ∷ ls) n ≡ Some y) same here)) in
+      λ i. first i ∷ rest i
+
+-- clients that have left made up their order
+order-made : {C : Type 0} (work : Workload) (rules : ActorId → ℕ → ℕ → Bool) (c : ClientsMeaning C) (leavers : List Leaver) (history : List (Entry Event)) (order : List (Pair Event)) → HaveAllLeft work rules c leavers
+    → (closed : IsClosedOver work.limit (head_in_work work) leavers history) → AreShares (head_in_work work) (client_lists c) order → MakesUpEach closed.parts order
+order-made work rules c leavers history order left closed shares =
+    let lists : lists_of leavers ≡ client_lists c = lists-are c.sessions c.recoverers leavers left.many (λ index s l at here. (left.sessions index s l at here).part) (λ index r l at here. (left.recoverers index r l at here).part) in
+    shares_make_up (head_in_work work) (client_lists c) order closed.parts shares (subst (λ ls. AreHandedIn (head_in_work work) ls closed.parts) lists closed.handed)
 
 pub turns_are_as_stated : (C : Type 0) → TurnsAreAsStated C
-turns_are_as_stated C work rules sessions leavers history order stated left closed shares some goes =
+turns_are_as_stated C work rules c leavers history order stated left closed shares some goes =
     let full = range_is_full work.limit (head_in_work work) history in
-    let kept : GoInTurns (next_in_work work) (list_has_ended work.limit full) (is_work_opened work) stated (length work.sessions) (client_pairs (head_in_work work) history) =
-    turns_are_kept (head_in_work work) history closed.parts order (next_in_work work) (list_has_ended work.limit full) (is_work_opened work) stated closed.stored (order-made work rules sessions leavers history order left closed shares) goes in
+    let kept : GoInTurnsOf work full stated (length work.sessions) (length work.recoverers) (client_pairs (head_in_work work) history) =
+    turns_are_kept (head_in_work work) history closed.parts order (next_in_work work) (ended_in_work work full) (recoverer_ended_in_work work full) (rounds_in_work work) (is_work_opened work) stated closed.stored (order-made work rules c leavers history order left closed shares) goes in
     subst (λ (o : Option (List Turn)). GoAsStated work full o (length work.sessions) (client_pairs (head_in_work work) history)) (sym some) kept
 
 pub learns_are_kept : (C : Type 0) → LearnsAreKept C
-learns_are_kept C work rules sessions leavers history order left closed shares learns =
-    subst LearnInOrder (sym (clients_keep_order (head_in_work work) history closed.parts order closed.stored (order-made work rules sessions leavers history order left closed shares))) learns
+learns_are_kept C work rules c leavers history order left closed shares learns =
+    subst LearnInOrder (sym (clients_keep_order (head_in_work work) history closed.parts order closed.stored (order-made work rules c leavers history order left closed shares))) learns

@@ -1,5 +1,5 @@
 -- The sessions of a workload, each with its script: how they go on, and what they leave.
-use Rattle.std.specs.Prelude.{◌≡◌, ℕ, ◌+◌, ◌≤◌, Bool, is_none, Some, List, [], length, slice_get}
+use Rattle.std.specs.Prelude.{◌≡◌, ℕ, ◌+◌, ◌≤◌, Bool, is_none, IfSome, Some, List, [], length, slice_get}
 use Rattle.pc_base.specs.declared.actor.ActorId.{ActorId}
 use Rattle.pc_base.specs.declared.actor.ActorId.TheVariants as actors
 use Rattle.pc_closing.specs.Leaving.{Leaver}
@@ -16,9 +16,9 @@ use Rattle.pc_world.specs.Local.{Head}
 
 -- The head of a workload's history.
 abbrev pub head_in_work : Workload → Head
-head_in_work work = record { splits = work.splits; sessions = length work.sessions; recoverers = 0 }
+head_in_work work = record { splits = work.splits; sessions = length work.sessions; recoverers = length work.recoverers }
 
--- The session goes by the script of this index of the workload, within its limits.
+-- The session goes by the script of this index of the workload, within its limits and up to its stop.
 pub record IsRunnerIn {C : Type 0} (work : Workload) (index : ℕ) (s : ScriptedMeaning C) : Type 0 where
   pub scripted : IsScripted s
   pub number : own_number s ≡ index + 1
@@ -28,6 +28,7 @@ pub record IsRunnerIn {C : Type 0} (work : Workload) (index : ℕ) (s : Scripted
   pub reruns : work.reruns ≡ s.at.reruns
   pub head : s.session.desk.log.head ≡ head_in_work work
   pub limit : s.session.desk.log.limit ≡ work.limit
+  pub stop : s.session.desk.log.stop ≡ session.stop
   pub range_limit : s.session.desk.range_limit ≡ work.limit
 
 -- Each session of the workload has its runner, and no other is there.
@@ -49,15 +50,11 @@ SaysAllFull {C} full sessions = (index : ℕ) (s : ScriptedMeaning C) → slice_
 abbrev pub AreRunOut : {C : Type 0} → List (ScriptedMeaning C) → Type 0
 AreRunOut {C} sessions = (index : ℕ) (s : ScriptedMeaning C) → slice_get sessions index ≡ Some s → IsRunOut s
 
--- The session has left with what it stored and knew, within its limit, and each of its entries keeps its work.
+-- The session has left with what it stored and knew, within its limit and up to its stop, and each of its entries keeps its work.
 pub record HasLeftAs {C : Type 0} (work : Workload) (rules : ActorId → ℕ → ℕ → Bool) (index : ℕ) (s : ScriptedMeaning C) (l : Leaver) : Type 0 where
   pub part : l.0.part ≡ s.session.desk.log.part
   pub steps : (session : SessionWork) → slice_get work.sessions index ≡ Some session → EachAfter (KeepsWork work session (rules (actors.Session (index + 1)))) [] (own_list s)
   pub keeps : KeepsEach (actors.Session (index + 1)) work.splits work.pipelining (own_list s)
   pub waves : KeepsWavesEach (is_none work.turns) (own_list s)
   pub within : length (own_list s) ≤ work.limit
-
--- All sessions have left, in order.
-pub record HaveAllLeft {C : Type 0} (work : Workload) (rules : ActorId → ℕ → ℕ → Bool) (sessions : List (ScriptedMeaning C)) (leavers : List Leaver) : Type 0 where
-  pub many : length leavers ≡ length sessions
-  pub each : (index : ℕ) (s : ScriptedMeaning C) (l : Leaver) → slice_get sessions index ≡ Some s → slice_get leavers index ≡ Some l → HasLeftAs work rules index s l
+  pub no_later : IfSome s.session.desk.log.stop (λ stop. length (own_list s) ≤ stop)

@@ -1,16 +1,16 @@
-//! Laws of a workload's run: what its sessions leave is one history, which follows the workload.
+//! Laws of a workload's run: what its sessions and recoverers leave is one history, which follows the workload.
 #![tactic(auto)]
 
-ghost use Rattle.pc_runs.specs.Laws.{HistoryFollows, LearnsAreKept, SessionsLeave, TransactionsLearnNothing, TurnsAreAsStated};
+ghost use Rattle.pc_runs.specs.Laws.{ClientsLeave, HistoryFollows, LearnsAreKept, TransactionsLearnNothing, TurnsAreAsStated};
 
 use pc_clock::Clock;
 
-/// A law: sessions that have finished leave what may be closed, and each of their entries keeps its work.
-pub fn sessions_leave<C: Clock>()
-    ensures { SessionsLeave C.rule }
+/// A law: sessions and recoverers that have finished leave what may be closed, and each of their entries keeps its work.
+pub fn clients_leave<C: Clock>()
+    ensures { ClientsLeave C.rule }
 {}
 
-/// A law: where all sessions took their turns, as their own lists say, the history goes in the turns that are stated.
+/// A law: where all sessions and recoverers took their turns, as their own lists say, the history goes in the turns that are stated.
 pub fn turns_are_as_stated<C: Clock>()
     ensures { TurnsAreAsStated C }
 {}
@@ -25,7 +25,7 @@ pub fn transactions_learn_nothing<C: Clock>()
     ensures { TransactionsLearnNothing C }
 {}
 
-/// A law: the history that sessions leave follows their workload, where all have run out, it goes as the workload states, and each learn in it
+/// A law: the history that sessions and recoverers leave follows their workload, where all are at their ends, it goes as the workload states, and each learn in it
 /// is told in order.
 pub fn history_follows<C: Clock>()
     ensures { HistoryFollows C }

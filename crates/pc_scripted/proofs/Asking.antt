@@ -1,5 +1,5 @@
 -- A session that asked its script's next call and was told its answer.
-use Rattle.std.proofs.Common.{◌≡◌, ℕ, ◌<◌, ◌≤◌, false, true, All, [], ◌∷◌, ◌++◌, length, Some, None, refl, sym, ap, subst, ◌∙◌}
+use Rattle.std.proofs.Common.{◌≡◌, ℕ, ◌<◌, ◌≤◌, false, true, All, [], ◌∷◌, ◌++◌, length, Some, refl, sym, ap, subst, ◌∙◌}
 use Rattle.std.proofs.lemmas.List.Elements.{All-append}
 use Rattle.pc_base.specs.declared.actor.ActorId.TheVariants as actors
 use Rattle.pc_desk.specs.OwnLog.{LogMeaning}
@@ -14,7 +14,7 @@ use Rattle.pc_scripted.proofs.Passing.{order_told, position_told}
 use Rattle.pc_scripted.proofs.Telling.{fits_told, told_reruns}
 use Rattle.pc_scripted.proofs.Tests.{not_ended, some_room}
 use Rattle.pc_scripted.proofs.Turning.{asks_whole}
-use Rattle.pc_scripted.specs.Ended.{list_has_ended}
+use Rattle.pc_scripted.specs.Ended.{ended_in_script}
 use Rattle.pc_scripted.specs.Scripted.{AskInOrder, GoesOnInScript, IsScripted, ScriptedMeaning, next_in_script, own_number, own_list, session_number}
 use Rattle.pc_scripted.specs.Taking.{AsksInTurn, HasMoved}
 use Rattle.pc_session.specs.Calls.{HasCalled}
@@ -81,7 +81,6 @@ module _ {C : Type 0} (old : ScriptedMeaning C) (new : SessionMeaning C) (at : P
         (All-append (λ (p : Pair Event). p.entry.actor ≡ actors.Session (own_number old)) (own_list old) called.part scripted.whose whole-call.whose));
     unpiped = log-is (λ l. l.pipelining ≡ false) scripted.unpiped;
     one_by_one = log-is (λ l. l.beside ≡ false) scripted.one_by_one;
-    no_stop = log-is (λ l. l.stop ≡ None) scripted.no_stop;
     within = called.rest.track.log.within;
     given = called.rest.track.given;
     asks = subst (λ n. AskInOrder n old.script new.desk.log.part.own) (sym same-reruns)
@@ -113,6 +112,7 @@ module _ {C : Type 0} (old : ScriptedMeaning C) (new : SessionMeaning C) (at : P
         reruns = same-reruns;
         head = log-is (λ l. l.head ≡ old.session.desk.log.head) refl;
         limit = limit-then;
+        stop = log-is (λ l. l.stop ≡ old.session.desk.log.stop) refl;
         range_limit = called.limit;
       };
       own = called.grown.own;
@@ -121,6 +121,6 @@ module _ {C : Type 0} (old : ScriptedMeaning C) (new : SessionMeaning C) (at : P
       above = called.grown.above;
       known = called.grown.known;
     };
-    is = λ full says. asks_whole (next_in_script reruns old.script) (list_has_ended old.session.desk.log.limit full) (own_number old) (own_list old) called.part
-        (not_ended old.session.desk.log.limit full (own_list old) goes.rest.heard room) call next-here whole-call;
+    is = λ full says. asks_whole (next_in_script reruns old.script) (ended_in_script old.session.desk.log.limit old.session.desk.log.stop full) (own_number old) (own_list old) called.part
+        (not_ended old.session.desk.log.limit old.session.desk.log.stop full (own_list old) (goes.rest.track.log.before_stop going) goes.rest.heard room) call next-here whole-call;
   }

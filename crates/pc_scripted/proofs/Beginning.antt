@@ -5,7 +5,7 @@ use Rattle.pc_base.specs.declared.actor.ActorId.TheVariants as actors
 use Rattle.pc_coord.specs.declared.job.Job.{Job}
 use Rattle.pc_coord.specs.Knows.{messages_of_job}
 use Rattle.pc_desk.specs.Desk.{DeskMeaning}
-use Rattle.pc_desk.specs.Ending.{IsAtFullRange, IsAtOwnEnd, IsNotLost}
+use Rattle.pc_desk.specs.Ending.{EndsEarly, IsNotLost}
 use Rattle.pc_history.specs.declared.pair.Pair.{Pair}
 use Rattle.pc_history.specs.declared.view.Known.{Known as KnownEntry}
 use Rattle.pc_history.specs.Parts.{told}
@@ -35,9 +35,9 @@ on_ok (Err e) A B f a = tt
 pub moved_from : {C : Type 0} (v old new : ScriptedMeaning C) (Is : ScriptedMeaning C → Move) → v ≡ old → HasMoved (Is v) v new → HasMoved (Is old) old new
 moved_from v old new Is same moved = subst (λ s. HasMoved (Is s) s new) same moved
 
-pub begun_scripted : {C : Type 0} (session : SessionMeaning C) (script : List Item) (at : Position) (reruns : ℕ) → IsAtRest session → session.desk.log.part.own ≡ [] → session.desk.log.stop ≡ None → session.desk.log.stopped ≡ false
+pub begun_scripted : {C : Type 0} (session : SessionMeaning C) (script : List Item) (at : Position) (reruns : ℕ) → IsAtRest session → session.desk.log.part.own ≡ [] → session.desk.log.stopped ≡ false
     → at ≡ opened script reruns → IsScripted (record { session = session; script = script; at = at })
-begun_scripted session script at reruns rest none stop going start =
+begun_scripted session script at reruns rest none going start =
     let id = session.desk.log.part.id in
     let begins : at.reruns ≡ reruns = ap (λ (p : Position). p.reruns) start ∙ opened_reruns script reruns in
     record {
@@ -45,7 +45,6 @@ begun_scripted session script at reruns rest none stop going start =
       whose = subst (All (λ (p : Pair Event). p.entry.actor ≡ actors.Session (session_number id))) (sym none) (All-nil (λ (p : Pair Event). p.entry.actor ≡ actors.Session (session_number id)));
       unpiped = rest.one.unpiped;
       one_by_one = rest.one.one_by_one;
-      no_stop = stop;
       within = rest.track.log.within;
       given = rest.track.given;
       asks = subst (AskInOrder at.reruns script) (sym none) tt;
@@ -69,9 +68,10 @@ module _ {C : Type 0} (d : DeskMeaning C) (note : List (KnownEntry Event)) where
   not_lost_still m (inr (inl waits)) = inr (inl waits)
   not_lost_still m (inr (inr knows)) = inr (inr (record { evaluation = knows.evaluation; knows = Contains-append_left d.log.part.known note knows.evaluation knows.knows; of_it = knows.of_it }))
 
-  ends_still : IsAtOwnEnd d ⊎ IsAtFullRange d → IsAtOwnEnd taught ⊎ IsAtFullRange taught
+  pub ends_still : EndsEarly d → EndsEarly taught
   ends_still (inl end) = inl (record { long = end.long; each = All-weaker (IsNotLost d) (IsNotLost taught) not_lost_still (known_of d.log.part.own).sent end.each; waits = end.waits })
-  ends_still (inr end) = inr (record {
+  ends_still (inr (inr end)) = inr (inr (record { long = end.long; each = All-weaker (IsNotLost d) (IsNotLost taught) not_lost_still (known_of d.log.part.own).sent end.each; waits = end.waits }))
+  ends_still (inr (inl end)) = inr (inl (record {
     range = end.range;
     full = record { entry = end.full.entry; knows = Contains-append_left d.log.part.known note end.full.entry end.full.knows; full = end.full.full };
     message = end.message;
@@ -81,7 +81,7 @@ module _ {C : Type 0} (d : DeskMeaning C) (note : List (KnownEntry Event)) where
     others = All-weaker (λ m. (m.number ≡ end.message.number) ⊎ IsNotLost d m) (λ m. (m.number ≡ end.message.number) ⊎ IsNotLost taught m) other (known_of d.log.part.own).sent end.others;
     waits = end.waits;
     later = end.later;
-  })
+  }))
     where
       other : (m : Sent) → (m.number ≡ end.message.number) ⊎ IsNotLost d m → (m.number ≡ end.message.number) ⊎ IsNotLost taught m
       other m (inl it) = inl it
@@ -98,7 +98,6 @@ followed_scripted {C} old new note is rests scripted =
       whose = scripted.whose;
       unpiped = scripted.unpiped;
       one_by_one = scripted.one_by_one;
-      no_stop = scripted.no_stop;
       within = scripted.within;
       given = record { each = scripted.given.each; once = scripted.given.once };
       asks = scripted.asks;

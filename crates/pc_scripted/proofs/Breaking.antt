@@ -1,5 +1,5 @@
 -- A session whose list broke off in a call or in a job.
-use Rattle.std.proofs.Common.{◌≡◌, ℕ, ◌≤◌, inl, inr, Bool, false, true, All, List, [], ◌∷◌, ◌++◌, length, Option, Some, None, refl, sym, ap, subst, ◌∙◌}
+use Rattle.std.proofs.Common.{◌≡◌, ℕ, ◌≤◌, ◌⊎◌, inl, inr, Bool, false, true, All, List, [], ◌∷◌, ◌++◌, length, Option, Some, refl, sym, ap, subst, ◌∙◌}
 use Rattle.std.proofs.lemmas.List.{append-nil}
 use Rattle.std.proofs.lemmas.List.Elements.{All-append}
 use Rattle.pc_base.specs.declared.actor.ActorId.{ActorId}
@@ -7,21 +7,22 @@ use Rattle.pc_base.specs.declared.actor.ActorId.TheVariants as actors
 use Rattle.pc_desk.specs.declared.halt.Halt.{Halt}
 use Rattle.pc_desk.specs.declared.halt.Halt.TheVariants as halts
 use Rattle.pc_desk.specs.Desk.{DeskMeaning}
-use Rattle.pc_desk.specs.Ending.{IsEndedBy}
 use Rattle.pc_desk.specs.OwnLog.{LogMeaning}
-use Rattle.pc_exchange.specs.Ending.{BreaksOff, HasBrokenOff}
+use Rattle.pc_exchange.specs.Ending.{BreaksOff, HasBrokenOff, IsEndedBy}
 use Rattle.pc_history.specs.declared.pair.Pair.{Pair}
 use Rattle.pc_proto.specs.declared.call.Call.{Call}
 use Rattle.pc_proto.specs.declared.event.Event.{Event}
+use Rattle.pc_proto.specs.declared.event.Event.TheVariants as events
+use Rattle.pc_proto.specs.declared.answer.Answer.{Answer}
 use Rattle.pc_proto.specs.declared.request.Request.{Request}
 use Rattle.pc_script.specs.Script.{next_call, script_position}
-use Rattle.pc_scripted.proofs.Passing.{order_asked, order_between}
+use Rattle.pc_scripted.proofs.Passing.{order_asked, order_between, order_told}
 use Rattle.pc_scripted.proofs.Tests.{has_ended_now, no_room, only_at_limit}
-use Rattle.pc_scripted.proofs.Turning.{asks_ended, asks_partly, finishes_ended, finishes_partly}
-use Rattle.pc_scripted.specs.Ended.{SaysFull, list_has_ended}
+use Rattle.pc_scripted.proofs.Turning.{asks_ended, asks_partly, asks_whole, finishes_ended, finishes_partly}
+use Rattle.pc_scripted.specs.Ended.{SaysFull, ended_in_script, list_has_ended}
 use Rattle.pc_scripted.specs.Scripted.{AskInOrder, GoesOnInScript, IsScripted, ScriptedMeaning, next_in_script, own_number, own_list, session_number}
 use Rattle.pc_scripted.specs.Taking.{AsksInTurn, FinishesInTurn, HasMoved, HasMovedBy, Move}
-use Rattle.pc_session.specs.Ending.{AreOfBrokenCall}
+use Rattle.pc_session.specs.Ending.{AreOfBrokenCall, AreOfOpenCall, AreToldAtLast}
 use Rattle.pc_session.specs.Session.{SessionMeaning}
 use Rattle.pc_turns.specs.Order.{AsksAfter, FinishesAfter, IsInBetween, events_of}
 use Rattle.pc_follows.specs.FinishingJobs.{jobs_of}
@@ -32,8 +33,37 @@ ended_off halts.Stopped So memory so = so
 ended_off (halts.Full actor) So memory so = so
 ended_off halts.NoMemory So memory so = absurd (memory refl)
 
-pub breaks_so : {C : Type 0} (Are : List Event → Type 0) (old new : DeskMeaning C) (halt : Halt) → old.log.stopped ≡ false → old.log.stop ≡ None → (halt ≡ halts.NoMemory → ⊥) → BreaksOff Are old new halt → HasBrokenOff Are old new
-breaks_so Are old new halt going stop memory breaks = ended_off halt (HasBrokenOff Are old new) memory (breaks going stop)
+pub breaks_so : {C : Type 0} (Are : List Event → Type 0) (old new : DeskMeaning C) (halt : Halt) → old.log.stopped ≡ false → (halt ≡ halts.NoMemory → ⊥) → BreaksOff Are old new halt → HasBrokenOff Are old new
+breaks_so Are old new halt going memory breaks = ended_off halt (HasBrokenOff Are old new) memory (breaks going)
+
+-- What a call has made where its list ended in it: nothing; its asking, and what was sent and heard since; or all of it, with its telling.
+pub record IsPartOf (call : Call) (made : List Event) : Type 0 where
+  pub reading : ℕ
+  pub between : List Event
+  pub begins : made ≡ events.Ask call reading ∷ between
+  pub within : All IsInBetween between
+
+pub record IsAllOf (call : Call) (made : List Event) : Type 0 where
+  pub reading : ℕ
+  pub between : List Event
+  pub answer : Answer
+  pub whole : made ≡ events.Ask call reading ∷ (between ++ events.Tell answer ∷ [])
+  pub within : All IsInBetween between
+
+abbrev pub IsMadeOf : Call → List Event → Type 0
+IsMadeOf call made = (made ≡ []) ⊎ IsPartOf call made ⊎ IsAllOf call made
+
+open_cases : (halt : Halt) (since : List Event) → AreOfOpenCall halt since → All IsInBetween since ⊎ AreToldAtLast since
+open_cases halts.Stopped since are = are
+open_cases (halts.Full actor) since are = inl are
+open_cases halts.NoMemory since are = inl are
+
+pub broken_cases : (call : Call) (halt : Halt) (made : List Event) → AreOfBrokenCall call halt made → IsMadeOf call made
+broken_cases call halt made (inl none) = inl none
+broken_cases call halt made (inr asked) = elim (open_cases halt asked.since asked.within) [
+  | inl within ↦ inr (inl (record { reading = asked.reading; between = asked.since; begins = asked.begins; within = within }))
+  | inr told ↦ inr (inr (record { reading = asked.reading; between = told.between; answer = told.answer; whole = asked.begins ∙ ap (λ es. events.Ask call asked.reading ∷ es) told.whole; within = told.within }))
+]
 
 module _ {C : Type 0} (Are : List Event → Type 0) (old : ScriptedMeaning C) (new : SessionMeaning C) (scripted : IsScripted old) (going : old.session.desk.log.stopped ≡ false) (b : HasBrokenOff Are old.session.desk new.desk)
     (orders : AskInOrder old.at.reruns old.script (own_list old ++ b.part)) where
@@ -60,6 +90,9 @@ module _ {C : Type 0} (Are : List Event → Type 0) (old : ScriptedMeaning C) (n
   limit-then : new.desk.log.limit ≡ old.session.desk.log.limit
   limit-then = log-is (λ l. l.limit ≡ old.session.desk.log.limit) refl
 
+  stop-then : new.desk.log.stop ≡ old.session.desk.log.stop
+  stop-then = log-is (λ l. l.stop ≡ old.session.desk.log.stop) refl
+
   scripted-then : IsScripted broken_then
   scripted-then = record {
     id = log-is (λ l. l.part.id ≡ old.session.desk.log.part.id) refl ∙ (scripted.id ∙ ap actors.Session (sym same-number));
@@ -68,7 +101,6 @@ module _ {C : Type 0} (Are : List Event → Type 0) (old : ScriptedMeaning C) (n
         (All-append (λ (p : Pair Event). p.entry.actor ≡ actors.Session (own_number old)) (own_list old) b.part scripted.whose whose-part));
     unpiped = log-is (λ l. l.pipelining ≡ false) scripted.unpiped;
     one_by_one = log-is (λ l. l.beside ≡ false) scripted.one_by_one;
-    no_stop = log-is (λ l. l.stop ≡ None) scripted.no_stop;
     within = b.within;
     given = b.given;
     asks = subst (AskInOrder old.at.reruns old.script) (sym b.own) orders;
@@ -85,6 +117,7 @@ module _ {C : Type 0} (Are : List Event → Type 0) (old : ScriptedMeaning C) (n
       reruns = refl;
       head = log-is (λ l. l.head ≡ old.session.desk.log.head) refl;
       limit = limit-then;
+      stop = stop-then;
       range_limit = b.limit;
     };
     own = b.own;
@@ -95,74 +128,79 @@ module _ {C : Type 0} (Are : List Event → Type 0) (old : ScriptedMeaning C) (n
   }
 
   -- the list has ended
-  ended-then : (full : ℕ → Bool) → SaysFull full new.desk → list_has_ended old.session.desk.log.limit full (own_list old ++ b.part) ≡ true
+  ended-then : (full : ℕ → Bool) → SaysFull full new.desk → list_has_ended old.session.desk.log.limit old.session.desk.log.stop full (own_list old ++ b.part) ≡ true
   ended-then full says =
-      subst (λ own. list_has_ended old.session.desk.log.limit full own ≡ true) b.own
-      (subst (λ n. list_has_ended n full new.desk.log.part.own ≡ true) limit-then (has_ended_now new.desk full says b.end))
+      subst (λ own. list_has_ended old.session.desk.log.limit old.session.desk.log.stop full own ≡ true) b.own
+      (subst (λ n. list_has_ended n old.session.desk.log.stop full new.desk.log.part.own ≡ true) limit-then
+      (subst (λ o. list_has_ended new.desk.log.limit o full new.desk.log.part.own ≡ true) stop-then (has_ended_now new.desk full says b.end)))
 
   -- and if it had before, nothing was made
-  nothing-made : (full : ℕ → Bool) → list_has_ended old.session.desk.log.limit full (own_list old) ≡ true → b.part ≡ []
+  nothing-made : (full : ℕ → Bool) → list_has_ended old.session.desk.log.limit old.session.desk.log.stop full (own_list old) ≡ true → b.part ≡ []
   nothing-made full before =
-      no_room old.session.desk.log.limit (own_list old) b.part (only_at_limit old.session.desk.log.limit full (own_list old) goes.rest.heard before)
+      no_room old.session.desk.log.limit (own_list old) b.part (only_at_limit old.session.desk.log.limit old.session.desk.log.stop full (own_list old) (goes.rest.track.log.before_stop going) goes.rest.heard before)
       (subst (λ own. length own ≤ old.session.desk.log.limit) b.own (subst (λ n. length new.desk.log.part.own ≤ n) limit-then b.within))
 
   -- if it had not, something was made
-  something-made : (full : ℕ → Bool) → SaysFull full new.desk → list_has_ended old.session.desk.log.limit full (own_list old) ≡ false → b.part ≡ [] → ⊥
+  something-made : (full : ℕ → Bool) → SaysFull full new.desk → list_has_ended old.session.desk.log.limit old.session.desk.log.stop full (own_list old) ≡ false → b.part ≡ [] → ⊥
   something-made full says before none =
-      let now : list_has_ended old.session.desk.log.limit full (own_list old) ≡ true =
-      ap (list_has_ended old.session.desk.log.limit full) (sym (append-nil (own_list old)) ∙ ap (λ p. own_list old ++ p) (sym none)) ∙ ended-then full says in
+      let now : list_has_ended old.session.desk.log.limit old.session.desk.log.stop full (own_list old) ≡ true =
+      ap (list_has_ended old.session.desk.log.limit old.session.desk.log.stop full) (sym (append-nil (own_list old)) ∙ ap (λ p. own_list old ++ p) (sym none)) ∙ ended-then full says in
       let e : true ≡ false = sym now ∙ before in
       absurd cc
 
-  moved-so : (Is : Move) → ((full : ℕ → Bool) → SaysFull full new.desk → Is (list_has_ended old.session.desk.log.limit full) (own_list old) b.part) → HasMoved Is old broken_then
+  moved-so : (Is : Move) → ((full : ℕ → Bool) → SaysFull full new.desk → Is (ended_in_script old.session.desk.log.limit old.session.desk.log.stop full) (own_list old) b.part) → HasMoved Is old broken_then
   moved-so Is is = record { part = b.part; by = moved-by; is = is }
 
 -- in a call
-module _ {C : Type 0} (old : ScriptedMeaning C) (new : SessionMeaning C) (call : Call) (scripted : IsScripted old) (going : old.session.desk.log.stopped ≡ false) (next : next_call old.at ≡ Some call)
-    (b : HasBrokenOff (AreOfBrokenCall call) old.session.desk new.desk) where
+module _ {C : Type 0} (Are : List Event → Type 0) (old : ScriptedMeaning C) (new : SessionMeaning C) (call : Call) (scripted : IsScripted old) (going : old.session.desk.log.stopped ≡ false) (next : next_call old.at ≡ Some call)
+    (b : HasBrokenOff Are old.session.desk new.desk) (made : IsMadeOf call (events_of b.part)) where
   next-here : next_call (script_position old.at.reruns old.script (own_list old)) ≡ Some call
   next-here = ap next_call (sym (scripted.goes going).place) ∙ next
 
-  order-by : (part : List (Pair Event)) → AreOfBrokenCall call (events_of part) → AskInOrder old.at.reruns old.script (own_list old ++ part)
+  order-by : (part : List (Pair Event)) → IsMadeOf call (events_of part) → AskInOrder old.at.reruns old.script (own_list old ++ part)
   order-by [] are = subst (AskInOrder old.at.reruns old.script) (sym (append-nil (own_list old))) scripted.asks
   order-by (p ∷ ps) (inl none) = absurd (let e : p.entry.event ∷ events_of ps ≡ [] = none in cc)
-  order-by (p ∷ ps) (inr asked) = order_asked old.at.reruns old.script (own_list old) (p ∷ ps) call asked.reading asked.between scripted.asks asked.begins asked.within next-here
+  order-by (p ∷ ps) (inr (inl asked)) = order_asked old.at.reruns old.script (own_list old) (p ∷ ps) call asked.reading asked.between scripted.asks asked.begins asked.within next-here
+  order-by (p ∷ ps) (inr (inr told)) = order_told old.at.reruns old.script (own_list old) (p ∷ ps) call told.reading told.between told.answer scripted.asks told.whole told.within next-here
 
-  abbrev ended-by : (ℕ → Bool) → List (Pair Event) → Bool
-  ended-by full = list_has_ended old.session.desk.log.limit full
+  abbrev ended-by : (ℕ → Bool) → ℕ → List (Pair Event) → Bool
+  ended-by full = ended_in_script old.session.desk.log.limit old.session.desk.log.stop full
 
   abbrev next-by : ℕ → List (Pair Event) → Option Call
   next-by = next_in_script old.at.reruns old.script
 
   orders : AskInOrder old.at.reruns old.script (own_list old ++ b.part)
-  orders = order-by b.part b.are
+  orders = order-by b.part made
 
   no-events : (part : List (Pair Event)) → events_of part ≡ [] → part ≡ []
   no-events [] none = refl
   no-events (p ∷ ps) none = absurd (let e : p.entry.event ∷ events_of ps ≡ [] = none in cc)
 
-  partly : (full : ℕ → Bool) → SaysFull full new.desk → ended-by full (own_list old) ≡ false → AreOfBrokenCall call (events_of b.part) → AsksAfter next-by (ended-by full) (own_number old) (own_list old) b.part
-  partly full says on (inl none) = absurd (something-made (AreOfBrokenCall call) old new scripted going b orders full says on (no-events b.part none))
-  partly full says on (inr asked) =
+  partly : (full : ℕ → Bool) → SaysFull full new.desk → ended-by full (own_number old) (own_list old) ≡ false → IsMadeOf call (events_of b.part) → AsksAfter next-by (ended-by full) (own_number old) (own_list old) b.part
+  partly full says on (inl none) = absurd (something-made Are old new scripted going b orders full says on (no-events b.part none))
+  partly full says on (inr (inl asked)) =
       asks_partly next-by (ended-by full) (own_number old) (own_list old) b.part on call next-here
-      (record { whose = whose-part (AreOfBrokenCall call) old new scripted going b orders; reading = asked.reading; between = asked.between; begins = asked.begins; within = asked.within })
-      (ended-then (AreOfBrokenCall call) old new scripted going b orders full says)
+      (record { whose = whose-part Are old new scripted going b orders; reading = asked.reading; between = asked.between; begins = asked.begins; within = asked.within })
+      (ended-then Are old new scripted going b orders full says)
+  partly full says on (inr (inr told)) =
+      asks_whole next-by (ended-by full) (own_number old) (own_list old) b.part on call next-here
+      (record { whose = whose-part Are old new scripted going b orders; reading = told.reading; between = told.between; answer = told.answer; whole = told.whole; within = told.within })
 
-  asks-so : (full : ℕ → Bool) → SaysFull full new.desk → (e : Bool) → ended-by full (own_list old) ≡ e → AsksAfter next-by (ended-by full) (own_number old) (own_list old) b.part
+  asks-so : (full : ℕ → Bool) → SaysFull full new.desk → (e : Bool) → ended-by full (own_number old) (own_list old) ≡ e → AsksAfter next-by (ended-by full) (own_number old) (own_list old) b.part
   asks-so full says true is =
-      asks_ended next-by (ended-by full) (own_number old) (own_list old) b.part is (nothing-made (AreOfBrokenCall call) old new scripted going b orders full is)
-  asks-so full says false is = partly full says is b.are
+      asks_ended next-by (ended-by full) (own_number old) (own_list old) b.part is (nothing-made Are old new scripted going b orders full is)
+  asks-so full says false is = partly full says is made
 
   pub moved_broken_call : HasMoved (AsksInTurn old) old (record { session = new; script = old.script; at = old.at })
   moved_broken_call =
-      moved-so (AreOfBrokenCall call) old new scripted going b orders (AsksInTurn old)
-      (λ full says. asks-so full says (ended-by full (own_list old)) refl)
+      moved-so Are old new scripted going b orders (AsksInTurn old)
+      (λ full says. asks-so full says (ended-by full (own_number old) (own_list old)) refl)
 
 -- in a job
 module _ {C : Type 0} (old : ScriptedMeaning C) (new : SessionMeaning C) (scripted : IsScripted old) (going : old.session.desk.log.stopped ≡ false)
     (b : HasBrokenOff (All IsInBetween) old.session.desk new.desk) where
-  abbrev ended-at : (ℕ → Bool) → List (Pair Event) → Bool
-  ended-at full = list_has_ended old.session.desk.log.limit full
+  abbrev ended-at : (ℕ → Bool) → ℕ → List (Pair Event) → Bool
+  ended-at full = ended_in_script old.session.desk.log.limit old.session.desk.log.stop full
 
   abbrev next-at : ℕ → List (Pair Event) → Option Call
   next-at = next_in_script old.at.reruns old.script
@@ -170,7 +208,7 @@ module _ {C : Type 0} (old : ScriptedMeaning C) (new : SessionMeaning C) (script
   orders-then : AskInOrder old.at.reruns old.script (own_list old ++ b.part)
   orders-then = order_between old.at.reruns old.script (own_list old) b.part scripted.asks b.are
 
-  finishes-so : (full : ℕ → Bool) → SaysFull full new.desk → (job : List Request) (jobs : List (List Request)) → jobs_of (own_list old) ≡ job ∷ jobs → (e : Bool) → ended-at full (own_list old) ≡ e
+  finishes-so : (full : ℕ → Bool) → SaysFull full new.desk → (job : List Request) (jobs : List (List Request)) → jobs_of (own_list old) ≡ job ∷ jobs → (e : Bool) → ended-at full (own_number old) (own_list old) ≡ e
       → FinishesAfter next-at (ended-at full) (own_number old) (own_list old) b.part
   finishes-so full says job jobs waits true is =
       finishes_ended next-at (ended-at full) (own_number old) (own_list old) b.part is (nothing-made (All IsInBetween) old new scripted going b orders-then full is)
@@ -182,7 +220,7 @@ module _ {C : Type 0} (old : ScriptedMeaning C) (new : SessionMeaning C) (script
   pub moved_broken_job : (job : List Request) (jobs : List (List Request)) → jobs_of (own_list old) ≡ job ∷ jobs → HasMoved (FinishesInTurn old) old (record { session = new; script = old.script; at = old.at })
   moved_broken_job job jobs waits =
       moved-so (All IsInBetween) old new scripted going b orders-then (FinishesInTurn old)
-      (λ full says. finishes-so full says job jobs waits (ended-at full (own_list old)) refl)
+      (λ full says. finishes-so full says job jobs waits (ended-at full (own_number old) (own_list old)) refl)
 
   -- where a job waited
   pub moved_broken_step : (jobs_of (own_list old) ≡ [] → ⊥) → HasMoved (FinishesInTurn old) old (record { session = new; script = old.script; at = old.at })

@@ -1,5 +1,5 @@
 -- A session that did its oldest job.
-use Rattle.std.proofs.Common.{◌≡◌, suc, ◌<◌, ◌≤◌, false, true, All, List, [], ◌∷◌, ◌++◌, drop, length, map, None, refl, sym, ap, subst, ◌∙◌, arith}
+use Rattle.std.proofs.Common.{◌≡◌, suc, ◌<◌, ◌≤◌, false, true, All, List, [], ◌∷◌, ◌++◌, drop, length, map, refl, sym, ap, subst, ◌∙◌, arith}
 use Rattle.std.proofs.lemmas.List.{append-nil}
 use Rattle.std.proofs.lemmas.List.Elements.{All-append}
 use Rattle.pc_base.specs.declared.actor.ActorId.TheVariants as actors
@@ -13,7 +13,7 @@ use Rattle.pc_script.specs.Suiting.{FitsCalls}
 use Rattle.pc_scripted.proofs.Passing.{order_between, position_between}
 use Rattle.pc_scripted.proofs.Tests.{not_ended, some_room}
 use Rattle.pc_scripted.proofs.Turning.{finishes_whole}
-use Rattle.pc_scripted.specs.Ended.{list_has_ended}
+use Rattle.pc_scripted.specs.Ended.{ended_in_script}
 use Rattle.pc_scripted.specs.Scripted.{AskInOrder, GoesOnInScript, IsScripted, ScriptedMeaning, next_in_script, own_number, own_list, session_number}
 use Rattle.pc_scripted.specs.Taking.{FinishesInTurn, HasMoved}
 use Rattle.pc_session.specs.Session.{SessionMeaning}
@@ -72,7 +72,6 @@ module _ {C : Type 0} (old : ScriptedMeaning C) (new : SessionMeaning C) (script
         (All-append (λ (p : Pair Event). p.entry.actor ≡ actors.Session (own_number old)) (own_list old) step.part scripted.whose whole-job.whose));
     unpiped = log-is (λ l. l.pipelining ≡ false) scripted.unpiped;
     one_by_one = log-is (λ l. l.beside ≡ false) scripted.one_by_one;
-    no_stop = log-is (λ l. l.stop ≡ None) scripted.no_stop;
     within = step.rest.track.log.within;
     given = step.rest.track.given;
     asks = subst (AskInOrder old.at.reruns old.script) (sym step.grown.own) (order_between old.at.reruns old.script (own_list old) step.part scripted.asks step.whole.within);
@@ -98,6 +97,7 @@ module _ {C : Type 0} (old : ScriptedMeaning C) (new : SessionMeaning C) (script
         reruns = refl;
         head = log-is (λ l. l.head ≡ old.session.desk.log.head) refl;
         limit = limit-then;
+        stop = log-is (λ l. l.stop ≡ old.session.desk.log.stop) refl;
         range_limit = step.limit;
       };
       own = step.grown.own;
@@ -106,6 +106,6 @@ module _ {C : Type 0} (old : ScriptedMeaning C) (new : SessionMeaning C) (script
       above = step.grown.above;
       known = step.grown.known;
     };
-    is = λ full says. finishes_whole (next_in_script old.at.reruns old.script) (list_has_ended old.session.desk.log.limit full) (own_number old) (own_list old) step.part
-        (not_ended old.session.desk.log.limit full (own_list old) goes.rest.heard room) (messages_of_job step.job) waiting oldest-is whole-job;
+    is = λ full says. finishes_whole (next_in_script old.at.reruns old.script) (ended_in_script old.session.desk.log.limit old.session.desk.log.stop full) (own_number old) (own_list old) step.part
+        (not_ended old.session.desk.log.limit old.session.desk.log.stop full (own_list old) (goes.rest.track.log.before_stop going) goes.rest.heard room) (messages_of_job step.job) waiting oldest-is whole-job;
   }

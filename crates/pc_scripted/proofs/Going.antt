@@ -18,10 +18,10 @@ use Rattle.pc_proto.specs.declared.request.Request.{Request}
 use Rattle.pc_script.specs.Script.{items_over, next_call}
 use Rattle.pc_scripted.proofs.Resting.{moved_by_none}
 use Rattle.pc_scripted.proofs.Tests.{has_ended_now}
-use Rattle.pc_scripted.specs.Ended.{SaysFull, list_has_ended}
+use Rattle.pc_scripted.specs.Ended.{SaysFull, ended_in_script, list_has_ended}
 use Rattle.pc_scripted.specs.Scripted.{IsScripted, ScriptedMeaning, next_in_script, own_number, own_list}
-use Rattle.pc_scripted.specs.Taking.{AsksInTurn, FinishesInTurn, TakesNextAlone, GoesUntil, HasMoved, HasMovedBy, IsSameScripted, SaysWhetherDone, TakesOne, are_items_over, is_script_over}
-use Rattle.pc_turns.specs.Order.{AsksAfter, FinishesAfter, IsTakenIn, entries_by, turn_by_itself}
+use Rattle.pc_scripted.specs.Taking.{AsksInTurn, FinishesInTurn, TakesNextAlone, GoesUntil, HasMoved, HasMovedBy, IsSameScripted, SaysWhetherDone, are_items_over, is_script_over}
+use Rattle.pc_turns.specs.Order.{AsksAfter, FinishesAfter, TakesOne, entries_by}
 use Rattle.pc_turns.specs.Order.GoesByItself.{Ended, Onwards, Passed}
 use Rattle.pc_work.specs.declared.item.Item.{Item}
 use Rattle.pc_follows.specs.FinishingJobs.{jobs_of}
@@ -58,6 +58,7 @@ module _ {C : Type 0} (old mid new : ScriptedMeaning C) (p q : List (Pair Event)
       reruns = b.same.reruns ∙ a.same.reruns;
       head = b.same.head ∙ a.same.head;
       limit = b.same.limit ∙ a.same.limit;
+      stop = b.same.stop ∙ a.same.stop;
       range_limit = b.same.range_limit ∙ a.same.range_limit;
     };
     own = both.own;
@@ -67,24 +68,18 @@ module _ {C : Type 0} (old mid new : ScriptedMeaning C) (p q : List (Pair Event)
     known = both.known;
   }
 
--- the turn of a session that goes by itself
-taken_one : (next : ℕ → List (Pair Event) → Option Call) (ended : List (Pair Event) → Bool) (number : ℕ) (jobs : List (List Request)) (before part : List (Pair Event)) → TakesOne next ended number jobs (entries_by number before) part
-    → IsTakenIn next ended (turn_by_itself number jobs) before part
-taken_one next ended number [] before part takes = takes
-taken_one next ended number (job ∷ jobs) before part takes = takes
-
 -- What a session has done by itself so far, until its own entries pass the test: whatever it does behind that, it does with that.
 pub record HasGoneSoFar {C : Type 0} (test : List (Pair Event) → Bool) (old new : ScriptedMeaning C) : Type 0 where
   pub part : List (Pair Event)
   pub by : HasMovedBy old new part
-  pub on : (full : ℕ → Bool) → SaysFull full new.session.desk → (rest : List (Pair Event)) → GoesUntil old test (list_has_ended old.session.desk.log.limit full) (own_list old ++ part) rest
-      → GoesUntil old test (list_has_ended old.session.desk.log.limit full) (own_list old) (part ++ rest)
+  pub on : (full : ℕ → Bool) → SaysFull full new.session.desk → (rest : List (Pair Event)) → GoesUntil old test (ended_in_script old.session.desk.log.limit old.session.desk.log.stop full) (own_list old ++ part) rest
+      → GoesUntil old test (ended_in_script old.session.desk.log.limit old.session.desk.log.stop full) (own_list old) (part ++ rest)
 
 pub gone_nothing : {C : Type 0} (test : List (Pair Event) → Bool) (s : ScriptedMeaning C) → IsScripted s → HasGoneSoFar test s s
 gone_nothing test s scripted = record {
   part = [];
   by = moved_by_none s scripted;
-  on = λ full says rest goes. subst (λ before. GoesUntil s test (list_has_ended s.session.desk.log.limit full) before rest) (append-nil (own_list s)) goes;
+  on = λ full says rest goes. subst (λ before. GoesUntil s test (ended_in_script s.session.desk.log.limit s.session.desk.log.stop full) before rest) (append-nil (own_list s)) goes;
 }
 
 module _ {C : Type 0} (test : List (Pair Event) → Bool) (old mid : ScriptedMeaning C) (gone : HasGoneSoFar test old mid) where
@@ -94,8 +89,8 @@ module _ {C : Type 0} (test : List (Pair Event) → Bool) (old mid : ScriptedMea
   abbrev next : ℕ → List (Pair Event) → Option Call
   next = next_in_script old.at.reruns old.script
 
-  abbrev ended : (ℕ → Bool) → List (Pair Event) → Bool
-  ended full = list_has_ended old.session.desk.log.limit full
+  abbrev ended : (ℕ → Bool) → ℕ → List (Pair Event) → Bool
+  ended full = ended_in_script old.session.desk.log.limit old.session.desk.log.stop full
 
   abbrev before : List (Pair Event)
   before = own_list old ++ gone.part
@@ -108,16 +103,15 @@ module _ {C : Type 0} (test : List (Pair Event) → Bool) (old mid : ScriptedMea
   module _ (new : ScriptedMeaning C) (more : HasMoved (TakesNextAlone mid) mid new) (not_yet : SaysWhetherDone test mid false) where
     takes-as : (full : ℕ → Bool) → SaysFull full new.session.desk → TakesOne next (ended full) number (jobs_of (own_list mid)) (own_list mid) more.part
     takes-as full says =
-        let T : ℕ → List Item → ℕ → ℕ → Type 0 = λ reruns script limit n. TakesOne (next_in_script reruns script) (list_has_ended limit full) n (jobs_of (own_list mid)) (own_list mid) more.part in
-        subst (λ r. T r old.script old.session.desk.log.limit number) gone.by.same.reruns
-        (subst (λ s. T mid.at.reruns s old.session.desk.log.limit number) gone.by.same.script
-        (subst (λ l. T mid.at.reruns mid.script l number) gone.by.same.limit
-        (subst (λ n. T mid.at.reruns mid.script mid.session.desk.log.limit n) gone.by.same.number (more.is full says))))
+        let T : ℕ → List Item → ℕ → Option ℕ → ℕ → Type 0 = λ reruns script limit stop n. TakesOne (next_in_script reruns script) (ended_in_script limit stop full) n (jobs_of (own_list mid)) (own_list mid) more.part in
+        subst (λ r. T r old.script old.session.desk.log.limit old.session.desk.log.stop number) gone.by.same.reruns
+        (subst (λ s. T mid.at.reruns s old.session.desk.log.limit old.session.desk.log.stop number) gone.by.same.script
+        (subst (λ l. T mid.at.reruns mid.script l old.session.desk.log.stop number) gone.by.same.limit
+        (subst (λ o. T mid.at.reruns mid.script mid.session.desk.log.limit o number) gone.by.same.stop
+        (subst (λ n. T mid.at.reruns mid.script mid.session.desk.log.limit mid.session.desk.log.stop n) gone.by.same.number (more.is full says)))))
 
-    taken : (full : ℕ → Bool) → SaysFull full new.session.desk → IsTakenIn next (ended full) (turn_by_itself number (jobs_of (entries_by number before))) before more.part
-    taken full says =
-        taken_one next (ended full) number (jobs_of (entries_by number before)) before more.part
-        (subst (λ own. TakesOne next (ended full) number (jobs_of own) own more.part) (sym mine) (takes-as full says))
+    taken : (full : ℕ → Bool) → SaysFull full new.session.desk → TakesOne next (ended full) number (jobs_of (entries_by number before)) (entries_by number before) more.part
+    taken full says = subst (λ own. TakesOne next (ended full) number (jobs_of own) own more.part) (sym mine) (takes-as full says)
 
     still : jobs_of (entries_by number before) ≡ [] → test (entries_by number before) ≡ true → ⊥
     still none passed = not_yet.1 (ap jobs_of (sym mine) ∙ none) (ap test (sym mine) ∙ passed)
@@ -136,8 +130,9 @@ module _ {C : Type 0} (test : List (Pair Event) → Bool) (old mid : ScriptedMea
   over-by : (full : ℕ → Bool) → SaysFull full mid.session.desk → SaysWhetherDone test mid true → GoesUntil old test (ended full) before []
   over-by full says (inl stopped) =
       Ended before
-      (subst (λ own. list_has_ended old.session.desk.log.limit full own ≡ true) (sym mine)
-      (subst (λ l. list_has_ended l full (own_list mid) ≡ true) gone.by.same.limit (has_ended_now mid.session.desk full says (gone.by.scripted.ends stopped))))
+      (subst (λ own. list_has_ended old.session.desk.log.limit old.session.desk.log.stop full own ≡ true) (sym mine)
+      (subst (λ l. list_has_ended l old.session.desk.log.stop full (own_list mid) ≡ true) gone.by.same.limit
+      (subst (λ o. list_has_ended mid.session.desk.log.limit o full (own_list mid) ≡ true) gone.by.same.stop (has_ended_now mid.session.desk full says (gone.by.scripted.ends stopped)))))
   over-by full says (inr done) = Passed before (ap jobs_of mine ∙ done.0) (ap test mine ∙ done.1)
 
   -- there is nothing more to do
@@ -149,12 +144,12 @@ module _ {C : Type 0} (test : List (Pair Event) → Bool) (old mid : ScriptedMea
   }
 
 -- the one turn of a session that goes by itself
-pub takes_job : (x : ℕ → List (Pair Event) → Option Call) (e : List (Pair Event) → Bool) (n : ℕ) (jobs : List (List Request)) (own part : List (Pair Event)) → (jobs ≡ [] → ⊥) → FinishesAfter x e n own part
+pub takes_job : (x : ℕ → List (Pair Event) → Option Call) (e : ℕ → List (Pair Event) → Bool) (n : ℕ) (jobs : List (List Request)) (own part : List (Pair Event)) → (jobs ≡ [] → ⊥) → FinishesAfter x e n own part
     → TakesOne x e n jobs own part
 takes_job x e n [] own part some finishes = absurd (some refl)
 takes_job x e n (job ∷ jobs) own part some finishes = finishes
 
-pub takes_call : (x : ℕ → List (Pair Event) → Option Call) (e : List (Pair Event) → Bool) (n : ℕ) (jobs : List (List Request)) (own part : List (Pair Event)) → jobs ≡ [] → AsksAfter x e n own part
+pub takes_call : (x : ℕ → List (Pair Event) → Option Call) (e : ℕ → List (Pair Event) → Bool) (n : ℕ) (jobs : List (List Request)) (own part : List (Pair Event)) → jobs ≡ [] → AsksAfter x e n own part
     → TakesOne x e n jobs own part
 takes_call x e n [] own part none asks = asks
 takes_call x e n (job ∷ jobs) own part none asks = absurd cc
@@ -164,14 +159,14 @@ module _ {C : Type 0} (old new : ScriptedMeaning C) where
   alone_by_job some moved = record {
     part = moved.part;
     by = moved.by;
-    is = λ full says. takes_job (next_in_script old.at.reruns old.script) (list_has_ended old.session.desk.log.limit full) (own_number old) (jobs_of (own_list old)) (own_list old) moved.part some (moved.is full says);
+    is = λ full says. takes_job (next_in_script old.at.reruns old.script) (ended_in_script old.session.desk.log.limit old.session.desk.log.stop full) (own_number old) (jobs_of (own_list old)) (own_list old) moved.part some (moved.is full says);
   }
 
   pub alone_by_call : jobs_of (own_list old) ≡ [] → HasMoved (AsksInTurn old) old new → HasMoved (TakesNextAlone old) old new
   alone_by_call none moved = record {
     part = moved.part;
     by = moved.by;
-    is = λ full says. takes_call (next_in_script old.at.reruns old.script) (list_has_ended old.session.desk.log.limit full) (own_number old) (jobs_of (own_list old)) (own_list old) moved.part none (moved.is full says);
+    is = λ full says. takes_call (next_in_script old.at.reruns old.script) (ended_in_script old.session.desk.log.limit old.session.desk.log.stop full) (own_number old) (jobs_of (own_list old)) (own_list old) moved.part none (moved.is full says);
   }
 
 -- what is done, and what is not

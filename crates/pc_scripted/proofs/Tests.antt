@@ -1,13 +1,13 @@
 -- When a session's list has ended.
-use Rattle.std.proofs.Common.{◌≡◌, ℕ, ◌<◌, ◌≤◌, ◌⊎◌, inl, inr, Bool, true, false, ◌&&◌, ◌||◌, ◌==◌, not, All, Contains, IsTrue, List, [], ◌∷◌, ◌++◌, length, length-append, refl, sym, ap, ◌∙◌, arith}
+use Rattle.std.proofs.Common.{◌≡◌, ℕ, ◌<◌, ◌≤◌, ◌⊎◌, inl, inr, Bool, true, false, ◌&&◌, ◌||◌, ◌==◌, not, All, Contains, IfSome, IsTrue, List, [], ◌∷◌, ◌++◌, length, length-append, Option, None, Some, refl, sym, ap, subst, ◌∙◌, arith}
 use Rattle.std.proofs.lemmas.List.Elements.{All-cons, All-head, All-nil, All-tail}
 use Rattle.std.specs.List.{list_any}
 use Rattle.pc_desk.specs.Desk.{DeskMeaning}
-use Rattle.pc_desk.specs.Ending.{IsAtFullRange, IsAtOwnEnd}
+use Rattle.pc_desk.specs.Ending.{EndsEarly}
 use Rattle.pc_history.specs.declared.pair.Pair.{Pair}
 use Rattle.pc_lists.proofs.Lists.{contains_cons, contains_nil}
 use Rattle.pc_proto.specs.declared.event.Event.{Event}
-use Rattle.pc_scripted.specs.Ended.{SaysFull, list_has_ended, waits_for_one_of}
+use Rattle.pc_scripted.specs.Ended.{SaysFull, list_has_ended, reaches_stop, waits_for_one_of}
 use Rattle.pc_world.specs.Known.{Known, known_of}
 use Rattle.pc_world.specs.Known.Traffic.{Sent}
 use Rattle.pc_world.specs.Tell.Refusal.{is_heard}
@@ -52,34 +52,52 @@ waits_for_none full k heard = none_any (λ m. full m.range && not (is_heard k.he
         true_is : (b : Bool) → IsTrue b → b ≡ true
         true_is b is = is
 
-module _ (limit : ℕ) (full : ℕ → Bool) (own : List (Pair Event)) (heard : All (λ m. IsTrue (is_heard (known_of own).heard m)) (known_of own).sent) where
-  -- a session at rest goes on exactly below its limit
-  pub not_ended : length own < limit → list_has_ended limit full own ≡ false
-  not_ended less = ap (λ b. b || waits_for_one_of full (known_of own)) (eqb_other (length own) limit less) ∙ waits_for_none full (known_of own) heard
+or_true : (b : Bool) → (b || true) ≡ true
+or_true true = refl
+or_true false = refl
 
-  pub only_at_limit : list_has_ended limit full own ≡ true → length own ≡ limit
+-- a list that goes on is not at its stop
+not_stopped : (stop : Option ℕ) (long : ℕ) → IfSome stop (λ n. long < n) → reaches_stop stop long ≡ false
+not_stopped None long going = refl
+not_stopped (Some n) long going = eqb_other long n going
+
+module _ (limit : ℕ) (stop : Option ℕ) (full : ℕ → Bool) (own : List (Pair Event)) (going : IfSome stop (λ n. length own < n)) (heard : All (λ m. IsTrue (is_heard (known_of own).heard m)) (known_of own).sent) where
+  abbrev waits : Bool
+  waits = waits_for_one_of full (known_of own)
+
+  abbrev at : Bool
+  at = reaches_stop stop (length own)
+
+  -- a session at rest goes on exactly below its limit
+  pub not_ended : length own < limit → list_has_ended limit stop full own ≡ false
+  not_ended less = ap (λ b. b || at || waits) (eqb_other (length own) limit less) ∙ (ap (λ b. b || waits) (not_stopped stop (length own) going) ∙ waits_for_none full (known_of own) heard)
+
+  pub only_at_limit : list_has_ended limit stop full own ≡ true → length own ≡ limit
   only_at_limit ended = by (length own == limit) refl
     where
       by : (b : Bool) → (length own == limit) ≡ b → length own ≡ limit
       by true e = grind (arith, e)
       by false e =
-          let w : waits_for_one_of full (known_of own) ≡ true = sym (ap (λ b. b || waits_for_one_of full (known_of own)) e) ∙ ended in
+          let w : waits ≡ true = sym (ap (λ b. b || at || waits) e ∙ ap (λ b. b || waits) (not_stopped stop (length own) going)) ∙ ended in
           let no : true ≡ false = sym w ∙ waits_for_none full (known_of own) heard in
           absurd cc
 
 -- a session whose list has ended
-pub has_ended_now : {C : Type 0} (d : DeskMeaning C) (full : ℕ → Bool) → SaysFull full d → IsAtOwnEnd d ⊎ IsAtFullRange d → list_has_ended d.log.limit full d.log.part.own ≡ true
-has_ended_now d full says (inl own) = ap (λ b. b || waits_for_one_of full (known_of d.log.part.own)) (eqb_same (length d.log.part.own) d.log.limit own.long)
-has_ended_now d full says (inr range) =
+pub has_ended_now : {C : Type 0} (d : DeskMeaning C) (full : ℕ → Bool) → SaysFull full d → EndsEarly d → list_has_ended d.log.limit d.log.stop full d.log.part.own ≡ true
+has_ended_now d full says (inl own) =
+    ap (λ b. b || reaches_stop d.log.stop (length d.log.part.own) || waits_for_one_of full (known_of d.log.part.own)) (eqb_same (length d.log.part.own) d.log.limit own.long)
+has_ended_now d full says (inr (inl range)) =
     let k = known_of d.log.part.own in
     let here : full range.message.range ≡ true = ap full range.goes ∙ says range.range range.full in
     let waits : waits_for_one_of full k ≡ true =
     any_there (λ m. full m.range && not (is_heard k.heard m)) k.sent range.message range.sent (ap (λ b. b && not (is_heard k.heard range.message)) here ∙ ap not range.unheard) in
-    ap (λ b. length d.log.part.own == d.log.limit || b) waits ∙ or_true (length d.log.part.own == d.log.limit)
-  where
-    or_true : (b : Bool) → (b || true) ≡ true
-    or_true true = refl
-    or_true false = refl
+    ap (λ b. length d.log.part.own == d.log.limit || reaches_stop d.log.stop (length d.log.part.own) || b) waits
+    ∙ or_true (length d.log.part.own == d.log.limit || reaches_stop d.log.stop (length d.log.part.own))
+has_ended_now d full says (inr (inr stop)) =
+    let long : ℕ = length d.log.part.own in
+    let at : reaches_stop d.log.stop long ≡ true = subst (λ (o : Option ℕ). reaches_stop o long ≡ true) (sym stop.long) (eqb_same long long refl) in
+    ap (λ b. long == d.log.limit || b || waits_for_one_of full (known_of d.log.part.own)) at
+    ∙ ap (λ b. b || waits_for_one_of full (known_of d.log.part.own)) (or_true (long == d.log.limit))
 
 -- a part for which there is no room
 pub no_room : (limit : ℕ) (own part : List (Pair Event)) → length own ≡ limit → length (own ++ part) ≤ limit → part ≡ []

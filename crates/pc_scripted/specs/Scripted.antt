@@ -1,9 +1,9 @@
 -- A session with its script: its own list says where the script stands.
-use Rattle.std.specs.Prelude.{◌≡◌, ℕ, ◌≤◌, false, true, ◌⊎◌, None, Option, List, [], length, All}
+use Rattle.std.specs.Prelude.{◌≡◌, ℕ, ◌≤◌, false, true, Option, List, [], length, All}
 use Rattle.pc_base.specs.declared.actor.ActorId.{ActorId}
 use Rattle.pc_base.specs.declared.actor.ActorId.TheVariants as actors
 use Rattle.pc_desk.specs.Desk.{GivesOnce}
-use Rattle.pc_desk.specs.Ending.{IsAtFullRange, IsAtOwnEnd}
+use Rattle.pc_desk.specs.Ending.{EndsEarly}
 use Rattle.pc_desk.specs.Keeping.{EachAfter}
 use Rattle.pc_history.specs.declared.pair.Pair.{Pair}
 use Rattle.pc_proto.specs.declared.call.Call.{Call}
@@ -52,9 +52,8 @@ pub record IsScripted {C : Type 0} (s : ScriptedMeaning C) : Type 0 where
   pub whose : All (λ p. p.entry.actor ≡ actors.Session (own_number s)) (own_list s)
   pub unpiped : s.session.desk.log.pipelining ≡ false
   pub one_by_one : s.session.desk.log.beside ≡ false
-  pub no_stop : s.session.desk.log.stop ≡ None
   pub within : length (own_list s) ≤ s.session.desk.log.limit
   pub given : GivesOnce s.session.desk.log.part
   pub asks : AskInOrder s.at.reruns s.script (own_list s)
   pub goes : s.session.desk.log.stopped ≡ false → GoesOnInScript s
-  pub ends : s.session.desk.log.stopped ≡ true → IsAtOwnEnd s.session.desk ⊎ IsAtFullRange s.session.desk
+  pub ends : s.session.desk.log.stopped ≡ true → EndsEarly s.session.desk

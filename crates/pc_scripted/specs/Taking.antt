@@ -8,23 +8,24 @@ use Rattle.pc_proto.specs.declared.event.Event.{Event}
 use Rattle.pc_proto.specs.declared.call.Call.{Call}
 use Rattle.pc_proto.specs.declared.request.Request.{Request}
 use Rattle.pc_script.specs.Script.{items_over, next_call, script_position}
-use Rattle.pc_scripted.specs.Ended.{SaysFull, list_has_ended}
+use Rattle.pc_scripted.specs.Ended.{SaysFull, ended_in_script}
 use Rattle.pc_scripted.specs.Scripted.{IsScripted, ScriptedMeaning, next_in_script, own_number, own_list}
 use Rattle.pc_turns.specs.Clients.{RisesFrom}
 use Rattle.pc_turns.specs.Laws.{AreAboveKnown}
-use Rattle.pc_turns.specs.Order.{AsksAfter, FinishesAfter, GoesByItself, entries_by}
+use Rattle.pc_turns.specs.Order.{AsksAfter, FinishesAfter, GoesByItself, TakesOne, entries_by}
 use Rattle.pc_work.specs.declared.item.Item.{Item}
 use Rattle.pc_work.specs.declared.session.SessionWork.{SessionWork}
 use Rattle.pc_work.specs.declared.workload.Workload.{Workload}
 use Rattle.pc_follows.specs.FinishingJobs.{jobs_of}
 
--- The session, its script and its limits are the same.
+-- The session, its script, its limits and its stop are the same.
 pub record IsSameScripted {C : Type 0} (old new : ScriptedMeaning C) : Type 0 where
   pub number : own_number new ≡ own_number old
   pub script : new.script ≡ old.script
   pub reruns : new.at.reruns ≡ old.at.reruns
   pub head : new.session.desk.log.head ≡ old.session.desk.log.head
   pub limit : new.session.desk.log.limit ≡ old.session.desk.log.limit
+  pub stop : new.session.desk.log.stop ≡ old.session.desk.log.stop
   pub range_limit : new.session.desk.range_limit ≡ old.session.desk.range_limit
 
 -- The session made these entries, whose steps rise, above those of all that it stored or knew. It forgot nothing, and goes by its script
@@ -38,20 +39,15 @@ pub record HasMovedBy {C : Type 0} (old new : ScriptedMeaning C) (part : List (P
   pub above : AreAboveKnown (knowledge old.session.desk.log.part) part
   pub known : (k : KnownEntry Event) → Contains old.session.desk.log.part.known k → Contains new.session.desk.log.part.known k
 
--- What may be said of entries that a session made after others, where a test says which lists have ended.
+-- What may be said of entries that a session made after others, where a test says of each session after which entries of its own its list has ended.
 abbrev pub Move : Type 1
-Move = (List (Pair Event) → Bool) → List (Pair Event) → List (Pair Event) → Type 0
+Move = (ℕ → List (Pair Event) → Bool) → List (Pair Event) → List (Pair Event) → Type 0
 
 -- The session made some entries, and nothing else, of which this is so, whichever ranges are full beside those that it knows to be.
 pub record HasMoved {C : Type 0} (Is : Move) (old new : ScriptedMeaning C) : Type 0 where
   pub part : List (Pair Event)
   pub by : HasMovedBy old new part
-  pub is : (full : ℕ → Bool) → SaysFull full new.session.desk → Is (list_has_ended old.session.desk.log.limit full) (own_list old) part
-
--- The part is the oldest of these jobs where one waits, else the session's next call.
-abbrev pub TakesOne : (ℕ → List (Pair Event) → Option Call) → (List (Pair Event) → Bool) → ℕ → List (List Request) → List (Pair Event) → List (Pair Event) → Type 0
-TakesOne next ended number [] mine part = AsksAfter next ended number mine part
-TakesOne next ended number (job ∷ jobs) mine part = FinishesAfter next ended number mine part
+  pub is : (full : ℕ → Bool) → SaysFull full new.session.desk → Is (ended_in_script old.session.desk.log.limit old.session.desk.log.stop full) (own_list old) part
 
 module _ {C : Type 0} (s : ScriptedMeaning C) where
   -- The session asks its script's next call, and is told its answer.

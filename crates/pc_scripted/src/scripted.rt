@@ -59,7 +59,6 @@ impl<'a, N: Named<CommitWorld>, C: Clock + Drop, V: Wire + Drop, G: Gate> Script
     ) -> Result<Scripted<'a, N, C, V, G>, NoMemory>
         requires rests { IsAtRest session }
         requires fresh { session.desk.log.part.own ≡ [] }
-        requires no_stop { session.desk.log.stop ≡ None }
         requires going { session.desk.log.stopped ≡ false }
         ensures scripted { IfOk result IsScripted }
         ensures made { IfOk result (λ s. s ≡ record { session = session.entry; script = script.now; at = opened script.now reruns }) }

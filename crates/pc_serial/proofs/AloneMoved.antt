@@ -183,7 +183,10 @@ module _ (head : Head) (whole : List (Entry Event)) (run : IsRun head whole) (al
         → Passes head history (level k.txns) request
     new-passes number range (requests.Stage meta ts now writes locks) sends tidy s is = elim tidy.calls [
       | inl calls_now ↦ absurd (elim (calls_now s is) [
-        | inl for ↦ no-stage for.s.call (requests.Stage meta ts now writes locks) for.kind meta ts now writes locks refl
+        | inl for ↦ elim for.kind [
+          | inl own ↦ no-stage for.s.call (requests.Stage meta ts now writes locks) own meta ts now writes locks refl
+          | inr life ↦ let none = life.1 in cc none
+        ]
         | inr round ↦ let none = round.1 in cc none
       ])
       | inr record_now ↦ stage-high number range meta ts now writes locks sends record_now.1

@@ -120,7 +120,7 @@ o3 = record {
   lost = λ h. h;
   in_time = λ me talks. absurd talks;
   tidy = λ me. record {
-    calls = inl (λ s is. inl (record { s = _; opened = refl; kind = refl }));
+    calls = inl (λ s is. inl (record { s = _; opened = refl; kind = inl refl }));
     puts = inl (record { t = _; opened = refl; whose = refl });
     early = λ t ts known. cc known.asked;
     aborts = tt;

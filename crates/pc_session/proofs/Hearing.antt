@@ -7,7 +7,7 @@ use Rattle.std.specs.List.{list_any}
 use Rattle.pc_coord.specs.Coming.{ComesOf}
 use Rattle.pc_coord.specs.Coordination.{Coordination, awaits_number, opened_by}
 use Rattle.pc_coord.specs.declared.due.Opened.{Opened}
-use Rattle.pc_coord.specs.Events.{HearsAwaited}
+use Rattle.pc_coord.specs.Events.{HearsAwaited, IsAnsweredAlive}
 use Rattle.pc_coord.specs.Knows.{Knows}
 use Rattle.pc_desk.proofs.Making.{added, known_after_it}
 use Rattle.pc_desk.proofs.Turns.{oldest_waits}
@@ -15,6 +15,7 @@ use Rattle.pc_desk.specs.declared.answered.Answered.{Answered}
 use Rattle.pc_desk.specs.Desk.{DeskMeaning, HasDelivered, HasHeardFirst, IsAnsweredBy, KeepsTrack, MayHearNow, Posted, WaitInTurn, is_on_way}
 use Rattle.pc_desk.specs.Keeping.{KeepsSessionStep}
 use Rattle.pc_desk.specs.OwnLog.{LogMeaning}
+use Rattle.pc_exchange.proofs.AnsweredAlive.{answered_alive, first_mapped}
 use Rattle.pc_exchange.proofs.Growing.{grows_else, grows_entered}
 use Rattle.pc_exchange.proofs.HeardKinds.{heard_kind, heard_past}
 use Rattle.pc_exchange.proofs.Waves.{ends_where_heard}
@@ -32,7 +33,7 @@ use Rattle.pc_session.proofs.Away.{all_heard, any_there, apart_heard, none_away}
 use Rattle.pc_session.proofs.InTurn.{AreHeardOnce, heard_once}
 use Rattle.pc_session.proofs.Inside.{one_on}
 use Rattle.pc_session.proofs.Jobs.{HasJobs, jobs_heard}
-use Rattle.pc_session.proofs.Keeping.{keeps_as, keeps_heard, no_goal, plain_for}
+use Rattle.pc_session.proofs.Keeping.{keeps_as, keeps_heard, no_goal, plain_kind}
 use Rattle.pc_session.proofs.Knowing.{it, jobs_then, known_heard, with_heard}
 use Rattle.pc_session.proofs.TurnsOn.{heard_silent, heard_turn}
 use Rattle.pc_session.proofs.WholeWave.{whole_heard, whole_still}
@@ -46,7 +47,7 @@ use Rattle.pc_world.specs.Answering.{MayAnswer}
 use Rattle.pc_follows.specs.AgainInOneWave.{EndsWithSending}
 use Rattle.pc_follows.specs.CallMessages.{IsForCall}
 use Rattle.pc_follows.specs.WaveOrder.{EndsWaves}
-use Rattle.pc_world.specs.Known.{Known, known_of, learn}
+use Rattle.pc_world.specs.Known.{Known, known_of, learn, open_txn}
 use Rattle.pc_world.specs.Known.Traffic.{Heard, heard_as, request_sent}
 use Rattle.pc_world.specs.Known.Transactions.{Txn, txn_heard}
 
@@ -166,7 +167,8 @@ module _ {C : Type 0} (old : SessionMeaning C) (reading : ℕ) (calls : HasOpenC
         let brings : heard_as a.number a.step (request_sent a.number k.sent) (Some a.reply) ≡ Some h = ap (λ (r : Option Request). heard_as a.number a.step r (Some a.reply)) by.said in
         keeps_as old.desk.log.part.id old.coordinator.session old.desk.log.head.splits old.desk.log.pipelining old.desk.log.part.own (events.Hear a.number a.step) (heard_as a.number a.step (request_sent a.number k.sent) (Some a.reply)) calls.one.whose calls.one.unpiped
         (subst (KeepsSessionStep old.desk.log.head.splits false old.desk.log.part.own (events.Hear a.number a.step)) (sym brings)
-        (keeps_heard old.desk.log.head.splits old.desk.log.part.own a.number a.step h (for-call a there) whole.pieces
+        (keeps_heard old.desk.log.head.splits old.desk.log.part.own a.number a.step h (for-call a there)
+        (whole.pieces a.number by.request (or_right (list_any (λ (m : Posted). m.number == a.number) old.desk.posted) (list_any (λ (x : Answered). x.number == a.number) old.desk.replies) (answered-any old.desk.replies a there)) by.said)
         (λ s opened plain ends. let on = or_right (list_any (λ (m : Posted). m.number == a.number) old.desk.posted) (list_any (λ (x : Answered). x.number == a.number) old.desk.replies) (answered-any old.desk.replies a there) in all_again old reading a.number calls on (whole.silent a.number on) ends)
         (whole.refreshes a.number by.request (or_right (list_any (λ (m : Posted). m.number == a.number) old.desk.posted) (list_any (λ (x : Answered). x.number == a.number) old.desk.replies) (answered-any old.desk.replies a there)) by.said)
         (oldest_waits old.desk a rest calls.track first)));
@@ -226,6 +228,15 @@ module _ {C : Type 0} (old : SessionMeaning C) (reading : ℕ) (calls : HasOpenC
         let there : Contains (known_of d.log.part.own).heard h = subst (λ (x : Known). Contains x.heard h) (sym known_is) (Contains-push k.heard h) in
         subst (λ q. MayAnswer q a.reply) same (heard_kind d.log heard.entered.log h there)
 
+    alive : (request : Request) → request_sent a.number k.sent ≡ Some request → IsAnsweredAlive k request a.reply
+    alive request said =
+        let both : Some by.request ≡ Some request = sym by.said ∙ said in
+        let same : by.request ≡ request = cc in
+        let there : Contains (known_of d.log.part.own).heard h = subst (λ (x : Known). Contains x.heard h) (sym known_is) (Contains-push k.heard h) in
+        subst (λ q. IsAnsweredAlive k q a.reply) same
+        (answered_alive d.log heard.entered.log h there k (ap (λ (x : Known). x.sent) known_is) (ap (λ (x : Known). x.heard) known_is)
+        (λ t opened. (txn_heard k.sent (Some h) t, ap open_txn known_is ∙ first_mapped (txn_heard k.sent (Some h)) k.is_open k.txns t opened, refl)))
+
     hears-awaited : HearsAwaited old.coordinator a.number a.step a.reply k p
     hears-awaited = record {
       waited = waited;
@@ -237,6 +248,7 @@ module _ {C : Type 0} (old : SessionMeaning C) (reading : ℕ) (calls : HasOpenC
       told = refl;
       kind = kind;
       past = past;
+      alive = alive;
     }
 
     left_on : HasLeft d.log.part.own old.jobs
@@ -268,7 +280,7 @@ module _ {C : Type 0} (old : SessionMeaning C) (reading : ℕ) (calls : HasOpenC
 
     plain : goal_in by.request ≡ None
     unfolding by by-it
-    plain = let kind = for-call a there-first in no_goal by.request (plain_for kind.s.call by.request kind.kind).no_round
+    plain = let kind = for-call a there-first in no_goal by.request (plain_kind kind.s.call by.request kind.kind).no_round
 
     least : (n : ℕ) → awaits_number n old.coordinator.due ≡ true → a.number ≤ n
     least n waits = least_on_way old.desk a d.replies calls.track heard.first n (sym (calls.way n) ∙ waits)

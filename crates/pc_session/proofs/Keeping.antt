@@ -19,8 +19,9 @@ use Rattle.pc_proto.specs.declared.request.Request.TheVariants as requests
 use Rattle.pc_proto.specs.Requests.{IsPutOn, goal_in, is_abort, is_commit, is_get, is_put, is_refresh, is_scan, round_of}
 use Rattle.pc_session.proofs.Lost.{tells_eighth}
 use Rattle.pc_follows.specs.AgainInOneWave.{HearsAllAgain}
-use Rattle.pc_follows.specs.CallMessages.{IsFor, IsForCall}
+use Rattle.pc_follows.specs.CallMessages.{IsFor, IsForCall, ShowsLife}
 use Rattle.pc_follows.specs.FirstBlock.{TellsFirstBlock}
+use Rattle.pc_follows.specs.Heartbeats.{is_heartbeat}
 use Rattle.pc_follows.specs.PieceOrder.{IsNextPiece}
 use Rattle.pc_follows.specs.PipelinedPuts.{IsPutWaitedFor}
 use Rattle.pc_follows.specs.Resends.{AreAnsweredNow, MayGoAgain}
@@ -75,7 +76,7 @@ plain_abort : (request : Request) → IsTrue (is_abort request) → IsPlainReque
 plain_abort (requests.Abort meta why locks) is = record { no_round = refl; unstaged = tt }
 plain_abort request is = absurd cc
 
-pub plain_for : (call : Call) (request : Request) → IsFor call request → IsPlainRequest request
+plain_for : (call : Call) (request : Request) → IsFor call request → IsPlainRequest request
 plain_for (calls.Get key) request is = plain_get request is
 plain_for (calls.Scan span) request is = plain_scan request is
 plain_for (calls.Put key value) request is = plain_put key request is
@@ -84,6 +85,14 @@ plain_for calls.Commit request (inl is) = plain_commit request is
 plain_for calls.Commit request (inr is) = plain_refresh request is
 plain_for calls.Rollback request is = plain_abort request is
 plain_for call request is = absurd is
+
+plain_beat : (request : Request) → IsTrue (is_heartbeat request) → IsPlainRequest request
+plain_beat (requests.Beat meta ts now) is = record { no_round = refl; unstaged = tt }
+plain_beat request is = absurd cc
+
+pub plain_kind : (call : Call) (request : Request) → IsFor call request ⊎ ShowsLife call request → IsPlainRequest request
+plain_kind call request (inl is) = plain_for call request is
+plain_kind call request (inr life) = plain_beat request life.1
 
 -- what is no message of a round goes out in turn where no conflict is left
 in-turn : (k : Known) (request : Request) → round_of request ≡ None → AreConflictsOver k → IsInItsRound k request
@@ -102,14 +111,15 @@ keeps_sent cut own number range request splits session may answered over piece e
   early_proof = λ _ _. tt;
   written = tt;
   puts = tt;
-  resends = λ s opened again. (answered, subst (MayGoAgain (known_of own) request) (sym (plain_for may.kind.s.call request may.kind.kind).no_round) (may.again again));
+  resends = λ s opened again. (answered, subst (MayGoAgain (known_of own) request) (sym (plain_kind may.kind.s.call request may.kind.kind).no_round) (may.again again));
   calls = λ s opened. inl may.kind;
+  beats = λ s t opened is. may.beats t is;
   finishes = λ none. let e : Some may.kind.s ≡ None = sym may.kind.opened ∙ none in absurd cc;
   aborts = tt;
   rolled_back = tt;
   writes = λ s opened. may.own;
   refreshes = may.refresh;
-  rounds = λ s opened. in-turn (known_of own) request (plain_for may.kind.s.call request may.kind.kind).no_round over;
+  rounds = λ s opened. in-turn (known_of own) request (plain_kind may.kind.s.call request may.kind.kind).no_round over;
   eighth = λ s opened. (may.below, may.before);
   waves = ends;
   pieces = tt;
@@ -158,26 +168,43 @@ waited_for k calls.Commit request (inr is) = waited_refresh k request is
 waited_for k calls.Rollback request is = waited_abort k request is
 waited_for k call request is = absurd is
 
+waited_beat : (k : Known) (call : Call) (request : Request) → IsTrue (is_heartbeat request) → IsPutWaitedFor k call request
+waited_beat k call (requests.Beat meta ts now) is = tt
+waited_beat k call request is = absurd cc
+
+waited_kind : (k : Known) (call : Call) (request : Request) → IsFor call request ⊎ ShowsLife call request → IsPutWaitedFor k call request
+waited_kind k call request (inl is) = waited_for k call request is
+waited_kind k call request (inr life) = waited_beat k call request life.1
+
 no_put : (request : Request) → IsFor calls.Commit request → is_put request ≡ false
 no_put (requests.Commit meta ts locks) is = refl
 no_put (requests.Refresh id from to span) is = refl
 no_put request (inl is) = absurd cc
 no_put request (inr is) = absurd cc
 
+no_put_beat : (request : Request) → IsTrue (is_heartbeat request) → is_put request ≡ false
+no_put_beat (requests.Beat meta ts now) is = refl
+no_put_beat request is = absurd cc
+
+no_put_kind : (request : Request) → IsFor calls.Commit request ⊎ ShowsLife calls.Commit request → is_put request ≡ false
+no_put_kind request (inl is) = no_put request is
+no_put_kind request (inr life) = no_put_beat request life.1
+
 asked_is : (k : Known) (s : Statement) (call : Call) → k.statement ≡ Some s → call_in k.statement ≡ Some call → s.call ≡ call
 asked_is k s call opened asked = let e : Some s.call ≡ Some call = sym (ap call_in opened) ∙ asked in cc
 
 -- a reply to such a message is heard
-pub keeps_heard : (cut : List (List ℕ)) (own : List (Pair Event)) (number step : ℕ) (h : Heard) → IsForCall (known_of own) h.request → SentAllPieces cut (known_of own) → HearsAllAgain own (Some h) → IsOfWholeRefresh (known_of own) h.request → IsOldestUnheard (known_of own) h.number
+pub keeps_heard : (cut : List (List ℕ)) (own : List (Pair Event)) (number step : ℕ) (h : Heard) → IsForCall (known_of own) h.request → (is_heartbeat h.request ≡ false → SentAllPieces cut (known_of own)) → HearsAllAgain own (Some h) → IsOfWholeRefresh (known_of own) h.request → IsOldestUnheard (known_of own) h.number
     → KeepsSessionStep cut false own (events.Hear number step) (Some h)
 keeps_heard cut own number step h kind pieces again whole oldest = record {
   wire = tt;
   early_tell = tt;
-  early_proof = λ asked none. no_put h.request (subst (λ call. IsFor call h.request) (asked_is (known_of own) kind.s calls.Commit kind.opened asked) kind.kind);
+  early_proof = λ asked none. no_put_kind h.request (subst (λ call. IsFor call h.request ⊎ ShowsLife call h.request) (asked_is (known_of own) kind.s calls.Commit kind.opened asked) kind.kind);
   written = tt;
-  puts = λ call asked. waited_for (known_of own) call h.request (subst (λ call. IsFor call h.request) (asked_is (known_of own) kind.s call kind.opened asked) kind.kind);
+  puts = λ call asked. waited_kind (known_of own) call h.request (subst (λ call. IsFor call h.request ⊎ ShowsLife call h.request) (asked_is (known_of own) kind.s call kind.opened asked) kind.kind);
   resends = tt;
   calls = tt;
+  beats = tt;
   finishes = tt;
   aborts = tt;
   rolled_back = tt;
@@ -186,7 +213,7 @@ keeps_heard cut own number step h kind pieces again whole oldest = record {
   rounds = tt;
   eighth = tt;
   waves = tt;
-  pieces = λ none. pieces;
+  pieces = λ none plain. pieces plain;
   refresh_wave = whole;
   again = again;
   piece_order = tt;
@@ -206,6 +233,7 @@ keeps_told cut own c answer may first all ever =
       puts = tt;
       resends = tt;
       calls = tt;
+      beats = may.beats;
       finishes = tt;
       aborts = may.aborts;
       rolled_back = may.rolled_back;

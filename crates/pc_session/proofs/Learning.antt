@@ -1,8 +1,8 @@
 -- A session that learns of a commit: it asks, meets the commit where its token was given, and is told.
-use Rattle.std.proofs.Common.{◌≡◌, ℕ, ◌+◌, ◌≤◌, ◌==◌, max, Bool, true, false, All, Contains, inl, inr, is_some, List, [], ◌∷◌, ◌++◌, Option, None, Some, refl, sym, ap, subst, ◌∙◌, arith}
+use Rattle.std.proofs.Common.{◌≡◌, ℕ, ◌+◌, ◌<◌, ◌≤◌, ◌⊎◌, ◌==◌, max, Bool, true, false, All, Contains, inl, inr, is_some, List, [], ◌∷◌, ◌++◌, Option, None, Some, refl, sym, ap, subst, ◌∙◌, arith}
 use Rattle.std.proofs.lemmas.Bool.{and_from, eq-eqb}
 use Rattle.std.proofs.lemmas.List.{append-nil, map-append}
-use Rattle.std.proofs.lemmas.List.Elements.{All-cons, All-nil, All-weaker, Contains-append_left, Contains-push}
+use Rattle.std.proofs.lemmas.List.Elements.{All-cons, All-contains, All-nil, All-weaker, Contains-append_left, Contains-push}
 use Rattle.pc_base.specs.declared.entry.Entry.{Entry}
 use Rattle.pc_base.specs.declared.transaction.TxnId.{TxnId}
 use Rattle.pc_coord.proofs.Learned.{learn-by}
@@ -17,11 +17,11 @@ use Rattle.pc_desk.proofs.Making.{added, known_after_it}
 use Rattle.pc_desk.specs.declared.halt.Halt.{Halt}
 use Rattle.pc_desk.specs.declared.halt.Halt.TheVariants as halts
 use Rattle.pc_desk.specs.Desk.{DeskMeaning, HasDone, HasHalted, KeepsTrack, is_on_way}
-use Rattle.pc_desk.specs.Ending.{EndsOnly, HasEnded, IsEndedBy}
+use Rattle.pc_desk.specs.Ending.{EndsBy, EndsOnly, HasEnded, HasMadeLast}
 use Rattle.pc_desk.specs.Keeping.{KeepsSessionStep}
 use Rattle.pc_desk.specs.OwnLog.{MayEnter}
 use Rattle.pc_exchange.proofs.Ending.{breaks_only, made_by}
-use Rattle.pc_exchange.proofs.Growing.{grows_both, grows_else, grows_entered, grows_none}
+use Rattle.pc_exchange.proofs.Growing.{grows_both, grows_else, grows_entered, grows_none, knows_more}
 use Rattle.pc_exchange.specs.Ending.{BreaksOff}
 use Rattle.pc_exchange.specs.Growing.{HasGrownBy}
 use Rattle.pc_exchange.specs.Jobs.{IsFinishable}
@@ -29,6 +29,7 @@ use Rattle.pc_history.proofs.Callers.{knows-known, names-known}
 use Rattle.pc_history.specs.declared.pair.Pair.{Pair}
 use Rattle.pc_history.specs.declared.view.Known.{Known as KnownEntry}
 use Rattle.pc_history.specs.Parts.{knowledge, named_by, told}
+use Rattle.pc_lists.proofs.Lists.{all_from_contains}
 use Rattle.pc_proto.specs.declared.answer.Answer.{Answer}
 use Rattle.pc_proto.specs.declared.answer.Answer.TheVariants as answers
 use Rattle.pc_proto.specs.declared.call.Call.TheVariants as calls
@@ -43,7 +44,7 @@ use Rattle.pc_session.proofs.Knowing.{jobs_then}
 use Rattle.pc_session.proofs.Stepping.{part_whose}
 use Rattle.pc_session.specs.InCall.{HasOpenCall, HasTold, IsApartNow}
 use Rattle.pc_session.specs.InTurn.{KeepsTurn, WaitsForReplies}
-use Rattle.pc_session.specs.Learning.{AreOfBrokenLearn, HasAskedToLearn, HasLearnt, HasMet, IsLearning, answer_to_learn, met_at}
+use Rattle.pc_session.specs.Learning.{AreOfBrokenLearn, AreOfToldLearn, AreOfUntoldLearn, HasAskedToLearn, HasLearnt, HasMet, IsLearning, answer_to_learn, met_at}
 use Rattle.pc_session.specs.Session.{HasLeft, IsAtRest, SessionMeaning, session_knows}
 use Rattle.pc_session.specs.Token.{IsOfCommit, TokenMeaning}
 use Rattle.pc_turns.specs.Order.{IsInBetween, events_of}
@@ -103,6 +104,7 @@ keeps_met cut own id step = record {
   puts = tt;
   resends = tt;
   calls = tt;
+  beats = tt;
   finishes = tt;
   aborts = tt;
   rolled_back = tt;
@@ -232,21 +234,37 @@ module _ {C : Type 0} (old : SessionMeaning C) (reading : ℕ) (token : TokenMea
 
 -- ---- from the session and the token as its code has them
 
-ended_on : (halt : Halt) (A B : Type 0) → (A → B) → IsEndedBy halt A → IsEndedBy halt B
-ended_on halts.Stopped A B f a = f a
-ended_on (halts.Full actor) A B f a = f a
-ended_on halts.NoMemory A B f a = tt
-
 module _ {C : Type 0} (d t : DeskMeaning C) (note : List (KnownEntry Event)) (took : t ≡ record d { log = record d.log { part = told note d.log.part } }) where
   -- a desk that took a note ends as it would have without
-  told_ends : (new : DeskMeaning C) (halt : Halt) → EndsOnly t new halt → EndsOnly d new halt
-  told_ends new halt = subst (λ (x : DeskMeaning C). EndsOnly x new halt → EndsOnly d new halt) (sym took) (λ ends going stop. ended_on halt (HasEnded with_note new) (HasEnded d new) on (ends going stop))
+  told_ends : (Is : Event → Type 0) (new : DeskMeaning C) (halt : Halt) → EndsOnly Is t new halt → EndsOnly Is d new halt
+  told_ends Is new halt = subst (λ (x : DeskMeaning C). EndsOnly Is x new halt → EndsOnly Is d new halt) (sym took) (λ ends going. by halt (ends going))
     where
       with_note : DeskMeaning C
       with_note = record d { log = record d.log { part = told note d.log.part } }
 
       on : HasEnded with_note new → HasEnded d new
       on ended = record { known = λ e there. ended.known e (Contains-append_left d.log.part.known note e there); rest = ended.rest; limit = ended.limit; end = ended.end }
+
+      more-known : (e : Entry Event) → Contains (knowledge d.log.part) e → Contains (knowledge with_note.log.part) e
+      more-known = knows_more d.log.part with_note.log.part [] (sym (append-nil d.log.part.own)) (λ k there. Contains-append_left d.log.part.known note k there)
+
+      last : HasMadeLast Is with_note new → HasMadeLast Is d new
+      last made = record {
+        last = made.last;
+        is = made.is;
+        own = made.own;
+        above = all_from_contains (λ (e : Entry Event). e.step < made.last.entry.step) (knowledge d.log.part) (λ e there. All-contains (λ (e : Entry Event). e.step < made.last.entry.step) (knowledge with_note.log.part) e made.above (more-known e there));
+        known = λ e there. made.known e (Contains-append_left d.log.part.known note e there);
+        rest = made.rest;
+        limit = made.limit;
+        track = made.track;
+        end = made.end;
+      }
+
+      by : (halt : Halt) → EndsBy Is with_note new halt → EndsBy Is d new halt
+      by halts.Stopped made = last made
+      by (halts.Full actor) ended = on ended
+      by halts.NoMemory ended = tt
 
   grown_told : HasGrownBy d.log t.log []
   grown_told =
@@ -283,8 +301,10 @@ module _ {C : Type 0} (v old : SessionMeaning C) (same : v ≡ old) (reading : �
         subst (λ (x : TokenMeaning). HasMet old (record v { desk = d; coordinator = c }) x.id x.step) (sym is)
         (subst (λ (s : SessionMeaning C). HasMet s (record v { desk = d; coordinator = c }) parts.id parts.step) same (met_goes v reading parts calls-v learning-v commit-v track-v d c done-v made learns))
 
-  pub meet_ends : (new : DeskMeaning C) (halt : Halt) → EndsOnly t new halt → EndsOnly old.desk new halt
-  meet_ends new halt ends = subst (λ (s : SessionMeaning C). EndsOnly s.desk new halt) same (told_ends v.desk t parts.known took new halt ends)
+  pub meet_ends : (new : DeskMeaning C) (halt : Halt) → EndsOnly (λ made. made ≡ events.Meet parts.id parts.step) t new halt → EndsOnly (λ made. made ≡ events.Meet token.id token.step) old.desk new halt
+  meet_ends new halt ends =
+      subst (λ (x : TokenMeaning). EndsOnly (λ made. made ≡ events.Meet x.id x.step) old.desk new halt) (sym is)
+      (subst (λ (s : SessionMeaning C). EndsOnly (λ made. made ≡ events.Meet parts.id parts.step) s.desk new halt) same (told_ends v.desk t parts.known took (λ made. made ≡ events.Meet parts.id parts.step) new halt ends))
 
   pub meet_halts : (new : DeskMeaning C) (halt : Halt) → HasHalted t new halt → HasHalted old.desk new halt
   meet_halts new halt h = subst (λ (s : SessionMeaning C). HasHalted s.desk new halt) same (halted_on v.desk t new [] halt (grown_told v.desk t parts.known took) h)
@@ -317,15 +337,33 @@ within_met : (id : TxnId) (step : Option ℕ) → All IsInBetween (met_at id ste
 within_met id None = All-nil IsInBetween
 within_met id (Some step) = All-cons IsInBetween (events.Meet id step) [] tt (All-nil IsInBetween)
 
--- the call was not asked
-pub unasked_learn : {C : Type 0} (old new : DeskMeaning C) (id : TxnId) (given : Bool) (halt : Halt) → KeepsTrack old → EndsOnly old new halt → BreaksOff (AreOfBrokenLearn id given) old new halt
+-- what was made without the telling is of the learn, whatever ended the list
+untold : (id : TxnId) (given : Bool) (halt : Halt) (made : List Event) → AreOfUntoldLearn id given made → AreOfBrokenLearn id given halt made
+untold id given halts.Stopped made are = inl are
+untold id given (halts.Full actor) made are = are
+untold id given halts.NoMemory made are = are
+
+-- and where it stopped, what was made with it
+at_stop : (id : TxnId) (given : Bool) (halt : Halt) (made : List Event) → halt ≡ halts.Stopped → AreOfUntoldLearn id given made ⊎ AreOfToldLearn id given made → AreOfBrokenLearn id given halt made
+at_stop id given halt made stopped are = subst (λ (h : Halt). AreOfBrokenLearn id given h made) (sym stopped) are
+
+-- the call was not asked, or nothing but that
+pub unasked_learn : {C : Type 0} (old new : DeskMeaning C) (id : TxnId) (given : Bool) (halt : Halt) → KeepsTrack old → EndsOnly (λ made. (reading : ℕ) × (made ≡ events.Ask (calls.Learn id) reading)) old new halt
+    → BreaksOff (AreOfBrokenLearn id given halt) old new halt
 unasked_learn old new id given halt track ends =
-    breaks_only old old new [] (grows_none old.log) refl (All-nil (λ (p : Pair Event). p.entry.actor ≡ old.log.part.id)) (AreOfBrokenLearn id given) halt track (inl refl) ends
+    breaks_only old old new [] (grows_none old.log) refl (All-nil (λ (p : Pair Event). p.entry.actor ≡ old.log.part.id)) (λ made. (reading : ℕ) × (made ≡ events.Ask (calls.Learn id) reading)) (AreOfBrokenLearn id given halt) halt track
+    (untold id given halt [] (inl refl)) (λ stopped event is. at_stop id given halt (event ∷ []) stopped (inl (inr (inl (is.0, ap (λ e. e ∷ []) is.1))))) ends
 
 -- a meeting is of the token that was given
-broken_at : (id : TxnId) (given : Bool) (reading : ℕ) (step : Option ℕ) (made : List Event) → (is_some step ≡ true → given ≡ true) → made ≡ events.Ask (calls.Learn id) reading ∷ met_at id step → AreOfBrokenLearn id given made
+broken_at : (id : TxnId) (given : Bool) (reading : ℕ) (step : Option ℕ) (made : List Event) → (is_some step ≡ true → given ≡ true) → made ≡ events.Ask (calls.Learn id) reading ∷ met_at id step → AreOfUntoldLearn id given made
 broken_at id given reading None made by is = inr (inl (reading, is))
 broken_at id given reading (Some step) made by is = inr (inr (by refl, reading, step, is))
+
+-- the meeting behind the asking
+pub met_last : {C : Type 0} (old mid : SessionMeaning C) (id other : TxnId) (reading step : ℕ) (given : Bool) (event : Event) (so : HasLearntSoFar old mid id reading None) → given ≡ true → other ≡ id → event ≡ events.Meet other step
+    → AreOfUntoldLearn id given (events_of so.part ++ event ∷ [])
+met_last old mid id other reading step given event so has same is =
+    inr (inr (has, reading, step, ap (λ es. es ++ event ∷ []) so.just ∙ ap (λ e. events.Ask (calls.Learn id) reading ∷ e ∷ []) (is ∙ ap (λ (i : TxnId). events.Meet i step) same)))
 
 module _ {C : Type 0} (old mid : SessionMeaning C) (id : TxnId) (reading : ℕ) (step : Option ℕ) (so : HasLearntSoFar old mid id reading step) where
   -- it was told
@@ -359,10 +397,22 @@ module _ {C : Type 0} (old mid : SessionMeaning C) (id : TxnId) (reading : ℕ) 
         exact = refl;
       }
 
-  -- its list ended before it was told
-  pub learn_breaks : (new : DeskMeaning C) (given : Bool) (halt : Halt) → (is_some step ≡ true → given ≡ true) → KeepsTrack mid.desk → EndsOnly mid.desk new halt → BreaksOff (AreOfBrokenLearn id given) old.desk new halt
-  learn_breaks new given halt by track ends =
-      breaks_only old.desk mid.desk new so.part so.grown so.limit (made_by old.desk.log mid.desk so.part track so.grown) (AreOfBrokenLearn id given) halt track (broken_at id given reading step (events_of so.part) by so.just) ends
+  -- its list ended before it was told, or with one more event of it
+  pub learn_breaks : (Is : Event → Type 0) (new : DeskMeaning C) (given : Bool) (halt : Halt) → (is_some step ≡ true → given ≡ true) → KeepsTrack mid.desk
+      → ((event : Event) → Is event → AreOfUntoldLearn id given (events_of so.part ++ event ∷ []) ⊎ AreOfToldLearn id given (events_of so.part ++ event ∷ []))
+      → EndsOnly Is mid.desk new halt → BreaksOff (AreOfBrokenLearn id given halt) old.desk new halt
+  learn_breaks Is new given halt by track last ends =
+      breaks_only old.desk mid.desk new so.part so.grown so.limit (made_by old.desk.log mid.desk so.part track so.grown) Is (AreOfBrokenLearn id given halt) halt track
+      (untold id given halt (events_of so.part) (broken_at id given reading step (events_of so.part) by so.just)) (λ stopped event is. at_stop id given halt (events_of so.part ++ event ∷ []) stopped (last event is)) ends
+
+  -- the telling
+  pub told_whole : (given : Bool) (event : Event) → given ≡ is_some step → event ≡ events.Tell (answer_to_learn (is_some step)) → AreOfToldLearn id given (events_of so.part ++ event ∷ [])
+  told_whole given event met is = record {
+    reading = reading;
+    step = step;
+    met = met;
+    whole = ap (λ es. es ++ event ∷ []) so.just ∙ ap (λ e. events.Ask (calls.Learn id) reading ∷ (met_at id step ++ e ∷ [])) (is ∙ ap (λ b. events.Tell (answer_to_learn b)) (sym met));
+  }
 
   pub learn_halts : (new : DeskMeaning C) (halt : Halt) → HasHalted mid.desk new halt → HasHalted old.desk new halt
   learn_halts new halt h = halted_on old.desk mid.desk new so.part halt so.grown h

@@ -10,7 +10,8 @@ use Rattle.pc_call.specs.Sending.{IsSendable}
 use Rattle.pc_coord.specs.Coordination.{awaits_number, next_of}
 use Rattle.pc_coord.specs.declared.next.Next.TheVariants as nexts
 use Rattle.pc_desk.specs.Desk.{is_on_way}
-use Rattle.pc_follows.specs.CallMessages.{IsFor}
+use Rattle.pc_follows.specs.CallMessages.{IsFor, ShowsLife}
+use Rattle.pc_follows.specs.Heartbeats.{is_heartbeat}
 use Rattle.pc_follows.specs.PieceOrder.{IsNextPiece, IsPieceBefore}
 use Rattle.pc_lists.proofs.Lists.{all_from_contains}
 use Rattle.pc_proto.specs.declared.call.Call.{Call}
@@ -19,7 +20,7 @@ use Rattle.pc_proto.specs.declared.request.Request.{Request}
 use Rattle.pc_proto.specs.declared.request.Request.TheVariants as requests
 use Rattle.pc_session.proofs.Away.{heard_now_if_back}
 use Rattle.pc_session.proofs.TurnsOn.{sends_of, step_sends, turn_of}
-use Rattle.pc_session.proofs.WholeWave.{scan-serves}
+use Rattle.pc_session.proofs.WholeWave.{not_beating, out_request, scan-serves}
 use Rattle.pc_session.specs.InCall.{HasOpenCall}
 use Rattle.pc_session.specs.InTurn.{GoesBefore, MayStandBehind}
 use Rattle.pc_session.specs.Session.{SessionMeaning, session_knows}
@@ -34,6 +35,7 @@ use Rattle.pc_wave.specs.declared.message.Progress.TheVariants as progresses
 use Rattle.pc_wave.specs.Messages.{awaits_at, first_in_conflict, has_answer, is_to_send, progress_awaits, progress_to_send, wave_awaits}
 use Rattle.pc_wave.specs.Standing.{IsAsFar, MessageStands, Pairwise}
 use Rattle.pc_world.specs.Known.{Known}
+use Rattle.pc_world.specs.Known.Statements.{Statement}
 use Rattle.pc_world.specs.Known.Traffic.{Sent, request_sent}
 use Rattle.pc_world.specs.RangeOf.{pieces}
 use Rattle.pc_world.specs.Tell.Refusal.{is_heard}
@@ -91,12 +93,6 @@ module _ (x : OpenTxn) where
       by here later rest false is true at f g = let same : z ≡ y = cc in subst (λ (y : Message). AreInOrder y.request m.request) same (found_behind p z.request ps ms m here later rise.0 f)
       by here later rest false is false at f g = rest f g
 
-out_request : (k : Known) (number : ℕ) (request : Request) (conflicts : ℕ) (p : Progress) → p ≡ progresses.Sent number → IsAsFar k request conflicts p → request_sent number k.sent ≡ Some request
-out_request k number request conflicts progresses.ToSend is far = absurd cc
-out_request k number request conflicts (progresses.Sent sent) is far = let same : sent ≡ number = cc in subst (λ n. request_sent n k.sent ≡ Some request) same far.0.out.said
-out_request k number request conflicts (progresses.Met sent conflict) is far = absurd cc
-out_request k number request conflicts (progresses.Answered sent reply) is far = absurd cc
-
 -- a scan goes out for a scan
 scan_of : (call : Call) (id : _) (epoch seq ts : ℕ) (span : Span) → IsFor call (requests.Scan id epoch seq ts span) → (whole : Span) × (call ≡ calls.Scan whole)
 scan_of (calls.Scan whole) id epoch seq ts span is = (whole, refl)
@@ -108,11 +104,16 @@ scan_of calls.Commit id epoch seq ts span (inr is) = absurd cc
 scan_of calls.Rollback id epoch seq ts span is = absurd cc
 scan_of call id epoch seq ts span is = absurd is
 
+-- and is no heartbeat
+scan-kind : (call : Call) (id : _) (epoch seq ts : ℕ) (span : Span) → IsFor call (requests.Scan id epoch seq ts span) ⊎ ShowsLife call (requests.Scan id epoch seq ts span) → (whole : Span) × (call ≡ calls.Scan whole)
+scan-kind call id epoch seq ts span (inl is) = scan_of call id epoch seq ts span is
+scan-kind call id epoch seq ts span (inr life) = absurd (let e : false ≡ true = life.1 in cc)
+
 module _ {C : Type 0} (old : SessionMeaning C) (reading : ℕ) (request : Request) (calls_are : HasOpenCall old reading) (due : next_of old.coordinator ≡ nexts.Send request) where
   abbrev k : Known
   k = session_knows old
 
-  module _ (whole : Span) (scans : (sends_of old.coordinator k request calls_are.one.knows due calls_are.turn).in_call.s.call ≡ calls.Scan whole) where
+  module _ (whole : Span) (scans : (sends_of old.coordinator k request calls_are.one.knows due calls_are.turn).in_call.s.call ≡ calls.Scan whole) (plain : is_heartbeat request ≡ false) where
     -- what is on its way stands before the piece that goes out
     on_way_before : (m : Sent) → request_sent m.number k.sent ≡ Some m.request → is_on_way m.number old.desk ≡ true → AreInOrder m.request request
     on_way_before m said on =
@@ -126,16 +127,19 @@ module _ {C : Type 0} (old : SessionMeaning C) (reading : ℕ) (request : Reques
         let far : IsAsFar k y.0.request y.0.conflicts y.0.progress = (found_all (awaits_at m.number) (MessageStands k) ms y.0 y.1 w.wave.stand).as_far in
         let told = out_request k m.number y.0.request y.0.conflicts y.0.progress (awaits_as m.number y.0.progress (found_passes (awaits_at m.number) ms y.0 y.1)) far in
         let same : y.0.request ≡ m.request = same_Some y.0.request m.request (sym told ∙ said) in
+        let other = not_beating c.splits k w.s w.t o.o.txn o.o.call.purpose ms w.serves request (λ all. sym (ap is_heartbeat f.2) ∙ found_all is_to_send (λ (m : Message). is_heartbeat m.request ≡ true) ms f.0 f.1 all) plain in
         subst (λ r. AreInOrder r request) same
         (subst (AreInOrder y.0.request) f.2
-        (waits_before o.o.txn m.number (pieces c.splits whole) ms f.0 y.0 (scan-serves c.splits k w.s w.t o.o.txn o.o.call.purpose ms whole scans w.serves) (pieces_rise c.splits whole calls_are.one.knows.rising)
+        (waits_before o.o.txn m.number (pieces c.splits whole) ms f.0 y.0 (scan-serves c.splits k w.s w.t o.o.txn o.o.call.purpose ms whole other scans w.serves) (pieces_rise c.splits whole calls_are.one.knows.rising)
         (turn_of c k request calls_are.one.knows due calls_are.turn).order f.1 y.1))
 
-  by_way : (id : _) (epoch seq ts : ℕ) (span : Span) → request ≡ requests.Scan id epoch seq ts span → IsFor (sends_of old.coordinator k request calls_are.one.knows due calls_are.turn).in_call.s.call request
+  by_way : (id : _) (epoch seq ts : ℕ) (span : Span) → request ≡ requests.Scan id epoch seq ts span
+      → IsFor (sends_of old.coordinator k request calls_are.one.knows due calls_are.turn).in_call.s.call request ⊎ ShowsLife (sends_of old.coordinator k request calls_are.one.knows due calls_are.turn).in_call.s.call request
       → (m : Sent) → Contains k.sent_now m → (b : Bool) → is_on_way m.number old.desk ≡ b → IsTrue (is_heard k.heard_now m) ⊎ IsPieceBefore span m.request
   by_way id epoch seq ts span is kind m there true on =
-      let scans = scan_of _ id epoch seq ts span (subst (IsFor (sends_of old.coordinator k request calls_are.one.knows due calls_are.turn).in_call.s.call) is kind) in
-      inr (subst (AreInOrder m.request) is (on_way_before scans.0 scans.1 m (All-contains (λ (m : Sent). request_sent m.number k.sent ≡ Some m.request) k.sent_now m calls_are.apart.said there) on))
+      let call : Call = (sends_of old.coordinator k request calls_are.one.knows due calls_are.turn).in_call.s.call in
+      let scans = scan-kind call id epoch seq ts span (subst (λ r. IsFor call r ⊎ ShowsLife call r) is kind) in
+      inr (subst (AreInOrder m.request) is (on_way_before scans.0 scans.1 (ap is_heartbeat is) m (All-contains (λ (m : Sent). request_sent m.number k.sent ≡ Some m.request) k.sent_now m calls_are.apart.said there) on))
   by_way id epoch seq ts span is kind m there false away =
       inl (heard_now_if_back old.desk calls_are.track calls_are.apart m (All-contains (λ (m : Sent). request_sent m.number k.sent ≡ Some m.request) k.sent_now m calls_are.apart.said there)
       (All-contains (λ (m : Sent). is_heard calls_are.apart.before m ≡ false) k.sent_now m calls_are.apart.apart there) away)
@@ -144,11 +148,11 @@ module _ {C : Type 0} (old : SessionMeaning C) (reading : ℕ) (request : Reques
   pub next_piece : IsSendable old.coordinator.splits old.coordinator.session k request → IsNextPiece k request
   next_piece may = by request refl
     where
-      kind : IsFor (sends_of old.coordinator k request calls_are.one.knows due calls_are.turn).in_call.s.call request
+      kind : IsFor (sends_of old.coordinator k request calls_are.one.knows due calls_are.turn).in_call.s.call request ⊎ ShowsLife (sends_of old.coordinator k request calls_are.one.knows due calls_are.turn).in_call.s.call request
       kind =
           let o = sends_of old.coordinator k request calls_are.one.knows due calls_are.turn in
           let same : may.kind.s ≡ o.in_call.s = same_Some may.kind.s o.in_call.s (sym may.kind.opened ∙ o.in_call.opened) in
-          subst (λ s. IsFor s.call request) same may.kind.kind
+          subst (λ (s : Statement). IsFor s.call request ⊎ ShowsLife s.call request) same may.kind.kind
 
       by : (r : Request) → request ≡ r → IsNextPiece k r
       by (requests.Scan id epoch seq ts span) is =

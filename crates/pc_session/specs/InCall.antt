@@ -15,6 +15,7 @@ use Rattle.pc_session.specs.Session.{AreOfOneSession, HasLeft, IsAtRest, Session
 use Rattle.pc_turns.specs.Order.{IsInBetween, events_of}
 use Rattle.pc_follows.specs.AgainInOneWave.{EndsWithSending}
 use Rattle.pc_follows.specs.CallMessages.{IsForCall}
+use Rattle.pc_follows.specs.Heartbeats.{is_heartbeat}
 use Rattle.pc_follows.specs.Refreshes.{IsOfWholeRefresh}
 use Rattle.pc_follows.specs.ScanPieces.{SentAllPieces}
 use Rattle.pc_follows.specs.WaveOrder.{EndsWaves}
@@ -45,9 +46,10 @@ pub record HasOpenCall {C : Type 0} (s : SessionMeaning C) (reading : ℕ) : Typ
   pub turn : KeepsTurn (session_knows s) s.coordinator.due
   pub goes_out : EndsWithSending s.desk.log.part.own → WaitsForReplies s.coordinator.due
 
--- What is on its way is a whole wave: in a scan all pieces went out, and beside a refresh those of all that was read; and none is to be sent.
+-- What is on its way is a whole wave: in a scan all pieces went out, unless it is a heartbeat, and beside a refresh those of all that was read;
+-- and none is to be sent.
 pub record IsWholeOut {C : Type 0} (s : SessionMeaning C) : Type 0 where
-  pub pieces : SentAllPieces s.desk.log.head.splits (session_knows s)
+  pub pieces : (number : ℕ) (request : Request) → is_on_way number s.desk ≡ true → request_sent number (session_knows s).sent ≡ Some request → is_heartbeat request ≡ false → SentAllPieces s.desk.log.head.splits (session_knows s)
   pub refreshes : (number : ℕ) (request : Request) → is_on_way number s.desk ≡ true → request_sent number (session_knows s).sent ≡ Some request → IsOfWholeRefresh (session_knows s) request
   pub silent : (number : ℕ) → is_on_way number s.desk ≡ true → SendsNoMore s.coordinator.due
 

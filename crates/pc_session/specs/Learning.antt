@@ -1,7 +1,9 @@
 -- A session learns of a commit: it meets the telling of it, where that is handed on to it, and is told so. Own profile.
-use Rattle.std.specs.Prelude.{◌≡◌, ℕ, Bool, true, false, is_some, ◌⊎◌, Option, None, Some, List, [], ◌∷◌}
+use Rattle.std.specs.Prelude.{◌≡◌, ℕ, Bool, true, false, is_some, ◌⊎◌, Option, None, Some, List, [], ◌∷◌, ◌++◌}
 use Rattle.pc_base.specs.declared.transaction.TxnId.{TxnId}
 use Rattle.pc_coord.specs.declared.due.Due.TheVariants as dues
+use Rattle.pc_desk.specs.declared.halt.Halt.{Halt}
+use Rattle.pc_desk.specs.declared.halt.Halt.TheVariants as halts
 use Rattle.pc_proto.specs.declared.answer.Answer.{Answer}
 use Rattle.pc_proto.specs.declared.answer.Answer.TheVariants as answers
 use Rattle.pc_proto.specs.declared.call.Call.TheVariants as calls
@@ -33,11 +35,23 @@ pub record HasLearnt {C : Type 0} (old new : SessionMeaning C) (id : TxnId) (kno
 
 -- The events are those of a learn that was not told its answer: none; its asking; or, where a token was given, its asking and the meeting of
 -- that commit.
-abbrev pub AreOfBrokenLearn : TxnId → Bool → List Event → Type 0
-AreOfBrokenLearn id given made =
+abbrev pub AreOfUntoldLearn : TxnId → Bool → List Event → Type 0
+AreOfUntoldLearn id given made =
     (made ≡ [])
     ⊎ ((reading : ℕ) × (made ≡ events.Ask (calls.Learn id) reading ∷ []))
     ⊎ ((given ≡ true) × (reading : ℕ) × (step : ℕ) × (made ≡ events.Ask (calls.Learn id) reading ∷ events.Meet id step ∷ []))
+
+-- The events are all of a learn: its asking; where a token was given, the meeting of that commit; and its telling.
+pub record AreOfToldLearn (id : TxnId) (given : Bool) (made : List Event) : Type 0 where
+  pub reading : ℕ
+  pub step : Option ℕ
+  pub met : given ≡ is_some step
+  pub whole : made ≡ events.Ask (calls.Learn id) reading ∷ (met_at id step ++ events.Tell (answer_to_learn given) ∷ [])
+
+-- The events are those of a learn whose list ended so; where that stopped, its last entry may be the telling.
+abbrev pub AreOfBrokenLearn : TxnId → Bool → Halt → List Event → Type 0
+AreOfBrokenLearn id given halts.Stopped made = AreOfUntoldLearn id given made ⊎ AreOfToldLearn id given made
+AreOfBrokenLearn id given halt made = AreOfUntoldLearn id given made
 
 -- The open call learns of this transaction: nothing was heard in it, and it is to be told that the commit is not known yet.
 pub record IsLearning {C : Type 0} (s : SessionMeaning C) (id : TxnId) : Type 0 where

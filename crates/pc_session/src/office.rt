@@ -14,8 +14,9 @@ ghost use Rattle.pc_desk.specs.OwnLog.{IsOwnLog};
 ghost use Rattle.pc_exchange.specs.Ending.{BreaksOff};
 ghost use Rattle.pc_proto.specs.declared.answer.Answer.TheVariants as answers;
 ghost use Rattle.pc_proto.specs.declared.call.Call.TheVariants as calls;
+ghost use Rattle.pc_proto.specs.declared.event.Event.TheVariants as events;
 ghost use Rattle.pc_session.specs.Calls.{HasCalled, MayBeCalled};
-ghost use Rattle.pc_session.specs.Ending.{AreOfBrokenCall};
+ghost use Rattle.pc_session.specs.Ending.{AreOfBrokenCall, AreOfOpenCall};
 ghost use Rattle.pc_session.specs.InCall.{GoesOnOrTold, HasAsked, HasGoneInside, HasOpenCall, IsBetweenWaves, IsWholeOut};
 ghost use Rattle.pc_session.specs.Learning.{AreOfBrokenLearn, HasAskedToLearn, HasLearnt, HasMet, IsLearning};
 ghost use Rattle.pc_session.specs.Session.{IsAtRest, session_knows};
@@ -77,7 +78,7 @@ impl<'a, N: Named<CommitWorld>, C: Clock, V: Wire, G: Gate> Office<'a, N, C, V, 
         requires may { MayBeCalled self.old call }
         ensures ok { IfOk result (HasCalled self.old self.new call) }
         ensures err { IfErr result (HasHalted self.old.desk self.new.desk) }
-        ensures ended { IfErr result (BreaksOff (AreOfBrokenCall call) self.old.desk self.new.desk) }
+        ensures ended { IfErr result (λ halt. BreaksOff (AreOfBrokenCall call halt) self.old.desk self.new.desk halt) }
         ensures rule { C.rule self.new.desk.log.clock ≡ C.rule self.old.desk.log.clock }
     {
         let reading = self.ask(call)?;
@@ -108,7 +109,7 @@ impl<'a, N: Named<CommitWorld>, C: Clock, V: Wire, G: Gate> Office<'a, N, C, V, 
         ensures ok { IfOk result (HasLearnt self.old self.new id) }
         ensures found { IfOk result (λ known. known ≡ is_some token) }
         ensures err { IfErr result (HasHalted self.old.desk self.new.desk) }
-        ensures ended { IfErr result (BreaksOff (AreOfBrokenLearn id (is_some token)) self.old.desk self.new.desk) }
+        ensures ended { IfErr result (λ halt. BreaksOff (AreOfBrokenLearn id (is_some token) halt) self.old.desk self.new.desk halt) }
         ensures rule { C.rule self.new.desk.log.clock ≡ C.rule self.old.desk.log.clock }
     {
         let reading = self.ask(Call::Learn(id))?;
@@ -133,7 +134,7 @@ impl<'a, N: Named<CommitWorld>, C: Clock, V: Wire, G: Gate> Office<'a, N, C, V, 
         ensures due { OnOk result (self.new.coordinator.due ≡ dues.Tell answers.Learnt) }
         ensures met { OnOk result (HasMet self.old self.new token.id token.step) }
         ensures err { IfErr result (HasHalted self.old.desk self.new.desk) }
-        ensures ended { IfErr result (EndsOnly self.old.desk self.new.desk) }
+        ensures ended { IfErr result (EndsOnly (λ made. made ≡ events.Meet token.id token.step) self.old.desk self.new.desk) }
         ensures clock { self.new.desk.log.clock ≡ self.old.desk.log.clock }
     {
         let (id, step, ts, note) = token.into_parts();
@@ -161,7 +162,7 @@ impl<'a, N: Named<CommitWorld>, C: Clock, V: Wire, G: Gate> Office<'a, N, C, V, 
         ensures asked { IfOk result (HasAsked self.old self.new call) }
         ensures learns { (id : TxnId) → call ≡ calls.Learn id → IfOk result (HasAskedToLearn self.old self.new id) }
         ensures err { IfErr result (HasHalted self.old.desk self.new.desk) }
-        ensures ended { IfErr result (EndsOnly self.old.desk self.new.desk) }
+        ensures ended { IfErr result (EndsOnly (λ made. (reading : ℕ) × (made ≡ events.Ask call reading)) self.old.desk self.new.desk) }
         ensures rule { C.rule self.new.desk.log.clock ≡ C.rule self.old.desk.log.clock }
     {
         let copy = match call.copy() {
@@ -181,7 +182,7 @@ impl<'a, N: Named<CommitWorld>, C: Clock, V: Wire, G: Gate> Office<'a, N, C, V, 
         requires between { IsBetweenWaves self.old.desk }
         ensures ok { IfOk result (GoesOnOrTold self.old self.new reading) }
         ensures err { IfErr result (HasHalted self.old.desk self.new.desk) }
-        ensures ended { IfErr result (BreaksOff (All IsInBetween) self.old.desk self.new.desk) }
+        ensures ended { IfErr result (λ halt. BreaksOff (AreOfOpenCall halt) self.old.desk self.new.desk halt) }
         ensures clock { self.new.desk.log.clock ≡ self.old.desk.log.clock }
     {
         match self.due(reading)? {
@@ -331,7 +332,7 @@ impl<'a, N: Named<CommitWorld>, C: Clock, V: Wire, G: Gate> Office<'a, N, C, V, 
         ensures ok { IfOk result (GoesOnOrTold self.old self.new reading) }
         ensures told { IfOk result (λ told. told ≡ Some answer) }
         ensures err { IfErr result (HasHalted self.old.desk self.new.desk) }
-        ensures ended { IfErr result (EndsOnly self.old.desk self.new.desk) }
+        ensures ended { IfErr result (EndsOnly (λ made. made ≡ events.Tell answer) self.old.desk self.new.desk) }
         ensures clock { self.new.desk.log.clock ≡ self.old.desk.log.clock }
     {
         let copy = match answer.copy() {

@@ -139,7 +139,7 @@ impl<'a, N: Named<CommitWorld>, C: Clock, V: Wire, G: Gate> Session<'a, N, C, V,
         requires { self.old.desk.log.stopped ≡ false → MayBeCalled self.old call }
         ensures ok { IfOk result (HasCalled self.old self.new call) }
         ensures err { IfErr result (HasHalted self.old.desk self.new.desk) }
-        ensures ended { IfErr result (BreaksOff (AreOfBrokenCall call) self.old.desk self.new.desk) }
+        ensures ended { IfErr result (λ halt. BreaksOff (AreOfBrokenCall call halt) self.old.desk self.new.desk halt) }
         ensures rule { C.rule self.new.desk.log.clock ≡ C.rule self.old.desk.log.clock }
     {
         self.going()?;
@@ -166,7 +166,7 @@ impl<'a, N: Named<CommitWorld>, C: Clock, V: Wire, G: Gate> Session<'a, N, C, V,
         ensures ok { IfOk result (HasLearnt self.old self.new id) }
         ensures found { IfOk result (λ known. known ≡ is_some token) }
         ensures err { IfErr result (HasHalted self.old.desk self.new.desk) }
-        ensures ended { IfErr result (BreaksOff (AreOfBrokenLearn id (is_some token)) self.old.desk self.new.desk) }
+        ensures ended { IfErr result (λ halt. BreaksOff (AreOfBrokenLearn id (is_some token) halt) self.old.desk self.new.desk halt) }
         ensures rule { C.rule self.new.desk.log.clock ≡ C.rule self.old.desk.log.clock }
     {
         self.going()?;

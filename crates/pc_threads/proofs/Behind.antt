@@ -16,13 +16,13 @@ use Rattle.pc_scripted.specs.Scripted.{IsScripted, ScriptedMeaning, own_list, ow
 use Rattle.pc_threads.specs.Lanes.{StandsBehind}
 use Rattle.pc_turns.specs.Laws.{HasMark}
 
-no-end : {X : Type 0} (xs : List X) (x : X) → xs ++ x ∷ [] ≡ [] → ⊥
-no-end [] x e = cc
-no-end (y ∷ xs) x e = cc
+pub no_end : {X : Type 0} (xs : List X) (x : X) → xs ++ x ∷ [] ≡ [] → ⊥
+no_end [] x e = cc
+no_end (y ∷ xs) x e = cc
 
 -- a note of the last entry tells of it
-last-noted : (part : Part Event) (mine : List (Pair Event)) (p : Pair Event) → part.own ≡ mine ++ p ∷ [] → Contains (told_entries (noted (length part.own - 1) 0 part)) p.entry
-last-noted part mine p is =
+pub last_noted : (part : Part Event) (mine : List (Pair Event)) (p : Pair Event) → part.own ≡ mine ++ p ∷ [] → Contains (told_entries (noted (length part.own - 1) 0 part)) p.entry
+last_noted part mine p is =
     let long : length (mine ++ p ∷ []) ≡ length mine + 1 = length-append mine (p ∷ []) in
     let place : length (mine ++ p ∷ []) - 1 ≡ length mine = omega arith in
     let at : slice_get part.own (length part.own - 1) ≡ Some p = ap (λ own. slice_get own (length own - 1)) is ∙ (ap (slice_get (mine ++ p ∷ [])) place ∙ get_push mine p) in
@@ -31,7 +31,7 @@ last-noted part mine p is =
 module _ {C : Type 0} (first other : ScriptedMeaning C) where
   -- there is no entry to know
   pub behind_nothing : IsScripted other → own_list first ≡ [] → StandsBehind (own_list first) other other
-  behind_nothing scripted none = record { by = moved_by_none other scripted; knows = λ front last whole. absurd (no-end front last (sym whole ∙ none)); clock = refl }
+  behind_nothing scripted none = record { by = moved_by_none other scripted; knows = λ front last whole. absurd (no_end front last (sym whole ∙ none)); clock = refl }
 
   -- there is one
   module _ (note : List (KnownEntry Event)) (marks : note ≡ noted (length (own_list first) - 1) 0 first.session.desk.log.part) where
@@ -41,7 +41,7 @@ module _ {C : Type 0} (first other : ScriptedMeaning C) where
     knows-last : HasMark (own_list first) (knowledge taught.session.desk.log.part)
     knows-last front last whole =
         let part = other.session.desk.log.part in
-        let tells : Contains (told_entries note) last.entry = subst (λ (ks : List (KnownEntry Event)). Contains (told_entries ks) last.entry) (sym marks) (last-noted first.session.desk.log.part front last whole) in
+        let tells : Contains (told_entries note) last.entry = subst (λ (ks : List (KnownEntry Event)). Contains (told_entries ks) last.entry) (sym marks) (last_noted first.session.desk.log.part front last whole) in
         Contains-append_right (entries_of part.own) (told_entries (part.known ++ note)) last.entry
         (subst (λ (es : List (Entry Event)). Contains es last.entry) (sym (map-append (λ (k : KnownEntry Event). k.entry) part.known note)) (Contains-append_right (told_entries part.known) (told_entries note) last.entry tells))
 
@@ -49,7 +49,7 @@ module _ {C : Type 0} (first other : ScriptedMeaning C) where
     behind-so scripted = record {
       by = record {
         scripted = scripted;
-        same = record { number = refl; script = refl; reruns = refl; head = refl; limit = refl; range_limit = refl };
+        same = record { number = refl; script = refl; reruns = refl; head = refl; limit = refl; stop = refl; range_limit = refl };
         own = sym (append-nil (own_list other));
         whose = All-nil (λ (p : Pair Event). p.entry.actor ≡ actors.Session (own_number other));
         rises = tt;

@@ -1,4 +1,4 @@
--- All sessions have gone on threads.
+-- All sessions and recoverers have gone on threads.
 use Rattle.std.proofs.Common.{◌≡◌, ℕ, zero, suc, ◌+◌, ◌≤◌, inl, inr, Bool, All, Contains, List, [], ◌∷◌, ◌++◌, length, slice_get, Some, Result, Ok, Err, IfOk, OnOk, sym, ap, subst, ◌∙◌, arith}
 use Rattle.std.proofs.lemmas.List.Elements.{All-contains, All-weaker}
 use Rattle.std.specs.List.{AllZip}
@@ -8,19 +8,22 @@ use Rattle.pc_base.specs.declared.memory.NoMemory.{NoMemory}
 use Rattle.pc_history.specs.declared.pair.Pair.{Pair}
 use Rattle.pc_lists.proofs.Lists.{all_from_contains, contains_cons, contains_get, get_contains}
 use Rattle.pc_proto.specs.declared.event.Event.{Event}
-use Rattle.pc_runs.specs.Order.{next_in_work}
+use Rattle.pc_runs.specs.Order.{ended_in_work, next_in_work}
 use Rattle.pc_runs.specs.Runners.{AreRunOut, AreRunners, HaveClocks, IsRunnerIn, SaysAllFull}
+use Rattle.pc_rounds.specs.Counted.{CountedMeaning, entries_made}
+use Rattle.pc_runs.specs.Together.{AreAtEnds, AreClients, HaveClientClocks}
 use Rattle.pc_scripted.proofs.Going.{all_mine, says_before}
-use Rattle.pc_scripted.specs.Ended.{SaysFull, list_has_ended}
+use Rattle.pc_scripted.specs.Ended.{SaysFull}
 use Rattle.pc_scripted.specs.Scripted.{IsScripted, ScriptedMeaning, own_list, own_number}
 use Rattle.pc_scripted.specs.Taking.{GoesUntil, HasMoved, HasMovedBy, IsRunOut, are_items_over, is_script_over}
 use Rattle.pc_threads.proofs.Gone.{after_mark, after_own, goes_opening, goes_to_end, moved_behind, moved_on, none_by, runner_went}
+use Rattle.pc_threads.proofs.RoundsGone.{recoverer_clocks_gone, recoverers_continue, recoverers_gone, rounds_gone}
 use Rattle.pc_threads.proofs.Places.{there, zip_all, zip_at, zip_long}
 use Rattle.pc_threads.specs.Lanes.{HasLeftLane, HasRunAlone, HasRunLane, HaveStarted, LaneMeaning, StandsBehindIn}
+use Rattle.pc_threads.specs.RoundLanes.{HasLeftRoundLane, HasRunRounds, RoundLaneMeaning, WaitInLanes}
 use Rattle.pc_threads.specs.OnThreads.{HaveGoneOnThreads}
 use Rattle.pc_turns.specs.Clients.{Continues, IsAfterAll, RisesFrom, share_of}
 use Rattle.pc_turns.specs.Order.{GoesByItself, entries_by, is_at_end}
-use Rattle.pc_turns.specs.Shares.{IsSessionOf}
 use Rattle.pc_work.specs.declared.workload.Workload.{Workload}
 
 pub if_ok : {X E : Type 0} (r : Result X E) (P Q : X → Type 0) → IfOk r P → ((x : X) → P x → Q x) → IfOk r Q
@@ -158,6 +161,12 @@ module _ {C : Type 0} (work : Workload) (rule : C → ℕ → ℕ → Bool) (ses
       let a = ran-front l.0 s.0 (subst (λ ls. slice_get ls 0 ≡ Some l.0) started.leads.whole l.1) (ended-well l.0 r.0 s.0 l.2 r.2) in
       says_before full opened.session.desk s.0.session.desk a.moved.by.same.range_limit a.moved.by.known (says 0 s.0 s.1)
 
+  pub opening_rises : RisesFrom 0 (own_list opened)
+  opening_rises = subst (RisesFrom 0) (sym opening-list) opens.by.rises
+
+  pub opening_only : All (λ (p : Pair Event). p.entry.actor ≡ actors.Session 1) (own_list opened)
+  opening_only = subst (All (λ (p : Pair Event). p.entry.actor ≡ actors.Session 1)) (sym opening-list) opening-whose
+
   begin-gone : (index : ℕ) (s : ScriptedMeaning C) → slice_get gone index ≡ Some s → Continues opens.part s.session.desk.log.part
   begin-gone index s at =
       let g = has-gone index s at in
@@ -166,19 +175,56 @@ module _ {C : Type 0} (work : Workload) (rule : C → ℕ → ℕ → Bool) (ses
       record { later = g.later; whole = list-gone index s g ∙ (g.begins ∙ ap (λ (i : ActorId). share_of i opens.part ++ g.later) (sym id)); after = g.after }
 
   alone-gone : (full : ℕ → Bool) → SaysAllFull full gone → (index : ℕ) (s : ScriptedMeaning C) → slice_get gone index ≡ Some s
-      → GoesByItself (next_in_work work) (list_has_ended work.limit full) (index + 1) (is_at_end (next_in_work work) (index + 1)) [] (own_list s)
+      → GoesByItself (next_in_work work) (ended_in_work work full) (index + 1) (is_at_end (next_in_work work) (index + 1)) [] (own_list s)
   alone-gone full says index s at =
       let g = has-gone index s at in
-      subst (λ list. GoesByItself (next_in_work work) (list_has_ended work.limit full) (index + 1) (is_at_end (next_in_work work) (index + 1)) [] list) (sym (list-gone index s g))
+      subst (λ list. GoesByItself (next_in_work work) (ended_in_work work full) (index + 1) (is_at_end (next_in_work work) (index + 1)) [] list) (sym (list-gone index s g))
       (goes_to_end work index g.old (runners.each index g.old g.at) (fresh-at index g.old g.at) full g.moved.part (g.moved.is full (says index s at)))
 
-  pub order_gone : HaveGoneOnThreads work gone
-  order_gone = record {
+  pub order_gone : (recoverers : List (CountedMeaning C)) → ((index : ℕ) (r : CountedMeaning C) → slice_get recoverers index ≡ Some r → Continues (own_list opened) r.recoverer.desk.log.part)
+      → HaveGoneOnThreads work (record { sessions = gone; recoverers = recoverers })
+  order_gone recoverers recover = record {
+    some = (let m = many-gone in let c : length sessions ≡ suc (length started.others) = ap length started.whole in omega arith);
     opening = opens.part;
     rises = opens.by.rises;
-    only = All-weaker (λ (p : Pair Event). p.entry.actor ≡ actors.Session 1) (λ (p : Pair Event). IsSessionOf (length gone) p.entry.actor)
-        (λ p is. subst (IsSessionOf (length gone)) (sym is) (omega arith, let m = many-gone in let c : length sessions ≡ suc (length started.others) = ap length started.whole in omega arith)) opens.part opening-whose;
-    opens = λ full says. goes_opening work first (runners.each 0 first first-at) first-fresh full opens.part (opens.is full (says-first full says));
+    only = opening-whose;
+    opens = λ full says. goes_opening work first (runners.each 0 first first-at) first-fresh full opens.part (opens.is full (says-first full says.sessions));
     begin = begin-gone;
-    alone = alone-gone;
+    recover = λ index r at. subst (λ l. Continues l r.recoverer.desk.log.part) opening-list (recover index r at);
+    alone = λ full says. alone-gone full says.sessions;
   }
+
+-- ---- sessions and recoverers
+
+module _ {C : Type 0} (work : Workload) (rule : C → ℕ → ℕ → Bool) (sessions : List (ScriptedMeaning C)) (recoverers : List (CountedMeaning C)) (clients : AreClients work (record { sessions = sessions; recoverers = recoverers }))
+    (fresh : All (λ s. own_list s ≡ []) sessions) (fresh_recoverers : All (λ r. entries_made r ≡ []) recoverers) (lanes run : List (LaneMeaning C)) (started : HaveStarted rule work.opening sessions lanes) (ran : AllZip (HasRunLane rule) lanes run)
+    (gone : List (ScriptedMeaning C)) (back : AllZip HasLeftLane run gone) (round_lanes round_run : List (RoundLaneMeaning C)) (wait : WaitInLanes (own_list started.opened) recoverers round_lanes) (round_ran : AllZip (HasRunRounds rule) round_lanes round_run)
+    (recovered : List (CountedMeaning C)) (round_back : AllZip HasLeftRoundLane round_run recovered) where
+  rises : RisesFrom 0 (own_list started.opened)
+  rises = opening_rises work rule sessions clients.runners fresh lanes run started ran gone back
+
+  only : All (λ (p : Pair Event). p.entry.actor ≡ actors.Session 1) (own_list started.opened)
+  only = opening_only work rule sessions clients.runners fresh lanes run started ran gone back
+
+  pub clients_went : AreClients work (record { sessions = gone; recoverers = recovered })
+  clients_went = record {
+    runners = runners_gone work rule sessions clients.runners fresh lanes run started ran gone back;
+    recoverers = recoverers_gone work rule (own_list started.opened) rises only recoverers clients.recoverers fresh_recoverers round_lanes round_run wait round_ran recovered round_back;
+  }
+
+  pub client_clocks_went : (rules : ActorId → ℕ → ℕ → Bool) → HaveClientClocks rule rules work (record { sessions = sessions; recoverers = recoverers }) → HaveClientClocks rule rules work (record { sessions = gone; recoverers = recovered })
+  client_clocks_went rules have = record {
+    sessions = clocks_gone work rule sessions clients.runners fresh lanes run started ran gone back rules have.sessions;
+    recoverers = recoverer_clocks_gone work rule (own_list started.opened) rises only recoverers clients.recoverers fresh_recoverers round_lanes round_run wait round_ran recovered round_back rules have.recoverers;
+  }
+
+  pub ends_went : AreAtEnds (record { sessions = gone; recoverers = recovered })
+  ends_went = record {
+    sessions = over_gone work rule sessions clients.runners fresh lanes run started ran gone back;
+    recoverers = rounds_gone work rule (own_list started.opened) rises only recoverers clients.recoverers fresh_recoverers round_lanes round_run wait round_ran recovered round_back;
+  }
+
+  pub order_went : HaveGoneOnThreads work (record { sessions = gone; recoverers = recovered })
+  order_went =
+      order_gone work rule sessions clients.runners fresh lanes run started ran gone back recovered
+      (recoverers_continue work rule (own_list started.opened) rises only recoverers clients.recoverers fresh_recoverers round_lanes round_run wait round_ran recovered round_back)

@@ -2,6 +2,7 @@ ghost use Rattle.std.specs.Prelude.{◌≡◌, IfOk};
 ghost use Rattle.pc_scripted.specs.Scripted.{IsScripted};
 ghost use Rattle.pc_threads.specs.Lanes.{HasLeftLane, HasRunLane};
 
+use crate::runs::Runs;
 use pc_base::NoMemory;
 use pc_clock::Clock;
 use pc_history::Named;
@@ -37,19 +38,23 @@ impl<'a, N: Named<CommitWorld>, C: Clock + Drop, V: Wire + Drop, G: Gate> Lane<'
         }
     }
 
-    /// The session goes by itself to the end of its script.
-    pub(crate) fn run<R: Wait>(&mut self, rt: &R)
-        requires { IsScripted self.old.session }
-        ensures { HasRunLane C.rule self.old self.new }
-    {
-        self.ended = self.session.run_to_end(rt);
-    }
-
     /// The session again, where memory did not run out.
     pub(crate) fn finish(self) -> Result<Scripted<'a, N, C, V, G>, NoMemory>
         ensures { IfOk result (HasLeftLane self.entry) }
     {
         self.ended?;
         Ok(self.session)
+    }
+}
+
+impl<'a, N: Named<CommitWorld>, C: Clock + Drop, V: Wire + Drop, G: Gate> Runs
+    for Lane<'a, N, C, V, G> {
+    ghost may_run = { λ l. IsScripted l.session };
+
+    ghost has_run = { HasRunLane C.rule };
+
+    /// The session goes by itself to the end of its script.
+    fn run<R: Wait>(&mut self, rt: &R) {
+        self.ended = self.session.run_to_end(rt);
     }
 }

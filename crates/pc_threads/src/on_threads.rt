@@ -1,26 +1,34 @@
 ghost use Rattle.std.specs.Prelude.{◌≡◌, ◌≤◌, ℕ, [], All, Bool, IfOk, length};
 ghost use Rattle.std.specs.List.{AllZip};
 ghost use Rattle.pc_base.specs.declared.actor.ActorId.{ActorId as Whose};
-ghost use Rattle.pc_runs.specs.Runners.{AreRunOut, AreRunners, HaveClocks};
+ghost use Rattle.pc_rounds.specs.Counted.{GoesInRounds, entries_made};
+ghost use Rattle.pc_runs.specs.Together.{AreAtEnds, AreClients, HaveClientClocks};
 ghost use Rattle.pc_scripted.specs.Scripted.{IsScripted, own_list};
-ghost use Rattle.pc_threads.specs.Lanes.{HasLeftLane, HasRunLane, HaveStarted, LeadsIn, StandsBehind, StandsBehindIn};
+ghost use Rattle.pc_threads.specs.Lanes.{HasLeftLane, HaveStarted, LeadsIn, StandsBehind, StandsBehindIn};
 ghost use Rattle.pc_threads.specs.OnThreads.{HaveGoneOnThreads};
+ghost use Rattle.pc_threads.specs.RoundLanes.{HasLeftRoundLane, HaveRunToEnds, WaitInLanes, WaitsBehind};
 
 use crate::lane::Lane;
+use crate::round_lane::RoundLane;
+use crate::runs::run_both;
 use pc_base::NoMemory;
 use pc_clock::Clock;
 use pc_history::Named;
 use pc_range::{CommitWorld, Gate};
+use pc_rounds::{Clients, CountedRecoverer};
 use pc_scripted::Scripted;
 use pc_wire::Wire;
 use pc_work::Workload;
 use std::marker::{Send, Sync};
 use std::sync::Wait;
-use std::thread;
 use std::thread::Threads;
 
-/// Brings the sessions of a workload to their ends: the first goes on by itself until its opening is over, then each other one is put behind
-/// that, and then all go to the ends of their scripts beside each other, each on a thread of its own.
+/// The lanes of the sessions, and those of the recoverers.
+type AllLanes<'a, N, C, V, G> = (Vec<Lane<'a, N, C, V, G>>, Vec<RoundLane<'a, N, C, V, G>>);
+
+/// Brings the sessions and recoverers of a workload to their ends: the first session goes on by itself until its opening is over, then each
+/// other one and each recoverer is put behind that, and then all sessions go to the ends of their scripts and all recoverers make their rounds
+/// beside each other, each on a thread of its own.
 pub fn go_on_threads<
     'a,
     N: Named<CommitWorld> + Send + Sync,
@@ -32,34 +40,94 @@ pub fn go_on_threads<
     rt: &R,
     work: &'a Workload,
     sessions: Vec<Scripted<'a, N, C, V, G>>,
-) -> Result<Vec<Scripted<'a, N, C, V, G>>, NoMemory>
-    requires runners { AreRunners work.now sessions.items }
+    recoverers: Vec<CountedRecoverer<'a, N, C, V, G>>,
+) -> Result<Clients<'a, N, C, V, G>, NoMemory>
+    requires clients { AreClients work.now (record { sessions = sessions.items; recoverers = recoverers.items }) }
     requires fresh { All (λ s. own_list s ≡ []) sessions.items }
+    requires fresh_recoverers { All (λ r. entries_made r ≡ []) recoverers.items }
     requires some_session { 1 ≤ length work.now.sessions }
-    ensures runners { IfOk result (λ gone. AreRunners work.now gone.items) }
-    ensures clocks { IfOk result (λ gone. (rules : Whose → ℕ → ℕ → Bool) → HaveClocks C.rule rules work.now sessions.entry.items → HaveClocks C.rule rules work.now gone.items) }
-    ensures over { IfOk result (λ gone. AreRunOut gone.items) }
-    ensures order { IfOk result (λ gone. HaveGoneOnThreads work.now gone.items) }
+    ensures clients { IfOk result (λ gone. AreClients work.now (record { sessions = gone.0.items; recoverers = gone.1.items })) }
+    ensures clocks { IfOk result (λ gone. (rules : Whose → ℕ → ℕ → Bool) → HaveClientClocks C.rule rules work.now (record { sessions = sessions.entry.items; recoverers = recoverers.entry.items }) → HaveClientClocks C.rule rules work.now (record { sessions = gone.0.items; recoverers = gone.1.items })) }
+    ensures over { IfOk result (λ gone. AreAtEnds (record { sessions = gone.0.items; recoverers = gone.1.items })) }
+    ensures order { IfOk result (λ gone. HaveGoneOnThreads work.now (record { sessions = gone.0.items; recoverers = gone.1.items })) }
 {
-    let mut lanes = start(rt, work.opening as usize, sessions)?;
-    run_all(rt, lanes.as_mut_slice());
-    take_back(lanes)
+    let lanes = start(rt, work.opening as usize, sessions, recoverers)?;
+    run_to_ends(rt, lanes.0, lanes.1)
 }
 
-/// The sessions in lanes of their own, once the first one has gone on by itself until so many items of its script are over.
+/// All sessions and recoverers go to their ends in their lanes, beside each other, and come out of them, where memory ran out in none.
+fn run_to_ends<
+    'a,
+    N: Named<CommitWorld> + Send + Sync,
+    C: Clock + Drop + Send,
+    V: Wire + Drop + Send,
+    G: Gate + Sync,
+    R: Wait + Threads + Sync,
+>(
+    rt: &R,
+    mut lanes: Vec<Lane<'a, N, C, V, G>>,
+    mut round_lanes: Vec<RoundLane<'a, N, C, V, G>>,
+) -> Result<Clients<'a, N, C, V, G>, NoMemory>
+    requires some { 1 ≤ length lanes.items }
+    requires scripted { All (λ l. IsScripted l.session) lanes.items }
+    requires counted { All (λ l. GoesInRounds l.recoverer) round_lanes.items }
+    ensures { IfOk result (λ gone. HaveRunToEnds C.rule lanes.entry.items round_lanes.entry.items gone.0.items gone.1.items) }
+{
+    run_both(rt, lanes.as_mut_slice(), round_lanes.as_mut_slice());
+    let sessions = take_back(lanes)?;
+    let recoverers = take_rounds_back(round_lanes)?;
+    Ok((sessions, recoverers))
+}
+
+/// The sessions and the recoverers in lanes of their own, once the first session has gone on by itself until so many items of its script are
+/// over.
 fn start<'a, N: Named<CommitWorld>, C: Clock + Drop, V: Wire + Drop, G: Gate, R: Wait>(
     rt: &R,
     opening: usize,
     mut sessions: Vec<Scripted<'a, N, C, V, G>>,
-) -> Result<Vec<Lane<'a, N, C, V, G>>, NoMemory>
+    recoverers: Vec<CountedRecoverer<'a, N, C, V, G>>,
+) -> Result<AllLanes<'a, N, C, V, G>, NoMemory>
     requires some { 1 ≤ length sessions.items }
     requires scripted { All IsScripted sessions.items }
-    ensures { IfOk result (λ lanes. HaveStarted C.rule opening sessions.entry.items lanes.items) }
+    requires counted { All GoesInRounds recoverers.items }
+    ensures { IfOk result (λ lanes. (started : HaveStarted C.rule opening sessions.entry.items lanes.0.items) × WaitInLanes (own_list started.opened) recoverers.entry.items lanes.1.items) }
 {
     let mut first = sessions.remove(0);
     first.open(rt, opening)?;
     let others = line_up(&mut first, sessions)?;
-    put_in_front(first, others)
+    let behind = line_up_rounds(&mut first, recoverers)?;
+    Ok((put_in_front(first, others)?, behind))
+}
+
+/// The recoverers in lanes of their own, each behind all that the first session made.
+fn line_up_rounds<'a, N: Named<CommitWorld>, C: Clock + Drop, V: Wire + Drop, G: Gate>(
+    first: &mut Scripted<'a, N, C, V, G>,
+    recoverers: Vec<CountedRecoverer<'a, N, C, V, G>>,
+) -> Result<Vec<RoundLane<'a, N, C, V, G>>, NoMemory>
+    requires { All GoesInRounds recoverers.items }
+    ensures follow { IfOk result (λ lanes. WaitInLanes (own_list first.old) recoverers.entry.items lanes.items) }
+    ensures same { first.new ≡ first.old }
+{
+    let mut lanes = Vec::new(*recoverers.allocator());
+    for recoverer in recoverers {
+        lanes.push(RoundLane::new(put_rounds_behind(first, recoverer)?))?;
+    }
+    Ok(lanes)
+}
+
+/// The recoverer, which knows from now on the last entry that the first session made.
+fn put_rounds_behind<'a, N: Named<CommitWorld>, C: Clock + Drop, V: Wire + Drop, G: Gate>(
+    first: &mut Scripted<'a, N, C, V, G>,
+    mut recoverer: CountedRecoverer<'a, N, C, V, G>,
+) -> Result<CountedRecoverer<'a, N, C, V, G>, NoMemory>
+    requires { GoesInRounds recoverer }
+    ensures behind { IfOk result (WaitsBehind (own_list first.old) recoverer.entry) }
+    ensures same { first.new ≡ first.old }
+{
+    if let Some(mark) = first.mark()? {
+        recoverer.follow(mark);
+    }
+    Ok(recoverer)
 }
 
 /// The lanes, with one more in front of them.
@@ -104,29 +172,6 @@ fn put_behind<'a, N: Named<CommitWorld>, C: Clock + Drop, V: Wire + Drop, G: Gat
     Ok(other)
 }
 
-/// All sessions go to the ends of their scripts, each on a thread of its own where one can be made.
-fn run_all<
-    'a,
-    N: Named<CommitWorld> + Send + Sync,
-    C: Clock + Drop + Send,
-    V: Wire + Drop + Send,
-    G: Gate + Sync,
-    R: Wait + Threads + Sync,
->(rt: &R, lanes: &mut [Lane<'a, N, C, V, G>])
-    requires some { 1 ≤ length lanes.old }
-    requires scripted { All (λ l. IsScripted l.session) lanes.old }
-    ensures { AllZip (HasRunLane C.rule) lanes.old lanes.new }
-{
-    let threads = lanes.len();
-    let run = |_: usize, lane: &mut Lane<'_, N, C, V, G>|
-        requires { IsScripted lane.old.session }
-        ensures { HasRunLane C.rule lane.old lane.new }
-    {
-        lane.run(rt);
-    };
-    thread::for_each_mut(rt, lanes, threads, &run);
-}
-
 /// The sessions out of their lanes again, in order, where memory ran out in none.
 fn take_back<'a, N: Named<CommitWorld>, C: Clock + Drop, V: Wire + Drop, G: Gate>(
     lanes: Vec<Lane<'a, N, C, V, G>>,
@@ -138,4 +183,17 @@ fn take_back<'a, N: Named<CommitWorld>, C: Clock + Drop, V: Wire + Drop, G: Gate
         sessions.push(lane.finish()?)?;
     }
     Ok(sessions)
+}
+
+/// The recoverers out of their lanes again, in order, where memory ran out in none.
+fn take_rounds_back<'a, N: Named<CommitWorld>, C: Clock + Drop, V: Wire + Drop, G: Gate>(
+    lanes: Vec<RoundLane<'a, N, C, V, G>>,
+) -> Result<Vec<CountedRecoverer<'a, N, C, V, G>>, NoMemory>
+    ensures { IfOk result (λ recoverers. AllZip HasLeftRoundLane lanes.entry.items recoverers.items) }
+{
+    let mut recoverers = Vec::new(*lanes.allocator());
+    for lane in lanes {
+        recoverers.push(lane.finish()?)?;
+    }
+    Ok(recoverers)
 }

@@ -72,7 +72,8 @@ fn print_both(
 {
     let mut out = Vec::new(alloc);
     let sessions = work.sessions.len() as u32;
-    print_journal(&work.splits, sessions, 0, entries, &mut out)?;
+    let recoverers = work.recoverers.len() as u32;
+    print_journal(&work.splits, sessions, recoverers, entries, &mut out)?;
     print_report(report, &mut out)?;
     Ok(out)
 }

@@ -22,7 +22,7 @@ use Rattle.pc_world.specs.Caused.{Evaluates}
 use Rattle.pc_world.specs.Local.{Head}
 use Rattle.pc_world.specs.Named.{is_send_of, names}
 use Rattle.pc_world.specs.Run.{IsRun, protocol, spends}
-use Rattle.pc_turns.specs.Laws.{ClosedIsServed, ServedIsEvaluatedOnce}
+use Rattle.pc_turns.specs.Laws.{ClosedIsServed, ServedIsEvaluatedOnce, UnspentIsNeverEvaluated}
 use Rattle.pc_turns.specs.Once.{evaluations_of, is_evaluation_of}
 
 module _ {X : Type 0} (f : X → Bool) where
@@ -100,7 +100,7 @@ pub closed_is_served : ClosedIsServed
 closed_is_served head history part place number p k closed at says given told of_it =
     let own_has : Contains (own (protocol head) part.id history) p = subst (λ ps. Contains ps p) (sym closed.list) (get_contains part.own place p at) in
     let there = own-contains (protocol head) part.id history p own_has in
-    let spent : spenders (protocol head) p.entry.step history ≤ slice_index part.given place = closed.uses place p at in record {
+    let spent : spenders (protocol head) p.entry.step history ≤ slice_index part.given place = (let uses = closed.uses place p at in omega arith) in record {
       send = p.entry;
       sent = there.0;
       whose = there.1;
@@ -110,3 +110,12 @@ closed_is_served head history part place number p k closed at says given told of
       evaluated = stands-contains (protocol head) history k (All-contains (λ (l : KnownEntry Event). Stands (protocol head) history l) part.known k closed.stand told);
       of_it = of_it;
     }
+
+pub unspent_is_never_evaluated : UnspentIsNeverEvaluated
+unspent_is_never_evaluated head history part place number p run closed at says kept =
+    let own_has : Contains (own (protocol head) part.id history) p = subst (λ ps. Contains ps p) (sym closed.list) (get_contains part.own place p at) in
+    let there = own-contains (protocol head) part.id history p own_has in
+    let most : evaluations_of p.entry.actor number history ≤ spenders (protocol head) p.entry.step history = at-most head history run p.entry number there.0 says in
+    let uses = closed.uses place p at in
+    let same : evaluations_of p.entry.actor number history ≡ evaluations_of part.id number history = ap (λ id. evaluations_of id number history) there.1 in
+    omega arith

@@ -71,8 +71,8 @@ pub marks_keep_order : MarksKeepOrder
 marks_keep_order order part known rises more mark above = rises_join 0 0 order part rises more (λ y c. omega arith) (after_mark order part known rises mark above)
 
 pub turns_are_kept : TurnsAreKept
-turns_are_kept head history parts order next ended opened stated stored makes goes =
-    subst (GoInTurns next ended opened stated head.sessions) (sym (clients_keep_order head history parts order stored makes)) goes
+turns_are_kept head history parts order next ended recoverer_ended rounds opened stated stored makes goes =
+    subst (GoInTurns next ended recoverer_ended rounds opened stated head.sessions head.recoverers) (sym (clients_keep_order head history parts order stored makes)) goes
 
 -- choosing from what was chosen already
 module _ (p q : Pair Event → Bool) (within : (x : Pair Event) → p x ≡ true → q x ≡ true) where

@@ -1,23 +1,23 @@
--- Turns add up to the order of the sessions' entries.
-use Rattle.std.proofs.Common.{◌≡◌, ◌≢◌, ℕ, zero, suc, ◌+◌, ◌-◌, ◌<◌, ◌≤◌, ◌⊎◌, inl, inr, Bool, true, false, cond, List, [], ◌∷◌, ◌++◌, Contains, All, filter, length, Option, Some, slice_get, slice_set, refl, sym, ap, subst, ◌∙◌, arith}
+-- Turns add up to the order of the clients' entries.
+use Rattle.std.proofs.Common.{◌≡◌, ◌≢◌, ℕ, zero, suc, ◌+◌, ◌-◌, ◌<◌, ◌≤◌, ◌⊎◌, inl, inr, Bool, true, false, cond, List, [], ◌∷◌, ◌++◌, Contains, All, filter, length, Some, slice_get, slice_set, refl, sym, ap, subst, ◌∙◌, arith}
+use Rattle.std.proofs.lemmas.Bool.{false≢true, le-leb, lt-leb}
 use Rattle.std.proofs.lemmas.List.{append-nil}
 use Rattle.std.proofs.lemmas.List.Elements.{All-append, All-contains, All-weaker, filter-append}
 use Rattle.std.proofs.lemmas.Option.{slice_get_within}
 use Rattle.pc_base.specs.declared.actor.ActorId.{ActorId}
 use Rattle.pc_base.specs.declared.actor.ActorId.TheVariants.{Range, Recoverer, Session}
-use Rattle.pc_base.specs.declared.entry.Entry.{Entry}
 use Rattle.pc_history.proofs.Ids.{same_id-differ, same_id-equal}
 use Rattle.pc_history.specs.Closed.{ids_of}
 use Rattle.pc_history.specs.declared.pair.Pair.{Pair}
 use Rattle.pc_history.specs.declared.view.Part.{Part}
 use Rattle.pc_history.specs.Own.{same_id}
-use Rattle.pc_lists.proofs.Lists.{all_from_contains, contains_head, contains_tail, length_set}
+use Rattle.pc_lists.proofs.Lists.{contains_head, contains_tail, length_set}
 use Rattle.pc_proto.specs.declared.event.Event.{Event}
 use Rattle.pc_turns.proofs.Moves.{marks_keep_order}
-use Rattle.pc_turns.specs.Clients.{RisesFrom, is_client, share_of}
+use Rattle.pc_turns.specs.Clients.{is_client, share_of}
+use Rattle.pc_world.specs.Local.{Head}
 use Rattle.pc_turns.specs.Laws.{SharesMakeUp, TurnsAddUp}
-use Rattle.pc_turns.specs.Order.{entries_by}
-use Rattle.pc_turns.specs.Shares.{AreHandedIn, AreShares, IsPartAt, IsSessionOf}
+use Rattle.pc_turns.specs.Shares.{AreHandedIn, IsClientOf, IsPartAt, client_at}
 
 module _ {X : Type 0} where
   -- what stands at a place, where that place or another was written
@@ -56,71 +56,126 @@ same-or-other (suc i) (suc j) = elim (same-or-other i j) [
   | inr differ ↦ inr (λ e. differ (omega arith))
 ]
 
-module _ (order part : List (Pair Event)) (index : ℕ) (whose : All (λ (p : Pair Event). p.entry.actor ≡ Session (index + 1)) part) where
-  -- the session's share grows by its part
-  mine-grows : entries_by (index + 1) (order ++ part) ≡ entries_by (index + 1) order ++ part
-  mine-grows =
-      filter-append (λ (p : Pair Event). same_id (Session (index + 1)) p.entry.actor) order part
-      ∙ ap (λ ps. entries_by (index + 1) order ++ ps)
-      (chosen-all (λ (p : Pair Event). same_id (Session (index + 1)) p.entry.actor) part (λ p c. same_id-equal (Session (index + 1)) p.entry.actor (sym (All-contains (λ (q : Pair Event). q.entry.actor ≡ Session (index + 1)) part p whose c))))
+module _ (head : Head) where
+  -- the sessions stand first
+  pub session_at : (index : ℕ) → index < head.sessions → client_at head index ≡ Session (index + 1)
+  session_at index lt = ap (λ b. cond b (Recoverer (index - head.sessions + 1)) (Session (index + 1))) (lt-leb head.sessions index lt)
+
+  -- and the recoverers behind them
+  behind : (index : ℕ) → head.sessions ≤ index → client_at head index ≡ Recoverer (index - head.sessions + 1)
+  behind index le = ap (λ b. cond b (Recoverer (index - head.sessions + 1)) (Session (index + 1))) (le-leb head.sessions index le)
+
+  pub recoverer_at : (index : ℕ) → client_at head (head.sessions + index) ≡ Recoverer (index + 1)
+  recoverer_at index = behind (head.sessions + index) (omega arith) ∙ (let same : head.sessions + index - head.sessions + 1 ≡ index + 1 = omega arith in ap Recoverer same)
+
+  -- which of the two stands there
+  pub where_at : (index : ℕ) → (index < head.sessions) ⊎ (head.sessions ≤ index)
+  where_at index = le_or index head.sessions
+    where
+      le_or : (i n : ℕ) → (i < n) ⊎ (n ≤ i)
+      le_or i zero = inr (omega arith)
+      le_or zero (suc n) = inl (omega arith)
+      le_or (suc i) (suc n) = elim (le_or i n) [
+        | inl lt ↦ inl (omega arith)
+        | inr le ↦ inr (omega arith)
+      ]
+
+  session_same : (i j : ℕ) → Session (i + 1) ≡ Session (j + 1) → i ≡ j
+  session_same i j e = let s : i + 1 ≡ j + 1 = cc in omega arith
+
+  recoverer_same : (i j : ℕ) → Recoverer i ≡ Recoverer j → i ≡ j
+  recoverer_same i j e = cc
+
+  both-kinds : (i j : ℕ) → Session i ≡ Recoverer j → ⊥
+  both-kinds i j e = cc
+
+  -- no client stands at two places
+  pub client_once : (i j : ℕ) → client_at head i ≡ client_at head j → i ≡ j
+  client_once i j e = by (where_at i) (where_at j)
+    where
+      by : (i < head.sessions) ⊎ (head.sessions ≤ i) → (j < head.sessions) ⊎ (head.sessions ≤ j) → i ≡ j
+      by (inl a) (inl b) = session_same i j (sym (session_at i a) ∙ e ∙ session_at j b)
+      by (inl a) (inr b) = absurd (both-kinds (i + 1) (j - head.sessions + 1) (sym (session_at i a) ∙ e ∙ behind j b))
+      by (inr a) (inl b) = absurd (both-kinds (j + 1) (i - head.sessions + 1) (sym (session_at j b) ∙ sym e ∙ behind i a))
+      by (inr a) (inr b) =
+          let s : i - head.sessions + 1 ≡ j - head.sessions + 1 = recoverer_same (i - head.sessions + 1) (j - head.sessions + 1) (sym (behind i a) ∙ e ∙ behind j b) in omega arith
+
+  -- a client stands at each place
+  pub client_there : (index : ℕ) → index < head.sessions + head.recoverers → IsClientOf head (client_at head index)
+  client_there index lt = by (where_at index)
+    where
+      by : (index < head.sessions) ⊎ (head.sessions ≤ index) → IsClientOf head (client_at head index)
+      by (inl a) = subst (IsClientOf head) (sym (session_at index a)) ((omega arith, omega arith), refl)
+      by (inr a) = subst (IsClientOf head) (sym (behind index a)) ((omega arith, omega arith), refl)
+
+  -- and each client at a place
+  pub client_place : (id : ActorId) → IsClientOf head id → (index : ℕ) × (index < head.sessions + head.recoverers) × (client_at head index ≡ id)
+  client_place (Session number) h =
+      let from : 1 ≤ number = h.0.0 in
+      let to : number ≤ head.sessions = h.0.1 in
+      let same : (number - 1) + 1 ≡ number = omega arith in
+      (number - 1, omega arith, session_at (number - 1) (omega arith) ∙ ap Session same)
+  client_place (Recoverer number) h =
+      let from : 1 ≤ number = h.0.0 in
+      let to : number ≤ head.recoverers = h.0.1 in
+      let same : (number - 1) + 1 ≡ number = omega arith in
+      (head.sessions + (number - 1), omega arith, recoverer_at (number - 1) ∙ ap Recoverer same)
+  client_place (Range range) h = absurd (false≢true h.1)
+
+module _ (order part : List (Pair Event)) (id : ActorId) (whose : All (λ (p : Pair Event). p.entry.actor ≡ id) part) where
+  -- the client's share grows by its part
+  pub share_grows : share_of id (order ++ part) ≡ share_of id order ++ part
+  share_grows =
+      filter-append (λ (p : Pair Event). same_id id p.entry.actor) order part
+      ∙ ap (λ ps. share_of id order ++ ps)
+      (chosen-all (λ (p : Pair Event). same_id id p.entry.actor) part (λ p c. same_id-equal id p.entry.actor (sym (All-contains (λ (q : Pair Event). q.entry.actor ≡ id) part p whose c))))
 
   -- and that of another does not
-  others-stay : (other : ℕ) → other ≢ index → entries_by (other + 1) (order ++ part) ≡ entries_by (other + 1) order
+  others-stay : (other : ActorId) → other ≢ id → share_of other (order ++ part) ≡ share_of other order
   others-stay other differ =
-      let none : entries_by (other + 1) part ≡ [] =
-      chosen-none (λ (p : Pair Event). same_id (Session (other + 1)) p.entry.actor) part (λ p c.
-      (let actor : p.entry.actor ≡ Session (index + 1) = All-contains (λ (q : Pair Event). q.entry.actor ≡ Session (index + 1)) part p whose c in
-      same_id-differ (Session (other + 1)) p.entry.actor (λ e. differ (same-number other index (e ∙ actor))))) in
-      filter-append (λ (p : Pair Event). same_id (Session (other + 1)) p.entry.actor) order part ∙ ap (λ ps. entries_by (other + 1) order ++ ps) none ∙ append-nil (entries_by (other + 1) order)
-    where
-      same-number : (i j : ℕ) → Session (i + 1) ≡ Session (j + 1) → i ≡ j
-      same-number i j e = let s : i + 1 ≡ j + 1 = cc in omega arith
-
-session-of : (count number : ℕ) (id : ActorId) → id ≡ Session number → 1 ≤ number → number ≤ count → IsSessionOf count id
-session-of count number id is from to = subst (IsSessionOf count) (sym is) (from, to)
+      let none : share_of other part ≡ [] =
+      chosen-none (λ (p : Pair Event). same_id other p.entry.actor) part (λ p c.
+      (let actor : p.entry.actor ≡ id = All-contains (λ (q : Pair Event). q.entry.actor ≡ id) part p whose c in
+      same_id-differ other p.entry.actor (λ e. differ (e ∙ actor)))) in
+      filter-append (λ (p : Pair Event). same_id other p.entry.actor) order part ∙ ap (λ ps. share_of other order ++ ps) none ∙ append-nil (share_of other order)
 
 pub turns_add_up : TurnsAddUp
-turns_add_up lists order list part known index shares at whose rises mark above =
+turns_add_up head lists order list part known index shares at whose rises mark above =
     let within : index < length lists = slice_get_within lists index list at in
-    let part_only : All (λ (p : Pair Event). IsSessionOf (length lists) p.entry.actor) part =
-    All-weaker (λ (p : Pair Event). p.entry.actor ≡ Session (index + 1)) (λ (p : Pair Event). IsSessionOf (length lists) p.entry.actor)
-    (λ p is. session-of (length lists) (index + 1) p.entry.actor is (omega arith) (omega arith)) part whose in
-    let long : length (slice_set lists index (list ++ part)) ≡ length lists = length_set lists index (list ++ part) in
+    let many = shares.many in
+    let there : IsClientOf head (client_at head index) = client_there head index (omega arith) in
+    let part_only : All (λ (p : Pair Event). IsClientOf head p.entry.actor) part =
+    All-weaker (λ (p : Pair Event). p.entry.actor ≡ client_at head index) (λ (p : Pair Event). IsClientOf head p.entry.actor)
+    (λ p is. subst (IsClientOf head) (sym is) there) part whose in
     record {
+      many = length_set lists index (list ++ part) ∙ many;
       rises = marks_keep_order order part known shares.rises rises mark above;
       each = λ other own got. each-so other own got (same-or-other other index);
-      only = subst (λ n. All (λ (p : Pair Event). IsSessionOf n p.entry.actor) (order ++ part)) (sym long) (All-append (λ (p : Pair Event). IsSessionOf (length lists) p.entry.actor) order part shares.only part_only);
+      only = All-append (λ (p : Pair Event). IsClientOf head p.entry.actor) order part shares.only part_only;
     }
   where
-    each-so : (other : ℕ) (own : List (Pair Event)) → slice_get (slice_set lists index (list ++ part)) other ≡ Some own → (other ≡ index) ⊎ (other ≢ index) → own ≡ entries_by (other + 1) (order ++ part)
+    each-so : (other : ℕ) (own : List (Pair Event)) → slice_get (slice_set lists index (list ++ part)) other ≡ Some own → (other ≡ index) ⊎ (other ≢ index) → own ≡ share_of (client_at head other) (order ++ part)
     each-so other own got (inl same) =
         let here : own ≡ list ++ part = read-back lists index (list ++ part) own (subst (λ i. slice_get (slice_set lists index (list ++ part)) i ≡ Some own) same got) in
-        let grown : own ≡ entries_by (index + 1) (order ++ part) = here ∙ (ap (λ ps. ps ++ part) (shares.each index list at) ∙ sym (mine-grows order part index whose)) in
-        subst (λ i. own ≡ entries_by (i + 1) (order ++ part)) (sym same) grown
+        let grown : own ≡ share_of (client_at head index) (order ++ part) = here ∙ (ap (λ ps. ps ++ part) (shares.each index list at) ∙ sym (share_grows order part (client_at head index) whose)) in
+        subst (λ i. own ≡ share_of (client_at head i) (order ++ part)) (sym same) grown
     each-so other own got (inr differ) =
-        shares.each other own (read-other lists index other (list ++ part) own differ got) ∙ sym (others-stay order part index whose other differ)
+        shares.each other own (read-other lists index other (list ++ part) own differ got)
+        ∙ sym (others-stay order part (client_at head index) whose (client_at head other) (λ e. differ (client_once head other index e)))
 
-session-client : (count : ℕ) (id : ActorId) → IsSessionOf count id → is_client id ≡ true
-session-client count (Session number) h = refl
-session-client count (Range range) h = absurd h
-session-client count (Recoverer number) h = absurd h
-
-session-there : (lists : List (List (Pair Event))) (parts : List (Part Event)) → AreHandedIn lists parts → (id : ActorId) → IsSessionOf (length lists) id → Contains (ids_of parts) id
-session-there lists parts handed (Session number) h =
-    let from : 1 ≤ number = h.0 in
-    let to : number ≤ length lists = h.1 in
-    let same : (number - 1) + 1 ≡ number = omega arith in
-    subst (λ n. Contains (ids_of parts) (Session n)) same (handed.all (number - 1) (omega arith))
-session-there lists parts handed (Range range) h = absurd h
-session-there lists parts handed (Recoverer number) h = absurd h
+client-has-part : (head : Head) (lists : List (List (Pair Event))) (parts : List (Part Event)) → length lists ≡ head.sessions + head.recoverers → AreHandedIn head lists parts → (id : ActorId) → IsClientOf head id → Contains (ids_of parts) id
+client-has-part head lists parts many handed id h =
+    let place = client_place head id h in
+    let lt : place.0 < head.sessions + head.recoverers = place.1 in
+    subst (Contains (ids_of parts)) place.2 (handed.all place.0 (omega arith))
 
 pub shares_make_up : SharesMakeUp
-shares_make_up lists order parts shares handed = record {
+shares_make_up head lists order parts shares handed = record {
   is_order = record {
     rises = shares.rises;
-    clients = All-weaker (λ (p : Pair Event). IsSessionOf (length lists) p.entry.actor) (λ (p : Pair Event). is_client p.entry.actor ≡ true) (λ p h. session-client (length lists) p.entry.actor h) order shares.only;
-    theirs = All-weaker (λ (p : Pair Event). IsSessionOf (length lists) p.entry.actor) (λ (p : Pair Event). Contains (ids_of parts) p.entry.actor) (λ p h. session-there lists parts handed p.entry.actor h) order shares.only;
+    clients = All-weaker (λ (p : Pair Event). IsClientOf head p.entry.actor) (λ (p : Pair Event). is_client p.entry.actor ≡ true) (λ p h. h.1) order shares.only;
+    theirs = All-weaker (λ (p : Pair Event). IsClientOf head p.entry.actor) (λ (p : Pair Event). Contains (ids_of parts) p.entry.actor) (λ p h. client-has-part head lists parts shares.many handed p.entry.actor h) order shares.only;
   };
-  each = All-weaker (λ (part : Part Event). is_client part.id ≡ true → IsPartAt lists part) (λ (part : Part Event). is_client part.id ≡ true → part.own ≡ share_of part.id order)
-      (λ part h client. let there : IsPartAt lists part = h client in shares.each there.index part.own there.stored ∙ ap (λ id. share_of id order) (sym there.whose)) parts handed.theirs;
+  each = All-weaker (λ (part : Part Event). is_client part.id ≡ true → IsPartAt head lists part) (λ (part : Part Event). is_client part.id ≡ true → part.own ≡ share_of part.id order)
+      (λ part h client. let there : IsPartAt head lists part = h client in shares.each there.index part.own there.stored ∙ ap (λ id. share_of id order) (sym there.whose)) parts handed.theirs;
 }

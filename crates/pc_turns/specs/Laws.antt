@@ -1,5 +1,5 @@
 -- Laws of the one history that sessions on threads, or in turns, leave.
-use Rattle.std.specs.Prelude.{◌≡◌, ℕ, ◌+◌, ◌≤◌, ◌<◌, Bool, true, Option, Some, List, [], ◌∷◌, ◌++◌, All, Contains, slice_get, slice_index, slice_set}
+use Rattle.std.specs.Prelude.{◌≡◌, ℕ, ◌≤◌, ◌<◌, Bool, true, Option, Some, List, [], ◌∷◌, ◌++◌, All, Contains, slice_get, slice_index, slice_set}
 use Rattle.pc_base.specs.declared.actor.ActorId.{ActorId}
 use Rattle.pc_base.specs.declared.actor.ActorId.TheVariants.{Session}
 use Rattle.pc_base.specs.declared.entry.Entry.{Entry}
@@ -7,6 +7,7 @@ use Rattle.pc_history.specs.Closed.{IsClosedPart}
 use Rattle.pc_history.specs.declared.pair.Pair.{Pair}
 use Rattle.pc_history.specs.declared.view.Known.{Known as KnownEntry}
 use Rattle.pc_history.specs.declared.view.Part.{Part}
+use Rattle.pc_history.specs.Parts.{uses_of}
 use Rattle.pc_proto.specs.declared.call.Call.{Call}
 use Rattle.pc_proto.specs.declared.event.Event.{Event}
 use Rattle.pc_world.specs.Caused.{Evaluates}
@@ -16,7 +17,7 @@ use Rattle.pc_world.specs.Run.{IsRun, protocol}
 use Rattle.pc_turns.specs.Clients.{BeginsEach, IsAfterAll, IsStoredBy, MakesUpEach, RisesFrom, client_pairs}
 use Rattle.pc_turns.specs.Once.{IsServed, evaluations_of}
 use Rattle.pc_turns.specs.Order.{GoInTurns, GoOnThreads, GoesByItself, is_at_end}
-use Rattle.pc_turns.specs.Shares.{AreHandedIn, AreShares}
+use Rattle.pc_turns.specs.Shares.{AreHandedIn, AreShares, client_at}
 use Rattle.pc_work.specs.declared.turn.Turn.{Turn}
 
 -- Where each client stored just its share of entries whose steps rise, the history has the clients' entries in that order.
@@ -58,20 +59,20 @@ MarksKeepOrder =
     (order part : List (Pair Event)) (known : List (Entry Event))
     → RisesFrom 0 order → RisesFrom 0 part → HasMark order known → AreAboveKnown known part → RisesFrom 0 (order ++ part)
 
--- One more turn: where the session of this index took the mark of the last entry and made these entries, all own lists are their sessions'
+-- One more turn: where the client of this index took the mark of the last entry and made these entries, all own lists are their clients'
 -- shares still.
 abbrev pub TurnsAddUp : Type 0
 TurnsAddUp =
-    (lists : List (List (Pair Event))) (order list part : List (Pair Event)) (known : List (Entry Event)) (index : ℕ)
-    → AreShares lists order → slice_get lists index ≡ Some list → All (λ p. p.entry.actor ≡ Session (index + 1)) part
+    (head : Head) (lists : List (List (Pair Event))) (order list part : List (Pair Event)) (known : List (Entry Event)) (index : ℕ)
+    → AreShares head lists order → slice_get lists index ≡ Some list → All (λ p. p.entry.actor ≡ client_at head index) part
     → RisesFrom 0 part → HasMark order known → AreAboveKnown known part
-    → AreShares (slice_set lists index (list ++ part)) (order ++ part)
+    → AreShares head (slice_set lists index (list ++ part)) (order ++ part)
 
--- Own lists that are the sessions' shares make up what the clients stored, once they were handed in.
+-- Own lists that are the clients' shares make up what the clients stored, once they were handed in.
 abbrev pub SharesMakeUp : Type 0
 SharesMakeUp =
-    (lists : List (List (Pair Event))) (order : List (Pair Event)) (parts : List (Part Event))
-    → AreShares lists order → AreHandedIn lists parts → MakesUpEach parts order
+    (head : Head) (lists : List (List (Pair Event))) (order : List (Pair Event)) (parts : List (Part Event))
+    → AreShares head lists order → AreHandedIn head lists parts → MakesUpEach parts order
 
 -- A message of an actor that was handed in is served, where it gave one use of its sending at most and was told of an evaluation.
 abbrev pub ClosedIsServed : Type 0
@@ -81,16 +82,23 @@ ClosedIsServed =
     → slice_index part.given place ≤ 1 → Contains part.known k → Evaluates part.id number k.entry.event
     → IsServed head history part.id number
 
+-- A message of an actor that was handed in is never evaluated, where the actor has all uses itself that it gave of its sending.
+abbrev pub UnspentIsNeverEvaluated : Type 0
+UnspentIsNeverEvaluated =
+    (head : Head) (history : List (Entry Event)) (part : Part Event) (place number : ℕ) (p : Pair Event)
+    → IsRun head history → IsClosedPart (protocol head) history part → slice_get part.own place ≡ Some p → is_send_of number p.entry.event ≡ true
+    → slice_index part.given place ≤ uses_of p.entry.step part.known → evaluations_of part.id number history ≡ 0
+
 -- Where the clients stored entries that go in stated turns, the history goes in those turns.
 abbrev pub TurnsAreKept : Type 0
 TurnsAreKept =
     (head : Head) (history : List (Entry Event)) (parts : List (Part Event)) (order : List (Pair Event))
-    (next : ℕ → List (Pair Event) → Option Call) (ended opened : List (Pair Event) → Bool) (stated : List Turn)
-    → IsStoredBy head history parts → MakesUpEach parts order → GoInTurns next ended opened stated head.sessions order
-    → GoInTurns next ended opened stated head.sessions (client_pairs head history)
+    (next : ℕ → List (Pair Event) → Option Call) (ended recoverer_ended : ℕ → List (Pair Event) → Bool) (rounds : ℕ → ℕ) (opened : List (Pair Event) → Bool) (stated : List Turn)
+    → IsStoredBy head history parts → MakesUpEach parts order → GoInTurns next ended recoverer_ended rounds opened stated head.sessions head.recoverers order
+    → GoInTurns next ended recoverer_ended rounds opened stated head.sessions head.recoverers (client_pairs head history)
 
 -- The session has a part, and its entries are those of a session that goes by itself to its end.
-abbrev pub HasGoneAlone : (ℕ → List (Pair Event) → Option Call) → (List (Pair Event) → Bool) → List (Part Event) → ℕ → Type 0
+abbrev pub HasGoneAlone : (ℕ → List (Pair Event) → Option Call) → (ℕ → List (Pair Event) → Bool) → List (Part Event) → ℕ → Type 0
 HasGoneAlone next ended parts number =
     (part : Part Event) × Contains parts part × (part.id ≡ Session number) × GoesByItself next ended number (is_at_end next number) [] part.own
 
@@ -98,7 +106,7 @@ HasGoneAlone next ended parts number =
 abbrev pub ThreadsGoOn : Type 0
 ThreadsGoOn =
     (head : Head) (history : List (Entry Event)) (parts : List (Part Event)) (opening : List (Pair Event))
-    (next : ℕ → List (Pair Event) → Option Call) (ended opened : List (Pair Event) → Bool)
+    (next : ℕ → List (Pair Event) → Option Call) (ended : ℕ → List (Pair Event) → Bool) (opened : List (Pair Event) → Bool)
     → IsStoredBy head history parts → BeginsEach parts opening → GoesByItself next ended 1 opened [] opening
     → ((number : ℕ) → 1 ≤ number → number ≤ head.sessions → HasGoneAlone next ended parts number)
     → GoOnThreads next ended opened head.sessions (client_pairs head history)

@@ -1,7 +1,7 @@
 //! Laws of how sessions and recoverers, in turns or on threads, make one history: their own lists, put together by the steps.
 #![tactic(auto)]
 
-ghost use Rattle.pc_turns.specs.Laws.{BeginningsComeFirst, ClientsKeepOrder, ClosedIsServed, MarksKeepOrder, MarksPutAfter, ServedIsEvaluatedOnce, SharesMakeUp, ThreadsGoOn, TurnsAddUp, TurnsAreKept};
+ghost use Rattle.pc_turns.specs.Laws.{BeginningsComeFirst, ClientsKeepOrder, ClosedIsServed, MarksKeepOrder, MarksPutAfter, ServedIsEvaluatedOnce, SharesMakeUp, ThreadsGoOn, TurnsAddUp, TurnsAreKept, UnspentIsNeverEvaluated};
 
 /// A law: where each client stored just its share of entries whose steps rise, the history has the clients' entries in that order.
 pub fn clients_keep_order()
@@ -23,6 +23,11 @@ pub fn closed_is_served()
     ensures { ClosedIsServed }
 {}
 
+/// A law: a message of an actor that was handed in is never evaluated, where the actor has all uses itself that it gave of its sending.
+pub fn unspent_is_never_evaluated()
+    ensures { UnspentIsNeverEvaluated }
+{}
+
 /// A law: what an actor makes after it took a mark of the last of some entries whose steps rise comes after all of them.
 pub fn marks_put_after()
     ensures { MarksPutAfter }
@@ -33,12 +38,12 @@ pub fn marks_keep_order()
     ensures { MarksKeepOrder }
 {}
 
-/// A law: where one more session took the mark of the last entry and made its entries, all own lists are their sessions' shares still.
+/// A law: where one more client took the mark of the last entry and made its entries, all own lists are their clients' shares still.
 pub fn turns_add_up()
     ensures { TurnsAddUp }
 {}
 
-/// A law: own lists that are the sessions' shares make up what the clients stored, once they were handed in.
+/// A law: own lists that are the clients' shares make up what the clients stored, once they were handed in.
 pub fn shares_make_up()
     ensures { SharesMakeUp }
 {}

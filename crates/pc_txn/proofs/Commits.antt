@@ -18,6 +18,8 @@ use Rattle.pc_reads.specs.ReadsStanding.{TxnReadsStand}
 use Rattle.pc_txn.proofs.Keeping.{each_commit-more}
 use Rattle.pc_txn.proofs.Laying.{same_none}
 use Rattle.pc_txn.proofs.Same.{if_true}
+use Rattle.pc_follows.specs.Heartbeats.{last_shown}
+use Rattle.pc_txn.proofs.Shown.{shown-one}
 use Rattle.pc_txn.proofs.Writes.{all_proved-more}
 use Rattle.pc_txn.specs.declared.txn.OpenTxn.{OpenTxn}
 use Rattle.pc_txn.specs.Opened.{opened_as, own_commit, reading_on, risen_above}
@@ -43,9 +45,9 @@ sent-commit t anchor behind =
     let top : max t.read_ts t.write_ts ≡ t.write_ts = omega arith in
     ap F (if_true (same_txn t.id t.id) (max t.read_ts t.write_ts) t.read_ts (same_txn-self t.id) ∙ top)
 
-module _ (k now : Known) (cause : Why) (spans : List Span) (t : Txn) (anchor : List ℕ) (number range : ℕ) where
+module _ (k now : Known) (shown : ℕ) (cause : Why) (spans : List Span) (t : Txn) (anchor : List ℕ) (number range : ℕ) where
   abbrev x0 : OpenTxn
-  x0 = opened_as cause spans None t
+  x0 = opened_as shown cause spans None t
 
   abbrev m0 : Sent
   m0 = record { number = number; range = range; request = commit_request (commit_now t anchor) }
@@ -78,6 +80,7 @@ module _ (k now : Known) (cause : Why) (spans : List Span) (t : Txn) (anchor : L
           (subst (λ ms. EachCommit t.id ms (IsOutOrRefused (Some c0) k.heard)) (sym more.sent)
           (All-push (λ m. OnCommit t.id (IsOutOrRefused (Some c0) k.heard) m.request) k.sent m0 others (λ same. inl refl)));
       views = subst (λ hs. All (IsPendingOf t) hs) (sym heard-same) st.views;
+      shown = st.shown ∙ sym (ap (last_shown t) more.sent ∙ shown-one t k.sent m0 refl);
       puts =
           subst (λ ms. All (λ m. PutsUpTo t (last_seq_of t.writes) m.request) ms) (sym more.sent)
           (All-push (λ m. PutsUpTo t (last_seq_of t.writes) m.request) k.sent m0 st.puts (λ epoch seq put. absurd cc));
@@ -96,9 +99,9 @@ pub commit_sent : (k now : Known) (t : Txn) (x : OpenTxn) (anchor : List ℕ) (n
 commit_sent k now t x anchor number range st none anchored good more =
     let P : OpenTxn → Type 0 = λ x.
     TxnStands k None t x → HasMovedOn k now (record { number = number; range = range; request = own_commit x anchor } ∷ []) [] → TxnStands now (Some (commit_now t anchor)) (txn_sent (own_commit x anchor) t) (reading_on x) in
-    let at : P (opened_as x.cause x.reads.spans None t) = λ st more.
-    subst (λ t2. TxnStands now (Some (commit_now t anchor)) t2 (reading_on (opened_as x.cause x.reads.spans None t))) (sym (sent-commit t anchor st.behind))
-    (committing_by k now x.cause x.reads.spans t anchor number range st anchored good more) in
+    let at : P (opened_as x.shown x.cause x.reads.spans None t) = λ st more.
+    subst (λ t2. TxnStands now (Some (commit_now t anchor)) t2 (reading_on (opened_as x.shown x.cause x.reads.spans None t))) (sym (sent-commit t anchor st.behind))
+    (committing_by k now x.shown x.cause x.reads.spans t anchor number range st anchored good more) in
     subst P (sym (same_none k None t x st none)) at st more
 
 module _ (k now : Known) (t : Txn) (x : OpenTxn) (c : SentCommit) (epoch recorded : ℕ) (h : Heard) (st : TxnStands k (Some c) t x) (none : x.in_flight ≡ None) (whose : c.meta.id ≡ t.id) (anchored : t.anchor ≡ Some c.meta.anchor)
@@ -142,6 +145,7 @@ module _ (k now : Known) (t : Txn) (x : OpenTxn) (c : SentCommit) (epoch recorde
           anchored = ap subject_anchor asked ∙ sym anchored;
           pending = subst ShowsPending (sym told) tt;
         }));
+    shown = st.shown ∙ sym (ap (last_shown t) (more.sent ∙ append-nil k.sent));
     puts = subst (λ ms. All (λ m. PutsUpTo t (last_seq_of t.writes) m.request) ms) (sym (more.sent ∙ append-nil k.sent)) st.puts;
     put_heard =
         let P : Heard → Type 0 = λ h. PutsUpTo t (last_seq_of t.writes) h.request in

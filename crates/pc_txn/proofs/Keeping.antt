@@ -1,5 +1,5 @@
 -- What leaves the open transaction as it is.
-use Rattle.std.proofs.Common.{◌≡◌, ℕ, true, inl, inr, List, ◌++◌, Option, None, sym, subst, arith, All, Any, IsTrue, Some, refl}
+use Rattle.std.proofs.Common.{◌≡◌, ℕ, true, inl, inr, List, ◌++◌, Option, None, sym, ap, ◌∙◌, subst, arith, All, Any, IsTrue, Some, refl}
 use Rattle.std.proofs.lemmas.List.Elements.{All-append, All-weaker}
 use Rattle.pc_base.specs.declared.transaction.TxnId.{TxnId}
 use Rattle.pc_lists.proofs.Anywhere.{any_kept}
@@ -8,6 +8,8 @@ use Rattle.pc_proto.specs.declared.request.Request.TheVariants as requests
 use Rattle.pc_proto.specs.Requests.{is_put_of}
 use Rattle.pc_reads.proofs.Goods.{stand_on}
 use Rattle.pc_reads.specs.ReadsStanding.{TxnReadsStand}
+use Rattle.pc_follows.specs.Heartbeats.{last_shown}
+use Rattle.pc_txn.proofs.Shown.{shown-plain}
 use Rattle.pc_txn.specs.declared.flight.InFlight.{InFlight}
 use Rattle.pc_txn.specs.declared.txn.OpenTxn.{OpenTxn}
 use Rattle.pc_txn.specs.Laws.{TxnStandsOn}
@@ -86,6 +88,7 @@ module _ (k now : Known) (out : Option SentCommit) (t : Txn) (x : OpenTxn) (sent
     below = omega (arith, st.below, more.high);
     refused = refused2;
     views = subst (λ hs. All (IsPendingOf t) hs) (sym more.heard) (All-append (IsPendingOf t) k.heard heard_more st.views (All-weaker (LeavesAsIs t) (IsPendingOf t) (λ h l. l.pending) heard_more leave));
+    shown = st.shown ∙ sym (ap (last_shown t) more.sent ∙ shown-plain t k.sent sent_more quiet);
     puts =
         let P : Sent → Type 0 = λ m. PutsUpTo t (last_seq_of t.writes) m.request in
         subst (λ ms. All P ms) (sym more.sent)

@@ -19,6 +19,8 @@ use Rattle.pc_reads.specs.ReadsStanding.{TxnReadsStand}
 use Rattle.pc_txn.proofs.Keeping.{each_commit-more, refused-more}
 use Rattle.pc_txn.proofs.Puts.{anchor-some, own_put, puts-one, puts-up}
 use Rattle.pc_txn.proofs.Same.{if_true, same_epoch-self}
+use Rattle.pc_follows.specs.Heartbeats.{last_shown}
+use Rattle.pc_txn.proofs.Shown.{shown-one}
 use Rattle.pc_txn.proofs.Writes.{all_proved, asked-key, asked-last_seq, asked-next, asked-proofs, asked-proved, asked-value, last_seq-push, proved-last_seq, put-again, put-new, with_lock-again}
 use Rattle.pc_txn.specs.declared.flight.InFlight.{InFlight}
 use Rattle.pc_txn.specs.declared.txn.OpenTxn.{OpenTxn}
@@ -77,9 +79,9 @@ pending-laid key value t h pending = λ about.
     let v = pending about in
     record { anchored = anchor-kept t.id key h.request t.anchor about v.anchored; pending = v.pending }
 
-module _ (k now : Known) (cause : Why) (spans : List Span) (t : Txn) (key : List ℕ) (value : Option (List ℕ)) (number range : ℕ) where
+module _ (k now : Known) (shown : ℕ) (cause : Why) (spans : List Span) (t : Txn) (key : List ℕ) (value : Option (List ℕ)) (number range : ℕ) where
   abbrev x0 : OpenTxn
-  x0 = opened_as cause spans None t
+  x0 = opened_as shown cause spans None t
 
   abbrev m0 : Sent
   m0 = record { number = number; range = range; request = put_next key value t }
@@ -93,7 +95,7 @@ module _ (k now : Known) (cause : Why) (spans : List Span) (t : Txn) (key : List
 
     laid_by : TxnStands now None t2 (with_next_write key value x0)
     laid_by = record {
-      same = ap (λ n. record (opened_as cause spans (Some (record { key = key; value = value })) t2) { seq = n }) (sym (last-laid key value t));
+      same = ap (λ n. record (opened_as shown cause spans (Some (record { key = key; value = value })) t2) { seq = n }) (sym (last-laid key value t));
       number = omega (arith, st.number, more.begun);
       begun = st.begun;
       behind = st.behind;
@@ -104,6 +106,7 @@ module _ (k now : Known) (cause : Why) (spans : List Span) (t : Txn) (key : List
           (subst (λ ms. EachCommit t.id ms (IsOutOrRefused None k.heard)) (sym more.sent)
           (All-push (λ m. OnCommit t.id (IsOutOrRefused None k.heard) m.request) k.sent m0 st.refused tt));
       views = subst (λ hs. All (IsPendingOf t2) hs) (sym heard-same) (All-weaker (IsPendingOf t) (IsPendingOf t2) (pending-laid key value t) k.heard st.views);
+      shown = st.shown ∙ sym (ap (last_shown t) more.sent ∙ shown-one t k.sent m0 refl);
       puts =
           let e : last_seq_of t2.writes ≡ last_seq_of t.writes + 1 = last-laid key value t in
           let P : Sent → Type 0 = λ m. PutsUpTo t2 (last_seq_of t2.writes) m.request in
@@ -144,11 +147,11 @@ module _ (k now : Known) (cause : Why) (spans : List Span) (t : Txn) (key : List
     }
 
 -- its fields are those that are known, where nothing is in flight
-pub same_none : (k : Known) (out : Option SentCommit) (t : Txn) (x : OpenTxn) → TxnStands k out t x → x.in_flight ≡ None → x ≡ opened_as x.cause x.reads.spans None t
-same_none k out t x st none = st.same ∙ ap (λ f. opened_as x.cause x.reads.spans f t) none
+pub same_none : (k : Known) (out : Option SentCommit) (t : Txn) (x : OpenTxn) → TxnStands k out t x → x.in_flight ≡ None → x ≡ opened_as x.shown x.cause x.reads.spans None t
+same_none k out t x st none = st.same ∙ ap (λ f. opened_as x.shown x.cause x.reads.spans f t) none
 
-pub same_some : (k : Known) (out : Option SentCommit) (t : Txn) (x : OpenTxn) (w : InFlight) → TxnStands k out t x → x.in_flight ≡ Some w → x ≡ opened_as x.cause x.reads.spans (Some w) t
-same_some k out t x w st some = st.same ∙ ap (λ f. opened_as x.cause x.reads.spans f t) some
+pub same_some : (k : Known) (out : Option SentCommit) (t : Txn) (x : OpenTxn) (w : InFlight) → TxnStands k out t x → x.in_flight ≡ Some w → x ≡ opened_as x.shown x.cause x.reads.spans (Some w) t
+same_some k out t x w st some = st.same ∙ ap (λ f. opened_as x.shown x.cause x.reads.spans f t) some
 
 -- its next write was sent
 pub next_laid : (k now : Known) (t : Txn) (x : OpenTxn) (key : List ℕ) (value : Option (List ℕ)) (number range : ℕ) → TxnStands k None t x → x.in_flight ≡ None
@@ -156,9 +159,9 @@ pub next_laid : (k now : Known) (t : Txn) (x : OpenTxn) (key : List ℕ) (value 
 next_laid k now t x key value number range st none more =
     let P : OpenTxn → Type 0 = λ x.
     TxnStands k None t x → HasMovedOn k now (record { number = number; range = range; request = next_put x key value } ∷ []) [] → TxnStands now None (txn_sent (next_put x key value) t) (with_next_write key value x) in
-    let at : P (opened_as x.cause x.reads.spans None t) = λ st more.
-    subst (λ t2. TxnStands now None t2 (with_next_write key value (opened_as x.cause x.reads.spans None t))) (sym (sent-next key value t))
-    (laid_by k now x.cause x.reads.spans t key value number range st more) in
+    let at : P (opened_as x.shown x.cause x.reads.spans None t) = λ st more.
+    subst (λ t2. TxnStands now None t2 (with_next_write key value (opened_as x.shown x.cause x.reads.spans None t))) (sym (sent-next key value t))
+    (laid_by k now x.shown x.cause x.reads.spans t key value number range st more) in
     subst P (sym (same_none k None t x st none)) at st more
 
 -- The transaction once its last write was sent again.
@@ -204,9 +207,9 @@ laying-again t w l =
       locked = l.locked;
     }
 
-module _ (k now : Known) (cause : Why) (spans : List Span) (t : Txn) (w : InFlight) where
+module _ (k now : Known) (shown : ℕ) (cause : Why) (spans : List Span) (t : Txn) (w : InFlight) where
   abbrev x1 : OpenTxn
-  x1 = opened_as cause spans (Some w) t
+  x1 = opened_as shown cause spans (Some w) t
 
   module _ (st : TxnStands k None t x1) where
     abbrev put : Request
@@ -232,6 +235,7 @@ module _ (k now : Known) (cause : Why) (spans : List Span) (t : Txn) (w : InFlig
                 (subst (λ ms. EachCommit t.id ms (IsOutOrRefused None k.heard)) (sym more.sent)
                 (All-push (λ m. OnCommit t.id (IsOutOrRefused None k.heard) m.request) k.sent m1 st.refused tt));
             views = subst (λ hs. All (IsPendingOf t) hs) (sym e) st.views;
+            shown = st.shown ∙ sym (ap (last_shown t) more.sent ∙ shown-one t k.sent m1 refl);
             puts =
                 subst (λ n. All (λ m. PutsUpTo t n m.request) now.sent) (sym last)
                 (subst (λ ms. All (λ m. PutsUpTo t (last_seq_of t.writes) m.request) ms) (sym more.sent)
@@ -299,6 +303,7 @@ module _ (k now : Known) (cause : Why) (spans : List Span) (t : Txn) (w : InFlig
             (subst (λ hs. EachCommit t.id k.sent (IsOutOrRefused None hs)) (sym more.heard)
             (each_commit-more t.id (IsOutOrRefused None k.heard) (IsOutOrRefused None (k.heard ++ h ∷ [])) (refused-more None k.heard (h ∷ [])) k.sent st.refused));
         views = subst (λ hs. All (IsPendingOf t) hs) (sym more.heard) (All-push (IsPendingOf t) k.heard h st.views other);
+        shown = st.shown ∙ sym (ap (last_shown t) sent-same);
         puts = subst (λ n. All (λ m. PutsUpTo t n m.request) now.sent) (sym last) (subst (λ ms. All (λ m. PutsUpTo t (last_seq_of t.writes) m.request) ms) (sym sent-same) st.puts);
         put_heard =
             subst (λ n. All (λ h. PutsUpTo t n h.request) now.heard) (sym last)
@@ -315,7 +320,7 @@ has_anchor k t x w st some = let l : IsLaying t w = subst (AreProved t) some st.
 
 module _ (k now : Known) (t : Txn) (x : OpenTxn) (w : InFlight) (anchor : List ℕ) (st : TxnStands k None t x) (some : x.in_flight ≡ Some w) (anchored : t.anchor ≡ Some anchor) where
   abbrev at_once : OpenTxn
-  at_once = opened_as x.cause x.reads.spans (Some w) t
+  at_once = opened_as x.shown x.cause x.reads.spans (Some w) t
 
   is : x ≡ at_once
   is = same_some k None t x w st some
@@ -331,7 +336,7 @@ module _ (k now : Known) (t : Txn) (x : OpenTxn) (w : InFlight) (anchor : List �
   last_laid number range more =
       let Q : Request → Type 0 = λ r. HasMovedOn k now (record { number = number; range = range; request = r } ∷ []) [] in
       let e : last_put x anchor w.key w.value ≡ put_last st1.proved.anchor w t = ap (λ x. last_put x anchor w.key w.value) is ∙ ap (λ a. put_last a w t) (sym anchor_is) in
-      let made : TxnStands now None (laid_again t) at_once = again_by k now x.cause x.reads.spans t w st1 number range (subst Q e more) in
+      let made : TxnStands now None (laid_again t) at_once = again_by k now x.shown x.cause x.reads.spans t w st1 number range (subst Q e more) in
       subst (λ r. TxnStands now None (txn_sent r t) x) (sym e)
       (subst (λ t2. TxnStands now None t2 x) (sym (sent-again t w st1.proved)) (subst (TxnStands now None (laid_again t)) (sym is) made))
 
@@ -340,6 +345,6 @@ module _ (k now : Known) (t : Txn) (x : OpenTxn) (w : InFlight) (anchor : List �
       → TxnStands now None (txn_heard k.sent (Some h) t) (landed_at at x)
   last_landed h at asked told more low =
       let e : last_put x anchor w.key w.value ≡ put_last st1.proved.anchor w t = ap (λ x. last_put x anchor w.key w.value) is ∙ ap (λ a. put_last a w t) (sym anchor_is) in
-      let made = landed_by k now x.cause x.reads.spans t w st1 h at (asked ∙ e) told more low in
-      subst (λ t2. TxnStands now None t2 (landed_at at x)) (sym (heard-put k now x.cause x.reads.spans t w st1 h at (asked ∙ e) told more low))
-      (subst (λ y. TxnStands now None (placed k now x.cause x.reads.spans t w st1 h at (asked ∙ e) told more low) (landed_at at y)) (sym is) made)
+      let made = landed_by k now x.shown x.cause x.reads.spans t w st1 h at (asked ∙ e) told more low in
+      subst (λ t2. TxnStands now None t2 (landed_at at x)) (sym (heard-put k now x.shown x.cause x.reads.spans t w st1 h at (asked ∙ e) told more low))
+      (subst (λ y. TxnStands now None (placed k now x.shown x.cause x.reads.spans t w st1 h at (asked ∙ e) told more low) (landed_at at y)) (sym is) made)

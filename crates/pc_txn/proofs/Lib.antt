@@ -1,3 +1,4 @@
+pub mod Alive
 pub mod Commits
 pub mod Keeping
 pub mod Laying
@@ -6,4 +7,5 @@ pub mod Puts
 pub mod Restarts
 pub mod Rows
 pub mod Same
+pub mod Shown
 pub mod Writes

@@ -15,6 +15,8 @@ use Rattle.pc_proto.specs.declared.why.Why.TheVariants as whys
 use Rattle.pc_proto.specs.Requests.{is_put_of, subject}
 use Rattle.pc_reads.proofs.Goods.{none_read}
 use Rattle.pc_reads.specs.ReadsStanding.{TxnReadsStand}
+use Rattle.pc_follows.specs.Heartbeats.{last_shown}
+use Rattle.pc_txn.proofs.Shown.{shown-new}
 use Rattle.pc_txn.specs.Counted.{IsOwnHeard, IsOwnSent, IsOwnWrite}
 use Rattle.pc_txn.specs.declared.flight.InFlight.{InFlight}
 use Rattle.pc_txn.specs.declared.txn.OpenTxn.{OpenTxn}
@@ -69,6 +71,7 @@ stands_told k now t x reads spans committed st more good = record {
       subst (λ ms. EachCommit t.id ms (IsOutOrRefused None now.heard)) (sym (more.sent ∙ append-nil k.sent))
       (subst (λ hs. EachCommit t.id k.sent (IsOutOrRefused None hs)) (sym (more.heard ∙ append-nil k.heard)) st.refused);
   views = subst (λ hs. All (IsPendingOf t) hs) (sym (more.heard ∙ append-nil k.heard)) st.views;
+  shown = st.shown ∙ sym (ap (last_shown t) (more.sent ∙ append-nil k.sent));
   puts = subst (λ ms. All (λ m. PutsUpTo t (last_seq_of t.writes) m.request) ms) (sym (more.sent ∙ append-nil k.sent)) st.puts;
   put_heard = subst (λ hs. All (λ h. PutsUpTo t (last_seq_of t.writes) h.request) hs) (sym (more.heard ∙ append-nil k.heard)) st.put_heard;
   laid = laid_told reads committed t x.in_flight now.sent (subst (λ ms. WasLaid t ms x.in_flight) (sym (more.sent ∙ append-nil k.sent)) st.laid);
@@ -98,6 +101,7 @@ stands_restarted k now t x anchor key ts st anchored more = record {
       subst (λ ms. EachCommit t.id ms (IsOutOrRefused None now.heard)) (sym (more.sent ∙ append-nil k.sent))
       (subst (λ hs. EachCommit t.id k.sent (IsOutOrRefused None hs)) (sym (more.heard ∙ append-nil k.heard)) st.refused);
   views = subst (λ hs. All (IsPendingOf t) hs) (sym (more.heard ∙ append-nil k.heard)) st.views;
+  shown = st.shown ∙ sym (ap (last_shown t) (more.sent ∙ append-nil k.sent));
   puts =
       subst (λ ms. All (λ m. PutsUpTo (restarted key ts t) 0 m.request) ms) (sym (more.sent ∙ append-nil k.sent))
       (All-weaker (λ m. PutsUpTo t (last_seq_of t.writes) m.request) (λ m. PutsUpTo (restarted key ts t) 0 m.request) (λ m up. puts_before key ts t m.request up) k.sent st.puts);
@@ -135,7 +139,7 @@ module _ (k now : Known) (session count : ℕ) (id : TxnId) (priority : Priority
   later = omega arith
 
   -- a transaction that was just begun stands
-  pub stands_begun : TxnStands now None t0 (opened_as whys.Client [] None t0)
+  pub stands_begun : TxnStands now None t0 (opened_as born whys.Client [] None t0)
   stands_begun = record {
     same = refl;
     number = counts;
@@ -150,6 +154,7 @@ module _ (k now : Known) (session count : ℕ) (id : TxnId) (priority : Priority
         subst (λ hs. All (IsPendingOf t0) hs) (sym same_heard)
         (All-weaker (IsOwnHeard session k.begun count) (IsPendingOf t0)
         (λ h own about. let l : id.number ≤ k.begun = own.own.record_of id (about_same id (subject h.request) about) whose in absurd (omega arith)) k.heard heard);
+    shown = sym (ap (last_shown t0) same_sent ∙ shown-new session count k.begun id whose later born k.sent sent);
     puts =
         subst (λ ms. All (λ m. PutsUpTo t0 0 m.request) ms) (sym same_sent)
         (All-weaker (IsOwnSent session k.begun count) (λ m. PutsUpTo t0 0 m.request) (λ m own epoch seq put. absurd (new_put id epoch k.begun m.request later own.own.write seq put)) k.sent sent);

@@ -1,4 +1,5 @@
 -- The open transaction, what it sends, and how it stands beside what its session knows.
+pub mod Silence
 pub mod Counted
 pub mod Laws
 pub mod Opened

@@ -11,12 +11,14 @@ use Rattle.pc_txn.specs.declared.txn.OpenTxn.{OpenTxn}
 use Rattle.pc_world.specs.Known.Transactions.{Txn, with_lock}
 use Rattle.pc_world.specs.Known.Writes.{last_seq_of}
 
--- What is kept of a transaction that its session knows; and the cause of its rollback, the spans that it read, and its write in flight.
-abbrev pub opened_as : Why → List Span → Option InFlight → Txn → OpenTxn
-opened_as cause spans in_flight t = record {
+-- What is kept of a transaction that its session knows; and the reading at which it last showed that it is alive, the cause of its rollback, the
+-- spans that it read, and its write in flight.
+abbrev pub opened_as : ℕ → Why → List Span → Option InFlight → Txn → OpenTxn
+opened_as shown cause spans in_flight t = record {
   id = t.id;
   priority = t.priority;
   born = t.born;
+  shown = shown;
   begin = t.begin;
   epoch = t.epoch;
   seq = last_seq_of t.writes;

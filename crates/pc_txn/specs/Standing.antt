@@ -1,5 +1,6 @@
 -- How the open transaction stands beside what its session knows, and what leaves it so.
 use Rattle.std.specs.Prelude.{◌≡◌, ℕ, ◌+◌, ◌≤◌, Bool, true, false, ◌⊎◌, Option, None, Some, List, [], ◌∷◌, ◌++◌, All, Any, IsTrue, ⊤}
+use Rattle.pc_follows.specs.Heartbeats.{last_shown}
 use Rattle.pc_proto.specs.declared.reply.Reply.{Reply}
 use Rattle.pc_proto.specs.declared.reply.Reply.TheVariants as replies
 use Rattle.pc_proto.specs.declared.request.Request.{Request}
@@ -17,11 +18,12 @@ use Rattle.pc_world.specs.Known.Transactions.{Txn, with_lock}
 use Rattle.pc_world.specs.Known.Writes.{IsProvedBy, Write, last_seq_of}
 use Rattle.pc_world.specs.StageFate.{EachCommit, SentCommit, WasCommitRefused}
 
--- The request neither writes nor decides.
+-- The request neither writes nor decides, and is no heartbeat.
 abbrev pub is_plain : Request → Bool
 is_plain (requests.Put meta seq ts key value) = false
 is_plain (requests.Stage meta ts now writes locks) = false
 is_plain (requests.Commit meta ts locks) = false
+is_plain (requests.Beat meta ts now) = false
 is_plain _ = true
 
 -- If the request puts a write of the transaction, its epoch is not a later one, and in this epoch its sequence is at most this one.
@@ -86,9 +88,10 @@ abbrev pub IsOutOrRefused : Option SentCommit → List Heard → SentCommit → 
 IsOutOrRefused out heard c = (out ≡ Some c) ⊎ WasCommitRefused heard c
 
 -- The open transaction is the one that its session knows; nothing that it sent decided it, but for a commit that is out; no view of it that
--- was heard is final; its writes are proved but for the one in flight; and its reads are good where it reads.
+-- was heard is final; it last showed that it is alive at the reading that is kept; its writes are proved but for the one in flight; and its reads
+-- are good where it reads.
 pub record TxnStands (k : Known) (out : Option SentCommit) (t : Txn) (x : OpenTxn) : Type 0 where
-  pub same : x ≡ opened_as x.cause x.reads.spans x.in_flight t
+  pub same : x ≡ opened_as x.shown x.cause x.reads.spans x.in_flight t
   pub number : t.id.number ≤ k.begun
   pub begun : t.begin ≤ t.read_ts
   pub behind : t.read_ts ≤ t.write_ts
@@ -96,6 +99,7 @@ pub record TxnStands (k : Known) (out : Option SentCommit) (t : Txn) (x : OpenTx
   pub below : t.write_ts ≤ k.high
   pub refused : EachCommit t.id k.sent (IsOutOrRefused out k.heard)
   pub views : All (IsPendingOf t) k.heard
+  pub shown : x.shown ≡ last_shown t k.sent
   pub puts : All (λ m. PutsUpTo t (last_seq_of t.writes) m.request) k.sent
   pub put_heard : All (λ h. PutsUpTo t (last_seq_of t.writes) h.request) k.heard
   pub laid : WasLaid t k.sent x.in_flight

@@ -1,6 +1,8 @@
-//! The open transaction of a session, beside what its session knows: its name, timestamps and locks, what it has read, and its write in flight.
+//! The open transaction of a session, beside what its session knows: its name, timestamps and locks, what it has read, its write in flight, and when it
+//! last showed that it is alive.
 #![tactic(auto)]
 
+mod beats;
 mod flight;
 mod laws;
 mod txn;

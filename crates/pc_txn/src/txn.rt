@@ -18,6 +18,8 @@ pub struct OpenTxn {
     pub priority: Priority,
     /// Its session's reading at its begin, in nanoseconds.
     pub born: u64,
+    /// The reading at which it last showed that it is alive, in nanoseconds: that of its last heartbeat, else that of its begin.
+    pub shown: u64,
     pub begin: Timestamp,
     /// How often it has restarted.
     pub epoch: u32,
@@ -39,12 +41,13 @@ pub struct OpenTxn {
 impl OpenTxn {
     /// A transaction begins at this timestamp.
     pub fn new(alloc: Global, id: TxnId, priority: Priority, born: u64, ts: Timestamp) -> OpenTxn
-        ensures { result ≡ opened_as whys.Client [] None (begun id priority born ts) }
+        ensures { result ≡ opened_as born whys.Client [] None (begun id priority born ts) }
     {
         OpenTxn {
             id,
             priority,
             born,
+            shown: born,
             begin: ts,
             epoch: 0,
             seq: 0,
@@ -57,7 +60,7 @@ impl OpenTxn {
         }
     }
 
-    fn meta(&self, anchor: Key) -> TxnMeta
+    pub(crate) fn meta(&self, anchor: Key) -> TxnMeta
         ensures { result ≡ meta_now self.now anchor }
     {
         TxnMeta {

@@ -6,18 +6,25 @@ use Rattle.std.proofs.lemmas.List.Elements.{All-cons, All-from_recursion, All-he
 use Rattle.std.proofs.lemmas.Option.{none-some}
 use Rattle.serde_json.specs.Data.{Data, null, boolean, number, string, array, object, Items, no_items, item}
 use Rattle.serde_json.specs.Find.{get, as_bool}
-use Rattle.pc_base.specs.declared.limits.TheConstants.{LEAST_ENTRIES, MOST_ENTRIES, MOST_RERUNS, MOST_SESSIONS, MOST_SPLITS, MOST_STATEMENTS, MOST_TURNS}
+use Rattle.pc_base.specs.declared.limits.TheConstants.{DEFAULT_ROUNDS, LEAST_ENTRIES, MOST_ENTRIES, MOST_RECOVERERS, MOST_RERUNS, MOST_ROUNDS, MOST_SESSIONS, MOST_SPLITS, MOST_STATEMENTS, MOST_TURNS}
 use Rattle.pc_base.specs.Rising.{AreRising, keys_rise}
 use Rattle.pc_work.specs.Reading.{◌>>=◌}
-use Rattle.pc_work.specs.Members.{has_only, member_if, member_or, read_or, whole_between, whole_in, whole_of, whole_up_to}
+use Rattle.pc_work.specs.Clock.{clock_of}
+use Rattle.pc_work.specs.Item.{item_of}
+use Rattle.pc_work.specs.Members.{has_only, member_if, member_or, read_if, read_or, whole_between, whole_in, whole_of, whole_up_to}
 use Rattle.pc_work.specs.Lists.{items_by, list_by}
 use Rattle.pc_work.specs.Count.{session_count}
 use Rattle.pc_work.specs.Texts.{key_of}
-use Rattle.pc_work.specs.Session.{session_of}
+use Rattle.pc_work.specs.Priority.{priority_of}
+use Rattle.pc_work.specs.Recoverer.{IsRecovererWithin, recoverer_names, recoverer_of}
+use Rattle.pc_work.specs.declared.recoverer.RecovererWork.{RecovererWork}
+use Rattle.pc_base.specs.declared.transaction.Priority.TheVariants.{Normal}
+use Rattle.pc_work.specs.Session.{session_names, session_of}
+use Rattle.pc_work.specs.Stop.{IsStop, stop_of}
 use Rattle.pc_work.specs.Splits.{splits_of}
 use Rattle.pc_work.specs.Turn.{is_turn_there, turn_of}
-use Rattle.pc_work.specs.Workload.{are_stated_turns, are_turns_within, is_item_there, is_script_there, is_within_limits, first_items, are_sessions, workload_names, workload_of, has_built_form, states_clock}
-use Rattle.pc_work.specs.Accepted.{HasItemsOf, HasTransactions, IsAccepted, IsTransaction}
+use Rattle.pc_work.specs.Workload.{are_others_within, are_stated_turns, are_turns_within, is_item_there, is_script_there, is_within_limits, first_items, are_sessions, workload_names, workload_of, has_built_form, states_clock}
+use Rattle.pc_work.specs.Accepted.{HasItemsOf, HasTransactions, IsAccepted, IsTransaction, StopsWithin}
 use Rattle.pc_work.specs.Built.{IsItemOf, IsBuiltSession, IsTurnOf, AreTurnsOf, IsBuilt}
 use Rattle.pc_work.specs.declared.item.Item.{Item}
 use Rattle.pc_work.specs.declared.item.Item.TheVariants.{Learn, Txn}
@@ -54,6 +61,13 @@ only_when P false found only = only_none P
 only_read : {X : Type 0} (P : X → Type 0) (default : X) (read : Data → Option X) → P default → ((value : Data) → Only P (read value)) → (found : Option Data) → Only P (read_or default read found)
 only_read P default read has each None = only_some P default has
 only_read P default read has each (Some value) = each value
+
+-- Where a member is there, it has the property.
+only_if : {X : Type 0} (P : X → Type 0) (read : Data → Option X) → ((value : Data) → Only P (read value)) → (found : Option Data) → Only (λ o. IfSome o P) (read_if read found)
+only_if P read each None = only_some (λ o. IfSome o P) None tt
+only_if P read each (Some value) =
+    only_known P (λ o. IfSome o P) (read value) (λ found. Some (Some found)) (each value) (λ found has.
+    only_some (λ o. IfSome o P) (Some found) has)
 
 items_only : {X : Type 0} (P : X → Type 0) (read : Data → Option X) → ((value : Data) → Only P (read value)) → (values : Items) → Only (All P) (items_by read values)
 unfolding items_by
@@ -136,36 +150,68 @@ between_only least most value =
     let both = and_parts (nat_le least n) (nat_le n most) within in
     only_some (IsBetween least most) n (leb-true least n both.0, leb-true n most both.1)))
 
-turn_is_there : (sessions : ℕ) (turn : Turn) → is_turn_there sessions turn ≡ true → IsTurnOf sessions turn
-turn_is_there sessions (Session n) e =
-    let both = and_parts (nat_le 1 n) (nat_le n sessions) e in
-    (leb-true 1 n both.0, leb-true n sessions both.1)
-turn_is_there sessions (Job n) e =
-    let both = and_parts (nat_le 1 n) (nat_le n sessions) e in
-    (leb-true 1 n both.0, leb-true n sessions both.1)
-turn_is_there sessions (Recoverer n) e = absurd (false≢true e)
+-- A stop that is stated is at an entry that there may be.
+stop_only : (found : Option Data) → Only IsStop (read_if stop_of found)
+stop_only found = only_if (IsBetween 1 MOST_ENTRIES) (whole_between 1 MOST_ENTRIES) (between_only 1 MOST_ENTRIES) found
 
-turns_are_there : (sessions : List SessionWork) (turns : List Turn) → are_stated_turns sessions turns ≡ true → AreTurnsOf (length sessions) turns
-turns_are_there sessions turns e =
-    let both = and_parts (nat_le (length turns) MOST_TURNS) (list_all (is_turn_there (length sessions)) turns) e in
+-- A session stops at an entry that there may be.
+session_only : (value : Data) → Only StopsWithin (session_of value)
+unfolding session_of
+session_only value =
+    let stated = stop_only (get (codes "stop") value) in
+    only_when StopsWithin (has_only session_names value) _ (λ named.
+    only_behind StopsWithin (member_if clock_of (codes "clock") value) _ (λ clock.
+    only_known IsStop StopsWithin (member_if stop_of (codes "stop") value) _ stated (λ stop within.
+    only_behind StopsWithin (get (codes "script") value) _ (λ found.
+    only_behind StopsWithin (list_by item_of found) _ (λ script.
+    only_some StopsWithin (record { script = script; clock = clock; stop = stop }) within)))))
+
+turn_is_there : (sessions recoverers : ℕ) (turn : Turn) → is_turn_there sessions recoverers turn ≡ true → IsTurnOf sessions recoverers turn
+turn_is_there sessions recoverers (Session n) e =
+    let both = and_parts (nat_le 1 n) (nat_le n sessions) e in
+    (leb-true 1 n both.0, leb-true n sessions both.1)
+turn_is_there sessions recoverers (Job n) e =
+    let both = and_parts (nat_le 1 n) (nat_le n sessions) e in
+    (leb-true 1 n both.0, leb-true n sessions both.1)
+turn_is_there sessions recoverers (Recoverer n) e =
+    let both = and_parts (nat_le 1 n) (nat_le n recoverers) e in
+    (leb-true 1 n both.0, leb-true n recoverers both.1)
+
+turns_are_there : (sessions : List SessionWork) (recoverers : List RecovererWork) (turns : List Turn) → are_stated_turns sessions recoverers turns ≡ true → AreTurnsOf (length sessions) (length recoverers) turns
+turns_are_there sessions recoverers turns e =
+    let both = and_parts (nat_le (length turns) MOST_TURNS) (list_all (is_turn_there (length sessions) (length recoverers)) turns) e in
     record {
       few = leb-true (length turns) MOST_TURNS both.0;
-      each = all_by (is_turn_there (length sessions)) (IsTurnOf (length sessions)) (turn_is_there (length sessions)) turns both.1;
+      each = all_by (is_turn_there (length sessions) (length recoverers)) (IsTurnOf (length sessions) (length recoverers)) (turn_is_there (length sessions) (length recoverers)) turns both.1;
     }
 
-stated_turns_are_there : (sessions : List SessionWork) (turns : Option (List Turn)) → are_turns_within sessions turns ≡ true → IfSome turns (AreTurnsOf (length sessions))
-stated_turns_are_there sessions None e = tt
-stated_turns_are_there sessions (Some turns) e = turns_are_there sessions turns e
+stated_turns_are_there : (sessions : List SessionWork) (recoverers : List RecovererWork) (turns : Option (List Turn)) → are_turns_within sessions recoverers turns ≡ true → IfSome turns (AreTurnsOf (length sessions) (length recoverers))
+stated_turns_are_there sessions recoverers None e = tt
+stated_turns_are_there sessions recoverers (Some turns) e = turns_are_there sessions recoverers turns e
 
-abbrev made : List (List ℕ) → ℕ → ℕ → ℕ → Option (List Turn) → List SessionWork → Workload
-made splits limit reruns opening turns sessions = record { version = 1; pipelining = false; splits = splits; limit = limit; tries = 4; reruns = reruns; opening = opening; sessions = sessions; turns = turns }
+-- A recoverer that is read makes no more rounds than the limit, and stops at an entry that there may be.
+recoverer_only : (value : Data) → Only IsRecovererWithin (recoverer_of value)
+unfolding recoverer_of
+recoverer_only value =
+    let asked = only_read (λ n. n ≤ MOST_ROUNDS) DEFAULT_ROUNDS (whole_up_to MOST_ROUNDS) (omega arith) (whole_only MOST_ROUNDS) (get (codes "rounds") value) in
+    let stated = stop_only (get (codes "stop") value) in
+    only_when IsRecovererWithin (has_only recoverer_names value) _ (λ named.
+    only_behind IsRecovererWithin (member_if clock_of (codes "clock") value) _ (λ clock.
+    only_behind IsRecovererWithin (member_or Normal priority_of (codes "level") value) _ (λ level.
+    only_known (λ n. n ≤ MOST_ROUNDS) IsRecovererWithin (member_or DEFAULT_ROUNDS (whole_up_to MOST_ROUNDS) (codes "rounds") value) _ asked (λ rounds few.
+    only_known IsStop IsRecovererWithin (member_if stop_of (codes "stop") value) _ stated (λ stop within.
+    only_some IsRecovererWithin (record { level = level; rounds = rounds; clock = clock; stop = stop }) (record { rounds = few; stop = within }))))))
 
-made_is_accepted : (version : ℕ) (pipelining : Bool) (splits : List (List ℕ)) (limit reruns opening : ℕ) (turns : Option (List Turn)) (sessions : List SessionWork) → is_within_limits version pipelining opening sessions turns ≡ true
-    → AreSplits splits → IsBetween LEAST_ENTRIES MOST_ENTRIES limit → reruns ≤ MOST_RERUNS → IsAccepted (made splits limit reruns opening turns sessions)
-made_is_accepted version pipelining splits limit reruns opening turns sessions e cut bounds few =
-    let all_but_opening = and_parts (version == 1 && not pipelining && are_sessions sessions && are_turns_within sessions turns && list_all (is_script_there (length sessions) turns) sessions) (nat_le opening (first_items sessions)) e in
-    let all_but_learns = and_parts (version == 1 && not pipelining && are_sessions sessions && are_turns_within sessions turns) (list_all (is_script_there (length sessions) turns) sessions) all_but_opening.0 in
-    let all_but_turns = and_parts (version == 1 && not pipelining && are_sessions sessions) (are_turns_within sessions turns) all_but_learns.0 in
+abbrev made : List (List ℕ) → ℕ → ℕ → ℕ → Option (List Turn) → List RecovererWork → List SessionWork → Workload
+made splits limit reruns opening turns recoverers sessions = record { version = 1; pipelining = false; splits = splits; limit = limit; tries = 4; reruns = reruns; opening = opening; sessions = sessions; recoverers = recoverers; turns = turns }
+
+made_is_accepted : (version : ℕ) (pipelining : Bool) (splits : List (List ℕ)) (limit reruns opening : ℕ) (turns : Option (List Turn)) (recoverers : List RecovererWork) (sessions : List SessionWork) → is_within_limits version pipelining opening sessions recoverers turns ≡ true
+    → AreSplits splits → IsBetween LEAST_ENTRIES MOST_ENTRIES limit → reruns ≤ MOST_RERUNS → All StopsWithin sessions → All IsRecovererWithin recoverers → IsAccepted (made splits limit reruns opening turns recoverers sessions)
+made_is_accepted version pipelining splits limit reruns opening turns recoverers sessions e cut bounds few stops recover =
+    let all_but_opening = and_parts (version == 1 && not pipelining && are_sessions sessions && are_others_within sessions recoverers turns && list_all (is_script_there (length sessions) turns) sessions) (nat_le opening (first_items sessions)) e in
+    let all_but_learns = and_parts (version == 1 && not pipelining && are_sessions sessions && are_others_within sessions recoverers turns) (list_all (is_script_there (length sessions) turns) sessions) all_but_opening.0 in
+    let all_but_turns = and_parts (version == 1 && not pipelining && are_sessions sessions) (are_others_within sessions recoverers turns) all_but_learns.0 in
+    let others = and_parts (nat_le (length recoverers) MOST_RECOVERERS) (are_turns_within sessions recoverers turns) all_but_turns.1 in
     let all_but_sessions = and_parts (version == 1 && not pipelining) (are_sessions sessions) all_but_turns.0 in
     let counted = and_parts (nat_le 1 (length sessions) && nat_le (length sessions) MOST_SESSIONS) (nat_le (sum_by session_count sessions) MOST_STATEMENTS) all_but_sessions.1 in
     let bounded = and_parts (nat_le 1 (length sessions)) (nat_le (length sessions) MOST_SESSIONS) counted.0 in
@@ -181,9 +227,12 @@ made_is_accepted version pipelining splits limit reruns opening turns sessions e
       some_session = leb-true 1 (length sessions) bounded.0;
       few_sessions = leb-true (length sessions) MOST_SESSIONS bounded.1;
       sessions = items_are_there sessions turns all_but_learns.1;
+      stops = stops;
       learns = none_learnt sessions turns all_but_learns.1;
       few_statements = leb-true (sum_by session_count sessions) MOST_STATEMENTS counted.1;
-      turns = stated_turns_are_there sessions turns all_but_turns.1;
+      few_recoverers = leb-true (length recoverers) MOST_RECOVERERS others.0;
+      recoverers = recover;
+      turns = stated_turns_are_there sessions recoverers turns others.1;
     }
 
 only_accepted : (value : Data) → Only IsAccepted (workload_of value)
@@ -192,6 +241,7 @@ only_accepted value =
     let cut = only_read AreSplits [] splits_of (record { rising = refl; few = omega arith }) splits_only (get (codes "splits") value) in
     let bounds = only_read (IsBetween LEAST_ENTRIES MOST_ENTRIES) 1000000 (whole_between LEAST_ENTRIES MOST_ENTRIES) (omega arith, omega arith) (between_only LEAST_ENTRIES MOST_ENTRIES) (get (codes "limit") value) in
     let asked = only_read (λ n. n ≤ MOST_RERUNS) 8 (whole_up_to MOST_RERUNS) (omega arith) (whole_only MOST_RERUNS) (get (codes "reruns") value) in
+    let recover = only_read (All IsRecovererWithin) [] (list_by recoverer_of) (All-nil IsRecovererWithin) (list_only IsRecovererWithin recoverer_of recoverer_only) (get (codes "recoverers") value) in
     only_when IsAccepted (has_only workload_names value) _ (λ named.
     only_behind IsAccepted (whole_in (codes "version") value) _ (λ version.
     only_behind IsAccepted (get (codes "pipelining") value) _ (λ stated.
@@ -201,18 +251,19 @@ only_accepted value =
     only_known (λ n. n ≤ MOST_RERUNS) IsAccepted (member_or 8 (whole_up_to MOST_RERUNS) (codes "reruns") value) _ asked (λ reruns few.
     only_behind IsAccepted (member_or 0 whole_of (codes "opening") value) _ (λ opening.
     only_behind IsAccepted (member_if (list_by turn_of) (codes "turns") value) _ (λ turns.
+    only_known (All IsRecovererWithin) IsAccepted (member_or [] (list_by recoverer_of) (codes "recoverers") value) _ recover (λ recoverers within_rounds.
     only_behind IsAccepted (get (codes "sessions") value) _ (λ found.
-    only_behind IsAccepted (list_by session_of found) _ (λ sessions.
-    only_when IsAccepted (is_within_limits version pipelining opening sessions turns) _ (λ within.
-    only_some IsAccepted (made splits limit reruns opening turns sessions) (made_is_accepted version pipelining splits limit reruns opening turns sessions within rising between few)))))))))))))
+    only_known (All StopsWithin) IsAccepted (list_by session_of found) _ (list_only StopsWithin session_of session_only found) (λ sessions stops.
+    only_when IsAccepted (is_within_limits version pipelining opening sessions recoverers turns) _ (λ within.
+    only_some IsAccepted (made splits limit reruns opening turns recoverers sessions) (made_is_accepted version pipelining splits limit reruns opening turns recoverers sessions within rising between few stops within_rounds))))))))))))))
 
 -- The workload that a JSON value states is of the form that is accepted.
 pub value_is_accepted : (value : Data) (work : Workload) → workload_of value ≡ Some work → IsAccepted work
 value_is_accepted value work e = (only_accepted value).each work e
 
-some_turns : (sessions : ℕ) (turns : Option (List Turn)) → is_some turns ≡ true → IfSome turns (AreTurnsOf sessions) → IsSomeAnd turns (AreTurnsOf sessions)
-some_turns sessions None e each = absurd (false≢true e)
-some_turns sessions (Some turns) e each = each
+some_turns : (sessions recoverers : ℕ) (turns : Option (List Turn)) → is_some turns ≡ true → IfSome turns (AreTurnsOf sessions recoverers) → IsSomeAnd turns (AreTurnsOf sessions recoverers)
+some_turns sessions recoverers None e each = absurd (false≢true e)
+some_turns sessions recoverers (Some turns) e each = each
 
 with_clocks : (count : ℕ) (sessions : List SessionWork) → list_all states_clock sessions ≡ true → All (HasItemsOf count) sessions → All (IsBuiltSession count) sessions
 with_clocks count [] e each = All-nil (IsBuiltSession count)
@@ -242,5 +293,5 @@ passes work accepted e =
       few_sessions = accepted.few_sessions;
       sessions = with_clocks (length work.sessions) work.sessions both.1 accepted.sessions;
       few_statements = accepted.few_statements;
-      turns = some_turns (length work.sessions) work.turns first.1 accepted.turns;
+      turns = some_turns (length work.sessions) (length work.recoverers) work.turns first.1 accepted.turns;
     }

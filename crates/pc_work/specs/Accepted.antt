@@ -1,14 +1,20 @@
 -- The form of a workload that is accepted, as a fact about the workload itself: what runs it may rest on it, once all such workloads are run.
 use Rattle.std.specs.Prelude.{◌≡◌, ◌≤◌, ℕ, false, length, sum_by, IfSome, None, All, ⊤}
-use Rattle.pc_base.specs.declared.limits.TheConstants.{DEFAULT_TRIES, LEAST_ENTRIES, MOST_ENTRIES, MOST_RERUNS, MOST_SESSIONS, MOST_SPLITS, MOST_STATEMENTS}
+use Rattle.pc_base.specs.declared.limits.TheConstants.{DEFAULT_TRIES, LEAST_ENTRIES, MOST_ENTRIES, MOST_RECOVERERS, MOST_RERUNS, MOST_SESSIONS, MOST_SPLITS, MOST_STATEMENTS}
 use Rattle.pc_base.specs.Rising.{AreRising}
 use Rattle.pc_work.specs.Built.{AreTurnsOf, IsItemOf}
 use Rattle.pc_work.specs.Count.{session_count}
+use Rattle.pc_work.specs.Recoverer.{IsRecovererWithin}
+use Rattle.pc_work.specs.Stop.{IsStop}
 use Rattle.pc_work.specs.Workload.{first_items}
 use Rattle.pc_work.specs.declared.item.Item.{Item}
 use Rattle.pc_work.specs.declared.item.Item.TheVariants.{Learn, Txn}
 use Rattle.pc_work.specs.declared.session.SessionWork.{SessionWork}
 use Rattle.pc_work.specs.declared.workload.Workload.{Workload}
+
+-- Where the session stops, it does so at an entry that there may be.
+abbrev pub StopsWithin : SessionWork → Type 0
+StopsWithin session = IsStop session.stop
 
 -- Each learn of the session's script names one of so many sessions.
 abbrev pub HasItemsOf : ℕ → SessionWork → Type 0
@@ -23,7 +29,7 @@ IsTransaction (Txn priority statements commits) = ⊤
 abbrev pub HasTransactions : SessionWork → Type 0
 HasTransactions session = All IsTransaction session.script
 
--- A workload that is read is without pipelining, its numbers, sessions and turns are within their limits, and what it cannot state is at its
+-- A workload that is read is without pipelining, its numbers, sessions, recoverers and turns are within their limits, and what it cannot state is at its
 -- default.
 pub record IsAccepted (work : Workload) : Type 0 where
   -- The version is the one that is known.
@@ -48,9 +54,15 @@ pub record IsAccepted (work : Workload) : Type 0 where
   pub few_sessions : length work.sessions ≤ MOST_SESSIONS
   -- Each learn names a session that is there.
   pub sessions : All (HasItemsOf (length work.sessions)) work.sessions
+  -- Each session that stops does so at an entry that there may be.
+  pub stops : All StopsWithin work.sessions
   -- Where no turns are stated, nothing is learnt.
   pub learns : work.turns ≡ None → All HasTransactions work.sessions
   -- The statements of all sessions are no more than their limit.
   pub few_statements : sum_by session_count work.sessions ≤ MOST_STATEMENTS
-  -- Where turns are stated, each is that of a session that is there, or of its finishing job.
-  pub turns : IfSome work.turns (AreTurnsOf (length work.sessions))
+  -- The recoverers are no more than their limit.
+  pub few_recoverers : length work.recoverers ≤ MOST_RECOVERERS
+  -- The rounds of each recoverer are no more than their limit, and each that stops does so at an entry that there may be.
+  pub recoverers : All IsRecovererWithin work.recoverers
+  -- Where turns are stated, each is that of a session that is there, of its finishing job, or of a recoverer that is there.
+  pub turns : IfSome work.turns (AreTurnsOf (length work.sessions) (length work.recoverers))

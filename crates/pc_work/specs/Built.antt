@@ -21,16 +21,16 @@ pub record IsBuiltSession (sessions : ℕ) (session : SessionWork) : Type 0 wher
   pub clock : IsSome session.clock
   pub items : All (IsItemOf sessions) session.script
 
--- The turn is that of one of so many sessions, or of its finishing job.
-abbrev pub IsTurnOf : ℕ → Turn → Type 0
-IsTurnOf sessions (Session number) = (1 ≤ number) × (number ≤ sessions)
-IsTurnOf sessions (Job number) = (1 ≤ number) × (number ≤ sessions)
-IsTurnOf sessions (Recoverer number) = ⊥
+-- The turn is that of one of so many sessions, or of its finishing job, or of one of so many recoverers.
+abbrev pub IsTurnOf : ℕ → ℕ → Turn → Type 0
+IsTurnOf sessions recoverers (Session number) = (1 ≤ number) × (number ≤ sessions)
+IsTurnOf sessions recoverers (Job number) = (1 ≤ number) × (number ≤ sessions)
+IsTurnOf sessions recoverers (Recoverer number) = (1 ≤ number) × (number ≤ recoverers)
 
--- The turns are no more than the limit, and each is that of one of so many sessions, or of its finishing job.
-pub record AreTurnsOf (sessions : ℕ) (listed : List Turn) : Type 0 where
+-- The turns are no more than the limit, and each is that of one of so many sessions, or of its finishing job, or of one of so many recoverers.
+pub record AreTurnsOf (sessions recoverers : ℕ) (listed : List Turn) : Type 0 where
   pub few : length listed ≤ MOST_TURNS
-  pub each : All (IsTurnOf sessions) listed
+  pub each : All (IsTurnOf sessions recoverers) listed
 
 -- The workload runs in stated turns without pipelining, its sessions within their limits, and what it cannot state is at its default.
 pub record IsBuilt (work : Workload) : Type 0 where
@@ -58,5 +58,5 @@ pub record IsBuilt (work : Workload) : Type 0 where
   pub sessions : All (IsBuiltSession (length work.sessions)) work.sessions
   -- The statements of all sessions are no more than their limit.
   pub few_statements : sum_by session_count work.sessions ≤ MOST_STATEMENTS
-  -- Turns are stated, and each is that of a session that is there, or of its finishing job.
-  pub turns : IsSomeAnd work.turns (AreTurnsOf (length work.sessions))
+  -- Turns are stated, and each is that of an actor that is there.
+  pub turns : IsSomeAnd work.turns (AreTurnsOf (length work.sessions) (length work.recoverers))

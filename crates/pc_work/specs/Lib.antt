@@ -12,10 +12,12 @@ pub mod Members
 pub mod Number
 pub mod Priority
 pub mod Reading
+pub mod Recoverer
 pub mod Session
 pub mod Span
 pub mod Splits
 pub mod Statement
+pub mod Stop
 pub mod Texts
 pub mod Turn
 pub mod Workload

@@ -1,5 +1,5 @@
 -- A turn of a workload: a text, which is the letter of who it is and then its number.
-use Rattle.std.specs.Prelude.{ℕ, Bool, false, ◌&&◌, ◌==◌, nat_le, List, [], ◌∷◌, Option, Some, None, if◌then◌else◌}
+use Rattle.std.specs.Prelude.{ℕ, Bool, ◌&&◌, ◌==◌, nat_le, List, [], ◌∷◌, Option, Some, None, if◌then◌else◌}
 use Rattle.serde_json.specs.Data.{Data}
 use Rattle.serde_json.specs.Find.{as_str}
 use Rattle.pc_work.specs.Reading.{◌>>=◌}
@@ -23,8 +23,8 @@ turn_in (letter ∷ digits) = number_in digits >>= turn_by letter
 unfoldable pub turn_of : Data → Option Turn
 turn_of value = as_str value >>= turn_in
 
--- Among so many sessions and no recoverer, the turn is that of one that is there.
-abbrev pub is_turn_there : ℕ → Turn → Bool
-is_turn_there sessions (Session number) = nat_le 1 number && nat_le number sessions
-is_turn_there sessions (Job number) = nat_le 1 number && nat_le number sessions
-is_turn_there sessions (Recoverer number) = false
+-- Among so many sessions and so many recoverers, the turn is that of one that is there.
+abbrev pub is_turn_there : ℕ → ℕ → Turn → Bool
+is_turn_there sessions recoverers (Session number) = nat_le 1 number && nat_le number sessions
+is_turn_there sessions recoverers (Job number) = nat_le 1 number && nat_le number sessions
+is_turn_there sessions recoverers (Recoverer number) = nat_le 1 number && nat_le number recoverers

@@ -1,15 +1,16 @@
--- What bytes are as a workload, and where they are none. A workload is without pipelining; where it states no turns, its sessions run on
--- threads, which learn nothing, and a session that states no clock reads the one that is handed in.
+-- What bytes are as a workload, and where they are none. A workload is without pipelining; where it states no turns, its sessions and
+-- recoverers run on threads, which learn nothing, and one of them that states no clock reads the one that is handed in.
 use Rattle.std.specs.Prelude.{ℕ, ◌==◌, Bool, true, false, ◌&&◌, not, List, [], ◌∷◌, length, sum_by, nat_le, Option, Some, None, is_some, IsSome, Result, Ok, Err, codes, option_and_then, IsUtf8, if◌then◌else◌}
 use Rattle.std.specs.List.{list_all}
 use Rattle.serde_json.specs.Data.{Data}
 use Rattle.serde_json.specs.Find.{get, as_bool}
 use Rattle.serde_json.specs.Read.{read}
-use Rattle.pc_base.specs.declared.limits.TheConstants.{DEFAULT_ENTRIES, DEFAULT_RERUNS, DEFAULT_TRIES, LEAST_ENTRIES, MOST_ENTRIES, MOST_RERUNS, MOST_SESSIONS, MOST_STATEMENTS, MOST_TURNS}
+use Rattle.pc_base.specs.declared.limits.TheConstants.{DEFAULT_ENTRIES, DEFAULT_RERUNS, DEFAULT_TRIES, LEAST_ENTRIES, MOST_ENTRIES, MOST_RECOVERERS, MOST_RERUNS, MOST_SESSIONS, MOST_STATEMENTS, MOST_TURNS}
 use Rattle.pc_work.specs.Reading.{◌>>=◌}
 use Rattle.pc_work.specs.Members.{has_only, whole_between, whole_of, whole_up_to, whole_in, member_if, member_or}
 use Rattle.pc_work.specs.Lists.{list_by}
 use Rattle.pc_work.specs.Count.{session_count}
+use Rattle.pc_work.specs.Recoverer.{recoverer_of}
 use Rattle.pc_work.specs.Session.{session_of}
 use Rattle.pc_work.specs.Splits.{splits_of}
 use Rattle.pc_work.specs.Turn.{is_turn_there, turn_of}
@@ -17,13 +18,14 @@ use Rattle.pc_work.specs.declared.fault.WorkFault.{WorkFault}
 use Rattle.pc_work.specs.declared.fault.WorkFault.TheVariants as faults
 use Rattle.pc_work.specs.declared.item.Item.{Item}
 use Rattle.pc_work.specs.declared.item.Item.TheVariants.{Learn, Txn}
+use Rattle.pc_work.specs.declared.recoverer.RecovererWork.{RecovererWork}
 use Rattle.pc_work.specs.declared.session.SessionWork.{SessionWork}
 use Rattle.pc_work.specs.declared.turn.Turn.{Turn}
 use Rattle.pc_work.specs.declared.workload.Workload.{Workload}
 
 -- The names of a workload's members.
 abbrev pub workload_names : List (List ℕ)
-workload_names = codes "version" ∷ codes "pipelining" ∷ codes "splits" ∷ codes "limit" ∷ codes "reruns" ∷ codes "opening" ∷ codes "turns" ∷ codes "sessions" ∷ []
+workload_names = codes "version" ∷ codes "pipelining" ∷ codes "splits" ∷ codes "limit" ∷ codes "reruns" ∷ codes "opening" ∷ codes "turns" ∷ codes "recoverers" ∷ codes "sessions" ∷ []
 
 -- How many items the first session has.
 abbrev pub first_items : List SessionWork → ℕ
@@ -36,13 +38,17 @@ are_sessions sessions =
     nat_le 1 (length sessions) && nat_le (length sessions) MOST_SESSIONS && nat_le (sum_by session_count sessions) MOST_STATEMENTS
 
 -- No more turns than the limit, and each is that of one that is there.
-abbrev pub are_stated_turns : List SessionWork → List Turn → Bool
-are_stated_turns sessions turns = nat_le (length turns) MOST_TURNS && list_all (is_turn_there (length sessions)) turns
+abbrev pub are_stated_turns : List SessionWork → List RecovererWork → List Turn → Bool
+are_stated_turns sessions recoverers turns = nat_le (length turns) MOST_TURNS && list_all (is_turn_there (length sessions) (length recoverers)) turns
 
 -- Where turns are stated, they are within their limits.
-abbrev pub are_turns_within : List SessionWork → Option (List Turn) → Bool
-are_turns_within sessions None = true
-are_turns_within sessions (Some turns) = are_stated_turns sessions turns
+abbrev pub are_turns_within : List SessionWork → List RecovererWork → Option (List Turn) → Bool
+are_turns_within sessions recoverers None = true
+are_turns_within sessions recoverers (Some turns) = are_stated_turns sessions recoverers turns
+
+-- No more recoverers than the limit, and turns within their limits, if they are stated.
+abbrev pub are_others_within : List SessionWork → List RecovererWork → Option (List Turn) → Bool
+are_others_within sessions recoverers turns = nat_le (length recoverers) MOST_RECOVERERS && are_turns_within sessions recoverers turns
 
 -- A learn stands in stated turns alone, and names one of so many sessions.
 abbrev pub is_item_there : ℕ → Option (List Turn) → Item → Bool
@@ -53,10 +59,10 @@ is_item_there sessions turns (Txn priority statements commits) = true
 abbrev pub is_script_there : ℕ → Option (List Turn) → SessionWork → Bool
 is_script_there sessions turns session = list_all (is_item_there sessions turns) session.script
 
--- Version 1 without pipelining; sessions, turns and an opening within their limits; and learns only where they may stand.
-abbrev pub is_within_limits : ℕ → Bool → ℕ → List SessionWork → Option (List Turn) → Bool
-is_within_limits version pipelining opening sessions turns =
-    version == 1 && not pipelining && are_sessions sessions && are_turns_within sessions turns
+-- Version 1 without pipelining; sessions, recoverers, turns and an opening within their limits; and learns only where they may stand.
+abbrev pub is_within_limits : ℕ → Bool → ℕ → List SessionWork → List RecovererWork → Option (List Turn) → Bool
+is_within_limits version pipelining opening sessions recoverers turns =
+    version == 1 && not pipelining && are_sessions sessions && are_others_within sessions recoverers turns
     && list_all (is_script_there (length sessions) turns) sessions && nat_le opening (first_items sessions)
 
 -- The workload that a JSON value states: what is absent is at its default.
@@ -70,9 +76,10 @@ workload_of value = if has_only workload_names value then (do
   reruns ← member_or DEFAULT_RERUNS (whole_up_to MOST_RERUNS) (codes "reruns") value
   opening ← member_or 0 whole_of (codes "opening") value
   turns ← member_if (list_by turn_of) (codes "turns") value
+  recoverers ← member_or [] (list_by recoverer_of) (codes "recoverers") value
   found ← get (codes "sessions") value
   sessions ← list_by session_of found
-  if is_within_limits version pipelining opening sessions turns then Some (record {
+  if is_within_limits version pipelining opening sessions recoverers turns then Some (record {
     version = 1;
     pipelining = false;
     splits = splits;
@@ -81,6 +88,7 @@ workload_of value = if has_only workload_names value then (do
     reruns = reruns;
     opening = opening;
     sessions = sessions;
+    recoverers = recoverers;
     turns = turns;
   }) else None) else None
 

@@ -1,23 +1,22 @@
-ghost use Rattle.serde_json.specs.View.{view};
-ghost use Rattle.pc_work.specs.Clock.{clock_of};
-ghost use Rattle.pc_work.specs.Members.{member_if};
-ghost use Rattle.pc_work.specs.Reading.{Gives};
 ghost use Rattle.pc_work.specs.Session.{session_of};
 
-use crate::clock::{ClockWork, clock_of};
+use crate::clock::{ClockWork, clock_if};
 use crate::fault::Misfit;
 use crate::item::Script;
 use crate::json::{FromJson, has_only, list, member};
+use crate::stop::stop_if;
 use pc_base::Items;
 use serde_json::Value as Json;
 use std::alloc::Global;
 
-/// What one session does, and how it tells the time.
+/// What one session does, how it tells the time, and where it stops.
 #[derive(Debug, PartialEq, Eq, Drop)]
 pub struct SessionWork {
     pub script: Script,
     /// Where there is none, the clock that the caller hands in.
     pub clock: Option<ClockWork>,
+    /// After how many entries of its own it stops. Where there is none, it goes on to the end of its script.
+    pub stop: Option<u64>,
 }
 
 /// The sessions of a workload; the first has number 1.
@@ -28,21 +27,16 @@ impl FromJson for SessionWork {
 
     #[tactic(auto, unfolding(crate::specs::Session::session_of))]
     fn from_json(alloc: Global, json: &Json) -> Result<SessionWork, Misfit> {
-        if !has_only(json, &["clock", "script"]) {
+        if !has_only(json, &["clock", "script", "stop"]) {
             return Err(Misfit::OtherForm);
         }
         let clock = clock_if(json, "clock")?;
+        let stop = stop_if(json, "stop")?;
         let script: Script = list(alloc, member(json, "script")?)?;
-        Ok(SessionWork { script, clock })
-    }
-}
-
-/// The clock in the member of this name, where it is there.
-fn clock_if(json: &Json, name: &str) -> Result<Option<ClockWork>, Misfit>
-    ensures { Gives result (member_if clock_of name.now (view json.now)) }
-{
-    match json.get(name) {
-        Some(stated) => Ok(Some(clock_of(stated)?)),
-        None => Ok(None),
+        Ok(SessionWork {
+            script,
+            clock,
+            stop,
+        })
     }
 }

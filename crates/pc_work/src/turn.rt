@@ -16,6 +16,7 @@ pub enum Turn {
     Session(u32),
     /// The finishing job of a session.
     Job(u32),
+    /// One round of a recoverer.
     Recoverer(u32),
 }
 
@@ -23,13 +24,13 @@ pub enum Turn {
 pub type Turns = Items<Turn>;
 
 impl Turn {
-    /// Whether it is the turn of one that is there, among so many sessions and no recoverer.
-    pub(crate) fn is_there(self, sessions: usize) -> bool
-        ensures { result ≡ is_turn_there sessions self }
+    /// Whether it is the turn of one that is there, among so many sessions and recoverers.
+    pub(crate) fn is_there(self, sessions: usize, recoverers: usize) -> bool
+        ensures { result ≡ is_turn_there sessions recoverers self }
     {
         match self {
             Turn::Session(number) | Turn::Job(number) => number >= 1 && number as usize <= sessions,
-            Turn::Recoverer(_) => false,
+            Turn::Recoverer(number) => number >= 1 && number as usize <= recoverers,
         }
     }
 }

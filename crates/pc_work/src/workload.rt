@@ -1,4 +1,4 @@
-ghost use Rattle.std.specs.Prelude.{◌≡◌, ◌↔◌, ◌⊎◌, ℕ, IsOk, IsSome, IsTrue, IfOk, IsErrOf, Some, length};
+ghost use Rattle.std.specs.Prelude.{[], ◌≡◌, ◌↔◌, ◌⊎◌, ℕ, IsOk, IsSome, IsTrue, IfOk, IsErrOf, Some, length};
 ghost use Rattle.std.specs.List.{list_all};
 ghost use Rattle.serde_json.specs.View.{view};
 ghost use Rattle.pc_base.specs.declared.limits.TheConstants.{MOST_RERUNS};
@@ -7,18 +7,20 @@ ghost use Rattle.pc_work.specs.Accepted.{IsAccepted};
 ghost use Rattle.pc_work.specs.Built.{IsBuilt};
 ghost use Rattle.pc_work.specs.Lists.{list_by};
 ghost use Rattle.pc_work.specs.Members.{has_only, member_if, member_or, whole_between, whole_of, whole_up_to};
+ghost use Rattle.pc_work.specs.Recoverer.{recoverer_of};
 ghost use Rattle.pc_work.specs.Turn.{is_turn_there, turn_of};
-ghost use Rattle.pc_work.specs.Workload.{are_stated_turns, are_turns_within, is_script_there, is_within_limits, workload_names, first_items, are_sessions, workload_of, IsJson, workload_in, UnlessMemory, accepted_in, has_built_form, states_clock};
+ghost use Rattle.pc_work.specs.Workload.{are_others_within, are_stated_turns, are_turns_within, is_script_there, is_within_limits, workload_names, first_items, are_sessions, workload_of, IsJson, workload_in, UnlessMemory, accepted_in, has_built_form, states_clock};
 
 use crate::count::Counted;
 use crate::fault::{Misfit, WorkFault};
 use crate::json::{flag, has_only, list, member, whole, whole_between, whole_member, whole_up_to};
+use crate::recoverer::Recoverers;
 use crate::session::{SessionWork, Sessions};
 use crate::splits::splits_or_none;
 use crate::turn::{Turn, Turns};
 use pc_base::limits::{
-    DEFAULT_ENTRIES, DEFAULT_RERUNS, DEFAULT_TRIES, LEAST_ENTRIES, MOST_ENTRIES, MOST_RERUNS,
-    MOST_SESSIONS, MOST_STATEMENTS, MOST_TURNS,
+    DEFAULT_ENTRIES, DEFAULT_RERUNS, DEFAULT_TRIES, LEAST_ENTRIES, MOST_ENTRIES, MOST_RECOVERERS,
+    MOST_RERUNS, MOST_SESSIONS, MOST_STATEMENTS, MOST_TURNS,
 };
 use pc_proto::Keys;
 use serde_json::Value as Json;
@@ -30,7 +32,7 @@ const NO_JSON: u8 = 1;
 /// The number of the refusal of a value of another form than a workload's.
 const OTHER_FORM: u8 = 10;
 
-/// What all sessions do, over which ranges, and in which order.
+/// What all sessions and recoverers do, over which ranges, and in which order.
 #[derive(Debug, PartialEq, Eq, Drop)]
 pub struct Workload {
     pub version: u8,
@@ -47,7 +49,8 @@ pub struct Workload {
     /// How many items of the first session's script run before anyone else does.
     pub opening: u32,
     pub sessions: Sessions,
-    /// Where there are none, sessions run on threads.
+    pub recoverers: Recoverers,
+    /// Where there are none, sessions and recoverers run on threads.
     pub turns: Option<Turns>,
 }
 
@@ -125,8 +128,9 @@ fn workload_of(alloc: Global, json: &Json) -> Result<Workload, Misfit>
     let reruns = reruns_or_default(json, "reruns")?;
     let opening = opening_or_default(json, "opening")?;
     let turns = turns_if(alloc, json, "turns")?;
+    let recoverers = recoverers_or_none(alloc, json, "recoverers")?;
     let sessions: Sessions = list(alloc, member(json, "sessions")?)?;
-    if !is_within(version, pipelining, opening, &sessions, &turns) {
+    if !is_within(version, pipelining, opening, &sessions, &recoverers, &turns) {
         return Err(Misfit::OtherForm);
     }
     Ok(Workload {
@@ -138,6 +142,7 @@ fn workload_of(alloc: Global, json: &Json) -> Result<Workload, Misfit>
         reruns,
         opening: opening as u32,
         sessions,
+        recoverers,
         turns,
     })
 }
@@ -156,6 +161,7 @@ fn has_known_members(json: &Json) -> bool
             "reruns",
             "opening",
             "turns",
+            "recoverers",
             "sessions",
         ],
     )
@@ -181,6 +187,16 @@ fn turns_if(alloc: Global, json: &Json, name: &str) -> Result<Option<Turns>, Mis
     }
 }
 
+/// The recoverers in the member of this name, by default none.
+fn recoverers_or_none(alloc: Global, json: &Json, name: &str) -> Result<Recoverers, Misfit>
+    ensures { Gives result (member_or [] (list_by recoverer_of) name.now (view json.now)) }
+{
+    match json.get(name) {
+        Some(stated) => list(alloc, stated),
+        None => Ok(Recoverers::from_vec(Vec::new(alloc))),
+    }
+}
+
 /// How often a transaction may be asked again, by default as the limits say.
 fn reruns_or_default(json: &Json, name: &str) -> Result<u32, Misfit>
     ensures { Gives result (member_or DEFAULT_RERUNS (whole_up_to MOST_RERUNS) name.now (view json.now)) }
@@ -201,20 +217,21 @@ fn opening_or_default(json: &Json, name: &str) -> Result<u64, Misfit>
     }
 }
 
-/// Version 1 without pipelining; sessions, turns and an opening within their limits; and learns only where they may stand.
+/// Version 1 without pipelining; sessions, recoverers, turns and an opening within their limits; and learns only where they may stand.
 fn is_within(
     version: u64,
     pipelining: bool,
     opening: u64,
     sessions: &Sessions,
+    recoverers: &Recoverers,
     turns: &Option<Turns>,
 ) -> bool
-    ensures { result ≡ is_within_limits version pipelining opening sessions.now turns.now }
+    ensures { result ≡ is_within_limits version pipelining opening sessions.now recoverers.now turns.now }
 {
     version == 1
         && !pipelining
         && are_sessions(sessions)
-        && are_turns_within(sessions, turns)
+        && are_others_within(sessions, recoverers, turns)
         && are_scripts_there(sessions, turns)
         && opening <= first_items(sessions)
 }
@@ -256,23 +273,29 @@ fn are_sessions(sessions: &Sessions) -> bool
     sessions.len() >= 1 && sessions.len() <= MOST_SESSIONS && sessions.count() <= MOST_STATEMENTS
 }
 
-fn are_turns_within(sessions: &Sessions, turns: &Option<Turns>) -> bool
-    ensures { result ≡ are_turns_within sessions.now turns.now }
+fn are_others_within(sessions: &Sessions, recoverers: &Recoverers, turns: &Option<Turns>) -> bool
+    ensures { result ≡ are_others_within sessions.now recoverers.now turns.now }
+{
+    recoverers.len() <= MOST_RECOVERERS && are_turns_within(sessions, recoverers, turns)
+}
+
+fn are_turns_within(sessions: &Sessions, recoverers: &Recoverers, turns: &Option<Turns>) -> bool
+    ensures { result ≡ are_turns_within sessions.now recoverers.now turns.now }
 {
     match turns {
-        Some(turns) => are_stated_turns(sessions, turns),
+        Some(turns) => are_stated_turns(sessions, recoverers, turns),
         None => true,
     }
 }
 
-fn are_stated_turns(sessions: &Sessions, turns: &Turns) -> bool
-    ensures { result ≡ are_stated_turns sessions.now turns.now }
+fn are_stated_turns(sessions: &Sessions, recoverers: &Recoverers, turns: &Turns) -> bool
+    ensures { result ≡ are_stated_turns sessions.now recoverers.now turns.now }
 {
-    turns.len() <= MOST_TURNS && are_there(turns.as_slice(), sessions.len())
+    turns.len() <= MOST_TURNS && are_there(turns.as_slice(), sessions.len(), recoverers.len())
 }
 
-fn are_there(turns: &[Turn], sessions: usize) -> bool
-    ensures { result ≡ list_all (is_turn_there sessions) turns.now }
+fn are_there(turns: &[Turn], sessions: usize, recoverers: usize) -> bool
+    ensures { result ≡ list_all (is_turn_there sessions recoverers) turns.now }
 {
-    turns.iter().all(|turn| turn.is_there(sessions))
+    turns.iter().all(|turn| turn.is_there(sessions, recoverers))
 }

@@ -1,8 +1,9 @@
-use Rattle.std.proofs.Common.{◌≡◌, [], IfNone, IfSome, subst, ◌∙◌}
+use Rattle.std.proofs.Common.{◌≡◌, ℕ, [], IfNone, IfSome, subst, ◌∙◌}
 use Rattle.std.proofs.lemmas.Result.{err_from_is_err_and}
 use Rattle.pc_desk.specs.Desk.{HasHeardFirst}
-use Rattle.pc_exchange.proofs.Ending.{only_breaks}
+use Rattle.pc_exchange.proofs.Ending.{only_breaks, sends_within}
 use Rattle.pc_exchange.proofs.Exchanging.{ends_delivered, ends_sent, has_reply, may_hear_it, was_exchanged}
+use Rattle.pc_proto.specs.declared.event.Event.TheVariants as events
 use Rattle.pc_exchange.proofs.message.exchange.Goals as goal
 
 pub hear-requires-clause-may : goal.hear-requires-clause-may
@@ -30,7 +31,8 @@ returns-clause-ok g c =
 pub returns-in_err-send-clause-ended : goal.returns-in_err-send-clause-ended
 returns-in_err-send-clause-ended g c =
     let p = err_from_is_err_and c.from_residual.result c.from_residual.ensures.1 in
-    rw (p.1, p.2) (only_breaks c.args.desk.now c.send.new.self c.in_err-send.field-0.0 c.requires.back.track c.in_err-send.ensures.ended)
+    rw (p.1, p.2)
+    (only_breaks (λ made. (number : ℕ) × (range : ℕ) × (made ≡ events.Send number range c.args.request)) c.args.desk.now c.send.new.self c.in_err-send.field-0.0 c.requires.back.track (sends_within c.args.request) c.in_err-send.ensures.ended)
 
 pub returns-in_err-deliver-clause-ended : goal.returns-in_err-deliver-clause-ended
 returns-in_err-deliver-clause-ended g c =

@@ -1,7 +1,9 @@
-use Rattle.std.proofs.Common.{refl}
+use Rattle.std.proofs.Common.{rules, ◌≡◌, max, refl, sym, subst, ◌∙◌}
 use Rattle.std.proofs.lemmas.Result.{err_from_is_err_and}
 use Rattle.pc_exchange.proofs.Ending.{goes_breaks}
+use Rattle.pc_exchange.proofs.Rounding.{sends_asks}
 use Rattle.pc_exchange.proofs.Rounds.{reader_below, round_asks, round_begins, round_refused, round_settled}
+use Rattle.pc_exchange.specs.Rounding.{IsRoundUnderWay}
 use Rattle.pc_exchange.proofs.round.make_round.Goals as goal
 
 pub new-machine-requires-clause-reader : goal.new-machine-requires-clause-reader
@@ -10,6 +12,15 @@ new-machine-requires-clause-reader g c = reader_below c.args.desk.now c.args.pus
 pub loop-init : goal.loop-init
 loop-init g c =
     (round_begins c.args.desk.now c.args.pusher c.args.reading c.args.conflict c.args.reader c.requires c.new-machine.result c.new-machine.ensures.made c.new-machine.ensures.knows, refl)
+
+pub loop-preserved : goal.loop-preserved
+loop-preserved g c =
+    let last : c.max-heard.result ≡ max c.loop.heard c.in_ok-last-in-Send.last = search rules in (
+      subst (λ n. IsRoundUnderWay c.args.desk.now c.args.pusher c.args.reading c.args.conflict c.args.reader c.push_on.new.machine c.push_on.new.desk n) (sym last)
+          (c.in_ok-last-in-Send.ensures.ok c.args.desk.now c.args.pusher c.args.reading c.args.conflict c.args.reader c.loop.heard c.loop.invariant.0
+          (sends_asks c.loop.machine.progress c.loop.machine c.in-Send.request (sym c.in-Ok.ensures.due ∙ c.in-Send.is))),
+      c.in_ok-last-in-Send.ensures.clock ∙ c.loop.invariant.1,
+    )
 
 pub push_on-requires : goal.push_on-requires
 push_on-requires g c =

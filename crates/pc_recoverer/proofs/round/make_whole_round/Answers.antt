@@ -1,3 +1,4 @@
+use Rattle.std.proofs.Common.{◌≡◌}
 use Rattle.std.proofs.lemmas.Result.{err_from_is_err_and}
 use Rattle.pc_desk.specs.Desk.{HasDone}
 use Rattle.pc_desk.specs.Ending.{EndsOnly}
@@ -5,7 +6,7 @@ use Rattle.pc_proto.specs.declared.answer.Answer.TheVariants as answers
 use Rattle.pc_proto.specs.declared.event.Event.TheVariants as events
 use Rattle.pc_recoverer.proofs.Rounding.{ask_ends_early, asked_making, has_made_round, may_ask_round, may_tell_done, round_ends_early, telling_ends_early}
 use Rattle.pc_recoverer.proofs.Traffic.{if_err, on_ok}
-use Rattle.pc_recoverer.specs.Broken.{AreOfBrokenRound, BreaksOffIn}
+use Rattle.pc_recoverer.specs.Broken.{AreOfEndedRound, BreaksOffIn}
 use Rattle.pc_recoverer.specs.Recoverer.{HasMadeWholeRound}
 use Rattle.pc_recoverer.proofs.round.make_whole_round.Goals as goal
 
@@ -22,7 +23,7 @@ tell-requires-clause-may g c =
 pub returns-in_err-reading-clause-ended : goal.returns-in_err-reading-clause-ended
 returns-in_err-reading-clause-ended g c =
     let p = err_from_is_err_and c.from_residual.result c.from_residual.ensures.1 in
-    rw (p.1, p.2) (ask_ends_early c.args.number c.args.level c.args.desk.now c.ask.new.self c.in_err-reading.field-0.0 c.requires.between.back.track c.in_err-reading.ensures.ended)
+    rw (p.1, p.2) (ask_ends_early c.args.number c.args.level c.args.desk.now c.ask.new.self c.in_err-reading.field-0.0 c.requires.between.back.track c.requires.whose c.in_err-reading.ensures.ended)
 
 pub returns-in_err-visit_each-clause-ended : goal.returns-in_err-visit_each-clause-ended
 returns-in_err-visit_each-clause-ended g c =
@@ -42,5 +43,5 @@ pub returns-clause-ended : goal.returns-clause-ended
 returns-clause-ended g c =
     let late = c.visit_each.new.desk in
     let new = c.tell.new.self in
-    if_err c.tell.result (EndsOnly late new) (BreaksOffIn (AreOfBrokenRound c.args.desk.now.log.head.splits c.args.number c.args.level) c.args.desk.now new)
+    if_err c.tell.result (EndsOnly (λ made. made ≡ events.Tell answers.Done) late new) (λ halt. BreaksOffIn (AreOfEndedRound c.args.desk.now.log.head.splits c.args.number c.args.level halt) c.args.desk.now new halt)
     (telling_ends_early c.args.number c.args.level c.in_ok-reading.reading c.args.desk.now c.ask.new.self c.requires.between c.requires.whose c.in_ok-reading.ensures.ok c.args.ranges c.requires.there late c.in_ok-visit_each.ensures.ok new) c.tell.ensures.ended

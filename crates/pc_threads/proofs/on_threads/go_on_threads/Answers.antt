@@ -1,44 +1,47 @@
-use Rattle.std.proofs.Common.{◌≤◌, All, length, sym, subst, ◌∙◌}
-use Rattle.std.specs.List.{AllZip}
-use Rattle.pc_scripted.specs.Scripted.{IsScripted}
-use Rattle.pc_threads.proofs.Places.{written_back, zip_long}
-use Rattle.pc_threads.proofs.Whole.{all_scripted, clocks_gone, if_ok, lanes_scripted, lanes_some, order_gone, over_gone, runners_gone}
-use Rattle.pc_threads.specs.Lanes.{HasLeftLane, HasRunLane}
+use Rattle.std.proofs.Common.{◌≤◌, sym, subst}
+use Rattle.pc_scripted.specs.Scripted.{own_list}
+use Rattle.pc_threads.proofs.RoundsGone.{all_counted, lanes_counted}
+use Rattle.pc_threads.proofs.Whole.{all_scripted, client_clocks_went, clients_went, ends_went, if_ok, lanes_scripted, lanes_some, order_went}
 use Rattle.pc_threads.proofs.on_threads.go_on_threads.Goals as goal
 
 pub start-requires-clause-some : goal.start-requires-clause-some
-start-requires-clause-some g c = subst (λ n. 1 ≤ n) (sym c.requires.runners.many) c.requires.some_session
+start-requires-clause-some g c = subst (λ n. 1 ≤ n) (sym c.requires.clients.runners.many) c.requires.some_session
 
 pub start-requires-clause-scripted : goal.start-requires-clause-scripted
-start-requires-clause-scripted g c = all_scripted c.args.work.now c.args.sessions.items c.requires.runners
+start-requires-clause-scripted g c = all_scripted c.args.work.now c.args.sessions.items c.requires.clients.runners
 
-pub run_all-requires-clause-some : goal.run_all-requires-clause-some
-run_all-requires-clause-some g c κs within = subst (λ ls. 1 ≤ length ls) (sym c.as_mut_slice.ensures.value) (lanes_some g.C.Clock.rule c.args.work.now.opening c.args.sessions.items c.in_ok-lanes.lanes.items c.in_ok-lanes.ensures)
+pub start-requires-clause-counted : goal.start-requires-clause-counted
+start-requires-clause-counted g c = all_counted c.args.work.now c.args.recoverers.items c.requires.clients.recoverers
 
-pub run_all-requires-clause-scripted : goal.run_all-requires-clause-scripted
-run_all-requires-clause-scripted g c κs within =
-    subst (λ ls. All (λ l. IsScripted l.session) ls) (sym c.as_mut_slice.ensures.value) (lanes_scripted g.C.Clock.rule c.args.work.now.opening c.args.sessions.items c.in_ok-lanes.lanes.items c.in_ok-lanes.ensures)
+pub run_to_ends-requires-clause-some : goal.run_to_ends-requires-clause-some
+run_to_ends-requires-clause-some g c κs within = lanes_some g.C.Clock.rule c.args.work.now.opening c.args.sessions.items c.in_ok-lanes.lanes.0.items c.in_ok-lanes.ensures.0
 
-pub returns-clause-runners : goal.returns-clause-runners
-returns-clause-runners g c =
-    let ran = subst (λ ls. AllZip (HasRunLane g.C.Clock.rule) ls c.run_all.new.lanes) c.as_mut_slice.ensures.value c.run_all.ensures in
-    let back = written_back c.run_all.new.lanes _ c.in_ok-lanes.lanes.len (c.in_ok-lanes.lanes.ok.0 ∙ sym (zip_long (HasRunLane g.C.Clock.rule) c.in_ok-lanes.lanes.items c.run_all.new.lanes ran)) in
-    if_ok c.take_back.result _ _ c.take_back.ensures (λ gone zips. runners_gone c.args.work.now g.C.Clock.rule c.args.sessions.items c.requires.runners c.requires.fresh c.in_ok-lanes.lanes.items c.run_all.new.lanes c.in_ok-lanes.ensures ran gone.items (subst (λ run. AllZip HasLeftLane run gone.items) back zips))
+pub run_to_ends-requires-clause-scripted : goal.run_to_ends-requires-clause-scripted
+run_to_ends-requires-clause-scripted g c κs within = lanes_scripted g.C.Clock.rule c.args.work.now.opening c.args.sessions.items c.in_ok-lanes.lanes.0.items c.in_ok-lanes.ensures.0
+
+pub run_to_ends-requires-clause-counted : goal.run_to_ends-requires-clause-counted
+run_to_ends-requires-clause-counted g c κs within = lanes_counted (own_list c.in_ok-lanes.ensures.0.opened) c.args.recoverers.items c.in_ok-lanes.lanes.1.items c.in_ok-lanes.ensures.1
+
+pub returns-clause-clients : goal.returns-clause-clients
+returns-clause-clients g c =
+    if_ok c.run_to_ends.result _ _ c.run_to_ends.ensures
+    (λ gone all. clients_went c.args.work.now g.C.Clock.rule c.args.sessions.items c.args.recoverers.items c.requires.clients c.requires.fresh c.requires.fresh_recoverers c.in_ok-lanes.lanes.0.items all.run c.in_ok-lanes.ensures.0 all.ran gone.0.items all.back c.in_ok-lanes.lanes.1.items all.round_run c.in_ok-lanes.ensures.1 all.round_ran gone.1.items
+    all.round_back)
 
 pub returns-clause-clocks : goal.returns-clause-clocks
 returns-clause-clocks g c =
-    let ran = subst (λ ls. AllZip (HasRunLane g.C.Clock.rule) ls c.run_all.new.lanes) c.as_mut_slice.ensures.value c.run_all.ensures in
-    let back = written_back c.run_all.new.lanes _ c.in_ok-lanes.lanes.len (c.in_ok-lanes.lanes.ok.0 ∙ sym (zip_long (HasRunLane g.C.Clock.rule) c.in_ok-lanes.lanes.items c.run_all.new.lanes ran)) in
-    if_ok c.take_back.result _ _ c.take_back.ensures (λ gone zips. clocks_gone c.args.work.now g.C.Clock.rule c.args.sessions.items c.requires.runners c.requires.fresh c.in_ok-lanes.lanes.items c.run_all.new.lanes c.in_ok-lanes.ensures ran gone.items (subst (λ run. AllZip HasLeftLane run gone.items) back zips))
+    if_ok c.run_to_ends.result _ _ c.run_to_ends.ensures
+    (λ gone all. client_clocks_went c.args.work.now g.C.Clock.rule c.args.sessions.items c.args.recoverers.items c.requires.clients c.requires.fresh c.requires.fresh_recoverers c.in_ok-lanes.lanes.0.items all.run c.in_ok-lanes.ensures.0 all.ran gone.0.items all.back c.in_ok-lanes.lanes.1.items all.round_run c.in_ok-lanes.ensures.1 all.round_ran gone.1.items
+    all.round_back)
 
 pub returns-clause-over : goal.returns-clause-over
 returns-clause-over g c =
-    let ran = subst (λ ls. AllZip (HasRunLane g.C.Clock.rule) ls c.run_all.new.lanes) c.as_mut_slice.ensures.value c.run_all.ensures in
-    let back = written_back c.run_all.new.lanes _ c.in_ok-lanes.lanes.len (c.in_ok-lanes.lanes.ok.0 ∙ sym (zip_long (HasRunLane g.C.Clock.rule) c.in_ok-lanes.lanes.items c.run_all.new.lanes ran)) in
-    if_ok c.take_back.result _ _ c.take_back.ensures (λ gone zips. over_gone c.args.work.now g.C.Clock.rule c.args.sessions.items c.requires.runners c.requires.fresh c.in_ok-lanes.lanes.items c.run_all.new.lanes c.in_ok-lanes.ensures ran gone.items (subst (λ run. AllZip HasLeftLane run gone.items) back zips))
+    if_ok c.run_to_ends.result _ _ c.run_to_ends.ensures
+    (λ gone all. ends_went c.args.work.now g.C.Clock.rule c.args.sessions.items c.args.recoverers.items c.requires.clients c.requires.fresh c.requires.fresh_recoverers c.in_ok-lanes.lanes.0.items all.run c.in_ok-lanes.ensures.0 all.ran gone.0.items all.back c.in_ok-lanes.lanes.1.items all.round_run c.in_ok-lanes.ensures.1 all.round_ran gone.1.items
+    all.round_back)
 
 pub returns-clause-order : goal.returns-clause-order
 returns-clause-order g c =
-    let ran = subst (λ ls. AllZip (HasRunLane g.C.Clock.rule) ls c.run_all.new.lanes) c.as_mut_slice.ensures.value c.run_all.ensures in
-    let back = written_back c.run_all.new.lanes _ c.in_ok-lanes.lanes.len (c.in_ok-lanes.lanes.ok.0 ∙ sym (zip_long (HasRunLane g.C.Clock.rule) c.in_ok-lanes.lanes.items c.run_all.new.lanes ran)) in
-    if_ok c.take_back.result _ _ c.take_back.ensures (λ gone zips. order_gone c.args.work.now g.C.Clock.rule c.args.sessions.items c.requires.runners c.requires.fresh c.in_ok-lanes.lanes.items c.run_all.new.lanes c.in_ok-lanes.ensures ran gone.items (subst (λ run. AllZip HasLeftLane run gone.items) back zips))
+    if_ok c.run_to_ends.result _ _ c.run_to_ends.ensures
+    (λ gone all. order_went c.args.work.now g.C.Clock.rule c.args.sessions.items c.args.recoverers.items c.requires.clients c.requires.fresh c.requires.fresh_recoverers c.in_ok-lanes.lanes.0.items all.run c.in_ok-lanes.ensures.0 all.ran gone.0.items all.back c.in_ok-lanes.lanes.1.items all.round_run c.in_ok-lanes.ensures.1 all.round_ran gone.1.items
+    all.round_back)

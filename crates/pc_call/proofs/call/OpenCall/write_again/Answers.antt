@@ -1,14 +1,15 @@
-use Rattle.std.proofs.Common.{◌≡◌, [], ◌∷◌, sym, ap, ◌∙◌, subst}
+use Rattle.std.proofs.Common.{◌≡◌, true, All, [], ◌∷◌, sym, ap, ◌∙◌, subst}
+use Rattle.pc_call.proofs.Committing.{all_to_send}
 use Rattle.pc_call.proofs.Beginning.{again_begins}
 use Rattle.pc_call.specs.declared.purpose.Purpose.TheVariants as purposes
-use Rattle.std.proofs.Common.{true}
 use Rattle.pc_call.specs.Serving.{InCall}
 use Rattle.pc_txn.specs.Opened.{last_put}
-use Rattle.pc_wave.specs.Messages.{message_to_send}
+use Rattle.pc_wave.specs.Messages.{is_to_send, message_to_send}
 use Rattle.pc_call.proofs.call.OpenCall.write_again.Goals as goal
 
 pub returns : goal.returns
 returns c = record {
+  unsent = subst (λ ms. All (λ m. is_to_send m ≡ true) ms) (sym (c.in_ok-wave.ensures ∙ ap (λ r. message_to_send r ∷ []) c.in_ok-last_put.ensures)) (all_to_send (last_put c.args.txn.now c.args.anchor.now c.args.key.now c.args.value.now ∷ []));
   stands = λ splits k s why fresh call some anchored.
       let x = c.args.txn.now in
       let e : c.in_ok-wave.wave ≡ message_to_send (last_put x c.args.anchor.now c.args.key.now c.args.value.now) ∷ [] = c.in_ok-wave.ensures ∙ ap (λ r. message_to_send r ∷ []) c.in_ok-last_put.ensures in

@@ -1,9 +1,9 @@
 use Rattle.std.proofs.Common.{◌≡◌, false, not, ◌&&◌, ◌==◌, ◌∙◌}
-use Rattle.pc_coord.proofs.Onward.{abort_waits, commit_waits}
+use Rattle.pc_coord.proofs.Onward.{abort_waits, beat_waits, commit_waits, served_beat}
 use Rattle.pc_coord.proofs.Steps.{on_ok}
 use Rattle.pc_coord.specs.Coordination.{awaits_number}
 use Rattle.pc_wave.specs.Messages.{wave_awaits}
-use Rattle.pc_coord.proofs.Coming.{committed_none}
+use Rattle.pc_coord.proofs.Coming.{beaten_none, committed_none}
 use Rattle.pc_wave.specs.Messages.{awaits_at, back_with, first_changed}
 use Rattle.pc_coord.proofs.coordinator.Coordinator.hear.Goals as goal
 
@@ -43,3 +43,18 @@ returns-in-Commit-clause-comes c = λ k heard is.
 pub returns-in-Abort-clause-comes : goal.returns-in-Abort-clause-comes
 returns-in-Abort-clause-comes c = λ k heard is.
     c.abort_heard.ensures.comes (first_changed (awaits_at c.args.number) (back_with c.args.number c.args.reply.now) c.args.call.wave) c.in-Abort.why c.in-Abort.is
+
+pub returns-in-Beat-clause-knows : goal.returns-in-Beat-clause-knows
+returns-in-Beat-clause-knows c = λ k heard is. c.beat_heard.ensures.knows k heard c.args.number c.in-Beat.reading c.in-Beat.call is c.in-Beat.is
+
+pub returns-in-Beat-clause-waits : goal.returns-in-Beat-clause-waits
+returns-in-Beat-clause-waits c = λ k other w waits.
+    on_ok c.beat_heard.result (awaits_number other c.beat_heard.new.self.due ≡ false) (awaits_number other c.beat_heard.new.self.due ≡ (wave_awaits other c.args.call.wave && not (c.args.number == other)))
+    (λ e. e ∙ beat_waits c.args.number other c.args.self.now.splits k c.args.txn c.args.call.purpose c.args.call.wave w c.in-Beat.call c.in-Beat.reading c.in-Beat.is waits)
+    (c.beat_heard.ensures.waits other c.in-Beat.reading c.in-Beat.call c.in-Beat.is (served_beat c.args.self.now.splits k c.args.txn c.args.call.purpose c.args.call.wave w c.in-Beat.call c.in-Beat.reading c.in-Beat.is).asks)
+
+pub returns-in-Beat-clause-comes : goal.returns-in-Beat-clause-comes
+returns-in-Beat-clause-comes c = λ k heard is.
+    c.beat_heard.ensures.comes (first_changed (awaits_at c.args.number) (back_with c.args.number c.args.reply.now) c.args.call.wave) c.in-Beat.reading c.in-Beat.call c.in-Beat.is
+    (served_beat c.args.self.now.splits k c.args.txn c.args.call.purpose c.args.call.wave is.in_call c.in-Beat.call c.in-Beat.reading c.in-Beat.is).asks
+    (beaten_none c.args.self.now c.args.call c.args.txn c.args.number c.args.reply.now k heard is c.in-Beat.call c.in-Beat.reading c.in-Beat.is)

@@ -20,4 +20,4 @@ returns-in_err-last-2-clause-ended g c =
     let made = c.loop-self.invariant.0 in
     let p = err_from_is_err_and c.from_residual-in_err-last-2.result c.from_residual-in_err-last-2.ensures.1 in
     rw (p.1, p.2)
-    (ended_later c.args.self.now c.loop-self.self c.deliver_first.new.self c.in_err-last-2.field-0.0 (ap (λ l. l.stopped) made.own) (ap (λ l. l.stop) made.own) made.more made.own made.limit c.in_err-last-2.ensures.ended)
+    (ended_later c.args.self.now c.loop-self.self c.deliver_first.new.self c.in_err-last-2.field-0.0 (ap (λ l. l.stopped) made.own) made.more made.own made.limit c.in_err-last-2.ensures.ended)

@@ -1,8 +1,8 @@
-use Rattle.std.proofs.Common.{refl, subst}
+use Rattle.std.proofs.Common.{◌≡◌, ℕ, inr, refl, subst}
 use Rattle.std.specs.BTreeMap.{get}
 use Rattle.pc_base.specs.Transaction.{txn_cmp}
 use Rattle.pc_desk.proofs.Entering.{ask_keeps}
-use Rattle.pc_desk.proofs.Logging.{counted_on, made_entry, made_log, made_reads, places_made}
+use Rattle.pc_desk.proofs.Logging.{counted_on, made_entry, made_log, made_reads, made_stop, places_made}
 use Rattle.pc_desk.specs.Asks.{ReadsClock}
 use Rattle.pc_proto.specs.declared.event.Event.TheVariants as events
 use Rattle.pc_desk.proofs.own_log.OwnLog.ask.Goals as goal
@@ -45,3 +45,12 @@ returns-clause-ok g c =
     c.self.view_is c.in_ok-last.ensures.ok c.if-last.false c.act.ensures.stored c.act.ensures.above c.act.ensures.small
     (made_log c.args.self.now c.ready.new.self i.actor c.act.new.self i.clock c.read-reading.new.self i.pipelining i.beside i.limit i.stop i.stopped c.in_ok-last.last c.act.result event
     c.self.view_is c.in_ok-last.ensures.ok c.self.invariant.0 (ask_keeps c.args.self.now.part.id c.args.self.now.head.splits c.args.self.now.pipelining _ c.args.call c.read-reading.result) (record { whole = tt; order = λ one. tt }) c.act.ensures.stored c.act.ensures.sound c.act.ensures.stands)
+
+pub returns-then-last-clause-err : goal.returns-then-last-clause-err
+returns-then-last-clause-err g c =
+    let i = c.self.inside in
+    let event = events.Ask c.args.call c.read-reading.result in
+    inr (made_stop c.args.self.now c.ready.new.self i.actor c.act.new.self i.clock c.read-reading.new.self i.pipelining i.beside i.limit i.stop i.stopped c.in_ok-last.last c.act.result event
+    (λ made. (reading : ℕ) × (made ≡ events.Ask c.args.call reading)) (c.read-reading.result, refl) c.self.view_is c.in_ok-last.ensures.ok c.if-last.true c.act.ensures.stored c.act.ensures.above c.act.ensures.small
+    (made_log c.args.self.now c.ready.new.self i.actor c.act.new.self i.clock c.read-reading.new.self i.pipelining i.beside i.limit i.stop i.stopped c.in_ok-last.last c.act.result event
+    c.self.view_is c.in_ok-last.ensures.ok c.self.invariant.0 (ask_keeps c.args.self.now.part.id c.args.self.now.head.splits c.args.self.now.pipelining _ c.args.call c.read-reading.result) (record { whole = tt; order = λ one. tt }) c.act.ensures.stored c.act.ensures.sound c.act.ensures.stands))

@@ -31,6 +31,6 @@ returns-in-Err-clause-ok g c =
     let next = subst (λ s. learnt_ahead s ≡ Some c.args.id) (sym c.self.view_is) c.requires.next in
     on_ok c.unless_memory.result _ _
     (λ memory. moved_from _ c.args.self.now _ (λ s. LearnsInTurn s c.args.id (is_some c.args.token)) c.self.view_is
-    (moved_broken_learn _ c.learn.new.self c.args.id (is_some c.args.token) scripted next
-    (breaks_so (AreOfBrokenLearn c.args.id (is_some c.args.token)) c.self.inside.session.desk c.learn.new.self.desk c.in-Err.halt (learn_going _ c.args.id scripted next) scripted.no_stop memory c.in-Err.ensures.ended)))
+    (moved_broken_learn _ c.learn.new.self c.args.id (is_some c.args.token) scripted next c.in-Err.halt
+    (breaks_so (AreOfBrokenLearn c.args.id (is_some c.args.token) c.in-Err.halt) c.self.inside.session.desk c.learn.new.self.desk c.in-Err.halt (learn_going _ c.args.id scripted next) memory c.in-Err.ensures.ended)))
     c.unless_memory.ensures

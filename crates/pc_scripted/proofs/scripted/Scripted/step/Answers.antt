@@ -19,5 +19,5 @@ returns-in-Err-clause-ok g c =
     let going = ap (λ s. s.session.desk.log.stopped) c.self.view_is ∙ c.requires.going in
     on_ok c.unless_memory.result _ _
     (λ memory. moved_from _ c.args.self.now _ (λ s. FinishesInTurn s) c.self.view_is
-    (moved_broken_step _ c.step.new.self scripted going (breaks_so (All IsInBetween) c.self.inside.session.desk c.step.new.self.desk c.in-Err.halt going scripted.no_stop memory c.in-Err.ensures.ended) (subst (λ s. jobs_of (own_list s) ≡ [] → ⊥) (sym c.self.view_is) c.requires.some)))
+    (moved_broken_step _ c.step.new.self scripted going (breaks_so (All IsInBetween) c.self.inside.session.desk c.step.new.self.desk c.in-Err.halt going memory c.in-Err.ensures.ended) (subst (λ s. jobs_of (own_list s) ≡ [] → ⊥) (sym c.self.view_is) c.requires.some)))
     c.unless_memory.ensures

@@ -1,4 +1,4 @@
-use Rattle.std.proofs.Common.{sym, subst}
+use Rattle.std.proofs.Common.{ℕ, ◌≡◌, sym, subst}
 use Rattle.pc_desk.specs.Desk.{HasDone}
 use Rattle.pc_proto.specs.declared.event.Event.TheVariants as events
 use Rattle.pc_session.proofs.Asking.{asked_between, asked_goes, asked_learning, asked_open, unheld}
@@ -7,6 +7,8 @@ use Rattle.pc_session.specs.Calls.{MayBeCalled}
 use Rattle.pc_session.specs.Session.{IsAtRest}
 use Rattle.std.proofs.lemmas.Result.{err_from_is_err_and}
 use Rattle.pc_session.proofs.Ending.{ends_from}
+use Rattle.pc_desk.specs.Ending.{EndsOnly}
+use Rattle.pc_proto.specs.declared.call.Call.{Call}
 use Rattle.pc_session.proofs.office.Office.ask.Goals as goal
 
 pub returns-in-Ok-ask-clause-calls : goal.returns-in-Ok-ask-clause-calls
@@ -40,7 +42,8 @@ returns-in-Ok-ask-clause-between g c =
 pub returns-in_err-reading-clause-ended : goal.returns-in_err-reading-clause-ended
 returns-in_err-reading-clause-ended g c =
     let p = err_from_is_err_and c.from_residual.result c.from_residual.ensures.1 in
-    rw (p.1, p.2) (ends_from _ c.args.self.now c.ask.new.self c.self.view_is c.in_err-reading.field-0.0 c.in_err-reading.ensures.ended)
+    rw (p.1, p.2) (ends_from _ c.args.self.now c.ask.new.self c.self.view_is (λ made. (reading : ℕ) × (made ≡ events.Ask c.args.call reading)) c.in_err-reading.field-0.0
+    (subst (λ (a : Call). EndsOnly (λ made. (reading : ℕ) × (made ≡ events.Ask a reading)) c.self.inside.desk c.ask.new.self c.in_err-reading.field-0.0) c.in-Ok.ensures c.in_err-reading.ensures.ended))
 
 pub returns-in-Ok-ask-clause-learns : goal.returns-in-Ok-ask-clause-learns
 returns-in-Ok-ask-clause-learns g c = λ id is.

@@ -25,4 +25,4 @@ returns-clause-whole g c =
     on_ok_weaker c.deliver.result (λ made. delivered_whole _ c.args.reading calls c.deliver.new.self made (subst IsWholeOut (sym c.self.view_is) c.requires.whole)) c.deliver.ensures.ok
 
 pub returns-clause-ended : goal.returns-clause-ended
-returns-clause-ended g c = nothing_breaks_if _ c.args.self.now c.deliver.new.self c.self.view_is c.deliver.result c.requires.calls.track c.deliver.ensures.ended
+returns-clause-ended g c = nothing_breaks_if _ c.args.self.now c.deliver.new.self c.self.view_is (λ made. ⊥) c.deliver.result c.requires.calls.track (λ event none. absurd none) c.deliver.ensures.ended

@@ -1,8 +1,7 @@
 use Rattle.std.proofs.Common.{All, IfErr, IfOk, refl, sym, subst}
+use Rattle.std.proofs.lemmas.Result.{err_from_is_err_and}
+use Rattle.pc_session.proofs.Ending.{open_breaks, open_breaks_if, told_breaks_if}
 use Rattle.pc_session.specs.InCall.{GoesOnOrTold, IsBetweenWaves}
-use Rattle.pc_exchange.specs.Ending.{BreaksOff}
-use Rattle.pc_session.proofs.Ending.{nothing_breaks_if}
-use Rattle.pc_turns.specs.Order.{IsInBetween}
 use Rattle.pc_session.proofs.office.Office.go_on.Goals as goal
 
 pub send-requires-clause-between : goal.send-requires-clause-between
@@ -13,8 +12,24 @@ wave-requires-clause-between g c = subst (λ s. IsBetweenWaves s.desk) (sym c.in
 
 pub returns-in-Tell-clause-ended : goal.returns-in-Tell-clause-ended
 returns-in-Tell-clause-ended g c =
-    subst (λ s. IfErr c.tell.result (BreaksOff (All IsInBetween) s.desk c.tell.new.self.desk)) c.in_ok-request.ensures.same
-    (nothing_breaks_if c.due.new.self c.due.new.self c.tell.new.self.desk refl c.tell.result c.in_ok-request.ensures.calls.track c.tell.ensures.ended)
+    told_breaks_if c.due.new.self c.args.self.now c.tell.new.self.desk c.in_ok-request.ensures.same c.in-Tell.answer c.tell.result c.in_ok-request.ensures.calls.track c.tell.ensures.ended
+
+pub returns-in-Send-clause-ended : goal.returns-in-Send-clause-ended
+returns-in-Send-clause-ended g c =
+    open_breaks_if c.due.new.self c.args.self.now c.send.new.self.desk c.in_ok-request.ensures.same c.send.result c.in_ok-request.ensures.calls.track c.send.ensures.ended
+
+pub returns-in-Wave-clause-ended : goal.returns-in-Wave-clause-ended
+returns-in-Wave-clause-ended g c =
+    open_breaks_if c.due.new.self c.args.self.now c.wave.new.self.desk c.in_ok-request.ensures.same c.wave.result c.in_ok-request.ensures.calls.track c.wave.ensures.ended
+
+pub returns-in-Conflict-clause-ended : goal.returns-in-Conflict-clause-ended
+returns-in-Conflict-clause-ended g c =
+    open_breaks_if c.due.new.self c.args.self.now c.round.new.self.desk c.in_ok-request.ensures.same c.round.result c.in_ok-request.ensures.calls.track c.round.ensures.ended
+
+pub returns-in_err-request-clause-ended : goal.returns-in_err-request-clause-ended
+returns-in_err-request-clause-ended g c =
+    let p = err_from_is_err_and c.from_residual.result c.from_residual.ensures.1 in
+    rw (p.1, p.2) (open_breaks c.args.self.now c.args.self.now c.due.new.self.desk refl c.in_err-request.field-0.0 c.requires.calls.track c.in_err-request.ensures.ended)
 
 pub returns-in-Send-clause-ok : goal.returns-in-Send-clause-ok
 returns-in-Send-clause-ok g c = subst (λ s. IfOk c.send.result (GoesOnOrTold s c.send.new.self c.args.reading)) c.in_ok-request.ensures.same c.send.ensures.ok

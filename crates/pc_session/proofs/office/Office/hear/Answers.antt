@@ -1,10 +1,12 @@
-use Rattle.std.proofs.Common.{◌≡◌, [], sym, subst, IfNone, IfSome}
+use Rattle.std.proofs.Common.{ℕ, ◌≡◌, [], sym, subst, IfNone, IfSome}
 use Rattle.pc_desk.specs.Desk.{HasHeardFirst}
 use Rattle.pc_session.proofs.Hearing.{heard_goes, heard_open, heard_whole, may_hear_now}
 use Rattle.pc_session.proofs.Inside.{inside_from, inside_still}
 use Rattle.pc_session.specs.InCall.{HasOpenCall, IsWholeOut}
 use Rattle.std.proofs.lemmas.Result.{err_from_is_err_and}
 use Rattle.pc_session.proofs.Ending.{nothing_breaks}
+use Rattle.pc_proto.specs.declared.event.Event.TheVariants as events
+use Rattle.pc_exchange.proofs.Ending.{hears_within}
 use Rattle.pc_session.proofs.office.Office.hear.Goals as goal
 
 pub hear-requires-clause-may : goal.hear-requires-clause-may
@@ -42,4 +44,4 @@ returns-in-None-clause-goes g c =
 pub returns-in_err-answered-clause-ended : goal.returns-in_err-answered-clause-ended
 returns-in_err-answered-clause-ended g c =
     let p = err_from_is_err_and c.from_residual.result c.from_residual.ensures.1 in
-    rw (p.1, p.2) (nothing_breaks _ c.args.self.now c.hear.new.self c.self.view_is c.in_err-answered.field-0.0 c.requires.calls.track c.in_err-answered.ensures.ended)
+    rw (p.1, p.2) (nothing_breaks _ c.args.self.now c.hear.new.self c.self.view_is (λ made. (number : ℕ) × (step : ℕ) × (made ≡ events.Hear number step)) c.in_err-answered.field-0.0 c.requires.calls.track hears_within c.in_err-answered.ensures.ended)

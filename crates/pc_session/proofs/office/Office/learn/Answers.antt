@@ -1,10 +1,11 @@
-use Rattle.std.proofs.Common.{◌≡◌, true, false, is_some, IfSome, None, Some, refl, sym, ap, subst}
+use Rattle.std.proofs.Common.{inr, inl, ◌≡◌, true, false, is_some, IfSome, None, Some, refl, sym, ap, subst}
 use Rattle.std.proofs.lemmas.Result.{err_from_is_err_and}
 use Rattle.pc_proto.specs.declared.answer.Answer.TheVariants as answers
-use Rattle.pc_session.proofs.Learning.{has_learnt, learn_breaks, next_told, so_far_asked, so_far_met, tellable_now, unasked_learn}
+use Rattle.pc_session.proofs.Learning.{has_learnt, learn_breaks, met_last, next_told, so_far_asked, so_far_met, tellable_now, told_whole, unasked_learn}
 use Rattle.pc_session.specs.InCall.{GoesOnOrTold}
 use Rattle.pc_session.specs.Learning.{HasMet, IsLearning}
 use Rattle.pc_session.specs.Session.{session_knows}
+use Rattle.pc_proto.specs.declared.event.Event.TheVariants as events
 use Rattle.pc_session.proofs.office.Office.learn.Goals as goal
 
 pub returns-in_err-reading-clause-ended : goal.returns-in_err-reading-clause-ended
@@ -25,7 +26,8 @@ returns-in_err-meet-in-Some-clause-ended g c =
     let so = so_far_asked c.args.self.now c.ask.new.self c.args.id reading asked in
     let p = err_from_is_err_and c.from_residual-in_err-meet-in-Some.result c.from_residual-in_err-meet-in-Some.ensures.1 in
     rw (p.1, p.2)
-    (learn_breaks c.args.self.now c.ask.new.self c.args.id reading None so c.meet.new.self.desk (is_some c.args.token) c.in_err-meet-in-Some.field-0.0 (λ e. ap is_some c.in-Some.is) c.in_ok-reading.ensures.calls.track c.in_err-meet-in-Some.ensures.ended)
+    (learn_breaks c.args.self.now c.ask.new.self c.args.id reading None so (λ made. made ≡ events.Meet c.in-Some.token.id c.in-Some.token.step) c.meet.new.self.desk (is_some c.args.token) c.in_err-meet-in-Some.field-0.0 (λ e. ap is_some c.in-Some.is) c.in_ok-reading.ensures.calls.track
+    (λ event is. inl (met_last c.args.self.now c.ask.new.self c.args.id c.in-Some.token.id reading c.in-Some.token.step (is_some c.args.token) event so (ap is_some c.in-Some.is) (subst (λ o. IfSome o (λ t. t.id ≡ c.args.id)) c.in-Some.is c.requires.token) is)) c.in_err-meet-in-Some.ensures.ended)
 
 pub returns-in_err-tell-in-Some-clause-ended : goal.returns-in_err-tell-in-Some-clause-ended
 returns-in_err-tell-in-Some-clause-ended g c =
@@ -37,7 +39,8 @@ returns-in_err-tell-in-Some-clause-ended g c =
     let so = so_far_met c.args.self.now c.ask.new.self c.meet.new.self c.args.id reading step asked met in
     let p = err_from_is_err_and c.from_residual-in_err-tell-in-Some.result c.from_residual-in_err-tell-in-Some.ensures.1 in
     rw (p.1, p.2)
-    (learn_breaks c.args.self.now c.meet.new.self c.args.id reading (Some step) so c.tell.new.self.desk (is_some c.args.token) c.in_err-tell-in-Some.field-0.0 (λ e. ap is_some c.in-Some.is) c.in_ok-meet-in-Some.ensures.calls.track c.in_err-tell-in-Some.ensures.ended)
+    (learn_breaks c.args.self.now c.meet.new.self c.args.id reading (Some step) so (λ made. made ≡ events.Tell answers.Learnt) c.tell.new.self.desk (is_some c.args.token) c.in_err-tell-in-Some.field-0.0 (λ e. ap is_some c.in-Some.is) c.in_ok-meet-in-Some.ensures.calls.track
+    (λ event is. inr (told_whole c.args.self.now c.meet.new.self c.args.id reading (Some step) so (is_some c.args.token) event (ap is_some c.in-Some.is) is)) c.in_err-tell-in-Some.ensures.ended)
 
 pub returns-in_ok-tell-in-Some-clause-ok : goal.returns-in_ok-tell-in-Some-clause-ok
 returns-in_ok-tell-in-Some-clause-ok g c =
@@ -68,7 +71,8 @@ returns-in_err-tell-in-None-clause-ended g c =
     let so = so_far_asked c.args.self.now c.ask.new.self c.args.id reading asked in
     let p = err_from_is_err_and c.from_residual-in_err-tell-in-None.result c.from_residual-in_err-tell-in-None.ensures.1 in
     rw (p.1, p.2)
-    (learn_breaks c.args.self.now c.ask.new.self c.args.id reading None so c.tell-in-None.new.self.desk (is_some c.args.token) c.in_err-tell-in-None.field-0.0 (λ e. let x : false ≡ true = e in absurd cc) c.in_ok-reading.ensures.calls.track c.in_err-tell-in-None.ensures.ended)
+    (learn_breaks c.args.self.now c.ask.new.self c.args.id reading None so (λ made. made ≡ events.Tell answers.NotYet) c.tell-in-None.new.self.desk (is_some c.args.token) c.in_err-tell-in-None.field-0.0 (λ e. let x : false ≡ true = e in absurd cc) c.in_ok-reading.ensures.calls.track
+    (λ event is. inr (told_whole c.args.self.now c.ask.new.self c.args.id reading None so (is_some c.args.token) event (ap is_some c.in-None.is) is)) c.in_err-tell-in-None.ensures.ended)
 
 pub returns-in_ok-tell-in-None-clause-ok : goal.returns-in_ok-tell-in-None-clause-ok
 returns-in_ok-tell-in-None-clause-ok g c =

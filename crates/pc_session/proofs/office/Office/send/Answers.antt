@@ -1,4 +1,4 @@
-use Rattle.std.proofs.Common.{◌≡◌, sym, subst, ◌∙◌}
+use Rattle.std.proofs.Common.{◌≡◌, ℕ, sym, subst, ◌∙◌}
 use Rattle.pc_coord.specs.Coordination.{next_of}
 use Rattle.pc_coord.specs.declared.next.Next.TheVariants as nexts
 use Rattle.pc_coord.specs.Knows.{MayCome}
@@ -8,6 +8,8 @@ use Rattle.pc_session.specs.InCall.{HasOpenCall, IsBetweenWaves}
 use Rattle.pc_session.specs.Session.{session_knows}
 use Rattle.std.proofs.lemmas.Result.{err_from_is_err_and}
 use Rattle.pc_session.proofs.Ending.{nothing_breaks}
+use Rattle.pc_proto.specs.declared.event.Event.TheVariants as events
+use Rattle.pc_exchange.proofs.Ending.{sends_within}
 use Rattle.pc_session.proofs.office.Office.send.Goals as goal
 
 pub send-requires-clause-may : goal.send-requires-clause-may
@@ -38,4 +40,4 @@ returns-in-Ok-clause-ok g c =
 pub returns-in_err-number-clause-ended : goal.returns-in_err-number-clause-ended
 returns-in_err-number-clause-ended g c =
     let p = err_from_is_err_and c.from_residual.result c.from_residual.ensures.1 in
-    rw (p.1, p.2) (nothing_breaks _ c.args.self.now c.send.new.self c.self.view_is c.in_err-number.field-0.0 c.requires.calls.track c.in_err-number.ensures.ended)
+    rw (p.1, p.2) (nothing_breaks _ c.args.self.now c.send.new.self c.self.view_is (λ made. (number : ℕ) × (range : ℕ) × (made ≡ events.Send number range c.args.request)) c.in_err-number.field-0.0 c.requires.calls.track (sends_within c.args.request) c.in_err-number.ensures.ended)

@@ -11,6 +11,8 @@ use Rattle.pc_session.specs.InCall.{HasOpenCall}
 use Rattle.pc_session.specs.Session.{session_knows}
 use Rattle.std.proofs.lemmas.Result.{err_from_is_err_and}
 use Rattle.pc_session.proofs.Ending.{ends_from}
+use Rattle.pc_desk.specs.Ending.{EndsOnly}
+use Rattle.pc_proto.specs.declared.answer.Answer.{Answer}
 use Rattle.pc_session.proofs.office.Office.tell.Goals as goal
 
 pub tell-requires-clause-may : goal.tell-requires-clause-may
@@ -34,4 +36,4 @@ returns-in-Ok-take_job-clause-ok g c =
 pub returns-in_err-tell-clause-ended : goal.returns-in_err-tell-clause-ended
 returns-in_err-tell-clause-ended g c =
     let p = err_from_is_err_and c.from_residual.result c.from_residual.ensures.1 in
-    rw (p.1, p.2) (ends_from _ c.args.self.now c.tell.new.self c.self.view_is c.in_err-tell.field-0.0 c.in_err-tell.ensures.ended)
+    rw (p.1, p.2) (ends_from _ c.args.self.now c.tell.new.self c.self.view_is (λ made. made ≡ events.Tell c.args.answer) c.in_err-tell.field-0.0 (subst (λ (a : Answer). EndsOnly (λ made. made ≡ events.Tell a) c.self.inside.desk c.tell.new.self c.in_err-tell.field-0.0) c.in-Ok.ensures c.in_err-tell.ensures.ended))

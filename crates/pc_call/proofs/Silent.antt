@@ -1,0 +1,66 @@
+-- No message of an open call is a heartbeat, but for that whose purpose it is.
+use Rattle.std.proofs.Common.{◌≡◌, false, ◌⊎◌, inl, inr, Bool, List, [], ◌∷◌, map, Option, refl, sym, ap, ◌∙◌, subst, ℕ, All}
+use Rattle.std.proofs.lemmas.List.Elements.{All-cons, All-map, All-nil}
+use Rattle.std.specs.Prelude.{⊤}
+use Rattle.pc_base.specs.declared.span.Span.{Span}
+use Rattle.pc_call.proofs.Lists.{all_unmapped}
+use Rattle.pc_call.specs.declared.purpose.Purpose.{Purpose}
+use Rattle.pc_call.specs.declared.purpose.Purpose.TheVariants as purposes
+use Rattle.pc_call.specs.Serving.{AreReadsOf, LaysLast, LaysNext, Serves, ServesWrite}
+use Rattle.pc_follows.specs.Heartbeats.{is_heartbeat}
+use Rattle.pc_proto.specs.declared.call.Call.{Call}
+use Rattle.pc_proto.specs.declared.call.Call.TheVariants as calls
+use Rattle.pc_proto.specs.declared.request.Request.{Request}
+use Rattle.pc_reads.specs.ReadsStanding.{refresh_to}
+use Rattle.pc_txn.specs.declared.txn.OpenTxn.{OpenTxn}
+use Rattle.pc_txn.specs.Opened.{own_get, own_scan}
+use Rattle.pc_wave.specs.declared.message.Message.{Message}
+use Rattle.pc_world.specs.Known.{Known}
+use Rattle.pc_world.specs.Known.Statements.{Statement}
+use Rattle.pc_world.specs.Known.Transactions.{Txn}
+use Rattle.pc_world.specs.RangeOf.{pieces}
+
+-- The request is no heartbeat.
+abbrev pub IsSilent : Request → Type 0
+IsSilent r = is_heartbeat r ≡ false
+
+-- The purpose is a heartbeat.
+abbrev pub IsBeatPurpose : Purpose → Type 0
+IsBeatPurpose (purposes.Beat call reading) = ⊤
+IsBeatPurpose _ = ⊥
+
+-- Nor is any of the messages, where that is not their purpose.
+abbrev pub AreSilent : Purpose → List Message → Type 0
+AreSilent (purposes.Beat call reading) ms = ⊤
+AreSilent _ ms = All (λ m. IsSilent m.request) ms
+
+every : {X : Type 0} (P : X → Type 0) → ((x : X) → P x) → (xs : List X) → All P xs
+every P all [] = All-nil P
+every P all (x ∷ xs) = All-cons P x xs (all x) (every P all xs)
+
+module _ (splits : List (List ℕ)) (k : Known) (s : Statement) (t : Txn) (x : OpenTxn) where
+  reads_silent : (call : Call) (rs : List Request) → AreReadsOf splits x call rs → All IsSilent rs
+  reads_silent (calls.Get key) rs e = subst (λ rs. All IsSilent rs) (sym e) (All-cons IsSilent (own_get x key) [] refl (All-nil IsSilent))
+  reads_silent (calls.Scan span) rs e =
+      subst (λ rs. All IsSilent rs) (sym e) (All-map IsSilent (λ p. own_scan x p.1) (pieces splits span) (every (λ p. IsSilent (own_scan x p.1)) (λ p. refl) (pieces splits span)))
+  reads_silent call rs e = absurd e
+
+  one_silent : (ms : List Message) (m : Message) → ms ≡ m ∷ [] → IsSilent m.request → All (λ m. IsSilent m.request) ms
+  one_silent ms m one silent =
+      let P : Message → Type 0 = λ m. IsSilent m.request in
+      subst (λ ms. All P ms) (sym one) (All-cons P m [] silent (All-nil P))
+
+  write_silent : (again : Bool) (ms : List Message) (w : ServesWrite again k s t x ms) → LaysNext k s t x w.key w.value again w.m ⊎ LaysLast k s t x w.key w.value again w.m → IsSilent w.m.request
+  write_silent again ms w (inl l) = ap is_heartbeat l.said
+  write_silent again ms w (inr l) = ap is_heartbeat l.said
+
+  pub silent : (p : Purpose) (ms : List Message) → Serves splits k s t x p ms → AreSilent p ms
+  silent (purposes.Beat call reading) ms r = tt
+  silent purposes.Read ms r = all_unmapped IsSilent (λ m. m.request) ms (reads_silent s.call (map (λ m. m.request) ms) r.asked)
+  silent (purposes.Write again) ms r = one_silent ms r.m r.one (write_silent again ms r r.lays)
+  silent (purposes.Refresh n) ms r =
+      all_unmapped IsSilent (λ m. m.request) ms
+      (subst (λ rs. All IsSilent rs) (sym r.asked)
+      (All-map IsSilent (refresh_to x.id x.reads.ts x.write_ts) x.reads.spans (every (λ span. IsSilent (refresh_to x.id x.reads.ts x.write_ts span)) (λ span. refl) x.reads.spans)))
+  silent (purposes.Commit n) ms r = one_silent ms r.m r.one (ap is_heartbeat r.said)
+  silent (purposes.Abort why) ms r = one_silent ms r.m r.one (ap is_heartbeat r.said)

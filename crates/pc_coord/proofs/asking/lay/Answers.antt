@@ -1,8 +1,0 @@
-use Rattle.pc_coord.proofs.Tying.{flight_same}
-use Rattle.pc_coord.proofs.asking.lay.Goals as goal
-
-pub returns-in-None : goal.returns-in-None
-returns-in-None c = record { stands = λ splits k s why fresh is suits. c.write.ensures.stands splits k s why fresh is c.in-None.is }
-
-pub returns-in-Some : goal.returns-in-Some
-returns-in-Some c = record { stands = λ splits k s why fresh is suits. c.lay_again.ensures.stands splits k s why fresh is (flight_same c.args.key.now c.args.value.now c.args.txn.now.in_flight _ c.in-Some.is suits) }

@@ -1,0 +1,10 @@
+use Rattle.std.proofs.Common.{refl, sym, ◌∙◌}
+use Rattle.pc_call.proofs.Heartbeats.{fresh_lively}
+use Rattle.pc_coord.proofs.coordinator.Coordinator.show_or_serve.Goals as goal
+
+pub returns-then-is_silent-clause-knows : goal.returns-then-is_silent-clause-knows
+returns-then-is_silent-clause-knows c = λ k why r asked asks suits. c.show.ensures.knows k why r asked asks suits (sym c.is_silent.ensures ∙ c.if-is_silent.true)
+
+pub returns-else-is_silent-clause-knows : goal.returns-else-is_silent-clause-knows
+returns-else-is_silent-clause-knows c = λ k why r asked asks suits.
+    c.serve.ensures.knows k _ why r (fresh_lively k c.args.txn c.args.call c.args.reading why asked (sym c.is_silent.ensures ∙ c.if-is_silent.false)) refl asks suits

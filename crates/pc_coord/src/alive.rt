@@ -1,0 +1,76 @@
+ghost use Rattle.std.specs.Prelude.{◌≡◌, ℕ, false, List, OnOk};
+ghost use Rattle.std.specs.List.{list_any};
+ghost use Rattle.pc_call.specs.declared.purpose.Purpose.TheVariants as purposes;
+ghost use Rattle.pc_call.specs.Learned.{known_heard};
+ghost use Rattle.pc_coord.specs.Coming.{ComesOf};
+ghost use Rattle.pc_coord.specs.Coordination.{awaits_number};
+ghost use Rattle.pc_coord.specs.Going.{HearsNow};
+ghost use Rattle.pc_coord.specs.Knows.{Knows};
+ghost use Rattle.pc_proto.specs.declared.call.Call.{Call};
+ghost use Rattle.pc_proto.specs.declared.reply.Reply.TheVariants as replies;
+ghost use Rattle.pc_proto.specs.declared.view.View.TheVariants as views;
+ghost use Rattle.pc_wave.specs.declared.message.Message.{Message};
+ghost use Rattle.pc_wave.specs.Messages.{is_in_conflict};
+ghost use Rattle.pc_world.specs.Known.{Known};
+ghost use Rattle.pc_world.specs.Known.Traffic.{Heard};
+ghost use Rattle.pc_world.specs.Tell.Refusal.{MayBlock};
+
+use crate::coordinator::Coordinator;
+use crate::kinds::{Decision, decision_of};
+use pc_base::{NoMemory, Timestamp};
+use pc_call::OpenCall;
+use pc_proto::Reply;
+use pc_txn::OpenTxn;
+
+impl<'a> Coordinator<'a> {
+    /// This was replied to a heartbeat: its call goes on, or is told that its transaction was aborted.
+    pub(crate) fn beat_heard(
+        &mut self,
+        call: OpenCall,
+        txn: OpenTxn,
+        reply: &Reply,
+    ) -> Result<(), NoMemory>
+        ensures knows { (k : Known) (h : Heard) (number reading : ℕ) (kept : Call) → HearsNow self.old call txn number reply.now k h → call.purpose ≡ purposes.Beat kept reading → OnOk result (Knows self.new (known_heard h k)) }
+        ensures waits { (other reading : ℕ) (kept : Call) → call.purpose ≡ purposes.Beat kept reading → MayBlock kept → OnOk result (awaits_number other self.new.due ≡ false) }
+        ensures comes { (messages : List Message) (reading : ℕ) (kept : Call) → call.purpose ≡ purposes.Beat kept reading → MayBlock kept → list_any is_in_conflict messages ≡ false → OnOk result (ComesOf messages self.new.due) }
+        ensures session { self.new.session ≡ self.old.session }
+        ensures splits { self.new.splits ≡ self.old.splits }
+    {
+        let decision = decision_of(reply)?;
+        match decision {
+            Decision::Aborted { why } => self.finish(call.found_aborted(txn, why)),
+            Decision::Refused { recorded } => self.go_on_alive(call, txn, recorded),
+            Decision::Committed { .. } => {
+                self.told();
+                Ok(())
+            }
+            Decision::Nothing => {
+                self.told();
+                Ok(())
+            }
+        }
+    }
+
+    /// A heartbeat was heard, whose record is not final and stands at this timestamp: its call begins.
+    fn go_on_alive(
+        &mut self,
+        call: OpenCall,
+        mut txn: OpenTxn,
+        recorded: Timestamp,
+    ) -> Result<(), NoMemory>
+        ensures knows { (k : Known) (h : Heard) (number epoch reading : ℕ) (kept : Call) → HearsNow self.old call txn number (replies.Status (views.Pending epoch recorded)) k h → call.purpose ≡ purposes.Beat kept reading → OnOk result (Knows self.new (known_heard h k)) }
+        ensures waits { (other reading : ℕ) (kept : Call) → call.purpose ≡ purposes.Beat kept reading → MayBlock kept → OnOk result (awaits_number other self.new.due ≡ false) }
+        ensures comes { (messages : List Message) (reading : ℕ) (kept : Call) → call.purpose ≡ purposes.Beat kept reading → MayBlock kept → list_any is_in_conflict messages ≡ false → OnOk result (ComesOf messages self.new.due) }
+        ensures session { self.new.session ≡ self.old.session }
+        ensures splits { self.new.splits ≡ self.old.splits }
+    {
+        let kept = call.alive(&mut txn, recorded);
+        match kept {
+            Some(kept) => self.serve(&kept, txn),
+            None => {
+                self.told();
+                Ok(())
+            }
+        }
+    }
+}

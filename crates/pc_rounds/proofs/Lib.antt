@@ -1,0 +1,4 @@
+pub mod Breaking
+pub mod Events
+pub mod Making
+pub mod Resting
