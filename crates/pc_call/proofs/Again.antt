@@ -26,7 +26,7 @@ use Rattle.pc_proto.specs.Requests.{is_about, is_put_of}
 use Rattle.pc_txn.proofs.Keeping.{quiet_leaves, stands_on}
 use Rattle.pc_txn.specs.declared.txn.OpenTxn.{OpenTxn}
 use Rattle.pc_txn.specs.Opened.{own_abort, own_commit}
-use Rattle.pc_txn.specs.Standing.{HasMovedOn, LeavesAsIs, TxnStands, is_plain}
+use Rattle.pc_txn.specs.Standing.{HasMovedOn, LeavesAsIs, TxnStands, is_plain, is_query_of}
 use Rattle.pc_wave.proofs.Changed.{found_all}
 use Rattle.pc_wave.proofs.Lists.{at_least-before}
 use Rattle.pc_wave.proofs.Rounds.{due_round, first_found, found_at, wave_again}
@@ -128,19 +128,20 @@ module _ (splits : List (List ℕ)) (start k : Known) (x : OpenTxn) (p : Purpose
     same_id : x.id ≡ w.t.id
     same_id = ap (λ x. x.id) w.stands.same
 
-    leaves : (hs : List Heard) → All (λ h. IsTrue (goes_beside h.request)) hs → All (λ h. is_about x.id h.request ≡ false) hs → All (LeavesAsIs w.t) hs
-    leaves [] a b = All-nil (LeavesAsIs w.t)
-    leaves (h ∷ hs) a b =
+    leaves : (hs : List Heard) → All (λ h. IsTrue (goes_beside h.request)) hs → All (λ h. is_about x.id h.request ≡ false) hs → All (λ h. is_query_of x.id h.request ≡ false) hs → All (LeavesAsIs w.t) hs
+    leaves [] a b q = All-nil (LeavesAsIs w.t)
+    leaves (h ∷ hs) a b q =
         let quiet : is_plain h.request ≡ true = beside_quiet h.request (All-head (λ h. IsTrue (goes_beside h.request)) h hs a) in
         let no : is_about w.t.id h.request ≡ false = subst (λ id. is_about id h.request ≡ false) same_id (All-head (λ h. is_about x.id h.request ≡ false) h hs b) in
-        All-cons (LeavesAsIs w.t) h hs (quiet_leaves w.t h quiet (λ about. absurd cc))
-        (leaves hs (All-tail (λ h. IsTrue (goes_beside h.request)) h hs a) (All-tail (λ h. is_about x.id h.request ≡ false) h hs b))
+        let unasked : is_query_of w.t.id h.request ≡ false = subst (λ id. is_query_of id h.request ≡ false) same_id (All-head (λ h. is_query_of x.id h.request ≡ false) h hs q) in
+        All-cons (LeavesAsIs w.t) h hs (quiet_leaves w.t h quiet unasked no)
+        (leaves hs (All-tail (λ h. IsTrue (goes_beside h.request)) h hs a) (All-tail (λ h. is_about x.id h.request ≡ false) h hs b) (All-tail (λ h. is_query_of x.id h.request ≡ false) h hs q))
 
-    stands2 : TxnStands k (out_of p ms) w.t x
+    stands2 : TxnStands k [] (out_of p ms) w.t x
     stands2 =
-        stands_on start k (out_of p ms) w.t x made.sent_more made.heard_more w.stands gone
+        stands_on start k [] (out_of p ms) w.t x made.sent_more made.heard_more w.stands gone
         (All-weaker (λ m. IsTrue (goes_beside m.request)) (λ m. IsTrue (is_plain m.request)) (λ m of. beside_quiet m.request of) made.sent_more made.sent_beside)
-        (leaves made.heard_more made.heard_beside made.other)
+        (leaves made.heard_more made.heard_beside made.other made.unqueried)
 
     split2 : IsSplit k
     split2 = record {
@@ -171,7 +172,7 @@ module _ (splits : List (List ℕ)) (start k : Known) (x : OpenTxn) (p : Purpose
     goes_on out serves = record {
       t = w.t;
       open_in = record { others = w.open_in.others; is_open = made.is_open ∙ w.open_in.is_open; first = made.txns ∙ w.open_in.first };
-      stands = subst (λ o. TxnStands k o w.t x) (sym out) stands2;
+      stands = subst (λ o. TxnStands k [] o w.t x) (sym out) stands2;
       cause = w.cause;
       s = w.s;
       opened = made.statement ∙ w.opened;
@@ -233,13 +234,16 @@ module _ (splits : List (List ℕ)) (start k : Known) (x : OpenTxn) (p : Purpose
           m = goes_again r.m;
           one = ap (first_changed (conflicts_at number) goes_again) r.one ∙ ap (λ b. cond b (goes_again r.m ∷ []) (r.m ∷ [])) at_number;
           lays = inr (record {
+            w = l.w;
             in_flight = l.in_flight;
+            place = l.place;
+            what = l.what;
             anchor = l.anchor;
             anchored = l.anchored;
             said = l.said;
-            first = λ e. ap (λ ms. list_any (λ other. is_put_of w.t.id w.t.epoch x.seq other.request) ms) before_same ∙ l.first e;
+            first = λ e. ap (λ ms. list_any (λ other. is_put_of w.t.id w.t.epoch l.w.seq other.request) ms) before_same ∙ l.first e;
             old = λ e. new_on (l.old e);
-            before = λ e. ap (λ ms. list_any (λ other. is_put_of w.t.id w.t.epoch x.seq other.request) ms) before_same ∙ l.before e;
+            before = λ e. ap (λ ms. list_any (λ other. is_put_of w.t.id w.t.epoch l.w.seq other.request) ms) before_same ∙ l.before e;
           });
         }
 

@@ -1,16 +1,13 @@
 -- Heartbeats of an open call: that none is due, and each that went out found the transaction alive, stays so while the call goes on.
-use Rattle.std.proofs.Common.{◌≡◌, ℕ, ◌+◌, ◌≤◌, true, false, Bool, ◌||◌, ◌==◌, List, [], ◌∷◌, ◌++◌, length, map, fold, Some, None, refl, sym, ap, ◌∙◌, subst, arith, All, Any, IsTrue}
-use Rattle.std.specs.List.{list_any}
+use Rattle.std.proofs.Common.{◌≡◌, ℕ, true, false, Bool, ◌||◌, ◌==◌, List, [], ◌∷◌, ◌++◌, length, fold, Some, refl, sym, ap, ◌∙◌, subst, arith, All, Any, IsTrue}
 use Rattle.std.proofs.lemmas.List.{append-nil, length-append}
 use Rattle.std.proofs.lemmas.List.Elements.{All-append, All-cons, All-nil, All-weaker}
 use Rattle.std.proofs.lemmas.List.Folds.{list_any-append}
 use Rattle.std.proofs.lemmas.Option.{same_Some}
-use Rattle.pc_base.specs.declared.limits.TheConstants.{HEARTBEAT}
-use Rattle.pc_base.specs.declared.transaction.TxnId.{TxnId}
 use Rattle.pc_call.proofs.Facts.{open_is}
 use Rattle.pc_call.specs.Learned.{known_heard, known_sent}
 use Rattle.pc_call.specs.Serving.{IsOpenIn}
-use Rattle.pc_follows.specs.Heartbeats.{AreBeatsHeard, BeatsFirst, FindsAborted, HasBeaten, IsBeatDue, KeepsHeartbeats, TellsAfterBeats, is_heartbeat, last_shown, shown_by}
+use Rattle.pc_follows.specs.Heartbeats.{AreBeatsHeard, FindsAborted, HasBeaten, IsBeatDue, KeepsHeartbeats, TellsAfterBeats, is_heartbeat, last_shown, shown_by}
 use Rattle.pc_lists.proofs.Anywhere.{any_kept}
 use Rattle.pc_proto.specs.declared.answer.Answer.{Answer}
 use Rattle.pc_proto.specs.declared.event.Event.TheVariants as events
@@ -20,27 +17,24 @@ use Rattle.pc_proto.specs.declared.request.Request.{Request}
 use Rattle.pc_proto.specs.declared.view.View.{View}
 use Rattle.pc_proto.specs.declared.view.View.TheVariants as views
 use Rattle.pc_proto.specs.declared.why.Why.{Why}
-use Rattle.pc_proto.specs.Replies.{view_in}
+use Rattle.pc_proto.specs.Replies.{is_undecided_status, view_in}
 use Rattle.pc_proto.specs.Views.{AbortsWith}
-use Rattle.pc_txn.specs.Standing.{ShowsPending}
 use Rattle.pc_wave.proofs.Lists.{any_before}
 use Rattle.pc_wave.specs.Standing.{HasMore}
 use Rattle.pc_world.specs.Known.{Known, open_txn}
-use Rattle.pc_world.specs.Known.Statements.{Statement}
 use Rattle.pc_world.specs.Known.Traffic.{Heard, Sent}
 use Rattle.pc_world.specs.Known.Transactions.{Txn, txn_heard, txn_sent}
 use Rattle.pc_world.specs.Tell.Refusal.{is_heard}
 use Rattle.pc_world.specs.Views.{ShowsAborted, WasCommitted, shows_committed}
 
--- a reply that shows a pending record shows none that is aborted
-pub not_aborted : (why : Why) (reply : Reply) → ShowsPending reply → (view : View) → view_in reply ≡ Some view → AbortsWith why view → ⊥
-not_aborted why (replies.Status (views.Pending epoch ts)) is (views.Aborted at cause locks) e c = cc
-not_aborted why (replies.Status (views.Pending epoch ts)) is view e c = c
-not_aborted why (replies.Status views.Nothing) is view e c = is
-not_aborted why (replies.Status (views.Staging epoch ts writes)) is view e c = is
-not_aborted why (replies.Status (views.Committed epoch ts locks)) is view e c = is
-not_aborted why (replies.Status (views.Aborted epoch cause locks)) is view e c = is
-not_aborted why reply is view e c = is
+-- a reply that shows a record which is not final shows none that is aborted
+pub not_aborted : (why : Why) (reply : Reply) → is_undecided_status reply ≡ true → (view : View) → view_in reply ≡ Some view → AbortsWith why view → ⊥
+not_aborted why (replies.Status shown) is (views.Aborted epoch cause locks) e c =
+    let same : shown ≡ views.Aborted epoch cause locks = cc in
+    let final : is_undecided_status (replies.Status shown) ≡ false = ap (λ v. is_undecided_status (replies.Status v)) same in
+    absurd cc
+not_aborted why (replies.Status shown) is view e c = c
+not_aborted why reply is view e c = absurd cc
 
 or_first : (a b : Bool) → a ≡ true → (a || b) ≡ true
 or_first true b h = refl

@@ -1,7 +1,7 @@
 -- A call of the open transaction begins with messages that are all to be sent.
-use Rattle.std.proofs.Common.{◌≡◌, ℕ, ◌+◌, ◌≤◌, Bool, true, false, cond, ◌||◌, inl, inr, List, [], ◌∷◌, ◌++◌, map, Option, Some, None, refl, sym, ap, ◌∙◌, subst, arith, All, Any, IsTrue, count_by, lit<, zero, suc}
+use Rattle.std.proofs.Common.{◌≡◌, ℕ, ◌+◌, Bool, true, false, cond, ◌||◌, inl, inr, List, [], ◌∷◌, ◌++◌, map, Option, Some, None, refl, sym, ap, ◌∙◌, subst, arith, All, Any, Contains, IsTrue, count_by, lit<, zero, suc}
 use Rattle.std.specs.List.{list_any}
-use Rattle.std.proofs.lemmas.List.{append-nil, map-append}
+use Rattle.std.proofs.lemmas.List.{map-append}
 use Rattle.std.proofs.lemmas.List.Elements.{All-cons, All-head, All-map, All-nil, All-tail, All-weaker}
 use Rattle.pc_base.specs.declared.span.Span.{Span}
 use Rattle.pc_base.specs.declared.span.Span.TheVariants.{One, Between}
@@ -18,9 +18,11 @@ use Rattle.pc_call.specs.Fresh.{IsFresh, ShowsAlive}
 use Rattle.pc_call.specs.Paced.{IsPaced, shows_resolve, was_pushed}
 use Rattle.pc_call.specs.Pieces.{scan_messages, span_piece, spans_from, spans_in}
 use Rattle.pc_call.specs.Serving.{AreReadsOf, HasBeatenBy, InCall, IsOpenIn, IsReadFor, IsSplit, Serves, holders_met, out_of, write_call}
-use Rattle.pc_follows.specs.Heartbeats.{HasBeaten, is_heartbeat}
+use Rattle.pc_follows.specs.Heartbeats.{is_heartbeat}
 use Rattle.pc_lists.proofs.Anywhere.{any_of}
 use Rattle.pc_lists.proofs.Counts.{count-cons, one_if}
+use Rattle.pc_flight.specs.declared.write.WriteInFlight.{WriteInFlight}
+use Rattle.pc_lists.proofs.Lists.{contains_head}
 use Rattle.pc_proto.specs.declared.call.Call.TheVariants as calls
 use Rattle.pc_proto.specs.declared.reply.Reply.{Reply}
 use Rattle.pc_proto.specs.declared.reply.Reply.TheVariants as replies
@@ -28,14 +30,15 @@ use Rattle.pc_proto.specs.declared.request.Request.{Request}
 use Rattle.pc_proto.specs.declared.request.Request.TheVariants as requests
 use Rattle.pc_proto.specs.declared.why.Why.{Why}
 use Rattle.pc_proto.specs.declared.why.Why.TheVariants as whys
-use Rattle.pc_proto.specs.Replies.{is_conflict}
+use Rattle.pc_proto.specs.Replies.{is_conflict, is_undecided_status}
 use Rattle.pc_proto.specs.Requests.{is_push_of, is_put_of, is_resolve_of}
+use Rattle.pc_txn.proofs.Laying.{sent_of}
 use Rattle.pc_txn.specs.declared.txn.OpenTxn.{OpenTxn}
-use Rattle.pc_txn.specs.Opened.{last_put, next_put, own_abort, own_get, own_scan}
-use Rattle.pc_txn.specs.Standing.{ShowsPending, TxnStands, WasLaid}
+use Rattle.pc_txn.specs.Opened.{next_put, own_abort, own_get, own_put, own_scan}
+use Rattle.pc_txn.specs.Standing.{TxnStands}
 use Rattle.pc_wave.proofs.Lists.{any_before, at_least-before, at_least-fewer}
 use Rattle.pc_wave.specs.Messages.{message_to_send}
-use Rattle.pc_wave.specs.Standing.{AreOfTwo, MayGoOut, MessageStands, Pairwise, WaveStands, goes_beside}
+use Rattle.pc_wave.specs.Standing.{AreOfTwo, MayGoOut, MessageStands, Pairwise, goes_beside}
 use Rattle.pc_world.proofs.Pieces.{pieces-differ}
 use Rattle.pc_world.specs.Counting.{AtLeast}
 use Rattle.pc_world.specs.Known.{Known}
@@ -43,7 +46,6 @@ use Rattle.pc_world.specs.Known.Statements.{Statement}
 use Rattle.pc_world.specs.Known.Traffic.{Heard, Sent}
 use Rattle.pc_world.specs.Known.Reads.{read_heard}
 use Rattle.pc_world.specs.Known.Transactions.{Txn}
-use Rattle.pc_world.specs.Known.Writes.{last_seq_of}
 use Rattle.pc_world.specs.RangeOf.{AreDistinct, earlier_end, later_start, piece, pieces, pieces_from}
 use Rattle.pc_world.specs.SameRequest.{IsSamePut, IsSameRequest}
 use Rattle.pc_world.specs.Tell.Data.{IsFirstPut, IsPutFor, sent_before}
@@ -127,13 +129,13 @@ module _ (k : Known) (unmet : All (λ h. is_conflict h.reply ≡ false) k.heard_
   pub none_met : (r : Request) → AtLeast (IsConflictOf r) 1 k.heard_now → ⊥
   none_met r one = at_least-before (IsConflictOf r) 1 [] k.heard_now (no_conflict r) one
 
-pub pending_plain : (reply : Reply) → ShowsPending reply → is_conflict reply ≡ false
-pending_plain (replies.Conflict holder ts key) is = absurd is
-pending_plain reply is = refl
+pub undecided_plain : (reply : Reply) → is_undecided_status reply ≡ true → is_conflict reply ≡ false
+undecided_plain (replies.Conflict holder ts key) is = absurd cc
+undecided_plain reply is = refl
 
-module _ (k : Known) (t : Txn) (x : OpenTxn) (s : Statement) (open_in : IsOpenIn k t) (stands : TxnStands k None t x) (client : x.cause ≡ whys.Client) (opened : k.statement ≡ Some s) (split : IsSplit k) (heard : All ShowsAlive k.heard_now) where
+module _ (k : Known) (t : Txn) (x : OpenTxn) (s : Statement) (open_in : IsOpenIn k t) (stands : TxnStands k [] None t x) (client : x.cause ≡ whys.Client) (opened : k.statement ≡ Some s) (split : IsSplit k) (heard : All ShowsAlive k.heard_now) where
   pub unmet_now : All (λ h. is_conflict h.reply ≡ false) k.heard_now
-  unmet_now = All-weaker ShowsAlive (λ h. is_conflict h.reply ≡ false) (λ h a. pending_plain h.reply a.pending) k.heard_now heard
+  unmet_now = All-weaker ShowsAlive (λ h. is_conflict h.reply ≡ false) (λ h a. undecided_plain h.reply a.undecided) k.heard_now heard
 
   pub none_paced : IsPaced [] k.heard_now
   none_paced = record {
@@ -177,7 +179,7 @@ module _ (k : Known) (t : Txn) (x : OpenTxn) (s : Statement) (open_in : IsOpenIn
   begins_so splits p rs own none two out beaten serves = record {
     t = t;
     open_in = open_in;
-    stands = subst (λ o. TxnStands k o t x) (sym out) stands;
+    stands = subst (λ o. TxnStands k [] o t x) (sym out) stands;
     cause = client;
     s = s;
     opened = opened;
@@ -218,12 +220,12 @@ module _ (k : Known) (x : OpenTxn) (s : Statement) (why : Why) (f : IsFresh k x 
   no_new : All (λ m. IsFirstPut k s f.t m → ⊥) k.sent_now
   no_new = All-weaker (λ m. is_heartbeat m.request ≡ true) (λ m. IsFirstPut k s f.t m → ⊥) (λ m beat first. beat_no_put f.t first.key first.value first.seq m.request beat first.put) k.sent_now f.sent
 
-  pub get_begins : (splits : List (List ℕ)) (key : List ℕ) → s.call ≡ calls.Get key → x.in_flight ≡ None → InCall splits k x purposes.Read (message_to_send (own_get x key) ∷ [])
+  pub get_begins : (splits : List (List ℕ)) (key : List ℕ) → s.call ≡ calls.Get key → x.in_flight ≡ [] → InCall splits k x purposes.Read (message_to_send (own_get x key) ∷ [])
   get_begins splits key is none =
       begins splits purposes.Read (own_get x key ∷ []) (one_alone (own_get x key) refl) (one_silent (own_get x key) refl) (one_two (own_get x key)) refl f.beaten
       (record { asked = subst (λ c. AreReadsOf splits x c (own_get x key ∷ [])) (sym is) refl; none_in_flight = none; heard = no_read (own_get x key ∷ []) })
 
-  pub write_begins : (splits : List (List ℕ)) (key : List ℕ) (value : Option (List ℕ)) → s.call ≡ write_call key value → x.in_flight ≡ None → InCall splits k x (purposes.Write false) (message_to_send (next_put x key value) ∷ [])
+  pub write_begins : (splits : List (List ℕ)) (key : List ℕ) (value : Option (List ℕ)) → s.call ≡ write_call key value → x.in_flight ≡ [] → InCall splits k x (purposes.Write false) (message_to_send (next_put x key value) ∷ [])
   write_begins splits key value is none =
       begins splits (purposes.Write false) (next_put x key value ∷ []) (one_alone (next_put x key value) refl) (one_silent (next_put x key value) refl) (one_two (next_put x key value)) refl f.beaten
       (record {
@@ -235,33 +237,35 @@ module _ (k : Known) (x : OpenTxn) (s : Statement) (why : Why) (f : IsFresh k x 
         lays = inl (record { none_in_flight = none; said = refl; own = refl; to_send = refl; new = no_new });
       })
 
-  pub again_begins : (splits : List (List ℕ)) (anchor key : List ℕ) (value : Option (List ℕ)) → s.call ≡ write_call key value → x.in_flight ≡ Some (record { key = key; value = value }) → x.anchor ≡ Some anchor
-      → InCall splits k x (purposes.Write true) (message_to_send (last_put x anchor key value) ∷ [])
-  again_begins splits anchor key value is some anchored =
-      let P : Sent → Type 0 = λ m. IsTrue (is_put_of f.t.id f.t.epoch (last_seq_of f.t.writes) m.request) in
+  pub again_begins : (splits : List (List ℕ)) (anchor : List ℕ) (w : WriteInFlight) → s.call ≡ write_call w.key w.value → x.in_flight ≡ w ∷ [] → x.anchor ≡ Some anchor
+      → InCall splits k x (purposes.Write true) (message_to_send (own_put x anchor w) ∷ [])
+  again_begins splits anchor w is some anchored =
+      let there : Contains x.in_flight w = subst (λ f. Contains f w) (sym some) (contains_head w []) in
+      let P : Sent → Type 0 = λ m. IsTrue (is_put_of f.t.id f.t.epoch w.seq m.request) in
       let laid : Any P f.split.sent_first =
       any_before P f.split.sent_first k.sent_now
-      (All-weaker (λ m. is_heartbeat m.request ≡ true) (λ m. P m → ⊥) (λ m beat put. beat_not_put f.t.id f.t.epoch (last_seq_of f.t.writes) m.request beat put) k.sent_now f.sent)
-      (subst (λ ms. Any P ms) f.split.sent (subst (λ w. WasLaid f.t k.sent w) some f.stands.laid)) in
-      let seq : last_seq_of f.t.writes ≡ x.seq = sym (ap (λ x. x.seq) f.stands.same) in
-      begins splits (purposes.Write true) (last_put x anchor key value ∷ []) (one_alone (last_put x anchor key value) refl) (one_silent (last_put x anchor key value) refl) (one_two (last_put x anchor key value)) refl f.beaten
+      (All-weaker (λ m. is_heartbeat m.request ≡ true) (λ m. P m → ⊥) (λ m beat put. beat_not_put f.t.id f.t.epoch w.seq m.request beat put) k.sent_now f.sent)
+      (subst (λ ms. Any P ms) f.split.sent (sent_of k [] None f.t x f.stands w there)) in
+      begins splits (purposes.Write true) (own_put x anchor w ∷ []) (one_alone (own_put x anchor w) refl) (one_silent (own_put x anchor w) refl) (one_two (own_put x anchor w)) refl f.beaten
       (record {
-        key = key;
-        value = value;
+        key = w.key;
+        value = w.value;
         call = is;
-        m = message_to_send (last_put x anchor key value);
+        m = message_to_send (own_put x anchor w);
         one = refl;
         lays = inr (record {
+          w = w;
           in_flight = some;
+          place = refl;
+          what = refl;
           anchor = anchor;
           anchored = sym (ap (λ x. x.anchor) f.stands.same) ∙ anchored;
           said = refl;
           first = λ e. absurd cc;
           old = λ e. no_new;
           before = λ e.
-              ap (λ ms. list_any (λ other. is_put_of f.t.id f.t.epoch x.seq other.request) ms) before_all
-              ∙ ap (λ n. list_any (λ other. is_put_of f.t.id f.t.epoch n other.request) f.split.sent_first) (sym seq)
-              ∙ any_true (λ other. is_put_of f.t.id f.t.epoch (last_seq_of f.t.writes) other.request) f.split.sent_first laid;
+              ap (λ ms. list_any (λ other. is_put_of f.t.id f.t.epoch w.seq other.request) ms) before_all
+              ∙ any_true (λ other. is_put_of f.t.id f.t.epoch w.seq other.request) f.split.sent_first laid;
         });
       })
 
@@ -324,7 +328,7 @@ module _ (k : Known) (x : OpenTxn) (s : Statement) (why : Why) (f : IsFresh k x 
   messages_are [] = refl
   messages_are (span ∷ spans) = ap (λ ms. message_to_send (own_scan x span) ∷ ms) (messages_are spans)
 
-  pub scan_begins : (splits : List (List ℕ)) (span : Span) → AreRising splits → s.call ≡ calls.Scan span → x.in_flight ≡ None → InCall splits k x purposes.Read (scan_messages x (spans_in splits span))
+  pub scan_begins : (splits : List (List ℕ)) (span : Span) → AreRising splits → s.call ≡ calls.Scan span → x.in_flight ≡ [] → InCall splits k x purposes.Read (scan_messages x (spans_in splits span))
   scan_begins splits span rising is none =
       let spans = spans_in splits span in
       let rs = map (own_scan x) spans in

@@ -27,7 +27,7 @@ use Rattle.pc_proto.specs.Requests.{is_about}
 use Rattle.pc_txn.proofs.Keeping.{quiet_leaves, stands_on}
 use Rattle.pc_txn.specs.Counted.{IsCounted}
 use Rattle.pc_txn.specs.declared.txn.OpenTxn.{OpenTxn}
-use Rattle.pc_txn.specs.Standing.{HasMovedOn, LeavesAsIs, TxnStands, is_plain}
+use Rattle.pc_txn.specs.Standing.{HasMovedOn, LeavesAsIs, TxnStands, is_plain, is_query_of}
 use Rattle.pc_wave.specs.declared.message.Message.{Message}
 use Rattle.pc_wave.specs.declared.step.Step.TheVariants as steps
 use Rattle.pc_wave.specs.Messages.{step_of}
@@ -50,7 +50,7 @@ blocks_no_rollback call may e = subst MayBlock e may
 blocks_no_round : (call : Call) → MayBlock call → call ≡ calls.Round → ⊥
 blocks_no_round call may e = subst MayBlock e may
 
-module _ (splits : List (List ℕ)) (session : ℕ) (k : Known) (t : Txn) (x : OpenTxn) (s : Statement) (open_in : IsOpenIn k t) (st : TxnStands k None t x) (client : x.cause ≡ whys.Client) (opened : k.statement ≡ Some s) (b : IsBlockable s) (flight : SuitsFlight s.call x.in_flight) (beaten : HasBeaten k t) where
+module _ (splits : List (List ℕ)) (session : ℕ) (k : Known) (t : Txn) (x : OpenTxn) (s : Statement) (open_in : IsOpenIn k t) (st : TxnStands k [] None t x) (client : x.cause ≡ whys.Client) (opened : k.statement ≡ Some s) (b : IsBlockable s) (flight : SuitsFlight s.call x.in_flight) (beaten : HasBeaten k t) where
   suits_again : (other : Statement) → k.statement ≡ Some other → SuitsFlight other.call x.in_flight
   suits_again other is = subst (λ (s : Statement). SuitsFlight s.call x.in_flight) (same_Some s other (sym opened ∙ is)) flight
 
@@ -76,7 +76,7 @@ module _ (session clock count : ℕ) (splits : List (List ℕ)) (k : Known) (x :
   pub blocked_by_eighth : (holder : TxnId) → step_of ms ≡ steps.Blocked holder → MayTellOpen splits session k (answers.Blocked holder) x
   blocked_by_eighth holder due =
       let b = blocked_due session clock count splits k x p ms counted w holder due in
-      blocked splits session k w.t x w.s w.open_in (subst (λ o. TxnStands k o w.t x) (none_out session clock count splits k x p ms counted w b.0) w.stands) w.cause w.opened b.0
+      blocked splits session k w.t x w.s w.open_in (subst (λ o. TxnStands k [] o w.t x) (none_out session clock count splits k x p ms counted w b.0) w.stands) w.cause w.opened b.0
       (flight_suits session clock count splits k x p ms counted w b.0) b.2 holder (inr b.1)
 
   module _ (now : Known) (number : ℕ) (conflict : Reply) (due : step_of ms ≡ steps.Round number conflict) (g : GoesOnBeside k now x.id) where
@@ -92,19 +92,20 @@ module _ (session clock count : ℕ) (splits : List (List ℕ)) (k : Known) (x :
     same_id : x.id ≡ w.t.id
     same_id = ap (λ x. x.id) w.stands.same
 
-    leaves : (hs : List Heard) → All (λ h. IsTrue (goes_beside h.request)) hs → All (λ h. is_about x.id h.request ≡ false) hs → All (LeavesAsIs w.t) hs
-    leaves [] a o = All-nil (LeavesAsIs w.t)
-    leaves (h ∷ hs) a o =
+    leaves : (hs : List Heard) → All (λ h. IsTrue (goes_beside h.request)) hs → All (λ h. is_about x.id h.request ≡ false) hs → All (λ h. is_query_of x.id h.request ≡ false) hs → All (LeavesAsIs w.t) hs
+    leaves [] a o q = All-nil (LeavesAsIs w.t)
+    leaves (h ∷ hs) a o q =
         let quiet : is_plain h.request ≡ true = beside_quiet h.request (All-head (λ h. IsTrue (goes_beside h.request)) h hs a) in
         let no : is_about w.t.id h.request ≡ false = subst (λ id. is_about id h.request ≡ false) same_id (All-head (λ h. is_about x.id h.request ≡ false) h hs o) in
-        All-cons (LeavesAsIs w.t) h hs (quiet_leaves w.t h quiet (λ about. absurd cc))
-        (leaves hs (All-tail (λ h. IsTrue (goes_beside h.request)) h hs a) (All-tail (λ h. is_about x.id h.request ≡ false) h hs o))
+        let unasked : is_query_of w.t.id h.request ≡ false = subst (λ id. is_query_of id h.request ≡ false) same_id (All-head (λ h. is_query_of x.id h.request ≡ false) h hs q) in
+        All-cons (LeavesAsIs w.t) h hs (quiet_leaves w.t h quiet unasked no)
+        (leaves hs (All-tail (λ h. IsTrue (goes_beside h.request)) h hs a) (All-tail (λ h. is_about x.id h.request ≡ false) h hs o) (All-tail (λ h. is_query_of x.id h.request ≡ false) h hs q))
 
-    stands_now : TxnStands now None w.t x
+    stands_now : TxnStands now [] None w.t x
     stands_now =
-        stands_on k now None w.t x g.sent_more g.heard_more (subst (λ o. TxnStands k o w.t x) (none_out session clock count splits k x p ms counted w b) w.stands) gone
+        stands_on k now [] None w.t x g.sent_more g.heard_more (subst (λ o. TxnStands k [] o w.t x) (none_out session clock count splits k x p ms counted w b) w.stands) gone
         (All-weaker (λ m. IsTrue (goes_beside m.request)) (λ m. IsTrue (is_plain m.request)) (λ m of. beside_quiet m.request of) g.sent_more g.sent_beside)
-        (leaves g.heard_more g.heard_beside g.other)
+        (leaves g.heard_more g.heard_beside g.other g.unqueried)
 
     open_now : IsOpenIn now w.t
     open_now = record { others = w.open_in.others; is_open = g.is_open ∙ w.open_in.is_open; first = g.txns ∙ w.open_in.first }

@@ -37,7 +37,7 @@ or-true : (b : Bool) → (b || true) ≡ true
 or-true true = refl
 or-true false = refl
 
-module _ (k : Known) (x : OpenTxn) (t : Txn) (anchor : List ℕ) (fate : Fate) (h : Heard) (open_in : IsOpenIn k t) (same : x ≡ opened_as x.shown x.cause x.reads.spans x.in_flight t) (ends : EndsWith t anchor fate k.heard h) where
+module _ (k : Known) (x : OpenTxn) (t : Txn) (anchor : List ℕ) (fate : Fate) (h : Heard) (open_in : IsOpenIn k t) (same : x ≡ opened_as x.shown x.cause x.reads.spans x.in_flight x.staging t) (ends : EndsWith t anchor fate k.heard h) where
   abbrev k3 : Known
   k3 = known_heard h k
 
@@ -57,7 +57,7 @@ module _ (k : Known) (x : OpenTxn) (t : Txn) (anchor : List ℕ) (fate : Fate) (
   opened3 = open_is k3 t3 open3
 
   left_now : left_at x.anchor fate x ≡ Some left
-  left_now = ap (λ x. left_at x.anchor fate x) same ∙ ap (λ a. left_at a fate (opened_as x.shown x.cause x.reads.spans x.in_flight t)) ends.anchored
+  left_now = ap (λ x. left_at x.anchor fate x) same ∙ ap (λ a. left_at a fate (opened_as x.shown x.cause x.reads.spans x.in_flight x.staging t)) ends.anchored
 
   -- what is left is its settling
   pub closing-left : left_messages (left_at x.anchor fate x) ≡ left_if k3 (open_txn k3)

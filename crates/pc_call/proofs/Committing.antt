@@ -5,7 +5,7 @@ use Rattle.std.proofs.lemmas.Option.{same_Some}
 use Rattle.std.proofs.lemmas.List.Elements.{All-cons, All-head, All-map, All-nil, All-tail, All-weaker}
 use Rattle.pc_base.specs.declared.limits.TheConstants.{MOST_CONFLICTS}
 use Rattle.pc_base.specs.declared.span.Span.{Span}
-use Rattle.pc_call.proofs.Beginning.{AreTwo, any_true, none_held, none_met, none_paced, pending_plain, requests_are, unmet_now}
+use Rattle.pc_call.proofs.Beginning.{AreTwo, any_true, none_held, none_met, none_paced, requests_are, unmet_now}
 use Rattle.pc_call.proofs.Meeting.{none_low}
 use Rattle.pc_call.proofs.Turning.{turn_begun}
 use Rattle.pc_call.specs.Committing.{CommitsNow, CommitsOn, CommitsUpTo}
@@ -25,14 +25,14 @@ use Rattle.pc_proto.specs.declared.reply.Reply.TheVariants as replies
 use Rattle.pc_proto.specs.declared.request.Request.{Request}
 use Rattle.pc_proto.specs.declared.request.Request.TheVariants as requests
 use Rattle.pc_proto.specs.declared.why.Why.{Why}
-use Rattle.pc_proto.specs.Replies.{is_conflict}
+use Rattle.pc_proto.specs.Replies.{is_conflict, is_undecided_status}
 use Rattle.pc_proto.specs.Requests.{is_commit}
 use Rattle.pc_reads.proofs.Ordered.{sorted_apart}
 use Rattle.pc_reads.specs.ReadsStanding.{refresh_to}
 use Rattle.pc_reads.specs.Replies.{unrefreshed_by}
 use Rattle.pc_txn.specs.declared.txn.OpenTxn.{OpenTxn}
 use Rattle.pc_txn.specs.Opened.{own_commit, own_scan}
-use Rattle.pc_txn.specs.Standing.{ShowsPending, TxnStands}
+use Rattle.pc_txn.specs.Standing.{TxnStands}
 use Rattle.pc_wave.proofs.Lists.{at_least-before, at_least-fewer}
 use Rattle.pc_wave.specs.Messages.{is_to_send, message_to_send}
 use Rattle.pc_wave.specs.Standing.{AreOfTwo, MayGoOut, MessageStands, Pairwise, WaveStands, goes_beside}
@@ -76,7 +76,7 @@ module _ (splits : List (List ℕ)) (bound n : ℕ) (k : Known) (t : Txn) (x : O
   goes_on p rs own goes two out beaten serves = record {
     t = t;
     open_in = c.open_in;
-    stands = subst (λ o. TxnStands k o t x) (sym out) c.stands;
+    stands = subst (λ o. TxnStands k [] o t x) (sym out) c.stands;
     cause = c.client;
     s = s;
     opened = c.opened;
@@ -247,9 +247,9 @@ beat_no_refresh : (ts : ℕ) (r : Request) → is_heartbeat r ≡ true → IsRef
 beat_no_refresh ts (requests.Beat meta at now) beat = tt
 beat_no_refresh ts r beat = absurd cc
 
-pending_no_write : (reply : Reply) → ShowsPending reply → unrefreshed_by reply ≡ None
-pending_no_write (replies.Status view) is = refl
-pending_no_write reply is = absurd is
+undecided_no_write : (reply : Reply) → is_undecided_status reply ≡ true → unrefreshed_by reply ≡ None
+undecided_no_write (replies.Status view) is = refl
+undecided_no_write reply is = absurd cc
 
 beat_moves : (r : Request) (reply : Reply) → is_heartbeat r ≡ true → is_moved r reply ≡ false
 beat_moves (requests.Beat meta ts now) reply beat = refl
@@ -261,7 +261,7 @@ beats_unmoved k heard one =
     (All-weaker (λ h. is_heartbeat h.request ≡ true) (λ h. WasMoved k h → ⊥) (λ h beat moved. let e : is_moved h.request h.reply ≡ false = beat_moves h.request h.reply beat in let f = (and_parts (was_sent_now k h) (is_moved h.request h.reply) moved).1 in absurd cc) k.heard_now heard) one
 
 -- a commit that was just asked goes on
-pub commit_asked_now : (k : Known) (x : OpenTxn) (s : Statement) (why : Why) (anchor : List ℕ) → IsFresh k x s why → s.call ≡ calls.Commit → x.anchor ≡ Some anchor → x.in_flight ≡ None → CommitsOn 0 k x
+pub commit_asked_now : (k : Known) (x : OpenTxn) (s : Statement) (why : Why) (anchor : List ℕ) → IsFresh k x s why → s.call ≡ calls.Commit → x.anchor ≡ Some anchor → x.in_flight ≡ [] → CommitsOn 0 k x
 commit_asked_now k x s why anchor f call anchored none = record {
   t = f.t;
   s = s;
@@ -283,7 +283,7 @@ commit_asked_now k x s why anchor f call anchored none = record {
     };
     refused = All-weaker (λ m. is_heartbeat m.request ≡ true) (WasRefusedIfCommit f.t.write_ts k.heard_now) (λ m beat commits. absurd (beat_no_commit m.request beat commits)) k.sent_now f.sent;
     refreshes = All-weaker (λ m. is_heartbeat m.request ≡ true) (λ m. IsRefreshUpTo f.t.read_ts m.request) (λ m beat. beat_no_refresh f.t.read_ts m.request beat) k.sent_now f.sent;
-    held = All-weaker ShowsAlive MetNoWrite (λ h a. pending_no_write h.reply a.pending) k.heard_now f.heard;
+    held = All-weaker ShowsAlive MetNoWrite (λ h a. undecided_no_write h.reply a.undecided) k.heard_now f.heard;
     beaten = f.beaten;
   };
 }

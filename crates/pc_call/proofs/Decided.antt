@@ -93,12 +93,12 @@ module _ (session clock count : ℕ) (splits : List (List ℕ)) (k : Known) (x :
   pub commit_known : h.request ≡ commit_request (commit_now w.t commits.commits.anchor)
   commit_known = commit_said ∙ ap (λ x. own_commit x commits.commits.anchor) w.stands.same
 
-  pub commit_stands : TxnStands k (Some (commit_now w.t commits.commits.anchor)) w.t x
+  pub commit_stands : TxnStands k [] (Some (commit_now w.t commits.commits.anchor)) w.t x
   commit_stands =
       let out : out_of p ms ≡ Some (commit_now w.t commits.commits.anchor) =
       ap (λ q. out_of q ms) e ∙ ap (out_of (purposes.Commit n)) commits.one ∙ ap (λ pr. cond (progress_to_send pr) None (commit_asked commits.m.request)) commit_out
       ∙ ap commit_asked commits.said ∙ ap (λ x. commit_asked (own_commit x commits.commits.anchor)) w.stands.same in
-      subst (λ o. TxnStands k o w.t x) out w.stands
+      subst (λ o. TxnStands k [] o w.t x) out w.stands
 
   pub within : is_past_range w.s ≡ false
   within = ap (λ call. is_past_range (record { call = call; reading = w.s.reading })) commits.commits.call
@@ -125,7 +125,7 @@ module _ (session clock count : ℕ) (splits : List (List ℕ)) (k : Known) (x :
       ends : EndsWith w.t commits.commits.anchor fate k.heard h
       ends = record {
         anchored = commits.commits.anchored;
-        pending = w.stands.views;
+        undecided = w.stands.views;
         about = ap (is_about w.t.id) commit_known ∙ same_txn-self w.t.id;
         named = ap subject_anchor commit_known;
         view = view;

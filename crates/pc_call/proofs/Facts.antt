@@ -2,14 +2,12 @@
 use Rattle.std.proofs.Common.{◌≡◌, ℕ, ◌+◌, ◌-◌, ◌≤◌, take, length-append, true, List, Option, Some, None, refl, ap, ◌∙◌, arith, length}
 use Rattle.std.proofs.Math.Seq.{take-append_seam}
 use Rattle.std.proofs.lemmas.List.Elements.{All-weaker}
-use Rattle.pc_base.specs.declared.transaction.TxnId.{TxnId}
 use Rattle.pc_base.specs.declared.limits.TheConstants.{MOST_REFUSALS}
 use Rattle.pc_call.specs.Serving.{IsOpenIn, IsSplit, write_call}
-use Rattle.pc_proto.specs.declared.request.Request.{Request}
 use Rattle.pc_proto.specs.declared.request.Request.TheVariants as requests
 use Rattle.pc_proto.specs.declared.meta.TxnMeta.{TxnMeta}
 use Rattle.pc_refusals.specs.Moves.{CountsMoves}
-use Rattle.pc_txn.specs.Counted.{IsCounted, IsOwnHeard, IsOwnSent, IsOwnWrite}
+use Rattle.pc_txn.specs.Counted.{IsCounted, IsOwnHeard, IsOwnSent}
 use Rattle.pc_wave.proofs.Lists.{at_least-fewer}
 use Rattle.pc_wave.specs.Standing.{AreNumbered}
 use Rattle.pc_follows.specs.CallMessages.{IsFor}
@@ -17,22 +15,12 @@ use Rattle.pc_follows.specs.Eighth.{WasMovedEighth}
 use Rattle.pc_world.specs.Known.{Known, first_if, open_txn}
 use Rattle.pc_world.specs.Known.Transactions.{Txn}
 use Rattle.pc_world.specs.Send.Put.{AsksFor}
-use Rattle.pc_world.specs.StageFate.{EachStage, OnStage, SentStage}
 use Rattle.pc_world.specs.Tell.Data.{sent_before}
 use Rattle.pc_world.specs.Tell.Refusal.{WasMoved}
 
 -- the first transaction is the open one
 pub open_is : (k : Known) (t : Txn) → IsOpenIn k t → open_txn k ≡ Some t
 open_is k t o = ap (λ b. first_if b k.txns) o.is_open ∙ ap (first_if true) o.first
-
-no_stage : (id : TxnId) (P : SentStage → Type 0) (begun : ℕ) (request : Request) → IsOwnWrite begun request → OnStage id P request
-no_stage id P begun (requests.Stage meta ts now writes locks) own = absurd own
-no_stage id P begun request own = tt
-
--- no stage was sent
-pub none_staged : (id : TxnId) (P : SentStage → Type 0) (session latest count : ℕ) (k : Known) → IsCounted session latest count k → EachStage id k.sent P
-none_staged id P session latest count k c =
-    All-weaker (IsOwnSent session k.begun (length k.sent)) (λ m. OnStage id P m.request) (λ m own. no_stage id P k.begun m.request own.own.write) k.sent c.sent
 
 -- the numbers are within their count
 pub are_numbered : (session latest count : ℕ) (k : Known) → IsCounted session latest count k → AreNumbered k

@@ -1,12 +1,14 @@
 -- A reply to a message of an open call is heard, and the call goes on.
-use Rattle.std.proofs.Common.{◌≡◌, ℕ, ◌+◌, ◌≤◌, max, not, Bool, true, false, cond, ◌&&◌, ◌||◌, ◌==◌, ◌<◌, ◌⊎◌, inl, inr, List, [], ◌∷◌, ◌++◌, length, map, find, Option, Some, None, refl, sym, ap, ◌∙◌, subst, arith, All, Any, IsTrue, count_by, append_assoc}
+use Rattle.std.proofs.Common.{◌≡◌, ℕ, ◌+◌, ◌≤◌, max, not, Bool, true, false, cond, ◌&&◌, ◌||◌, ◌==◌, ◌<◌, ◌⊎◌, inl, inr, List, [], ◌∷◌, ◌++◌, length, map, filter, find, Option, Some, None, refl, sym, ap, ◌∙◌, subst, arith, All, Any, Contains, IsTrue, count_by, append_assoc}
 use Rattle.std.specs.List.{list_any}
 use Rattle.std.specs.Option.{option_to_list}
 use Rattle.std.proofs.lemmas.List.{append-nil}
 use Rattle.std.proofs.lemmas.List.Elements.{All-cons, All-map, All-nil, All-push, All-weaker}
+use Rattle.std.proofs.lemmas.Bool.{and_from, eq-eqb}
 use Rattle.std.proofs.lemmas.Option.{same_Some}
 use Rattle.pc_base.specs.declared.limits.TheConstants.{MOST_CONFLICTS}
 use Rattle.pc_base.specs.declared.transaction.TxnId.{TxnId}
+use Rattle.pc_base.specs.Span.{same_key}
 use Rattle.pc_base.specs.Transaction.{same_txn}
 use Rattle.pc_call.proofs.Beating.{beaten_heard}
 use Rattle.pc_call.proofs.Beside.{IsAskedOrBeside, IsSentOnceMore, all_past, asked-kept}
@@ -20,12 +22,15 @@ use Rattle.pc_call.proofs.Turning.{back_out, turn_heard}
 use Rattle.pc_call.specs.Beside.{AreAskedOrDone, ArePastOrBeside}
 use Rattle.pc_call.specs.declared.purpose.Purpose.{Purpose}
 use Rattle.pc_call.specs.declared.purpose.Purpose.TheVariants as purposes
+use Rattle.pc_call.specs.Ended.{landed_first, landed_with, laying, laying_as, laying_first}
 use Rattle.pc_call.specs.Learned.{known_heard}
 use Rattle.pc_call.specs.Opening.{GoesOn}
 use Rattle.pc_call.specs.Paced.{IsPaced, shows_resolve, was_met, was_pushed}
 use Rattle.pc_call.specs.Serving.{AreReadsOf, HasBeatenBy, InCall, IsAnswerTo, IsMetUpTo, IsOpenIn, IsReadFor, IsRefreshGoneOut, IsRefusedBy, IsSplit, LaysLast, LaysNext, MetNoOtherWrite, NoOtherMetEighth, Serves, ServesRead, ServesRefresh, ServesWrite, WasRefusedIfCommit, WroteNothingNew, holders_met, out_of, write_call}
 use Rattle.pc_follows.specs.Heartbeats.{HasBeaten}
 use Rattle.pc_lists.proofs.Anywhere.{any_head, any_kept, any_last, any_later}
+use Rattle.pc_lists.proofs.Lists.{contains_head}
+use Rattle.pc_lists.proofs.Same.{same_key-self}
 use Rattle.pc_lists.proofs.Counts.{count-cons, count-push, one_if}
 use Rattle.pc_proto.specs.declared.call.Call.{Call}
 use Rattle.pc_proto.specs.declared.call.Call.TheVariants as calls
@@ -43,13 +48,15 @@ use Rattle.pc_reads.specs.Replies.{unrefreshed_by, unrefreshed_in}
 use Rattle.pc_refusals.proofs.Counted.{refusals_go}
 use Rattle.pc_refusals.specs.Moves.{IsNoMove}
 use Rattle.pc_txn.proofs.Keeping.{quiet_leaves, stands_on}
-use Rattle.pc_txn.proofs.Laying.{last_landed}
-use Rattle.pc_txn.proofs.Puts.{own_put, puts-one}
+use Rattle.pc_txn.proofs.Laying.{put_landed, seq_low}
+use Rattle.pc_txn.proofs.Puts.{puts-one, puts-own}
 use Rattle.pc_txn.specs.Counted.{IsCounted}
-use Rattle.pc_txn.specs.declared.flight.InFlight.{InFlight}
+use Rattle.pc_flight.specs.InFlight.{is_another}
+use Rattle.pc_flight.specs.declared.write.WriteInFlight.{WriteInFlight}
 use Rattle.pc_txn.specs.declared.txn.OpenTxn.{OpenTxn}
-use Rattle.pc_txn.specs.Opened.{landed_at, last_put, opened_as, own_get, own_scan}
-use Rattle.pc_txn.specs.Standing.{HasMovedOn, LeavesAsIs, PutsUpTo, TxnStands, is_plain}
+use Rattle.pc_txn.specs.Opened.{landed_at, meta_now, opened_as, own_get, own_put, own_scan}
+use Rattle.pc_txn.specs.Standing.{HasMovedOn, LeavesAsIs, TxnStands, is_plain, is_query_of}
+use Rattle.pc_txn.specs.Writing.{PutsUpTo}
 use Rattle.pc_wave.proofs.Changed.{found_all, found_passes, found_some}
 use Rattle.pc_wave.proofs.Hearing.{awaits_as, came_request, wave_heard}
 use Rattle.pc_wave.proofs.Lists.{at_least-before}
@@ -66,6 +73,7 @@ use Rattle.pc_world.specs.Known.Transactions.{Txn, meta_of, txn_heard}
 use Rattle.pc_world.specs.Known.Writes.{Write, last_seq_of}
 use Rattle.pc_world.specs.RangeOf.{pieces}
 use Rattle.pc_world.specs.Send.Put.{AsksFor}
+use Rattle.pc_world.specs.StageFate.{SentStage, is_write_refuted}
 use Rattle.pc_world.specs.SameRequest.{IsSameRequest}
 use Rattle.pc_world.specs.Tell.Data.{IsFirstPut, IsPutFor, MayTellWritten, sent_before}
 use Rattle.pc_world.specs.Tell.Refusal.{IsConflictOf, is_moved}
@@ -97,6 +105,12 @@ still_quiet (requests.Scan id epoch seq ts span) e = refl
 still_quiet (requests.Refresh id from to span) e = refl
 still_quiet r e = absurd cc
 
+still_unasked : (id : TxnId) (r : Request) → is_still r ≡ true → is_query_of id r ≡ false
+still_unasked id (requests.Get other epoch seq ts key) e = refl
+still_unasked id (requests.Scan other epoch seq ts span) e = refl
+still_unasked id (requests.Refresh other from to span) e = refl
+still_unasked id r e = absurd cc
+
 still_about : (id : TxnId) (r : Request) → is_still r ≡ true → is_about id r ≡ false
 still_about id (requests.Get other epoch seq ts key) e = refl
 still_about id (requests.Scan other epoch seq ts span) e = refl
@@ -117,9 +131,19 @@ conflict_heard t sent number step (replies.Conflict holder at place) meta seq ts
     ∙ ap (λ n. record t { write_ts = n }) (max-zero t.write_ts)
 conflict_heard t sent number step reply meta seq ts key value e = absurd cc
 
+-- nor refutes one a stage
+conflict_refutes : (s : SentStage) (reply : Reply) (meta : TxnMeta) (seq ts : ℕ) (key : List ℕ) (value : Option (List ℕ)) → is_conflict reply ≡ true → is_write_refuted s (requests.Put meta seq ts key value) reply ≡ false
+conflict_refutes s (replies.Conflict holder at place) meta seq ts key value e = refl
+conflict_refutes s reply meta seq ts key value e = absurd cc
+
 conflict_unwritten : (reply : Reply) → is_conflict reply ≡ true → is_written reply ≡ false
 conflict_unwritten (replies.Conflict holder ts key) e = refl
 conflict_unwritten reply e = absurd cc
+
+-- the one write that was in flight has left
+gone_from : (f : WriteInFlight) → filter (is_another f.key f.seq) (f ∷ []) ≡ []
+gone_from f =
+    ap (λ b. cond b (f ∷ []) []) (ap not (and_from (f.seq == f.seq) (same_key f.key f.key) (eq-eqb f.seq f.seq refl) (same_key-self f.key)))
 
 no_push : (id : TxnId) (r : Request) → goes_beside r ≡ false → is_push_of id r ≡ false
 no_push id (requests.Push holder by level now goal) e = absurd cc
@@ -186,18 +210,18 @@ not_false {b = b} e = subst (λ b. IsTrue (not b)) (sym e) refl
 
 -- The write of an open call was heard to be written: none is in flight, and the call may be told so; or, where the write was of an earlier call, the
 -- call has sent no write of its own yet. No request met its eighth.
-pub record IsLanded (flight : Option InFlight) (again : Bool) (k : Known) (x : OpenTxn) : Type 0 where
+pub record IsLanded (ms : List Message) (again : Bool) (k : Known) (x : OpenTxn) : Type 0 where
   pub t : Txn
   pub open_in : IsOpenIn k t
-  pub stands : TxnStands k None t x
+  pub stands : TxnStands k [] None t x
   pub cause : x.cause ≡ whys.Client
   pub s : Statement
   pub opened : k.statement ≡ Some s
   pub key : List ℕ
   pub value : Option (List ℕ)
   pub call : s.call ≡ write_call key value
-  pub was : flight ≡ Some (record { key = key; value = value })
-  pub none_in_flight : x.in_flight ≡ None
+  pub was : (y : OpenTxn) → laying_first ms y ≡ Some (laying y key value)
+  pub none_in_flight : x.in_flight ≡ []
   pub split : IsSplit k
   pub paced : IsPaced [] k.heard_now
   pub unmet : (r : Request) → MetEighth k r → ⊥
@@ -329,8 +353,8 @@ module _ (session clock count : ℕ) (splits : List (List ℕ)) (k : Known) (x :
     t = w.t;
     open_in = record { others = map (txn_heard k.sent (Some h)) w.open_in.others; is_open = w.open_in.is_open; first = ap (map (txn_heard k.sent (Some h))) w.open_in.first ∙ ap (λ t. t ∷ map (txn_heard k.sent (Some h)) w.open_in.others) same };
     stands =
-        subst (λ o. TxnStands k2 o w.t x) (sym out)
-        (stands_on k k2 (out_of p ms) w.t x [] (h ∷ []) w.stands gone (All-nil (λ (m : Sent). IsTrue (is_plain m.request))) (All-cons (LeavesAsIs w.t) h [] leaves (All-nil (LeavesAsIs w.t))));
+        subst (λ o. TxnStands k2 [] o w.t x) (sym out)
+        (stands_on k k2 [] (out_of p ms) w.t x [] (h ∷ []) w.stands gone (All-nil (λ (m : Sent). IsTrue (is_plain m.request))) (All-cons (LeavesAsIs w.t) h [] leaves (All-nil (LeavesAsIs w.t))));
     cause = w.cause;
     s = w.s;
     opened = w.opened;
@@ -348,7 +372,7 @@ module _ (session clock count : ℕ) (splits : List (List ℕ)) (k : Known) (x :
     still_same = still_heard w.t k.sent h.number h.step h.reply h.request still
 
     still_leaves : LeavesAsIs w.t h
-    still_leaves = quiet_leaves w.t h (still_quiet h.request still) (λ about. let e : is_about w.t.id h.request ≡ false = still_about w.t.id h.request still in absurd cc)
+    still_leaves = quiet_leaves w.t h (still_quiet h.request still) (still_unasked w.t.id h.request still) (still_about w.t.id h.request still)
 
   in_requests : Any (λ r. r ≡ h.request) (map (λ m. m.request) ms2)
   in_requests = subst (λ rs. Any (λ r. r ≡ h.request) rs) (sym requests2) (there ms found.1)
@@ -423,8 +447,8 @@ module _ (session clock count : ℕ) (splits : List (List ℕ)) (k : Known) (x :
     out_is : out_of p ms ≡ None
     out_is = ap (λ q. out_of q ms) e
 
-    st : TxnStands k None w.t x
-    st = subst (λ o. TxnStands k o w.t x) out_is w.stands
+    st : TxnStands k [] None w.t x
+    st = subst (λ o. TxnStands k [] o w.t x) out_is w.stands
 
     at_number : awaits_at number r.m ≡ true
     at_number = one_waits (awaits_at number r.m) (sym (ap (wave_awaits number) r.one) ∙ waited)
@@ -445,20 +469,22 @@ module _ (session clock count : ℕ) (splits : List (List ℕ)) (k : Known) (x :
       lays_on : LaysNext k w.s w.t x r.key r.value again r.m ⊎ LaysLast k w.s w.t x r.key r.value again r.m → InCall splits k2 x p ms2
       lays_on (inl l) = let f : false ≡ true = ap (progress_awaits number) (sym l.to_send) ∙ at_number in absurd cc
       lays_on (inr l) =
-          let said : h.request ≡ last_put x l.anchor r.key r.value = same_request ∙ sym (ap (λ (m : Message). m.request) is_m) ∙ l.said in
-          let meta : TxnMeta = record { id = x.id; epoch = x.epoch; priority = x.priority; born = x.born; anchor = l.anchor } in
+          let said : h.request ≡ own_put x l.anchor l.w = same_request ∙ sym (ap (λ (m : Message). m.request) is_m) ∙ l.said in
+          let meta : TxnMeta = meta_now x l.anchor in
+          let there : Contains x.in_flight l.w = subst (λ f. Contains f l.w) (sym l.in_flight) (contains_head l.w []) in
           let same : t2 ≡ w.t =
           ap (λ q. txn_heard k.sent (Some (record { number = h.number; request = q; reply = h.reply; step = h.step })) w.t) said
-          ∙ ap (λ y. txn_heard k.sent (Some (record { number = h.number; request = last_put x l.anchor r.key r.value; reply = y; step = h.step })) w.t) is.told
-          ∙ conflict_heard w.t k.sent h.number h.step reply meta x.seq x.write_ts r.key r.value conflict in
-          let put_now : PutsUpTo w.t (last_seq_of w.t.writes) (last_put x l.anchor r.key r.value) =
-          subst (λ y. PutsUpTo w.t (last_seq_of w.t.writes) (last_put y l.anchor r.key r.value)) (sym st.same)
-          (puts-one w.t (last_seq_of w.t.writes) (last_seq_of w.t.writes) (last_put (opened_as x.shown x.cause x.reads.spans x.in_flight w.t) l.anchor r.key r.value)
-          (own_put (meta_of w.t l.anchor) (last_seq_of w.t.writes) w.t.write_ts r.key r.value) (omega arith)) in
+          ∙ ap (λ y. txn_heard k.sent (Some (record { number = h.number; request = own_put x l.anchor l.w; reply = y; step = h.step })) w.t) is.told
+          ∙ conflict_heard w.t k.sent h.number h.step reply meta l.w.seq x.write_ts l.w.key l.w.value conflict in
+          let put_now : PutsUpTo w.t (last_seq_of w.t.writes) (own_put x l.anchor l.w) =
+          subst (λ y. PutsUpTo w.t (last_seq_of w.t.writes) (own_put y l.anchor l.w)) (sym st.same)
+          (puts-one w.t l.w.seq (last_seq_of w.t.writes) (own_put (opened_as x.shown x.cause x.reads.spans x.in_flight x.staging w.t) l.anchor l.w)
+          (puts-own (meta_of w.t l.anchor) l.w.seq w.t.write_ts l.w.key l.w.value) (seq_low k [] None w.t x st l.w there)) in
           let leaves : LeavesAsIs w.t h = record {
-            pending = λ about. let f : is_about w.t.id h.request ≡ false = ap (is_about w.t.id) said in absurd cc;
+            other = ap (is_about w.t.id) said;
             put = subst (PutsUpTo w.t (last_seq_of w.t.writes)) (sym said) put_now;
-            unwritten = λ put. ap is_written is.told ∙ conflict_unwritten reply conflict;
+            unwritten = λ seq put. ap is_written is.told ∙ conflict_unwritten reply conflict;
+            unrefuted = λ s whose. ap (is_write_refuted s h.request) is.told ∙ ap (λ q. is_write_refuted s q reply) said ∙ conflict_refutes s reply meta l.w.seq x.write_ts l.w.key l.w.value conflict;
           } in
           gone_on same leaves (ap (λ q. out_of q ms2) e ∙ sym out_is)
           (subst (λ q. Serves splits k2 w.s w.t x q ms2) (sym e) (record {
@@ -468,7 +494,10 @@ module _ (session clock count : ℕ) (splits : List (List ℕ)) (k : Known) (x :
             m = back_with number reply r.m;
             one = ms2_is;
             lays = inr (record {
+              w = l.w;
               in_flight = l.in_flight;
+              place = l.place;
+              what = l.what;
               anchor = l.anchor;
               anchored = l.anchored;
               said = came_request number reply r.m ∙ l.said;
@@ -503,13 +532,20 @@ module _ (session clock count : ℕ) (splits : List (List ℕ)) (k : Known) (x :
       low : at ≤ k2.high
       low = let f : greatest_of (reply_stamps h.reply) ≡ max 0 at = ap (λ y. greatest_of (reply_stamps y)) (is.told ∙ written) in omega (arith, f)
 
-      landed : LaysNext k w.s w.t x r.key r.value again r.m ⊎ LaysLast k w.s w.t x r.key r.value again r.m → IsLanded x.in_flight again k2 (landed_at at x)
+      landed : LaysNext k w.s w.t x r.key r.value again r.m ⊎ LaysLast k w.s w.t x r.key r.value again r.m → IsLanded ms again k2 (landed_first ms at h.step x)
       landed (inl l) = let f : false ≡ true = ap (progress_awaits number) (sym l.to_send) ∙ at_number in absurd cc
       landed (inr l) =
-          let said : h.request ≡ last_put x l.anchor r.key r.value = same_request ∙ sym (ap (λ (m : Message). m.request) is_m) ∙ l.said in
-          let same : t2 ≡ txn_heard k.sent (Some (record { number = h.number; request = last_put x l.anchor r.key r.value; reply = replies.Written at; step = h.step })) w.t =
+          let f : WriteInFlight = l.w in
+          let meta : TxnMeta = meta_now x l.anchor in
+          let there : Contains x.in_flight f = subst (λ fs. Contains fs f) (sym l.in_flight) (contains_head f []) in
+          let said : h.request ≡ own_put x l.anchor f = same_request ∙ sym (ap (λ (m : Message). m.request) is_m) ∙ l.said in
+          let same : t2 ≡ txn_heard k.sent (Some (record { number = h.number; request = own_put x l.anchor f; reply = replies.Written at; step = h.step })) w.t =
           ap (λ q. txn_heard k.sent (Some (record { number = h.number; request = q; reply = h.reply; step = h.step })) w.t) said
-          ∙ ap (λ y. txn_heard k.sent (Some (record { number = h.number; request = last_put x l.anchor r.key r.value; reply = y; step = h.step })) w.t) (is.told ∙ written) in
+          ∙ ap (λ y. txn_heard k.sent (Some (record { number = h.number; request = own_put x l.anchor f; reply = y; step = h.step })) w.t) (is.told ∙ written) in
+          let made : landed_first ms at h.step x ≡ landed_at f.key f.seq at h.step x = ap (λ ms. landed_first ms at h.step x) r.one ∙ ap (λ q. landed_with q at h.step x) l.said in
+          let stands2 : TxnStands k2 [] None t2 (landed_first ms at h.step x) =
+          subst (TxnStands k2 [] None t2) (sym made)
+          (put_landed k [] None w.t x st f there k2 h meta x.write_ts at f.value (ap (λ x. x.id) st.same) (ap (λ x. x.epoch) st.same) said (is.told ∙ written) gone low) in
           let id : t2.id ≡ w.t.id = ap (λ t. t.id) same in
           let epoch : t2.epoch ≡ w.t.epoch = ap (λ t. t.epoch) same in
           let own_id : x.id ≡ w.t.id = ap (λ x. x.id) st.same in
@@ -517,25 +553,25 @@ module _ (session clock count : ℕ) (splits : List (List ℕ)) (k : Known) (x :
           let opened2 : IsOpenIn k2 t2 = record { others = map (txn_heard k.sent (Some h)) w.open_in.others; is_open = w.open_in.is_open; first = ap (map (txn_heard k.sent (Some h))) w.open_in.first } in
           let out : Any (IsMessageAt number found.0.request) k.sent_now = far.0.out.now in
           let first : again ≡ false → IsFirstPut k2 w.s t2 out.1 = λ own. record {
-            seq = x.seq;
+            seq = f.seq;
             key = r.key;
             value = r.value;
             asked = asks_for w.s r.key r.value r.call;
-            put = subst (λ q. IsPutFor t2 r.key r.value x.seq q) (sym (out.4.asked ∙ sym same_request ∙ said)) (own_id ∙ sym id, own_epoch ∙ sym epoch, refl, refl, refl);
-            first = not_false (first_by t2 w.t x.seq (sent_before k) id epoch (l.first own));
+            put = subst (λ q. IsPutFor t2 r.key r.value f.seq q) (sym (out.4.asked ∙ sym same_request ∙ said)) (own_id ∙ sym id, own_epoch ∙ sym epoch, refl, l.place, l.what);
+            first = not_false (first_by t2 w.t f.seq (sent_before k) id epoch (l.first own));
           } in
           record {
             t = t2;
             open_in = opened2;
-            stands = last_landed k k2 w.t x (record { key = r.key; value = r.value }) l.anchor st l.in_flight l.anchored h at said (is.told ∙ written) gone low;
-            cause = w.cause;
+            stands = stands2;
+            cause = ap (λ x. x.cause) made ∙ w.cause;
             s = w.s;
             opened = w.opened;
             key = r.key;
             value = r.value;
             call = r.call;
-            was = l.in_flight;
-            none_in_flight = refl;
+            was = λ y. ap (λ ms. laying_first ms y) r.one ∙ ap (λ q. laying_as q y) l.said ∙ ap (λ key. Some (laying y key f.value)) l.place ∙ ap (λ value. Some (laying y r.key value)) l.what;
+            none_in_flight = ap (λ x. x.in_flight) made ∙ ap (filter (is_another f.key f.seq)) l.in_flight ∙ gone_from f;
             split = split2;
             paced = record { pushes = λ id. let a = paced2.pushes id in omega arith; resolves = paced2.resolves };
             unmet = unmet2 (ap is_conflict (is.told ∙ written));
@@ -556,7 +592,7 @@ module _ (session clock count : ℕ) (splits : List (List ℕ)) (k : Known) (x :
                 })) k.sent_now (l.old old);
           }
 
-      write_landed : IsLanded x.in_flight again k2 (landed_at at x)
+      write_landed : IsLanded ms again k2 (landed_first ms at h.step x)
       write_landed = landed r.lays
 
   heard_by : (q : Purpose) → p ≡ q → Serves splits k w.s w.t x q ms → GoesOn q reply → InCall splits k2 x p ms2
@@ -575,5 +611,5 @@ module _ (session clock count : ℕ) (splits : List (List ℕ)) (k : Known) (x :
   call_heard on = heard_by p refl w.serves on
 
   -- its write was written
-  pub call_written : (again : Bool) (at : ℕ) → p ≡ purposes.Write again → reply ≡ replies.Written at → IsLanded x.in_flight again k2 (landed_at at x)
+  pub call_written : (again : Bool) (at : ℕ) → p ≡ purposes.Write again → reply ≡ replies.Written at → IsLanded ms again k2 (landed_first ms at h.step x)
   call_written again at e written = write_landed again e (subst (λ q. Serves splits k w.s w.t x q ms) e w.serves) at written

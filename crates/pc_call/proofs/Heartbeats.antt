@@ -1,15 +1,12 @@
 -- A call shows first that its transaction is alive: its heartbeat is to be sent, and is heard.
-use Rattle.std.proofs.Common.{◌≡◌, ◌≢◌, ℕ, zero, suc, ◌+◌, ◌≤◌, nat_le, max, Bool, true, false, ◌&&◌, ◌||◌, ◌==◌, ◌⊎◌, inl, inr, is_some, List, [], ◌∷◌, ◌++◌, map, Option, Some, None, refl, sym, ap, ◌∙◌, subst, arith, All, Any, IsTrue}
-use Rattle.std.specs.List.{list_any}
-use Rattle.std.specs.Prelude.{IfSome}
+use Rattle.std.proofs.Common.{◌≡◌, ◌≢◌, ℕ, zero, suc, ◌+◌, ◌≤◌, nat_le, max, Bool, true, false, ◌&&◌, ◌==◌, inl, is_some, List, [], ◌∷◌, ◌++◌, map, Some, None, refl, sym, ap, ◌∙◌, subst, arith, All, Any, IsTrue}
 use Rattle.std.proofs.lemmas.Bool.{and_parts, eq-eqb, le-leb, leb-true}
 use Rattle.std.proofs.lemmas.List.Elements.{All-cons, All-head, All-nil, All-tail, All-weaker}
 use Rattle.std.proofs.lemmas.List.{append-nil}
 use Rattle.std.proofs.lemmas.Option.{same_Some}
 use Rattle.pc_base.specs.declared.limits.TheConstants.{HEARTBEAT, MOST_CONFLICTS, MOST_REFUSALS}
-use Rattle.pc_base.specs.declared.transaction.TxnId.{TxnId}
 use Rattle.pc_base.specs.Transaction.{same_txn}
-use Rattle.pc_call.proofs.Beating.{heard_longer, not_aborted}
+use Rattle.pc_call.proofs.Beating.{not_aborted}
 use Rattle.pc_call.proofs.Beginning.{AreTwo, any_true, begins_so, none_met}
 use Rattle.pc_call.proofs.Committing.{beats_unmoved}
 use Rattle.pc_call.proofs.Closing.{closing-left, closing-may, opened3}
@@ -26,21 +23,18 @@ use Rattle.pc_call.specs.Fresh.{IsFresh, IsJustAsked, ShowsAlive}
 use Rattle.pc_call.specs.Learned.{known_heard}
 use Rattle.pc_call.specs.Serving.{InCall, IsOpenIn, IsSplit, Serves, ServesBeat, out_of}
 use Rattle.pc_call.specs.Suiting.{SuitsFlight}
-use Rattle.pc_follows.specs.Heartbeats.{AreBeatsHeard, BeatsFirst, FindsAborted, HasBeaten, IsBeatDue, IsBeatNow, KeepsHeartbeats, TellsAfterBeats, is_heartbeat, last_shown}
-use Rattle.pc_proto.specs.declared.answer.Answer.{Answer}
+use Rattle.pc_follows.specs.Heartbeats.{AreBeatsHeard, FindsAborted, IsBeatDue, KeepsHeartbeats, TellsAfterBeats, is_heartbeat, last_shown}
 use Rattle.pc_proto.specs.declared.answer.Answer.TheVariants as answers
 use Rattle.pc_proto.specs.declared.call.Call.{Call}
 use Rattle.pc_proto.specs.declared.call.Call.TheVariants as calls
 use Rattle.pc_proto.specs.declared.event.Event.TheVariants as events
 use Rattle.pc_proto.specs.declared.fate.Fate.TheVariants as fates
-use Rattle.pc_proto.specs.declared.reply.Reply.{Reply}
 use Rattle.pc_proto.specs.declared.reply.Reply.TheVariants as replies
 use Rattle.pc_proto.specs.declared.request.Request.{Request}
-use Rattle.pc_proto.specs.declared.request.Request.TheVariants as requests
 use Rattle.pc_proto.specs.declared.view.View.{View}
 use Rattle.pc_proto.specs.declared.view.View.TheVariants as views
 use Rattle.pc_proto.specs.declared.why.Why.{Why}
-use Rattle.pc_proto.specs.Replies.{is_conflict, view_in}
+use Rattle.pc_proto.specs.Replies.{is_conflict, is_undecided_status, view_in}
 use Rattle.pc_proto.specs.Requests.{is_about, subject_anchor}
 use Rattle.pc_proto.specs.Stamps.{greatest_of, reply_stamps, why_stamps}
 use Rattle.pc_proto.specs.Views.{AbortsWith}
@@ -50,19 +44,19 @@ use Rattle.pc_txn.proofs.Alive.{beat_heard}
 use Rattle.pc_txn.proofs.Rows.{uncommitted}
 use Rattle.pc_txn.specs.Counted.{IsCounted}
 use Rattle.pc_txn.specs.declared.txn.OpenTxn.{OpenTxn}
-use Rattle.pc_txn.specs.Opened.{risen_above}
-use Rattle.pc_txn.specs.Silence.{is_silent, own_beat}
-use Rattle.pc_txn.specs.Standing.{ShowsPending, TxnStands}
+use Rattle.pc_txn.specs.Opened.{meta_now}
+use Rattle.pc_txn.specs.Silence.{is_silent, own_beat, raised_at}
+use Rattle.pc_txn.specs.Standing.{TxnStands}
 use Rattle.pc_wave.proofs.Lists.{at_least-fewer}
 use Rattle.pc_wave.specs.declared.message.Message.{Message}
 use Rattle.pc_wave.specs.declared.message.Progress.TheVariants as progresses
 use Rattle.pc_wave.specs.Messages.{message_to_send, progress_to_send, wave_awaits}
-use Rattle.pc_wave.specs.Standing.{IsHeardTo, Pairwise, goes_beside}
+use Rattle.pc_wave.specs.Standing.{IsHeardTo, goes_beside}
 use Rattle.pc_follows.specs.Eighth.{MetEighth, WasMovedEighth}
-use Rattle.pc_world.specs.Known.{Known, call_in, open_txn}
+use Rattle.pc_world.specs.Known.{Known, call_in}
 use Rattle.pc_world.specs.Known.Statements.{Statement}
 use Rattle.pc_world.specs.Known.Traffic.{Heard, Sent}
-use Rattle.pc_world.specs.Known.Transactions.{Txn, meta_of, txn_heard}
+use Rattle.pc_world.specs.Known.Transactions.{Txn, txn_heard}
 use Rattle.pc_world.specs.MayTell.{is_past_range}
 use Rattle.pc_world.specs.SameRequest.{IsSameRequest}
 use Rattle.pc_world.specs.Send.Abort.{own_cause}
@@ -190,8 +184,8 @@ module _ (session clock count : ℕ) (splits : List (List ℕ)) (k : Known) (x :
   abbrev b : ServesBeat call reading k w.s w.t x ms
   b = subst (λ q. Serves splits k w.s w.t x q ms) e w.serves
 
-  st : TxnStands k None w.t x
-  st = subst (λ o. TxnStands k o w.t x) (ap (λ q. out_of q ms) e) w.stands
+  st : TxnStands k [] None w.t x
+  st = subst (λ o. TxnStands k [] o w.t x) (ap (λ q. out_of q ms) e) w.stands
 
   out : b.m.progress ≡ progresses.Sent number
   out = one_out number b.m (subst (λ ms. wave_awaits number ms ≡ true) b.one waited)
@@ -247,19 +241,19 @@ module _ (session clock count : ℕ) (splits : List (List ℕ)) (k : Known) (x :
     low = let f : greatest_of (reply_stamps h.reply) ≡ max 0 recorded = ap (λ y. greatest_of (reply_stamps y)) told in omega (arith, f)
 
     alive_now : ShowsAlive h
-    alive_now = record { beat = ap is_heartbeat said; pending = subst ShowsPending (sym told) tt }
+    alive_now = record { beat = ap is_heartbeat said; undecided = ap is_undecided_status told }
 
     all_alive : All ShowsAlive k2.heard_now
     all_alive = subst (λ hs. All ShowsAlive hs) (sym heard_one) (All-cons ShowsAlive h [] alive_now (All-nil ShowsAlive))
 
-    pub goes_on_alive : GoesOnAlive k2 (risen_above recorded x) (record { call = call; reading = reading })
+    pub goes_on_alive : GoesOnAlive k2 (raised_at recorded h.step x) (record { call = call; reading = reading })
     goes_on_alive = record {
       why = own_cause w.t.restart;
       fresh = record {
         t = t2;
         open_in = open2;
         stands =
-            beat_heard k k2 w.t x (record { id = x.id; epoch = x.epoch; priority = x.priority; born = x.born; anchor = b.anchor }) x.write_ts reading epoch recorded h st same_id b.anchored said told
+            beat_heard k k2 [] None w.t x (meta_now x b.anchor) x.write_ts reading (views.Pending epoch recorded) recorded h st same_id b.anchored said told refl refl (λ epoch at staging. absurd cc) (λ at staging. absurd cc)
             (gone session clock count splits k x p ms counted w number (replies.Status view) h waited is) low;
         client = w.cause;
         cause = refl;
@@ -273,7 +267,7 @@ module _ (session clock count : ℕ) (splits : List (List ℕ)) (k : Known) (x :
           heard = beats_heard;
           alive = λ cause found.
               let f = any_of ShowsAlive (FindsAborted t2 cause) k2.heard_now all_alive found in
-              not_aborted cause f.0.reply f.1.pending f.2.aborted.view f.2.aborted.told f.2.aborted.cause;
+              not_aborted cause f.0.reply f.1.undecided f.2.aborted.view f.2.aborted.told f.2.aborted.cause;
         };
       };
       asks = b.asks;
@@ -285,7 +279,7 @@ module _ (session clock count : ℕ) (splits : List (List ℕ)) (k : Known) (x :
     over : EndsWith w.t b.anchor fates.Aborted k.heard h
     over = record {
       anchored = b.anchored;
-      pending = w.stands.views;
+      undecided = w.stands.views;
       about = ap (is_about w.t.id) said ∙ ap (λ id. same_txn id w.t.id) same_id ∙ same_txn-self w.t.id;
       named = ap subject_anchor said;
       view = view;

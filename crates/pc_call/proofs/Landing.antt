@@ -1,5 +1,4 @@
 -- The write of an open call was written: the call is told so, or goes on with its own write.
-use Rattle.std.specs.Option.{option_map}
 use Rattle.std.proofs.Common.{◌≡◌, ℕ, ◌+◌, ◌≤◌, Bool, true, false, ◌==◌, ◌&&◌, inl, inr, List, [], ◌∷◌, Option, None, Some, Result, Ok, Err, IfOk, refl, sym, ap, ◌∙◌, subst, arith, All, IsTrue, lit<, unwrap_or}
 use Rattle.std.proofs.lemmas.Bool.{and_from, eq-eqb}
 use Rattle.std.proofs.lemmas.List.Elements.{All-cons, All-nil, All-weaker}
@@ -14,7 +13,7 @@ use Rattle.pc_call.proofs.Told.{may_tell, stays_as_is, written_keeps}
 use Rattle.pc_call.specs.declared.call.OpenCall.{OpenCall}
 use Rattle.pc_call.specs.declared.purpose.Purpose.{Purpose}
 use Rattle.pc_call.specs.declared.purpose.Purpose.TheVariants as purposes
-use Rattle.pc_call.specs.Ended.{HasLanded, is_again, laying}
+use Rattle.pc_call.specs.Ended.{HasLanded, is_again, laying_first}
 use Rattle.pc_call.specs.Serving.{InCall, write_call}
 use Rattle.pc_call.specs.Telling.{MayTellOpen}
 use Rattle.pc_lists.proofs.Anywhere.{any_of}
@@ -25,11 +24,11 @@ use Rattle.pc_proto.specs.declared.meta.TxnMeta.{TxnMeta}
 use Rattle.pc_proto.specs.declared.request.Request.{Request}
 use Rattle.pc_proto.specs.declared.request.Request.TheVariants as requests
 use Rattle.pc_proto.specs.Requests.{is_put_of}
-use Rattle.pc_txn.specs.declared.flight.InFlight.{InFlight}
 use Rattle.pc_txn.specs.declared.txn.OpenTxn.{OpenTxn}
 use Rattle.pc_txn.specs.Opened.{meta_now, next_put}
-use Rattle.pc_txn.specs.Standing.{PutsUpTo}
+use Rattle.pc_txn.specs.Writing.{PutsUpTo}
 use Rattle.pc_wave.proofs.Lists.{at_least-before}
+use Rattle.pc_wave.specs.declared.message.Message.{Message}
 use Rattle.pc_wave.specs.Messages.{message_to_send}
 use Rattle.pc_wave.specs.Standing.{AreOfTwo, MayGoOut, MessageStands}
 use Rattle.pc_follows.specs.PipelinedPuts.{IsHeardOf}
@@ -61,7 +60,7 @@ same_put meta seq ts key value (requests.Put other at when place what) (inr (id,
     (and_from (other.epoch == meta.epoch) (at == seq) (eq-eqb other.epoch meta.epoch (sym epoch)) (eq-eqb at seq (sym number)))
 same_put meta seq ts key value r (inr put) = absurd put
 
-module _ (splits : List (List ℕ)) (session : ℕ) (flight : Option InFlight) (again : Bool) (k : Known) (x : OpenTxn) (l : IsLanded flight again k x) where
+module _ (splits : List (List ℕ)) (session : ℕ) (ms : List Message) (again : Bool) (k : Known) (x : OpenTxn) (l : IsLanded ms again k x) where
   within : is_past_range l.s ≡ false
   within = ap (λ call. is_past_range (record { call = call; reading = l.s.reading })) l.call ∙ write_within l.key l.value l.s.reading
 
@@ -150,18 +149,16 @@ module _ (splits : List (List ℕ)) (session : ℕ) (flight : Option InFlight) (
     };
   }
 
-  -- of what was in flight
-  pub landed_again : again ≡ true → HasLanded splits session k x (option_map (λ write. laying x write.key write.value) flight)
-  landed_again old = subst (λ f. HasLanded splits session k x (option_map (λ (write : InFlight). laying x write.key write.value) f)) (sym l.was) (landed_next old)
+  -- the one that was in flight
+  pub landed_again : again ≡ true → HasLanded splits session k x (laying_first ms x)
+  landed_again old = subst (HasLanded splits session k x) (sym (l.was x)) (landed_next old)
 
 -- so what a call gives that gives that write
-pub again_ok : {E : Type 0} (splits : List (List ℕ)) (session : ℕ) (k : Known) (x now : OpenTxn) (flight was : Option InFlight) (r : Result (Option OpenCall) E) → now ≡ x → was ≡ flight → IfOk r (λ next. next ≡ option_map (λ write. laying now write.key write.value) was)
-    → HasLanded splits session k x (option_map (λ write. laying x write.key write.value) flight) → IfOk r (HasLanded splits session k now)
-again_ok splits session k x now flight was (Ok next) same held is landed =
-    let e : next ≡ option_map (λ (write : InFlight). laying x write.key write.value) flight =
-    is ∙ ap (λ (y : OpenTxn). option_map (λ (write : InFlight). laying y write.key write.value) was) same ∙ ap (option_map (λ (write : InFlight). laying x write.key write.value)) held in
-    subst (λ y. HasLanded splits session k y next) (sym same) (subst (HasLanded splits session k x) (sym e) landed)
-again_ok splits session k x now flight was (Err e) same held is landed = is
+pub again_ok : {E : Type 0} (splits : List (List ℕ)) (session : ℕ) (k : Known) (x now : OpenTxn) (ms : List Message) (r : Result (Option OpenCall) E) → now ≡ x → IfOk r (λ next. next ≡ laying_first ms now)
+    → HasLanded splits session k x (laying_first ms x) → IfOk r (HasLanded splits session k now)
+again_ok splits session k x now ms (Ok next) same is landed =
+    subst (λ y. HasLanded splits session k y next) (sym same) (subst (HasLanded splits session k x) (sym (is ∙ ap (laying_first ms) same)) landed)
+again_ok splits session k x now ms (Err e) same is landed = is
 
 pub again_is : (p : Purpose) (again b : Bool) → p ≡ purposes.Write again → is_again p ≡ b → again ≡ b
 again_is p again b is e = sym (ap is_again is) ∙ e

@@ -182,8 +182,8 @@ module _ (session clock count : ℕ) (splits : List (List ℕ)) (k : Known) (x :
   answered : All (WasAnsweredWith k) ms
   answered = subst (MayBeDue k ms) due (may_be_due k ms w.wave)
 
-  st : TxnStands k None w.t x
-  st = subst (λ o. TxnStands k o w.t x) (ap (λ q. out_of q ms) e) w.stands
+  st : TxnStands k [] None w.t x
+  st = subst (λ o. TxnStands k [] o w.t x) (ap (λ q. out_of q ms) e) w.stands
 
   abbrev own : List Read
   own = reads_heard (replies_to k.sent_now k.heard_now)

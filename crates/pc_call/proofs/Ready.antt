@@ -1,17 +1,20 @@
 -- Each message of an open call may be sent, as far as its purpose goes.
-use Rattle.std.proofs.Common.{◌≡◌, ◌≢◌, ℕ, ◌+◌, ◌≤◌, Bool, true, cond, ◌⊎◌, inl, inr, not, List, [], ◌∷◌, map, Option, Some, None, refl, sym, ap, ◌∙◌, subst, arith, All, Any, Contains, IsTrue}
+use Rattle.std.proofs.Common.{◌≡◌, ℕ, ◌+◌, ◌≤◌, Bool, true, false, cond, ◌⊎◌, inl, inr, not, List, [], ◌∷◌, map, Option, Some, None, refl, sym, ap, ◌∙◌, subst, arith, All, Any, Contains, IsTrue}
+use Rattle.std.specs.List.{list_any}
 use Rattle.std.proofs.lemmas.Bool.{and_parts, eqb-true}
 use Rattle.std.proofs.lemmas.List.Elements.{All-cons, All-map, All-nil, All-weaker}
 use Rattle.std.proofs.lemmas.Option.{same_Some}
 use Rattle.pc_base.specs.declared.actor.ActorId.TheVariants as actors
 use Rattle.pc_base.specs.declared.span.Span.{Span}
+use Rattle.pc_base.specs.declared.span.Span.TheVariants.{One}
+use Rattle.pc_base.specs.Span.{contains, same_key}
 use Rattle.pc_base.specs.Transaction.{same_txn}
-use Rattle.pc_call.proofs.Facts.{asks_for, none_staged, open_is, put_for, unmoved}
+use Rattle.pc_call.proofs.Facts.{asks_for, open_is, put_for, unmoved}
 use Rattle.pc_call.proofs.Lists.{all_unmapped}
 use Rattle.pc_call.specs.declared.purpose.Purpose.{Purpose}
 use Rattle.pc_call.specs.declared.purpose.Purpose.TheVariants as purposes
 use Rattle.pc_call.specs.Serving.{AreReadsOf, IsOpenIn, LaysLast, LaysNext, Serves, ServesAbort, ServesBeat, ServesCommit, ServesRefresh, ServesWrite, commit_asked, out_of, write_call}
-use Rattle.pc_lists.proofs.Lists.{all_from_contains}
+use Rattle.pc_lists.proofs.Lists.{all_from_contains, contains_head}
 use Rattle.pc_lists.proofs.Same.{same_txn-is}
 use Rattle.pc_proto.specs.declared.call.Call.{Call}
 use Rattle.pc_proto.specs.declared.call.Call.TheVariants as calls
@@ -23,15 +26,19 @@ use Rattle.pc_proto.specs.Requests.{is_put_of}
 use Rattle.pc_proto.specs.Stamps.{request_stamps}
 use Rattle.pc_reads.proofs.Goods.{holds_itself}
 use Rattle.pc_reads.specs.ReadsStanding.{refresh_to}
+use Rattle.pc_staging.specs.Kept.{is_over}
 use Rattle.pc_txn.proofs.Alive.{may_beat}
+use Rattle.pc_txn.proofs.Keeping.{free_over, free_passed}
+use Rattle.pc_txn.proofs.Laying.{sent_of, unwritten_of}
 use Rattle.pc_txn.proofs.Puts.{same_put}
-use Rattle.pc_txn.proofs.Rows.{may_abort, may_commit, may_get, may_last, may_next, may_scan}
+use Rattle.pc_txn.proofs.Rows.{may_abort, may_again, may_commit, may_get, may_next, may_scan}
 use Rattle.pc_txn.specs.Counted.{IsCounted}
-use Rattle.pc_txn.specs.declared.flight.InFlight.{InFlight}
+use Rattle.pc_flight.specs.declared.write.WriteInFlight.{WriteInFlight}
 use Rattle.pc_txn.specs.declared.txn.OpenTxn.{OpenTxn}
-use Rattle.pc_txn.specs.Opened.{last_put, next_put, own_abort, own_commit, own_get, own_scan}
+use Rattle.pc_txn.specs.Opened.{next_put, own_abort, own_commit, own_get, own_put, own_scan}
 use Rattle.pc_txn.specs.Silence.{own_beat}
-use Rattle.pc_txn.specs.Standing.{AreUnwritten, IsNotWritten, TxnStands, WasLaid}
+use Rattle.pc_txn.specs.Standing.{TxnStands}
+use Rattle.pc_txn.specs.Writing.{IsNotWritten}
 use Rattle.pc_wave.specs.declared.message.Message.{Message}
 use Rattle.pc_wave.specs.Messages.{is_to_send}
 use Rattle.pc_follows.specs.CallMessages.{IsFor, IsForCall}
@@ -41,13 +48,11 @@ use Rattle.pc_world.specs.Known.{Known, call_in, call_of, open_txn, reading_in}
 use Rattle.pc_world.specs.Known.Reads.{IsGoodAt, IsGoodTo, holds_span}
 use Rattle.pc_world.specs.Known.Statements.{Statement}
 use Rattle.pc_world.specs.Known.Transactions.{Txn}
-use Rattle.pc_world.specs.Known.Writes.{last_seq_of}
 use Rattle.pc_world.specs.MaySend.{MaySendRow}
 use Rattle.pc_world.specs.RangeOf.{pieces}
 use Rattle.pc_world.specs.SameRequest.{IsSameRequest}
 use Rattle.pc_world.specs.Send.Put.{AsksFor}
 use Rattle.pc_world.specs.Send.Refresh.{MaySendRefresh}
-use Rattle.pc_world.specs.StageFate.{IsDead, IsLate}
 use Rattle.pc_world.specs.Tell.Data.{IsFirstPut}
 use Rattle.pc_world.specs.Tell.Refusal.{MayBlock}
 
@@ -67,12 +72,19 @@ put_same meta seq ts key value (requests.Put one at when place what) is =
     inr (sym (same_txn-is one.id meta.id a.0), sym (eqb-true one.epoch meta.epoch b.0), sym (eqb-true at seq b.1))
 put_same meta seq ts key value other is = absurd cc
 
-module _ (session clock count : ℕ) (splits : List (List ℕ)) (k : Known) (t : Txn) (x : OpenTxn) (s : Statement) (counted : IsCounted session clock count k) (st : TxnStands k None t x) (open_in : IsOpenIn k t) (opened : k.statement ≡ Some s) where
+module _ (session clock count : ℕ) (splits : List (List ℕ)) (k : Known) (t : Txn) (x : OpenTxn) (s : Statement) (counted : IsCounted session clock count k) (st : TxnStands k [] None t x) (open_in : IsOpenIn k t) (opened : k.statement ≡ Some s) where
   open_now : open_txn k ≡ Some t
   open_now = open_is k t open_in
 
   mine : Contains k.txns t
   mine = subst (λ ts. Contains ts t) (sym open_in.first) (0, omega arith, refl)
+
+  -- nothing of it can have committed
+  over : is_over x.staging ≡ true
+  over = free_over k t x.staging st.staging
+
+  none_in : (test : WriteInFlight → Bool) → x.in_flight ≡ [] → list_any test x.in_flight ≡ false
+  none_in test none = ap (list_any test) none
 
   reads_at : x.reads.ts ≡ t.read_ts
   reads_at = ap (λ x. x.reads.ts) st.same
@@ -95,31 +107,31 @@ module _ (session clock count : ℕ) (splits : List (List ℕ)) (k : Known) (t :
   one_low : (ts : ℕ) → ts ≤ k.top + 1 → All (λ ts. ts ≤ k.top + 1) (ts ∷ [])
   one_low ts low = All-cons (λ ts. ts ≤ k.top + 1) ts [] low (All-nil (λ ts. ts ≤ k.top + 1))
 
-  ready_get : (key : List ℕ) → x.in_flight ≡ None → s.call ≡ calls.Get key → IsReady splits session k (own_get x key)
+  ready_get : (key : List ℕ) → x.in_flight ≡ [] → s.call ≡ calls.Get key → IsReady splits session k (own_get x key)
   ready_get key none is = record {
-    row = may_get splits (actors.Session session) k t x st open_now key none (call_is (calls.Get key) is);
+    row = may_get splits (actors.Session session) k [] None t x st open_now key (none_in (λ f. contains (One key) f.key) none) (call_is (calls.Get key) is);
     stamps = one_low x.reads.ts low_read;
     kind = for_call (calls.Get key) (own_get x key) is refl;
     before = tt;
     own = tt;
   }
 
-  ready_scan : (whole span : Span) → x.in_flight ≡ None → s.call ≡ calls.Scan whole → Contains (map (λ p. p.1) (pieces splits whole)) span → IsReady splits session k (own_scan x span)
+  ready_scan : (whole span : Span) → x.in_flight ≡ [] → s.call ≡ calls.Scan whole → Contains (map (λ p. p.1) (pieces splits whole)) span → IsReady splits session k (own_scan x span)
   ready_scan whole span none is cut = record {
-    row = may_scan splits (actors.Session session) k t x st open_now whole span none (call_is (calls.Scan whole) is) cut;
+    row = may_scan splits (actors.Session session) k [] None t x st open_now whole span (none_in (λ f. contains span f.key) none) (call_is (calls.Scan whole) is) cut;
     stamps = one_low x.reads.ts low_read;
     kind = for_call (calls.Scan whole) (own_scan x span) is refl;
     before = tt;
     own = tt;
   }
 
-  ready_pieces : (whole : Span) → x.in_flight ≡ None → s.call ≡ calls.Scan whole → All (IsReady splits session k) (map (λ p. own_scan x p.1) (pieces splits whole))
+  ready_pieces : (whole : Span) → x.in_flight ≡ [] → s.call ≡ calls.Scan whole → All (IsReady splits session k) (map (λ p. own_scan x p.1) (pieces splits whole))
   ready_pieces whole none is =
       All-map (IsReady splits session k) (λ p. own_scan x p.1) (pieces splits whole)
       (all_unmapped (λ span. IsReady splits session k (own_scan x span)) (λ p. p.1) (pieces splits whole)
       (all_from_contains (λ span. IsReady splits session k (own_scan x span)) (map (λ p. p.1) (pieces splits whole)) (λ span there. ready_scan whole span none is there)))
 
-  ready_reads : (call : Call) (rs : List Request) → x.in_flight ≡ None → s.call ≡ call → AreReadsOf splits x call rs → All (IsReady splits session k) rs
+  ready_reads : (call : Call) (rs : List Request) → x.in_flight ≡ [] → s.call ≡ call → AreReadsOf splits x call rs → All (IsReady splits session k) rs
   ready_reads (calls.Get key) rs none is e =
       subst (λ rs. All (IsReady splits session k) rs) (sym e) (All-cons (IsReady splits session k) (own_get x key) [] (ready_get key none is) (All-nil (IsReady splits session k)))
   ready_reads (calls.Scan span) rs none is e = subst (λ rs. All (IsReady splits session k) rs) (sym e) (ready_pieces span none is)
@@ -128,8 +140,8 @@ module _ (session clock count : ℕ) (splits : List (List ℕ)) (k : Known) (t :
   ready_next : (key : List ℕ) (value : Option (List ℕ)) (again : Bool) (m : Message) → s.call ≡ write_call key value → LaysNext k s t x key value again m → IsReady splits session k (next_put x key value)
   ready_next key value again m is l = record {
     row =
-        may_next splits (actors.Session session) k t x st open_now key value l.none_in_flight
-        (subst (λ c. AsksFor c key value) (sym (call_is (write_call key value) is)) (asks_for key value)) (none_staged t.id (IsDead k.heard) session clock count k counted);
+        may_next splits (actors.Session session) k [] None t x st open_now key value (none_in (λ f. same_key f.key key) l.none_in_flight) over
+        (subst (λ c. AsksFor c key value) (sym (call_is (write_call key value) is)) (asks_for key value));
     stamps = one_low x.write_ts low_write;
     kind = for_call (write_call key value) (next_put x key value) is (put_for key value _ (x.seq + 1) x.write_ts);
     before = tt;
@@ -142,28 +154,29 @@ module _ (session clock count : ℕ) (splits : List (List ℕ)) (k : Known) (t :
     );
   }
 
-  ready_last : (key : List ℕ) (value : Option (List ℕ)) (again : Bool) (m : Message) → s.call ≡ write_call key value → (l : LaysLast k s t x key value again m) → IsReady splits session k (last_put x l.anchor key value)
+  ready_last : (key : List ℕ) (value : Option (List ℕ)) (again : Bool) (m : Message) → s.call ≡ write_call key value → (l : LaysLast k s t x key value again m) → IsReady splits session k (own_put x l.anchor l.w)
   ready_last key value again m is l =
-      let w : InFlight = record { key = key; value = value } in
+      let w : WriteInFlight = l.w in
+      let there : Contains x.in_flight w = subst (λ f. Contains f w) (sym l.in_flight) (contains_head w []) in
+      let call : s.call ≡ write_call w.key w.value = is ∙ ap (λ key. write_call key value) (sym l.place) ∙ ap (write_call w.key) (sym l.what) in
       let meta : TxnMeta = record { id = x.id; epoch = x.epoch; priority = x.priority; born = x.born; anchor = l.anchor } in
-      let seq_is : x.seq ≡ last_seq_of t.writes = ap (λ x. x.seq) st.same in
       let id_is : x.id ≡ t.id = ap (λ x. x.id) st.same in
       let epoch_is : x.epoch ≡ t.epoch = ap (λ x. x.epoch) st.same in
-      let put_is : (r : Request) → is_put_of x.id x.epoch x.seq r ≡ is_put_of t.id t.epoch (last_seq_of t.writes) r = λ r.
-      ap (λ id. is_put_of id x.epoch x.seq r) id_is ∙ ap (λ n. is_put_of t.id n x.seq r) epoch_is ∙ ap (λ n. is_put_of t.id t.epoch n r) seq_is in
-      let laid : Any (λ m. IsTrue (is_put_of t.id t.epoch (last_seq_of t.writes) m.request)) k.sent = subst (λ f. WasLaid t k.sent f) l.in_flight st.laid in
-      let unwritten : All (IsNotWritten t (last_seq_of t.writes)) k.heard = subst (λ f. AreUnwritten t k.heard f) l.in_flight st.unwritten in
+      let put_is : (r : Request) → is_put_of x.id x.epoch w.seq r ≡ is_put_of t.id t.epoch w.seq r = λ r.
+      ap (λ id. is_put_of id x.epoch w.seq r) id_is ∙ ap (λ n. is_put_of t.id n w.seq r) epoch_is in
+      let laid : Any (λ m. IsTrue (is_put_of t.id t.epoch w.seq m.request)) k.sent = sent_of k [] None t x st w there in
+      let unwritten : All (IsNotWritten t w.seq) k.heard = unwritten_of k [] None t x st w there in
       record {
-        row = may_last splits (actors.Session session) k t x st open_now w l.anchor mine l.in_flight l.anchored;
+        row = may_again splits (actors.Session session) k [] None t x st w l.anchor mine there l.anchored;
         stamps = one_low x.write_ts low_write;
-        kind = for_call (write_call key value) (last_put x l.anchor key value) is (put_for key value meta x.seq x.write_ts);
+        kind = for_call (write_call w.key w.value) (own_put x l.anchor w) call (put_for w.key w.value meta w.seq x.write_ts);
         before = tt;
         own = (
           record { t = t; opened = open_now; whose = id_is; epoch_now = epoch_is },
           inl (
-            (laid.0, laid.1, laid.2, laid.3, put_same meta x.seq x.write_ts key value laid.1.request (put_is laid.1.request ∙ laid.4)),
-            All-weaker (IsNotWritten t (last_seq_of t.writes)) (λ h. IsSameRequest (last_put x l.anchor key value) h.request → IsTrue (not (is_written h.reply)))
-                (λ h u same. ap not (u (sym (put_is h.request) ∙ same_put meta x.seq x.write_ts key value h.request same))) k.heard unwritten,
+            (laid.0, laid.1, laid.2, laid.3, put_same meta w.seq x.write_ts w.key w.value laid.1.request (put_is laid.1.request ∙ laid.4)),
+            All-weaker (IsNotWritten t w.seq) (λ h. IsSameRequest (own_put x l.anchor w) h.request → IsTrue (not (is_written h.reply)))
+                (λ h u same. ap not (u (sym (put_is h.request) ∙ same_put meta w.seq x.write_ts w.key w.value h.request same))) k.heard unwritten,
           ),
         );
       }
@@ -199,8 +212,7 @@ module _ (session clock count : ℕ) (splits : List (List ℕ)) (k : Known) (t :
   ready_commit : (n : ℕ) (ms : List Message) (r : ServesCommit n k s t x ms) → is_to_send r.m ≡ true → IsReady splits session k (own_commit x r.commits.anchor)
   ready_commit n ms r to_send = record {
     row =
-        may_commit splits (actors.Session session) k t x st open_now r.commits.anchor mine r.commits.none_in_flight r.commits.anchored (call_is calls.Commit r.commits.call) (r.good to_send)
-        (none_staged t.id (λ s. s.ts ≢ t.write_ts → IsLate k.heard s) session clock count k counted);
+        may_commit splits (actors.Session session) k [] None t x st open_now r.commits.anchor mine r.commits.none_in_flight (free_passed k t x.staging st.staging) r.commits.anchored (call_is calls.Commit r.commits.call) (r.good to_send);
     stamps = one_low x.write_ts low_write;
     kind = for_call calls.Commit (own_commit x r.commits.anchor) r.commits.call (inl refl);
     before = unmoved k n r.commits.moves (omega (arith, r.commits.few));
@@ -209,7 +221,7 @@ module _ (session clock count : ℕ) (splits : List (List ℕ)) (k : Known) (t :
 
   ready_beat : (call : Call) (reading : ℕ) (ms : List Message) (r : ServesBeat call reading k s t x ms) → IsReady splits session k (own_beat x reading r.anchor)
   ready_beat call reading ms r = record {
-    row = may_beat splits (actors.Session session) k t x st open_now reading r.anchor r.anchored (ap reading_in opened ∙ ap (λ (s : Statement). Some s.reading) r.asked);
+    row = may_beat splits (actors.Session session) k [] None t x st open_now reading r.anchor r.anchored (ap reading_in opened ∙ ap (λ (s : Statement). Some s.reading) r.asked);
     stamps = one_low x.write_ts low_write;
     kind = record { s = s; opened = opened; kind = inr (subst (λ c. MayBlock c) (sym (ap (λ (s : Statement). s.call) r.asked)) r.asks, refl) };
     before = tt;
@@ -218,7 +230,7 @@ module _ (session clock count : ℕ) (splits : List (List ℕ)) (k : Known) (t :
 
   ready_abort : (why : _) (ms : List Message) (r : ServesAbort why k s t x ms) → IsReady splits session k (own_abort x why r.anchor)
   ready_abort why ms r = record {
-    row = may_abort splits (actors.Session session) k t x st open_now why r.anchor r.anchored (call_is calls.Rollback r.call) r.cause (none_staged t.id (IsDead k.heard) session clock count k counted);
+    row = may_abort splits (actors.Session session) k [] None t x st open_now why r.anchor r.anchored (call_is calls.Rollback r.call) r.cause over;
     stamps = r.low;
     kind = for_call calls.Rollback (own_abort x why r.anchor) r.call refl;
     before = tt;
@@ -238,7 +250,7 @@ all_ready splits session k ms a =
     All-weaker (λ (m : Message). IsReady splits session k m.request) (IsReadyToSend splits session k) (λ m r to_send. r) ms (all_unmapped (IsReady splits session k) (λ (m : Message). m.request) ms a)
 
 module _ (session clock count : ℕ) (splits : List (List ℕ)) (k : Known) (counted : IsCounted session clock count k) where
-  write_ready : (again : Bool) (t : Txn) (x : OpenTxn) (s : Statement) (ms : List Message) → TxnStands k None t x → IsOpenIn k t → k.statement ≡ Some s → ServesWrite again k s t x ms → All (IsReadyToSend splits session k) ms
+  write_ready : (again : Bool) (t : Txn) (x : OpenTxn) (s : Statement) (ms : List Message) → TxnStands k [] None t x → IsOpenIn k t → k.statement ≡ Some s → ServesWrite again k s t x ms → All (IsReadyToSend splits session k) ms
   write_ready again t x s ms st open_in opened w = by w.lays
     where
       by : LaysNext k s t x w.key w.value again w.m ⊎ LaysLast k s t x w.key w.value again w.m → All (IsReadyToSend splits session k) ms
@@ -246,17 +258,17 @@ module _ (session clock count : ℕ) (splits : List (List ℕ)) (k : Known) (cou
       by (inr l) = one_ready splits session k ms w.m w.one (λ to_send. subst (λ r. IsReady splits session k r) (sym l.said) (ready_last session clock count splits k t x s counted st open_in opened w.key w.value again w.m w.call l))
 
   -- where a commit is to be sent, none is out
-  commit_ready : (n : ℕ) (t : Txn) (x : OpenTxn) (s : Statement) (ms : List Message) → TxnStands k (out_of (purposes.Commit n) ms) t x → IsOpenIn k t → k.statement ≡ Some s → ServesCommit n k s t x ms → All (IsReadyToSend splits session k) ms
+  commit_ready : (n : ℕ) (t : Txn) (x : OpenTxn) (s : Statement) (ms : List Message) → TxnStands k [] (out_of (purposes.Commit n) ms) t x → IsOpenIn k t → k.statement ≡ Some s → ServesCommit n k s t x ms → All (IsReadyToSend splits session k) ms
   commit_ready n t x s ms st open_in opened c =
       one_ready splits session k ms c.m c.one (λ to_send.
       let none : out_of (purposes.Commit n) ms ≡ None = ap (out_of (purposes.Commit n)) c.one ∙ ap (λ b. cond b None (commit_asked c.m.request)) to_send in
-      subst (λ r. IsReady splits session k r) (sym c.said) (ready_commit session clock count splits k t x s counted (subst (λ o. TxnStands k o t x) none st) open_in opened n ms c to_send))
+      subst (λ r. IsReady splits session k r) (sym c.said) (ready_commit session clock count splits k t x s counted (subst (λ o. TxnStands k [] o t x) none st) open_in opened n ms c to_send))
 
-  beat_ready : (call : Call) (reading : ℕ) (t : Txn) (x : OpenTxn) (s : Statement) (ms : List Message) → TxnStands k None t x → IsOpenIn k t → k.statement ≡ Some s → ServesBeat call reading k s t x ms → All (IsReadyToSend splits session k) ms
+  beat_ready : (call : Call) (reading : ℕ) (t : Txn) (x : OpenTxn) (s : Statement) (ms : List Message) → TxnStands k [] None t x → IsOpenIn k t → k.statement ≡ Some s → ServesBeat call reading k s t x ms → All (IsReadyToSend splits session k) ms
   beat_ready call reading t x s ms st open_in opened r =
       one_ready splits session k ms r.m r.one (λ to_send. subst (λ q. IsReady splits session k q) (sym r.said) (ready_beat session clock count splits k t x s counted st open_in opened call reading ms r))
 
-  pub ready : (p : Purpose) (t : Txn) (x : OpenTxn) (s : Statement) (ms : List Message) → TxnStands k (out_of p ms) t x → IsOpenIn k t → k.statement ≡ Some s → Serves splits k s t x p ms → All (IsReadyToSend splits session k) ms
+  pub ready : (p : Purpose) (t : Txn) (x : OpenTxn) (s : Statement) (ms : List Message) → TxnStands k [] (out_of p ms) t x → IsOpenIn k t → k.statement ≡ Some s → Serves splits k s t x p ms → All (IsReadyToSend splits session k) ms
   ready (purposes.Beat call reading) t x s ms st open_in opened r = beat_ready call reading t x s ms st open_in opened r
   ready purposes.Read t x s ms st open_in opened r =
       all_ready splits session k ms (ready_reads session clock count splits k t x s counted st open_in opened s.call (map (λ m. m.request) ms) r.none_in_flight refl r.asked)

@@ -8,7 +8,7 @@ use Rattle.pc_call.proofs.Silent.{IsBeatPurpose}
 use Rattle.pc_follows.specs.Heartbeats.{HasBeaten}
 use Rattle.pc_call.proofs.Decided.{commit_known, commit_out, commit_said, commit_stands, commits, one_out, within}
 use Rattle.pc_call.proofs.Eighths.{told_moved}
-use Rattle.pc_call.proofs.Facts.{none_staged, open_is, unmoved}
+use Rattle.pc_call.proofs.Facts.{open_is, unmoved}
 use Rattle.pc_call.proofs.Hearing.{beaten_on, far, gone, paced2, split2}
 use Rattle.pc_call.proofs.Reading.{sent_in}
 use Rattle.pc_call.proofs.Told.{may_tell, moved_keeps, stays_as_is}
@@ -32,11 +32,11 @@ use Rattle.pc_proto.specs.Stamps.{greatest_of, reply_stamps}
 use Rattle.pc_reads.specs.Replies.{unrefreshed_by}
 use Rattle.pc_refusals.specs.Moves.{CountsMoves, DecidesAt, ShowsRecord, moves_with}
 use Rattle.pc_txn.proofs.Commits.{commit_now, commit_refused}
-use Rattle.pc_txn.proofs.Keeping.{each_commit-more}
+use Rattle.pc_txn.proofs.Rows.{is_uncommitted}
 use Rattle.pc_txn.specs.Counted.{IsCounted}
 use Rattle.pc_txn.specs.declared.txn.OpenTxn.{OpenTxn}
-use Rattle.pc_txn.specs.Opened.{own_commit, risen_above}
-use Rattle.pc_txn.specs.Standing.{IsOutOrRefused, TxnStands}
+use Rattle.pc_txn.specs.Opened.{own_commit, refused_at}
+use Rattle.pc_txn.specs.Standing.{TxnStands}
 use Rattle.pc_wave.proofs.Lists.{at_least-fewer}
 use Rattle.pc_wave.specs.declared.message.Message.{Message}
 use Rattle.pc_wave.specs.declared.message.Progress.TheVariants as progresses
@@ -47,7 +47,7 @@ use Rattle.pc_follows.specs.Eighth.{WasMovedEighth}
 use Rattle.pc_world.specs.Known.{Known}
 use Rattle.pc_world.specs.Known.Traffic.{Heard, Sent}
 use Rattle.pc_world.specs.Known.Transactions.{Txn, txn_heard}
-use Rattle.pc_world.specs.StageFate.{IsDead, SentCommit, WasCommitRefused, commit_request}
+use Rattle.pc_world.specs.StageFate.{commit_request}
 use Rattle.pc_world.specs.Tell.Data.{was_sent_now}
 use Rattle.pc_world.specs.Tell.Refusal.{WasMoved}
 
@@ -70,7 +70,7 @@ module _ (session clock count : ℕ) (splits : List (List ℕ)) (k : Known) (x :
   t2 = txn_heard k.sent (Some h) w.t
 
   abbrev x2 : OpenTxn
-  x2 = risen_above recorded x
+  x2 = refused_at recorded h.step x
 
   abbrev c : ServesCommit n k w.s w.t x ms
   c = commits session clock count splits k x p ms counted w number view h waited is n e
@@ -81,21 +81,21 @@ module _ (session clock count : ℕ) (splits : List (List ℕ)) (k : Known) (x :
   low : recorded ≤ k2.high
   low = let f : greatest_of (reply_stamps h.reply) ≡ max 0 recorded = ap (λ y. greatest_of (reply_stamps y)) is.told in omega (arith, f)
 
-  stands2 : TxnStands k2 None t2 x2
+  past : w.t.write_ts < recorded
+  past =
+      let mine : Contains k.txns w.t = subst (λ ts. Contains ts w.t) (sym w.open_in.first) (0, omega arith, refl) in
+      (subst (λ r. IsPastWhereUndecided w.t r (replies.Status view)) said (is.past w.t mine)) refl (omega arith) refl
+
+  stands2 : TxnStands k2 [] None t2 x2
   stands2 =
-      commit_refused k k2 w.t x (commit_now w.t c.commits.anchor) epoch recorded h (commit_stands session clock count splits k x p ms counted w number view h waited is n e) c.commits.none_in_flight refl c.commits.anchored said is.told
-      (gone session clock count splits k x p ms counted w number (replies.Status view) h waited is) low
+      commit_refused k k2 [] w.t x (commit_now w.t c.commits.anchor) view recorded h (commit_stands session clock count splits k x p ms counted w number view h waited is n e) c.commits.anchored said is.told refl refl past
+      (λ epoch ts staging. absurd cc) (λ ts staging. absurd cc) (gone session clock count splits k x p ms counted w number (replies.Status view) h waited is) low
 
   open2 : IsOpenIn k2 t2
   open2 = record { others = map (txn_heard k.sent (Some h)) w.open_in.others; is_open = w.open_in.is_open; first = ap (map (txn_heard k.sent (Some h))) w.open_in.first }
 
   writes_at : t2.write_ts ≡ max w.t.write_ts recorded
   writes_at = sym (ap (λ x. x.write_ts) stands2.same) ∙ ap (λ (x : OpenTxn). max x.write_ts recorded) w.stands.same
-
-  past : w.t.write_ts < recorded
-  past =
-      let mine : Contains k.txns w.t = subst (λ ts. Contains ts w.t) (sym w.open_in.first) (0, omega arith, refl) in
-      (subst (λ r. IsPastWhereUndecided w.t r (replies.Status view)) said (is.past w.t mine)) refl (omega arith) refl
 
   was_now : was_sent_now k h ≡ true
   was_now = sent_in k number _ h (far session clock count splits k x p ms counted w number (replies.Status view) h waited is).0.out is.numbered
@@ -196,10 +196,7 @@ module _ (session clock count : ℕ) (splits : List (List ℕ)) (k : Known) (x :
         asked = c.commits.call;
         eight = used.eight;
         last = used.last;
-        uncommitted = record {
-          stages = none_staged w.t.id (IsDead k2.heard) session clock count k counted;
-          commits = each_commit-more w.t.id (IsOutOrRefused None k2.heard) (WasCommitRefused k2.heard) refused_by k.sent stands2.refused;
-        };
+        uncommitted = is_uncommitted k2 t2 x2 stands2;
       });
       written = tt;
       aborts = tt;
@@ -212,10 +209,6 @@ module _ (session clock count : ℕ) (splits : List (List ℕ)) (k : Known) (x :
     after = stays_as_is k2 t2 x2 open2 stands2 w.cause (answers.Moved recorded) (moved_keeps recorded) refl;
     suits = λ s is. subst (λ f. SuitsFlight s.call f) (sym c.commits.none_in_flight) tt;
   }
-    where
-      refused_by : (commit : SentCommit) → IsOutOrRefused None k2.heard commit → WasCommitRefused k2.heard commit
-      refused_by commit (inl none) = absurd cc
-      refused_by commit (inr refused) = refused
 
   pub refusal : (r : Option ℕ) → AreRefusals k2 recorded r → IsRefusalOf splits session k2 recorded x2 r
   refusal None used = refused_given_up used

@@ -16,7 +16,7 @@ use Rattle.pc_base.specs.SpanOrder.{span_cmp}
 use Rattle.pc_call.proofs.Beating.{beaten_tells}
 use Rattle.pc_follows.specs.Heartbeats.{HasBeaten}
 use Rattle.pc_call.proofs.Eighths.{no_eighth_move}
-use Rattle.pc_call.proofs.Facts.{none_staged, open_is, unmoved}
+use Rattle.pc_call.proofs.Facts.{open_is, unmoved}
 use Rattle.pc_call.proofs.Told.{may_tell, still_open}
 use Rattle.pc_call.specs.Committing.{CommitsNow}
 use Rattle.pc_call.specs.declared.purpose.Purpose.{Purpose}
@@ -38,12 +38,13 @@ use Rattle.pc_reads.proofs.Goods.{refreshed_stand}
 use Rattle.pc_reads.proofs.Ordered.{span_total}
 use Rattle.pc_reads.specs.ReadsStanding.{refresh_to}
 use Rattle.pc_reads.specs.Replies.{first_unrefreshed, shows_unrefreshed, unrefreshed_by, unrefreshed_in}
-use Rattle.pc_txn.proofs.Keeping.{each_commit-more}
+use Rattle.pc_txn.proofs.Keeping.{free_over}
 use Rattle.pc_txn.proofs.Restarts.{restarted, stands_restarted}
+use Rattle.pc_txn.proofs.Rows.{is_uncommitted}
 use Rattle.pc_txn.specs.Counted.{IsCounted}
 use Rattle.pc_txn.specs.declared.txn.OpenTxn.{OpenTxn}
 use Rattle.pc_txn.specs.Opened.{restarted_by}
-use Rattle.pc_txn.specs.Standing.{HasMovedOn, IsOutOrRefused, TxnStands}
+use Rattle.pc_txn.specs.Standing.{HasMovedOn, TxnStands}
 use Rattle.pc_wave.proofs.Changed.{found_all, found_none, found_passes}
 use Rattle.pc_wave.proofs.Dues.{may_be_due}
 use Rattle.pc_wave.specs.declared.message.Message.{Message}
@@ -57,7 +58,6 @@ use Rattle.pc_world.specs.Known.{Known}
 use Rattle.pc_world.specs.Known.Reads.{IsGoodAt, WasRefreshed}
 use Rattle.pc_world.specs.Known.Traffic.{Heard}
 use Rattle.pc_world.specs.MayTell.{is_past_range}
-use Rattle.pc_world.specs.StageFate.{IsDead, SentCommit, WasCommitRefused}
 use Rattle.pc_world.specs.Tell.End.{IsUnrefreshed}
 
 -- a refresh that met no write held
@@ -150,8 +150,8 @@ module _ (session clock count : ℕ) (splits : List (List ℕ)) (k : Known) (x :
   answered : All (WasAnsweredWith k) ms
   answered = subst (MayBeDue k ms) due (may_be_due k ms w.wave)
 
-  st : TxnStands k None w.t x
-  st = subst (λ o. TxnStands k o w.t x) (ap (λ q. out_of q ms) e) w.stands
+  st : TxnStands k [] None w.t x
+  st = subst (λ o. TxnStands k [] o w.t x) (ap (λ q. out_of q ms) e) w.stands
 
   heard_all : (h : Heard) → Contains k.heard_now h → Contains k.heard h
   heard_all h there = subst (λ hs. Contains hs h) (sym w.split.heard) (Contains-append_right w.split.heard_first k.heard_now h there)
@@ -284,10 +284,6 @@ module _ (session clock count : ℕ) (splits : List (List ℕ)) (k : Known) (x :
         let below : IsMetUpTo k.top h.1 = All-contains (IsMetUpTo k.top) k.heard_now h.1 r.low (h.0, h.2, h.3) in
         subst (λ y. IfSome (unrefreshed_by y) (λ w. w.1 ≤ k.top)) (h.4.told ∙ reply_is) below
 
-    refused_by : (commit : SentCommit) → IsOutOrRefused None k.heard commit → WasCommitRefused k.heard commit
-    refused_by commit (inl none) = absurd cc
-    refused_by commit (inr refused) = refused
-
     -- the call is told the first write that its refreshes met, and its transaction begins anew
     pub restarts_told : MayTellOpen splits session k (answers.Restart key ts) x2
     restarts_told = record {
@@ -297,10 +293,7 @@ module _ (session clock count : ℕ) (splits : List (List ℕ)) (k : Known) (x :
           opened = open_is k w.t w.open_in;
           asked = r.commits.call;
           heard = any_weaker (MetWrite span key ts) (λ h. IsUnrefreshed key ts h.reply) (λ h is. subst (IsUnrefreshed key ts) (sym is.told) (refl, refl)) k.heard_now met_now;
-          uncommitted = record {
-            stages = none_staged w.t.id (IsDead k.heard) session clock count k counted;
-            commits = each_commit-more w.t.id (IsOutOrRefused None k.heard) (WasCommitRefused k.heard) refused_by k.sent st.refused;
-          };
+          uncommitted = is_uncommitted k w.t x st;
         });
         written = tt;
         aborts = tt;
@@ -313,7 +306,7 @@ module _ (session clock count : ℕ) (splits : List (List ℕ)) (k : Known) (x :
       after = record {
         t = restarted key ts w.t;
         open_in = record { others = w.open_in.others; is_open = w.open_in.is_open; first = still_open k (answers.Restart key ts) w.t w.open_in.others w.open_in.is_open w.open_in.first };
-        stands = stands_restarted k k2 w.t x r.commits.anchor key ts st r.commits.anchored gone2;
+        stands = stands_restarted k k2 [] None w.t x r.commits.anchor key ts st (free_over k w.t x.staging st.staging) r.commits.anchored gone2;
         cause = refl;
         low = All-cons (λ ts. ts ≤ k2.top + 1) ts [] (omega (arith, low)) (All-nil (λ ts. ts ≤ k2.top + 1));
       };

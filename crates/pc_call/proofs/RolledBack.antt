@@ -25,7 +25,6 @@ use Rattle.pc_proto.specs.declared.answer.Answer.TheVariants as answers
 use Rattle.pc_proto.specs.declared.call.Call.TheVariants as calls
 use Rattle.pc_proto.specs.declared.fate.Fate.{Fate}
 use Rattle.pc_proto.specs.declared.fate.Fate.TheVariants as fates
-use Rattle.pc_proto.specs.declared.reply.Reply.{Reply}
 use Rattle.pc_proto.specs.declared.reply.Reply.TheVariants as replies
 use Rattle.pc_proto.specs.declared.request.Request.{Request}
 use Rattle.pc_proto.specs.declared.view.View.{View}
@@ -37,7 +36,7 @@ use Rattle.pc_proto.specs.Views.{AbortsWith, is_final_view}
 use Rattle.pc_txn.specs.Counted.{IsCounted}
 use Rattle.pc_txn.specs.declared.txn.OpenTxn.{OpenTxn}
 use Rattle.pc_txn.specs.Opened.{own_abort}
-use Rattle.pc_txn.specs.Standing.{IsPendingOf, ShowsPending}
+use Rattle.pc_txn.specs.Standing.{IsUndecidedOf}
 use Rattle.pc_wave.proofs.Lists.{at_least-before}
 use Rattle.pc_wave.specs.declared.message.Message.{Message}
 use Rattle.pc_wave.specs.declared.message.Progress.TheVariants as progresses
@@ -53,9 +52,9 @@ use Rattle.pc_world.specs.Tell.End.{IsCauseTold}
 use Rattle.pc_world.specs.Tell.Refusal.{IsConflictOf}
 use Rattle.pc_world.specs.Views.{ShowsAborted, WasAborted}
 
--- a reply that shows a pending record shows none that is aborted
-pending_not_aborted : (t : Txn) (h : Heard) (why : Why) → IsPendingOf t h → ShowsAborted t.id why h → ⊥
-pending_not_aborted t h why pending shows = not_aborted why h.reply (pending shows.about).pending shows.view shows.told shows.cause
+-- a reply that shows a record which is not final shows none that is aborted
+undecided_not_aborted : (t : Txn) (h : Heard) (why : Why) → IsUndecidedOf t h → ShowsAborted t.id why h → ⊥
+undecided_not_aborted t h why undecided shows = not_aborted why h.reply (undecided shows.about).undecided shows.view shows.told shows.cause
 
 module _ (session clock count : ℕ) (splits : List (List ℕ)) (k : Known) (x : OpenTxn) (p : Purpose) (ms : List Message) (counted : IsCounted session clock count k) (w : InCall splits k x p ms)
     (number : ℕ) (view : View) (h : Heard) (waited : wave_awaits number ms ≡ true) (is : IsHeardTo k number (replies.Status view) h) (why : Why) (e : p ≡ purposes.Abort why) where
@@ -95,12 +94,12 @@ module _ (session clock count : ℕ) (splits : List (List ℕ)) (k : Known) (x :
   -- nothing that was heard before shows the record aborted
   none_before : All (λ g. (other : Why) → ShowsAborted w.t.id other g → ⊥) k.heard_now
   none_before =
-      All-weaker (IsPendingOf w.t) (λ g. (other : Why) → ShowsAborted w.t.id other g → ⊥) (λ g pending other shows. pending_not_aborted w.t g other pending shows) k.heard_now
-      (all_behind (IsPendingOf w.t) w.split.heard_first k.heard_now (subst (λ hs. All (IsPendingOf w.t) hs) w.split.heard w.stands.views))
+      All-weaker (IsUndecidedOf w.t) (λ g. (other : Why) → ShowsAborted w.t.id other g → ⊥) (λ g undecided other shows. undecided_not_aborted w.t g other undecided shows) k.heard_now
+      (all_behind (IsUndecidedOf w.t) w.split.heard_first k.heard_now (subst (λ hs. All (IsUndecidedOf w.t) hs) w.split.heard w.stands.views))
 
   module _ (cause : Why) (fate : Fate) (final : IsFinalAs view fate) (told : IsCauseTold k2 t2 cause) where
     over : EndsWith w.t a.anchor fate k.heard h
-    over = record { anchored = a.anchored; pending = w.stands.views; about = about; named = ap subject_anchor said; view = view; told = ap view_in is.told; final = final }
+    over = record { anchored = a.anchored; undecided = w.stands.views; about = about; named = ap subject_anchor said; view = view; told = ap view_in is.told; final = final }
 
     opened2 : open_txn k2 ≡ Some t2
     opened2 = opened3 k x w.t a.anchor fate h w.open_in w.stands.same over

@@ -25,9 +25,9 @@ use Rattle.pc_proto.specs.Replies.{holder_in}
 use Rattle.pc_reads.specs.ReadsStanding.{refresh_to}
 use Rattle.pc_txn.proofs.Rows.{undecided}
 use Rattle.pc_txn.specs.Counted.{IsCounted}
-use Rattle.pc_txn.specs.declared.flight.InFlight.{InFlight}
+use Rattle.pc_flight.specs.declared.write.WriteInFlight.{WriteInFlight}
 use Rattle.pc_txn.specs.declared.txn.OpenTxn.{OpenTxn}
-use Rattle.pc_txn.specs.Opened.{last_put, next_put, own_get, own_scan}
+use Rattle.pc_txn.specs.Opened.{next_put, own_get, own_put, own_scan}
 use Rattle.pc_wave.proofs.Changed.{found_all, found_passes}
 use Rattle.pc_wave.proofs.Dues.{may_be_due}
 use Rattle.pc_wave.proofs.Rounds.{due_round, first_found}
@@ -44,6 +44,7 @@ use Rattle.pc_world.specs.Known.Statements.{Statement}
 use Rattle.pc_world.specs.Known.Transactions.{Txn}
 use Rattle.pc_world.specs.MayTell.{is_past_range}
 use Rattle.pc_world.specs.RangeOf.{pieces}
+use Rattle.pc_world.specs.StageFate.{IsLate}
 use Rattle.pc_world.specs.Tell.Refusal.{MayBlock, MetEight}
 
 -- The call may be told that it is blocked: it reads or writes.
@@ -103,8 +104,8 @@ module _ (splits : List (List ℕ)) (k : Known) (t : Txn) (x : OpenTxn) (s : Sta
     blocks = λ holder ts at may. blockable_as (write_call key value) is (write_blockable key value);
   }
 
-  last_ours : (anchor key : List ℕ) (value : Option (List ℕ)) → s.call ≡ write_call key value → IsOurs k s t None (last_put x anchor key value)
-  last_ours anchor key value is = record {
+  again_ours : (anchor key : List ℕ) (value : Option (List ℕ)) (w : WriteInFlight) → s.call ≡ write_call key value → IsOurs k s t None (own_put x anchor w)
+  again_ours anchor key value w is = record {
     other = λ holder ts at may e. may (e ∙ sym same);
     reads = refl;
     blocks = λ holder ts at may. blockable_as (write_call key value) is (write_blockable key value);
@@ -112,7 +113,7 @@ module _ (splits : List (List ℕ)) (k : Known) (t : Txn) (x : OpenTxn) (s : Sta
 
   write_ours : (key : List ℕ) (value : Option (List ℕ)) (again : Bool) (m : Message) → s.call ≡ write_call key value → LaysNext k s t x key value again m ⊎ LaysLast k s t x key value again m → IsOurs k s t None m.request
   write_ours key value again m is (inl l) = subst (λ r. IsOurs k s t None r) (sym l.said) (next_ours key value is)
-  write_ours key value again m is (inr l) = subst (λ r. IsOurs k s t None r) (sym l.said) (last_ours l.anchor key value is)
+  write_ours key value again m is (inr l) = subst (λ r. IsOurs k s t None r) (sym l.said) (again_ours l.anchor key value l.w is)
 
   one_ours : (r : Option ℕ) (ms : List Message) (m : Message) → ms ≡ m ∷ [] → IsOurs k s t r m.request → All (λ m. IsOurs k s t r m.request) ms
   one_ours r ms m one ours =
@@ -211,7 +212,7 @@ module _ (session clock count : ℕ) (splits : List (List ℕ)) (k : Known) (x :
         opened = w.opened;
         t = w.t;
         open_is = open_is k w.t w.open_in;
-        undecided = undecided k (out_of p ms) w.t x w.stands (open_is k w.t w.open_in);
+        undecided = undecided k [] (out_of p ms) w.t x w.stands (All-nil (IsLate k.heard)) (open_is k w.t w.open_in);
         beaten = has_beaten some;
         holder = met.holder;
         ts = met.ts;
@@ -274,11 +275,11 @@ module _ (session clock count : ℕ) (splits : List (List ℕ)) (k : Known) (x :
     where
       write_suits : (again : Bool) (r : ServesWrite again k w.s w.t x ms) → LaysNext k w.s w.t x r.key r.value again r.m ⊎ LaysLast k w.s w.t x r.key r.value again r.m → SuitsFlight w.s.call x.in_flight
       write_suits again r (inl l) = subst (λ f. SuitsFlight w.s.call f) (sym l.none_in_flight) tt
-      write_suits again r (inr l) = subst (λ f. SuitsFlight w.s.call f) (sym l.in_flight) (subst (λ c. SuitsFlight c (Some (record { key = r.key; value = r.value }))) (sym r.call) (same_write r.key r.value))
+      write_suits again r (inr l) = subst (λ f. SuitsFlight w.s.call f) (sym l.in_flight) (subst (λ c. SuitsFlight c (l.w ∷ [])) (sym r.call) (same_write l.w r.key r.value l.place l.what))
         where
-          same_write : (key : List ℕ) (value : Option (List ℕ)) → SuitsFlight (write_call key value) (Some (record { key = key; value = value }))
-          same_write key None = refl
-          same_write key (Some value) = refl
+          same_write : (w : WriteInFlight) (key : List ℕ) (value : Option (List ℕ)) → w.key ≡ key → w.value ≡ value → SuitsFlight (write_call key value) (w ∷ [])
+          same_write w key None place what = (place, what)
+          same_write w key (Some value) place what = (place, what)
 
       by : (q : Purpose) → p ≡ q → Serves splits k w.s w.t x q ms → SuitsFlight w.s.call x.in_flight
       by (purposes.Beat call reading) e r = subst (λ c. SuitsFlight c x.in_flight) (sym (ap (λ (s : Statement). s.call) r.asked)) r.suits
@@ -288,6 +289,6 @@ module _ (session clock count : ℕ) (splits : List (List ℕ)) (k : Known) (x :
       by (purposes.Commit n) e r = subst (λ f. SuitsFlight w.s.call f) (sym r.commits.none_in_flight) tt
       by (purposes.Abort why) e r = suits_abort x.in_flight
         where
-          suits_abort : (f : Option InFlight) → SuitsFlight w.s.call f
-          suits_abort None = tt
-          suits_abort (Some v) = subst (λ c. SuitsFlight c (Some v)) (sym r.call) tt
+          suits_abort : (f : List WriteInFlight) → SuitsFlight w.s.call f
+          suits_abort [] = tt
+          suits_abort (v ∷ vs) = subst (λ c. SuitsFlight c (v ∷ vs)) (sym r.call) tt

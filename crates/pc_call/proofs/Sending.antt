@@ -1,9 +1,10 @@
 -- What is due of an open call may be given.
-use Rattle.std.proofs.Common.{◌≡◌, ℕ, nat_le, Bool, true, false, cond, List, find, Option, None, Some, Result, Ok, Err, IfOk, refl, sym, ◌∙◌, subst, All}
+use Rattle.std.proofs.Common.{◌≡◌, ℕ, nat_le, Bool, true, false, cond, List, [], find, Option, None, Some, Result, Ok, Err, IfOk, refl, sym, ◌∙◌, subst, All}
 use Rattle.pc_base.specs.declared.limits.TheConstants.{MOST_CONFLICTS}
 use Rattle.pc_base.specs.declared.transaction.TxnId.{TxnId}
 use Rattle.std.specs.List.{list_all}
 use Rattle.std.proofs.lemmas.Option.{same_Some}
+use Rattle.std.proofs.lemmas.List.Elements.{All-nil}
 use Rattle.pc_call.proofs.Blocking.{blocked_by_eighth}
 use Rattle.pc_call.proofs.Facts.{open_is}
 use Rattle.pc_call.proofs.Ready.{IsReady, IsReadyToSend, ready}
@@ -35,6 +36,7 @@ use Rattle.pc_wave.specs.Standing.{MayGoOut}
 use Rattle.pc_follows.specs.Eighth.{MetEighth}
 use Rattle.pc_follows.specs.Refreshes.{IsItsRefresh}
 use Rattle.pc_world.specs.Known.{Known}
+use Rattle.pc_world.specs.StageFate.{IsLate}
 
 no_delivery : (o : Option TxnId) (number : ℕ) (conflict : Reply) → conflict_by o number conflict ≡ steps.Deliver → ⊥
 no_delivery None number conflict e = cc
@@ -67,7 +69,7 @@ module _ (session clock count : ℕ) (splits : List (List ℕ)) (k : Known) (x :
         row = here.row;
         stamps = here.stamps;
         kind = here.kind;
-        undecided = undecided k (out_of p ms) w.t x w.stands (open_is k w.t w.open_in);
+        undecided = undecided k [] (out_of p ms) w.t x w.stands (All-nil (IsLate k.heard)) (open_is k w.t w.open_in);
         answered = may.0.answered;
         again = may.0.again;
         below = may.1;

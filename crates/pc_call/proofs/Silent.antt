@@ -1,8 +1,7 @@
 -- No message of an open call is a heartbeat, but for that whose purpose it is.
-use Rattle.std.proofs.Common.{◌≡◌, false, ◌⊎◌, inl, inr, Bool, List, [], ◌∷◌, map, Option, refl, sym, ap, ◌∙◌, subst, ℕ, All}
+use Rattle.std.proofs.Common.{◌≡◌, false, ◌⊎◌, inl, inr, Bool, List, [], ◌∷◌, map, refl, sym, ap, subst, ℕ, All}
 use Rattle.std.proofs.lemmas.List.Elements.{All-cons, All-map, All-nil}
 use Rattle.std.specs.Prelude.{⊤}
-use Rattle.pc_base.specs.declared.span.Span.{Span}
 use Rattle.pc_call.proofs.Lists.{all_unmapped}
 use Rattle.pc_call.specs.declared.purpose.Purpose.{Purpose}
 use Rattle.pc_call.specs.declared.purpose.Purpose.TheVariants as purposes

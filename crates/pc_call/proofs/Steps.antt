@@ -1,5 +1,5 @@
 -- A message of an open call goes out.
-use Rattle.std.proofs.Common.{◌≡◌, ℕ, ◌+◌, ◌-◌, ◌≤◌, Bool, true, false, cond, not, ◌||◌, ◌⊎◌, inl, inr, List, [], ◌∷◌, ◌++◌, length, map, find, take, Option, Some, None, refl, sym, ap, ◌∙◌, subst, arith, All, Any, IsTrue, unwrap_or, append_assoc, length-append}
+use Rattle.std.proofs.Common.{◌≡◌, ℕ, ◌+◌, ◌-◌, ◌≤◌, Bool, true, false, cond, not, ◌||◌, ◌⊎◌, inl, inr, List, [], ◌∷◌, ◌++◌, length, map, find, take, Option, Some, None, refl, sym, ap, ◌∙◌, subst, arith, All, Any, Contains, IsTrue, unwrap_or, append_assoc, length-append}
 use Rattle.std.proofs.Math.Seq.{take-append_seam}
 use Rattle.std.specs.List.{list_all, list_any}
 use Rattle.std.proofs.lemmas.List.{append-nil}
@@ -22,6 +22,7 @@ use Rattle.pc_call.specs.Opening.{after_send, laid_first, laid_with}
 use Rattle.pc_call.specs.Paced.{IsPaced}
 use Rattle.pc_call.specs.Serving.{AreReadsOf, HasBeatenBy, HasGoneOut, InCall, IsCommitCall, IsMetUpTo, IsOpenIn, IsOutHere, IsReadFor, IsRefreshGoneOut, IsRefreshUpTo, IsSplit, LaysLast, LaysNext, MetNoOtherWrite, NoOtherMetEighth, Serves, ServesAbort, ServesBeat, ServesCommit, ServesRead, ServesRefresh, ServesWrite, WasRefusedIfCommit, commit_asked, holders_met, out_of, write_call}
 use Rattle.pc_follows.specs.Heartbeats.{HasBeaten}
+use Rattle.pc_lists.proofs.Lists.{contains_head}
 use Rattle.pc_proto.specs.declared.call.Call.{Call}
 use Rattle.pc_proto.specs.declared.call.Call.TheVariants as calls
 use Rattle.pc_proto.specs.declared.request.Request.{Request}
@@ -36,15 +37,16 @@ use Rattle.pc_refusals.proofs.Counted.{refusals_go}
 use Rattle.pc_refusals.specs.Moves.{CountsMoves, IsNoMove}
 use Rattle.pc_txn.proofs.Alive.{beat_sent}
 use Rattle.pc_txn.proofs.Commits.{commit_now, commit_sent}
-use Rattle.pc_txn.proofs.Keeping.{quiet_sent, stands_on}
-use Rattle.pc_txn.proofs.Laying.{last_laid, next_laid}
+use Rattle.pc_txn.proofs.Keeping.{free_over, free_passed, quiet_sent, stands_on}
+use Rattle.pc_txn.proofs.Laying.{next_laid, put_resent}
 use Rattle.pc_txn.proofs.Puts.{no_put}
 use Rattle.pc_txn.specs.Counted.{IsCounted}
-use Rattle.pc_txn.specs.declared.flight.InFlight.{InFlight}
+use Rattle.pc_flight.specs.declared.write.WriteInFlight.{WriteInFlight}
 use Rattle.pc_txn.specs.declared.txn.OpenTxn.{OpenTxn}
-use Rattle.pc_txn.specs.Opened.{last_put, next_put, own_commit, own_get, own_scan, reading_on, with_next_write}
+use Rattle.pc_txn.specs.Opened.{next_put, own_commit, own_get, own_put, own_scan, with_commit, with_next_write}
 use Rattle.pc_txn.specs.Silence.{own_beat, shown_at}
-use Rattle.pc_txn.specs.Standing.{HasMovedOn, LeavesAsIs, PutsUpTo, TxnStands, is_plain}
+use Rattle.pc_txn.specs.Standing.{HasMovedOn, LeavesAsIs, TxnStands, is_plain}
+use Rattle.pc_txn.specs.Writing.{PutsUpTo}
 use Rattle.pc_wave.proofs.Changed.{found_all, found_passes}
 use Rattle.pc_wave.proofs.Sending.{sends_first, wave_sent}
 use Rattle.pc_wave.specs.declared.message.Message.{Message}
@@ -69,8 +71,8 @@ IsPutForAs id epoch key value seq (requests.Put meta at_seq ts at_key at_value) 
 IsPutForAs id epoch key value seq _ = ⊥
 
 -- which sequence a put has
-seq_of_put : (t : Txn) (key : List ℕ) (value : Option (List ℕ)) (seq : ℕ) (request : Request) (x : OpenTxn) (anchor own : List ℕ) (laid : Option (List ℕ)) → request ≡ last_put x anchor own laid → IsPutFor t key value seq request → x.seq ≡ seq
-seq_of_put t key value seq request x anchor own laid said put = (subst (IsPutFor t key value seq) said put).2
+seq_of_put : (t : Txn) (key : List ℕ) (value : Option (List ℕ)) (seq : ℕ) (request : Request) (x : OpenTxn) (anchor : List ℕ) (w : WriteInFlight) → request ≡ own_put x anchor w → IsPutFor t key value seq request → w.seq ≡ seq
+seq_of_put t key value seq request x anchor w said put = (subst (IsPutFor t key value seq) said put).2
 
 every : {X : Type 0} (P : X → Type 0) → ((x : X) → P x) → (xs : List X) → All P xs
 every P all [] = All-nil P
@@ -176,7 +178,7 @@ module _ (session clock count : ℕ) (splits : List (List ℕ)) (k : Known) (x :
       by (purposes.Abort why) b none = on none b
 
   -- the call stands where its transaction and its purpose do
-  gone_out : (x2 : OpenTxn) → TxnStands k2 (out_of p ms2) t2 x2 → x2.cause ≡ whys.Client → Serves splits k2 w.s t2 x2 p ms2 → InCall splits k2 x2 p ms2
+  gone_out : (x2 : OpenTxn) → TxnStands k2 [] (out_of p ms2) t2 x2 → x2.cause ≡ whys.Client → Serves splits k2 w.s t2 x2 p ms2 → InCall splits k2 x2 p ms2
   gone_out x2 st client serves = record {
     t = t2;
     open_in = open2;
@@ -198,10 +200,10 @@ module _ (session clock count : ℕ) (splits : List (List ℕ)) (k : Known) (x :
     same2 : t2 ≡ w.t
     same2 = quiet_sent request w.t quiet
 
-    quiet_stands : (out : _) → TxnStands k out w.t x → TxnStands k2 out t2 x
+    quiet_stands : (out : _) → TxnStands k [] out w.t x → TxnStands k2 [] out t2 x
     quiet_stands out st =
-        subst (λ t. TxnStands k2 out t x) (sym same2)
-        (stands_on k k2 out w.t x (m2 ∷ []) [] st gone (All-cons (λ m. IsTrue (is_plain m.request)) m2 [] quiet (All-nil (λ m. IsTrue (is_plain m.request)))) (All-nil (LeavesAsIs w.t)))
+        subst (λ t. TxnStands k2 [] out t x) (sym same2)
+        (stands_on k k2 [] out w.t x (m2 ∷ []) [] st gone (All-cons (λ m. IsTrue (is_plain m.request)) m2 [] quiet (All-nil (λ m. IsTrue (is_plain m.request)))) (All-nil (LeavesAsIs w.t)))
 
   read_serves : ServesRead splits k w.s x ms → ServesRead splits k2 w.s x ms2
   read_serves r = record {
@@ -301,11 +303,12 @@ module _ (session clock count : ℕ) (splits : List (List ℕ)) (k : Known) (x :
     one2 : ms2 ≡ sent_under number m ∷ []
     one2 = ap (first_changed is_to_send (sent_under number)) one ∙ one_sent number m (one_message m one).1
 
-    next_serves : (st : TxnStands k None w.t x) → (l : LaysNext k w.s w.t x key value again m) → (x2 : OpenTxn) → x2 ≡ with_next_write key value x → TxnStands k2 None t2 x2 → ServesWrite again k2 w.s t2 x2 ms2
+    next_serves : (st : TxnStands k [] None w.t x) → (l : LaysNext k w.s w.t x key value again m) → (x2 : OpenTxn) → x2 ≡ with_next_write key value x → TxnStands k2 [] None t2 x2 → ServesWrite again k2 w.s t2 x2 ms2
     next_serves st l x2 made st2 =
         let anchor : x2.anchor ≡ t2.anchor = ap (λ x. x.anchor) st2.same in
         let own_anchor : x2.anchor ≡ Some (unwrap_or x.anchor key) = ap (λ x. x.anchor) made in
-        let seq_is : x2.seq ≡ last_seq_of w.t.writes + 1 = ap (λ x. x.seq) made ∙ ap (λ n. n + 1) (ap (λ x. x.seq) st.same) in
+        let laid : WriteInFlight = record { key = key; seq = x.seq + 1; value = value } in
+        let seq_is : laid.seq ≡ last_seq_of w.t.writes + 1 = ap (λ n. n + 1) (ap (λ x. x.seq) st.same) in
         let earlier : All (λ m. PutsUpTo w.t (last_seq_of w.t.writes) m.request) w.split.sent_first =
         all_front (λ m. PutsUpTo w.t (last_seq_of w.t.writes) m.request) w.split.sent_first k.sent_now (subst (λ ms. All (λ m. PutsUpTo w.t (last_seq_of w.t.writes) m.request) ms) w.split.sent st.puts) in
         record {
@@ -315,12 +318,15 @@ module _ (session clock count : ℕ) (splits : List (List ℕ)) (k : Known) (x :
           m = sent_under number m;
           one = one2;
           lays = inr (record {
-            in_flight = ap (λ x. x.in_flight) made;
+            w = laid;
+            in_flight = ap (λ x. x.in_flight) made ∙ ap (λ fs. fs ++ laid ∷ []) l.none_in_flight;
+            place = refl;
+            what = refl;
             anchor = unwrap_or x.anchor key;
             anchored = sym anchor ∙ own_anchor;
-            said = l.said ∙ sym (ap (λ x. last_put x (unwrap_or x.anchor key) key value) made) ∙ ap (λ a. last_put x2 a key value) (ap (λ o. unwrap_or o key) own_anchor);
+            said = l.said ∙ sym (ap (λ x. own_put x (unwrap_or x.anchor key) laid) made) ∙ ap (λ a. own_put x2 a laid) (ap (λ o. unwrap_or o key) own_anchor);
             first = λ e.
-                ap (λ ms. list_any (λ other. is_put_of w.t.id w.t.epoch x2.seq other.request) ms) (before_same ∙ before_is)
+                ap (λ ms. list_any (λ other. is_put_of w.t.id w.t.epoch laid.seq other.request) ms) (before_same ∙ before_is)
                 ∙ ap (λ n. list_any (λ other. is_put_of w.t.id w.t.epoch n other.request) w.split.sent_first) seq_is
                 ∙ no_put w.t (last_seq_of w.t.writes) (last_seq_of w.t.writes + 1) w.split.sent_first (omega arith) earlier;
             old = λ e. let f : true ≡ false = sym e ∙ l.own in absurd cc;
@@ -342,7 +348,7 @@ module _ (session clock count : ℕ) (splits : List (List ℕ)) (k : Known) (x :
           (subst (λ i. IsTrue (not (list_any (λ other. is_put_of i t.epoch f.seq other.request) (sent_before k2)))) id f.first));
     }
 
-    last_serves : (st : TxnStands k None w.t x) → (l : LaysLast k w.s w.t x key value again m) → TxnStands k2 None t2 x → ServesWrite again k2 w.s t2 x ms2
+    last_serves : (st : TxnStands k [] None w.t x) → (l : LaysLast k w.s w.t x key value again m) → TxnStands k2 [] None t2 x → ServesWrite again k2 w.s t2 x ms2
     last_serves st l st2 =
         let a : x.anchor ≡ w.t.anchor = ap (λ x. x.anchor) st.same in
         let b : x.anchor ≡ t2.anchor = ap (λ x. x.anchor) st2.same in
@@ -353,68 +359,71 @@ module _ (session clock count : ℕ) (splits : List (List ℕ)) (k : Known) (x :
           m = sent_under number m;
           one = one2;
           lays = inr (record {
+            w = l.w;
             in_flight = l.in_flight;
+            place = l.place;
+            what = l.what;
             anchor = l.anchor;
             anchored = sym b ∙ a ∙ l.anchored;
             said = l.said;
-            first = λ e. ap (λ ms. list_any (λ other. is_put_of w.t.id w.t.epoch x.seq other.request) ms) before_same ∙ l.first e;
+            first = λ e. ap (λ ms. list_any (λ other. is_put_of w.t.id w.t.epoch l.w.seq other.request) ms) before_same ∙ l.first e;
             old = λ e. All-push (λ m. IsFirstPut k2 w.s t2 m → ⊥) k.sent_now m2 (All-weaker (λ m. IsFirstPut k w.s w.t m → ⊥) (λ m. IsFirstPut k2 w.s t2 m → ⊥) (λ m none f. none (first_back t2 refl refl m f)) k.sent_now (l.old e)) (old_one e);
-            before = λ e. ap (λ ms. list_any (λ other. is_put_of w.t.id w.t.epoch x.seq other.request) ms) before_same ∙ l.before e;
+            before = λ e. ap (λ ms. list_any (λ other. is_put_of w.t.id w.t.epoch l.w.seq other.request) ms) before_same ∙ l.before e;
           });
         }
       where
         old_one : again ≡ true → IsFirstPut k2 w.s t2 m2 → ⊥
         old_one e f =
             let g : IsFirstPut k w.s w.t m2 = first_back t2 refl refl m2 f in
-            let said : request ≡ last_put x l.anchor key value = sym is_request ∙ l.said in
-            let seq : x.seq ≡ g.seq = seq_of_put w.t g.key g.value g.seq request x l.anchor key value said g.put in
-            let none : not (list_any (λ other. is_put_of w.t.id w.t.epoch x.seq other.request) (sent_before k)) ≡ true =
+            let said : request ≡ own_put x l.anchor l.w = sym is_request ∙ l.said in
+            let seq : l.w.seq ≡ g.seq = seq_of_put w.t g.key g.value g.seq request x l.anchor l.w said g.put in
+            let none : not (list_any (λ other. is_put_of w.t.id w.t.epoch l.w.seq other.request) (sent_before k)) ≡ true =
             ap (λ n. not (list_any (λ other. is_put_of w.t.id w.t.epoch n other.request) (sent_before k))) seq ∙ g.first in
-            let some : not (list_any (λ other. is_put_of w.t.id w.t.epoch x.seq other.request) (sent_before k)) ≡ false = ap not (l.before e) in
+            let some : not (list_any (λ other. is_put_of w.t.id w.t.epoch l.w.seq other.request) (sent_before k)) ≡ false = ap not (l.before e) in
             let f : true ≡ false = sym none ∙ some in
             absurd cc
 
-    write_out : (st : TxnStands k None w.t x) → LaysNext k w.s w.t x key value again m ⊎ LaysLast k w.s w.t x key value again m → p ≡ purposes.Write again → InCall splits k2 (laid_first ms x) p ms2
+    write_out : (st : TxnStands k [] None w.t x) → LaysNext k w.s w.t x key value again m ⊎ LaysLast k w.s w.t x key value again m → p ≡ purposes.Write again → InCall splits k2 (laid_first ms x) p ms2
     write_out st (inl l) is =
         let said : request ≡ next_put x key value = sym is_request ∙ l.said in
         let made : laid_first ms x ≡ with_next_write key value x =
-        ap (λ ms. laid_first ms x) one ∙ ap (λ f. laid_with f m.request x) l.none_in_flight ∙ ap (λ r. laid_with None r x) l.said in
+        ap (λ ms. laid_first ms x) one ∙ ap (λ f. laid_with f m.request x) l.none_in_flight ∙ ap (λ r. laid_with [] r x) l.said in
         let gone2 : HasMovedOn k k2 (record { number = number; range = range; request = next_put x key value } ∷ []) [] =
         subst (λ r. HasMovedOn k k2 (record { number = number; range = range; request = r } ∷ []) []) said gone in
-        let st2 : TxnStands k2 None t2 (laid_first ms x) =
-        subst (λ y. TxnStands k2 None t2 y) (sym made)
-        (subst (λ r. TxnStands k2 None (txn_sent r w.t) (with_next_write key value x)) (sym said) (next_laid k k2 w.t x key value number range st l.none_in_flight gone2)) in
-        gone_out (laid_first ms x) (subst (λ q. TxnStands k2 (out_of q ms2) t2 (laid_first ms x)) (sym is) st2) (ap (λ x. x.cause) made ∙ w.cause)
+        let st2 : TxnStands k2 [] None t2 (laid_first ms x) =
+        subst (λ y. TxnStands k2 [] None t2 y) (sym made)
+        (subst (λ r. TxnStands k2 [] None (txn_sent r w.t) (with_next_write key value x)) (sym said) (next_laid k k2 [] None w.t x key value number range st (free_over k w.t x.staging st.staging) gone2)) in
+        gone_out (laid_first ms x) (subst (λ q. TxnStands k2 [] (out_of q ms2) t2 (laid_first ms x)) (sym is) st2) (ap (λ x. x.cause) made ∙ w.cause)
         (subst (λ q. Serves splits k2 w.s t2 (laid_first ms x) q ms2) (sym is) (next_serves st l (laid_first ms x) made st2))
     write_out st (inr l) is =
-        let v : InFlight = record { key = key; value = value } in
-        let said : request ≡ last_put x l.anchor key value = sym is_request ∙ l.said in
+        let there : Contains x.in_flight l.w = subst (λ f. Contains f l.w) (sym l.in_flight) (contains_head l.w []) in
+        let said : request ≡ own_put x l.anchor l.w = sym is_request ∙ l.said in
         let made : laid_first ms x ≡ x = ap (λ ms. laid_first ms x) one ∙ ap (λ f. laid_with f m.request x) l.in_flight in
-        let gone2 : HasMovedOn k k2 (record { number = number; range = range; request = last_put x l.anchor key value } ∷ []) [] =
+        let gone2 : HasMovedOn k k2 (record { number = number; range = range; request = own_put x l.anchor l.w } ∷ []) [] =
         subst (λ r. HasMovedOn k k2 (record { number = number; range = range; request = r } ∷ []) []) said gone in
-        let st2 : TxnStands k2 None t2 x = subst (λ r. TxnStands k2 None (txn_sent r w.t) x) (sym said) (last_laid k k2 w.t x v l.anchor st l.in_flight l.anchored number range gone2) in
+        let st2 : TxnStands k2 [] None t2 x = subst (λ r. TxnStands k2 [] None (txn_sent r w.t) x) (sym said) (put_resent k [] None w.t x st l.w there l.anchor l.anchored k2 number range gone2) in
         subst (λ y. InCall splits k2 y p ms2) (sym made)
-        (gone_out x (subst (λ q. TxnStands k2 (out_of q ms2) t2 x) (sym is) st2) w.cause (subst (λ q. Serves splits k2 w.s t2 x q ms2) (sym is) (last_serves st l st2)))
+        (gone_out x (subst (λ q. TxnStands k2 [] (out_of q ms2) t2 x) (sym is) st2) w.cause (subst (λ q. Serves splits k2 w.s t2 x q ms2) (sym is) (last_serves st l st2)))
 
   -- a commit goes out
-  commit_out : (n : ℕ) → p ≡ purposes.Commit n → ServesCommit n k w.s w.t x ms → InCall splits k2 (reading_on x) p ms2
+  commit_out : (n : ℕ) → p ≡ purposes.Commit n → ServesCommit n k w.s w.t x ms → InCall splits k2 (with_commit x) p ms2
   unfolding commit_call2
   commit_out n is c =
       let o = one_message c.m c.one in
       let none : out_of (purposes.Commit n) ms ≡ None = ap (out_of (purposes.Commit n)) c.one ∙ ap (λ b. cond b None (commit_asked c.m.request)) o.1 in
-      let st : TxnStands k None w.t x = subst (λ o. TxnStands k o w.t x) none (subst (λ q. TxnStands k (out_of q ms) w.t x) is w.stands) in
+      let st : TxnStands k [] None w.t x = subst (λ o. TxnStands k [] o w.t x) none (subst (λ q. TxnStands k [] (out_of q ms) w.t x) is w.stands) in
       let said : request ≡ own_commit x c.commits.anchor = sym o.0 ∙ c.said in
       let one2 : ms2 ≡ sent_under number c.m ∷ [] = ap (first_changed is_to_send (sent_under number)) c.one ∙ one_sent number c.m o.1 in
       let gone2 : HasMovedOn k k2 (record { number = number; range = range; request = own_commit x c.commits.anchor } ∷ []) [] =
       subst (λ r. HasMovedOn k k2 (record { number = number; range = range; request = r } ∷ []) []) said gone in
-      let st2 : TxnStands k2 (Some (commit_now w.t c.commits.anchor)) t2 (reading_on x) =
-      subst (λ r. TxnStands k2 (Some (commit_now w.t c.commits.anchor)) (txn_sent r w.t) (reading_on x)) (sym said)
-      (commit_sent k k2 w.t x c.commits.anchor number range st c.commits.none_in_flight c.commits.anchored (c.good o.1) gone2) in
+      let st2 : TxnStands k2 [] (Some (commit_now w.t c.commits.anchor)) t2 (with_commit x) =
+      subst (λ r. TxnStands k2 [] (Some (commit_now w.t c.commits.anchor)) (txn_sent r w.t) (with_commit x)) (sym said)
+      (commit_sent k k2 [] None w.t x c.commits.anchor number range st (free_passed k w.t x.staging st.staging) c.commits.anchored (c.good o.1) gone2) in
       let out2 : out_of (purposes.Commit n) ms2 ≡ Some (commit_now w.t c.commits.anchor) =
       ap (out_of (purposes.Commit n)) one2 ∙ ap commit_asked c.said ∙ ap (λ x. commit_asked (own_commit x c.commits.anchor)) st.same in
-      gone_out (reading_on x) (subst (λ q. TxnStands k2 (out_of q ms2) t2 (reading_on x)) (sym is) (subst (λ o. TxnStands k2 o t2 (reading_on x)) (sym out2) st2)) w.cause
-      (subst (λ q. Serves splits k2 w.s t2 (reading_on x) q ms2) (sym is) (record {
-        commits = commit_call2 n t2 (reading_on x) (ap (λ r. (txn_sent r w.t).anchor) said) refl c.commits;
+      gone_out (with_commit x) (subst (λ q. TxnStands k2 [] (out_of q ms2) t2 (with_commit x)) (sym is) (subst (λ o. TxnStands k2 [] o t2 (with_commit x)) (sym out2) st2)) w.cause
+      (subst (λ q. Serves splits k2 w.s t2 (with_commit x) q ms2) (sym is) (record {
+        commits = commit_call2 n t2 (with_commit x) (ap (λ r. (txn_sent r w.t).anchor) said) refl c.commits;
         refused =
             let ts_is : t2.write_ts ≡ w.t.write_ts = ap (λ r. (txn_sent r w.t).write_ts) said in
             subst (λ n. All (λ m. IsOutHere ms2 (own_commit x c.commits.anchor) m ⊎ WasRefusedIfCommit n k.heard_now m) k2.sent_now) (sym ts_is)
@@ -440,16 +449,16 @@ module _ (session clock count : ℕ) (splits : List (List ℕ)) (k : Known) (x :
       earlier m one to_send s (inr r) = inr r
 
   -- a heartbeat goes out
-  beat_out : (call : Call) (reading : ℕ) → p ≡ purposes.Beat call reading → ServesBeat call reading k w.s w.t x ms → TxnStands k None w.t x → InCall splits k2 (shown_at reading x) p ms2
+  beat_out : (call : Call) (reading : ℕ) → p ≡ purposes.Beat call reading → ServesBeat call reading k w.s w.t x ms → TxnStands k [] None w.t x → InCall splits k2 (shown_at reading x) p ms2
   beat_out call reading is r st =
       let o = one_message r.m r.one in
       let said : request ≡ own_beat x reading r.anchor = sym o.0 ∙ r.said in
       let due = r.due o.1 in
       let gone2 : HasMovedOn k k2 (record { number = number; range = range; request = own_beat x reading r.anchor } ∷ []) [] =
       subst (λ r. HasMovedOn k k2 (record { number = number; range = range; request = r } ∷ []) []) said gone in
-      let st2 : TxnStands k2 None t2 (shown_at reading x) =
-      subst (λ r. TxnStands k2 None (txn_sent r w.t) (shown_at reading x)) (sym said) (beat_sent k k2 w.t x r.anchor reading number range st gone2) in
-      gone_out (shown_at reading x) (subst (λ q. TxnStands k2 (out_of q ms2) t2 (shown_at reading x)) (sym is) st2) w.cause
+      let st2 : TxnStands k2 [] None t2 (shown_at reading x) =
+      subst (λ r. TxnStands k2 [] None (txn_sent r w.t) (shown_at reading x)) (sym said) (beat_sent k k2 [] None w.t x r.anchor reading number range st gone2) in
+      gone_out (shown_at reading x) (subst (λ q. TxnStands k2 [] (out_of q ms2) t2 (shown_at reading x)) (sym is) st2) w.cause
       (subst (λ q. Serves splits k2 w.s t2 (shown_at reading x) q ms2) (sym is) (record {
         asked = r.asked;
         asks = r.asks;
@@ -466,24 +475,24 @@ module _ (session clock count : ℕ) (splits : List (List ℕ)) (k : Known) (x :
         low = All-weaker (λ ts. ts ≤ k.top + 1) (λ ts. ts ≤ k2.top + 1) (λ ts low. omega (arith, low)) (why_stamps (own_cause w.t.restart)) r.low;
       }))
 
-  sent_by : (q : Purpose) → p ≡ q → Serves splits k w.s w.t x q ms → TxnStands k (out_of q ms) w.t x → InCall splits k2 (after_send q ms x) p ms2
+  sent_by : (q : Purpose) → p ≡ q → Serves splits k w.s w.t x q ms → TxnStands k [] (out_of q ms) w.t x → InCall splits k2 (after_send q ms x) p ms2
   sent_by (purposes.Beat call reading) is r st = beat_out call reading is r st
   sent_by purposes.Read is r st =
       let quiet : is_plain request ≡ true = of_request (λ q. is_plain q ≡ true) (quiet_reads splits x w.s.call (map (λ m. m.request) ms) r.asked) in
-      gone_out x (subst (λ q. TxnStands k2 (out_of q ms2) t2 x) (sym is) (quiet_stands quiet None st)) w.cause (subst (λ q. Serves splits k2 w.s t2 x q ms2) (sym is) (read_serves r))
+      gone_out x (subst (λ q. TxnStands k2 [] (out_of q ms2) t2 x) (sym is) (quiet_stands quiet None st)) w.cause (subst (λ q. Serves splits k2 w.s t2 x q ms2) (sym is) (read_serves r))
   sent_by (purposes.Write again) is r st = write_out r.key r.value again r.m r.call r.one st r.lays is
   sent_by (purposes.Refresh n) is r st =
       let quiet : is_plain request ≡ true =
       of_request (λ q. is_plain q ≡ true)
       (subst (λ rs. All (λ q. is_plain q ≡ true) rs) (sym r.asked)
       (All-map (λ q. is_plain q ≡ true) (refresh_to x.id x.reads.ts x.write_ts) x.reads.spans (every (λ span. is_plain (refresh_to x.id x.reads.ts x.write_ts span) ≡ true) (λ span. refl) x.reads.spans))) in
-      gone_out x (subst (λ q. TxnStands k2 (out_of q ms2) t2 x) (sym is) (quiet_stands quiet None st)) w.cause
+      gone_out x (subst (λ q. TxnStands k2 [] (out_of q ms2) t2 x) (sym is) (quiet_stands quiet None st)) w.cause
       (subst (λ q. Serves splits k2 w.s t2 x q ms2) (sym is) (subst (λ t. ServesRefresh n k2 w.s t x ms2) (sym (same2 quiet)) (refresh_serves n r)))
   sent_by (purposes.Commit n) is r st = commit_out n is r
   sent_by (purposes.Abort why) is r st =
       let o = one_message r.m r.one in
       let quiet : is_plain request ≡ true = ap is_plain (sym o.0 ∙ r.said) in
-      gone_out x (subst (λ q. TxnStands k2 (out_of q ms2) t2 x) (sym is) (quiet_stands quiet None st)) w.cause
+      gone_out x (subst (λ q. TxnStands k2 [] (out_of q ms2) t2 x) (sym is) (quiet_stands quiet None st)) w.cause
       (subst (λ q. Serves splits k2 w.s t2 x q ms2) (sym is)
       (subst (λ t. ServesAbort why k2 w.s t x ms2) (sym (same2 quiet)) (abort_serves why r (found_passes is_to_send ms first_one.0 first_one.1))))
 

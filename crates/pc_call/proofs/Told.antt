@@ -77,7 +77,7 @@ unavailable_keeps faults = record { opens = λ was. refl; high = λ n. refl; beg
 pub moved_keeps : (ts : ℕ) → IsKept (answers.Moved ts)
 moved_keeps ts = record { opens = λ was. refl; high = λ n. refl; begun = λ n. refl; txns = λ k. refl; txn = λ replied t. refl; left = λ k. refl }
 
-module _ (k : Known) (t : Txn) (x : OpenTxn) (open_in : IsOpenIn k t) (st : TxnStands k None t x) (client : x.cause ≡ whys.Client) (answer : Answer) (keeps : IsKept answer) where
+module _ (k : Known) (t : Txn) (x : OpenTxn) (open_in : IsOpenIn k t) (st : TxnStands k [] None t x) (client : x.cause ≡ whys.Client) (answer : Answer) (keeps : IsKept answer) where
   abbrev told_reads : List Read
   told_reads = reads_told answer (replies_to k.sent_now k.heard_now) t.reads
 
@@ -102,7 +102,7 @@ module _ (k : Known) (t : Txn) (x : OpenTxn) (open_in : IsOpenIn k t) (st : TxnS
   stays_open spans good = record {
     t = t4;
     open_in = open4;
-    stands = stands_told k k4 t x told_reads spans t.committed st gone4 good;
+    stands = stands_told k k4 [] None t x told_reads spans t.committed st gone4 good;
     cause = client;
     low = subst (λ c. All (λ ts. ts ≤ k4.top + 1) (why_stamps c)) (sym client) (All-nil (λ ts. ts ≤ k4.top + 1));
   }

@@ -1,5 +1,5 @@
 -- A transaction that wrote nothing is committed, or rolled back, without a message.
-use Rattle.std.proofs.Common.{◌≡◌, ℕ, true, List, [], ◌++◌, Option, None, Some, refl, sym, ap, ◌∙◌, subst, arith, All, Any, inl, inr}
+use Rattle.std.proofs.Common.{◌≡◌, ℕ, true, List, [], ◌++◌, Option, None, Some, refl, sym, ap, ◌∙◌, subst, arith, All, inl, inr}
 use Rattle.std.proofs.lemmas.List.Elements.{All-weaker}
 use Rattle.std.proofs.lemmas.Option.{same_Some}
 use Rattle.pc_base.specs.declared.limits.TheConstants.{MOST_CONFLICTS, MOST_REFUSALS}
@@ -19,12 +19,10 @@ use Rattle.pc_proto.specs.declared.fate.Fate.{Fate}
 use Rattle.pc_proto.specs.declared.why.Why.{Why}
 use Rattle.pc_txn.specs.declared.txn.OpenTxn.{OpenTxn}
 use Rattle.pc_wave.proofs.Lists.{at_least-fewer}
-use Rattle.pc_world.specs.Counting.{AtLeast}
 use Rattle.pc_follows.specs.FinishingJobs.{committed_fate, committing, left_committed, left_if, settling}
 use Rattle.pc_world.specs.Known.{Known, open_txn}
 use Rattle.pc_world.specs.Known.Reads.{IsGoodAt}
 use Rattle.pc_world.specs.Known.Statements.{Statement}
-use Rattle.pc_world.specs.Known.Traffic.{Heard}
 use Rattle.pc_world.specs.Known.Transactions.{IsGood, Txn}
 use Rattle.pc_world.specs.MayTell.{is_past_range}
 use Rattle.pc_world.specs.Tell.Refusal.{IsConflictOf, WasMoved}
@@ -45,7 +43,7 @@ module _ (splits : List (List ℕ)) (session : ℕ) (k : Known) (x : OpenTxn) (s
   alive_now : (other : Why) → WasAborted k.heard_now f.t.id other → ⊥
   alive_now other was =
       let f2 = any_of ShowsAlive (ShowsAborted f.t.id other) k.heard_now f.heard was in
-      not_aborted other f2.0.reply f2.1.pending f2.2.view f2.2.told f2.2.cause
+      not_aborted other f2.0.reply f2.1.undecided f2.2.view f2.2.told f2.2.cause
 
   good : IsGood k.heard f.t f.t.begin
   good = record {

@@ -22,7 +22,7 @@ use Rattle.pc_world.specs.Tell.Refusal.{WasMoved}
 -- timestamp that is no later than this one, and held, and heartbeats went out where they were due.
 pub record CommitsUpTo (bound refusals : ℕ) (k : Known) (t : Txn) (x : OpenTxn) (s : Statement) : Type 0 where
   pub open_in : IsOpenIn k t
-  pub stands : TxnStands k None t x
+  pub stands : TxnStands k [] None t x
   pub client : x.cause ≡ whys.Client
   pub opened : k.statement ≡ Some s
   pub split : IsSplit k

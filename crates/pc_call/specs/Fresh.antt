@@ -1,11 +1,12 @@
 -- A call of the open transaction begins: nothing was sent or heard in it, or a heartbeat alone.
-use Rattle.std.specs.Prelude.{◌≡◌, ℕ, ◌+◌, ◌≤◌, true, None, Some, List, [], All}
+use Rattle.std.specs.Prelude.{◌≡◌, ◌+◌, ◌≤◌, true, None, Some, [], All, IsTrue}
 use Rattle.pc_call.specs.Serving.{IsOpenIn, IsSplit}
 use Rattle.pc_proto.specs.declared.why.Why.{Why}
 use Rattle.pc_proto.specs.declared.why.Why.TheVariants as whys
+use Rattle.pc_proto.specs.Replies.{is_undecided_status}
 use Rattle.pc_proto.specs.Stamps.{why_stamps}
 use Rattle.pc_txn.specs.declared.txn.OpenTxn.{OpenTxn}
-use Rattle.pc_txn.specs.Standing.{ShowsPending, TxnStands}
+use Rattle.pc_txn.specs.Standing.{TxnStands}
 use Rattle.pc_follows.specs.Heartbeats.{HasBeaten, is_heartbeat}
 use Rattle.pc_world.specs.Known.{Known}
 use Rattle.pc_world.specs.Known.Statements.{Statement}
@@ -13,16 +14,16 @@ use Rattle.pc_world.specs.Known.Traffic.{Heard}
 use Rattle.pc_world.specs.Known.Transactions.{Txn}
 use Rattle.pc_world.specs.Send.Abort.{own_cause}
 
--- The reply is to a heartbeat, and shows a PENDING record.
+-- The reply is to a heartbeat, and shows a record that is not final.
 pub record ShowsAlive (h : Heard) : Type 0 where
   pub beat : is_heartbeat h.request ≡ true
-  pub pending : ShowsPending h.reply
+  pub undecided : IsTrue (is_undecided_status h.reply)
 
 -- The open transaction stands, its call was just asked, and this is why a rollback would abort it.
 pub record IsJustAsked (k : Known) (x : OpenTxn) (s : Statement) (why : Why) : Type 0 where
   pub t : Txn
   pub open_in : IsOpenIn k t
-  pub stands : TxnStands k None t x
+  pub stands : TxnStands k [] None t x
   pub client : x.cause ≡ whys.Client
   pub cause : why ≡ own_cause t.restart
   pub low : All (λ ts. ts ≤ k.top + 1) (why_stamps why)
@@ -34,7 +35,7 @@ pub record IsJustAsked (k : Known) (x : OpenTxn) (s : Statement) (why : Why) : T
 pub record IsFresh (k : Known) (x : OpenTxn) (s : Statement) (why : Why) : Type 0 where
   pub t : Txn
   pub open_in : IsOpenIn k t
-  pub stands : TxnStands k None t x
+  pub stands : TxnStands k [] None t x
   pub client : x.cause ≡ whys.Client
   pub cause : why ≡ own_cause t.restart
   pub low : All (λ ts. ts ≤ k.top + 1) (why_stamps why)

@@ -2,18 +2,18 @@
 use Rattle.std.specs.Prelude.{◌≡◌, ℕ, true, ⊤, Option, None, Some, List, [], ◌∷◌}
 use Rattle.pc_call.specs.declared.purpose.Purpose.{Purpose}
 use Rattle.pc_call.specs.declared.purpose.Purpose.TheVariants as purposes
+use Rattle.pc_flight.specs.declared.write.WriteInFlight.{WriteInFlight}
 use Rattle.pc_proto.specs.declared.reply.Reply.{Reply}
 use Rattle.pc_proto.specs.declared.request.Request.{Request}
 use Rattle.pc_proto.specs.declared.request.Request.TheVariants as requests
 use Rattle.pc_proto.specs.Replies.{is_conflict}
-use Rattle.pc_txn.specs.declared.flight.InFlight.{InFlight}
 use Rattle.pc_txn.specs.declared.txn.OpenTxn.{OpenTxn}
-use Rattle.pc_txn.specs.Opened.{reading_on, with_next_write}
+use Rattle.pc_txn.specs.Opened.{with_commit, with_next_write}
 use Rattle.pc_txn.specs.Silence.{shown_at}
 use Rattle.pc_wave.specs.declared.message.Message.{Message}
 
-abbrev pub laid_with : Option InFlight → Request → OpenTxn → OpenTxn
-laid_with None (requests.Put meta seq ts key value) x = with_next_write key value x
+abbrev pub laid_with : List WriteInFlight → Request → OpenTxn → OpenTxn
+laid_with [] (requests.Put meta seq ts key value) x = with_next_write key value x
 laid_with _ request x = x
 
 abbrev pub laid_first : List Message → OpenTxn → OpenTxn
@@ -27,7 +27,7 @@ after_send (purposes.Beat call reading) messages x = shown_at reading x
 after_send purposes.Read messages x = x
 after_send (purposes.Write again) messages x = laid_first messages x
 after_send (purposes.Refresh refusals) messages x = x
-after_send (purposes.Commit refusals) messages x = reading_on x
+after_send (purposes.Commit refusals) messages x = with_commit x
 after_send (purposes.Abort why) messages x = x
 
 -- The reply leaves the open call going on, and its transaction as it is: any reply to a read or a refresh, and a conflict of a write.

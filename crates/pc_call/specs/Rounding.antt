@@ -7,6 +7,7 @@ use Rattle.pc_proto.specs.declared.reply.Reply.{Reply}
 use Rattle.pc_proto.specs.declared.reply.Reply.TheVariants as replies
 use Rattle.pc_proto.specs.Replies.{holder_in, is_conflict}
 use Rattle.pc_proto.specs.Requests.{is_about}
+use Rattle.pc_txn.specs.Standing.{is_query_of}
 use Rattle.pc_wave.specs.Due.{FollowsConflict}
 use Rattle.pc_wave.specs.Standing.{HasMore, goes_beside}
 use Rattle.pc_world.specs.Known.{Known}
@@ -24,7 +25,7 @@ KeepsPace None before now = ⊤
 KeepsPace (Some id) before now = IsPushedOnce id before now
 
 -- Since then the session has made the round of this conflict, and nothing that it sent or heard besides is of its call, speaks of the record
--- of its open transaction, of this name, or met an intent.
+-- or asks for a write of its open transaction, of this name, or met an intent.
 pub record MakesRound (start k : Known) (own : TxnId) (conflict : Reply) : Type 0 where
   pub sent_more : List Sent
   pub heard_more : List Heard
@@ -32,6 +33,7 @@ pub record MakesRound (start k : Known) (own : TxnId) (conflict : Reply) : Type 
   pub sent_beside : All (λ m. IsTrue (goes_beside m.request)) sent_more
   pub heard_beside : All (λ h. IsTrue (goes_beside h.request)) heard_more
   pub other : All (λ h. is_about own h.request ≡ false) heard_more
+  pub unqueried : All (λ h. is_query_of own h.request ≡ false) heard_more
   pub unmet : All (λ h. is_conflict h.reply ≡ false) heard_more
   pub followed : FollowsConflict conflict heard_more
   pub pace : KeepsPace (holder_in conflict) start.heard_now k.heard_now
@@ -41,7 +43,8 @@ pub record MakesRound (start k : Known) (own : TxnId) (conflict : Reply) : Type 
   pub begun : start.begun ≤ k.begun
   pub high : start.high ≤ k.high
 
--- Since then the session sent and heard only what is of no call, and speaks of no record of its open transaction, of this name.
+-- Since then the session sent and heard only what is of no call, and neither speaks of the record of its open transaction, of this name, nor
+-- asks for a write of it.
 pub record GoesOnBeside (start k : Known) (own : TxnId) : Type 0 where
   pub sent_more : List Sent
   pub heard_more : List Heard
@@ -49,6 +52,7 @@ pub record GoesOnBeside (start k : Known) (own : TxnId) : Type 0 where
   pub sent_beside : All (λ m. IsTrue (goes_beside m.request)) sent_more
   pub heard_beside : All (λ h. IsTrue (goes_beside h.request)) heard_more
   pub other : All (λ h. is_about own h.request ≡ false) heard_more
+  pub unqueried : All (λ h. is_query_of own h.request ≡ false) heard_more
   pub statement : k.statement ≡ start.statement
   pub is_open : k.is_open ≡ start.is_open
   pub txns : k.txns ≡ start.txns

@@ -9,7 +9,7 @@ use Rattle.pc_call.specs.declared.purpose.Purpose.{Purpose}
 use Rattle.pc_call.specs.declared.purpose.Purpose.TheVariants as purposes
 use Rattle.pc_call.specs.Paced.{IsPaced}
 use Rattle.pc_call.specs.Suiting.{SuitsFlight}
-use Rattle.pc_follows.specs.Heartbeats.{HasBeaten, IsBeatDue, is_heartbeat}
+use Rattle.pc_follows.specs.Heartbeats.{HasBeaten, IsBeatDue}
 use Rattle.pc_proto.specs.declared.call.Call.{Call}
 use Rattle.pc_proto.specs.declared.call.Call.TheVariants as calls
 use Rattle.pc_proto.specs.declared.request.Request.{Request}
@@ -23,7 +23,8 @@ use Rattle.pc_reads.specs.ReadsStanding.{refresh_to}
 use Rattle.pc_reads.specs.Replies.{unrefreshed_by, unrefreshed_in}
 use Rattle.pc_refusals.specs.Moves.{CountsMoves}
 use Rattle.pc_txn.specs.declared.txn.OpenTxn.{OpenTxn}
-use Rattle.pc_txn.specs.Opened.{last_put, next_put, own_abort, own_commit, own_get, own_scan}
+use Rattle.pc_flight.specs.declared.write.WriteInFlight.{WriteInFlight}
+use Rattle.pc_txn.specs.Opened.{next_put, own_abort, own_commit, own_get, own_put, own_scan}
 use Rattle.pc_txn.specs.Silence.{own_beat}
 use Rattle.pc_txn.specs.Standing.{TxnStands}
 use Rattle.pc_wave.specs.declared.message.Message.{Message}
@@ -57,7 +58,7 @@ IsReadFor asked h = (read_heard h.request h.reply ≡ []) ⊎ Any (λ r. r ≡ h
 -- A call that reads.
 pub record ServesRead (splits : List (List ℕ)) (k : Known) (s : Statement) (x : OpenTxn) (messages : List Message) : Type 0 where
   pub asked : AreReadsOf splits x s.call (map (λ m. m.request) messages)
-  pub none_in_flight : x.in_flight ≡ None
+  pub none_in_flight : x.in_flight ≡ []
   pub heard : All (IsReadFor (map (λ m. m.request) messages)) k.heard_now
 
 -- The call that asks for this write; no value is a deletion.
@@ -71,7 +72,7 @@ WroteNothingNew k s t = All (λ m. IsFirstPut k s t m → ⊥) k.sent_now
 
 -- The call's own write is to be sent.
 pub record LaysNext (k : Known) (s : Statement) (t : Txn) (x : OpenTxn) (key : List ℕ) (value : Option (List ℕ)) (again : Bool) (m : Message) : Type 0 where
-  pub none_in_flight : x.in_flight ≡ None
+  pub none_in_flight : x.in_flight ≡ []
   pub said : m.request ≡ next_put x key value
   pub own : again ≡ false
   pub to_send : m.progress ≡ progresses.ToSend
@@ -79,13 +80,16 @@ pub record LaysNext (k : Known) (s : Statement) (t : Txn) (x : OpenTxn) (key : L
 
 -- The write is in flight: it is the call's own, or one of an earlier call.
 pub record LaysLast (k : Known) (s : Statement) (t : Txn) (x : OpenTxn) (key : List ℕ) (value : Option (List ℕ)) (again : Bool) (m : Message) : Type 0 where
-  pub in_flight : x.in_flight ≡ Some (record { key = key; value = value })
+  pub w : WriteInFlight
+  pub in_flight : x.in_flight ≡ w ∷ []
+  pub place : w.key ≡ key
+  pub what : w.value ≡ value
   pub anchor : List ℕ
   pub anchored : t.anchor ≡ Some anchor
-  pub said : m.request ≡ last_put x anchor key value
-  pub first : again ≡ false → list_any (λ other. is_put_of t.id t.epoch x.seq other.request) (sent_before k) ≡ false
+  pub said : m.request ≡ own_put x anchor w
+  pub first : again ≡ false → list_any (λ other. is_put_of t.id t.epoch w.seq other.request) (sent_before k) ≡ false
   pub old : again ≡ true → WroteNothingNew k s t
-  pub before : again ≡ true → list_any (λ other. is_put_of t.id t.epoch x.seq other.request) (sent_before k) ≡ true
+  pub before : again ≡ true → list_any (λ other. is_put_of t.id t.epoch w.seq other.request) (sent_before k) ≡ true
 
 -- A call that writes.
 pub record ServesWrite (again : Bool) (k : Known) (s : Statement) (t : Txn) (x : OpenTxn) (messages : List Message) : Type 0 where
@@ -153,7 +157,7 @@ pub record IsCommitCall (refusals : ℕ) (k : Known) (s : Statement) (t : Txn) (
   pub call : s.call ≡ calls.Commit
   pub anchor : List ℕ
   pub anchored : t.anchor ≡ Some anchor
-  pub none_in_flight : x.in_flight ≡ None
+  pub none_in_flight : x.in_flight ≡ []
   pub few : refusals < MOST_REFUSALS
   pub moves : CountsMoves k refusals
   pub unmet : All (λ h. is_conflict h.reply ≡ false) k.heard_now
@@ -271,7 +275,7 @@ HasBeatenBy _ k t = HasBeaten k t
 pub record InCall (splits : List (List ℕ)) (k : Known) (x : OpenTxn) (purpose : Purpose) (messages : List Message) : Type 0 where
   pub t : Txn
   pub open_in : IsOpenIn k t
-  pub stands : TxnStands k (out_of purpose messages) t x
+  pub stands : TxnStands k [] (out_of purpose messages) t x
   pub cause : x.cause ≡ whys.Client
   pub s : Statement
   pub opened : k.statement ≡ Some s

@@ -43,7 +43,7 @@ pub record MayBeTold (splits : List (List ℕ)) (session : ℕ) (k : Known) (ans
 pub record StandsOpen (k : Known) (x : OpenTxn) : Type 0 where
   pub t : Txn
   pub open_in : IsOpenIn k t
-  pub stands : TxnStands k None t x
+  pub stands : TxnStands k [] None t x
   pub cause : x.cause ≡ own_cause t.restart
   pub low : All (λ ts. ts ≤ k.top + 1) (why_stamps x.cause)
 

@@ -13,8 +13,7 @@ ghost use Rattle.pc_proto.specs.declared.reply.Reply.TheVariants as replies;
 ghost use Rattle.pc_proto.specs.declared.view.View.TheVariants as views;
 ghost use Rattle.pc_proto.specs.declared.why.Why.{Why};
 ghost use Rattle.pc_txn.specs.Counted.{IsCounted};
-ghost use Rattle.pc_txn.specs.Opened.{risen_above};
-ghost use Rattle.pc_txn.specs.Silence.{is_silent, own_beat};
+ghost use Rattle.pc_txn.specs.Silence.{is_silent, own_beat, raised_at};
 ghost use Rattle.pc_wave.specs.Messages.{is_to_send, message_to_send, wave_awaits};
 ghost use Rattle.pc_wave.specs.Standing.{IsHeardTo};
 ghost use Rattle.pc_world.specs.Known.{Known};
@@ -50,13 +49,14 @@ impl OpenCall {
         })
     }
 
-    /// Its heartbeat was heard: the record of its transaction is not final, and stands at this timestamp. The call that goes on.
-    pub fn alive(self, txn: &mut OpenTxn, recorded: Timestamp) -> Option<Call>
-        ensures risen { txn.new ≡ risen_above recorded txn.old }
+    /// Its heartbeat was heard, by a reply that was evaluated at this step: the record of its transaction is not final, and stands at this
+    /// timestamp. The call that goes on.
+    pub fn alive(self, txn: &mut OpenTxn, recorded: Timestamp, step: u64) -> Option<Call>
+        ensures risen { txn.new ≡ raised_at recorded step txn.old }
         ensures kept { result ≡ call_kept self.purpose }
-        ensures goes_on { (session clock begun number epoch reading : ℕ) (splits : List (List ℕ)) (k : Known) (call : Call) (h : Heard) → IsCounted session clock begun k → InCall splits k txn.old self.purpose self.wave → self.purpose ≡ purposes.Beat call reading → wave_awaits number self.wave ≡ true → IsHeardTo k number (replies.Status (views.Pending epoch recorded)) h → GoesOnAlive (known_heard h k) txn.new (record { call = call; reading = reading }) }
+        ensures goes_on { (session clock begun number epoch reading : ℕ) (splits : List (List ℕ)) (k : Known) (call : Call) (h : Heard) → IsCounted session clock begun k → InCall splits k txn.old self.purpose self.wave → self.purpose ≡ purposes.Beat call reading → wave_awaits number self.wave ≡ true → IsHeardTo k number (replies.Status (views.Pending epoch recorded)) h → h.step ≡ step → GoesOnAlive (known_heard h k) txn.new (record { call = call; reading = reading }) }
     {
-        txn.raise(recorded);
+        txn.raise(recorded, step);
         let OpenCall { purpose, .. } = self;
         match purpose {
             Purpose::Beat { call, .. } => Some(call),

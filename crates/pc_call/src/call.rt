@@ -1,7 +1,6 @@
 ghost use Rattle.std.specs.Prelude.{◌≡◌, ℕ, ◌==◌, ◌||◌, ◌&&◌, not, Bool, true, false, List, [], ◌∷◌, All, None, Some, IfOk, IfSome, OnOk};
-ghost use Rattle.std.specs.Option.{option_map};
 ghost use Rattle.pc_call.specs.declared.purpose.Purpose.TheVariants as purposes;
-ghost use Rattle.pc_call.specs.Ended.{HasLanded, is_again, laying};
+ghost use Rattle.pc_call.specs.Ended.{HasLanded, is_again, landed_first, landed_with, laying_as, laying_first};
 ghost use Rattle.pc_call.specs.Giving.{MayBeGiven};
 ghost use Rattle.pc_call.specs.Learned.{known_heard, known_sent};
 ghost use Rattle.pc_call.specs.Opening.{GoesOn, after_send, laid_first, laid_with, reader_of};
@@ -11,7 +10,6 @@ ghost use Rattle.pc_proto.specs.declared.reply.Reply.{Reply};
 ghost use Rattle.pc_proto.specs.declared.reply.Reply.TheVariants as replies;
 ghost use Rattle.pc_proto.specs.declared.request.Request.{Request};
 ghost use Rattle.pc_txn.specs.Counted.{IsCounted};
-ghost use Rattle.pc_txn.specs.Opened.{landed_at};
 ghost use Rattle.pc_txn.specs.declared.txn.OpenTxn.{OpenTxn};
 ghost use Rattle.pc_wave.specs.Standing.{IsHeardTo};
 ghost use Rattle.pc_wave.specs.declared.step.Step.TheVariants as steps;
@@ -23,7 +21,7 @@ ghost use Rattle.pc_world.specs.Known.Traffic.{Heard};
 use crate::purpose::Purpose;
 use pc_base::{NoMemory, Timestamp};
 use pc_proto::{Reply, Request};
-use pc_txn::{InFlight, OpenTxn};
+use pc_txn::OpenTxn;
 use pc_wave::{Message, Step, Wave};
 use std::alloc::Global;
 
@@ -81,22 +79,23 @@ impl OpenCall {
         self.wave.heard(number, reply);
     }
 
-    /// Its write was heard to be written at this timestamp: its call is told so; or, where the write was of an earlier call, it goes on with the call's
-    /// own.
+    /// Its write was heard to be written at this timestamp, by a reply that was evaluated at this step: its call is told so; or, where the write was
+    /// of an earlier call, it goes on with the call's own.
     pub fn written(
         self,
         alloc: Global,
         txn: &mut OpenTxn,
         ts: Timestamp,
+        step: u64,
     ) -> Result<Option<OpenCall>, NoMemory>
-        ensures stands { (session clock begun number : ℕ) (splits : List (List ℕ)) (k : Known) (again : Bool) (h : Heard) → IsCounted session clock begun k → InCall splits k txn.old self.purpose self.wave → self.purpose ≡ purposes.Write again → wave_awaits number self.wave ≡ true → IsHeardTo k number (replies.Written ts) h → IfOk result (HasLanded splits session (known_heard h k) txn.new) }
-        ensures landed { OnOk result (txn.new ≡ landed_at ts txn.old) }
+        ensures stands { (session clock begun number : ℕ) (splits : List (List ℕ)) (k : Known) (again : Bool) (h : Heard) → IsCounted session clock begun k → InCall splits k txn.old self.purpose self.wave → self.purpose ≡ purposes.Write again → wave_awaits number self.wave ≡ true → IsHeardTo k number (replies.Written ts) h → h.step ≡ step → IfOk result (HasLanded splits session (known_heard h k) txn.new) }
+        ensures landed { OnOk result (txn.new ≡ landed_first self.wave ts step txn.old) }
         ensures goes_on { IfOk result (λ next. IfSome next (λ call. (request : Request) × (call.wave ≡ message_to_send request ∷ []))) }
     {
-        let write = txn.in_flight.take();
-        txn.land(ts);
+        let messages = self.wave.messages();
+        land_first(messages, txn, ts, step);
         if self.is_again() {
-            return own_write(alloc, txn, &write);
+            return own_write(alloc, txn, messages);
         }
         Ok(None)
     }
@@ -129,7 +128,7 @@ impl OpenCall {
             }
             Purpose::Write { .. } => lay_first(self.wave.messages(), txn),
             Purpose::Commit { .. } => {
-                txn.read_on();
+                txn.committing();
                 Ok(())
             }
             Purpose::Read | Purpose::Refresh { .. } | Purpose::Abort { .. } => Ok(()),
@@ -141,7 +140,7 @@ impl OpenCall {
 fn lay_first(messages: &[Message], txn: &mut OpenTxn) -> Result<(), NoMemory>
     ensures { OnOk result (txn.new ≡ laid_first messages.now txn.old) }
 {
-    if txn.in_flight.is_some() {
+    if !txn.in_flight.is_empty() {
         return Ok(());
     }
     match messages {
@@ -151,8 +150,8 @@ fn lay_first(messages: &[Message], txn: &mut OpenTxn) -> Result<(), NoMemory>
 }
 
 fn lay(request: &Request, txn: &mut OpenTxn) -> Result<(), NoMemory>
-    requires { txn.old.in_flight ≡ None }
-    ensures { OnOk result (txn.new ≡ laid_with None request.now txn.old) }
+    requires { txn.old.in_flight ≡ [] }
+    ensures { OnOk result (txn.new ≡ laid_with [] request.now txn.old) }
 {
     match request {
         Request::Put { key, value, .. } => txn.lay(key, value),
@@ -160,19 +159,51 @@ fn lay(request: &Request, txn: &mut OpenTxn) -> Result<(), NoMemory>
     }
 }
 
-/// The transaction, of which no write is in flight, makes this write, if there is one.
+/// The first of the messages is a write that was written at this timestamp.
+fn land_first(messages: &[Message], txn: &mut OpenTxn, ts: Timestamp, step: u64)
+    ensures { txn.new ≡ landed_first messages.now ts step txn.old }
+{
+    match messages {
+        [] => (),
+        [message, ..] => land(&message.request, txn, ts, step),
+    }
+}
+
+fn land(request: &Request, txn: &mut OpenTxn, ts: Timestamp, step: u64)
+    ensures { txn.new ≡ landed_with request.now ts step txn.old }
+{
+    match request {
+        Request::Put { key, seq, .. } => txn.land(key, *seq, ts, step),
+        _ => (),
+    }
+}
+
+/// The transaction, of which no write is in flight, makes the write that the first of the messages asks for.
 fn own_write(
     alloc: Global,
     txn: &OpenTxn,
-    write: &Option<InFlight>,
+    messages: &[Message],
 ) -> Result<Option<OpenCall>, NoMemory>
-    ensures { IfOk result (λ next. next ≡ option_map (λ write. laying txn.now write.key write.value) write.now) }
+    ensures { IfOk result (λ next. next ≡ laying_first messages.now txn.now) }
 {
-    match write {
-        None => Ok(None),
-        Some(write) => {
-            let call = OpenCall::write(alloc, txn, &write.key, &write.value)?;
+    match messages {
+        [] => Ok(None),
+        [message, ..] => own_write_of(alloc, txn, &message.request),
+    }
+}
+
+fn own_write_of(
+    alloc: Global,
+    txn: &OpenTxn,
+    request: &Request,
+) -> Result<Option<OpenCall>, NoMemory>
+    ensures { IfOk result (λ next. next ≡ laying_as request.now txn.now) }
+{
+    match request {
+        Request::Put { key, value, .. } => {
+            let call = OpenCall::write(alloc, txn, key, value)?;
             Ok(Some(call))
         }
+        _ => Ok(None),
     }
 }

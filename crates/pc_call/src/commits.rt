@@ -14,7 +14,7 @@ ghost use Rattle.pc_proto.specs.declared.view.View.TheVariants as views;
 ghost use Rattle.pc_proto.specs.declared.why.Why.{Why};
 ghost use Rattle.pc_refusals.specs.Moves.{CountsMoves, ShowsRecord};
 ghost use Rattle.pc_txn.specs.Counted.{IsCounted};
-ghost use Rattle.pc_txn.specs.Opened.{risen_above};
+ghost use Rattle.pc_txn.specs.Opened.{refused_at};
 ghost use Rattle.pc_wave.specs.Messages.{is_to_send, wave_awaits};
 ghost use Rattle.pc_wave.specs.Standing.{HasMore, IsHeardTo};
 ghost use Rattle.pc_world.specs.Known.{Known};
@@ -36,7 +36,7 @@ impl OpenCall {
     pub fn commits(alloc: Global, txn: &OpenTxn, refusals: Refusals) -> Result<OpenCall, NoMemory>
         ensures unsent { IfOk result (λ call. All (λ m. is_to_send m ≡ true) call.wave) }
         ensures goes_on { (splits : List (List ℕ)) (k : Known) → CommitsOn refusals k txn.now → IfOk result (λ call. InCall splits k txn.now call.purpose call.wave) }
-        ensures begins { (splits : List (List ℕ)) (k : Known) (s : Statement) (why : Why) (anchor : List ℕ) → IsFresh k txn.now s why → s.call ≡ calls.Commit → refusals ≡ 0 → txn.now.anchor ≡ Some anchor → txn.now.in_flight ≡ None → IfOk result (λ call. InCall splits k txn.now call.purpose call.wave) }
+        ensures begins { (splits : List (List ℕ)) (k : Known) (s : Statement) (why : Why) (anchor : List ℕ) → IsFresh k txn.now s why → s.call ≡ calls.Commit → refusals ≡ 0 → txn.now.anchor ≡ Some anchor → txn.now.in_flight ≡ [] → IfOk result (λ call. InCall splits k txn.now call.purpose call.wave) }
     {
         if txn.reads.is_to_refresh(txn.write_ts) {
             return OpenCall::refresh(alloc, txn, refusals);
@@ -69,14 +69,14 @@ impl OpenCall {
         }
     }
 
-    /// Its commit was heard to be refused: its record is not final, and stands at this timestamp. The refusals so far, with which its commit goes on;
-    /// or none, where its commit was moved as often as it may be, and its call is told so.
-    pub fn refused(self, txn: &mut OpenTxn, recorded: Timestamp) -> Option<Refusals>
-        ensures risen { txn.new ≡ risen_above recorded txn.old }
-        ensures refused { (session clock begun number epoch n : ℕ) (splits : List (List ℕ)) (k : Known) (h : Heard) → IsCounted session clock begun k → InCall splits k txn.old self.purpose self.wave → self.purpose ≡ purposes.Commit n → wave_awaits number self.wave ≡ true → IsHeardTo k number (replies.Status (views.Pending epoch recorded)) h → IsRefusalOf splits session (known_heard h k) recorded txn.new result }
+    /// Its commit was heard to be refused: its record is not final, and stands at this timestamp, by a reply that was evaluated at this step. The
+    /// refusals so far, with which its commit goes on; or none, where its commit was moved as often as it may be, and its call is told so.
+    pub fn refused(self, txn: &mut OpenTxn, recorded: Timestamp, step: u64) -> Option<Refusals>
+        ensures risen { txn.new ≡ refused_at recorded step txn.old }
+        ensures refused { (session clock begun number epoch n : ℕ) (splits : List (List ℕ)) (k : Known) (h : Heard) → IsCounted session clock begun k → InCall splits k txn.old self.purpose self.wave → self.purpose ≡ purposes.Commit n → wave_awaits number self.wave ≡ true → IsHeardTo k number (replies.Status (views.Pending epoch recorded)) h → h.step ≡ step → IsRefusalOf splits session (known_heard h k) recorded txn.new result }
     {
         let ts = txn.write_ts;
-        txn.raise(recorded);
+        txn.refused(recorded, step);
         match &self.purpose {
             Purpose::Commit { refusals } => with_refusal(refusals.copied(), ts, recorded),
             _ => None,

@@ -6,7 +6,6 @@ ghost use Rattle.pc_call.specs.Fresh.{IsFresh};
 ghost use Rattle.pc_call.specs.Serving.{InCall, write_call};
 ghost use Rattle.pc_proto.specs.declared.call.Call.TheVariants as calls;
 ghost use Rattle.pc_proto.specs.declared.why.Why.{Why};
-ghost use Rattle.pc_txn.specs.declared.flight.InFlight.{InFlight};
 ghost use Rattle.pc_txn.specs.Opened.{own_commit};
 ghost use Rattle.pc_wave.specs.Messages.{is_to_send, message_to_send};
 ghost use Rattle.pc_world.specs.Known.{Known};
@@ -16,6 +15,7 @@ use crate::call::OpenCall;
 use crate::pieces::scan_wave;
 use crate::purpose::Purpose;
 use pc_base::{Key, NoMemory, Span, Value};
+use pc_flight::WriteInFlight;
 use pc_proto::{Keys, Request, Why};
 use pc_refusals::Refusals;
 use pc_txn::OpenTxn;
@@ -26,7 +26,7 @@ impl OpenCall {
     /// The open transaction reads a key.
     pub fn get(alloc: Global, txn: &OpenTxn, key: &Key) -> Result<OpenCall, NoMemory>
         ensures unsent { IfOk result (λ call. All (λ m. is_to_send m ≡ true) call.wave) }
-        ensures stands { (splits : List (List ℕ)) (k : Known) (s : Statement) (why : Why) → IsFresh k txn.now s why → s.call ≡ calls.Get key.now → txn.now.in_flight ≡ None → IfOk result (λ call. InCall splits k txn.now call.purpose call.wave) }
+        ensures stands { (splits : List (List ℕ)) (k : Known) (s : Statement) (why : Why) → IsFresh k txn.now s why → s.call ≡ calls.Get key.now → txn.now.in_flight ≡ [] → IfOk result (λ call. InCall splits k txn.now call.purpose call.wave) }
     {
         let wave = wave_of(alloc, txn.get(key)?)?;
         Ok(OpenCall {
@@ -43,7 +43,7 @@ impl OpenCall {
         span: &Span,
     ) -> Result<OpenCall, NoMemory>
         ensures unsent { IfOk result (λ call. All (λ m. is_to_send m ≡ true) call.wave) }
-        ensures stands { (k : Known) (s : Statement) (why : Why) → AreRising splits.now → IsFresh k txn.now s why → s.call ≡ calls.Scan span.now → txn.now.in_flight ≡ None → IfOk result (λ call. InCall splits.now k txn.now call.purpose call.wave) }
+        ensures stands { (k : Known) (s : Statement) (why : Why) → AreRising splits.now → IsFresh k txn.now s why → s.call ≡ calls.Scan span.now → txn.now.in_flight ≡ [] → IfOk result (λ call. InCall splits.now k txn.now call.purpose call.wave) }
     {
         let wave = scan_wave(alloc, splits, txn, span)?;
         Ok(OpenCall {
@@ -60,7 +60,7 @@ impl OpenCall {
         value: &Option<Value>,
     ) -> Result<OpenCall, NoMemory>
         ensures made { IfOk result (λ call. call ≡ laying txn.now key.now value.now) }
-        ensures stands { (splits : List (List ℕ)) (k : Known) (s : Statement) (why : Why) → IsFresh k txn.now s why → s.call ≡ write_call key.now value.now → txn.now.in_flight ≡ None → IfOk result (λ call. InCall splits k txn.now call.purpose call.wave) }
+        ensures stands { (splits : List (List ℕ)) (k : Known) (s : Statement) (why : Why) → IsFresh k txn.now s why → s.call ≡ write_call key.now value.now → txn.now.in_flight ≡ [] → IfOk result (λ call. InCall splits k txn.now call.purpose call.wave) }
     {
         let wave = wave_of(alloc, txn.next_put(key, value)?)?;
         Ok(OpenCall {
@@ -74,13 +74,12 @@ impl OpenCall {
         alloc: Global,
         txn: &OpenTxn,
         anchor: &Key,
-        key: &Key,
-        value: &Option<Value>,
+        write: &WriteInFlight,
     ) -> Result<OpenCall, NoMemory>
         ensures unsent { IfOk result (λ call. All (λ m. is_to_send m ≡ true) call.wave) }
-        ensures stands { (splits : List (List ℕ)) (k : Known) (s : Statement) (why : Why) → IsFresh k txn.now s why → s.call ≡ write_call key.now value.now → txn.now.in_flight ≡ Some (record { key = key.now; value = value.now }) → txn.now.anchor ≡ Some anchor.now → IfOk result (λ call. InCall splits k txn.now call.purpose call.wave) }
+        ensures stands { (splits : List (List ℕ)) (k : Known) (s : Statement) (why : Why) → IsFresh k txn.now s why → s.call ≡ write_call write.now.key write.now.value → txn.now.in_flight ≡ write.now ∷ [] → txn.now.anchor ≡ Some anchor.now → IfOk result (λ call. InCall splits k txn.now call.purpose call.wave) }
     {
-        let wave = wave_of(alloc, txn.last_put(anchor, key, value)?)?;
+        let wave = wave_of(alloc, txn.put_again(anchor, write)?)?;
         Ok(OpenCall {
             purpose: Purpose::Write { again: true },
             wave,

@@ -77,7 +77,7 @@ module _ (session : ℕ) (splits : List (List ℕ)) (k : Known) (x : OpenTxn) (p
 
   own_put : (r : Request) → (meta : _) (seq ts : ℕ) (key : List ℕ) (value : Option (List ℕ)) → r ≡ requests.Put meta seq ts key value → meta.id ≡ x.id → IsOwn session k.begun r
   own_put r meta seq ts key value is same =
-      subst (IsOwn session k.begun) (sym is) (record { write = omega (arith, low, ap (λ i. i.number) same); record_of = λ id about whose. absurd cc })
+      subst (IsOwn session k.begun) (sym is) (record { write = omega (arith, low, ap (λ i. i.number) same); record_of = λ id about whose. absurd cc; query_of = tt })
 
   own_one : (m : Message) → ms ≡ m ∷ [] → IsOwn session k.begun m.request → All (λ m. IsOwn session k.begun m.request) ms
   own_one m one own =
@@ -89,10 +89,10 @@ module _ (session : ℕ) (splits : List (List ℕ)) (k : Known) (x : OpenTxn) (p
   every P all (x ∷ xs) = All-cons P x xs (all x) (every P all xs)
 
   own_get_is : (key : List ℕ) → IsOwn session k.begun (own_get x key)
-  own_get_is key = record { write = tt; record_of = λ id about whose. absurd cc }
+  own_get_is key = record { write = tt; record_of = λ id about whose. absurd cc; query_of = tt }
 
   own_scan_is : (span : Span) → IsOwn session k.begun (own_scan x span)
-  own_scan_is span = record { write = tt; record_of = λ id about whose. absurd cc }
+  own_scan_is span = record { write = tt; record_of = λ id about whose. absurd cc; query_of = tt }
 
   own_reads : (call : Call) (rs : List Request) → AreReadsOf splits x call rs → All (IsOwn session k.begun) rs
   own_reads (calls.Get key) rs e = subst (λ rs. All (IsOwn session k.begun) rs) (sym e) (All-cons (IsOwn session k.begun) (own_get x key) [] (own_get_is key) (All-nil (IsOwn session k.begun)))
@@ -103,25 +103,25 @@ module _ (session : ℕ) (splits : List (List ℕ)) (k : Known) (x : OpenTxn) (p
 
   own_writes : (key : List ℕ) (value : Option (List ℕ)) (again : Bool) (m : Message) → LaysNext k w.s w.t x key value again m ⊎ LaysLast k w.s w.t x key value again m → IsOwn session k.begun m.request
   own_writes key value again m (inl l) = own_put m.request _ (x.seq + 1) x.write_ts key value l.said refl
-  own_writes key value again m (inr l) = own_put m.request _ x.seq x.write_ts key value l.said refl
+  own_writes key value again m (inr l) = own_put m.request _ l.w.seq x.write_ts l.w.key l.w.value l.said refl
 
   all_own : (p : Purpose) → Serves splits k w.s w.t x p ms → All (λ m. IsOwn session k.begun m.request) ms
   all_own (purposes.Beat call reading) s =
       own_one s.m s.one (subst (IsOwn session k.begun) (sym s.said)
-      (record { write = tt; record_of = λ id about whose. let e : x.id ≡ id = same_Some x.id id about in omega (arith, low, ap (λ i. i.number) e) }))
+      (record { write = tt; record_of = λ id about whose. let e : x.id ≡ id = same_Some x.id id about in omega (arith, low, ap (λ i. i.number) e); query_of = tt }))
   all_own purposes.Read s = all_unmapped (IsOwn session k.begun) (λ m. m.request) ms (own_reads w.s.call _ s.asked)
   all_own (purposes.Write again) s = own_one s.m s.one (own_writes s.key s.value again s.m s.lays)
   all_own (purposes.Refresh n) s =
       all_unmapped (IsOwn session k.begun) (λ m. m.request) ms
       (subst (λ rs. All (IsOwn session k.begun) rs) (sym s.asked)
       (All-map (IsOwn session k.begun) (refresh_to x.id x.reads.ts x.write_ts) x.reads.spans
-      (every (λ span. IsOwn session k.begun (refresh_to x.id x.reads.ts x.write_ts span)) (λ span. record { write = tt; record_of = λ id about whose. absurd cc }) x.reads.spans)))
+      (every (λ span. IsOwn session k.begun (refresh_to x.id x.reads.ts x.write_ts span)) (λ span. record { write = tt; record_of = λ id about whose. absurd cc; query_of = tt }) x.reads.spans)))
   all_own (purposes.Commit n) s =
       own_one s.m s.one (subst (IsOwn session k.begun) (sym s.said)
-      (record { write = low; record_of = λ id about whose. let e : x.id ≡ id = same_Some x.id id about in omega (arith, low, ap (λ i. i.number) e) }))
+      (record { write = low; record_of = λ id about whose. let e : x.id ≡ id = same_Some x.id id about in omega (arith, low, ap (λ i. i.number) e); query_of = tt }))
   all_own (purposes.Abort why) s =
       own_one s.m s.one (subst (IsOwn session k.begun) (sym s.said)
-      (record { write = tt; record_of = λ id about whose. let e : x.id ≡ id = same_Some x.id id about in omega (arith, low, ap (λ i. i.number) e) }))
+      (record { write = tt; record_of = λ id about whose. let e : x.id ≡ id = same_Some x.id id about in omega (arith, low, ap (λ i. i.number) e); query_of = tt }))
 
   -- what is sent is the session's own
   pub sends_own : (request : Request) → step_of ms ≡ steps.Send request → IsOwn session k.begun request

@@ -1,6 +1,7 @@
 -- What a coordinator's transaction and counts are after its session sent and heard messages beside it.
 use Rattle.std.proofs.Common.{◌≡◌, ℕ, ◌+◌, ◌≤◌, true, false, List, [], ◌∷◌, ◌++◌, length, Option, Some, None, IfSome, refl, sym, ap, ◌∙◌, subst, arith, All, IsTrue, length-append}
 use Rattle.std.proofs.lemmas.List.Elements.{All-append, All-cons, All-head, All-nil, All-tail, All-weaker}
+use Rattle.pc_base.specs.declared.transaction.TxnId.{TxnId}
 use Rattle.pc_call.specs.Telling.{StandsOpen}
 use Rattle.pc_coord.proofs.Counting.{all_heard-more, all_own-more}
 use Rattle.pc_coord.proofs.Ranged.{ranged-beside}
@@ -14,9 +15,9 @@ use Rattle.pc_proto.specs.declared.request.Request.TheVariants as requests
 use Rattle.pc_proto.specs.Requests.{is_about}
 use Rattle.pc_proto.specs.Stamps.{why_stamps}
 use Rattle.pc_txn.proofs.Keeping.{quiet_leaves, stands_on}
-use Rattle.pc_txn.specs.Counted.{IsCounted, IsOfBegun, IsOwn, IsOwnHeard, IsOwnSent, IsOwnWrite}
+use Rattle.pc_txn.specs.Counted.{IsCounted, IsOfBegun, IsOwn, IsOwnHeard, IsOwnSent, IsOwnWrite, IsQueryOfBegun}
 use Rattle.pc_txn.specs.declared.txn.OpenTxn.{OpenTxn}
-use Rattle.pc_txn.specs.Standing.{HasMovedOn, LeavesAsIs, TxnStands, is_plain}
+use Rattle.pc_txn.specs.Standing.{HasMovedOn, LeavesAsIs, TxnStands, is_plain, is_query_of}
 use Rattle.pc_wave.specs.Standing.{HasMore, goes_beside}
 use Rattle.pc_world.specs.Known.{Known}
 use Rattle.pc_world.specs.Known.Traffic.{Heard}
@@ -32,6 +33,16 @@ own_write-beside begun (requests.Put meta seq ts key value) e = absurd cc
 own_write-beside begun (requests.Commit meta ts locks) e = absurd cc
 own_write-beside begun (requests.Stage meta ts now writes locks) e = absurd cc
 own_write-beside begun request e = tt
+
+unqueried : (id : TxnId) (request : Request) → is_of_round_or_job request ≡ true → is_query_of id request ≡ false
+unqueried id (requests.Push holder by level now goal) e = refl
+unqueried id (requests.Resolve other key fate) e = refl
+unqueried id (requests.Remove other anchor) e = refl
+unqueried id request e = absurd cc
+
+query-beside : (session begun : ℕ) (request : Request) → is_of_round_or_job request ≡ true → IsQueryOfBegun session begun request
+query-beside session begun (requests.Query id epoch seq ts key by) e = absurd cc
+query-beside session begun request e = tt
 
 plain-beside : (request : Request) → is_of_round_or_job request ≡ true → is_plain request ≡ true
 plain-beside (requests.Push holder by level now goal) e = refl
@@ -49,6 +60,7 @@ own-beside : (c : Coordination) (begun : ℕ) (request : Request) → c.begun �
 own-beside c begun request e is = record {
   write = own_write-beside begun request is.kind;
   record_of = subst (λ n. IsOfBegun c.session n request) e is.begun;
+  query_of = query-beside c.session begun request is.kind;
 }
 
 module _ (c : Coordination) (start k : Known) (later : IsLaterBeside c start k) where
@@ -93,16 +105,20 @@ module _ (c : Coordination) (start k : Known) (later : IsLaterBeside c start k) 
     pub other-beside : All (λ h. is_about x.id h.request ≡ false) later.heard_more
     other-beside = All-weaker (λ h. IsBeside c h.request) (λ h. is_about x.id h.request ≡ false) (λ h is. is.other x held) later.heard_more later.heard_beside
 
+    -- nor was one of its writes asked for
+    pub unqueried-beside : All (λ h. is_query_of x.id h.request ≡ false) later.heard_more
+    unqueried-beside = All-weaker (λ h. IsBeside c h.request) (λ h. is_query_of x.id h.request ≡ false) (λ h is. unqueried x.id h.request is.kind) later.heard_more later.heard_beside
+
     leaves-beside : (t : Txn) → x.id ≡ t.id → (h : Heard) → IsBeside c h.request → LeavesAsIs t h
     leaves-beside t same h is =
         let no : is_about t.id h.request ≡ false = subst (λ id. is_about id h.request ≡ false) same (is.other x held) in
-        quiet_leaves t h (plain-beside h.request is.kind) (λ about. let e : false ≡ true = sym no ∙ about in absurd cc)
+        quiet_leaves t h (plain-beside h.request is.kind) (unqueried t.id h.request is.kind) no
 
     -- the open transaction stands on
-    pub stands-beside : (out : Option SentCommit) (t : Txn) → TxnStands start out t x → TxnStands k out t x
+    pub stands-beside : (out : Option SentCommit) (t : Txn) → TxnStands start [] out t x → TxnStands k [] out t x
     stands-beside out t st =
         let on : HasMovedOn start k later.sent_more later.heard_more = record { sent = later.sent; heard = later.heard; begun = omega (arith, later.begun); high = later.high } in
-        stands_on start k out t x later.sent_more later.heard_more st on
+        stands_on start k [] out t x later.sent_more later.heard_more st on
         (All-weaker (λ m. IsBeside c m.request) (λ m. IsTrue (is_plain m.request)) (λ m is. plain-beside m.request is.kind) later.sent_more later.sent_beside)
         (All-weaker (λ h. IsBeside c h.request) (LeavesAsIs t) (leaves-beside t (ap (λ x. x.id) st.same)) later.heard_more later.heard_beside)
 

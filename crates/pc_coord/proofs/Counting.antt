@@ -9,7 +9,7 @@ use Rattle.pc_proto.specs.declared.call.Call.{Call}
 use Rattle.pc_proto.specs.declared.request.Request.{Request}
 use Rattle.pc_proto.specs.declared.request.Request.TheVariants as requests
 use Rattle.pc_proto.specs.Stamps.{greatest_of, reply_stamps}
-use Rattle.pc_txn.specs.Counted.{IsCounted, IsOfBegun, IsOwn, IsOwnHeard, IsOwnSent, IsOwnWrite}
+use Rattle.pc_txn.specs.Counted.{IsCounted, IsOfBegun, IsOwn, IsOwnHeard, IsOwnSent, IsOwnWrite, IsQueryOfBegun}
 use Rattle.pc_world.specs.Known.{Known, next_number}
 use Rattle.pc_world.specs.Known.Clock.{high_told}
 use Rattle.pc_world.specs.Known.Statements.{begun_told}
@@ -18,14 +18,22 @@ use Rattle.pc_world.specs.Known.Traffic.{Heard, Sent, request_sent}
 own_write-more : (low high : ℕ) (request : Request) → low ≤ high → IsOwnWrite low request → IsOwnWrite high request
 own_write-more low high (requests.Put meta seq ts key value) h own = omega arith
 own_write-more low high (requests.Commit meta ts locks) h own = omega arith
-own_write-more low high (requests.Stage meta ts now writes locks) h own = absurd own
+own_write-more low high (requests.Stage meta ts now writes locks) h own = omega arith
 own_write-more low high request h own = tt
 
 begun-more : (session low high : ℕ) (request : Request) → low ≤ high → IsOfBegun session low request → IsOfBegun session high request
 begun-more session low high request h begun = λ id about whose. let l : id.number ≤ low = begun id about whose in omega arith
 
+query-more : (session low high : ℕ) (request : Request) → low ≤ high → IsQueryOfBegun session low request → IsQueryOfBegun session high request
+query-more session low high (requests.Query id epoch seq ts key by) h begun = λ whose. let l : id.number ≤ low = begun whose in omega arith
+query-more session low high request h begun = tt
+
 own-more : (session low high : ℕ) (request : Request) → low ≤ high → IsOwn session low request → IsOwn session high request
-own-more session low high request h own = record { write = own_write-more low high request h own.write; record_of = begun-more session low high request h own.record_of }
+own-more session low high request h own = record {
+  write = own_write-more low high request h own.write;
+  record_of = begun-more session low high request h own.record_of;
+  query_of = query-more session low high request h own.query_of;
+}
 
 pub all_own-more : (session low high few many : ℕ) (sent : List Sent) → low ≤ high → few ≤ many → All (IsOwnSent session low few) sent → All (IsOwnSent session high many) sent
 all_own-more session low high few many sent h l a =

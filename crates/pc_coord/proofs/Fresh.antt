@@ -30,28 +30,28 @@ use Rattle.pc_wave.specs.Messages.{has_answer, is_to_send, message_to_send, prog
 use Rattle.pc_wave.specs.Standing.{IsAsFar, IsMessageAt, IsSentUnder, MessageStands}
 use Rattle.pc_coord.proofs.Dues.{answered_all}
 use Rattle.pc_world.specs.Known.{Known}
-use Rattle.pc_world.specs.Known.Statements.{Statement}
 use Rattle.pc_world.specs.Known.Transactions.{Txn}
 use Rattle.pc_world.specs.Local.{is_outside, is_round}
+use Rattle.pc_world.specs.StageFate.{SentCommit, SentStage}
 use Rattle.pc_world.specs.Tell.Refusal.{MayBlock}
-use Rattle.pc_world.specs.StageFate.{SentCommit}
 
-stands_caused : (k : Known) (out : Option SentCommit) (t : Txn) (x : OpenTxn) (why : Why) → TxnStands k out t x → TxnStands k out t (caused why x)
-stands_caused k out t x why st = record {
+stands_caused : (k : Known) (stages : List SentStage) (commit : Option SentCommit) (t : Txn) (x : OpenTxn) (why : Why) → TxnStands k stages commit t x → TxnStands k stages commit t (caused why x)
+stands_caused k stages commit t x why st = record {
   same = ap (caused why) st.same;
   number = st.number;
   begun = st.begun;
   behind = st.behind;
   at_begin = st.at_begin;
   below = st.below;
-  refused = st.refused;
   views = st.views;
+  staged = st.staged;
+  late = st.late;
   shown = st.shown;
   puts = st.puts;
   put_heard = st.put_heard;
-  laid = st.laid;
-  unwritten = st.unwritten;
-  proved = st.proved;
+  writes = st.writes;
+  flight = st.flight;
+  staging = st.staging;
   reads = st.reads;
 }
 
@@ -64,8 +64,8 @@ fresh_asked call reading k x o =
       t = o.t;
       open_in = record { others = o.open_in.others; is_open = o.open_in.is_open; first = o.open_in.first };
       stands =
-          stands_caused k2 None o.t x whys.Client
-          (stands_on k k2 None o.t x [] [] o.stands on (All-nil (λ m. is_plain m.request ≡ true)) (All-nil (LeavesAsIs o.t)));
+          stands_caused k2 [] None o.t x whys.Client
+          (stands_on k k2 [] None o.t x [] [] o.stands on (All-nil (λ m. is_plain m.request ≡ true)) (All-nil (LeavesAsIs o.t)));
       client = refl;
       cause = o.cause;
       low = All-weaker (λ ts. ts ≤ k.top + 1) (λ ts. ts ≤ k2.top + 1) (λ ts low. omega (arith, low)) (why_stamps x.cause) o.low;

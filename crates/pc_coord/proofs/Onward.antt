@@ -3,7 +3,7 @@ use Rattle.std.proofs.Common.{◌≡◌, ℕ, Bool, true, false, cond, not, ◌&
 use Rattle.std.specs.List.{list_all, list_any}
 use Rattle.std.proofs.lemmas.Bool.{eq-eqb, eqb-true}
 use Rattle.pc_base.specs.declared.transaction.TxnId.{TxnId}
-use Rattle.pc_call.proofs.Facts.{none_staged, open_is}
+use Rattle.pc_call.proofs.Facts.{open_is}
 use Rattle.pc_call.proofs.Hearing.{one_asked}
 use Rattle.pc_call.specs.declared.call.OpenCall.{OpenCall}
 use Rattle.pc_call.specs.declared.purpose.Purpose.{Purpose}
@@ -36,7 +36,6 @@ use Rattle.pc_wave.specs.Messages.{awaits_at, back_with, back_with_by, conflicts
 use Rattle.pc_world.specs.Answering.{IsAbortReply, IsCommitReply, IsPutReply, MayAnswer}
 use Rattle.pc_world.specs.Known.{Known}
 use Rattle.pc_world.specs.Known.Traffic.{Heard}
-use Rattle.pc_world.specs.StageFate.{IsDead}
 
 and_false : (a b : Bool) → b ≡ false → (a && b) ≡ false
 and_false true b e = e
@@ -172,9 +171,9 @@ module _ (c : Coordination) (call : OpenCall) (x : OpenTxn) (number : ℕ) (repl
   beat_kind kept reading e =
       let w = is.in_call in
       let s = served_beat c.splits k x call.purpose call.wave w kept reading e in
-      let st : TxnStands k None w.t x = subst (λ o. TxnStands k o w.t x) (ap (λ q. out_of q call.wave) e) w.stands in
+      let st : TxnStands k [] None w.t x = subst (λ o. TxnStands k [] o w.t x) (ap (λ q. out_of q call.wave) e) w.stands in
       let alive : IsAnsweredAlive k (own_beat x reading s.anchor) reply = subst (λ r. IsAnsweredAlive k r reply) (asked_one s.m s.one ∙ s.said) is.alive in
-      alive w.t (open_is k w.t w.open_in) (ap (λ x. x.id) w.stands.same) (is_uncommitted k w.t x st (none_staged w.t.id (IsDead k.heard) c.session is.before c.begun k is.counted))
+      alive w.t (open_is k w.t w.open_in) (ap (λ x. x.id) w.stands.same) (is_uncommitted k w.t x st)
 
   -- that to an abort too
   pub abort_kind : (why : Why) → call.purpose ≡ purposes.Abort why → IsAbortReply reply

@@ -1,15 +1,13 @@
 -- A call is asked where no transaction is open: it begins one, or is told that there is none.
-use Rattle.std.proofs.Common.{◌≡◌, ℕ, ◌+◌, ◌*◌, ◌/◌, ◌^◌, ◌<◌, ◌≤◌, nat_lt, Bool, true, false, not, cond, ◌&&◌, length, List, [], ◌∷◌, Option, Some, None, refl, sym, ap, ◌∙◌, subst, arith}
+use Rattle.std.proofs.Common.{◌≡◌, ℕ, ◌+◌, ◌*◌, ◌/◌, ◌^◌, ◌<◌, ◌≤◌, nat_lt, Bool, true, false, not, cond, ◌&&◌, length, List, [], ◌∷◌, Some, None, refl, sym, ap, ◌∙◌, subst, arith}
 use Rattle.std.specs.Bool.{MatchBool}
-use Rattle.std.specs.Option.{option_map_or}
-use Rattle.std.proofs.lemmas.Bool.{and_parts, le-ltb, lt-ltb, ltb-false, ltb-true}
-use Rattle.std.proofs.lemmas.List.Elements.{All-nil, All-weaker}
+use Rattle.std.proofs.lemmas.Bool.{le-ltb, lt-ltb, ltb-false, ltb-true}
+use Rattle.std.proofs.lemmas.List.Elements.{All-nil}
 use Rattle.pc_base.specs.Clock.{clock_now}
 use Rattle.pc_base.specs.declared.actor.ActorId.TheVariants as actors
 use Rattle.pc_base.specs.declared.limits.TheConstants.{GREATEST_READING, MOST_CONFLICTS, MOST_REFUSALS}
 use Rattle.pc_base.specs.declared.transaction.Priority.{Priority}
 use Rattle.pc_base.specs.declared.transaction.TxnId.{TxnId}
-use Rattle.pc_base.specs.Transaction.{same_txn}
 use Rattle.pc_call.specs.Learned.{known_asked, known_told}
 use Rattle.pc_call.specs.Telling.{StandsOpen, TellsAfterEighth}
 use Rattle.pc_coord.proofs.Counting.{all_heard-more, all_own-more, counted-asked, counted-told}
@@ -20,22 +18,16 @@ use Rattle.pc_coord.specs.Coordination.{Coordination, beginning, telling, with_c
 use Rattle.pc_coord.specs.Going.{StandsReady}
 use Rattle.pc_coord.specs.Knows.{IsHeld, Knows, Rests, messages_left}
 use Rattle.pc_coord.specs.Suiting.{SuitsNext}
-use Rattle.pc_lists.proofs.Same.{same_txn-is}
 use Rattle.pc_proto.specs.declared.answer.Answer.{Answer}
 use Rattle.pc_proto.specs.declared.answer.Answer.TheVariants as answers
 use Rattle.pc_proto.specs.declared.call.Call.{Call}
 use Rattle.pc_proto.specs.declared.call.Call.TheVariants as calls
 use Rattle.pc_proto.specs.declared.event.Event.TheVariants as events
-use Rattle.pc_proto.specs.declared.request.Request.{Request}
-use Rattle.pc_proto.specs.declared.request.Request.TheVariants as requests
-use Rattle.pc_proto.specs.declared.why.Why.TheVariants as whys
-use Rattle.pc_proto.specs.Requests.{subject}
-use Rattle.pc_reads.proofs.Goods.{none_read}
-use Rattle.pc_txn.proofs.Shown.{shown-new}
-use Rattle.pc_txn.specs.Counted.{IsCounted, IsOwnHeard, IsOwnSent, IsOwnWrite}
+use Rattle.pc_txn.specs.Counted.{IsCounted}
 use Rattle.pc_txn.specs.declared.txn.OpenTxn.{OpenTxn}
-use Rattle.pc_txn.specs.Opened.{opened_as}
-use Rattle.pc_txn.specs.Standing.{IsOutOrRefused, IsPendingOf, PutsUpTo, TxnStands}
+use Rattle.pc_txn.proofs.Restarts.{stands_begun}
+use Rattle.pc_txn.specs.Opened.{just_begun}
+use Rattle.pc_txn.specs.Standing.{TxnStands}
 use Rattle.pc_world.specs.Counting.{AtLeast}
 use Rattle.pc_follows.specs.Eighth.{TellsTheEighth}
 use Rattle.pc_follows.specs.FinishingJobs.{left_by}
@@ -47,9 +39,7 @@ use Rattle.pc_world.specs.Known.{Known, first_if}
 use Rattle.pc_world.specs.Known.Clock.{high_told}
 use Rattle.pc_world.specs.Known.Statements.{Statement, begun_told, is_open_told}
 use Rattle.pc_world.specs.Known.Transactions.{Txn, begun}
-use Rattle.pc_world.specs.Known.Writes.{IsProvedBy}
 use Rattle.pc_world.specs.MayTell.{MayTellIn, needs_txn}
-use Rattle.pc_world.specs.StageFate.{OnCommit, SentCommit}
 use Rattle.pc_world.specs.Tell.Refusal.{IsConflictOf, WasMoved}
 
 pub clock-rises : (reading high : ℕ) → high < clock_now reading high
@@ -101,19 +91,6 @@ simple_clock reading = record { written = λ k. tt; aborts = λ k. tt; rolled_ba
 
 simple_begun : (id : TxnId) (ts : ℕ) → IsSimple (answers.Begun id ts)
 simple_begun id ts = record { written = λ k. tt; aborts = λ k. tt; rolled_back = λ k. tt; restarts = λ k. tt; left = λ k. refl; eighth = λ k none s opened. none_heard k (answers.Begun id ts) none s opened }
-
-new_commit : (id : TxnId) (P : SentCommit → Type 0) (begun : ℕ) (request : Request) → begun < id.number → IsOwnWrite begun request → OnCommit id P request
-new_commit id P begun (requests.Commit meta ts locks) new own = λ same. let e : meta.id.number ≡ id.number = ap (λ i. i.number) (same_txn-is meta.id id same) in absurd (omega arith)
-new_commit id P begun request new own = tt
-
-new_put : (t : Txn) (begun : ℕ) (request : Request) → begun < t.id.number → IsOwnWrite begun request → PutsUpTo t 0 request
-new_put t begun (requests.Put meta at ts key value) new own = λ epoch seq is.
-    let e : meta.id.number ≡ t.id.number = ap (λ i. i.number) (same_txn-is meta.id t.id (and_parts (same_txn meta.id t.id) _ is).0) in absurd (omega arith)
-new_put t begun request new own = λ epoch seq is. absurd cc
-
-about_same : (id : TxnId) (o : Option TxnId) → option_map_or (λ other. same_txn other id) o false ≡ true → o ≡ Some id
-about_same id None e = absurd cc
-about_same id (Some other) e = ap Some (same_txn-is other id e)
 
 module _ (c : Coordination) (k : Known) (r : StandsReady c k) (closed : k.is_open ≡ false) (unheld : c.txn ≡ None) where
   -- a call is told where no transaction is open
@@ -174,7 +151,7 @@ module _ (c : Coordination) (k : Known) (r : StandsReady c k) (closed : k.is_ope
     t = begun id priority reading ts
 
     abbrev x : OpenTxn
-    x = opened_as reading whys.Client [] None t
+    x = just_begun t
 
     abbrev answer : Answer
     answer = answers.Begun id ts
@@ -200,28 +177,8 @@ module _ (c : Coordination) (k : Known) (r : StandsReady c k) (closed : k.is_ope
       heard = all_heard-more c.session k.begun (k.begun + 1) (length k.sent) (length k.sent) k.heard (omega arith) (omega arith) r.counted.heard;
     }
 
-    stands : TxnStands k3 None t x
-    stands = record {
-      same = refl;
-      number = omega (arith, r.counted.begun);
-      begun = omega arith;
-      behind = omega arith;
-      at_begin = λ none. refl;
-      below = omega arith;
-      refused =
-          All-weaker (IsOwnSent c.session k.begun (length k.sent)) (λ m. OnCommit id (IsOutOrRefused None k.heard) m.request)
-          (λ m own. new_commit id (IsOutOrRefused None k.heard) k.begun m.request new own.own.write) k.sent r.counted.sent;
-      views =
-          All-weaker (IsOwnHeard c.session k.begun (length k.sent)) (IsPendingOf t)
-          (λ h own about. let low : id.number ≤ k.begun = own.own.record_of id (about_same id (subject h.request) about) refl in absurd (omega (arith, new))) k.heard r.counted.heard;
-      shown = sym (shown-new c.session (length k.sent) k.begun id refl new reading k.sent r.counted.sent);
-      puts = All-weaker (IsOwnSent c.session k.begun (length k.sent)) (λ m. PutsUpTo t 0 m.request) (λ m own. new_put t k.begun m.request new own.own.write) k.sent r.counted.sent;
-      put_heard = All-weaker (IsOwnHeard c.session k.begun (length k.sent)) (λ h. PutsUpTo t 0 h.request) (λ h own. new_put t k.begun h.request new own.own.write) k.heard r.counted.heard;
-      laid = tt;
-      unwritten = tt;
-      proved = All-nil (IsProvedBy ts);
-      reads = none_read id k.heard ts;
-    }
+    stands : TxnStands k3 [] None t x
+    stands = stands_begun k k3 c.session (length k.sent) id priority reading ts refl (ap (λ n. n + 1) r.counted.begun) r.counted.sent r.counted.heard refl refl (omega (arith, r.counted.begun)) (omega arith)
 
     held : StandsOpen k3 x
     held = record { t = t; open_in = record { others = k.txns; is_open = refl; first = refl }; stands = stands; cause = refl; low = All-nil (λ ts. ts ≤ k3.top + 1) }

@@ -6,7 +6,7 @@ use Rattle.pc_base.specs.declared.transaction.TxnId.{TxnId}
 use Rattle.pc_base.specs.Transaction.{same_txn}
 use Rattle.pc_call.specs.Paced.{shows_resolve, was_met, was_pushed}
 use Rattle.pc_call.specs.Rounding.{IsPushedOnce, MakesRound}
-use Rattle.pc_coord.proofs.Beside.{heard_goes-beside, more-beside, other-beside, sent_goes-beside}
+use Rattle.pc_coord.proofs.Beside.{heard_goes-beside, more-beside, other-beside, sent_goes-beside, unqueried-beside}
 use Rattle.pc_coord.specs.Beside.{IsLaterBeside}
 use Rattle.pc_coord.specs.Coordination.{Coordination}
 use Rattle.pc_coord.specs.Rounds.{IsRefusedRound, IsSettledRound}
@@ -98,6 +98,7 @@ makes_round c start k x holder ts key held later round paced =
       sent_beside = sent_goes-beside c start k later;
       heard_beside = heard_goes-beside c start k later;
       other = other-beside c start k later x held;
+      unqueried = unqueried-beside c start k later x held;
       unmet = subst (λ hs. All (λ h. is_conflict h.reply ≡ false) hs) (sym same) (unmet holder.id key start k round);
       followed = subst (λ hs. WasFollowed holder.id key hs) (sym same) (followed holder.id key start k round);
       pace = pushed_once holder.id key start k round paced;

@@ -11,7 +11,7 @@ use Rattle.pc_call.specs.Serving.{InCall}
 use Rattle.pc_call.specs.Suiting.{SuitsFlight}
 use Rattle.pc_call.specs.Telling.{StandsOpen}
 use Rattle.pc_coord.proofs.Awaited.{awaited_out, sends_own}
-use Rattle.pc_coord.proofs.Beside.{counted-beside, heard_goes-beside, more-beside, other-beside, sent_goes-beside}
+use Rattle.pc_coord.proofs.Beside.{counted-beside, heard_goes-beside, more-beside, other-beside, sent_goes-beside, unqueried-beside}
 use Rattle.pc_coord.proofs.Counting.{counted-heard, counted-sent}
 use Rattle.pc_coord.proofs.Fresh.{all_unsent, unsent_idle}
 use Rattle.pc_coord.proofs.Knowing.{rests}
@@ -237,6 +237,7 @@ module _ (c : Coordination) (start k : Known) (x : OpenTxn) (call : OpenCall) (k
     sent_beside = sent_goes-beside c start k later;
     heard_beside = heard_goes-beside c start k later;
     other = other-beside c start k later x held;
+    unqueried = unqueried-beside c start k later x held;
     statement = later.statement;
     is_open = later.is_open;
     txns = later.txns;

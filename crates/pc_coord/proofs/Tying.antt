@@ -1,5 +1,5 @@
 -- What each step of a coordinator comes to, by what it makes of the coordinator.
-use Rattle.std.proofs.Common.{◌≡◌, ℕ, Bool, true, false, ◌||◌, ◌==◌, List, Option, Some, None, refl, sym, ap, ◌∙◌, subst, OnOk, Result, Ok, Err}
+use Rattle.std.proofs.Common.{◌≡◌, ℕ, ◌<◌, ◌≤◌, Bool, true, false, ◌||◌, ◌==◌, List, [], ◌∷◌, length, slice_index_or, Option, Some, None, refl, sym, ap, ◌∙◌, subst, arith, OnOk, Result, Ok, Err}
 use Rattle.std.specs.Option.{option_map}
 use Rattle.std.proofs.lemmas.Bool.{eq-eqb}
 use Rattle.std.proofs.lemmas.Option.{same_Some}
@@ -9,7 +9,6 @@ use Rattle.pc_base.specs.declared.transaction.TxnId.{TxnId}
 use Rattle.pc_call.specs.declared.call.OpenCall.{OpenCall}
 use Rattle.pc_call.specs.declared.over.Over.{Over}
 use Rattle.pc_call.specs.Finished.{MayTellOver}
-use Rattle.pc_call.specs.Fresh.{IsFresh}
 use Rattle.pc_call.specs.Learned.{known_asked, known_sent}
 use Rattle.pc_call.specs.Rounding.{RefusesRound}
 use Rattle.pc_call.specs.Serving.{InCall, write_call}
@@ -48,16 +47,14 @@ use Rattle.pc_proto.specs.declared.view.View.TheVariants as views
 use Rattle.pc_proto.specs.declared.why.Why.{Why}
 use Rattle.pc_proto.specs.Replies.{holder_in, is_conflict}
 use Rattle.pc_txn.specs.Counted.{IsCounted}
-use Rattle.pc_txn.specs.declared.flight.InFlight.{InFlight}
+use Rattle.pc_flight.specs.declared.write.WriteInFlight.{WriteInFlight}
 use Rattle.pc_txn.specs.declared.txn.OpenTxn.{OpenTxn}
-use Rattle.pc_txn.specs.Standing.{AreProved, IsLaying}
 use Rattle.pc_wave.specs.declared.message.Message.{Message}
 use Rattle.pc_wave.specs.declared.step.Step.{Step}
 use Rattle.pc_wave.specs.declared.step.Step.TheVariants as steps
 use Rattle.pc_wave.specs.Messages.{step_of}
 use Rattle.pc_world.specs.Answering.{IsAbortReply, IsCommitReply, IsPutReply}
 use Rattle.pc_world.specs.Known.{Known, learn, next_number}
-use Rattle.pc_world.specs.Known.Statements.{Statement}
 use Rattle.pc_world.specs.Local.{is_outside, is_round}
 
 -- an answer is due, and the transaction stays open
@@ -299,24 +296,37 @@ pub ready_asked : (c : Coordination) (k : Known) (call : Call) (reading : ℕ) �
 ready_asked c k call reading r = record { rising = r.rising; ranged = ranged_asked c.splits k r.ranged call reading; counted = counted-asked c.session c.clock c.begun k r.counted call reading; handed = r.handed }
 
 -- where the call suits no write in flight, none is
-pub reads_alone : (call is : Call) (flight : Option InFlight) → call ≡ is → SuitsFlight call flight → ((w : InFlight) → SuitsFlight is (Some w) → ⊥) → flight ≡ None
-reads_alone call is None same suits none = refl
-reads_alone call is (Some w) same suits none = absurd (none w (subst (λ c. SuitsFlight c (Some w)) same suits))
+pub reads_alone : (call is : Call) (flight : List WriteInFlight) → call ≡ is → SuitsFlight call flight → ((w : WriteInFlight) (ws : List WriteInFlight) → SuitsFlight is (w ∷ ws) → ⊥) → flight ≡ []
+reads_alone call is [] same suits none = refl
+reads_alone call is (w ∷ ws) same suits none = absurd (none w ws (subst (λ c. SuitsFlight c (w ∷ ws)) same suits))
 
-pub suits_as : (call is : Call) (f g : Option InFlight) → call ≡ is → g ≡ f → SuitsFlight call f → SuitsFlight is g
+pub suits_as : (call is : Call) (f g : List WriteInFlight) → call ≡ is → g ≡ f → SuitsFlight call f → SuitsFlight is g
 suits_as call is f g same flight suits = subst (λ c. SuitsFlight c g) same (subst (SuitsFlight call) (sym flight) suits)
 
-flight_is : (key : List ℕ) (value : Option (List ℕ)) (w : InFlight) → SuitsFlight (write_call key value) (Some w) → w ≡ record { key = key; value = value }
-flight_is key None w suits = suits
-flight_is key (Some value) w suits = suits
+-- The write in flight is the only one, and the one of this key and value.
+record IsOnlyWrite (key : List ℕ) (value : Option (List ℕ)) (w : WriteInFlight) (ws : List WriteInFlight) : Type 0 where
+  pub alone : ws ≡ []
+  pub place : w.key ≡ key
+  pub what : w.value ≡ value
 
--- a write that suits one in flight is the same
-pub flight_same : (key : List ℕ) (value : Option (List ℕ)) (f : Option InFlight) (w : InFlight) → f ≡ Some w → SuitsFlight (write_call key value) f → f ≡ Some (record { key = key; value = value })
-flight_same key value f w is suits = is ∙ ap Some (flight_is key value w (subst (SuitsFlight (write_call key value)) is suits))
+flight_is : (key : List ℕ) (value : Option (List ℕ)) (w : WriteInFlight) (ws : List WriteInFlight) → SuitsFlight (write_call key value) (w ∷ ws) → IsOnlyWrite key value w ws
+flight_is key None w [] suits = record { alone = refl; place = suits.0; what = suits.1 }
+flight_is key None w (v ∷ vs) suits = absurd suits
+flight_is key (Some value) w [] suits = record { alone = refl; place = suits.0; what = suits.1 }
+flight_is key (Some value) w (v ∷ vs) suits = absurd suits
 
--- a write that is in flight has an anchor
-pub flight_anchored : (k : Known) (x : OpenTxn) (s : Statement) (why : Why) (w : InFlight) → IsFresh k x s why → x.in_flight ≡ Some w → x.anchor ≡ None → ⊥
-flight_anchored k x s why w fresh flight none =
-    let laying : IsLaying fresh.t w = subst (AreProved fresh.t) flight fresh.stands.proved in
-    let e : None ≡ Some laying.anchor = sym none ∙ ap (λ x. x.anchor) fresh.stands.same ∙ laying.anchored in
-    absurd cc
+-- a write that suits those in flight is the only one of them
+pub flight_same : (key : List ℕ) (value : Option (List ℕ)) (f : List WriteInFlight) (w : WriteInFlight) (ws : List WriteInFlight) (call : Call) → call ≡ write_call key value → f ≡ w ∷ ws → SuitsFlight (write_call key value) f → (call ≡ write_call w.key w.value) × (f ≡ w ∷ [])
+flight_same key value f w ws call asked is suits =
+    let one = flight_is key value w ws (subst (SuitsFlight (write_call key value)) is suits) in
+    (asked ∙ ap (λ key. write_call key value) (sym one.place) ∙ ap (write_call w.key) (sym one.what), is ∙ ap (λ ws. w ∷ ws) one.alone)
+
+-- a list of which nothing is in flight
+pub none_in_flight : (ws f : List WriteInFlight) → ws ≡ f → length ws < 1 → f ≡ []
+none_in_flight [] f is low = sym is
+none_in_flight (w ∷ ws) f is low = absurd (omega (arith, low))
+
+-- the first write that is in flight
+pub first_in_flight : (ws f : List WriteInFlight) (w : WriteInFlight) → ws ≡ f → 1 ≤ length ws → w ≡ slice_index_or ws 0 w → (later : List WriteInFlight) × (f ≡ w ∷ later)
+first_in_flight [] f w is some at = absurd (omega (arith, some))
+first_in_flight (v ∷ vs) f w is some at = (vs, sym is ∙ ap (λ u. u ∷ vs) (sym at))

@@ -1,5 +1,5 @@
 -- A coordinator as contracts see it, and what it gives next.
-use Rattle.std.specs.Prelude.{ℕ, ◌+◌, Bool, false, Option, None, Some, List, []}
+use Rattle.std.specs.Prelude.{ℕ, ◌+◌, Bool, false, Option, None, Some, List}
 use Rattle.pc_base.specs.declared.transaction.Priority.{Priority}
 use Rattle.pc_base.specs.declared.transaction.TxnId.{TxnId}
 use Rattle.pc_call.specs.declared.call.OpenCall.{OpenCall}
@@ -13,9 +13,8 @@ use Rattle.pc_coord.specs.declared.next.Next.{Next}
 use Rattle.pc_coord.specs.declared.next.Next.TheVariants as nexts
 use Rattle.pc_proto.specs.declared.answer.Answer.{Answer}
 use Rattle.pc_proto.specs.declared.answer.Answer.TheVariants as answers
-use Rattle.pc_proto.specs.declared.why.Why.TheVariants as whys
 use Rattle.pc_txn.specs.declared.txn.OpenTxn.{OpenTxn}
-use Rattle.pc_txn.specs.Opened.{opened_as}
+use Rattle.pc_txn.specs.Opened.{just_begun}
 use Rattle.pc_wave.specs.declared.step.Step.{Step}
 use Rattle.pc_wave.specs.declared.step.Step.TheVariants as steps
 use Rattle.pc_wave.specs.Messages.{step_of, wave_awaits}
@@ -89,7 +88,7 @@ job_left (Some l) = Some (record { meta = l.meta; staged = None; fate = l.fate; 
 abbrev pub beginning : Priority → ℕ → ℕ → Coordination → Coordination
 beginning priority reading ts c =
     let id : TxnId = record { session = c.session; number = c.begun + 1 } in
-    record c { begun = c.begun + 1; txn = Some (opened_as reading whys.Client [] None (begun id priority reading ts)); due = dues.Tell (answers.Begun id ts) }
+    record c { begun = c.begun + 1; txn = Some (just_begun (begun id priority reading ts)); due = dues.Tell (answers.Begun id ts) }
 
 -- The open transaction was taken out.
 abbrev pub without_txn : Coordination → Coordination

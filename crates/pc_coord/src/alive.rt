@@ -28,9 +28,10 @@ impl<'a> Coordinator<'a> {
         &mut self,
         call: OpenCall,
         txn: OpenTxn,
+        step: u64,
         reply: &Reply,
     ) -> Result<(), NoMemory>
-        ensures knows { (k : Known) (h : Heard) (number reading : ℕ) (kept : Call) → HearsNow self.old call txn number reply.now k h → call.purpose ≡ purposes.Beat kept reading → OnOk result (Knows self.new (known_heard h k)) }
+        ensures knows { (k : Known) (h : Heard) (number reading : ℕ) (kept : Call) → HearsNow self.old call txn number reply.now k h → call.purpose ≡ purposes.Beat kept reading → h.step ≡ step → OnOk result (Knows self.new (known_heard h k)) }
         ensures waits { (other reading : ℕ) (kept : Call) → call.purpose ≡ purposes.Beat kept reading → MayBlock kept → OnOk result (awaits_number other self.new.due ≡ false) }
         ensures comes { (messages : List Message) (reading : ℕ) (kept : Call) → call.purpose ≡ purposes.Beat kept reading → MayBlock kept → list_any is_in_conflict messages ≡ false → OnOk result (ComesOf messages self.new.due) }
         ensures session { self.new.session ≡ self.old.session }
@@ -39,7 +40,7 @@ impl<'a> Coordinator<'a> {
         let decision = decision_of(reply)?;
         match decision {
             Decision::Aborted { why } => self.finish(call.found_aborted(txn, why)),
-            Decision::Refused { recorded } => self.go_on_alive(call, txn, recorded),
+            Decision::Refused { recorded } => self.go_on_alive(call, txn, recorded, step),
             Decision::Committed { .. } => {
                 self.told();
                 Ok(())
@@ -57,14 +58,15 @@ impl<'a> Coordinator<'a> {
         call: OpenCall,
         mut txn: OpenTxn,
         recorded: Timestamp,
+        step: u64,
     ) -> Result<(), NoMemory>
-        ensures knows { (k : Known) (h : Heard) (number epoch reading : ℕ) (kept : Call) → HearsNow self.old call txn number (replies.Status (views.Pending epoch recorded)) k h → call.purpose ≡ purposes.Beat kept reading → OnOk result (Knows self.new (known_heard h k)) }
+        ensures knows { (k : Known) (h : Heard) (number epoch reading : ℕ) (kept : Call) → HearsNow self.old call txn number (replies.Status (views.Pending epoch recorded)) k h → call.purpose ≡ purposes.Beat kept reading → h.step ≡ step → OnOk result (Knows self.new (known_heard h k)) }
         ensures waits { (other reading : ℕ) (kept : Call) → call.purpose ≡ purposes.Beat kept reading → MayBlock kept → OnOk result (awaits_number other self.new.due ≡ false) }
         ensures comes { (messages : List Message) (reading : ℕ) (kept : Call) → call.purpose ≡ purposes.Beat kept reading → MayBlock kept → list_any is_in_conflict messages ≡ false → OnOk result (ComesOf messages self.new.due) }
         ensures session { self.new.session ≡ self.old.session }
         ensures splits { self.new.splits ≡ self.old.splits }
     {
-        let kept = call.alive(&mut txn, recorded);
+        let kept = call.alive(&mut txn, recorded, step);
         match kept {
             Some(kept) => self.serve(&kept, txn),
             None => {

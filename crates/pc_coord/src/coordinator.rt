@@ -168,7 +168,7 @@ impl<'a> Coordinator<'a> {
         let taken = self.take_open();
         match taken {
             None => Ok(()),
-            Some(taken) => self.hear(taken.call, taken.txn, number, reply),
+            Some(taken) => self.hear(taken.call, taken.txn, number, step, reply),
         }
     }
 

@@ -159,25 +159,26 @@ impl<'a> Coordinator<'a> {
         Ok(())
     }
 
-    /// This was replied to the message of this number.
+    /// This was replied to the message of this number, by an evaluation at this step.
     pub(crate) fn hear(
         &mut self,
         call: OpenCall,
         txn: OpenTxn,
         number: u64,
+        step: u64,
         reply: &Reply,
     ) -> Result<(), NoMemory>
-        ensures knows { (k : Known) (h : Heard) → HearsNow self.old call txn number reply.now k h → OnOk result (Knows self.new (known_heard h k)) }
+        ensures knows { (k : Known) (h : Heard) → HearsNow self.old call txn number reply.now k h → h.step ≡ step → OnOk result (Knows self.new (known_heard h k)) }
         ensures waits { (k : Known) (other : ℕ) → InCall self.old.splits k txn call.purpose call.wave → wave_awaits number call.wave ≡ true → OnOk result (awaits_number other self.new.due ≡ (wave_awaits other call.wave && not (number == other))) }
         ensures comes { (k : Known) (h : Heard) → HearsNow self.old call txn number reply.now k h → OnOk result (ComesOf (first_changed (awaits_at number) (back_with number reply.now) call.wave) self.new.due) }
         ensures session { self.new.session ≡ self.old.session }
         ensures splits { self.new.splits ≡ self.old.splits }
     {
         match &call.purpose {
-            Purpose::Beat { .. } => self.beat_heard(call, txn, reply),
+            Purpose::Beat { .. } => self.beat_heard(call, txn, step, reply),
             Purpose::Read | Purpose::Refresh { .. } => self.come_back(call, txn, number, reply),
-            Purpose::Write { .. } => self.write_heard(call, txn, number, reply),
-            Purpose::Commit { .. } => self.commit_heard(call, txn, reply),
+            Purpose::Write { .. } => self.write_heard(call, txn, number, step, reply),
+            Purpose::Commit { .. } => self.commit_heard(call, txn, step, reply),
             Purpose::Abort { .. } => self.abort_heard(call, txn, reply),
         }
     }
@@ -207,9 +208,10 @@ impl<'a> Coordinator<'a> {
         call: OpenCall,
         txn: OpenTxn,
         number: u64,
+        step: u64,
         reply: &Reply,
     ) -> Result<(), NoMemory>
-        ensures knows { (k : Known) (h : Heard) (again : Bool) → HearsNow self.old call txn number reply.now k h → call.purpose ≡ purposes.Write again → OnOk result (Knows self.new (known_heard h k)) }
+        ensures knows { (k : Known) (h : Heard) (again : Bool) → HearsNow self.old call txn number reply.now k h → call.purpose ≡ purposes.Write again → h.step ≡ step → OnOk result (Knows self.new (known_heard h k)) }
         ensures waits { (k : Known) (other : ℕ) (again : Bool) → InCall self.old.splits k txn call.purpose call.wave → call.purpose ≡ purposes.Write again → wave_awaits number call.wave ≡ true → OnOk result (awaits_number other self.new.due ≡ (wave_awaits other call.wave && not (number == other))) }
         ensures comes { (k : Known) (h : Heard) (again : Bool) → HearsNow self.old call txn number reply.now k h → call.purpose ≡ purposes.Write again → OnOk result (ComesOf (first_changed (awaits_at number) (back_with number reply.now) call.wave) self.new.due) }
         ensures session { self.new.session ≡ self.old.session }
@@ -217,20 +219,26 @@ impl<'a> Coordinator<'a> {
     {
         let written = written_at(reply);
         match written {
-            Some(ts) => self.written(call, txn, ts),
+            Some(ts) => self.written(call, txn, ts, step),
             None => self.come_back(call, txn, number, reply),
         }
     }
 
     /// A write was written at this timestamp: its call is told so, or goes on by its own write.
-    fn written(&mut self, call: OpenCall, mut txn: OpenTxn, ts: Timestamp) -> Result<(), NoMemory>
-        ensures knows { (k : Known) (h : Heard) (number : ℕ) (again : Bool) → HearsNow self.old call txn number (replies.Written ts) k h → call.purpose ≡ purposes.Write again → OnOk result (Knows self.new (known_heard h k)) }
+    fn written(
+        &mut self,
+        call: OpenCall,
+        mut txn: OpenTxn,
+        ts: Timestamp,
+        step: u64,
+    ) -> Result<(), NoMemory>
+        ensures knows { (k : Known) (h : Heard) (number : ℕ) (again : Bool) → HearsNow self.old call txn number (replies.Written ts) k h → call.purpose ≡ purposes.Write again → h.step ≡ step → OnOk result (Knows self.new (known_heard h k)) }
         ensures waits { (other : ℕ) → OnOk result (awaits_number other self.new.due ≡ false) }
         ensures comes { (messages : List Message) → list_any is_in_conflict messages ≡ false → OnOk result (ComesOf messages self.new.due) }
         ensures session { self.new.session ≡ self.old.session }
         ensures splits { self.new.splits ≡ self.old.splits }
     {
-        let next = call.written(self.alloc, &mut txn, ts)?;
+        let next = call.written(self.alloc, &mut txn, ts, step)?;
         match next {
             Some(call) => self.call(call, txn),
             None => self.tell(Answer::Written, txn),
@@ -239,8 +247,14 @@ impl<'a> Coordinator<'a> {
     }
 
     /// This was replied to a commit: its transaction is over, or its record was moved.
-    fn commit_heard(&mut self, call: OpenCall, txn: OpenTxn, reply: &Reply) -> Result<(), NoMemory>
-        ensures knows { (k : Known) (h : Heard) (number refusals : ℕ) → HearsNow self.old call txn number reply.now k h → call.purpose ≡ purposes.Commit refusals → OnOk result (Knows self.new (known_heard h k)) }
+    fn commit_heard(
+        &mut self,
+        call: OpenCall,
+        txn: OpenTxn,
+        step: u64,
+        reply: &Reply,
+    ) -> Result<(), NoMemory>
+        ensures knows { (k : Known) (h : Heard) (number refusals : ℕ) → HearsNow self.old call txn number reply.now k h → call.purpose ≡ purposes.Commit refusals → h.step ≡ step → OnOk result (Knows self.new (known_heard h k)) }
         ensures waits { (other : ℕ) → OnOk result (awaits_number other self.new.due ≡ false) }
         ensures comes { (messages : List Message) → list_any is_in_conflict messages ≡ false → OnOk result (ComesOf messages self.new.due) }
         ensures session { self.new.session ≡ self.old.session }
@@ -250,7 +264,7 @@ impl<'a> Coordinator<'a> {
         match decision {
             Decision::Committed { epoch, ts } => self.finish(call.committed(txn, epoch, ts)),
             Decision::Aborted { why } => self.finish(call.aborted(txn, why)),
-            Decision::Refused { recorded } => self.refused(call, txn, recorded),
+            Decision::Refused { recorded } => self.refused(call, txn, recorded, step),
             Decision::Nothing => {
                 self.told();
                 Ok(())
@@ -264,14 +278,15 @@ impl<'a> Coordinator<'a> {
         call: OpenCall,
         mut txn: OpenTxn,
         recorded: Timestamp,
+        step: u64,
     ) -> Result<(), NoMemory>
-        ensures knows { (k : Known) (h : Heard) (number epoch refusals : ℕ) → HearsNow self.old call txn number (replies.Status (views.Pending epoch recorded)) k h → call.purpose ≡ purposes.Commit refusals → OnOk result (Knows self.new (known_heard h k)) }
+        ensures knows { (k : Known) (h : Heard) (number epoch refusals : ℕ) → HearsNow self.old call txn number (replies.Status (views.Pending epoch recorded)) k h → call.purpose ≡ purposes.Commit refusals → h.step ≡ step → OnOk result (Knows self.new (known_heard h k)) }
         ensures waits { (other : ℕ) → OnOk result (awaits_number other self.new.due ≡ false) }
         ensures comes { (messages : List Message) → list_any is_in_conflict messages ≡ false → OnOk result (ComesOf messages self.new.due) }
         ensures session { self.new.session ≡ self.old.session }
         ensures splits { self.new.splits ≡ self.old.splits }
     {
-        let refused = call.refused(&mut txn, recorded);
+        let refused = call.refused(&mut txn, recorded, step);
         match refused {
             Some(refusals) => {
                 let call = OpenCall::commits(self.alloc, &txn, refusals)?;

@@ -1,4 +1,4 @@
-ghost use Rattle.std.specs.Prelude.{◌≡◌, ℕ, true, false, All, List, None, Some, IfOk, OnOk};
+ghost use Rattle.std.specs.Prelude.{◌≡◌, ℕ, true, false, All, List, [], ◌∷◌, None, Some, IfOk, OnOk};
 ghost use Rattle.std.specs.List.{list_any};
 ghost use Rattle.pc_call.specs.Fresh.{IsFresh, IsJustAsked};
 ghost use Rattle.pc_call.specs.Serving.{InCall, write_call};
@@ -19,6 +19,7 @@ ghost use Rattle.pc_world.specs.Tell.Refusal.{MayBlock};
 use crate::coordinator::Coordinator;
 use pc_base::{Key, NoMemory, Span, TryCopy, Value};
 use pc_call::OpenCall;
+use pc_flight::WriteInFlight;
 use pc_proto::Call;
 use pc_refusals::Refusals;
 use pc_txn::OpenTxn;
@@ -76,7 +77,7 @@ impl<'a> Coordinator<'a> {
     }
 
     fn get(&mut self, txn: OpenTxn, key: &Key) -> Result<(), NoMemory>
-        ensures knows { (k : Known) (s : Statement) (why : Why) → StandsReady self.old k → IsFresh k txn s why → s.call ≡ calls.Get key.now → txn.in_flight ≡ None → OnOk result (Knows self.new k) }
+        ensures knows { (k : Known) (s : Statement) (why : Why) → StandsReady self.old k → IsFresh k txn s why → s.call ≡ calls.Get key.now → txn.in_flight ≡ [] → OnOk result (Knows self.new k) }
         ensures waits { (other : ℕ) → OnOk result (awaits_number other self.new.due ≡ false) }
         ensures comes { (messages : List Message) → list_any is_in_conflict messages ≡ false → OnOk result (ComesOf messages self.new.due) }
         ensures session { self.new.session ≡ self.old.session }
@@ -87,7 +88,7 @@ impl<'a> Coordinator<'a> {
     }
 
     fn scan(&mut self, txn: OpenTxn, span: &Span) -> Result<(), NoMemory>
-        ensures knows { (k : Known) (s : Statement) (why : Why) → StandsReady self.old k → IsFresh k txn s why → s.call ≡ calls.Scan span.now → txn.in_flight ≡ None → OnOk result (Knows self.new k) }
+        ensures knows { (k : Known) (s : Statement) (why : Why) → StandsReady self.old k → IsFresh k txn s why → s.call ≡ calls.Scan span.now → txn.in_flight ≡ [] → OnOk result (Knows self.new k) }
         ensures waits { (other : ℕ) → OnOk result (awaits_number other self.new.due ≡ false) }
         ensures comes { (messages : List Message) → list_any is_in_conflict messages ≡ false → OnOk result (ComesOf messages self.new.due) }
         ensures session { self.new.session ≡ self.old.session }
@@ -110,7 +111,7 @@ impl<'a> Coordinator<'a> {
     }
 
     fn commit(&mut self, txn: OpenTxn) -> Result<(), NoMemory>
-        ensures knows { (k : Known) (s : Statement) (why : Why) → StandsReady self.old k → IsFresh k txn s why → s.call ≡ calls.Commit → txn.in_flight ≡ None → OnOk result (Knows self.new k) }
+        ensures knows { (k : Known) (s : Statement) (why : Why) → StandsReady self.old k → IsFresh k txn s why → s.call ≡ calls.Commit → txn.in_flight ≡ [] → OnOk result (Knows self.new k) }
         ensures waits { (other : ℕ) → OnOk result (awaits_number other self.new.due ≡ false) }
         ensures comes { (messages : List Message) → list_any is_in_conflict messages ≡ false → OnOk result (ComesOf messages self.new.due) }
         ensures session { self.new.session ≡ self.old.session }
@@ -123,7 +124,7 @@ impl<'a> Coordinator<'a> {
     }
 
     fn commit_written(&mut self, txn: OpenTxn) -> Result<(), NoMemory>
-        ensures knows { (k : Known) (s : Statement) (why : Why) (anchor : List ℕ) → StandsReady self.old k → IsFresh k txn s why → s.call ≡ calls.Commit → txn.in_flight ≡ None → txn.anchor ≡ Some anchor → OnOk result (Knows self.new k) }
+        ensures knows { (k : Known) (s : Statement) (why : Why) (anchor : List ℕ) → StandsReady self.old k → IsFresh k txn s why → s.call ≡ calls.Commit → txn.in_flight ≡ [] → txn.anchor ≡ Some anchor → OnOk result (Knows self.new k) }
         ensures waits { (other : ℕ) → OnOk result (awaits_number other self.new.due ≡ false) }
         ensures comes { (messages : List Message) → list_any is_in_conflict messages ≡ false → OnOk result (ComesOf messages self.new.due) }
         ensures session { self.new.session ≡ self.old.session }
@@ -148,23 +149,18 @@ fn lay(alloc: Global, txn: &OpenTxn, key: &Key, value: &Option<Value>) -> Result
     ensures unsent { IfOk result (λ call. All (λ m. is_to_send m ≡ true) call.wave) }
     ensures stands { (splits : List (List ℕ)) (k : Known) (s : Statement) (why : Why) → IsFresh k txn.now s why → s.call ≡ write_call key.now value.now → SuitsFlight (write_call key.now value.now) txn.now.in_flight → IfOk result (λ call. InCall splits k txn.now call.purpose call.wave) }
 {
-    match &txn.in_flight {
-        None => OpenCall::write(alloc, txn, key, value),
-        Some(_) => lay_again(alloc, txn, key, value),
+    match txn.in_flight.writes() {
+        [] => OpenCall::write(alloc, txn, key, value),
+        [write, ..] => lay_again(alloc, txn, write),
     }
 }
 
-fn lay_again(
-    alloc: Global,
-    txn: &OpenTxn,
-    key: &Key,
-    value: &Option<Value>,
-) -> Result<OpenCall, NoMemory>
+fn lay_again(alloc: Global, txn: &OpenTxn, write: &WriteInFlight) -> Result<OpenCall, NoMemory>
     ensures unsent { IfOk result (λ call. All (λ m. is_to_send m ≡ true) call.wave) }
-    ensures stands { (splits : List (List ℕ)) (k : Known) (s : Statement) (why : Why) → IsFresh k txn.now s why → s.call ≡ write_call key.now value.now → txn.now.in_flight ≡ Some (record { key = key.now; value = value.now }) → IfOk result (λ call. InCall splits k txn.now call.purpose call.wave) }
+    ensures stands { (splits : List (List ℕ)) (k : Known) (s : Statement) (why : Why) → IsFresh k txn.now s why → s.call ≡ write_call write.now.key write.now.value → txn.now.in_flight ≡ write.now ∷ [] → IfOk result (λ call. InCall splits k txn.now call.purpose call.wave) }
 {
     match &txn.anchor {
-        Some(anchor) => OpenCall::write_again(alloc, txn, anchor, key, value),
+        Some(anchor) => OpenCall::write_again(alloc, txn, anchor, write),
         None => Err(NoMemory),
     }
 }

@@ -15,7 +15,7 @@ use Rattle.pc_script.specs.declared.planned.Planned.TheVariants as plans
 use Rattle.pc_script.specs.Planned.{planned_call}
 use Rattle.pc_script.specs.Script.{Position, calls_of, end_call, opened, rerun, statement_calls}
 use Rattle.pc_script.specs.Suiting.{AreOfOne, FitsCalls, FitsTxn, IsCallIn, IsCourse, IsPlannedIn}
-use Rattle.pc_txn.specs.declared.flight.InFlight.{InFlight}
+use Rattle.pc_flight.specs.declared.write.WriteInFlight.{WriteInFlight}
 use Rattle.pc_txn.specs.declared.txn.OpenTxn.{OpenTxn}
 use Rattle.pc_work.specs.declared.item.Item.{Item}
 use Rattle.pc_work.specs.declared.item.Item.TheVariants.{Learn, Txn}
@@ -141,10 +141,10 @@ fits_outside ahead (Some x) k call fits held next out = let e : true ≡ false =
 
 -- No write of the transaction is in flight.
 abbrev pub IsFree : OpenTxn → Type 0
-IsFree x = x.in_flight ≡ None
+IsFree x = x.in_flight ≡ []
 
-free_suits : (call : Call) (w : Option InFlight) → w ≡ None → SuitsFlight call w
-free_suits call w none = subst (SuitsFlight call) (sym none) tt
+free_suits : (call : Call) (ws : List WriteInFlight) → ws ≡ [] → SuitsFlight call ws
+free_suits call ws none = subst (SuitsFlight call) (sym none) tt
 
 -- a transaction with no write in flight goes on by any calls of one that was begun
 pub free_fits : (ahead : List Call) (txn : Option OpenTxn) → AreOfOne ahead → IfSome txn IsFree → FitsTxn ahead txn
@@ -167,9 +167,9 @@ pub behind : (ahead : List Call) (txn : Option OpenTxn) → AreOfOne ahead → I
 behind [] txn one free = free_fits [] txn one free
 behind (first ∷ later) txn one free = free_fits later txn (All-tail IsCallIn first later one) free
 
-rollback_suits : (w : Option InFlight) → SuitsFlight calls.Rollback w
-rollback_suits None = tt
-rollback_suits (Some w) = tt
+rollback_suits : (ws : List WriteInFlight) → SuitsFlight calls.Rollback ws
+rollback_suits [] = tt
+rollback_suits (w ∷ ws) = tt
 
 -- the rollback alone
 rollback_fits : (txn : Option OpenTxn) → FitsTxn (calls.Rollback ∷ []) txn

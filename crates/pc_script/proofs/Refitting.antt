@@ -1,5 +1,5 @@
 -- A session's script goes on with its open transaction after each answer.
-use Rattle.std.proofs.Common.{◌≡◌, ℕ, Bool, true, false, ◌&&◌, not, All, List, drop, map, Option, Some, None, IfSome, refl, sym, ap, subst, ◌∙◌}
+use Rattle.std.proofs.Common.{◌≡◌, ℕ, Bool, true, false, ◌&&◌, not, All, List, drop, [], map, Option, Some, None, IfSome, refl, sym, ap, subst, ◌∙◌}
 use Rattle.std.specs.Bool.{MatchBool}
 use Rattle.pc_base.specs.declared.actor.ActorId.{ActorId}
 use Rattle.pc_call.specs.Suiting.{SuitsFlightNext}
@@ -9,7 +9,7 @@ use Rattle.pc_proto.specs.declared.answer.Answer.{Answer}
 use Rattle.pc_proto.specs.declared.answer.Answer.TheVariants as answers
 use Rattle.pc_proto.specs.declared.call.Call.{Call}
 use Rattle.pc_proto.specs.declared.call.Call.TheVariants as calls
-use Rattle.pc_txn.specs.declared.flight.InFlight.{InFlight}
+use Rattle.pc_flight.specs.declared.write.WriteInFlight.{WriteInFlight}
 use Rattle.pc_txn.specs.declared.txn.OpenTxn.{OpenTxn}
 use Rattle.pc_world.specs.Known.{Known}
 use Rattle.pc_world.specs.Known.Statements.{Statement, is_open_told}
@@ -104,7 +104,7 @@ module _ (at : Position) (txn : Option OpenTxn) where
   once_more k call course next outside suits closed = again_fits (coming at) call txn course next suits (λ out. closed (outside out))
 
 -- after an answer that leaves no write in flight
-free_next : (answer : Answer) (call : Call) (txn : Option OpenTxn) → ((w : Option InFlight) → SuitsFlightNext answer call w → w ≡ None) → SuitsNext answer call txn → IfSome txn IsFree
+free_next : (answer : Answer) (call : Call) (txn : Option OpenTxn) → ((ws : List WriteInFlight) → SuitsFlightNext answer call ws → ws ≡ []) → SuitsNext answer call txn → IfSome txn IsFree
 free_next answer call None none suits = tt
 free_next answer call (Some x) none suits = none x.in_flight suits
 
@@ -118,17 +118,17 @@ pub told_fits : (answer : Answer) (at : Position) (txn : Option OpenTxn) (splits
     → FitsCalls (after_told answer at) txn
 told_fits (answers.Begun id ts) at txn splits actor k s a may =
     let row : MayTellBegun actor k s id ts = row_by _ _ (answers.Begun id ts ≡ answers.NoTxn) (answers.Begun id ts ≡ answers.Clock s.reading) (MayTellBegun actor k s id ts) (λ e. absurd cc) (λ e. absurd cc) may in
-    record { calls = a.calls; now = subst (λ ahead. FitsTxn ahead txn) (sym (drop_planned at.read at.ahead)) (after_begin (coming at) s.call row.priority txn a.course a.next row.asked (free_next (answers.Begun id ts) s.call txn (λ w none. none) a.suits)) }
+    record { calls = a.calls; now = subst (λ ahead. FitsTxn ahead txn) (sym (drop_planned at.read at.ahead)) (after_begin (coming at) s.call row.priority txn a.course a.next row.asked (free_next (answers.Begun id ts) s.call txn (λ ws none. none) a.suits)) }
 told_fits (answers.Value value) at txn splits actor k s a may =
     let row : MayTellValue k s value = row_by _ _ (answers.Value value ≡ answers.NoTxn) (answers.Value value ≡ answers.Clock s.reading) (MayTellValue k s value) (λ e. absurd cc) (λ e. absurd cc) may in
-    record { calls = a.calls; now = on_behind at txn value s.call a.course a.next (ap is_outside row.asked) (free_next (answers.Value value) s.call txn (λ w none. none) a.suits) }
+    record { calls = a.calls; now = on_behind at txn value s.call a.course a.next (ap is_outside row.asked) (free_next (answers.Value value) s.call txn (λ ws none. none) a.suits) }
 told_fits (answers.Rows rows) at txn splits actor k s a may =
     let row : MayTellRows splits k s rows = row_by _ _ (answers.Rows rows ≡ answers.NoTxn) (answers.Rows rows ≡ answers.Clock s.reading) (MayTellRows splits k s rows) (λ e. absurd cc) (λ e. absurd cc) may in
-    record { calls = a.calls; now = on_next at txn s.call a.course a.next (ap is_outside row.asked) (free_next (answers.Rows rows) s.call txn (λ w none. none) a.suits) }
+    record { calls = a.calls; now = on_next at txn s.call a.course a.next (ap is_outside row.asked) (free_next (answers.Rows rows) s.call txn (λ ws none. none) a.suits) }
 told_fits answers.Written at txn splits actor k s a may =
     let row : MayTellWritten k s = row_by _ _ (answers.Written ≡ answers.NoTxn) (answers.Written ≡ answers.Clock s.reading) (MayTellWritten k s) (λ e. absurd cc) (λ e. absurd cc) may in
     let first = row.sent.4 in
-    record { calls = a.calls; now = written_by at txn s.call first.key first.value first.asked a.course a.next (free_next answers.Written s.call txn (λ w none. none) a.suits) }
+    record { calls = a.calls; now = written_by at txn s.call first.key first.value first.asked a.course a.next (free_next answers.Written s.call txn (λ ws none. none) a.suits) }
 told_fits (answers.Blocked holder) at txn splits actor k s a may =
     rerun_fits at.ahead at.left at txn a.calls (once_more at txn k s.call a.course a.next a.outside (again_next (answers.Blocked holder) s.call txn (λ x suits. suits) a.suits) a.closed)
 told_fits (answers.Unavailable faults) at txn splits actor k s a may =
@@ -136,7 +136,7 @@ told_fits (answers.Unavailable faults) at txn splits actor k s a may =
 told_fits (answers.Moved ts) at txn splits actor k s a may =
     rerun_fits at.ahead at.left at txn a.calls (once_more at txn k s.call a.course a.next a.outside (again_next (answers.Moved ts) s.call txn (λ x suits. suits) a.suits) a.closed)
 told_fits (answers.Restart key ts) at txn splits actor k s a may =
-    rerun_fits (drop 1 at.calls) at.left at txn a.calls (free_fits (map (planned_call at.read) (drop 1 at.calls)) txn (planned_calls at.read (drop 1 at.calls) a.calls) (free_next (answers.Restart key ts) s.call txn (λ w none. none) a.suits))
+    rerun_fits (drop 1 at.calls) at.left at txn a.calls (free_fits (map (planned_call at.read) (drop 1 at.calls)) txn (planned_calls at.read (drop 1 at.calls) a.calls) (free_next (answers.Restart key ts) s.call txn (λ ws none. none) a.suits))
 told_fits answers.Learnt at txn splits actor k s a may =
     let row : IsLearnTold true k s.call = row_by _ _ (answers.Learnt ≡ answers.NoTxn) (answers.Learnt ≡ answers.Clock s.reading) (IsLearnTold true k s.call) (λ e. absurd cc) (λ e. absurd cc) may in
     next_item at txn (a.closed (a.outside (learn_outside true k s.call row)))

@@ -90,6 +90,15 @@ StagesThis s request = ⊥
 pub one_stage : (s other : SentStage) → stage_request s ≡ stage_request other → s ≡ other
 one_stage s other e = let same : StagesThis s (stage_request other) = subst (StagesThis s) e refl in sym same
 
+-- The request is this commit.
+abbrev CommitsThis : SentCommit → Request → Type 0
+CommitsThis c (requests.Commit meta ts locks) = record { meta = meta; ts = ts; locks = locks } ≡ c
+CommitsThis c request = ⊥
+
+-- which commit a request is of
+pub one_commit : (c other : SentCommit) → commit_request c ≡ commit_request other → c ≡ other
+one_commit c other e = let same : CommitsThis c (commit_request other) = subst (CommitsThis c) e refl in sym same
+
 -- a stage is no commit, and what is so of it is so of each stage that its request sends
 pub stage_new : (id : TxnId) (P : SentStage → Type 0) (s : SentStage) (request : Request) → request ≡ stage_request s → P s → OnStage id P request
 stage_new id P s request is p = subst (OnStage id P) (sym is) (λ same. p)

@@ -24,7 +24,7 @@ use Rattle.pc_staging.specs.declared.stage_out.StageOut.{StageOut}
 use Rattle.pc_staging.specs.Hearing.{HasGrown}
 use Rattle.pc_staging.specs.Kept.{Evidence}
 use Rattle.pc_staging.specs.Laws.{LeavesStages, ProvesOn, SendsNothingNew, StagingIsKept, StagingStandsOn, StaysOrIsFree}
-use Rattle.pc_staging.specs.Standing.{AreEvidence, HasUnproved, IsBehind, IsCommitOut, IsLastStep, AreRefutedBelow, IsUnprovedAt, ListsUnproved, StagingStands, WasStagedAt, WasStageSent}
+use Rattle.pc_staging.specs.Standing.{AreEvidence, HasUnproved, IsBehind, IsCommitOut, IsLastStep, IsRefusedCommitBelow, AreRefutedBelow, IsUnprovedAt, ListsUnproved, StagingStands, WasStagedAt, WasStageSent}
 use Rattle.pc_world.specs.Known.{Known}
 use Rattle.pc_world.specs.Known.Traffic.{Heard, Sent}
 use Rattle.pc_world.specs.Known.Transactions.{Txn, lists_write}
@@ -199,6 +199,13 @@ module _ (k now : Known) (stages : List SentStage) (commit : Option SentCommit) 
       (All-append (AreRefutedBelow t.id to) k.heard heard_more
       (All-weaker (AreRefutedBelow t.id t.write_ts) (AreRefutedBelow t.id to) (λ h r s whose refuted. let below : s.ts < t.write_ts = r s whose refuted in omega (arith, below, low)) k.heard st.reached) new)
 
+  -- what refuses no commit of the transaction leaves the refused ones below
+  pub passed_on : (to : ℕ) → t.write_ts ≤ to → All (IsRefusedCommitBelow t.id to) heard_more → All (IsRefusedCommitBelow t.id to) now.heard
+  passed_on to low new =
+      subst (λ hs. All (IsRefusedCommitBelow t.id to) hs) (sym grown.heard)
+      (All-append (IsRefusedCommitBelow t.id to) k.heard heard_more
+      (All-weaker (IsRefusedCommitBelow t.id t.write_ts) (IsRefusedCommitBelow t.id to) (λ h r c whose refuses. let below : c.ts < t.write_ts = r c whose refuses in omega (arith, below, low)) k.heard st.passed) new)
+
   pub staged_on : (staged : Option ℕ) → IfSome staged (WasStagedAt k.heard t) → IfSome staged (WasStagedAt now.heard t)
   staged_on None h = tt
   staged_on (Some ts) h =
@@ -303,6 +310,9 @@ module _ (k now : Known) (stages : List SentStage) (commit : Option SentCommit) 
             (reached_on k now stages commit t x st sent_more heard_more grown to low (All-weaker Leaves (AreRefutedBelow t.id to) (λ h l. l.2) heard_more leave)));
         last_staged = staged_as later same stays;
         last_undecided = subst (λ i. IsLastStep (ShowsOpen i) now.heard x.undecided) (sym same) (undecided_on k now stages commit t x st sent_more heard_more grown unseen x.undecided st.last_undecided);
+        passed = subst (λ n. All (IsRefusedCommitBelow later.id n) now.heard) (sym at)
+            (subst (λ i. All (IsRefusedCommitBelow i to) now.heard) (sym same)
+            (passed_on k now stages commit t x st sent_more heard_more grown to low (All-weaker Leaves (IsRefusedCommitBelow t.id to) (λ h l c whose r. absurd (l.1 (refused_open t.id c h whose r))) heard_more leave)));
         refused = subst (λ i. EachCommit i now.sent (λ c. (commit ≡ Some c) ⊎ WasCommitRefused now.heard c)) (sym same) refused;
         commit_at = st.commit_at;
         out = subst (λ i. IfSome commit (IsCommitOut now.sent now.heard i)) (sym same)

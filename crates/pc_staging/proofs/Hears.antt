@@ -16,16 +16,16 @@ use Rattle.pc_proto.specs.declared.view.View.{View}
 use Rattle.pc_proto.specs.declared.view.View.TheVariants as views
 use Rattle.pc_proto.specs.Replies.{is_undecided_status, view_in}
 use Rattle.pc_proto.specs.Requests.{is_about, is_commit, is_stage_or_commit}
-use Rattle.pc_proto.specs.Views.{is_final_view, is_staging_at}
+use Rattle.pc_proto.specs.Views.{is_final_view, is_staging_at, undecided_ts}
 use Rattle.pc_staging.proofs.Evidenced.{evidence_elsewhere, evidence_on, evidence_step, map_same, ShowsOpen}
-use Rattle.pc_staging.proofs.Fates.{one_stage, past_behind, same_id}
-use Rattle.pc_staging.proofs.Going.{all_late_on, each_on, goes_on, late_on, out_on, reached_on, refused_on, reply_proves, sent_on, staged_on, undecided_on, timely_on}
+use Rattle.pc_staging.proofs.Fates.{one_commit, one_stage, past_behind, same_id}
+use Rattle.pc_staging.proofs.Going.{all_late_on, each_on, goes_on, late_on, out_on, passed_on, reached_on, refused_on, reply_proves, sent_on, staged_on, undecided_on, timely_on}
 use Rattle.pc_staging.proofs.Steps.{first_on, first_push, last_push}
 use Rattle.pc_staging.specs.declared.stage_out.StageOut.{StageOut}
 use Rattle.pc_staging.specs.Hearing.{HasGrown, HearsBeat, HearsCommit, HearsMissing, HearsStage, HearsWritten}
 use Rattle.pc_staging.specs.Kept.{Evidence, after_commit, after_stage, after_view, later_step, refuted_above, refuted_at, refuted_by, seen_undecided, stages_elsewhere, with_stages, without_stage}
 use Rattle.pc_staging.specs.Laws.{SendsNothingNew}
-use Rattle.pc_staging.specs.Standing.{AreEvidence, AreRefutedBelow, IsBehind, IsCommitOut, IsEvidenceOf, IsLastStep, StagingStands, WasStagedAt, WasStageSent, commit_after, stages_after}
+use Rattle.pc_staging.specs.Standing.{AreEvidence, AreRefutedBelow, IsBehind, IsCommitOut, IsEvidenceOf, IsLastStep, IsRefusedCommitBelow, StagingStands, WasStagedAt, WasStageSent, commit_after, stages_after}
 use Rattle.pc_world.specs.Known.{Known}
 use Rattle.pc_world.specs.Known.Traffic.{Heard}
 use Rattle.pc_world.specs.Known.Transactions.{Txn, has_staged, lists_write, missing_ts, raised_to, txn_heard}
@@ -65,7 +65,7 @@ shows_final id view h v final shows =
     absurd cc
 
 -- a stage's view is that it stages, or that its record went another way
-staged_not_past : (s : SentStage) (view : View) → is_staging_at s.meta.epoch s.ts view ≡ true → is_past_stage s view ≡ true → ⊥
+pub staged_not_past : (s : SentStage) (view : View) → is_staging_at s.meta.epoch s.ts view ≡ true → is_past_stage s view ≡ true → ⊥
 staged_not_past s (views.Staging epoch ts writes) staged past =
     let none : not (epoch == s.meta.epoch && ts == s.ts) ≡ false = ap not staged in absurd cc
 staged_not_past s (views.Pending epoch ts) staged past = absurd cc
@@ -81,7 +81,7 @@ elsewhere_past s (views.Committed epoch ts locks) unfinal other = absurd cc
 elsewhere_past s (views.Aborted epoch why locks) unfinal other = absurd cc
 
 -- The stage is of the transaction, in its epoch.
-abbrev IsOwnStage : Txn → SentStage → Type 0
+abbrev pub IsOwnStage : Txn → SentStage → Type 0
 IsOwnStage t s = (s.meta.id ≡ t.id) × (s.meta.epoch ≡ t.epoch)
 
 own_all : (heard : List Heard) (t : Txn) (ss : List SentStage) (os : List StageOut) → AreEvidence heard t ss os → All (IsOwnStage t) ss
@@ -91,7 +91,7 @@ own_all heard t (s ∷ ss) [] e = absurd e
 own_all heard t (s ∷ ss) (o ∷ os) e = All-cons (IsOwnStage t) s ss (e.0.whose, e.0.epoch_now) (own_all heard t ss os e.1)
 
 -- the stages that are kept are so
-own_each : (heard : List Heard) (t : Txn) (ss : List SentStage) (os : List StageOut) → AreEvidence heard t ss os → (s : SentStage) → Contains ss s → IsOwnStage t s
+pub own_each : (heard : List Heard) (t : Txn) (ss : List SentStage) (os : List StageOut) → AreEvidence heard t ss os → (s : SentStage) → Contains ss s → IsOwnStage t s
 own_each heard t ss os e s there = All-contains (IsOwnStage t) ss s (own_all heard t ss os e) there
 
 module _ (k now : Known) (stages : List SentStage) (commit : Option SentCommit) (t : Txn) (x : Evidence) (st : StagingStands k stages commit t x) (h : Heard) (grown : HasGrown k now [] (h ∷ [])) where
@@ -115,7 +115,7 @@ module _ (k now : Known) (stages : List SentStage) (commit : Option SentCommit) 
   module _ (kept : List SentStage) (os : List StageOut) (out : Option SentCommit) (staged at : Option ℕ) (quiet : TellsNoWrite h.request) (shows : ShowsOpen t.id h)
       (drop : (s : SentStage) → Contains stages s → IsLateByRecord (k.heard ++ h ∷ []) s ⊎ Contains kept s) (subset : (s : SentStage) → Contains kept s → Contains stages s) (e : AreEvidence k.heard t kept os)
       (not_past : (s : SentStage) → Contains kept s → RefutesRecord s h → ⊥) (staged_is : IfSome staged (WasStagedAt now.heard t))
-      (commits : (c : SentCommit) → commit ≡ Some c → (out ≡ Some c) ⊎ WasCommitRefused (k.heard ++ h ∷ []) c) (at_is : at ≡ option_map (λ c. c.ts) out) (out_is : IfSome out (IsCommitOut now.sent now.heard t.id)) (staged_kept : IfSome staged (λ ts. Any (λ s. s.ts ≡ ts) kept)) (out_old : (c : SentCommit) → out ≡ Some c → commit ≡ Some c) where
+      (commits : (c : SentCommit) → commit ≡ Some c → (out ≡ Some c) ⊎ WasCommitRefused (k.heard ++ h ∷ []) c) (at_is : at ≡ option_map (λ c. c.ts) out) (out_is : IfSome out (IsCommitOut now.sent now.heard t.id)) (staged_kept : IfSome staged (λ ts. Any (λ s. s.ts ≡ ts) kept)) (out_old : (c : SentCommit) → out ≡ Some c → commit ≡ Some c) (past : IsRefusedCommitBelow t.id after.write_ts h) where
     -- a view that is not final was heard
     pub hears_open : StagingStands now kept out after (record { stages = os; staged = staged; undecided = Some (later_step x.undecided h.step); commit = at })
     hears_open = record {
@@ -144,6 +144,7 @@ module _ (k now : Known) (stages : List SentStage) (commit : Option SentCommit) 
       last_staged = staged_as staged staged_is;
       last_undecided = subst (λ hs. IsLastStep (ShowsOpen t.id) hs (Some (later_step x.undecided h.step))) (sym grown.heard) (last_push (ShowsOpen t.id) x.undecided k.heard h st.last_undecided shows);
       refused = refused_on k now stages commit t x st [] (h ∷ []) grown out commits (All-nil (λ m. OnCommit t.id (λ c. (out ≡ Some c) ⊎ WasCommitRefused (k.heard ++ h ∷ []) c) m.request));
+      passed = passed_on k now stages commit t x st [] (h ∷ []) grown after.write_ts rises (All-cons (IsRefusedCommitBelow t.id after.write_ts) h [] past (All-nil (IsRefusedCommitBelow t.id after.write_ts)));
       commit_at = at_is;
       out = out_is;
     }
@@ -179,6 +180,9 @@ module _ (k now : Known) (stages : List SentStage) (commit : Option SentCommit) 
         (λ r. let same : stage_request s ≡ commit_request c = sym hears.asked ∙ r.asked in let bad : false ≡ true = ap is_commit same in absurd cc)
         (All-nil (λ g. Refuses c g → ⊥))
 
+    refuses_none : IsRefusedCommitBelow t.id after.write_ts h
+    refuses_none c whose r = let same : stage_request s ≡ commit_request c = sym hears.asked ∙ r.asked in let bad : false ≡ true = ap is_commit same in absurd cc
+
     abbrev P : SentStage → Bool
     P y = not (y.ts == s.ts)
 
@@ -201,7 +205,7 @@ module _ (k now : Known) (stages : List SentStage) (commit : Option SentCommit) 
         (λ y on r.
         let p = shown_past y r in
         staged_not_past s view (ap (λ epoch. is_staging_at epoch s.ts view) own.1 ∙ staging) p.1)
-        (staged_here staging) (λ c is. inl is) st.commit_at (out_on k now stages commit t x st [] (h ∷ []) grown no_refusal) (let (n, inside, at) = there in (n, s, inside, at, refl)) (λ c is. is)
+        (staged_here staging) (λ c is. inl is) st.commit_at (out_on k now stages commit t x st [] (h ∷ []) grown no_refusal) (let (n, inside, at) = there in (n, s, inside, at, refl)) (λ c is. is) refuses_none
     by_view false false unfinal other =
         let past : is_past_stage s view ≡ true = elsewhere_past s view unfinal (ap (λ epoch. is_staging_at epoch s.ts view) own.1 ∙ other) in
         let late : IsLateByRecord (k.heard ++ h ∷ []) s = any_last (RefutesRecord s) k.heard h (record { asked = hears.asked; past = ap (shows_past s) hears.told ∙ past }) in
@@ -214,7 +218,7 @@ module _ (k now : Known) (stages : List SentStage) (commit : Option SentCommit) 
         let away : not (y.ts == s.ts) ≡ true = (contains_filter P stages y on).1 in
         let here : (y.ts == s.ts) ≡ true = eq-eqb y.ts s.ts (ap (λ z. z.ts) same) in
         absurd cc)
-        tt (λ c is. inl is) st.commit_at (out_on k now stages commit t x st [] (h ∷ []) grown no_refusal) tt (λ c is. is)
+        tt (λ c is. inl is) st.commit_at (out_on k now stages commit t x st [] (h ∷ []) grown no_refusal) tt (λ c is. is) refuses_none
       where
         dropped : IsLateByRecord (k.heard ++ h ∷ []) s → (y : SentStage) → Contains stages y → (b : Bool) → (y.ts == s.ts) ≡ b → IsLateByRecord (k.heard ++ h ∷ []) y ⊎ Contains (filter P stages) y
         dropped late y on true is =
@@ -256,6 +260,7 @@ module _ (k now : Known) (stages : List SentStage) (commit : Option SentCommit) 
         (out_on k now stages commit t x st [] (h ∷ []) grown
         (λ c is. All-cons (λ g. Refuses c g → ⊥) h [] (λ r. let bad : is_stage_or_commit h.request ≡ true = ap is_stage_or_commit r.asked in let none = beat_decides in absurd cc) (All-nil (λ g. Refuses c g → ⊥))))
         st.staged_by (λ c is. is)
+        (λ c whose r. let bad : is_stage_or_commit h.request ≡ true = ap is_stage_or_commit r.asked in let none = beat_decides in absurd cc)
 
     pub beat_heard : (step : ℕ) (made : Evidence) → h.step ≡ step → made ≡ after_view step view x → StagingStands now stages commit after made
     beat_heard step made at is =
@@ -276,6 +281,18 @@ module _ (k now : Known) (stages : List SentStage) (t : Txn) (x : Evidence) (c :
   is_no_stage : (s : SentStage) → RefutesRecord s h → ⊥
   is_no_stage s r = let same : commit_request c ≡ stage_request s = sym hears.asked ∙ r.asked in let bad : true ≡ false = ap is_commit same in absurd cc
 
+  -- the write timestamp rises to where the record stands, above the commit
+  below_now : is_final_view view ≡ false → IsRefusedCommitBelow t.id then.write_ts h
+  below_now unfinal d whose r =
+      let same : commit_request c ≡ commit_request d = sym hears.asked ∙ r.asked in
+      let at : c.ts ≡ d.ts = ap (λ (q : SentCommit). q.ts) (one_commit c d same) in
+      let low : c.ts < undecided_ts view = hears.past unfinal in
+      let up : raised_to t.id k.sent h.request h.reply ≡ undecided_ts view =
+      ap (λ r. raised_to t.id k.sent r h.reply) hears.asked ∙ ap (λ p. raised_to t.id k.sent (commit_request c) p) hears.told
+      ∙ ap (λ b. cond b (undecided_ts view) 0) (same_id c.meta.id t.id st.out.whose) in
+      let goal : d.ts < max t.write_ts (raised_to t.id k.sent h.request h.reply) = omega (arith, at, low, up) in
+      goal
+
   by_commit : (final : Bool) → is_final_view view ≡ final → StagingStands now stages (cond final (Some c) None) then (cond final x (record (seen_undecided h.step x) { commit = None }))
   by_commit true final = hears_final k now stages (Some c) t x st h hears.grown quiet_commit (shows_final t.id view h commit_view final)
   by_commit false unfinal =
@@ -288,7 +305,11 @@ module _ (k now : Known) (stages : List SentStage) (t : Txn) (x : Evidence) (c :
         asked = hears.asked ∙ ap commit_request same;
         unsettled = ap is_undecided_status hears.told ∙ ap not unfinal;
       })))
-      refl tt st.staged_by (λ d is. let bad : None ≡ Some d = is in absurd cc)
+      refl tt st.staged_by (λ d is. let bad : None ≡ Some d = is in absurd cc) (below_now unfinal)
+
+  -- it was refused
+  pub commit_refused : is_final_view view ≡ false → (step : ℕ) → h.step ≡ step → StagingStands now stages None then (record (seen_undecided step x) { commit = None })
+  commit_refused unfinal step at = subst (λ (n : ℕ). StagingStands now stages None then (record (seen_undecided n x) { commit = None })) at (by_commit false unfinal)
 
   pub commit_heard : (step : ℕ) (made : Evidence) → h.step ≡ step → made ≡ after_commit step view x → StagingStands now stages (commit_after view c) then made
   commit_heard step made at is =
@@ -372,6 +393,10 @@ module _ (k now : Known) (stages : List SentStage) (commit : Option SentCommit) 
         (All-cons (λ g. ShowsOpen t.id g → ⊥) h [] (λ shows. let is : shows_undecided t.id h.request h.reply ≡ true = shows in let none = unseen in absurd cc) (All-nil (λ g. ShowsOpen t.id g → ⊥)))
         x.undecided st.last_undecided;
     refused = refused_on k now stages commit t x st [] (h ∷ []) grown commit (λ c is. inl is) (All-nil (λ m. OnCommit t.id (λ c. (commit ≡ Some c) ⊎ WasCommitRefused (k.heard ++ h ∷ []) c) m.request));
+    passed = passed_on k now stages commit t x st [] (h ∷ []) grown since.write_ts no_earlier
+        (All-cons (IsRefusedCommitBelow t.id since.write_ts) h []
+        (λ c whose r. let bad : is_stage_or_commit h.request ≡ true = ap is_stage_or_commit r.asked in let none = decides in absurd cc)
+        (All-nil (IsRefusedCommitBelow t.id since.write_ts)));
     commit_at = st.commit_at;
     out = out_on k now stages commit t x st [] (h ∷ []) grown
         (λ c is.

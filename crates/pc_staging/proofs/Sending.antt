@@ -6,6 +6,7 @@ use Rattle.std.proofs.lemmas.List.{append-nil}
 use Rattle.std.proofs.lemmas.List.Elements.{All-append, All-contains, All-cons, All-head, All-nil, All-tail, All-weaker, Contains-append_left, Contains-push, Contains-push_cases}
 use Rattle.pc_base.specs.declared.transaction.TxnId.{TxnId}
 use Rattle.pc_base.specs.Transaction.{same_txn}
+use Rattle.pc_lists.proofs.Same.{same_txn-self}
 use Rattle.pc_lists.proofs.Anywhere.{any_behind, any_head, any_kept}
 use Rattle.pc_lists.proofs.Lists.{contains_nil}
 use Rattle.pc_proto.specs.declared.request.Request.{Request}
@@ -14,12 +15,12 @@ use Rattle.pc_proto.specs.Requests.{is_about}
 use Rattle.pc_staging.proofs.Deciding.{late_stages, none_out, over_yes, passed_yes}
 use Rattle.pc_staging.proofs.Evidenced.{both_true, evidence_on, evidence_push, evidence_step, map_same, ShowsOpen}
 use Rattle.pc_staging.proofs.Fates.{commit_new, commit_no_stage, each_commit-more, none_more, stage_new, stage_no_commit}
-use Rattle.pc_staging.proofs.Going.{each_on, late_on, lists_in_flight, out_on, reached_on, refused_on, sent_on, staged_on, undecided_on}
+use Rattle.pc_staging.proofs.Going.{each_on, late_on, lists_in_flight, out_on, passed_on, reached_on, refused_on, sent_on, staged_on, undecided_on}
 use Rattle.pc_staging.proofs.Steps.{first_on}
 use Rattle.pc_staging.specs.declared.stage_out.StageOut.{StageOut}
 use Rattle.pc_staging.specs.Hearing.{HasSentNothing, SendsCommit, SendsStage}
 use Rattle.pc_staging.specs.Kept.{Evidence, is_dead_by, is_over, is_passed_by, is_refuted, is_step_before, nothing_kept, with_stages, without_stages}
-use Rattle.pc_staging.specs.Standing.{AreEvidence, AreRefutedBelow, IsBehind, IsEvidenceOf, StagingStands, WasStageSent}
+use Rattle.pc_staging.specs.Standing.{AreEvidence, AreRefutedBelow, IsBehind, IsEvidenceOf, IsRefusedCommitBelow, StagingStands, WasStageSent}
 use Rattle.pc_world.specs.Known.{Known}
 use Rattle.pc_world.specs.Known.Traffic.{Heard, Sent}
 use Rattle.pc_world.specs.Known.Transactions.{Txn, txn_sent}
@@ -35,6 +36,9 @@ no_stage id P request none = tt
 no_commit : (id : TxnId) (P : SentCommit → Type 0) (request : Request) → is_about id request ≡ false → OnCommit id P request
 no_commit id P (requests.Commit meta ts locks) none = λ same. let is : same_txn meta.id id ≡ true = same in let not_it : same_txn meta.id id ≡ false = none in absurd cc
 no_commit id P request none = tt
+
+refused_about : (id : TxnId) (c : SentCommit) (h : Heard) → c.meta.id ≡ id → Refuses c h → is_about id h.request ≡ true
+refused_about id c h whose r = ap (is_about id) r.asked ∙ ap (λ i. same_txn i id) whose ∙ same_txn-self id
 
 unseen : (id : TxnId) (h : Heard) → is_about id h.request ≡ false → ShowsOpen id h → ⊥
 unseen id h none shows = let is : is_about id h.request ≡ true = (both_true (is_about id h.request) _ shows).0 in absurd cc
@@ -53,6 +57,8 @@ nothing_stands k t none = record {
   last_staged = tt;
   last_undecided = All-weaker (λ h. is_about t.id h.request ≡ false) (λ h. ShowsOpen t.id h → ⊥) (λ h no shows. unseen t.id h no shows) k.heard none.none_heard;
   refused = All-weaker (λ m. is_about t.id m.request ≡ false) (λ m. OnCommit t.id (λ c. (None ≡ Some c) ⊎ WasCommitRefused k.heard c) m.request) (λ m no. no_commit t.id (λ c. (None ≡ Some c) ⊎ WasCommitRefused k.heard c) m.request no) k.sent none.none_sent;
+  passed = All-weaker (λ h. is_about t.id h.request ≡ false) (IsRefusedCommitBelow t.id t.write_ts)
+      (λ h no c whose r. let is : is_about t.id h.request ≡ true = refused_about t.id c h whose r in absurd cc) k.heard none.none_heard;
   commit_at = refl;
   out = tt;
 }
@@ -167,6 +173,7 @@ module _ (k now : Known) (stages : List SentStage) (commit : Option SentCommit) 
         last_undecided = undecided_on k now stages commit t x st (m0 ∷ []) [] grown (All-nil (λ h. ShowsOpen t.id h → ⊥)) x.undecided st.last_undecided;
         refused = refused_on k now stages commit t x st (m0 ∷ []) [] grown commit (λ c is. inl is)
             (All-cons (λ m. OnCommit t.id C m.request) m0 [] (stage_no_commit t.id C s m0.request sends.sends.said) (All-nil (λ m. OnCommit t.id C m.request)));
+        passed = passed_on k now stages commit t x st (m0 ∷ []) [] grown t.write_ts same_time (All-nil (IsRefusedCommitBelow t.id t.write_ts));
         commit_at = st.commit_at;
         out = out_on k now stages commit t x st (m0 ∷ []) [] grown (λ c is. All-nil (λ h. Refuses c h → ⊥));
       }
@@ -201,6 +208,14 @@ module _ (k now : Known) (stages : List SentStage) (commit : Option SentCommit) 
   abbrev D : SentCommit → Type 0
   D d = (Some c ≡ Some d) ⊎ WasCommitRefused (k.heard ++ []) d
 
+  -- a commit that was refused lies below the write timestamp
+  not_refused : WasCommitRefused k.heard c → ⊥
+  not_refused (i, h, there, is, r) =
+      let below : IsRefusedCommitBelow t.id t.write_ts h = All-contains (IsRefusedCommitBelow t.id t.write_ts) k.heard h st.passed (i, there, is) in
+      let low : c.ts < t.write_ts = below c sends.whose r in
+      let at : c.ts ≡ t.write_ts = sends.at_write_ts in
+      absurd (omega (arith, low, at))
+
   pub commit_stands : StagingStands now stages (Some c) next (record x { commit = Some c.ts })
   commit_stands =
       let grown = sends.sends.grown in
@@ -223,11 +238,12 @@ module _ (k now : Known) (stages : List SentStage) (commit : Option SentCommit) 
         last_undecided = undecided_on k now stages commit t x st (m1 ∷ []) [] grown (All-nil (λ h. ShowsOpen t.id h → ⊥)) x.undecided st.last_undecided;
         refused = refused_on k now stages commit t x st (m1 ∷ []) [] grown (Some c) (λ d is. let bad : None ≡ Some d = sym none_before ∙ is in absurd cc)
             (All-cons (λ m. OnCommit t.id D m.request) m1 [] (commit_new t.id D c m1.request sends.sends.said (inl refl)) (All-nil (λ m. OnCommit t.id D m.request)));
+        passed = passed_on k now stages commit t x st (m1 ∷ []) [] grown t.write_ts as_late (All-nil (IsRefusedCommitBelow t.id t.write_ts));
         commit_at = refl;
         out = record {
           went_out = went;
           whose = sends.whose;
-          unrefused = λ refused. sends.unrefused (subst (λ hs. WasCommitRefused hs c) (grown.heard ∙ append-nil k.heard) refused);
+          unrefused = λ refused. not_refused (subst (λ hs. WasCommitRefused hs c) (grown.heard ∙ append-nil k.heard) refused);
         };
       }
 
@@ -280,6 +296,7 @@ forgets k stages commit t x st over =
       staged_by = tt;
       behind_commit = λ c is. let bad : None ≡ Some c = is in absurd cc;
       reached = st.reached;
+      passed = st.passed;
       last_staged = tt;
       last_undecided = st.last_undecided;
       refused = each_commit-more t.id (WasCommitRefused k.heard) P (λ c refused. inr refused) k.sent dead.commits;

@@ -1,5 +1,5 @@
 -- What a session does and hears of its transaction's stages, commits and staged writes.
-use Rattle.std.specs.Prelude.{◌≡◌, ℕ, true, false, Option, List, [], ◌∷◌, ◌++◌, All}
+use Rattle.std.specs.Prelude.{◌≡◌, ℕ, ◌<◌, true, false, Option, List, [], ◌∷◌, ◌++◌, All}
 use Rattle.pc_base.specs.declared.transaction.Who.{Who}
 use Rattle.pc_proto.specs.declared.meta.TxnMeta.{TxnMeta}
 use Rattle.pc_proto.specs.declared.reply.Reply.TheVariants as replies
@@ -7,12 +7,13 @@ use Rattle.pc_proto.specs.declared.request.Request.{Request}
 use Rattle.pc_proto.specs.declared.request.Request.TheVariants as requests
 use Rattle.pc_proto.specs.declared.view.View.{View}
 use Rattle.pc_proto.specs.Requests.{is_about}
+use Rattle.pc_proto.specs.Views.{is_final_view, undecided_ts}
 use Rattle.pc_staging.specs.Standing.{HasUnproved, AreRefutedBelow}
 use Rattle.pc_world.specs.Known.{Known}
 use Rattle.pc_world.specs.Known.Traffic.{Heard, Sent}
 use Rattle.pc_world.specs.Known.Transactions.{Txn, has_staged}
 use Rattle.pc_world.specs.Known.Writes.{listed_as, unproved}
-use Rattle.pc_world.specs.StageFate.{IsLateByRecord, SentCommit, SentStage, WasCommitRefused, commit_request, stage_request}
+use Rattle.pc_world.specs.StageFate.{IsLateByRecord, SentCommit, SentStage, commit_request, stage_request}
 
 -- The session has sent and heard nothing of the transaction's record, nor of its writes.
 pub record HasSentNothing (k : Known) (t : Txn) : Type 0 where
@@ -41,11 +42,11 @@ pub record SendsStage (k now : Known) (t : Txn) (s : SentStage) : Type 0 where
   pub in_flight : s.writes ≡ listed_as (unproved t.writes)
   pub not_past : IsLateByRecord k.heard s → ⊥
 
--- The session sent a commit of the transaction, which was not refused before.
+-- The session sent a commit of the transaction, at its write timestamp.
 pub record SendsCommit (k now : Known) (t : Txn) (c : SentCommit) : Type 0 where
   pub sends : SendsRequest k now (commit_request c)
   pub whose : c.meta.id ≡ t.id
-  pub unrefused : WasCommitRefused k.heard c → ⊥
+  pub at_write_ts : c.ts ≡ t.write_ts
 
 -- The stage was told this view.
 pub record HearsStage (k now : Known) (s : SentStage) (view : View) (h : Heard) : Type 0 where
@@ -53,11 +54,12 @@ pub record HearsStage (k now : Known) (s : SentStage) (view : View) (h : Heard) 
   pub asked : h.request ≡ stage_request s
   pub told : h.reply ≡ replies.Status view
 
--- The commit was told this view.
+-- The commit was told this view: a record that is not final stands above it.
 pub record HearsCommit (k now : Known) (c : SentCommit) (view : View) (h : Heard) : Type 0 where
   pub grown : HasGrown k now [] (h ∷ [])
   pub asked : h.request ≡ commit_request c
   pub told : h.reply ≡ replies.Status view
+  pub past : is_final_view view ≡ false → c.ts < undecided_ts view
 
 -- A heartbeat of the transaction was told this view.
 pub record HearsBeat (k now : Known) (t : Txn) (view : View) (h : Heard) : Type 0 where

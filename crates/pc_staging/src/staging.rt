@@ -1,6 +1,7 @@
 ghost use Rattle.std.specs.Prelude.{◌≡◌, ◌↔◌, ◌++◌, ◌∷◌, [], ℕ, true, false, Contains, IsTrue, List, map, None, OnErr, OnOk, Option, Some};
 ghost use Rattle.std.specs.List.{list_all};
 ghost use Rattle.pc_flight.specs.InFlight.{FlightStands};
+ghost use Rattle.pc_proto.specs.declared.view.View.{View};
 ghost use Rattle.pc_proto.specs.Views.{is_final_view, is_staging_at};
 ghost use Rattle.pc_staging.specs.Hearing.{HasSentNothing, HearsBeat, HearsCommit, HearsMissing, HearsStage, HearsWritten, SendsCommit, SendsStage};
 ghost use Rattle.pc_staging.specs.Kept.{Evidence, after_commit, after_stage, after_view, is_dead_by, is_live_at, is_over, is_passed_by, is_refuted, is_staged_and_proved, later_step, nothing_kept, refuted_above, refuted_at, seen_undecided, with_stages, without_stages, without_stage};
@@ -149,9 +150,17 @@ impl Staging {
         ensures stands { (k now : Known) (stages : List SentStage) (t : Txn) (c : SentCommit) (h : Heard) → StagingStands k stages (Some c) t self.old → HearsCommit k now c view.now h → h.step ≡ step → StagingStands now stages (commit_after view.now c) (txn_heard k.sent (Some h) t) self.new }
     {
         if !is_final(view) {
-            self.see(step);
-            self.commit = None;
+            self.commit_refused(step);
         }
+    }
+
+    /// The commit that was sent was refused: its record is not final, by a reply that was evaluated at this step.
+    pub fn commit_refused(&mut self, step: u64)
+        ensures made { self.new ≡ record (seen_undecided step self.old) { commit = None } }
+        ensures stands { (k now : Known) (stages : List SentStage) (t : Txn) (c : SentCommit) (view : View) (h : Heard) → StagingStands k stages (Some c) t self.old → HearsCommit k now c view h → is_final_view view ≡ false → h.step ≡ step → StagingStands now stages None (txn_heard k.sent (Some h) t) self.new }
+    {
+        self.see(step);
+        self.commit = None;
     }
 
     /// A heartbeat was told this of the record, by a reply that was evaluated at this step.
@@ -203,6 +212,13 @@ impl Staging {
         for stage in self.stages.iter_mut() {
             stage.refute_at(ts, step);
         }
+    }
+
+    /// The record was seen that is not final, by a reply that was evaluated at this step.
+    pub fn undecided(&mut self, step: u64)
+        ensures { self.new ≡ seen_undecided step self.old }
+    {
+        self.see(step);
     }
 
     fn see(&mut self, step: u64)

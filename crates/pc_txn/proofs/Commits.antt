@@ -1,35 +1,45 @@
 -- A commit of the open transaction goes out, and is refused.
-use Rattle.std.proofs.Common.{◌≡◌, ℕ, ◌≤◌, max, inl, inr, List, [], ◌∷◌, ◌++◌, Some, None, refl, sym, ap, ◌∙◌, subst, arith, All}
+use Rattle.std.proofs.Common.{◌≡◌, ℕ, ◌<◌, ◌≤◌, max, true, false, not, ◌⊎◌, List, [], ◌∷◌, ◌++◌, Option, Some, None, refl, sym, ap, ◌∙◌, subst, arith, All, Any, IsTrue}
+use Rattle.std.specs.Option.{option_map_or}
+use Rattle.std.proofs.lemmas.Bool.{and_parts}
 use Rattle.std.proofs.lemmas.List.{append-nil}
-use Rattle.std.proofs.lemmas.List.Elements.{All-push}
+use Rattle.std.proofs.lemmas.List.Elements.{All-cons, All-nil, All-push}
 use Rattle.pc_base.specs.declared.span.Span.{Span}
 use Rattle.pc_base.specs.Transaction.{same_txn}
-use Rattle.pc_lists.proofs.Anywhere.{any_kept, any_last}
+use Rattle.pc_flight.proofs.Holding.{flights_hold}
+use Rattle.pc_follows.specs.Heartbeats.{last_shown}
+use Rattle.pc_flight.specs.declared.write.WriteInFlight.{WriteInFlight}
 use Rattle.pc_lists.proofs.Same.{same_txn-self}
 use Rattle.pc_proto.specs.declared.reply.Reply.{Reply}
 use Rattle.pc_proto.specs.declared.reply.Reply.TheVariants as replies
 use Rattle.pc_proto.specs.declared.request.Request.{Request}
-use Rattle.pc_proto.specs.declared.view.View.TheVariants as views
+use Rattle.pc_proto.specs.declared.view.View.{View}
 use Rattle.pc_proto.specs.declared.why.Why.{Why}
-use Rattle.pc_proto.specs.Replies.{is_undecided_status}
-use Rattle.pc_proto.specs.Requests.{subject_anchor}
+use Rattle.pc_proto.specs.Replies.{is_undecided_status, view_in}
+use Rattle.pc_proto.specs.Requests.{is_about, subject_anchor}
+use Rattle.pc_proto.specs.Views.{is_final_view, is_staging_at, undecided_ts}
 use Rattle.pc_reads.proofs.Goods.{stand_on}
 use Rattle.pc_reads.specs.ReadsStanding.{TxnReadsStand}
-use Rattle.pc_txn.proofs.Keeping.{each_commit-more}
-use Rattle.pc_txn.proofs.Laying.{same_none}
+use Rattle.pc_staging.proofs.Hears as hears
+use Rattle.pc_staging.proofs.Sending.{commit_stands}
+use Rattle.pc_staging.specs.Kept.{Evidence, is_passed_by, seen_undecided}
+use Rattle.pc_staging.specs.Standing.{StagingStands, WasStagedAt}
+use Rattle.pc_txn.proofs.Keeping.{staged_split}
+use Rattle.pc_txn.proofs.Late.{late_on, none_by_other}
 use Rattle.pc_txn.proofs.Same.{if_true}
-use Rattle.pc_follows.specs.Heartbeats.{last_shown}
 use Rattle.pc_txn.proofs.Shown.{shown-one}
-use Rattle.pc_txn.proofs.Writes.{all_proved-more}
+use Rattle.pc_txn.proofs.Written.{writes_on}
 use Rattle.pc_txn.specs.declared.txn.OpenTxn.{OpenTxn}
-use Rattle.pc_txn.specs.Opened.{opened_as, own_commit, reading_on, risen_above}
-use Rattle.pc_txn.specs.Standing.{AreProved, AreUnwritten, HasMovedOn, IsOutOrRefused, IsPendingOf, PutsUpTo, ShowsPending, TxnStands, WasLaid}
+use Rattle.pc_txn.specs.Opened.{with_commit, opened_as, own_commit, refused_at}
+use Rattle.pc_txn.specs.Standing.{AreLateByWrites, HasMovedOn, IsProvedAbove, IsUndecidedOf, TxnStands}
+use Rattle.pc_txn.specs.Writing.{IsNotWritten, PutsUpTo, WritesStand}
 use Rattle.pc_world.specs.Known.{Known}
 use Rattle.pc_world.specs.Known.Reads.{IsGoodAt}
 use Rattle.pc_world.specs.Known.Traffic.{Heard, Sent}
 use Rattle.pc_world.specs.Known.Transactions.{Txn, meta_of, txn_heard, txn_sent}
 use Rattle.pc_world.specs.Known.Writes.{last_seq_of}
-use Rattle.pc_world.specs.StageFate.{EachCommit, OnCommit, Refuses, SentCommit, WasCommitRefused, commit_request}
+use Rattle.pc_world.specs.StageFate.{RefutesRecord, RefutesWrite, SentCommit, SentStage, commit_request}
+use Rattle.pc_world.specs.Tell.End.{shows_staging}
 
 -- The commit of the transaction, with this anchor.
 abbrev pub commit_now : Txn → List ℕ → SentCommit
@@ -45,9 +55,9 @@ sent-commit t anchor behind =
     let top : max t.read_ts t.write_ts ≡ t.write_ts = omega arith in
     ap F (if_true (same_txn t.id t.id) (max t.read_ts t.write_ts) t.read_ts (same_txn-self t.id) ∙ top)
 
-module _ (k now : Known) (shown : ℕ) (cause : Why) (spans : List Span) (t : Txn) (anchor : List ℕ) (number range : ℕ) where
+module _ (k now : Known) (stages : List SentStage) (commit : Option SentCommit) (shown : ℕ) (cause : Why) (spans : List Span) (flight : List WriteInFlight) (evidence : Evidence) (t : Txn) (anchor : List ℕ) (number range : ℕ) where
   abbrev x0 : OpenTxn
-  x0 = opened_as shown cause spans None t
+  x0 = opened_as shown cause spans flight evidence t
 
   abbrev m0 : Sent
   m0 = record { number = number; range = range; request = commit_request (commit_now t anchor) }
@@ -55,19 +65,17 @@ module _ (k now : Known) (shown : ℕ) (cause : Why) (spans : List Span) (t : Tx
   abbrev c0 : SentCommit
   c0 = commit_now t anchor
 
-  module _ (st : TxnStands k None t x0) (anchored : t.anchor ≡ Some anchor) (good : All (IsGoodAt t.id k.heard t.write_ts) t.reads) (more : HasMovedOn k now (m0 ∷ []) []) where
+  module _ (st : TxnStands k stages commit t x0) (passed : is_passed_by evidence ≡ true) (anchored : t.anchor ≡ Some anchor) (good : All (IsGoodAt t.id k.heard t.write_ts) t.reads) (more : HasMovedOn k now (m0 ∷ []) []) where
     heard-same : now.heard ≡ k.heard
     heard-same = more.heard ∙ append-nil k.heard
 
-    -- no other commit is out
-    others : EachCommit t.id k.sent (IsOutOrRefused (Some c0) k.heard)
-    others = each_commit-more t.id (IsOutOrRefused None k.heard) (IsOutOrRefused (Some c0) k.heard) by k.sent st.refused
-      where
-        by : (c : SentCommit) → IsOutOrRefused None k.heard c → IsOutOrRefused (Some c0) k.heard c
-        by c (inl is) = absurd cc
-        by c (inr refused) = inr refused
+    writes2 : WritesStand now.sent now.heard (read_on t)
+    writes2 =
+        let w : WritesStand (k.sent ++ m0 ∷ []) (k.heard ++ []) t = writes_on k.sent (m0 ∷ []) k.heard [] t st.writes (All-nil (λ h. (seq : ℕ) → IsNotWritten t seq h)) in
+        let v : WritesStand now.sent now.heard t = subst (λ ms. WritesStand ms now.heard t) (sym more.sent) (subst (λ hs. WritesStand (k.sent ++ m0 ∷ []) hs t) (sym more.heard) w) in
+        record { by_sequence = v.by_sequence; each_sent = v.each_sent; unwritten = v.unwritten; locked = v.locked; unanchored = v.unanchored }
 
-    committing_by : TxnStands now (Some c0) (read_on t) (reading_on x0)
+    committing_by : TxnStands now stages (Some c0) (read_on t) (with_commit x0)
     committing_by = record {
       same = refl;
       number = omega (arith, st.number, more.begun);
@@ -75,90 +83,116 @@ module _ (k now : Known) (shown : ℕ) (cause : Why) (spans : List Span) (t : Tx
       behind = omega arith;
       at_begin = λ none. let e : Some anchor ≡ None = sym anchored ∙ none in absurd cc;
       below = omega (arith, st.below, more.high);
-      refused =
-          subst (λ hs. EachCommit t.id now.sent (IsOutOrRefused (Some c0) hs)) (sym heard-same)
-          (subst (λ ms. EachCommit t.id ms (IsOutOrRefused (Some c0) k.heard)) (sym more.sent)
-          (All-push (λ m. OnCommit t.id (IsOutOrRefused (Some c0) k.heard) m.request) k.sent m0 others (λ same. inl refl)));
-      views = subst (λ hs. All (IsPendingOf t) hs) (sym heard-same) st.views;
+      views = subst (λ hs. All (IsUndecidedOf t) hs) (sym heard-same) st.views;
       shown = st.shown ∙ sym (ap (last_shown t) more.sent ∙ shown-one t k.sent m0 refl);
+      staged = λ ts was. st.staged ts (subst (λ hs. WasStagedAt hs t ts) heard-same was);
+      late = subst (λ hs. AreLateByWrites stages hs t) (sym heard-same) st.late;
       puts =
           subst (λ ms. All (λ m. PutsUpTo t (last_seq_of t.writes) m.request) ms) (sym more.sent)
           (All-push (λ m. PutsUpTo t (last_seq_of t.writes) m.request) k.sent m0 st.puts (λ epoch seq put. absurd cc));
       put_heard = subst (λ hs. All (λ h. PutsUpTo t (last_seq_of t.writes) h.request) hs) (sym heard-same) st.put_heard;
-      laid = tt;
-      unwritten = tt;
-      proved = st.proved;
+      writes = writes2;
+      flight = flights_hold.on flight t (read_on t) st.flight refl (omega arith);
+      staging =
+          subst (λ t2. StagingStands now stages (Some c0) t2 (record evidence { commit = Some t.write_ts })) (sent-commit t anchor st.behind)
+          (commit_stands k now stages commit t evidence c0 st.staging passed
+          (record { sends = record { m = m0; grown = record { sent = more.sent; heard = more.heard }; said = refl }; whose = refl; at_write_ts = refl }));
       reads =
           let s : TxnReadsStand t.id k.heard t.reads (record { spans = spans; ts = t.read_ts }) = st.reads in
           subst (λ hs. TxnReadsStand t.id hs t.reads (record { spans = spans; ts = t.write_ts })) (sym heard-same) (record { kept = s.kept; of_reads = s.of_reads; good = good; ordered = s.ordered });
     }
 
 -- its commit was sent
-pub commit_sent : (k now : Known) (t : Txn) (x : OpenTxn) (anchor : List ℕ) (number range : ℕ) → TxnStands k None t x → x.in_flight ≡ None → t.anchor ≡ Some anchor → All (IsGoodAt t.id k.heard t.write_ts) t.reads
-    → HasMovedOn k now (record { number = number; range = range; request = own_commit x anchor } ∷ []) [] → TxnStands now (Some (commit_now t anchor)) (txn_sent (own_commit x anchor) t) (reading_on x)
-commit_sent k now t x anchor number range st none anchored good more =
+pub commit_sent : (k now : Known) (stages : List SentStage) (commit : Option SentCommit) (t : Txn) (x : OpenTxn) (anchor : List ℕ) (number range : ℕ) → TxnStands k stages commit t x → is_passed_by x.staging ≡ true → t.anchor ≡ Some anchor
+    → All (IsGoodAt t.id k.heard t.write_ts) t.reads
+    → HasMovedOn k now (record { number = number; range = range; request = own_commit x anchor } ∷ []) [] → TxnStands now stages (Some (commit_now t anchor)) (txn_sent (own_commit x anchor) t) (with_commit x)
+commit_sent k now stages commit t x anchor number range st passed anchored good more =
     let P : OpenTxn → Type 0 = λ x.
-    TxnStands k None t x → HasMovedOn k now (record { number = number; range = range; request = own_commit x anchor } ∷ []) [] → TxnStands now (Some (commit_now t anchor)) (txn_sent (own_commit x anchor) t) (reading_on x) in
-    let at : P (opened_as x.shown x.cause x.reads.spans None t) = λ st more.
-    subst (λ t2. TxnStands now (Some (commit_now t anchor)) t2 (reading_on (opened_as x.shown x.cause x.reads.spans None t))) (sym (sent-commit t anchor st.behind))
-    (committing_by k now x.shown x.cause x.reads.spans t anchor number range st anchored good more) in
-    subst P (sym (same_none k None t x st none)) at st more
+    TxnStands k stages commit t x → is_passed_by x.staging ≡ true → HasMovedOn k now (record { number = number; range = range; request = own_commit x anchor } ∷ []) []
+    → TxnStands now stages (Some (commit_now t anchor)) (txn_sent (own_commit x anchor) t) (with_commit x) in
+    let at : P (opened_as x.shown x.cause x.reads.spans x.in_flight x.staging t) = λ st passed more.
+    subst (λ t2. TxnStands now stages (Some (commit_now t anchor)) t2 (with_commit (opened_as x.shown x.cause x.reads.spans x.in_flight x.staging t))) (sym (sent-commit t anchor st.behind))
+    (committing_by k now stages commit x.shown x.cause x.reads.spans x.in_flight x.staging t anchor number range st passed anchored good more) in
+    subst P (sym st.same) at st passed more
 
-module _ (k now : Known) (t : Txn) (x : OpenTxn) (c : SentCommit) (epoch recorded : ℕ) (h : Heard) (st : TxnStands k (Some c) t x) (none : x.in_flight ≡ None) (whose : c.meta.id ≡ t.id) (anchored : t.anchor ≡ Some c.meta.anchor)
-    (asked : h.request ≡ commit_request c) (told : h.reply ≡ replies.Status (views.Pending epoch recorded)) (more : HasMovedOn k now [] (h ∷ [])) (low : recorded ≤ now.high) where
+module _ (k now : Known) (stages : List SentStage) (t : Txn) (x : OpenTxn) (c : SentCommit) (view : View) (recorded : ℕ) (h : Heard) (st : TxnStands k stages (Some c) t x) (anchored : t.anchor ≡ Some c.meta.anchor)
+    (asked : h.request ≡ commit_request c) (told : h.reply ≡ replies.Status view) (unfinal : is_final_view view ≡ false) (stands_at : undecided_ts view ≡ recorded) (past : c.ts < recorded)
+    (no_later : (epoch ts : ℕ) → IsTrue (is_staging_at epoch ts view) → epoch ≤ t.epoch)
+    (known : (ts : ℕ) → IsTrue (is_staging_at t.epoch ts view) → Any (λ s. s.ts ≡ ts) stages ⊎ Any (IsProvedAbove ts) t.writes)
+    (more : HasMovedOn k now [] (h ∷ [])) (low : recorded ≤ now.high) where
   -- The transaction once its record was heard to stand there.
   abbrev risen : Txn
   risen = record t { write_ts = max t.write_ts recorded }
+
+  whose : c.meta.id ≡ t.id
+  whose = st.staging.out.whose
 
   heard-commit : txn_heard k.sent (Some h) t ≡ risen
   heard-commit =
       let F : Request → Reply → Txn = λ r y. txn_heard k.sent (Some (record { number = h.number; request = r; reply = y; step = h.step })) t in
       let G : ℕ → Txn = λ n. record t { write_ts = max t.write_ts n } in
       ap (λ r. F r h.reply) asked ∙ ap (F (commit_request c)) told
-      ∙ ap G (if_true (same_txn c.meta.id t.id) recorded 0 (ap (λ id. same_txn id t.id) whose ∙ same_txn-self t.id))
+      ∙ ap G (if_true (same_txn c.meta.id t.id) (undecided_ts view) 0 (ap (λ id. same_txn id t.id) whose ∙ same_txn-self t.id) ∙ stands_at)
 
-  heard-now : now.heard ≡ k.heard ++ h ∷ []
-  heard-now = more.heard
+  sent-same : now.sent ≡ k.sent
+  sent-same = more.sent ∙ append-nil k.sent
 
-  refuses : Refuses c h
-  refuses = record { asked = asked; unsettled = ap is_undecided_status told }
+  staging3 : StagingStands now stages None risen (record (seen_undecided h.step x.staging) { commit = None })
+  staging3 =
+      subst (λ t2. StagingStands now stages None t2 (record (seen_undecided h.step x.staging) { commit = None })) heard-commit
+      (hears.commit_refused k now stages t x.staging c st.staging h view
+      (record { grown = record { sent = more.sent; heard = more.heard }; asked = asked; told = told; past = λ other. subst (λ n. c.ts < n) (sym stands_at) past }) unfinal h.step refl)
 
-  now_refused : (other : SentCommit) → IsOutOrRefused (Some c) k.heard other → IsOutOrRefused None (k.heard ++ h ∷ []) other
-  now_refused other (inl is) = let e : c ≡ other = cc in inr (subst (λ c. WasCommitRefused (k.heard ++ h ∷ []) c) e (any_last (Refuses c) k.heard h refuses))
-  now_refused other (inr refused) = inr (any_kept (Refuses other) k.heard (h ∷ []) refused)
+  writes3 : WritesStand now.sent now.heard risen
+  writes3 =
+      let P : Request → Type 0 = λ r. (seq : ℕ) → IsNotWritten t seq (record { number = h.number; request = r; reply = h.reply; step = h.step }) in
+      let none : (seq : ℕ) → IsNotWritten t seq h = subst P (sym asked) (λ seq put. absurd cc) in
+      let w : WritesStand (k.sent ++ []) (k.heard ++ h ∷ []) t =
+      writes_on k.sent [] k.heard (h ∷ []) t st.writes (All-push (λ h. (seq : ℕ) → IsNotWritten t seq h) [] h (All-nil (λ h. (seq : ℕ) → IsNotWritten t seq h)) none) in
+      let v : WritesStand now.sent now.heard t = subst (λ ms. WritesStand ms now.heard t) (sym more.sent) (subst (λ hs. WritesStand (k.sent ++ []) hs t) (sym more.heard) w) in
+      record { by_sequence = v.by_sequence; each_sent = v.each_sent; unwritten = v.unwritten; locked = v.locked; unanchored = v.unanchored }
 
-  refused_by : TxnStands now None risen (risen_above recorded x)
-  refused_by = record {
-    same = ap (risen_above recorded) st.same;
-    number = omega (arith, st.number, more.begun);
-    begun = st.begun;
-    behind = omega (arith, st.behind);
-    at_begin = st.at_begin;
-    below = omega (arith, st.below, more.high, low);
-    refused =
-        subst (λ ms. EachCommit t.id ms (IsOutOrRefused None now.heard)) (sym (more.sent ∙ append-nil k.sent))
-        (subst (λ hs. EachCommit t.id k.sent (IsOutOrRefused None hs)) (sym heard-now)
-        (each_commit-more t.id (IsOutOrRefused (Some c) k.heard) (IsOutOrRefused None (k.heard ++ h ∷ [])) now_refused k.sent st.refused));
-    views =
-        subst (λ hs. All (IsPendingOf t) hs) (sym heard-now)
-        (All-push (IsPendingOf t) k.heard h st.views (λ about. record {
-          anchored = ap subject_anchor asked ∙ sym anchored;
-          pending = subst ShowsPending (sym told) tt;
-        }));
-    shown = st.shown ∙ sym (ap (last_shown t) (more.sent ∙ append-nil k.sent));
-    puts = subst (λ ms. All (λ m. PutsUpTo t (last_seq_of t.writes) m.request) ms) (sym (more.sent ∙ append-nil k.sent)) st.puts;
-    put_heard =
-        let P : Heard → Type 0 = λ h. PutsUpTo t (last_seq_of t.writes) h.request in
-        subst (λ hs. All P hs) (sym heard-now)
-        (All-push P k.heard h st.put_heard (subst (λ r. PutsUpTo t (last_seq_of t.writes) r) (sym asked) (λ epoch seq put. absurd cc)));
-    laid = subst (λ f. WasLaid risen now.sent f) (sym none) tt;
-    unwritten = subst (λ f. AreUnwritten risen now.heard f) (sym none) tt;
-    proved =
-        subst (λ f. AreProved risen f) (sym none)
-        (all_proved-more t.write_ts (max t.write_ts recorded) t.writes (omega arith) (subst (λ f. AreProved t f) none st.proved));
-    reads = subst (λ hs. TxnReadsStand t.id hs t.reads x.reads) (sym heard-now) (stand_on t.id k.heard (h ∷ []) t.reads x.reads st.reads);
-  }
+  shown : (epoch ts : ℕ) → IsTrue (shows_staging t.id epoch ts h) → IsTrue (is_staging_at epoch ts view)
+  shown epoch ts shows =
+      let parts = and_parts (is_about t.id h.request) (option_map_or (is_staging_at epoch ts) (view_in h.reply) false) shows in
+      sym (ap (λ reply. option_map_or (is_staging_at epoch ts) (view_in reply) false) told) ∙ parts.1
+
+  refused_by : TxnStands now stages None risen (refused_at recorded h.step x)
+  refused_by =
+      let kept : Evidence = x.staging in
+      record {
+        same = ap (λ (x : OpenTxn). record x { write_ts = max x.write_ts recorded; staging = record (seen_undecided h.step kept) { commit = None } }) st.same;
+        number = omega (arith, st.number, more.begun);
+        begun = st.begun;
+        behind = omega (arith, st.behind);
+        at_begin = st.at_begin;
+        below = omega (arith, st.below, more.high, low);
+        views =
+            subst (λ hs. All (IsUndecidedOf t) hs) (sym more.heard)
+            (All-push (IsUndecidedOf t) k.heard h st.views (λ about. record {
+              anchored = ap subject_anchor asked ∙ sym anchored;
+              undecided = ap is_undecided_status told ∙ ap not unfinal;
+              no_later = λ epoch ts is. no_later epoch ts (sym (ap (λ reply. option_map_or (is_staging_at epoch ts) (view_in reply) false) told) ∙ is);
+            }));
+        shown = st.shown ∙ sym (ap (last_shown t) sent-same);
+        staged = λ ts was. staged_split k.heard h t stages ts st.staged (λ shows. known ts (shown t.epoch ts shows)) (subst (λ hs. WasStagedAt hs t ts) more.heard was);
+        late =
+            subst (λ hs. AreLateByWrites stages hs t) (sym more.heard)
+            (late_on k.heard (h ∷ []) t stages st.late
+            (λ s there.
+            All-cons (λ h. RefutesWrite s h ⊎ RefutesRecord s h → ⊥) h [] (none_by_other s h (commit_request c) asked (λ reply. refl) (λ e. absurd cc))
+            (All-nil (λ h. RefutesWrite s h ⊎ RefutesRecord s h → ⊥))));
+        puts = subst (λ ms. All (λ m. PutsUpTo t (last_seq_of t.writes) m.request) ms) (sym sent-same) st.puts;
+        put_heard =
+            let P : Heard → Type 0 = λ h. PutsUpTo t (last_seq_of t.writes) h.request in
+            subst (λ hs. All P hs) (sym more.heard)
+            (All-push P k.heard h st.put_heard (subst (λ r. PutsUpTo t (last_seq_of t.writes) r) (sym asked) (λ epoch seq put. absurd cc)));
+        writes = writes3;
+        flight = flights_hold.on x.in_flight t risen st.flight refl (omega arith);
+        staging = staging3;
+        reads = subst (λ hs. TxnReadsStand t.id hs t.reads x.reads) (sym more.heard) (stand_on t.id k.heard (h ∷ []) t.reads x.reads st.reads);
+      }
 
   -- its commit was refused
-  pub commit_refused : TxnStands now None (txn_heard k.sent (Some h) t) (risen_above recorded x)
-  commit_refused = subst (λ t2. TxnStands now None t2 (risen_above recorded x)) (sym heard-commit) refused_by
+  pub commit_refused : TxnStands now stages None (txn_heard k.sent (Some h) t) (refused_at recorded h.step x)
+  commit_refused = subst (λ t2. TxnStands now stages None t2 (refused_at recorded h.step x)) (sym heard-commit) refused_by

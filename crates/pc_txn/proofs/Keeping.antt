@@ -1,44 +1,52 @@
 -- What leaves the open transaction as it is.
-use Rattle.std.proofs.Common.{◌≡◌, ℕ, true, inl, inr, List, ◌++◌, Option, None, sym, ap, ◌∙◌, subst, arith, All, Any, IsTrue, Some, refl}
-use Rattle.std.proofs.lemmas.List.Elements.{All-append, All-weaker}
+use Rattle.std.proofs.Common.{◌≡◌, ℕ, Bool, true, false, ◌&&◌, ◌==◌, ◌⊎◌, not, inl, List, [], ◌∷◌, ◌++◌, Option, None, is_none, sym, ap, ◌∙◌, subst, arith, All, Any, Contains, IsTrue, Some, refl}
+use Rattle.std.specs.List.{list_all}
+use Rattle.std.specs.Option.{option_map_or}
+use Rattle.std.proofs.lemmas.List.Elements.{All-append, All-cons, All-contains, All-nil, All-weaker}
 use Rattle.pc_base.specs.declared.transaction.TxnId.{TxnId}
-use Rattle.pc_lists.proofs.Anywhere.{any_kept}
+use Rattle.pc_base.specs.Transaction.{same_txn}
+use Rattle.pc_follows.specs.Heartbeats.{last_shown}
+use Rattle.pc_lists.proofs.Lists.{all_from_contains}
+use Rattle.pc_proto.specs.declared.reply.Reply.{Reply}
+use Rattle.pc_proto.specs.declared.reply.Reply.TheVariants as replies
 use Rattle.pc_proto.specs.declared.request.Request.{Request}
 use Rattle.pc_proto.specs.declared.request.Request.TheVariants as requests
-use Rattle.pc_proto.specs.Requests.{is_put_of}
+use Rattle.pc_proto.specs.Replies.{view_in}
+use Rattle.pc_proto.specs.Requests.{is_about, is_put_of}
+use Rattle.pc_proto.specs.Views.{is_final_view, is_staging_at}
 use Rattle.pc_reads.proofs.Goods.{stand_on}
 use Rattle.pc_reads.specs.ReadsStanding.{TxnReadsStand}
-use Rattle.pc_follows.specs.Heartbeats.{last_shown}
+use Rattle.pc_staging.proofs.Going.{staging_on}
+use Rattle.pc_staging.specs.declared.stage_out.StageOut.{StageOut}
+use Rattle.pc_staging.specs.Kept.{Evidence, is_dead_by, is_over, is_passed_by, is_refuted}
+use Rattle.pc_staging.specs.Laws.{LeavesStages, SendsNothingNew}
+use Rattle.pc_staging.specs.Standing.{AreEvidence, StagingStands, WasStagedAt, WasStageSent}
+use Rattle.pc_txn.proofs.Late.{late_on, none_by}
+use Rattle.pc_txn.proofs.Lists.{any_before}
 use Rattle.pc_txn.proofs.Shown.{shown-plain}
-use Rattle.pc_txn.specs.declared.flight.InFlight.{InFlight}
+use Rattle.pc_txn.proofs.Written.{writes_on}
 use Rattle.pc_txn.specs.declared.txn.OpenTxn.{OpenTxn}
 use Rattle.pc_txn.specs.Laws.{TxnStandsOn}
-use Rattle.pc_txn.specs.Standing.{AreUnwritten, HasMovedOn, IsOutOrRefused, IsPendingOf, IsNotWritten, LeavesAsIs, PutsUpTo, TxnStands, WasLaid, is_plain}
+use Rattle.pc_txn.specs.Standing.{AreLateByWrites, AreStagedThere, HasMovedOn, IsProvedAbove, IsUndecidedOf, LeavesAsIs, TxnStands, is_plain, is_query_of}
+use Rattle.pc_txn.specs.Writing.{IsNotWritten, PutsUpTo, WritesStand}
 use Rattle.pc_world.specs.Known.{Known}
 use Rattle.pc_world.specs.Known.Traffic.{Heard, Sent}
-use Rattle.pc_world.specs.Known.Transactions.{Txn, txn_sent}
+use Rattle.pc_world.specs.Known.Transactions.{Txn, lists_write, txn_sent}
 use Rattle.pc_world.specs.Known.Writes.{last_seq_of}
-use Rattle.pc_world.specs.StageFate.{EachCommit, OnCommit, Refuses, SentCommit}
+use Rattle.pc_world.specs.StageFate.{OnCommit, OnStage, RefutesRecord, RefutesWrite, SentCommit, SentStage, is_write_refuted}
+use Rattle.pc_world.specs.Tell.End.{shows_staging}
 
-pub quiet_commit : (id : TxnId) (P : SentCommit → Type 0) (r : Request) → is_plain r ≡ true → OnCommit id P r
+quiet_commit : (id : TxnId) (P : SentCommit → Type 0) (r : Request) → is_plain r ≡ true → OnCommit id P r
 quiet_commit id P (requests.Commit meta ts locks) e = absurd cc
 quiet_commit id P r e = tt
+
+quiet_stage : (id : TxnId) (P : SentStage → Type 0) (r : Request) → is_plain r ≡ true → OnStage id P r
+quiet_stage id P (requests.Stage meta ts now writes locks) e = absurd cc
+quiet_stage id P r e = tt
 
 pub quiet_put : (id : TxnId) (epoch seq : ℕ) (r : Request) → is_plain r ≡ true → IsTrue (is_put_of id epoch seq r) → ⊥
 quiet_put id epoch seq (requests.Put meta at ts key value) e is = cc
 quiet_put id epoch seq r e is = cc
-
-pub on_commit-more : (id : TxnId) (P Q : SentCommit → Type 0) → ((c : SentCommit) → P c → Q c) → (request : Request) → OnCommit id P request → OnCommit id Q request
-on_commit-more id P Q on (requests.Commit meta ts locks) h = λ same. on (record { meta = meta; ts = ts; locks = locks }) (h same)
-on_commit-more id P Q on request h = tt
-
-pub each_commit-more : (id : TxnId) (P Q : SentCommit → Type 0) → ((c : SentCommit) → P c → Q c) → (sent : List Sent) → EachCommit id sent P → EachCommit id sent Q
-each_commit-more id P Q on sent a = All-weaker (λ m. OnCommit id P m.request) (λ m. OnCommit id Q m.request) (λ m. on_commit-more id P Q on m.request) sent a
-
--- a commit that was refused stays so
-pub refused-more : (out : Option SentCommit) (heard more : List Heard) (c : SentCommit) → IsOutOrRefused out heard c → IsOutOrRefused out (heard ++ more) c
-refused-more out heard more c (inl is) = inl is
-refused-more out heard more c (inr refused) = inr (any_kept (Refuses c) heard more refused)
 
 -- what neither writes nor decides changes nothing of a transaction
 pub quiet_sent : (r : Request) (t : Txn) → is_plain r ≡ true → txn_sent r t ≡ t
@@ -47,38 +55,89 @@ quiet_sent (requests.Stage meta ts now writes locks) t e = absurd cc
 quiet_sent (requests.Commit meta ts locks) t e = absurd cc
 quiet_sent r t e = refl
 
--- the reply to what neither writes nor decides leaves the transaction as it is, where it shows nothing final
-pub quiet_leaves : (t : Txn) (h : Heard) → is_plain h.request ≡ true → IsPendingOf t h → LeavesAsIs t h
-quiet_leaves t h quiet pending = record {
-  pending = pending;
+queried : (s : SentStage) (id : TxnId) (request : Request) (reply : Reply) → s.meta.id ≡ id → is_plain request ≡ true → is_query_of id request ≡ false → is_write_refuted s request reply ≡ false
+queried s id (requests.Put meta seq ts key value) reply whose quiet none = absurd cc
+queried s id (requests.Query other epoch seq ts key who) reply whose quiet none = missing reply
+  where
+    differs : same_txn other s.meta.id ≡ false
+    differs = subst (λ i. same_txn other i ≡ false) (sym whose) none
+
+    missing : (reply : Reply) → is_write_refuted s (requests.Query other epoch seq ts key who) reply ≡ false
+    missing replies.Missing = ap (λ b. b && epoch == s.meta.epoch && (ts == s.ts && lists_write key seq s.writes)) differs
+    missing reply = refl
+queried s id request reply whose quiet none = refl
+
+-- the reply to what neither writes, decides nor asks for its writes leaves the transaction as it is, where it is not about its record
+pub quiet_leaves : (t : Txn) (h : Heard) → is_plain h.request ≡ true → is_query_of t.id h.request ≡ false → is_about t.id h.request ≡ false → LeavesAsIs t h
+quiet_leaves t h quiet none other = record {
+  other = other;
   put = λ epoch seq put. absurd (quiet_put t.id epoch seq h.request quiet put);
-  unwritten = λ put. absurd (quiet_put t.id t.epoch (last_seq_of t.writes) h.request quiet put);
+  unwritten = λ seq put. absurd (quiet_put t.id t.epoch seq h.request quiet put);
+  unrefuted = λ s whose. queried s t.id h.request h.reply whose quiet none;
 }
 
-module _ (k now : Known) (out : Option SentCommit) (t : Txn) (x : OpenTxn) (sent_more : List Sent) (heard_more : List Heard) (st : TxnStands k out t x) (more : HasMovedOn k now sent_more heard_more)
+-- what is not about its record shows no stage of it
+pub shows_none : (id : TxnId) (epoch ts : ℕ) (h : Heard) → is_about id h.request ≡ false → IsTrue (shows_staging id epoch ts h) → ⊥
+shows_none id epoch ts h other shows =
+    let none : shows_staging id epoch ts h ≡ false = ap (λ b. b && option_map_or (is_staging_at epoch ts) (view_in h.reply) false) other in
+    let is : shows_staging id epoch ts h ≡ true = shows in
+    absurd cc
+
+-- where more was heard that shows no stage of it, it was heard to stage where it was before
+pub staged_before : (heard more : List Heard) (t : Txn) (ts : ℕ) → All (λ h. IsTrue (shows_staging t.id t.epoch ts h) → ⊥) more → WasStagedAt (heard ++ more) t ts → WasStagedAt heard t ts
+staged_before heard more t ts none was = any_before (λ h. IsTrue (shows_staging t.id t.epoch ts h)) heard more none was
+
+-- where one more reply was heard, it was heard to stage by that one, or before
+pub staged_split : (heard : List Heard) (h : Heard) (t : Txn) (stages : List SentStage) (ts : ℕ) → AreStagedThere stages heard t → (IsTrue (shows_staging t.id t.epoch ts h) → Any (λ s. s.ts ≡ ts) stages ⊎ Any (IsProvedAbove ts) t.writes)
+    → WasStagedAt (heard ++ h ∷ []) t ts → Any (λ s. s.ts ≡ ts) stages ⊎ Any (IsProvedAbove ts) t.writes
+staged_split heard h t stages ts before now was = by (shows_staging t.id t.epoch ts h) refl
+  where
+    by : (b : Bool) → shows_staging t.id t.epoch ts h ≡ b → Any (λ s. s.ts ≡ ts) stages ⊎ Any (IsProvedAbove ts) t.writes
+    by true is = now is
+    by false is =
+        let P : Heard → Type 0 = λ h. IsTrue (shows_staging t.id t.epoch ts h) in
+        before ts (staged_before heard (h ∷ []) t ts (All-cons (λ h. P h → ⊥) h [] (λ shows. let so : shows_staging t.id t.epoch ts h ≡ true = shows in absurd cc) (All-nil (λ h. P h → ⊥))) was)
+
+-- where nothing is kept of stages, and no commit is out, nothing can have committed
+none_kept : (heard : List Heard) (t : Txn) (os : List StageOut) → AreEvidence heard t [] os → os ≡ []
+none_kept heard t [] e = refl
+none_kept heard t (o ∷ os) e = absurd e
+
+pub free_over : (k : Known) (t : Txn) (e : Evidence) → StagingStands k [] None t e → is_over e ≡ true
+free_over k t e st =
+    ap (λ c. is_none c && list_all (is_dead_by e.undecided) e.stages) st.commit_at
+    ∙ ap (λ os. list_all (is_dead_by e.undecided) os) (none_kept k.heard t e.stages st.kept)
+
+pub free_passed : (k : Known) (t : Txn) (e : Evidence) → StagingStands k [] None t e → is_passed_by e ≡ true
+free_passed k t e st =
+    ap (λ c. is_none c && list_all is_refuted e.stages) st.commit_at
+    ∙ ap (λ os. list_all is_refuted os) (none_kept k.heard t e.stages st.kept)
+
+module _ (k now : Known) (stages : List SentStage) (commit : Option SentCommit) (t : Txn) (x : OpenTxn) (sent_more : List Sent) (heard_more : List Heard) (st : TxnStands k stages commit t x) (more : HasMovedOn k now sent_more heard_more)
     (quiet : All (λ m. IsTrue (is_plain m.request)) sent_more) (leave : All (LeavesAsIs t) heard_more) where
-  refused2 : EachCommit t.id now.sent (IsOutOrRefused out now.heard)
-  refused2 =
-      let Q : SentCommit → Type 0 = IsOutOrRefused out (k.heard ++ heard_more) in
-      let P : Sent → Type 0 = λ m. OnCommit t.id Q m.request in
-      let old : All P k.sent = each_commit-more t.id (IsOutOrRefused out k.heard) Q (refused-more out k.heard heard_more) k.sent st.refused in
-      let new : All P sent_more = All-weaker (λ m. IsTrue (is_plain m.request)) P (λ m is. quiet_commit t.id Q m.request is) sent_more quiet in
-      subst (λ hs. EachCommit t.id now.sent (IsOutOrRefused out hs)) (sym more.heard)
-      (subst (λ ms. All P ms) (sym more.sent) (All-append P k.sent sent_more old new))
+  leaves_stages : (h : Heard) → LeavesAsIs t h → LeavesStages stages t h
+  leaves_stages h l = record {
+    unrefuted = all_from_contains (λ s. is_write_refuted s h.request h.reply ≡ false) stages
+        (λ s there. let w : WasStageSent k.sent t.id s = All-contains (WasStageSent k.sent t.id) stages s st.staging.sent there in l.unrefuted s w.whose);
+    unseen = ap (λ b. b && option_map_or (λ view. not (is_final_view view)) (view_in h.reply) false) l.other;
+    reaches = λ s whose r. let none : is_write_refuted s h.request h.reply ≡ false = l.unrefuted s whose in let is : is_write_refuted s h.request h.reply ≡ true = r in absurd cc;
+  }
 
-  unwritten-more : (flight : Option InFlight) → AreUnwritten t k.heard flight → AreUnwritten t now.heard flight
-  unwritten-more None u = tt
-  unwritten-more (Some w) u =
-      let P : Heard → Type 0 = IsNotWritten t (last_seq_of t.writes) in
-      subst (λ hs. All P hs) (sym more.heard) (All-append P k.heard heard_more u (All-weaker (LeavesAsIs t) P (λ h l. l.unwritten) heard_more leave))
+  staging2 : StagingStands now stages commit t x.staging
+  staging2 =
+      staging_on k now stages commit t t x.staging sent_more heard_more st.staging (record { sent = more.sent; heard = more.heard })
+      (record { same = refl; no_earlier = omega arith; stays = inl (refl, λ key seq u. u) })
+      (All-weaker (λ m. IsTrue (is_plain m.request)) (λ m. SendsNothingNew stages commit t.id m.request)
+      (λ m is. record { stage = quiet_stage t.id (Contains stages) m.request is; commits = quiet_commit t.id (λ c. commit ≡ Some c) m.request is }) sent_more quiet)
+      (All-weaker (LeavesAsIs t) (LeavesStages stages t) leaves_stages heard_more leave)
 
-  laid-more : (flight : Option InFlight) → WasLaid t k.sent flight → WasLaid t now.sent flight
-  laid-more None laid = tt
-  laid-more (Some w) laid =
-      let P : Sent → Type 0 = λ m. IsTrue (is_put_of t.id t.epoch (last_seq_of t.writes) m.request) in
-      subst (λ ms. Any P ms) (sym more.sent) (any_kept P k.sent sent_more laid)
+  staged2 : AreStagedThere stages now.heard t
+  staged2 ts was =
+      st.staged ts
+      (staged_before k.heard heard_more t ts (All-weaker (LeavesAsIs t) (λ h. IsTrue (shows_staging t.id t.epoch ts h) → ⊥) (λ h l. shows_none t.id t.epoch ts h l.other) heard_more leave)
+      (subst (λ hs. WasStagedAt hs t ts) more.heard was))
 
-  pub stands_on : TxnStands now out t x
+  pub stands_on : TxnStands now stages commit t x
   stands_on = record {
     same = st.same;
     number = omega (arith, st.number, more.begun);
@@ -86,9 +145,18 @@ module _ (k now : Known) (out : Option SentCommit) (t : Txn) (x : OpenTxn) (sent
     behind = st.behind;
     at_begin = st.at_begin;
     below = omega (arith, st.below, more.high);
-    refused = refused2;
-    views = subst (λ hs. All (IsPendingOf t) hs) (sym more.heard) (All-append (IsPendingOf t) k.heard heard_more st.views (All-weaker (LeavesAsIs t) (IsPendingOf t) (λ h l. l.pending) heard_more leave));
+    views =
+        subst (λ hs. All (IsUndecidedOf t) hs) (sym more.heard)
+        (All-append (IsUndecidedOf t) k.heard heard_more st.views
+        (All-weaker (LeavesAsIs t) (IsUndecidedOf t) (λ h l about. let none : is_about t.id h.request ≡ false = l.other in absurd cc) heard_more leave));
     shown = st.shown ∙ sym (ap (last_shown t) more.sent ∙ shown-plain t k.sent sent_more quiet);
+    staged = staged2;
+    late =
+        subst (λ hs. AreLateByWrites stages hs t) (sym more.heard)
+        (late_on k.heard heard_more t stages st.late
+        (λ s there.
+        let w : WasStageSent k.sent t.id s = All-contains (WasStageSent k.sent t.id) stages s st.staging.sent there in
+        All-weaker (LeavesAsIs t) (λ h. RefutesWrite s h ⊎ RefutesRecord s h → ⊥) (λ h l. none_by t s h w.whose l.other (l.unrefuted s w.whose)) heard_more leave));
     puts =
         let P : Sent → Type 0 = λ m. PutsUpTo t (last_seq_of t.writes) m.request in
         subst (λ ms. All P ms) (sym more.sent)
@@ -96,11 +164,14 @@ module _ (k now : Known) (out : Option SentCommit) (t : Txn) (x : OpenTxn) (sent
     put_heard =
         let P : Heard → Type 0 = λ h. PutsUpTo t (last_seq_of t.writes) h.request in
         subst (λ hs. All P hs) (sym more.heard) (All-append P k.heard heard_more st.put_heard (All-weaker (LeavesAsIs t) P (λ h l. l.put) heard_more leave));
-    laid = laid-more x.in_flight st.laid;
-    unwritten = unwritten-more x.in_flight st.unwritten;
-    proved = st.proved;
+    writes =
+        subst (λ ms. WritesStand ms now.heard t) (sym more.sent)
+        (subst (λ hs. WritesStand (k.sent ++ sent_more) hs t) (sym more.heard)
+        (writes_on k.sent sent_more k.heard heard_more t st.writes (All-weaker (LeavesAsIs t) (λ h. (seq : ℕ) → IsNotWritten t seq h) (λ h l. l.unwritten) heard_more leave)));
+    flight = st.flight;
+    staging = staging2;
     reads = subst (λ hs. TxnReadsStand t.id hs t.reads x.reads) (sym more.heard) (stand_on t.id k.heard heard_more t.reads x.reads st.reads);
   }
 
 pub txn_stands_on_ok : TxnStandsOn
-txn_stands_on_ok k now out t x sent_more heard_more st more quiet leave = stands_on k now out t x sent_more heard_more st more quiet leave
+txn_stands_on_ok k now stages commit t x sent_more heard_more st more quiet leave = stands_on k now stages commit t x sent_more heard_more st more quiet leave

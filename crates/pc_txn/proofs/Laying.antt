@@ -1,13 +1,23 @@
--- A write of the open transaction goes out, and is written.
-use Rattle.std.proofs.Common.{◌≡◌, ℕ, ◌+◌, ◌≤◌, max, true, false, cond, ◌&&◌, ◌==◌, List, [], ◌∷◌, ◌++◌, map, Option, Some, None, refl, sym, ap, ◌∙◌, subst, arith, All, Any, IsTrue, unwrap_or}
+-- A write of the open transaction goes out, for the first time or again, and is written.
+use Rattle.std.proofs.Common.{◌≡◌, ℕ, ◌+◌, ◌<◌, ◌≤◌, max, nat_lt, Bool, true, false, not, cond, ◌&&◌, ◌==◌, inl, inr, ◌⊎◌, List, [], ◌∷◌, ◌++◌, map, filter, Option, Some, None, refl, sym, ap, ◌∙◌, subst, arith, All, Any, Contains, IsTrue, unwrap_or}
+use Rattle.std.specs.List.{list_any}
 use Rattle.std.specs.Option.{option_or}
-use Rattle.std.proofs.lemmas.List.{append-nil, map-append}
-use Rattle.std.proofs.lemmas.List.Elements.{All-push, All-weaker}
+use Rattle.std.proofs.lemmas.Bool.{and_from, and_parts, eq-eqb, ltb-true}
+use Rattle.std.proofs.lemmas.List.{append-nil}
+use Rattle.std.proofs.lemmas.List.Elements.{All-contains, All-cons, All-nil, All-push, All-weaker}
 use Rattle.pc_base.specs.declared.span.Span.{Span}
 use Rattle.pc_base.specs.declared.transaction.TxnId.{TxnId}
+use Rattle.pc_base.specs.Span.{same_key}
 use Rattle.pc_base.specs.Transaction.{same_txn}
-use Rattle.pc_lists.proofs.Anywhere.{any_kept, any_last}
-use Rattle.pc_lists.proofs.Same.{same_txn-self}
+use Rattle.pc_flight.proofs.Holding.{added_stands, flights_hold, heard_stands}
+use Rattle.pc_follows.specs.Heartbeats.{last_shown}
+use Rattle.pc_flight.specs.declared.write.WriteInFlight.{WriteInFlight}
+use Rattle.pc_flight.specs.InFlight.{FlightStands, is_another}
+use Rattle.pc_flight.specs.Laws.{IsKnownUnproved}
+use Rattle.pc_lists.proofs.Anywhere.{any_kept}
+use Rattle.pc_lists.proofs.Lists.{all_from_contains}
+use Rattle.pc_lists.proofs.Same.{same_key-equal, same_txn-self}
+use Rattle.pc_proto.specs.declared.meta.TxnMeta.{TxnMeta}
 use Rattle.pc_proto.specs.declared.reply.Reply.{Reply}
 use Rattle.pc_proto.specs.declared.reply.Reply.TheVariants as replies
 use Rattle.pc_proto.specs.declared.request.Request.{Request}
@@ -16,32 +26,30 @@ use Rattle.pc_proto.specs.declared.why.Why.{Why}
 use Rattle.pc_proto.specs.Requests.{is_about, is_put_of, subject_anchor}
 use Rattle.pc_reads.proofs.Goods.{stand_on}
 use Rattle.pc_reads.specs.ReadsStanding.{TxnReadsStand}
-use Rattle.pc_txn.proofs.Keeping.{each_commit-more, refused-more}
-use Rattle.pc_txn.proofs.Puts.{anchor-some, own_put, puts-one, puts-up}
+use Rattle.pc_staging.proofs.Going.{again_proves, staging_on}
+use Rattle.pc_staging.proofs.Hears.{written_heard}
+use Rattle.pc_staging.proofs.Sending.{forgets}
+use Rattle.pc_staging.specs.Kept.{Evidence, is_over, refuted_above, with_stages, without_stages}
+use Rattle.pc_staging.specs.Laws.{LeavesStages, ProvesOn, SendsNothingNew}
+use Rattle.pc_staging.specs.Standing.{HasUnproved, StagingStands, WasStagedAt, WasStageSent}
+use Rattle.pc_txn.proofs.Keeping.{shows_none, staged_before}
+use Rattle.pc_txn.proofs.Late.{dead_late, kept_above, none_by}
+use Rattle.pc_txn.proofs.Lists.{any_before, any_mapped, any_numbered, none_among}
+use Rattle.pc_txn.proofs.Puts.{anchor-some, own_seq, puts-own, puts-one, puts-up}
 use Rattle.pc_txn.proofs.Same.{if_true, same_epoch-self}
-use Rattle.pc_follows.specs.Heartbeats.{last_shown}
 use Rattle.pc_txn.proofs.Shown.{shown-one}
-use Rattle.pc_txn.proofs.Writes.{all_proved, asked-key, asked-last_seq, asked-next, asked-proofs, asked-proved, asked-value, last_seq-push, proved-last_seq, put-again, put-new, with_lock-again}
-use Rattle.pc_txn.specs.declared.flight.InFlight.{InFlight}
+use Rattle.pc_txn.proofs.Writes.{asked-last_seq, asked-proofs, below_last, last_seq-push, none_later, proved-last_seq, put-again, put-new}
+use Rattle.pc_txn.proofs.Written.{laid, laid_again, new_write, proved_stays, writes_laid, writes_landed, writes_resent}
 use Rattle.pc_txn.specs.declared.txn.OpenTxn.{OpenTxn}
-use Rattle.pc_txn.specs.Opened.{landed_at, last_put, next_put, opened_as, with_next_write}
-use Rattle.pc_txn.specs.Standing.{AreProved, HasMovedOn, IsLaying, IsOutOrRefused, IsPendingOf, IsNotWritten, PutsUpTo, TxnStands}
+use Rattle.pc_txn.specs.Opened.{landed_at, next_put, opened_as, own_put, with_next_write}
+use Rattle.pc_txn.specs.Standing.{AreLateByWrites, HasMovedOn, IsProvedAbove, IsUndecidedOf, TxnStands}
+use Rattle.pc_txn.specs.Writing.{IsNotWritten, IsUnwrittenWhereUnproved, PutsUpTo, WasWriteSent, WritesStand}
 use Rattle.pc_world.specs.Known.{Known}
 use Rattle.pc_world.specs.Known.Traffic.{Heard, Sent}
-use Rattle.pc_world.specs.Known.Transactions.{Txn, meta_of, txn_heard, txn_sent, with_lock}
-use Rattle.pc_world.specs.Known.Writes.{IsProvedBy, Write, asked_again, last_seq_of, proved_at}
-use Rattle.pc_world.specs.StageFate.{EachCommit, OnCommit, SentCommit}
-
-abbrev pub new_write : ℕ → ℕ → List ℕ → Option (List ℕ) → Write
-new_write seq ts key value = record { key = key; seq = seq; value = value; asked = ts ∷ []; proofs = [] }
-
--- The transaction once its next put was sent.
-abbrev pub laid : List ℕ → Option (List ℕ) → Txn → Txn
-laid key value t = record t {
-  anchor = Some (unwrap_or t.anchor key);
-  locks = with_lock key t.locks;
-  writes = t.writes ++ new_write (last_seq_of t.writes + 1) t.write_ts key value ∷ [];
-}
+use Rattle.pc_world.specs.Known.Transactions.{Txn, lists_write, meta_of, txn_heard, txn_sent, with_lock}
+use Rattle.pc_world.specs.Known.Writes.{Write, asked_again, is_proved, last_seq_of, proved_at}
+use Rattle.pc_world.specs.StageFate.{IsLate, RefutesRecord, RefutesWrite, SentCommit, SentStage, is_write_refuted}
+use Rattle.pc_world.specs.Tell.End.{shows_staging}
 
 abbrev put_next : List ℕ → Option (List ℕ) → Txn → Request
 put_next key value t = requests.Put (meta_of t (unwrap_or t.anchor key)) (last_seq_of t.writes + 1) t.write_ts key value
@@ -74,14 +82,21 @@ anchor-kept id key request None about is = absurd (about-anchored id request abo
 anchor-kept id key request (Some anchor) about is = is
 
 -- what was heard of its record stands once it laid a write
-pending-laid : (key : List ℕ) (value : Option (List ℕ)) (t : Txn) (h : Heard) → IsPendingOf t h → IsPendingOf (laid key value t) h
-pending-laid key value t h pending = λ about.
-    let v = pending about in
-    record { anchored = anchor-kept t.id key h.request t.anchor about v.anchored; pending = v.pending }
+undecided-laid : (key : List ℕ) (value : Option (List ℕ)) (t : Txn) (h : Heard) → IsUndecidedOf t h → IsUndecidedOf (laid key value t) h
+undecided-laid key value t h undecided = λ about.
+    let v = undecided about in
+    record { anchored = anchor-kept t.id key h.request t.anchor about v.anchored; undecided = v.undecided; no_later = v.no_later }
 
-module _ (k now : Known) (shown : ℕ) (cause : Why) (spans : List Span) (t : Txn) (key : List ℕ) (value : Option (List ℕ)) (number range : ℕ) where
+-- nothing new of stages and commits is sent by a put
+put_new : (stages : List SentStage) (commit : Option SentCommit) (id : TxnId) (number range : ℕ) (meta : TxnMeta) (seq ts : ℕ) (key : List ℕ) (value : Option (List ℕ))
+    → All (λ (m : Sent). SendsNothingNew stages commit id m.request) (record { number = number; range = range; request = requests.Put meta seq ts key value } ∷ [])
+put_new stages commit id number range meta seq ts key value =
+    let m : Sent = record { number = number; range = range; request = requests.Put meta seq ts key value } in
+    All-cons (λ (m : Sent). SendsNothingNew stages commit id m.request) m [] (record { stage = tt; commits = tt }) (All-nil (λ (m : Sent). SendsNothingNew stages commit id m.request))
+
+module _ (k now : Known) (stages : List SentStage) (commit : Option SentCommit) (shown : ℕ) (cause : Why) (spans : List Span) (flight : List WriteInFlight) (evidence : Evidence) (t : Txn) (key : List ℕ) (value : Option (List ℕ)) (number range : ℕ) where
   abbrev x0 : OpenTxn
-  x0 = opened_as shown cause spans None t
+  x0 = opened_as shown cause spans flight evidence t
 
   abbrev m0 : Sent
   m0 = record { number = number; range = range; request = put_next key value t }
@@ -89,262 +104,368 @@ module _ (k now : Known) (shown : ℕ) (cause : Why) (spans : List Span) (t : Tx
   abbrev t2 : Txn
   t2 = laid key value t
 
-  module _ (st : TxnStands k None t x0) (more : HasMovedOn k now (m0 ∷ []) []) where
+  module _ (st : TxnStands k stages commit t x0) (over : is_over evidence ≡ true) (more : HasMovedOn k now (m0 ∷ []) []) where
     heard-same : now.heard ≡ k.heard
     heard-same = more.heard ∙ append-nil k.heard
 
-    laid_by : TxnStands now None t2 (with_next_write key value x0)
-    laid_by = record {
-      same = ap (λ n. record (opened_as shown cause spans (Some (record { key = key; value = value })) t2) { seq = n }) (sym (last-laid key value t));
-      number = omega (arith, st.number, more.begun);
-      begun = st.begun;
-      behind = st.behind;
-      at_begin = λ none. absurd cc;
-      below = omega (arith, st.below, more.high);
-      refused =
-          subst (λ hs. EachCommit t.id now.sent (IsOutOrRefused None hs)) (sym heard-same)
-          (subst (λ ms. EachCommit t.id ms (IsOutOrRefused None k.heard)) (sym more.sent)
-          (All-push (λ m. OnCommit t.id (IsOutOrRefused None k.heard) m.request) k.sent m0 st.refused tt));
-      views = subst (λ hs. All (IsPendingOf t2) hs) (sym heard-same) (All-weaker (IsPendingOf t) (IsPendingOf t2) (pending-laid key value t) k.heard st.views);
-      shown = st.shown ∙ sym (ap (last_shown t) more.sent ∙ shown-one t k.sent m0 refl);
-      puts =
-          let e : last_seq_of t2.writes ≡ last_seq_of t.writes + 1 = last-laid key value t in
-          let P : Sent → Type 0 = λ m. PutsUpTo t2 (last_seq_of t2.writes) m.request in
-          subst (λ ms. All P ms) (sym more.sent)
-          (All-push P k.sent m0
-          (All-weaker (λ m. PutsUpTo t (last_seq_of t.writes) m.request) P (λ m up. puts-up t2 (last_seq_of t.writes) (last_seq_of t2.writes) m.request (omega arith) up) k.sent st.puts)
-          (puts-one t2 (last_seq_of t.writes + 1) (last_seq_of t2.writes) m0.request (own_put (meta_of t (unwrap_or t.anchor key)) (last_seq_of t.writes + 1) t.write_ts key value) (omega arith)));
-      put_heard =
-          let e : last_seq_of t2.writes ≡ last_seq_of t.writes + 1 = last-laid key value t in
-          let P : Heard → Type 0 = λ h. PutsUpTo t2 (last_seq_of t2.writes) h.request in
-          subst (λ hs. All P hs) (sym heard-same)
-          (All-weaker (λ h. PutsUpTo t (last_seq_of t.writes) h.request) P (λ h up. puts-up t2 (last_seq_of t.writes) (last_seq_of t2.writes) h.request (omega arith) up) k.heard st.put_heard);
-      laid =
-          let P : ℕ → Sent → Type 0 = λ n m. IsTrue (is_put_of t.id t.epoch n m.request) in
-          subst (λ ms. Any (P (last_seq_of t2.writes)) ms) (sym more.sent)
-          (any_last (P (last_seq_of t2.writes)) k.sent m0
-          (subst (λ n. P n m0) (sym (last-laid key value t)) (own_put (meta_of t (unwrap_or t.anchor key)) (last_seq_of t.writes + 1) t.write_ts key value)));
-      unwritten =
-          let e : last_seq_of t2.writes ≡ last_seq_of t.writes + 1 = last-laid key value t in
-          let P : Heard → Type 0 = IsNotWritten t2 (last_seq_of t2.writes) in
-          subst (λ hs. All P hs) (sym heard-same)
-          (All-weaker (λ h. PutsUpTo t (last_seq_of t.writes) h.request) P
-          (λ h up put. let low : last_seq_of t2.writes ≤ last_seq_of t.writes = (up t.epoch (last_seq_of t2.writes) put).1 refl in absurd (omega arith)) k.heard st.put_heard);
-      proved = record {
-        anchor = unwrap_or t.anchor key;
-        anchored = refl;
-        older = t.writes;
-        last = new_write (last_seq_of t.writes + 1) t.write_ts key value;
-        writes = refl;
-        key = refl;
-        value = refl;
-        unproved = refl;
-        next = refl;
-        proved = st.proved;
-        locked = with_lock-again key t.locks;
-      };
-      reads = subst (λ hs. TxnReadsStand t.id hs t.reads (record { spans = spans; ts = t.read_ts })) (sym heard-same) st.reads;
-    }
+    puts-next : IsTrue (is_put_of t.id t.epoch (last_seq_of t.writes + 1) m0.request)
+    puts-next = puts-own (meta_of t (unwrap_or t.anchor key)) (last_seq_of t.writes + 1) t.write_ts key value
 
--- its fields are those that are known, where nothing is in flight
-pub same_none : (k : Known) (out : Option SentCommit) (t : Txn) (x : OpenTxn) → TxnStands k out t x → x.in_flight ≡ None → x ≡ opened_as x.shown x.cause x.reads.spans None t
-same_none k out t x st none = st.same ∙ ap (λ f. opened_as x.shown x.cause x.reads.spans f t) none
+    flight2 : FlightStands (flight ++ record { key = key; seq = last_seq_of t.writes + 1; value = value } ∷ []) t2
+    flight2 =
+        let meta : TxnMeta = meta_of t (unwrap_or t.anchor key) in
+        subst (λ t2. FlightStands (flight ++ record { key = key; seq = last_seq_of t.writes + 1; value = value } ∷ []) t2) (sent-next key value t)
+        (added_stands flight (flight ++ record { key = key; seq = last_seq_of t.writes + 1; value = value } ∷ []) t meta (last_seq_of t.writes + 1) t.write_ts key value refl st.flight
+        (none_later 0 (last_seq_of t.writes + 1) t.writes (omega arith)) refl refl)
 
-pub same_some : (k : Known) (out : Option SentCommit) (t : Txn) (x : OpenTxn) (w : InFlight) → TxnStands k out t x → x.in_flight ≡ Some w → x ≡ opened_as x.shown x.cause x.reads.spans (Some w) t
-same_some k out t x w st some = st.same ∙ ap (λ f. opened_as x.shown x.cause x.reads.spans f t) some
+    staging2 : StagingStands now [] None t2 (without_stages evidence)
+    staging2 =
+        staging_on k now [] None t t2 (without_stages evidence) (m0 ∷ []) [] (forgets k stages commit t evidence st.staging over) (record { sent = more.sent; heard = more.heard })
+        (record { same = refl; no_earlier = omega arith; stays = inr (refl, refl) })
+        (put_new [] None t.id number range (meta_of t (unwrap_or t.anchor key)) (last_seq_of t.writes + 1) t.write_ts key value) (All-nil (LeavesStages [] t2))
 
--- its next write was sent
-pub next_laid : (k now : Known) (t : Txn) (x : OpenTxn) (key : List ℕ) (value : Option (List ℕ)) (number range : ℕ) → TxnStands k None t x → x.in_flight ≡ None
-    → HasMovedOn k now (record { number = number; range = range; request = next_put x key value } ∷ []) [] → TxnStands now None (txn_sent (next_put x key value) t) (with_next_write key value x)
-next_laid k now t x key value number range st none more =
+    -- each stage that is forgotten was late, by a write that is proved only above it
+    staged_on : (ts : ℕ) → Any (λ s. s.ts ≡ ts) stages ⊎ Any (IsProvedAbove ts) t.writes → Any (λ (s : SentStage). s.ts ≡ ts) [] ⊎ Any (IsProvedAbove ts) t2.writes
+    staged_on ts there =
+        inr (any_kept (IsProvedAbove ts) t.writes (new_write (last_seq_of t.writes + 1) t.write_ts key value ∷ [])
+        (elim there [
+          | inl kept ↦ kept_above k.heard t stages ts st.late (dead_late k stages commit t evidence st.staging over) kept
+          | inr above ↦ above
+        ]))
+
+    laid_by : TxnStands now [] None t2 (with_next_write key value x0)
+    laid_by =
+        let e : last_seq_of t2.writes ≡ last_seq_of t.writes + 1 = last-laid key value t in
+        record {
+          same = ap (λ n. record (opened_as shown cause spans (flight ++ record { key = key; seq = last_seq_of t.writes + 1; value = value } ∷ []) (without_stages evidence) t2) { seq = n }) (sym e);
+          number = omega (arith, st.number, more.begun);
+          begun = st.begun;
+          behind = st.behind;
+          at_begin = λ none. absurd cc;
+          below = omega (arith, st.below, more.high);
+          views = subst (λ hs. All (IsUndecidedOf t2) hs) (sym heard-same) (All-weaker (IsUndecidedOf t) (IsUndecidedOf t2) (undecided-laid key value t) k.heard st.views);
+          shown = st.shown ∙ sym (ap (last_shown t) more.sent ∙ shown-one t k.sent m0 refl);
+          staged = λ ts was. staged_on ts (st.staged ts (subst (λ hs. WasStagedAt hs t ts) heard-same was));
+          late = All-nil (λ s. IsLate now.heard s → Any (IsProvedAbove s.ts) t2.writes);
+          puts =
+              let P : Sent → Type 0 = λ m. PutsUpTo t2 (last_seq_of t2.writes) m.request in
+              subst (λ ms. All P ms) (sym more.sent)
+              (All-push P k.sent m0
+              (All-weaker (λ m. PutsUpTo t (last_seq_of t.writes) m.request) P (λ m up. puts-up t2 (last_seq_of t.writes) (last_seq_of t2.writes) m.request (omega arith) up) k.sent st.puts)
+              (puts-one t2 (last_seq_of t.writes + 1) (last_seq_of t2.writes) m0.request puts-next (omega arith)));
+          put_heard =
+              let P : Heard → Type 0 = λ h. PutsUpTo t2 (last_seq_of t2.writes) h.request in
+              subst (λ hs. All P hs) (sym heard-same)
+              (All-weaker (λ h. PutsUpTo t (last_seq_of t.writes) h.request) P (λ h up. puts-up t2 (last_seq_of t.writes) (last_seq_of t2.writes) h.request (omega arith) up) k.heard st.put_heard);
+          writes =
+              subst (λ ms. WritesStand ms now.heard t2) (sym more.sent)
+              (subst (λ hs. WritesStand (k.sent ++ m0 ∷ []) hs t2) (sym heard-same)
+              (writes_laid k.sent k.heard t key value m0 st.writes st.put_heard puts-next));
+          flight = flight2;
+          staging = staging2;
+          reads = subst (λ hs. TxnReadsStand t.id hs t.reads (record { spans = spans; ts = t.read_ts })) (sym heard-same) st.reads;
+        }
+
+-- its next write was sent, where each stage is dead and no commit is out
+pub next_laid : (k now : Known) (stages : List SentStage) (commit : Option SentCommit) (t : Txn) (x : OpenTxn) (key : List ℕ) (value : Option (List ℕ)) (number range : ℕ) → TxnStands k stages commit t x → is_over x.staging ≡ true
+    → HasMovedOn k now (record { number = number; range = range; request = next_put x key value } ∷ []) [] → TxnStands now [] None (txn_sent (next_put x key value) t) (with_next_write key value x)
+next_laid k now stages commit t x key value number range st over more =
     let P : OpenTxn → Type 0 = λ x.
-    TxnStands k None t x → HasMovedOn k now (record { number = number; range = range; request = next_put x key value } ∷ []) [] → TxnStands now None (txn_sent (next_put x key value) t) (with_next_write key value x) in
-    let at : P (opened_as x.shown x.cause x.reads.spans None t) = λ st more.
-    subst (λ t2. TxnStands now None t2 (with_next_write key value (opened_as x.shown x.cause x.reads.spans None t))) (sym (sent-next key value t))
-    (laid_by k now x.shown x.cause x.reads.spans t key value number range st more) in
-    subst P (sym (same_none k None t x st none)) at st more
+    TxnStands k stages commit t x → is_over x.staging ≡ true → HasMovedOn k now (record { number = number; range = range; request = next_put x key value } ∷ []) []
+    → TxnStands now [] None (txn_sent (next_put x key value) t) (with_next_write key value x) in
+    let at : P (opened_as x.shown x.cause x.reads.spans x.in_flight x.staging t) = λ st over more.
+    subst (λ t2. TxnStands now [] None t2 (with_next_write key value (opened_as x.shown x.cause x.reads.spans x.in_flight x.staging t))) (sym (sent-next key value t))
+    (laid_by k now stages commit x.shown x.cause x.reads.spans x.in_flight x.staging t key value number range st over more) in
+    subst P (sym st.same) at st over more
 
--- The transaction once its last write was sent again.
-abbrev pub laid_again : Txn → Txn
-laid_again t = record t { writes = map (asked_again (last_seq_of t.writes) t.write_ts) t.writes }
+-- nothing proves a write that is not proved
+no_proof : (proofs : List ℕ) → not (list_any (λ ts. true) proofs) ≡ true → proofs ≡ []
+no_proof [] none = refl
+no_proof (p ∷ ps) none = absurd cc
 
--- the last write has the greatest sequence
-pub last_is : (t : Txn) (w : InFlight) (l : IsLaying t w) → l.last.seq ≡ last_seq_of t.writes
-last_is t w l = sym (ap last_seq_of l.writes ∙ last_seq-push l.older l.last ∙ most (last_seq_of l.older) l.last.seq l.next)
-  where
-    most : (low high : ℕ) → high ≡ low + 1 → max low high ≡ high
-    most low high e = omega arith
+module _ (k : Known) (stages : List SentStage) (commit : Option SentCommit) (t : Txn) (x : OpenTxn) (st : TxnStands k stages commit t x) (f : WriteInFlight) (there : Contains x.in_flight f) where
+  -- the write that is in flight, as it is known
+  pub known_one : IsKnownUnproved t.writes f
+  known_one = flights_hold.known x.in_flight t.writes st.flight.in_flight f there
 
-abbrev put_last : List ℕ → InFlight → Txn → Request
-put_last anchor w t = requests.Put (meta_of t anchor) (last_seq_of t.writes) t.write_ts w.key w.value
+  pub place_is : known_one.w.key ≡ f.key
+  place_is = sym (ap (λ (f : WriteInFlight). f.key) known_one.same)
 
-sent-again : (t : Txn) (w : InFlight) (l : IsLaying t w) → txn_sent (put_last l.anchor w t) t ≡ laid_again t
-sent-again t w l =
-    let F : Option (List ℕ) → List (List ℕ) → List Write → Txn = λ a l w. record t { anchor = a; locks = l; writes = w } in
-    let r = put_last l.anchor w t in
-    let anchor : option_or t.anchor (Some w.key) ≡ t.anchor = ap (λ a. option_or a (Some w.key)) l.anchored ∙ sym l.anchored in
-    ap (λ a. F a (txn_sent r t).locks (txn_sent r t).writes) (if_true (same_txn t.id t.id) (option_or t.anchor (Some w.key)) t.anchor (same_txn-self t.id) ∙ anchor)
-    ∙ ap (λ l. F t.anchor l (txn_sent r t).writes) (if_true (same_txn t.id t.id) (with_lock w.key t.locks) t.locks (same_txn-self t.id) ∙ l.locked)
-    ∙ ap (F t.anchor t.locks)
-    (if_true (same_txn t.id t.id && (t.epoch == t.epoch)) _ t.writes (same_epoch-self t.id t.epoch)
-    ∙ put-again (last_seq_of t.writes) t.write_ts w.key w.value t.writes l.older l.last l.writes (last_is t w l))
+  pub seq_is : known_one.w.seq ≡ f.seq
+  seq_is = sym (ap (λ (f : WriteInFlight). f.seq) known_one.same)
 
-laying-again : (t : Txn) (w : InFlight) → IsLaying t w → IsLaying (laid_again t) w
-laying-again t w l =
-    let seq = last_seq_of t.writes in
-    let f = asked_again seq t.write_ts in
-    record {
-      anchor = l.anchor;
-      anchored = l.anchored;
-      older = map f l.older;
-      last = f l.last;
-      writes = ap (map f) l.writes ∙ map-append f l.older (l.last ∷ []);
-      key = asked-key seq t.write_ts l.last ∙ l.key;
-      value = asked-value seq t.write_ts l.last ∙ l.value;
-      unproved = asked-proofs seq t.write_ts l.last ∙ l.unproved;
-      next = asked-next seq t.write_ts l.older l.last l.next;
-      proved = asked-proved t.write_ts seq t.write_ts l.older l.proved;
-      locked = l.locked;
-    }
+  pub value_is : known_one.w.value ≡ f.value
+  value_is = sym (ap (λ (f : WriteInFlight). f.value) known_one.same)
 
-module _ (k now : Known) (shown : ℕ) (cause : Why) (spans : List Span) (t : Txn) (w : InFlight) where
-  abbrev x1 : OpenTxn
-  x1 = opened_as shown cause spans (Some w) t
+  one_sent : list_any (λ w. w.seq == f.seq) t.writes ≡ true
+  one_sent = any_numbered (λ (w : Write). w.seq) f.seq t.writes known_one.w known_one.written seq_is
 
-  module _ (st : TxnStands k None t x1) where
-    abbrev put : Request
-    put = put_last st.proved.anchor w t
+  pub seq_low : f.seq ≤ last_seq_of t.writes
+  seq_low = let low : known_one.w.seq ≤ last_seq_of t.writes = All-contains (λ w. w.seq ≤ last_seq_of t.writes) t.writes known_one.w (below_last t.writes) known_one.written in omega (arith, low, seq_is)
 
-    module _ (number range : ℕ) (more : HasMovedOn k now (record { number = number; range = range; request = put } ∷ []) []) where
+  waiting : HasUnproved f.key f.seq t.writes
+  waiting =
+      let (n, inside, at) = known_one.written in
+      (n, known_one.w, inside, at, record { same_place = place_is; same_sequence = seq_is; unproved = known_one.unproved })
+
+  -- a put of it was sent
+  pub sent_of : Any (λ m. IsTrue (is_put_of t.id t.epoch f.seq m.request)) k.sent
+  sent_of =
+      subst (λ n. Any (λ m. IsTrue (is_put_of t.id t.epoch n m.request)) k.sent) seq_is
+      (All-contains (WasWriteSent t k.sent) t.writes known_one.w st.writes.each_sent known_one.written)
+
+  -- and was not heard to be written
+  pub unwritten_of : All (IsNotWritten t f.seq) k.heard
+  unwritten_of =
+      subst (λ n. All (IsNotWritten t n) k.heard) seq_is
+      (All-contains (IsUnwrittenWhereUnproved t k.heard) t.writes known_one.w st.writes.unwritten known_one.written known_one.unproved)
+
+  -- the transaction has an anchor
+  pub has_anchor : (anchor : List ℕ) × (t.anchor ≡ Some anchor)
+  has_anchor = by t.anchor refl
+    where
+      by : (o : Option (List ℕ)) → t.anchor ≡ o → (anchor : List ℕ) × (t.anchor ≡ Some anchor)
+      by (Some anchor) is = (anchor, is)
+      by None is = let none : list_any (λ w. w.seq == f.seq) t.writes ≡ false = ap (list_any (λ w. w.seq == f.seq)) (st.writes.unanchored is) in absurd (let some = one_sent in cc)
+
+  abbrev put_then : List ℕ → Request
+  put_then anchor = requests.Put (meta_of t anchor) f.seq t.write_ts f.key f.value
+
+  own_is : (anchor : List ℕ) → own_put x anchor f ≡ put_then anchor
+  own_is anchor = ap (λ x. own_put x anchor f) st.same
+
+  module _ (anchor : List ℕ) (anchored : t.anchor ≡ Some anchor) where
+    sent-again : txn_sent (put_then anchor) t ≡ laid_again f.seq t
+    sent-again =
+        let F : Option (List ℕ) → List (List ℕ) → List Write → Txn = λ a l w. record t { anchor = a; locks = l; writes = w } in
+        let r = put_then anchor in
+        let same : option_or t.anchor (Some f.key) ≡ t.anchor = ap (λ a. option_or a (Some f.key)) anchored ∙ sym anchored in
+        let locked : with_lock f.key t.locks ≡ t.locks = subst (λ key. with_lock key t.locks ≡ t.locks) place_is (All-contains (λ w. with_lock w.key t.locks ≡ t.locks) t.writes known_one.w st.writes.locked known_one.written) in
+        ap (λ a. F a (txn_sent r t).locks (txn_sent r t).writes) (if_true (same_txn t.id t.id) (option_or t.anchor (Some f.key)) t.anchor (same_txn-self t.id) ∙ same)
+        ∙ ap (λ l. F t.anchor l (txn_sent r t).writes) (if_true (same_txn t.id t.id) (with_lock f.key t.locks) t.locks (same_txn-self t.id) ∙ locked)
+        ∙ ap (F t.anchor t.locks)
+        (if_true (same_txn t.id t.id && (t.epoch == t.epoch)) _ t.writes (same_epoch-self t.id t.epoch) ∙ put-again f.seq t.write_ts f.key f.value t.writes one_sent)
+
+    module _ (now : Known) (number range : ℕ) (more : HasMovedOn k now (record { number = number; range = range; request = put_then anchor } ∷ []) []) where
       abbrev m1 : Sent
-      m1 = record { number = number; range = range; request = put }
+      m1 = record { number = number; range = range; request = put_then anchor }
 
-      again_by : TxnStands now None (laid_again t) x1
+      abbrev t3 : Txn
+      t3 = laid_again f.seq t
+
+      same-heard : now.heard ≡ k.heard
+      same-heard = more.heard ∙ append-nil k.heard
+
+      staging3 : StagingStands now stages commit t3 x.staging
+      staging3 =
+          staging_on k now stages commit t t3 x.staging (m1 ∷ []) [] st.staging (record { sent = more.sent; heard = more.heard })
+          (record {
+            same = refl;
+            no_earlier = omega arith;
+            stays = inl (refl, subst (ProvesOn t.writes) (put-again f.seq t.write_ts f.key f.value t.writes one_sent) (again_proves f.key f.seq t.write_ts f.value t.writes one_sent));
+          })
+          (put_new stages commit t.id number range (meta_of t anchor) f.seq t.write_ts f.key f.value) (All-nil (LeavesStages stages t3))
+
+      above_again : (ts : ℕ) (w : Write) → IsProvedAbove ts w → IsProvedAbove ts (asked_again f.seq t.write_ts w)
+      above_again ts w a =
+          let e = asked-proofs f.seq t.write_ts w in
+          record { proved = ap (λ ps. list_any (λ ts. true) ps) e ∙ a.proved; above = λ by. a.above (subst (λ ps. Any (λ proof. proof ≤ ts) ps) e by) }
+
+      above3 : (ts : ℕ) → Any (IsProvedAbove ts) t.writes → Any (IsProvedAbove ts) t3.writes
+      above3 ts above =
+          any_mapped (IsProvedAbove ts) (IsProvedAbove ts) (asked_again f.seq t.write_ts) t.writes
+          (all_from_contains (λ w. IsProvedAbove ts w → IsProvedAbove ts (asked_again f.seq t.write_ts w)) t.writes (λ w inside. above_again ts w)) above
+
+      staged3 : (ts : ℕ) → Any (λ s. s.ts ≡ ts) stages ⊎ Any (IsProvedAbove ts) t.writes → Any (λ s. s.ts ≡ ts) stages ⊎ Any (IsProvedAbove ts) t3.writes
+      staged3 ts (inl kept) = inl kept
+      staged3 ts (inr above) = inr (above3 ts above)
+
+      again_by : TxnStands now stages commit t3 x
       again_by =
-          let e : now.heard ≡ k.heard = more.heard ∙ append-nil k.heard in
-          let last : last_seq_of (laid_again t).writes ≡ last_seq_of t.writes = asked-last_seq (last_seq_of t.writes) t.write_ts t.writes in
+          let last : last_seq_of t3.writes ≡ last_seq_of t.writes = asked-last_seq f.seq t.write_ts t.writes in
           record {
-            same = ap (λ n. record x1 { seq = n }) (sym last);
+            same = st.same ∙ ap (λ n. record (opened_as x.shown x.cause x.reads.spans x.in_flight x.staging t) { seq = n }) (sym last);
             number = omega (arith, st.number, more.begun);
             begun = st.begun;
             behind = st.behind;
             at_begin = st.at_begin;
             below = omega (arith, st.below, more.high);
-            refused =
-                subst (λ hs. EachCommit t.id now.sent (IsOutOrRefused None hs)) (sym e)
-                (subst (λ ms. EachCommit t.id ms (IsOutOrRefused None k.heard)) (sym more.sent)
-                (All-push (λ m. OnCommit t.id (IsOutOrRefused None k.heard) m.request) k.sent m1 st.refused tt));
-            views = subst (λ hs. All (IsPendingOf t) hs) (sym e) st.views;
+            views = subst (λ hs. All (IsUndecidedOf t) hs) (sym same-heard) st.views;
             shown = st.shown ∙ sym (ap (last_shown t) more.sent ∙ shown-one t k.sent m1 refl);
+            staged = λ ts was. staged3 ts (st.staged ts (subst (λ hs. WasStagedAt hs t ts) same-heard was));
+            late = subst (λ hs. AreLateByWrites stages hs t3) (sym same-heard)
+                (All-weaker (λ s. IsLate k.heard s → Any (IsProvedAbove s.ts) t.writes) (λ s. IsLate k.heard s → Any (IsProvedAbove s.ts) t3.writes) (λ s by late. above3 s.ts (by late)) stages st.late);
             puts =
                 subst (λ n. All (λ m. PutsUpTo t n m.request) now.sent) (sym last)
                 (subst (λ ms. All (λ m. PutsUpTo t (last_seq_of t.writes) m.request) ms) (sym more.sent)
                 (All-push (λ m. PutsUpTo t (last_seq_of t.writes) m.request) k.sent m1 st.puts
-                (puts-one t (last_seq_of t.writes) (last_seq_of t.writes) m1.request (own_put (meta_of t st.proved.anchor) (last_seq_of t.writes) t.write_ts w.key w.value) (omega arith))));
+                (puts-one t f.seq (last_seq_of t.writes) m1.request (puts-own (meta_of t anchor) f.seq t.write_ts f.key f.value) seq_low)));
             put_heard =
                 subst (λ n. All (λ h. PutsUpTo t n h.request) now.heard) (sym last)
-                (subst (λ hs. All (λ h. PutsUpTo t (last_seq_of t.writes) h.request) hs) (sym e) st.put_heard);
-            laid =
-                let P : ℕ → Sent → Type 0 = λ n m. IsTrue (is_put_of t.id t.epoch n m.request) in
-                subst (λ n. Any (P n) now.sent) (sym last) (subst (λ ms. Any (P (last_seq_of t.writes)) ms) (sym more.sent) (any_kept (P (last_seq_of t.writes)) k.sent (m1 ∷ []) st.laid));
-            unwritten =
-                subst (λ n. All (IsNotWritten t n) now.heard) (sym last)
-                (subst (λ hs. All (IsNotWritten t (last_seq_of t.writes)) hs) (sym e) st.unwritten);
-            proved = laying-again t w st.proved;
-            reads = subst (λ hs. TxnReadsStand t.id hs t.reads (record { spans = spans; ts = t.read_ts })) (sym e) st.reads;
+                (subst (λ hs. All (λ h. PutsUpTo t (last_seq_of t.writes) h.request) hs) (sym same-heard) st.put_heard);
+            writes =
+                subst (λ ms. WritesStand ms now.heard t3) (sym more.sent)
+                (subst (λ hs. WritesStand (k.sent ++ m1 ∷ []) hs t3) (sym same-heard) (writes_resent k.sent k.heard t f.seq m1 st.writes));
+            flight =
+                subst (λ t2. FlightStands x.in_flight t2) sent-again
+                (flights_hold.resent x.in_flight t (meta_of t anchor) f.seq t.write_ts f.key f.value st.flight one_sent);
+            staging = staging3;
+            reads = subst (λ hs. TxnReadsStand t.id hs t.reads x.reads) (sym same-heard) st.reads;
           }
 
-    module _ (h : Heard) (at : ℕ) (asked : h.request ≡ put) (told : h.reply ≡ replies.Written at) (more : HasMovedOn k now [] (h ∷ [])) (low : at ≤ now.high) where
-      -- The transaction once its put was written at this timestamp.
-      abbrev placed : Txn
-      placed = record t { write_ts = max t.write_ts at; writes = map (proved_at w.key (last_seq_of t.writes) at) t.writes }
+    -- it was sent again
+    pub put_resent : (now : Known) (number range : ℕ) → HasMovedOn k now (record { number = number; range = range; request = own_put x anchor f } ∷ []) [] → TxnStands now stages commit (txn_sent (own_put x anchor f) t) x
+    put_resent now number range more =
+        let Q : Request → Type 0 = λ r. HasMovedOn k now (record { number = number; range = range; request = r } ∷ []) [] in
+        subst (λ r. TxnStands now stages commit (txn_sent r t) x) (sym (own_is anchor))
+        (subst (λ t2. TxnStands now stages commit t2 x) (sym sent-again) (again_by now number range (subst Q (own_is anchor) more)))
 
-      heard-put : txn_heard k.sent (Some h) t ≡ placed
-      heard-put =
-          let F : Request → Reply → Txn = λ r y. txn_heard k.sent (Some (record { number = h.number; request = r; reply = y; step = h.step })) t in
-          let G : ℕ → List Write → Txn = λ n w. record t { write_ts = max t.write_ts n; writes = w } in
-          let both = map (proved_at w.key (last_seq_of t.writes) at) t.writes in
-          ap (λ r. F r h.reply) asked
-          ∙ ap (F put) told
-          ∙ ap (λ n. G n (cond (same_txn t.id t.id && (t.epoch == t.epoch)) both t.writes)) (if_true (same_txn t.id t.id) at 0 (same_txn-self t.id))
-          ∙ ap (G at) (if_true (same_txn t.id t.id && (t.epoch == t.epoch)) both t.writes (same_epoch-self t.id t.epoch))
+  module _ (now : Known) (h : Heard) (meta : TxnMeta) (sent_at at : ℕ) (value : Option (List ℕ)) (whose : meta.id ≡ t.id) (epoch_now : meta.epoch ≡ t.epoch) (asked : h.request ≡ requests.Put meta f.seq sent_at f.key value)
+      (told : h.reply ≡ replies.Written at) (more : HasMovedOn k now [] (h ∷ [])) (low : at ≤ now.high) where
+    abbrev put : Request
+    put = requests.Put meta f.seq sent_at f.key value
 
-      proved2 : All (IsProvedBy placed.write_ts) placed.writes
-      proved2 =
-          let l = st.proved in
-          subst (λ ws. All (IsProvedBy (max t.write_ts at)) (map (proved_at w.key (last_seq_of t.writes) at) ws)) (sym l.writes)
-          (all_proved t.write_ts (max t.write_ts at) w.key (last_seq_of t.writes) at l.older l.last (omega arith) (omega arith) (last_is t w l) l.key l.proved)
+    abbrev t4 : Txn
+    t4 = record t { write_ts = max t.write_ts at; writes = map (proved_at f.key f.seq at) t.writes }
 
-      -- what was heard is not about its record
-      other : IsPendingOf t h
-      other about = let e : is_about t.id h.request ≡ false = ap (is_about t.id) asked in absurd cc
+    own_meta : (same_txn meta.id t.id && (meta.epoch == t.epoch)) ≡ true
+    own_meta = subst (λ id. (same_txn id t.id && (meta.epoch == t.epoch)) ≡ true) (sym whose) (subst (λ n. (same_txn t.id t.id && (n == t.epoch)) ≡ true) (sym epoch_now) (same_epoch-self t.id t.epoch))
 
-      up_to : PutsUpTo t (last_seq_of t.writes) h.request
-      up_to =
-          subst (λ r. PutsUpTo t (last_seq_of t.writes) r) (sym asked)
-          (puts-one t (last_seq_of t.writes) (last_seq_of t.writes) put (own_put (meta_of t st.proved.anchor) (last_seq_of t.writes) t.write_ts w.key w.value) (omega arith))
+    heard-put : txn_heard k.sent (Some h) t ≡ t4
+    heard-put =
+        let F : Request → Reply → Txn = λ r y. txn_heard k.sent (Some (record { number = h.number; request = r; reply = y; step = h.step })) t in
+        let G : ℕ → List Write → Txn = λ n w. record t { write_ts = max t.write_ts n; writes = w } in
+        let both = map (proved_at f.key f.seq at) t.writes in
+        ap (λ r. F r h.reply) asked
+        ∙ ap (F put) told
+        ∙ ap (λ n. G n (cond (same_txn meta.id t.id && (meta.epoch == t.epoch)) both t.writes)) (if_true (same_txn meta.id t.id) at 0 (ap (λ id. same_txn id t.id) whose ∙ same_txn-self t.id))
+        ∙ ap (G at) (if_true (same_txn meta.id t.id && (meta.epoch == t.epoch)) both t.writes own_meta)
 
-      sent-same : now.sent ≡ k.sent
-      sent-same = more.sent ∙ append-nil k.sent
+    other : is_about t.id h.request ≡ false
+    other = ap (is_about t.id) asked
 
-      last : last_seq_of placed.writes ≡ last_seq_of t.writes
-      last = proved-last_seq w.key (last_seq_of t.writes) at t.writes
+    puts_it : IsTrue (is_put_of t.id t.epoch f.seq h.request)
+    puts_it =
+        subst (λ r. IsTrue (is_put_of t.id t.epoch f.seq r)) (sym asked)
+        (subst (λ id. IsTrue (is_put_of id t.epoch f.seq put)) whose (subst (λ n. IsTrue (is_put_of meta.id n f.seq put)) epoch_now (puts-own meta f.seq sent_at f.key value)))
 
-      landed_by : TxnStands now None placed (landed_at at x1)
-      landed_by = record {
-        same = ap (λ n. record (landed_at at x1) { seq = n }) (sym last);
-        number = omega (arith, st.number, more.begun);
-        begun = st.begun;
-        behind = omega (arith, st.behind);
-        at_begin = st.at_begin;
-        below = omega (arith, st.below, more.high, low);
-        refused =
-            subst (λ ms. EachCommit t.id ms (IsOutOrRefused None now.heard)) (sym sent-same)
-            (subst (λ hs. EachCommit t.id k.sent (IsOutOrRefused None hs)) (sym more.heard)
-            (each_commit-more t.id (IsOutOrRefused None k.heard) (IsOutOrRefused None (k.heard ++ h ∷ [])) (refused-more None k.heard (h ∷ [])) k.sent st.refused));
-        views = subst (λ hs. All (IsPendingOf t) hs) (sym more.heard) (All-push (IsPendingOf t) k.heard h st.views other);
-        shown = st.shown ∙ sym (ap (last_shown t) sent-same);
-        puts = subst (λ n. All (λ m. PutsUpTo t n m.request) now.sent) (sym last) (subst (λ ms. All (λ m. PutsUpTo t (last_seq_of t.writes) m.request) ms) (sym sent-same) st.puts);
-        put_heard =
-            subst (λ n. All (λ h. PutsUpTo t n h.request) now.heard) (sym last)
-            (subst (λ hs. All (λ h. PutsUpTo t (last_seq_of t.writes) h.request) hs) (sym more.heard) (All-push (λ h. PutsUpTo t (last_seq_of t.writes) h.request) k.heard h st.put_heard up_to));
-        laid = tt;
-        unwritten = tt;
-        proved = proved2;
-        reads = subst (λ hs. TxnReadsStand t.id hs t.reads (record { spans = spans; ts = t.read_ts })) (sym more.heard) (stand_on t.id k.heard (h ∷ []) t.reads (record { spans = spans; ts = t.read_ts }) st.reads);
-      }
+    sent-same : now.sent ≡ k.sent
+    sent-same = more.sent ∙ append-nil k.sent
 
--- the transaction has an anchor, where a write is in flight
-pub has_anchor : (k : Known) (t : Txn) (x : OpenTxn) (w : InFlight) → TxnStands k None t x → x.in_flight ≡ Some w → (anchor : List ℕ) × (t.anchor ≡ Some anchor)
-has_anchor k t x w st some = let l : IsLaying t w = subst (AreProved t) some st.proved in (l.anchor, l.anchored)
+    staging4 : StagingStands now stages commit t4 (with_stages (map (refuted_above at h.step) x.staging.stages) x.staging)
+    staging4 =
+        subst (λ t2. StagingStands now stages commit t2 (with_stages (map (refuted_above at h.step) x.staging.stages) x.staging)) heard-put
+        (written_heard k now stages commit t x.staging st.staging h at
+        (record {
+          grown = record { sent = more.sent; heard = more.heard };
+          meta = meta;
+          seq = f.seq;
+          sent_at = sent_at;
+          key = f.key;
+          value = value;
+          asked = asked;
+          whose = whose;
+          epoch_now = epoch_now;
+          waiting = waiting;
+          told = told;
+        }))
 
-module _ (k now : Known) (t : Txn) (x : OpenTxn) (w : InFlight) (anchor : List ℕ) (st : TxnStands k None t x) (some : x.in_flight ≡ Some w) (anchored : t.anchor ≡ Some anchor) where
-  abbrev at_once : OpenTxn
-  at_once = opened_as x.shown x.cause x.reads.spans (Some w) t
+    stays : (w : Write) → Contains t.writes w → IsTrue (is_proved w) → proved_at f.key f.seq at w ≡ w
+    stays = proved_stays k.heard k.sent t f.key f.seq at (max t.write_ts at) h st.writes known_one.w known_one.written place_is seq_is (λ n puts. own_seq t.id t.epoch f.seq n h.request puts_it puts) known_one.unproved
 
-  is : x ≡ at_once
-  is = same_some k None t x w st some
+    above4 : (ts : ℕ) → Any (IsProvedAbove ts) t.writes → Any (IsProvedAbove ts) t4.writes
+    above4 ts above =
+        any_mapped (IsProvedAbove ts) (IsProvedAbove ts) (proved_at f.key f.seq at) t.writes
+        (all_from_contains (λ w. IsProvedAbove ts w → IsProvedAbove ts (proved_at f.key f.seq at w)) t.writes (λ w inside a. subst (IsProvedAbove ts) (sym (stays w inside a.proved)) a)) above
 
-  st1 : TxnStands k None t at_once
-  st1 = subst (TxnStands k None t) is st
+    staged4 : (ts : ℕ) → Any (λ s. s.ts ≡ ts) stages ⊎ Any (IsProvedAbove ts) t.writes → Any (λ s. s.ts ≡ ts) stages ⊎ Any (IsProvedAbove ts) t4.writes
+    staged4 ts (inl kept) = inl kept
+    staged4 ts (inr above) = inr (above4 ts above)
 
-  anchor_is : st1.proved.anchor ≡ anchor
-  anchor_is = let e : Some st1.proved.anchor ≡ Some anchor = sym st1.proved.anchored ∙ anchored in cc
+    -- the write that was written has this one proof
+    proofs_then : (proved_at f.key f.seq at known_one.w).proofs ≡ at ∷ []
+    proofs_then =
+        let own : Write = known_one.w in
+        ap (λ b. (cond b (record own { proofs = own.proofs ++ at ∷ [] }) own).proofs) (and_from (own.seq == f.seq) (same_key own.key f.key) (eq-eqb own.seq f.seq seq_is) (same_key-equal own.key f.key place_is))
+        ∙ ap (λ ps. ps ++ at ∷ []) (no_proof own.proofs known_one.unproved)
 
-  -- its last write was sent again
-  pub last_laid : (number range : ℕ) → HasMovedOn k now (record { number = number; range = range; request = last_put x anchor w.key w.value } ∷ []) [] → TxnStands now None (txn_sent (last_put x anchor w.key w.value) t) x
-  last_laid number range more =
-      let Q : Request → Type 0 = λ r. HasMovedOn k now (record { number = number; range = range; request = r } ∷ []) [] in
-      let e : last_put x anchor w.key w.value ≡ put_last st1.proved.anchor w t = ap (λ x. last_put x anchor w.key w.value) is ∙ ap (λ a. put_last a w t) (sym anchor_is) in
-      let made : TxnStands now None (laid_again t) at_once = again_by k now x.shown x.cause x.reads.spans t w st1 number range (subst Q e more) in
-      subst (λ r. TxnStands now None (txn_sent r t) x) (sym e)
-      (subst (λ t2. TxnStands now None t2 x) (sym (sent-again t w st1.proved)) (subst (TxnStands now None (laid_again t)) (sym is) made))
+    own_above : (ts : ℕ) → ts < at → IsProvedAbove ts (proved_at f.key f.seq at known_one.w)
+    own_above ts low = record {
+      proved = ap (λ ps. list_any (λ ts. true) ps) proofs_then;
+      above = λ by.
+          none_among (λ proof. proof ≤ ts) (at ∷ []) (All-cons (λ proof. proof ≤ ts → ⊥) at [] (λ le. absurd (omega (arith, low, le))) (All-nil (λ proof. proof ≤ ts → ⊥)))
+          (subst (λ ps. Any (λ proof. proof ≤ ts) ps) proofs_then by);
+    }
 
-  -- and was written
-  pub last_landed : (h : Heard) (at : ℕ) → h.request ≡ last_put x anchor w.key w.value → h.reply ≡ replies.Written at → HasMovedOn k now [] (h ∷ []) → at ≤ now.high
-      → TxnStands now None (txn_heard k.sent (Some h) t) (landed_at at x)
-  last_landed h at asked told more low =
-      let e : last_put x anchor w.key w.value ≡ put_last st1.proved.anchor w t = ap (λ x. last_put x anchor w.key w.value) is ∙ ap (λ a. put_last a w t) (sym anchor_is) in
-      let made = landed_by k now x.shown x.cause x.reads.spans t w st1 h at (asked ∙ e) told more low in
-      subst (λ t2. TxnStands now None t2 (landed_at at x)) (sym (heard-put k now x.shown x.cause x.reads.spans t w st1 h at (asked ∙ e) told more low))
-      (subst (λ y. TxnStands now None (placed k now x.shown x.cause x.reads.spans t w st1 h at (asked ∙ e) told more low) (landed_at at y)) (sym is) made)
+    landed_above : (ts : ℕ) → ts < at → Any (IsProvedAbove ts) t4.writes
+    landed_above ts low =
+        let (n, inside, is) = known_one.written in
+        any_mapped (λ w. w ≡ known_one.w) (IsProvedAbove ts) (proved_at f.key f.seq at) t.writes
+        (all_from_contains (λ w. w ≡ known_one.w → IsProvedAbove ts (proved_at f.key f.seq at w)) t.writes (λ w there same. subst (λ w. IsProvedAbove ts (proved_at f.key f.seq at w)) (sym same) (own_above ts low)))
+        (n, known_one.w, inside, is, refl)
+
+    -- a stage that it refutes lies below where it was written
+    refuted_below : (s : SentStage) → is_write_refuted s h.request h.reply ≡ true → s.ts < at
+    refuted_below s refuted =
+        let is : is_write_refuted s put (replies.Written at) ≡ true = sym (ap (λ r. is_write_refuted s r h.reply) asked ∙ ap (is_write_refuted s put) told) ∙ refuted in
+        let parts = and_parts (same_txn meta.id s.meta.id && meta.epoch == s.meta.epoch) (lists_write f.key f.seq s.writes && nat_lt s.ts at) is in
+        ltb-true s.ts at (and_parts (lists_write f.key f.seq s.writes) (nat_lt s.ts at) parts.1).1
+
+    late4 : AreLateByWrites stages (k.heard ++ h ∷ []) t4
+    late4 =
+        all_from_contains (λ s. IsLate (k.heard ++ h ∷ []) s → Any (IsProvedAbove s.ts) t4.writes) stages
+        (λ s there late. by s there late (is_write_refuted s h.request h.reply) refl)
+      where
+        by : (s : SentStage) → Contains stages s → IsLate (k.heard ++ h ∷ []) s → (b : Bool) → is_write_refuted s h.request h.reply ≡ b → Any (IsProvedAbove s.ts) t4.writes
+        by s there late true is = landed_above s.ts (refuted_below s is)
+        by s there late false is =
+            let R : Heard → Type 0 = λ h. RefutesWrite s h ⊎ RefutesRecord s h in
+            let w : WasStageSent k.sent t.id s = All-contains (WasStageSent k.sent t.id) stages s st.staging.sent there in
+            above4 s.ts
+            (All-contains (λ s. IsLate k.heard s → Any (IsProvedAbove s.ts) t.writes) stages s st.late there
+            (any_before R k.heard (h ∷ []) (All-cons (λ h. R h → ⊥) h [] (none_by t s h w.whose other is) (All-nil (λ h. R h → ⊥))) late))
+
+    landed_by : TxnStands now stages commit t4 (landed_at f.key f.seq at h.step x)
+    landed_by =
+        let last : last_seq_of t4.writes ≡ last_seq_of t.writes = proved-last_seq f.key f.seq at t.writes in
+        let flight = filter (is_another f.key f.seq) x.in_flight in
+        let staging = with_stages (map (refuted_above at h.step) x.staging.stages) x.staging in
+        record {
+          same =
+              ap (λ (x : OpenTxn). record x { write_ts = max x.write_ts at; in_flight = flight; staging = staging }) st.same
+              ∙ ap (λ n. record (opened_as x.shown x.cause x.reads.spans flight staging t4) { seq = n }) (sym last);
+          number = omega (arith, st.number, more.begun);
+          begun = st.begun;
+          behind = omega (arith, st.behind);
+          at_begin = st.at_begin;
+          below = omega (arith, st.below, more.high, low);
+          views =
+              subst (λ hs. All (IsUndecidedOf t) hs) (sym more.heard)
+              (All-push (IsUndecidedOf t) k.heard h st.views (λ about. let none = other in absurd cc));
+          shown = st.shown ∙ sym (ap (last_shown t) sent-same);
+          staged = λ ts was.
+              staged4 ts (st.staged ts
+              (staged_before k.heard (h ∷ []) t ts
+              (All-cons (λ h. IsTrue (shows_staging t.id t.epoch ts h) → ⊥) h [] (shows_none t.id t.epoch ts h other) (All-nil (λ h. IsTrue (shows_staging t.id t.epoch ts h) → ⊥)))
+              (subst (λ hs. WasStagedAt hs t ts) more.heard was)));
+          late = subst (λ hs. AreLateByWrites stages hs t4) (sym more.heard) late4;
+          puts = subst (λ n. All (λ m. PutsUpTo t n m.request) now.sent) (sym last) (subst (λ ms. All (λ m. PutsUpTo t (last_seq_of t.writes) m.request) ms) (sym sent-same) st.puts);
+          put_heard =
+              subst (λ n. All (λ h. PutsUpTo t n h.request) now.heard) (sym last)
+              (subst (λ hs. All (λ h. PutsUpTo t (last_seq_of t.writes) h.request) hs) (sym more.heard)
+              (All-push (λ h. PutsUpTo t (last_seq_of t.writes) h.request) k.heard h st.put_heard (puts-one t f.seq (last_seq_of t.writes) h.request puts_it seq_low)));
+          writes =
+              subst (λ ms. WritesStand ms now.heard t4) (sym sent-same)
+              (subst (λ hs. WritesStand k.sent hs t4) (sym more.heard)
+              (writes_landed k.heard k.sent t f.key f.seq at (max t.write_ts at) h st.writes known_one.w known_one.written place_is seq_is (λ n puts. own_seq t.id t.epoch f.seq n h.request puts_it puts)));
+          flight =
+              subst (λ t2. FlightStands flight t2) heard-put
+              (heard_stands f.key f.seq x.in_flight flight refl t k.sent h st.flight
+              (inl (record { meta = meta; sent_at = sent_at; value = value; ts = at; asked = asked; whose = whose; epoch_now = epoch_now; told = told })));
+          staging = staging4;
+          reads = subst (λ hs. TxnReadsStand t.id hs t.reads x.reads) (sym more.heard) (stand_on t.id k.heard (h ∷ []) t.reads x.reads st.reads);
+        }
+
+    -- it was written
+    pub put_landed : TxnStands now stages commit (txn_heard k.sent (Some h) t) (landed_at f.key f.seq at h.step x)
+    put_landed = subst (λ t2. TxnStands now stages commit t2 (landed_at f.key f.seq at h.step x)) (sym heard-put) landed_by

@@ -11,7 +11,7 @@ use Rattle.pc_proto.specs.declared.meta.TxnMeta.{TxnMeta}
 use Rattle.pc_proto.specs.declared.request.Request.{Request}
 use Rattle.pc_proto.specs.declared.request.Request.TheVariants as requests
 use Rattle.pc_proto.specs.Requests.{is_put_of}
-use Rattle.pc_txn.specs.Standing.{PutsUpTo}
+use Rattle.pc_txn.specs.Writing.{PutsUpTo}
 use Rattle.pc_world.specs.Known.Traffic.{Sent}
 use Rattle.pc_world.specs.Known.Transactions.{Txn}
 use Rattle.pc_world.specs.SameRequest.{IsSameRequest}
@@ -20,18 +20,18 @@ pub anchor-some : (anchor : Option (List ℕ)) (key : List ℕ) → option_or an
 anchor-some None key = refl
 anchor-some (Some a) key = refl
 
-pub own_put : (meta : TxnMeta) (seq ts : ℕ) (key : List ℕ) (value : Option (List ℕ)) → is_put_of meta.id meta.epoch seq (requests.Put meta seq ts key value) ≡ true
-own_put meta seq ts key value =
+pub puts-own : (meta : TxnMeta) (seq ts : ℕ) (key : List ℕ) (value : Option (List ℕ)) → is_put_of meta.id meta.epoch seq (requests.Put meta seq ts key value) ≡ true
+puts-own meta seq ts key value =
     and_from (same_txn meta.id meta.id) (meta.epoch == meta.epoch && (seq == seq)) (same_txn-self meta.id)
     (and_from (meta.epoch == meta.epoch) (seq == seq) (eq-eqb meta.epoch meta.epoch refl) (eq-eqb seq seq refl))
 
 -- a message of one request with a put is a put of its write
 pub same_put : (meta : TxnMeta) (seq ts : ℕ) (key : List ℕ) (value : Option (List ℕ)) (other : Request) → IsSameRequest (requests.Put meta seq ts key value) other → is_put_of meta.id meta.epoch seq other ≡ true
-same_put meta seq ts key value other (inl e) = subst (λ r. is_put_of meta.id meta.epoch seq r ≡ true) e (own_put meta seq ts key value)
+same_put meta seq ts key value other (inl e) = subst (λ r. is_put_of meta.id meta.epoch seq r ≡ true) e (puts-own meta seq ts key value)
 same_put meta seq ts key value (requests.Put one at when place what) (inr (a, b, c)) =
     subst (λ id. is_put_of id meta.epoch seq (requests.Put one at when place what) ≡ true) (sym a)
     (subst (λ n. is_put_of one.id n seq (requests.Put one at when place what) ≡ true) (sym b)
-    (subst (λ n. is_put_of one.id one.epoch n (requests.Put one at when place what) ≡ true) (sym c) (own_put one at when place what)))
+    (subst (λ n. is_put_of one.id one.epoch n (requests.Put one at when place what) ≡ true) (sym c) (puts-own one at when place what)))
 same_put meta seq ts key value other (inr same) = absurd same
 
 -- no put of a sequence that is higher than all that were sent
@@ -52,6 +52,10 @@ put-of id epoch seq n m (requests.Put meta at ts key value) a b =
     let y = and_parts (meta.epoch == n) (at == m) (and_parts (same_txn meta.id id) (meta.epoch == n && at == m) b).1 in
     (sym (eqb-true meta.epoch epoch x.0) ∙ eqb-true meta.epoch n y.0, sym (eqb-true at seq x.1) ∙ eqb-true at m y.1)
 put-of id epoch seq n m request a b = absurd cc
+
+-- a put of one write is of no other sequence
+pub own_seq : (id : TxnId) (epoch seq n : ℕ) (request : Request) → IsTrue (is_put_of id epoch seq request) → IsTrue (is_put_of id epoch n request) → n ≡ seq
+own_seq id epoch seq n request own other = sym (put-of id epoch seq epoch n request own other).1
 
 pub puts-one : (t : Txn) (seq last : ℕ) (request : Request) → IsTrue (is_put_of t.id t.epoch seq request) → seq ≤ last → PutsUpTo t last request
 puts-one t seq last request is low epoch n other =

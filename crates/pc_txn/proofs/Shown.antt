@@ -1,5 +1,5 @@
 -- When a transaction last showed that it is alive, as more messages go out.
-use Rattle.std.proofs.Common.{◌≡◌, ℕ, ◌≤◌, ◌<◌, Bool, true, false, if◌then◌else◌, List, [], ◌∷◌, ◌++◌, fold, Some, refl, sym, ap, ◌∙◌, subst, arith, All, IsTrue}
+use Rattle.std.proofs.Common.{◌≡◌, ℕ, ◌≤◌, ◌<◌, Bool, true, false, if◌then◌else◌, List, [], ◌∷◌, ◌++◌, fold, Some, refl, ap, ◌∙◌, arith, All, IsTrue}
 use Rattle.std.proofs.lemmas.Grind.{fold-append}
 use Rattle.std.proofs.lemmas.List.Elements.{All-head, All-tail}
 use Rattle.pc_base.specs.declared.transaction.TxnId.{TxnId}
@@ -9,7 +9,7 @@ use Rattle.pc_proto.specs.declared.meta.TxnMeta.{TxnMeta}
 use Rattle.pc_proto.specs.declared.request.Request.{Request}
 use Rattle.pc_proto.specs.declared.request.Request.TheVariants as requests
 use Rattle.pc_follows.specs.Heartbeats.{is_heartbeat, last_shown, shown_by}
-use Rattle.pc_txn.proofs.Same.{if_false, if_true}
+use Rattle.pc_txn.proofs.Same.{if_true}
 use Rattle.pc_txn.specs.Counted.{IsOfBegun, IsOwnSent}
 use Rattle.pc_txn.specs.Standing.{is_plain}
 use Rattle.pc_world.specs.Known.Traffic.{Sent}

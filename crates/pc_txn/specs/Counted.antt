@@ -11,17 +11,23 @@ use Rattle.pc_world.specs.Known.Traffic.{Heard, Sent}
 abbrev pub IsOfBegun : ℕ → ℕ → Request → Type 0
 IsOfBegun session begun request = (id : TxnId) → subject request ≡ Some id → id.session ≡ session → id.number ≤ begun
 
--- No stage, and no put or commit of a transaction that was not begun.
+-- No put, stage or commit of a transaction that was not begun.
 abbrev pub IsOwnWrite : ℕ → Request → Type 0
 IsOwnWrite begun (requests.Put meta seq ts key value) = meta.id.number ≤ begun
 IsOwnWrite begun (requests.Commit meta ts locks) = meta.id.number ≤ begun
-IsOwnWrite begun (requests.Stage meta ts now writes locks) = ⊥
+IsOwnWrite begun (requests.Stage meta ts now writes locks) = meta.id.number ≤ begun
 IsOwnWrite begun _ = ⊤
 
--- The session's requests speak of no transaction of its own that was not begun, and stage nothing.
+-- If the request asks whether a write of a transaction of this session stands, that transaction was begun.
+abbrev pub IsQueryOfBegun : ℕ → ℕ → Request → Type 0
+IsQueryOfBegun session begun (requests.Query id epoch seq ts key by) = id.session ≡ session → id.number ≤ begun
+IsQueryOfBegun session begun _ = ⊤
+
+-- The session's requests speak of no transaction of its own that was not begun.
 pub record IsOwn (session begun : ℕ) (request : Request) : Type 0 where
   pub write : IsOwnWrite begun request
   pub record_of : IsOfBegun session begun request
+  pub query_of : IsQueryOfBegun session begun request
 
 -- A message that was sent, under a number up to this one.
 pub record IsOwnSent (session begun count : ℕ) (m : Sent) : Type 0 where

@@ -3,4 +3,6 @@ pub mod Silence
 pub mod Counted
 pub mod Laws
 pub mod Opened
+pub mod Staged
 pub mod Standing
+pub mod Writing

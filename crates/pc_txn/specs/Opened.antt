@@ -1,20 +1,22 @@
 -- The open transaction beside the one that its session knows, the messages that it makes, and what becomes of it. SIGMOD 2020 paper, section 3.
-use Rattle.std.specs.Prelude.{ℕ, ◌+◌, max, Option, None, Some, List, [], unwrap_or}
+use Rattle.std.specs.Prelude.{ℕ, ◌+◌, max, Option, None, Some, List, [], ◌∷◌, ◌++◌, filter, map, unwrap_or}
 use Rattle.pc_base.specs.declared.span.Span.{Span}
+use Rattle.pc_flight.specs.declared.write.WriteInFlight.{WriteInFlight}
+use Rattle.pc_flight.specs.InFlight.{is_another}
 use Rattle.pc_proto.specs.declared.meta.TxnMeta.{TxnMeta}
 use Rattle.pc_proto.specs.declared.request.Request.{Request}
 use Rattle.pc_proto.specs.declared.request.Request.TheVariants as requests
 use Rattle.pc_proto.specs.declared.why.Why.{Why}
 use Rattle.pc_proto.specs.declared.why.Why.TheVariants as whys
-use Rattle.pc_txn.specs.declared.flight.InFlight.{InFlight}
+use Rattle.pc_staging.specs.Kept.{Evidence, nothing_kept, refuted_above, seen_undecided, with_stages, without_stages}
 use Rattle.pc_txn.specs.declared.txn.OpenTxn.{OpenTxn}
 use Rattle.pc_world.specs.Known.Transactions.{Txn, with_lock}
 use Rattle.pc_world.specs.Known.Writes.{last_seq_of}
 
 -- What is kept of a transaction that its session knows; and the reading at which it last showed that it is alive, the cause of its rollback, the
--- spans that it read, and its write in flight.
-abbrev pub opened_as : ℕ → Why → List Span → Option InFlight → Txn → OpenTxn
-opened_as shown cause spans in_flight t = record {
+-- spans that it read, its writes in flight, and what became of its stages and commits.
+abbrev pub opened_as : ℕ → Why → List Span → List WriteInFlight → Evidence → Txn → OpenTxn
+opened_as shown cause spans in_flight staging t = record {
   id = t.id;
   priority = t.priority;
   born = t.born;
@@ -27,8 +29,13 @@ opened_as shown cause spans in_flight t = record {
   locks = t.locks;
   reads = record { spans = spans; ts = t.read_ts };
   in_flight = in_flight;
+  staging = staging;
   cause = cause;
 }
+
+-- A transaction that was just begun: it showed that it is alive by its begin, it read nothing, nothing of it is in flight, and it staged and committed nothing.
+abbrev pub just_begun : Txn → OpenTxn
+just_begun t = opened_as t.born whys.Client [] [] nothing_kept t
 
 -- Its meta, with this anchor.
 abbrev pub meta_now : OpenTxn → List ℕ → TxnMeta
@@ -38,9 +45,9 @@ meta_now x anchor = record { id = x.id; epoch = x.epoch; priority = x.priority; 
 abbrev pub next_put : OpenTxn → List ℕ → Option (List ℕ) → Request
 next_put x key value = requests.Put (meta_now x (unwrap_or x.anchor key)) (x.seq + 1) x.write_ts key value
 
--- Its last write, at its write timestamp.
-abbrev pub last_put : OpenTxn → List ℕ → List ℕ → Option (List ℕ) → Request
-last_put x anchor key value = requests.Put (meta_now x anchor) x.seq x.write_ts key value
+-- A write of its that is in flight, at its write timestamp.
+abbrev pub own_put : OpenTxn → List ℕ → WriteInFlight → Request
+own_put x anchor w = requests.Put (meta_now x anchor) w.seq x.write_ts w.key w.value
 
 -- Its get of a key, at its read timestamp.
 abbrev pub own_get : OpenTxn → List ℕ → Request
@@ -58,34 +65,46 @@ own_commit x anchor = requests.Commit (meta_now x anchor) x.write_ts x.locks
 abbrev pub own_abort : OpenTxn → Why → List ℕ → Request
 own_abort x why anchor = requests.Abort (meta_now x anchor) why x.locks
 
--- The transaction once its next write was sent, which is in flight.
+-- The transaction once its next write was sent, which is in flight; its stages are dead by then, and forgotten.
 abbrev pub with_next_write : List ℕ → Option (List ℕ) → OpenTxn → OpenTxn
 with_next_write key value x = record x {
   anchor = Some (unwrap_or x.anchor key);
   locks = with_lock key x.locks;
   seq = x.seq + 1;
-  in_flight = Some (record { key = key; value = value });
+  in_flight = x.in_flight ++ record { key = key; seq = x.seq + 1; value = value } ∷ [];
+  staging = without_stages x.staging;
 }
 
--- The transaction once its write in flight was written at this timestamp.
-abbrev pub landed_at : ℕ → OpenTxn → OpenTxn
-landed_at ts x = record x { write_ts = max x.write_ts ts; in_flight = None }
+-- The transaction once its write of this key and sequence was written at this timestamp, by a reply that was evaluated at this step.
+abbrev pub landed_at : List ℕ → ℕ → ℕ → ℕ → OpenTxn → OpenTxn
+landed_at key seq ts step x = record x {
+  write_ts = max x.write_ts ts;
+  in_flight = filter (is_another key seq) x.in_flight;
+  staging = with_stages (map (refuted_above ts step) x.staging.stages) x.staging;
+}
 
--- The transaction once its record was heard to stand at this timestamp.
-abbrev pub risen_above : ℕ → OpenTxn → OpenTxn
-risen_above ts x = record x { write_ts = max x.write_ts ts }
+-- The transaction once its commit was refused, by a reply that was evaluated at this step and shows where the record stands.
+abbrev pub refused_at : ℕ → ℕ → OpenTxn → OpenTxn
+refused_at recorded step x = record x {
+  write_ts = max x.write_ts recorded;
+  staging = record (seen_undecided step x.staging) { commit = None };
+}
 
--- The transaction once it reads at its write timestamp.
-abbrev pub reading_on : OpenTxn → OpenTxn
-reading_on x = record x { reads = record { spans = x.reads.spans; ts = x.write_ts } }
+-- The transaction once its commit was sent: it reads at its write timestamp.
+abbrev pub with_commit : OpenTxn → OpenTxn
+with_commit x = record x {
+  reads = record { spans = x.reads.spans; ts = x.write_ts };
+  staging = record x.staging { commit = Some x.write_ts };
+}
 
--- The transaction once it was told to restart for this write: its next epoch has written and read nothing, and reads at the write timestamp;
--- its anchor and locks stay.
+-- The transaction once it was told to restart for this write: its next epoch has written, read and staged nothing, and reads at the write
+-- timestamp; its anchor and locks stay.
 abbrev pub restarted_by : List ℕ → ℕ → OpenTxn → OpenTxn
 restarted_by key ts x = record x {
   epoch = x.epoch + 1;
   seq = 0;
-  in_flight = None;
+  in_flight = [];
+  staging = without_stages x.staging;
   reads = record { spans = []; ts = max x.reads.ts x.write_ts };
   cause = whys.Refresh key ts;
 }

@@ -1,9 +1,9 @@
 ghost use Rattle.std.specs.Prelude.{◌≡◌, IfOk};
-ghost use Rattle.pc_txn.specs.Silence.{is_silent, own_beat, shown_at};
+ghost use Rattle.pc_txn.specs.Silence.{is_silent, own_beat, raised_at, shown_at};
 
 use crate::txn::OpenTxn;
 use pc_base::limits::HEARTBEAT;
-use pc_base::{Key, NoMemory, TryCopy};
+use pc_base::{Key, NoMemory, Timestamp, TryCopy};
 use pc_proto::Request;
 
 impl OpenTxn {
@@ -31,5 +31,13 @@ impl OpenTxn {
         ensures { self.new ≡ shown_at reading self.old }
     {
         self.shown = reading;
+    }
+
+    /// Its heartbeat showed its record, which is not final and stands at this timestamp, by a reply that was evaluated at this step.
+    pub fn raise(&mut self, recorded: Timestamp, step: u64)
+        ensures { self.new ≡ raised_at recorded step self.old }
+    {
+        self.write_ts = self.write_ts.max(recorded);
+        self.staging.undecided(step);
     }
 }

@@ -1,14 +1,14 @@
-ghost use Rattle.std.specs.Prelude.{◌≡◌, ℕ, ◌≤◌, ◌+◌, [], ◌∷◌, List, Option, None, Some, IfOk, OnOk, All, max, IsTrue, unwrap_or};
-ghost use Rattle.pc_proto.specs.declared.request.Request.{Request};
-ghost use Rattle.pc_proto.specs.declared.why.Why.TheVariants as whys;
-ghost use Rattle.pc_txn.specs.Opened.{landed_at, last_put, next_put, opened_as, own_abort, own_commit, own_get, meta_now, own_scan, reading_on, restarted_by, risen_above, with_next_write};
+ghost use Rattle.std.specs.Prelude.{◌≡◌, ◌+◌, ◌<◌, All, IfOk, OnOk, length, unwrap_or};
+ghost use Rattle.pc_base.specs.declared.limits.TheConstants.{MOST_IN_FLIGHT};
+ghost use Rattle.pc_txn.specs.Opened.{just_begun, landed_at, meta_now, next_put, own_abort, own_commit, own_get, own_put, own_scan, refused_at, restarted_by, with_commit, with_next_write};
 ghost use Rattle.pc_world.specs.Known.Transactions.{begun};
 
-use crate::flight::InFlight;
 use pc_base::{Key, NoMemory, Priority, Span, Timestamp, TryCopy, TxnId, Value};
+use pc_flight::{Flight, WriteInFlight};
 use pc_locks::Locks;
 use pc_proto::{Request, TxnMeta, Why};
 use pc_reads::TxnReads;
+use pc_staging::Staging;
 use std::alloc::Global;
 
 /// The open transaction, as its session knows it.
@@ -32,8 +32,10 @@ pub struct OpenTxn {
     pub locks: Locks,
     /// What it read in this epoch, and where it reads.
     pub reads: TxnReads,
-    /// Its write that is in flight: the last one.
-    pub in_flight: Option<InFlight>,
+    /// The writes of this epoch that were sent and are not proved.
+    pub in_flight: Flight,
+    /// What became of the stages and commits that it sent.
+    pub staging: Staging,
     /// Why a rollback aborts it: for the write that made it restart, where that was its last answer.
     pub cause: Why,
 }
@@ -41,7 +43,7 @@ pub struct OpenTxn {
 impl OpenTxn {
     /// A transaction begins at this timestamp.
     pub fn new(alloc: Global, id: TxnId, priority: Priority, born: u64, ts: Timestamp) -> OpenTxn
-        ensures { result ≡ opened_as born whys.Client [] None (begun id priority born ts) }
+        ensures { result ≡ just_begun (begun id priority born ts) }
     {
         OpenTxn {
             id,
@@ -55,7 +57,8 @@ impl OpenTxn {
             anchor: None,
             locks: Locks::new(alloc),
             reads: TxnReads::new(alloc, ts),
-            in_flight: None,
+            in_flight: Flight::new(alloc),
+            staging: Staging::new(alloc),
             cause: Why::Client,
         }
     }
@@ -126,54 +129,53 @@ impl OpenTxn {
         }
     }
 
-    /// Its next write was sent.
+    /// Its next write was sent: it is in flight. Its stages are dead by then, and forgotten. Refused too where the sequences are used up.
     pub fn lay(&mut self, key: &Key, value: &Option<Value>) -> Result<(), NoMemory>
+        requires room { length self.old.in_flight < MOST_IN_FLIGHT }
+        requires above { All (λ w. w.seq < self.old.seq + 1) self.old.in_flight }
         ensures { OnOk result (self.new ≡ with_next_write key.now value.now self.old) }
     {
-        self.seq = following(self.seq)?;
+        let seq = following(self.seq)?;
+        let anchor = self.anchor_at(key)?;
         self.locks.add(key)?;
-        self.anchor = Some(self.anchor_at(key)?);
-        self.in_flight = Some(InFlight {
-            key: key.copy()?,
-            value: value.copy()?,
-        });
+        self.in_flight.add(key.copy()?, seq, value.copy()?)?;
+        self.staging.forget();
+        self.anchor = Some(anchor);
+        self.seq = seq;
         Ok(())
     }
 
-    /// The message that lays its last write again, at the write timestamp.
-    pub fn last_put(
-        &self,
-        anchor: &Key,
-        key: &Key,
-        value: &Option<Value>,
-    ) -> Result<Request, NoMemory>
-        ensures { IfOk result (λ made. made ≡ last_put self.now anchor.now key.now value.now) }
+    /// The message that sends a write in flight again, at the write timestamp.
+    pub fn put_again(&self, anchor: &Key, write: &WriteInFlight) -> Result<Request, NoMemory>
+        ensures { IfOk result (λ made. made ≡ own_put self.now anchor.now write.now) }
     {
         let meta = self.meta(anchor.copy()?);
-        let key = key.copy()?;
-        let value = value.copy()?;
+        let key = write.key.copy()?;
+        let value = write.value.copy()?;
         Ok(Request::Put {
             meta,
-            seq: self.seq,
+            seq: write.seq,
             ts: self.write_ts,
             key,
             value,
         })
     }
 
-    /// Its write in flight was written at this timestamp.
-    pub fn land(&mut self, ts: Timestamp)
-        ensures { self.new ≡ landed_at ts self.old }
+    /// Its write of this key and sequence was written at this timestamp, by a reply that was evaluated at this step.
+    pub fn land(&mut self, key: &Key, seq: u32, ts: Timestamp, step: u64)
+        ensures { self.new ≡ landed_at key.now seq ts step self.old }
     {
         self.write_ts = self.write_ts.max(ts);
-        self.in_flight = None;
+        self.in_flight.proved(key, seq);
+        self.staging.heard_written(ts, step);
     }
 
-    /// Its record was heard to stand at this timestamp, and is not final.
-    pub fn raise(&mut self, recorded: Timestamp)
-        ensures { self.new ≡ risen_above recorded self.old }
+    /// Its commit was refused: its record is not final and stands at this timestamp, by a reply that was evaluated at this step.
+    pub fn refused(&mut self, recorded: Timestamp, step: u64)
+        ensures { self.new ≡ refused_at recorded step self.old }
     {
         self.write_ts = self.write_ts.max(recorded);
+        self.staging.commit_refused(step);
     }
 
     /// The message that commits the record at the write timestamp.
@@ -190,10 +192,11 @@ impl OpenTxn {
     }
 
     /// Its commit was sent: it reads at the write timestamp.
-    pub fn read_on(&mut self)
-        ensures { self.new ≡ reading_on self.old }
+    pub fn committing(&mut self)
+        ensures { self.new ≡ with_commit self.old }
     {
         self.reads.refreshed(self.write_ts);
+        self.staging.sent_commit(self.write_ts);
     }
 
     /// The message that makes the record aborted.
@@ -212,7 +215,8 @@ impl OpenTxn {
     {
         self.epoch = following(self.epoch)?;
         self.seq = 0;
-        self.in_flight = None;
+        self.in_flight.clear();
+        self.staging.forget();
         let ts_read = self.reads.ts().max(self.write_ts);
         self.reads.restart(ts_read);
         self.cause = Why::Refresh { key, ts };

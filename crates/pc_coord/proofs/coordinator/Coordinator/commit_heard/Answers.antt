@@ -11,26 +11,26 @@ use Rattle.pc_coord.specs.Coming.{IsBlockOf}
 use Rattle.pc_coord.proofs.coordinator.Coordinator.commit_heard.Goals as goal
 
 pub returns-in-Committed-clause-knows : goal.returns-in-Committed-clause-knows
-returns-in-Committed-clause-knows c = λ k heard number refusals is commits.
+returns-in-Committed-clause-knows c = λ k heard number refusals is commits at.
     let s = c.args.self.now in
     let v = committed_reply c.args.reply.now c.in-Committed.epoch c.in-Committed.ts (sym c.in_ok-decision.ensures ∙ c.in-Committed.is) in
     finish_ok c.finish.result s c.finish.new.self (known_heard heard k) c.committed.result c.finish.ensures.ok is.ready
     (c.committed.ensures.over s.session is.before s.begun number refusals s.splits k v.0 heard is.counted is.in_call commits is.waited (subst (λ r. IsHeardTo k number r heard) v.1 is.heard)) (served_begins c.args.self.now.splits k c.args.txn c.args.call.purpose c.args.call.wave is.in_call)
 
 pub returns-in-Aborted-clause-knows : goal.returns-in-Aborted-clause-knows
-returns-in-Aborted-clause-knows c = λ k heard number refusals is commits.
+returns-in-Aborted-clause-knows c = λ k heard number refusals is commits at.
     let s = c.args.self.now in
     let v = aborted_reply c.args.reply.now c.in-Aborted.why (sym c.in_ok-decision.ensures ∙ c.in-Aborted.is) in
     finish_ok c.finish-in-Aborted.result s c.finish-in-Aborted.new.self (known_heard heard k) c.aborted.result c.finish-in-Aborted.ensures.ok is.ready
     (c.aborted.ensures.over s.session is.before s.begun number refusals v.0 s.splits k v.1 heard is.counted is.in_call commits is.waited (subst (λ r. IsHeardTo k number r heard) v.2 is.heard)) (served_begins c.args.self.now.splits k c.args.txn c.args.call.purpose c.args.call.wave is.in_call)
 
 pub returns-in-Refused-clause-knows : goal.returns-in-Refused-clause-knows
-returns-in-Refused-clause-knows c = λ k heard number refusals is commits.
+returns-in-Refused-clause-knows c = λ k heard number refusals is commits at.
     let v = refused_reply c.args.reply.now c.in-Refused.recorded (sym c.in_ok-decision.ensures ∙ c.in-Refused.is) in
-    c.refused.ensures.knows k heard number v.0 refusals (subst (λ r. HearsNow c.args.self.now c.args.call c.args.txn number r k heard) v.1 is) commits
+    c.refused.ensures.knows k heard number v.0 refusals (subst (λ r. HearsNow c.args.self.now c.args.call c.args.txn number r k heard) v.1 is) commits at
 
 pub returns-in-Nothing-clause-knows : goal.returns-in-Nothing-clause-knows
-returns-in-Nothing-clause-knows c = λ k heard number refusals is commits.
+returns-in-Nothing-clause-knows c = λ k heard number refusals is commits at.
     let kind = commit_kind c.args.self.now c.args.call c.args.txn number c.args.reply.now k heard is refusals commits in
     absurd (decided kind.0 kind.1 c.args.reply.now kind.2 (sym c.in_ok-decision.ensures ∙ c.in-Nothing.is))
 

@@ -8,13 +8,13 @@ use Rattle.pc_wave.specs.Messages.{awaits_at, back_with, first_changed}
 use Rattle.pc_coord.proofs.coordinator.Coordinator.hear.Goals as goal
 
 pub returns-in-Write-clause-knows : goal.returns-in-Write-clause-knows
-returns-in-Write-clause-knows c = λ k heard is. c.write_heard.ensures.knows k heard c.in-Write.again is c.in-Write.is
+returns-in-Write-clause-knows c = λ k heard is at. c.write_heard.ensures.knows k heard c.in-Write.again is c.in-Write.is at
 
 pub returns-in-Write-clause-waits : goal.returns-in-Write-clause-waits
 returns-in-Write-clause-waits c = λ k other w waits. c.write_heard.ensures.waits k other c.in-Write.again w c.in-Write.is waits
 
 pub returns-in-Commit-clause-knows : goal.returns-in-Commit-clause-knows
-returns-in-Commit-clause-knows c = λ k heard is. c.commit_heard.ensures.knows k heard c.args.number c.in-Commit.refusals is c.in-Commit.is
+returns-in-Commit-clause-knows c = λ k heard is at. c.commit_heard.ensures.knows k heard c.args.number c.in-Commit.refusals is c.in-Commit.is at
 
 pub returns-in-Commit-clause-waits : goal.returns-in-Commit-clause-waits
 returns-in-Commit-clause-waits c = λ k other w waits.
@@ -22,7 +22,7 @@ returns-in-Commit-clause-waits c = λ k other w waits.
     (λ e. e ∙ commit_waits c.args.number other c.args.self.now.splits k c.args.txn c.args.call.purpose c.args.call.wave w c.in-Commit.refusals c.in-Commit.is waits) (c.commit_heard.ensures.waits other)
 
 pub returns-in-Abort-clause-knows : goal.returns-in-Abort-clause-knows
-returns-in-Abort-clause-knows c = λ k heard is. c.abort_heard.ensures.knows k heard c.args.number c.in-Abort.why is c.in-Abort.is
+returns-in-Abort-clause-knows c = λ k heard is at. c.abort_heard.ensures.knows k heard c.args.number c.in-Abort.why is c.in-Abort.is
 
 pub returns-in-Abort-clause-waits : goal.returns-in-Abort-clause-waits
 returns-in-Abort-clause-waits c = λ k other w waits.
@@ -45,7 +45,7 @@ returns-in-Abort-clause-comes c = λ k heard is.
     c.abort_heard.ensures.comes (first_changed (awaits_at c.args.number) (back_with c.args.number c.args.reply.now) c.args.call.wave) c.in-Abort.why c.in-Abort.is
 
 pub returns-in-Beat-clause-knows : goal.returns-in-Beat-clause-knows
-returns-in-Beat-clause-knows c = λ k heard is. c.beat_heard.ensures.knows k heard c.args.number c.in-Beat.reading c.in-Beat.call is c.in-Beat.is
+returns-in-Beat-clause-knows c = λ k heard is at. c.beat_heard.ensures.knows k heard c.args.number c.in-Beat.reading c.in-Beat.call is c.in-Beat.is at
 
 pub returns-in-Beat-clause-waits : goal.returns-in-Beat-clause-waits
 returns-in-Beat-clause-waits c = λ k other w waits.

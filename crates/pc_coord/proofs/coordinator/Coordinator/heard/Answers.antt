@@ -1,4 +1,4 @@
-use Rattle.std.proofs.Common.{◌≡◌, max, not, ◌&&◌, ◌==◌, None, sym, ap, ◌∙◌, subst, OnOk, Some}
+use Rattle.std.proofs.Common.{◌≡◌, max, not, ◌&&◌, ◌==◌, None, refl, sym, ap, ◌∙◌, subst, OnOk, Some}
 use Rattle.pc_call.specs.Serving.{InCall}
 use Rattle.pc_coord.proofs.Steps.{h, heard_is, hears, in_call}
 use Rattle.pc_coord.proofs.Tying.{opened_is, waits_open}
@@ -23,7 +23,7 @@ returns-in-Some-clause-knows c = λ k p knows is.
     let hh = h old k o.txn o.call knows at.1 at.0 p c.args.number c.args.step c.args.reply.now is in
     let now = hears old k o.txn o.call knows at.1 at.0 p c.args.number c.args.step c.args.reply.now is n None dues.Nothing (ap (max old.clock) c.last_stamp.ensures) in
     subst (λ k. OnOk c.hear.result (Knows c.hear.new.self k)) (sym (heard_is old k o.txn o.call knows at.1 at.0 p c.args.number c.args.step c.args.reply.now is))
-    (c.hear.ensures.knows k hh (subst (λ n. HearsNow n o.call o.txn c.args.number c.args.reply.now k hh) (sym mid) now))
+    (c.hear.ensures.knows k hh (subst (λ n. HearsNow n o.call o.txn c.args.number c.args.reply.now k hh) (sym mid) now) refl)
 
 pub returns-in-Some-clause-waits : goal.returns-in-Some-clause-waits
 returns-in-Some-clause-waits c = λ k other knows waits.

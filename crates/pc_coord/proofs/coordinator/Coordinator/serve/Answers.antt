@@ -5,11 +5,11 @@ use Rattle.pc_coord.proofs.coordinator.Coordinator.serve.Goals as goal
 
 pub returns-in-Get-clause-knows : goal.returns-in-Get-clause-knows
 returns-in-Get-clause-knows c = λ k s why r fresh is asks suits.
-    c.get.ensures.knows k s why r fresh (is ∙ c.in-Get.is) (reads_alone c.args.call.now (calls.Get c.in-Get.key) c.args.txn.in_flight c.in-Get.is suits (λ w. λ h. h))
+    c.get.ensures.knows k s why r fresh (is ∙ c.in-Get.is) (reads_alone c.args.call.now (calls.Get c.in-Get.key) c.args.txn.in_flight c.in-Get.is suits (λ w ws h. h))
 
 pub returns-in-Scan-clause-knows : goal.returns-in-Scan-clause-knows
 returns-in-Scan-clause-knows c = λ k s why r fresh is asks suits.
-    c.scan.ensures.knows k s why r fresh (is ∙ c.in-Scan.is) (reads_alone c.args.call.now (calls.Scan c.in-Scan.span) c.args.txn.in_flight c.in-Scan.is suits (λ w. λ h. h))
+    c.scan.ensures.knows k s why r fresh (is ∙ c.in-Scan.is) (reads_alone c.args.call.now (calls.Scan c.in-Scan.span) c.args.txn.in_flight c.in-Scan.is suits (λ w ws h. h))
 
 pub returns-in_ok-laid-in-Put-clause-knows : goal.returns-in_ok-laid-in-Put-clause-knows
 returns-in_ok-laid-in-Put-clause-knows c = λ k s why r fresh is asks suits.
@@ -22,7 +22,7 @@ returns-in-Delete-clause-knows c = λ k s why r fresh is asks suits.
 
 pub returns-in-Commit-clause-knows : goal.returns-in-Commit-clause-knows
 returns-in-Commit-clause-knows c = λ k s why r fresh is asks suits.
-    c.commit.ensures.knows k s why r fresh (is ∙ c.in-Commit.is) (reads_alone c.args.call.now calls.Commit c.args.txn.in_flight c.in-Commit.is suits (λ w. λ h. h))
+    c.commit.ensures.knows k s why r fresh (is ∙ c.in-Commit.is) (reads_alone c.args.call.now calls.Commit c.args.txn.in_flight c.in-Commit.is suits (λ w ws h. h))
 
 pub returns-in-Get-clause-waits : goal.returns-in-Get-clause-waits
 returns-in-Get-clause-waits c = λ other asks. c.get.ensures.waits other

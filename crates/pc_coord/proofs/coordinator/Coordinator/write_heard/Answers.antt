@@ -12,9 +12,9 @@ use Rattle.pc_wave.specs.Messages.{awaits_at, back_with, first_changed}
 use Rattle.pc_coord.proofs.coordinator.Coordinator.write_heard.Goals as goal
 
 pub returns-in-Some-clause-knows : goal.returns-in-Some-clause-knows
-returns-in-Some-clause-knows c = λ k heard again is writes.
+returns-in-Some-clause-knows c = λ k heard again is writes at.
     let same = written_reply c.args.reply.now c.in-Some.ts (sym c.written_at-written.ensures ∙ c.in-Some.is) in
-    c.written.ensures.knows k heard c.args.number again (subst (λ r. HearsNow c.args.self.now c.args.call c.args.txn c.args.number r k heard) same is) writes
+    c.written.ensures.knows k heard c.args.number again (subst (λ r. HearsNow c.args.self.now c.args.call c.args.txn c.args.number r k heard) same is) writes at
 
 pub returns-in-Some-clause-waits : goal.returns-in-Some-clause-waits
 returns-in-Some-clause-waits c = λ k other again w writes waits.
@@ -22,7 +22,7 @@ returns-in-Some-clause-waits c = λ k other again w writes waits.
     (λ e. e ∙ write_waits c.args.number other c.args.self.now.splits k c.args.txn c.args.call.purpose c.args.call.wave w again writes waits) (c.written.ensures.waits other)
 
 pub returns-in-None-clause-knows : goal.returns-in-None-clause-knows
-returns-in-None-clause-knows c = λ k heard again is writes.
+returns-in-None-clause-knows c = λ k heard again is writes at.
     let none = sym c.written_at-written.ensures ∙ c.in-None.is in
     c.come_back.ensures.knows k heard is (subst (λ p. GoesOn p c.args.reply.now) (sym writes) (put_met c.args.txn.id c.args.reply.now (write_kind c.args.self.now c.args.call c.args.txn c.args.number c.args.reply.now k heard is again writes) none))
 

@@ -12,10 +12,10 @@ use Rattle.pc_coord.proofs.Coming.{called_comes, one_unsent, told_comes}
 use Rattle.pc_coord.proofs.coordinator.Coordinator.written.Goals as goal
 
 pub returns-in-Some-clause-knows : goal.returns-in-Some-clause-knows
-returns-in-Some-clause-knows c = λ k heard number again is writes.
+returns-in-Some-clause-knows c = λ k heard number again is writes at.
     let s = c.args.self.now in
     let k2 = known_heard heard k in
-    let w = subst (HasLanded s.splits s.session k2 c.written.new.txn) c.in-Some.is (c.in_ok-next.ensures.stands s.session is.before s.begun number s.splits k again heard is.counted is.in_call writes is.waited is.heard) in
+    let w = subst (HasLanded s.splits s.session k2 c.written.new.txn) c.in-Some.is (c.in_ok-next.ensures.stands s.session is.before s.begun number s.splits k again heard is.counted is.in_call writes is.waited is.heard at) in
     let one = subst (λ o. IfSome o (λ call. (request : Request) × (call.wave ≡ message_to_send request ∷ []))) c.in-Some.is c.in_ok-next.ensures.goes_on in
     call_ok s c.call.new.self k2 c.in-Some.call c.written.new.txn c.call.ensures is.ready w (one_goes c.in-Some.call.wave one.0 one.1)
 
@@ -25,10 +25,10 @@ returns-in-Some-clause-waits c = λ other.
     ap (λ c. awaits_number other c.due) c.call.ensures ∙ one_idle other c.in-Some.call.wave one.0 one.1
 
 pub returns-in-None-clause-knows : goal.returns-in-None-clause-knows
-returns-in-None-clause-knows c = λ k heard number again is writes.
+returns-in-None-clause-knows c = λ k heard number again is writes at.
     let s = c.args.self.now in
     let k2 = known_heard heard k in
-    let told = subst (HasLanded s.splits s.session k2 c.written.new.txn) c.in-None.is (c.in_ok-next.ensures.stands s.session is.before s.begun number s.splits k again heard is.counted is.in_call writes is.waited is.heard) in
+    let told = subst (HasLanded s.splits s.session k2 c.written.new.txn) c.in-None.is (c.in_ok-next.ensures.stands s.session is.before s.begun number s.splits k again heard is.counted is.in_call writes is.waited is.heard at) in
     tell_ok s c.tell.new.self k2 answers.Written c.written.new.txn c.tell.ensures is.ready told (served_begins c.args.self.now.splits k c.args.txn c.args.call.purpose c.args.call.wave is.in_call)
 
 pub returns-in-Some-clause-comes : goal.returns-in-Some-clause-comes

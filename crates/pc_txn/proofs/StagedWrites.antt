@@ -1,0 +1,347 @@
+-- A stage of the open transaction goes out, and is told a view.
+use Rattle.std.proofs.Common.{◌≡◌, ◌≢◌, ℕ, ◌<◌, ◌≤◌, max, Bool, true, false, cond, not, ◌==◌, ◌⊎◌, inl, inr, List, [], ◌∷◌, ◌++◌, filter, Option, Some, None, refl, sym, ap, ◌∙◌, subst, arith, All, Any, Contains, IsTrue}
+use Rattle.std.specs.Option.{option_map_or}
+use Rattle.std.proofs.lemmas.Bool.{and_parts, eq-eqb, eqb-true}
+use Rattle.std.proofs.lemmas.List.{append-nil}
+use Rattle.std.proofs.lemmas.List.Elements.{All-contains, All-cons, All-nil, All-push}
+use Rattle.pc_base.specs.declared.actor.ActorId.{ActorId}
+use Rattle.pc_base.specs.declared.span.Span.{Span}
+use Rattle.pc_base.specs.Transaction.{same_txn}
+use Rattle.pc_flight.proofs.Holding.{flights_hold, staged_list}
+use Rattle.pc_flight.specs.declared.write.WriteInFlight.{WriteInFlight}
+use Rattle.pc_flight.specs.InFlight.{listed_in_flight}
+use Rattle.pc_follows.specs.Heartbeats.{last_shown}
+use Rattle.pc_lists.proofs.Anywhere.{any_kept}
+use Rattle.pc_lists.proofs.Lists.{all_from_contains, contains_filter, contains_in_filter}
+use Rattle.pc_lists.proofs.Same.{same_txn-self}
+use Rattle.pc_proto.specs.declared.call.Call.TheVariants as calls
+use Rattle.pc_proto.specs.declared.reply.Reply.{Reply}
+use Rattle.pc_proto.specs.declared.reply.Reply.TheVariants as replies
+use Rattle.pc_proto.specs.declared.request.Request.{Request}
+use Rattle.pc_proto.specs.declared.view.View.{View}
+use Rattle.pc_proto.specs.declared.why.Why.{Why}
+use Rattle.pc_proto.specs.Replies.{is_undecided_status, view_in}
+use Rattle.pc_proto.specs.Requests.{is_about, subject_anchor}
+use Rattle.pc_proto.specs.Views.{is_final_view, is_staging_at, undecided_ts}
+use Rattle.pc_reads.proofs.Goods.{stand_on}
+use Rattle.pc_reads.specs.ReadsStanding.{TxnReadsStand}
+use Rattle.pc_staging.proofs.Allowing.{allows}
+use Rattle.pc_staging.proofs.Deciding.{implicit, live_stage}
+use Rattle.pc_staging.proofs.Fates.{one_stage}
+use Rattle.pc_staging.proofs.Hears as hears
+use Rattle.pc_staging.proofs.Sending.{stage_stands}
+use Rattle.pc_staging.specs.declared.stage_out.StageOut.{StageOut}
+use Rattle.pc_staging.specs.Kept.{Evidence, after_stage, is_live_at, is_passed_by, is_staged_and_proved, with_stages}
+use Rattle.pc_staging.specs.Standing.{AreRefutedBelow, StagingStands, WasStagedAt, WasStageSent, stages_after}
+use Rattle.pc_txn.proofs.Commits.{read_on}
+use Rattle.pc_txn.proofs.Keeping.{staged_before, staged_split}
+use Rattle.pc_txn.proofs.Lists.{any_before}
+use Rattle.pc_txn.proofs.Same.{if_true}
+use Rattle.pc_txn.proofs.Shown.{shown-one}
+use Rattle.pc_txn.proofs.Written.{writes_on}
+use Rattle.pc_txn.specs.declared.txn.OpenTxn.{OpenTxn}
+use Rattle.pc_txn.specs.Opened.{opened_as}
+use Rattle.pc_txn.specs.Staged.{stage_now, stage_told_at, with_stage}
+use Rattle.pc_txn.specs.Standing.{AreLateByWrites, AreStagedThere, HasMovedOn, IsProvedAbove, IsUndecidedOf, TxnStands}
+use Rattle.pc_txn.specs.Writing.{IsNotWritten, PutsUpTo, WritesStand}
+use Rattle.pc_world.specs.Known.{Known, call_of, open_txn, reading_of}
+use Rattle.pc_world.specs.Known.Reads.{IsGoodAt}
+use Rattle.pc_world.specs.Known.Traffic.{Heard, Sent}
+use Rattle.pc_world.specs.Known.Transactions.{Txn, meta_of, txn_heard, txn_sent}
+use Rattle.pc_world.specs.Known.Writes.{last_seq_of}
+use Rattle.pc_world.specs.MaySend.{MaySendRow}
+use Rattle.pc_world.specs.StageFate.{IsLate, IsLateByRecord, RefutesRecord, RefutesWrite, SentCommit, SentStage, is_past_stage, is_write_refuted, shows_past, stage_request}
+use Rattle.pc_world.specs.Tell.End.{IsImplicit, shows_staging}
+
+-- The stage of the transaction at its write timestamp, with this anchor and at this reading.
+abbrev pub staged_now : Txn → List WriteInFlight → List ℕ → ℕ → SentStage
+staged_now t flight anchor reading = record { meta = meta_of t anchor; ts = t.write_ts; now = reading; writes = listed_in_flight flight; locks = t.locks }
+
+sent-stage : (t : Txn) (s : SentStage) → s.meta.id ≡ t.id → s.ts ≡ t.write_ts → t.read_ts ≤ t.write_ts → txn_sent (stage_request s) t ≡ read_on t
+sent-stage t s whose at behind =
+    let F : ℕ → Txn = λ n. record t { read_ts = n } in
+    let top : max t.read_ts s.ts ≡ t.write_ts = omega (arith, at, behind) in
+    ap F (if_true (same_txn s.meta.id t.id) (max t.read_ts s.ts) t.read_ts (ap (λ id. same_txn id t.id) whose ∙ same_txn-self t.id) ∙ top)
+
+-- ---- it is sent
+
+module _ (k now : Known) (stages : List SentStage) (commit : Option SentCommit) (shown : ℕ) (cause : Why) (spans : List Span) (flight : List WriteInFlight) (evidence : Evidence) (t : Txn) (anchor : List ℕ) (reading number range : ℕ) where
+  abbrev x0 : OpenTxn
+  x0 = opened_as shown cause spans flight evidence t
+
+  abbrev s0 : SentStage
+  s0 = staged_now t flight anchor reading
+
+  abbrev m0 : Sent
+  m0 = record { number = number; range = range; request = stage_request s0 }
+
+  module _ (st : TxnStands k stages commit t x0) (passed : is_passed_by evidence ≡ true) (anchored : t.anchor ≡ Some anchor) (good : All (IsGoodAt t.id k.heard t.write_ts) t.reads) (not_past : IsLateByRecord k.heard s0 → ⊥) (more : HasMovedOn k now (m0 ∷ []) []) where
+    heard-same : now.heard ≡ k.heard
+    heard-same = more.heard ∙ append-nil k.heard
+
+    writes2 : WritesStand now.sent now.heard (read_on t)
+    writes2 =
+        let w : WritesStand (k.sent ++ m0 ∷ []) (k.heard ++ []) t = writes_on k.sent (m0 ∷ []) k.heard [] t st.writes (All-nil (λ h. (seq : ℕ) → IsNotWritten t seq h)) in
+        let v : WritesStand now.sent now.heard t = subst (λ ms. WritesStand ms now.heard t) (sym more.sent) (subst (λ hs. WritesStand (k.sent ++ m0 ∷ []) hs t) (sym more.heard) w) in
+        record { by_sequence = v.by_sequence; each_sent = v.each_sent; unwritten = v.unwritten; locked = v.locked; unanchored = v.unanchored }
+
+    -- a stage at the write timestamp is not late when it is sent
+    new_not_late : IsLate k.heard s0 → ⊥
+    new_not_late (n, h, inside, at, r) =
+        elim r [
+          | inl w ↦
+              let below : AreRefutedBelow t.id t.write_ts h = All-contains (AreRefutedBelow t.id t.write_ts) k.heard h st.staging.reached (n, inside, at) in
+              let low : s0.ts < t.write_ts = below s0 refl w.refuted in
+              absurd (omega (arith, low))
+          | inr p ↦ not_past (n, h, inside, at, p)
+        ]
+
+    staged2 : (ts : ℕ) → Any (λ y. y.ts ≡ ts) stages ⊎ Any (IsProvedAbove ts) t.writes → Any (λ y. y.ts ≡ ts) (stages ++ s0 ∷ []) ⊎ Any (IsProvedAbove ts) t.writes
+    staged2 ts (inl kept) = inl (any_kept (λ y. y.ts ≡ ts) stages (s0 ∷ []) kept)
+    staged2 ts (inr above) = inr above
+
+    late2 : AreLateByWrites (stages ++ s0 ∷ []) k.heard t
+    late2 = All-push (λ y. IsLate k.heard y → Any (IsProvedAbove y.ts) t.writes) stages s0 st.late (λ late. absurd (new_not_late late))
+
+    staged_by : TxnStands now (stages ++ s0 ∷ []) commit (read_on t) (with_stage x0)
+    staged_by = record {
+      same = refl;
+      number = omega (arith, st.number, more.begun);
+      begun = omega (arith, st.begun, st.behind);
+      behind = omega arith;
+      at_begin = λ none. let e : Some anchor ≡ None = sym anchored ∙ none in absurd cc;
+      below = omega (arith, st.below, more.high);
+      views = subst (λ hs. All (IsUndecidedOf t) hs) (sym heard-same) st.views;
+      shown = st.shown ∙ sym (ap (last_shown t) more.sent ∙ shown-one t k.sent m0 refl);
+      staged = λ ts was. staged2 ts (st.staged ts (subst (λ hs. WasStagedAt hs t ts) heard-same was));
+      late = subst (λ hs. AreLateByWrites (stages ++ s0 ∷ []) hs t) (sym heard-same) late2;
+      puts =
+          subst (λ ms. All (λ m. PutsUpTo t (last_seq_of t.writes) m.request) ms) (sym more.sent)
+          (All-push (λ m. PutsUpTo t (last_seq_of t.writes) m.request) k.sent m0 st.puts (λ epoch seq put. absurd cc));
+      put_heard = subst (λ hs. All (λ h. PutsUpTo t (last_seq_of t.writes) h.request) hs) (sym heard-same) st.put_heard;
+      writes = writes2;
+      flight = flights_hold.on flight t (read_on t) st.flight refl (omega arith);
+      staging =
+          subst (λ t2. StagingStands now (stages ++ s0 ∷ []) commit t2 (with_stages (evidence.stages ++ record { ts = t.write_ts; refuted = None } ∷ []) evidence)) (sent-stage t s0 refl refl st.behind)
+          (stage_stands k now stages commit t evidence s0 st.staging passed
+          (record {
+            sends = record { m = m0; grown = record { sent = more.sent; heard = more.heard }; said = refl };
+            whose = refl;
+            epoch_now = refl;
+            at_write_ts = refl;
+            in_flight = staged_list flight t.writes st.flight.in_flight;
+            not_past = not_past;
+          }));
+      reads =
+          let s : TxnReadsStand t.id k.heard t.reads (record { spans = spans; ts = t.read_ts }) = st.reads in
+          subst (λ hs. TxnReadsStand t.id hs t.reads (record { spans = spans; ts = t.write_ts })) (sym heard-same) (record { kept = s.kept; of_reads = s.of_reads; good = good; ordered = s.ordered });
+    }
+
+-- its stage was sent
+pub stage_sent : (k now : Known) (stages : List SentStage) (commit : Option SentCommit) (t : Txn) (x : OpenTxn) (anchor : List ℕ) (reading number range : ℕ) → TxnStands k stages commit t x → is_passed_by x.staging ≡ true → t.anchor ≡ Some anchor
+    → All (IsGoodAt t.id k.heard t.write_ts) t.reads → (IsLateByRecord k.heard (staged_now t x.in_flight anchor reading) → ⊥)
+    → HasMovedOn k now (record { number = number; range = range; request = stage_now x anchor reading } ∷ []) []
+    → TxnStands now (stages ++ staged_now t x.in_flight anchor reading ∷ []) commit (txn_sent (stage_now x anchor reading) t) (with_stage x)
+stage_sent k now stages commit t x anchor reading number range st passed anchored good not_past more =
+    let flight = x.in_flight in
+    let P : OpenTxn → Type 0 = λ x.
+    TxnStands k stages commit t x → is_passed_by x.staging ≡ true → HasMovedOn k now (record { number = number; range = range; request = stage_now x anchor reading } ∷ []) []
+    → (IsLateByRecord k.heard (staged_now t x.in_flight anchor reading) → ⊥)
+    → TxnStands now (stages ++ staged_now t x.in_flight anchor reading ∷ []) commit (txn_sent (stage_now x anchor reading) t) (with_stage x) in
+    let at : P (opened_as x.shown x.cause x.reads.spans x.in_flight x.staging t) = λ st passed more not_past.
+    subst (λ t2. TxnStands now (stages ++ staged_now t flight anchor reading ∷ []) commit t2 (with_stage (opened_as x.shown x.cause x.reads.spans x.in_flight x.staging t))) (sym (sent-stage t (staged_now t flight anchor reading) refl refl st.behind))
+    (staged_by k now stages commit x.shown x.cause x.reads.spans x.in_flight x.staging t anchor reading number range st passed anchored good not_past more) in
+    subst P (sym st.same) at st passed more not_past
+
+-- ---- it is told a view of a record that is not final
+
+module _ (k now : Known) (stages : List SentStage) (commit : Option SentCommit) (t : Txn) (x : OpenTxn) (s : SentStage) (view : View) (recorded : ℕ) (h : Heard) (st : TxnStands k stages commit t x) (there : Contains stages s) (anchored : t.anchor ≡ Some s.meta.anchor)
+    (asked : h.request ≡ stage_request s) (told : h.reply ≡ replies.Status view) (unfinal : is_final_view view ≡ false) (stands_at : undecided_ts view ≡ recorded)
+    (no_later : (epoch ts : ℕ) → IsTrue (is_staging_at epoch ts view) → epoch ≤ t.epoch)
+    (known : (ts : ℕ) → IsTrue (is_staging_at t.epoch ts view) → Any (λ y. y.ts ≡ ts) stages ⊎ Any (IsProvedAbove ts) t.writes)
+    (first : is_staging_at t.epoch s.ts view ≡ false → WasStagedAt k.heard t s.ts → ⊥)
+    (more : HasMovedOn k now [] (h ∷ [])) (low : recorded ≤ now.high) where
+  -- The transaction once its record was heard to stand there.
+  abbrev reached : Txn
+  reached = record t { write_ts = max t.write_ts recorded }
+
+  abbrev after : List SentStage
+  after = stages_after t.epoch s.ts view stages
+
+  abbrev elsewhere : SentStage → Bool
+  elsewhere y = not (y.ts == s.ts)
+
+  own : (s.meta.id ≡ t.id) × (s.meta.epoch ≡ t.epoch)
+  own = hears.own_each k.heard t stages x.staging.stages st.staging.kept s there
+
+  heard-stage : txn_heard k.sent (Some h) t ≡ reached
+  heard-stage =
+      let F : Request → Reply → Txn = λ r y. txn_heard k.sent (Some (record { number = h.number; request = r; reply = y; step = h.step })) t in
+      let G : ℕ → Txn = λ n. record t { write_ts = max t.write_ts n } in
+      ap (λ r. F r h.reply) asked ∙ ap (F (stage_request s)) told
+      ∙ ap G (if_true (same_txn s.meta.id t.id) (undecided_ts view) 0 (ap (λ id. same_txn id t.id) own.0 ∙ same_txn-self t.id) ∙ stands_at)
+
+  sent-same : now.sent ≡ k.sent
+  sent-same = more.sent ∙ append-nil k.sent
+
+  epoch_is : x.epoch ≡ t.epoch
+  epoch_is = ap (λ (x : OpenTxn). x.epoch) st.same
+
+  staging3 : StagingStands now after commit reached (after_stage t.epoch s.ts h.step view x.staging)
+  staging3 =
+      subst (λ t2. StagingStands now after commit t2 (after_stage t.epoch s.ts h.step view x.staging)) heard-stage
+      (hears.stage_heard k now stages commit t x.staging st.staging h (record { sent = more.sent; heard = more.heard }) s view there
+      (record { grown = record { sent = more.sent; heard = more.heard }; asked = asked; told = told }) t.epoch s.ts h.step (after_stage t.epoch s.ts h.step view x.staging) refl refl refl refl)
+
+  shows_it : (epoch ts : ℕ) → IsTrue (shows_staging t.id epoch ts h) → IsTrue (is_staging_at epoch ts view)
+  shows_it epoch ts shows =
+      let parts = and_parts (is_about t.id h.request) (option_map_or (is_staging_at epoch ts) (view_in h.reply) false) shows in
+      sym (ap (λ reply. option_map_or (is_staging_at epoch ts) (view_in reply) false) told) ∙ parts.1
+
+  -- which stages are kept then
+  after_is : (b : Bool) → is_staging_at t.epoch s.ts view ≡ b → after ≡ cond b stages (filter elsewhere stages)
+  after_is b is =
+      ap (λ c. cond c stages (cond (is_staging_at t.epoch s.ts view) stages (filter elsewhere stages))) unfinal
+      ∙ ap (λ c. cond c stages (filter elsewhere stages)) is
+
+  -- each of them was kept before, and where the record went another way it is none of the stage's timestamp
+  kept_before : (y : SentStage) → Contains after y → Contains stages y × (is_staging_at t.epoch s.ts view ≡ false → y.ts ≢ s.ts)
+  kept_before y inside = by (is_staging_at t.epoch s.ts view) refl
+    where
+      by : (b : Bool) → is_staging_at t.epoch s.ts view ≡ b → Contains stages y × (is_staging_at t.epoch s.ts view ≡ false → y.ts ≢ s.ts)
+      by true is = (subst (λ ys. Contains ys y) (after_is true is) inside, λ other. absurd cc)
+      by false is =
+          let f = contains_filter elsewhere stages y (subst (λ ys. Contains ys y) (after_is false is) inside) in
+          (f.0, λ other same. let hit : (y.ts == s.ts) ≡ true = eq-eqb y.ts s.ts same in let not_it : not (y.ts == s.ts) ≡ true = f.1 in absurd cc)
+
+  -- and the reply refutes none of them
+  spares : (y : SentStage) → Contains after y → RefutesWrite y h ⊎ RefutesRecord y h → ⊥
+  spares y inside refutes =
+      elim refutes [
+        | inl w ↦ let none : is_write_refuted y h.request h.reply ≡ false = ap (λ r. is_write_refuted y r h.reply) asked in let is : is_write_refuted y h.request h.reply ≡ true = w.refuted in absurd cc
+        | inr p ↦
+            let same : y ≡ s = one_stage y s (sym p.asked ∙ asked) in
+            let past : shows_past y h.reply ≡ true = p.past in
+            let past2 : is_past_stage s view ≡ true = sym (ap (λ z. is_past_stage z view) same) ∙ sym (ap (shows_past y) told) ∙ past in
+            by past2 same (is_staging_at t.epoch s.ts view) refl
+      ]
+    where
+      by : is_past_stage s view ≡ true → y ≡ s → (b : Bool) → is_staging_at t.epoch s.ts view ≡ b → ⊥
+      by past same true is = hears.staged_not_past s view (ap (λ n. is_staging_at n s.ts view) own.1 ∙ is) past
+      by past same false is = (kept_before y inside).1 is (ap (λ y. y.ts) same)
+
+  -- it was not heard to stage where its stage went another way
+  unstaged_there : is_staging_at t.epoch s.ts view ≡ false → WasStagedAt (k.heard ++ h ∷ []) t s.ts → ⊥
+  unstaged_there other was =
+      let P : Heard → Type 0 = λ h. IsTrue (shows_staging t.id t.epoch s.ts h) in
+      first other
+      (staged_before k.heard (h ∷ []) t s.ts
+      (All-cons (λ h. P h → ⊥) h [] (λ shows. let is : is_staging_at t.epoch s.ts view ≡ true = shows_it t.epoch s.ts shows in absurd cc) (All-nil (λ h. P h → ⊥))) was)
+
+  staged3 : AreStagedThere after (k.heard ++ h ∷ []) t
+  staged3 ts was =
+      elim (staged_split k.heard h t stages ts st.staged (λ shows. known ts (shows_it t.epoch ts shows)) was) [
+        | inl kept ↦ inl (by kept (is_staging_at t.epoch s.ts view) refl)
+        | inr above ↦ inr above
+      ]
+    where
+      by : Any (λ y. y.ts ≡ ts) stages → (b : Bool) → is_staging_at t.epoch s.ts view ≡ b → Any (λ y. y.ts ≡ ts) after
+      by kept true is = subst (λ ys. Any (λ y. y.ts ≡ ts) ys) (sym (after_is true is)) kept
+      by (n, y, inside, at, same) false is = subst (λ ys. Any (λ y. y.ts ≡ ts) ys) (sym (after_is false is)) (left (y.ts == s.ts) refl)
+        where
+          left : (b : Bool) → (y.ts == s.ts) ≡ b → Any (λ y. y.ts ≡ ts) (filter elsewhere stages)
+          left true hit = absurd (unstaged_there is (subst (λ n. WasStagedAt (k.heard ++ h ∷ []) t n) (sym same ∙ eqb-true y.ts s.ts hit) was))
+          left false miss =
+              let (m, within, found) = contains_in_filter elsewhere stages y (n, inside, at) (ap not miss) in
+              (m, y, within, found, same)
+
+  late3 : AreLateByWrites after (k.heard ++ h ∷ []) t
+  late3 =
+      all_from_contains (λ y. IsLate (k.heard ++ h ∷ []) y → Any (IsProvedAbove y.ts) t.writes) after
+      (λ y inside late.
+      let R : Heard → Type 0 = λ h. RefutesWrite y h ⊎ RefutesRecord y h in
+      All-contains (λ y. IsLate k.heard y → Any (IsProvedAbove y.ts) t.writes) stages y st.late (kept_before y inside).0
+      (any_before R k.heard (h ∷ []) (All-cons (λ h. R h → ⊥) h [] (spares y inside) (All-nil (λ h. R h → ⊥))) late))
+
+  writes3 : WritesStand now.sent now.heard reached
+  writes3 =
+      let P : Request → Type 0 = λ r. (seq : ℕ) → IsNotWritten t seq (record { number = h.number; request = r; reply = h.reply; step = h.step }) in
+      let none : (seq : ℕ) → IsNotWritten t seq h = subst P (sym asked) (λ seq put. absurd cc) in
+      let w : WritesStand (k.sent ++ []) (k.heard ++ h ∷ []) t =
+      writes_on k.sent [] k.heard (h ∷ []) t st.writes (All-push (λ h. (seq : ℕ) → IsNotWritten t seq h) [] h (All-nil (λ h. (seq : ℕ) → IsNotWritten t seq h)) none) in
+      let v : WritesStand now.sent now.heard t = subst (λ ms. WritesStand ms now.heard t) (sym more.sent) (subst (λ hs. WritesStand (k.sent ++ []) hs t) (sym more.heard) w) in
+      record { by_sequence = v.by_sequence; each_sent = v.each_sent; unwritten = v.unwritten; locked = v.locked; unanchored = v.unanchored }
+
+  told_by : TxnStands now after commit reached (stage_told_at s.ts view recorded h.step x)
+  told_by =
+      let kept : Evidence = after_stage x.epoch s.ts h.step view x.staging in
+      record {
+        same = ap (λ (x : OpenTxn). record x { write_ts = max x.write_ts recorded; staging = kept }) st.same;
+        number = omega (arith, st.number, more.begun);
+        begun = st.begun;
+        behind = omega (arith, st.behind);
+        at_begin = st.at_begin;
+        below = omega (arith, st.below, more.high, low);
+        views =
+            subst (λ hs. All (IsUndecidedOf t) hs) (sym more.heard)
+            (All-push (IsUndecidedOf t) k.heard h st.views (λ about. record {
+              anchored = ap subject_anchor asked ∙ sym anchored;
+              undecided = ap is_undecided_status told ∙ ap not unfinal;
+              no_later = λ epoch ts is. no_later epoch ts (sym (ap (λ reply. option_map_or (is_staging_at epoch ts) (view_in reply) false) told) ∙ is);
+            }));
+        shown = st.shown ∙ sym (ap (last_shown t) sent-same);
+        staged = λ ts was. staged3 ts (subst (λ hs. WasStagedAt hs t ts) more.heard was);
+        late = subst (λ hs. AreLateByWrites after hs t) (sym more.heard) late3;
+        puts = subst (λ ms. All (λ m. PutsUpTo t (last_seq_of t.writes) m.request) ms) (sym sent-same) st.puts;
+        put_heard =
+            let P : Heard → Type 0 = λ h. PutsUpTo t (last_seq_of t.writes) h.request in
+            subst (λ hs. All P hs) (sym more.heard)
+            (All-push P k.heard h st.put_heard (subst (λ r. PutsUpTo t (last_seq_of t.writes) r) (sym asked) (λ epoch seq put. absurd cc)));
+        writes = writes3;
+        flight = flights_hold.on x.in_flight t reached st.flight refl (omega arith);
+        staging = subst (λ n. StagingStands now after commit reached (after_stage n s.ts h.step view x.staging)) (sym epoch_is) staging3;
+        reads = subst (λ hs. TxnReadsStand t.id hs t.reads x.reads) (sym more.heard) (stand_on t.id k.heard (h ∷ []) t.reads x.reads st.reads);
+      }
+
+  -- its stage was told this view
+  pub stage_told : TxnStands now after commit (txn_heard k.sent (Some h) t) (stage_told_at s.ts view recorded h.step x)
+  stage_told = subst (λ t2. TxnStands now after commit t2 (stage_told_at s.ts view recorded h.step x)) (sym heard-stage) told_by
+
+-- ---- what may be sent and told
+
+module _ (splits : List (List ℕ)) (actor : ActorId) (k : Known) (stages : List SentStage) (commit : Option SentCommit) (t : Txn) (x : OpenTxn) (st : TxnStands k stages commit t x) where
+  -- it stages its writes in flight in a commit, where no earlier stage or commit stands in the way, and its reads are good
+  pub may_stage : (anchor : List ℕ) (reading : ℕ) → open_txn k ≡ Some t → call_of k ≡ Some calls.Commit → reading_of k ≡ Some reading → t.anchor ≡ Some anchor → x.in_flight ≢ [] → is_passed_by x.staging ≡ true
+      → All (IsGoodAt t.id k.heard t.write_ts) t.reads → MaySendRow splits actor k (stage_now x anchor reading)
+  may_stage anchor reading opened asked read anchored some passed good =
+      subst (λ x. MaySendRow splits actor k (stage_now x anchor reading)) (sym st.same)
+      (inl (allows.stage k stages commit t x.staging x.in_flight (staged_now t x.in_flight anchor reading) st.staging st.flight passed
+      (record {
+        opened = opened;
+        asked = asked;
+        whose = record { anchored = anchored; same = refl };
+        good = record { begun = omega (arith, st.begun, st.behind); reads = good };
+        at_write_ts = refl;
+        listed = refl;
+        some = some;
+        read_now = read;
+        all_locks = refl;
+      })))
+
+  -- a stage that is kept goes out again while it is not late
+  pub may_stage_again : (s : SentStage) → Contains k.txns t → Contains stages s → is_live_at s.ts x.staging ≡ true → MaySendRow splits actor k (stage_request s)
+  may_stage_again s mine there live =
+      let own = hears.own_each k.heard t stages x.staging.stages st.staging.kept s there in
+      let w : WasStageSent k.sent t.id s = All-contains (WasStageSent k.sent t.id) stages s st.staging.sent there in
+      inr (record {
+        t = t;
+        mine = mine;
+        whose = own.0;
+        epoch_now = own.1;
+        before = w.went_out;
+        not_late = live_stage k stages commit t x.staging st.staging s.ts live s there refl;
+      })
+
+  -- where nothing is in flight, and it was last heard to stage at its write timestamp, it is committed there by its stage
+  pub may_tell_committed : is_staged_and_proved x.in_flight t.write_ts x.staging ≡ true → IsImplicit k t t.write_ts
+  may_tell_committed is = implicit k stages commit t x.staging st.staging x.in_flight t.write_ts st.flight refl is

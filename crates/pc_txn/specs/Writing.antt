@@ -1,0 +1,46 @@
+-- How the writes of the open transaction's epoch stand beside what its session sent and heard of them. SIGMOD 2020 paper, section 3.1.
+use Rattle.std.specs.Prelude.{◌≡◌, ℕ, ◌<◌, ◌≤◌, false, not, None, List, [], All, Any, IsTrue}
+use Rattle.pc_proto.specs.declared.request.Request.{Request}
+use Rattle.pc_proto.specs.Replies.{is_written}
+use Rattle.pc_proto.specs.Requests.{is_put_of}
+use Rattle.pc_wave.specs.Standing.{Pairwise}
+use Rattle.pc_world.specs.Known.Traffic.{Heard, Sent}
+use Rattle.pc_world.specs.Known.Transactions.{Txn, with_lock}
+use Rattle.pc_world.specs.Known.Writes.{Write, is_proved}
+
+-- If the request puts a write of the transaction, its epoch is not a later one, and in this epoch its sequence is at most this one.
+abbrev pub PutsUpTo : Txn → ℕ → Request → Type 0
+PutsUpTo t last request = (epoch seq : ℕ) → IsTrue (is_put_of t.id epoch seq request) → (epoch ≤ t.epoch) × (epoch ≡ t.epoch → seq ≤ last)
+
+-- If the reply is to a put of this write, it does not say that it is written.
+abbrev pub IsNotWritten : Txn → ℕ → Heard → Type 0
+IsNotWritten t seq h = IsTrue (is_put_of t.id t.epoch seq h.request) → is_written h.reply ≡ false
+
+-- A put of the write was sent.
+abbrev pub WasWriteSent : Txn → List Sent → Write → Type 0
+WasWriteSent t sent w = Any (λ m. IsTrue (is_put_of t.id t.epoch w.seq m.request)) sent
+
+-- The write, where it is not proved, was not heard to be written.
+abbrev pub IsUnwrittenWhereUnproved : Txn → List Heard → Write → Type 0
+IsUnwrittenWhereUnproved t heard w = IsTrue (not (is_proved w)) → All (IsNotWritten t w.seq) heard
+
+-- The key of the write is one of the locks.
+abbrev pub IsKeyLocked : List (List ℕ) → Write → Type 0
+IsKeyLocked locks w = with_lock w.key locks ≡ locks
+
+-- The one write is earlier than the other.
+abbrev pub IsEarlier : Write → Write → Type 0
+IsEarlier w later = w.seq < later.seq
+
+-- The writes stand by sequence.
+abbrev pub AreEarlierFirst : List Write → Type 0
+AreEarlierFirst writes = Pairwise IsEarlier writes
+
+-- The writes of the epoch are by sequence; a put of each was sent; one that is not proved was not heard to be written; the keys of all are
+-- locked; and a transaction without an anchor has written nothing.
+pub record WritesStand (sent : List Sent) (heard : List Heard) (t : Txn) : Type 0 where
+  pub by_sequence : AreEarlierFirst t.writes
+  pub each_sent : All (WasWriteSent t sent) t.writes
+  pub unwritten : All (IsUnwrittenWhereUnproved t heard) t.writes
+  pub locked : All (IsKeyLocked t.locks) t.writes
+  pub unanchored : t.anchor ≡ None → t.writes ≡ []
