@@ -1,5 +1,5 @@
 -- The round of a conflict was made, and its message goes out again.
-use Rattle.std.proofs.Common.{◌≡◌, ℕ, Bool, true, false, cond, ◌⊎◌, inl, inr, List, [], ◌∷◌, ◌++◌, map, find, Option, Some, refl, sym, ap, ◌∙◌, subst, arith, All, IsTrue, append_assoc, not}
+use Rattle.std.proofs.Common.{◌≡◌, ℕ, Bool, true, false, cond, ◌⊎◌, inl, inr, List, [], ◌∷◌, ◌++◌, map, find, Option, Some, refl, sym, ap, ◌∙◌, subst, arith, All, Any, IsTrue, append_assoc, not}
 use Rattle.std.specs.List.{list_any}
 use Rattle.std.proofs.lemmas.Bool.{eq-eqb}
 use Rattle.std.proofs.lemmas.List.Elements.{All-append, All-cons, All-head, All-map, All-nil, All-tail, All-weaker}
@@ -8,15 +8,18 @@ use Rattle.pc_call.proofs.Beating.{IsSilentHeard, IsSilentSent, beaten_beside, n
 use Rattle.pc_call.proofs.Facts.{before_is}
 use Rattle.pc_call.proofs.Hearing.{refresh_kind}
 use Rattle.pc_call.proofs.Holders.{holders_again}
-use Rattle.pc_call.proofs.Lists.{all_unmapped, kept_by, only_found}
+use Rattle.pc_call.proofs.Lists.{all_changed, all_unmapped, kept_by, only_found}
+use Rattle.pc_call.proofs.Meeting.{any_goes_on}
 use Rattle.pc_call.proofs.Beside.{IsAskedOrBeside, asked-kept}
 use Rattle.pc_call.specs.Beside.{AreAskedOrDone}
 use Rattle.pc_call.specs.declared.purpose.Purpose.{Purpose}
 use Rattle.pc_call.specs.declared.purpose.Purpose.TheVariants as purposes
 use Rattle.pc_call.specs.Paced.{IsPaced}
 use Rattle.pc_call.specs.Rounding.{KeepsPace, MakesRound, IsPushedOnce}
-use Rattle.pc_call.specs.Serving.{AreReadsOf, HasBeatenBy, InCall, IsReadFor, IsSplit, LaysLast, LaysNext, NoOtherMetEighth, Serves, ServesRead, ServesWrite, holder_met, holders_met, out_of}
+use Rattle.pc_call.specs.Serving.{AreReadsOf, HasBeatenBy, InCall, IsReadFor, IsOpenFor, IsSplit, LaysLast, LaysNext, NoOtherMetEighth, SendsAgain, Serves, ServesProve, ServesRead, ServesWrite, holder_met, holders_met, out_of}
+use Rattle.pc_call.specs.Waiting.{depends_on}
 use Rattle.pc_follows.specs.Heartbeats.{HasBeaten, is_heartbeat}
+use Rattle.pc_proto.specs.declared.call.Call.{Call}
 use Rattle.pc_proto.specs.declared.reply.Reply.{Reply}
 use Rattle.pc_proto.specs.declared.reply.Reply.TheVariants as replies
 use Rattle.pc_proto.specs.declared.request.Request.{Request}
@@ -27,14 +30,15 @@ use Rattle.pc_txn.proofs.Keeping.{quiet_leaves, stands_on}
 use Rattle.pc_txn.specs.declared.txn.OpenTxn.{OpenTxn}
 use Rattle.pc_txn.specs.Opened.{own_abort, own_commit}
 use Rattle.pc_txn.specs.Standing.{HasMovedOn, LeavesAsIs, TxnStands, is_plain, is_query_of}
+use Rattle.pc_txn.specs.Writing.{WasAskedAt}
 use Rattle.pc_wave.proofs.Changed.{found_all}
 use Rattle.pc_wave.proofs.Lists.{at_least-before}
 use Rattle.pc_wave.proofs.Rounds.{due_round, first_found, found_at, wave_again}
 use Rattle.pc_wave.specs.declared.message.Message.{Message}
 use Rattle.pc_wave.specs.declared.message.Progress.TheVariants as progresses
 use Rattle.pc_wave.specs.declared.step.Step.TheVariants as steps
-use Rattle.pc_wave.specs.Messages.{conflicts_at, first_changed, goes_again, is_in_conflict, progress_conflicts, step_of}
-use Rattle.pc_wave.specs.Standing.{IsAsFar, MessageStands, MetConflict, WaveStands, goes_beside}
+use Rattle.pc_wave.specs.Messages.{conflicts_at, first_changed, goes_again, has_answer, is_in_conflict, is_to_send, progress_conflicts, progress_has_answer, progress_to_send, step_of}
+use Rattle.pc_wave.specs.Standing.{AreOfTwo, IsAsFar, MessageStands, MetConflict, WaveStands, goes_beside}
 use Rattle.pc_world.specs.Answering.{IsRefreshReply, MayAnswer}
 use Rattle.pc_world.specs.Counting.{AtLeast}
 use Rattle.pc_world.specs.Known.{Known}
@@ -162,8 +166,9 @@ module _ (splits : List (List ℕ)) (start k : Known) (x : OpenTxn) (p : Purpose
 
         by : (q : Purpose) → HasBeatenBy q start w.t → HasBeatenBy q k w.t
         by (purposes.Beat call reading) b = tt
+        by (purposes.Prove call) b = on b
         by purposes.Read b = on b
-        by (purposes.Write again) b = on b
+        by purposes.Write b = on b
         by (purposes.Refresh n) b = on b
         by (purposes.Commit n) b = on b
         by (purposes.Abort why) b = on b
@@ -216,8 +221,8 @@ module _ (splits : List (List ℕ)) (start k : Known) (x : OpenTxn) (p : Purpose
         (All-append P start.sent_now made.sent_more (All-weaker (λ m. IsFirstPut start w.s w.t m → ⊥) P (λ m none f. none (first_back m f)) start.sent_now a)
         (All-weaker (λ m. IsTrue (goes_beside m.request)) P (λ m of f. beside_no_put w.t f.key f.value f.seq m.request of f.put) made.sent_more made.sent_beside))
 
-    write_serves : (again : Bool) → ServesWrite again start w.s w.t x ms → ServesWrite again k w.s w.t x ms2
-    write_serves again r = by r.lays
+    write_serves : ServesWrite start w.s w.t x ms → ServesWrite k w.s w.t x ms2
+    write_serves r = by r.lays
       where
         is_m : r.m ≡ m
         is_m = (only_found is_in_conflict r.m m (subst (λ ms. find is_in_conflict ms ≡ Some m) r.one found_c)).0
@@ -225,7 +230,7 @@ module _ (splits : List (List ℕ)) (start k : Known) (x : OpenTxn) (p : Purpose
         at_number : conflicts_at number r.m ≡ true
         at_number = ap (conflicts_at number) is_m ∙ ap (progress_conflicts number) progress ∙ eq-eqb number number refl
 
-        by : LaysNext start w.s w.t x r.key r.value again r.m ⊎ LaysLast start w.s w.t x r.key r.value again r.m → ServesWrite again k w.s w.t x ms2
+        by : LaysNext start w.s w.t x r.key r.value r.m ⊎ LaysLast start w.t x r.key r.value r.m → ServesWrite k w.s w.t x ms2
         by (inl l) = let f : false ≡ true = ap (progress_conflicts number) (sym l.to_send) ∙ at_number in absurd cc
         by (inr l) = record {
           key = r.key;
@@ -241,19 +246,65 @@ module _ (splits : List (List ℕ)) (start k : Known) (x : OpenTxn) (p : Purpose
             anchor = l.anchor;
             anchored = l.anchored;
             said = l.said;
-            first = λ e. ap (λ ms. list_any (λ other. is_put_of w.t.id w.t.epoch l.w.seq other.request) ms) before_same ∙ l.first e;
-            old = λ e. new_on (l.old e);
-            before = λ e. ap (λ ms. list_any (λ other. is_put_of w.t.id w.t.epoch l.w.seq other.request) ms) before_same ∙ l.before e;
+            first = ap (λ ms. list_any (λ other. is_put_of w.t.id w.t.epoch l.w.seq other.request) ms) before_same ∙ l.first;
           });
         }
+
+    -- what was sent went out at its timestamp
+    goes_then : (call : Call) (y : Message) (a : SendsAgain call start w.t x y) → is_to_send y ≡ false → WasAskedAt w.t a.w.seq a.ts
+    goes_then call y a out = elim a.goes_at [ inl now ↦ let f : false ≡ true = sym out ∙ now.0 in absurd cc | inr was ↦ was ]
+
+    again_still : (call : Call) (y : Message) → SendsAgain call start w.t x y → SendsAgain call k w.t x y
+    again_still call y a = record {
+      w = a.w;
+      waits = a.waits;
+      before = ap (λ ms. list_any (λ other. is_put_of w.t.id w.t.epoch a.w.seq other.request) ms) before_same ∙ a.before;
+      anchor = a.anchor;
+      anchored = a.anchored;
+      ts = a.ts;
+      said = a.said;
+      low = a.low;
+      goes_at = a.goes_at;
+      there = a.there;
+    }
+
+    again_once_more : (call : Call) → SendsAgain call start w.t x m → SendsAgain call k w.t x (goes_again m)
+    again_once_more call a = record {
+      w = a.w;
+      waits = a.waits;
+      before = ap (λ ms. list_any (λ other. is_put_of w.t.id w.t.epoch a.w.seq other.request) ms) before_same ∙ a.before;
+      anchor = a.anchor;
+      anchored = a.anchored;
+      ts = a.ts;
+      said = a.said;
+      low = a.low;
+      goes_at = inr (goes_then call m a (ap progress_to_send progress));
+      there = λ none. a.there (ap progress_has_answer progress);
+    }
+
+    prove_serves : (call : Call) → ServesProve call start w.s w.t x ms → ServesProve call k w.s w.t x ms2
+    prove_serves call r = record {
+      key = r.key;
+      value = r.value;
+      writes = r.writes;
+      asked = r.asked;
+      suits = r.suits;
+      again =
+          all_changed AreOfTwo (conflicts_at number) goes_again (SendsAgain call start w.t x) (SendsAgain call k w.t x) m (again_once_more call) (λ y apart a. again_still call y a) ms found w.wave.differ r.again;
+      each =
+          All-weaker (λ f. depends_on call f.key ≡ true → Any (IsOpenFor f) ms) (λ f. depends_on call f.key ≡ true → Any (IsOpenFor f) ms2)
+          (λ f one waits. any_goes_on (conflicts_at number) goes_again (IsOpenFor f) (λ y at goes. (goes.0, refl)) ms (one waits)) x.in_flight r.each;
+      new = new_on r.new;
+    }
 
     kind : MayAnswer m.request (replies.Conflict met.holder met.ts met.key)
     kind = subst (MayAnswer m.request) met.is met.kind
 
     again_by : (q : Purpose) → p ≡ q → Serves splits start w.s w.t x q ms → InCall splits k x p ms2
     again_by (purposes.Beat call reading) e r = absurd (not_nil met.before met.h met.later (sym met.whole ∙ r.unheard))
+    again_by (purposes.Prove call) e r = goes_on (ap (λ q. out_of q ms2) e ∙ sym (ap (λ q. out_of q ms) e)) (subst (λ q. Serves splits k w.s w.t x q ms2) (sym e) (prove_serves call r))
     again_by purposes.Read e r = goes_on (ap (λ q. out_of q ms2) e ∙ sym (ap (λ q. out_of q ms) e)) (subst (λ q. Serves splits k w.s w.t x q ms2) (sym e) (read_serves r))
-    again_by (purposes.Write again) e r = goes_on (ap (λ q. out_of q ms2) e ∙ sym (ap (λ q. out_of q ms) e)) (subst (λ q. Serves splits k w.s w.t x q ms2) (sym e) (write_serves again r))
+    again_by purposes.Write e r = goes_on (ap (λ q. out_of q ms2) e ∙ sym (ap (λ q. out_of q ms) e)) (subst (λ q. Serves splits k w.s w.t x q ms2) (sym e) (write_serves r))
     again_by (purposes.Refresh n) e r =
         let Q : Request → Type 0 = λ r. (reply : Reply) → MayAnswer r reply → IsRefreshReply reply in
         let all : All (λ (m : Message). Q m.request) ms = all_unmapped Q (λ (m : Message). m.request) ms (refresh_kind m.request conflict x (map (λ m. m.request) ms) r.asked) in

@@ -1,5 +1,5 @@
 -- A call of the open transaction begins with messages that are all to be sent.
-use Rattle.std.proofs.Common.{◌≡◌, ℕ, ◌+◌, Bool, true, false, cond, ◌||◌, inl, inr, List, [], ◌∷◌, ◌++◌, map, Option, Some, None, refl, sym, ap, ◌∙◌, subst, arith, All, Any, Contains, IsTrue, count_by, lit<, zero, suc}
+use Rattle.std.proofs.Common.{◌≡◌, ℕ, ◌+◌, ◌<◌, Bool, true, false, cond, ◌||◌, inl, inr, List, [], ◌∷◌, ◌++◌, map, Option, Some, None, refl, sym, ap, ◌∙◌, subst, arith, All, Any, Contains, IsTrue, count_by, lit<, zero, suc}
 use Rattle.std.specs.List.{list_any}
 use Rattle.std.proofs.lemmas.List.{map-append}
 use Rattle.std.proofs.lemmas.List.Elements.{All-cons, All-head, All-map, All-nil, All-tail, All-weaker}
@@ -17,12 +17,15 @@ use Rattle.pc_call.specs.declared.purpose.Purpose.TheVariants as purposes
 use Rattle.pc_call.specs.Fresh.{IsFresh, ShowsAlive}
 use Rattle.pc_call.specs.Paced.{IsPaced, shows_resolve, was_pushed}
 use Rattle.pc_call.specs.Pieces.{scan_messages, span_piece, spans_from, spans_in}
-use Rattle.pc_call.specs.Serving.{AreReadsOf, HasBeatenBy, InCall, IsOpenIn, IsReadFor, IsSplit, Serves, holders_met, out_of, write_call}
+use Rattle.pc_call.specs.Serving.{AreReadsOf, HasBeatenBy, InCall, IsOpenFor, IsOpenIn, IsReadFor, IsSplit, SendsAgain, Serves, holders_met, out_of, write_call}
+use Rattle.pc_call.specs.Suiting.{SuitsFlight}
+use Rattle.pc_call.specs.Waiting.{proof_messages, depends_on}
 use Rattle.pc_follows.specs.Heartbeats.{is_heartbeat}
-use Rattle.pc_lists.proofs.Anywhere.{any_of}
+use Rattle.pc_lists.proofs.Anywhere.{any_head, any_later, any_of}
 use Rattle.pc_lists.proofs.Counts.{count-cons, one_if}
 use Rattle.pc_flight.specs.declared.write.WriteInFlight.{WriteInFlight}
-use Rattle.pc_lists.proofs.Lists.{contains_head}
+use Rattle.pc_lists.proofs.Lists.{all_from_contains, contains_cons, contains_nil}
+use Rattle.pc_proto.specs.declared.call.Call.{Call}
 use Rattle.pc_proto.specs.declared.call.Call.TheVariants as calls
 use Rattle.pc_proto.specs.declared.reply.Reply.{Reply}
 use Rattle.pc_proto.specs.declared.reply.Reply.TheVariants as replies
@@ -32,12 +35,14 @@ use Rattle.pc_proto.specs.declared.why.Why.{Why}
 use Rattle.pc_proto.specs.declared.why.Why.TheVariants as whys
 use Rattle.pc_proto.specs.Replies.{is_conflict, is_undecided_status}
 use Rattle.pc_proto.specs.Requests.{is_push_of, is_put_of, is_resolve_of}
+use Rattle.pc_txn.proofs.Again.{IsEarlierInFlight, flight_order}
 use Rattle.pc_txn.proofs.Laying.{sent_of}
 use Rattle.pc_txn.specs.declared.txn.OpenTxn.{OpenTxn}
-use Rattle.pc_txn.specs.Opened.{next_put, own_abort, own_get, own_put, own_scan}
+use Rattle.pc_txn.specs.Opened.{meta_now, next_put, own_abort, own_get, own_put, own_scan}
 use Rattle.pc_txn.specs.Standing.{TxnStands}
 use Rattle.pc_wave.proofs.Lists.{any_before, at_least-before, at_least-fewer}
-use Rattle.pc_wave.specs.Messages.{message_to_send}
+use Rattle.pc_wave.specs.declared.message.Message.{Message}
+use Rattle.pc_wave.specs.Messages.{is_to_send, message_to_send}
 use Rattle.pc_wave.specs.Standing.{AreOfTwo, MayGoOut, MessageStands, Pairwise, goes_beside}
 use Rattle.pc_world.proofs.Pieces.{pieces-differ}
 use Rattle.pc_world.specs.Counting.{AtLeast}
@@ -192,6 +197,15 @@ module _ (k : Known) (t : Txn) (x : OpenTxn) (s : Statement) (open_in : IsOpenIn
     serves = serves;
   }
 
+-- the messages that prove writes are all to be sent
+pub proofs_unsent : (call : Call) (x : OpenTxn) (anchor : List ℕ) (ws : List WriteInFlight) → All (λ m. is_to_send m ≡ true) (proof_messages call x anchor ws)
+proofs_unsent call x anchor [] = All-nil (λ m. is_to_send m ≡ true)
+proofs_unsent call x anchor (w ∷ ws) = by (depends_on call w.key) (proofs_unsent call x anchor ws)
+  where
+    by : (b : Bool) → All (λ m. is_to_send m ≡ true) (proof_messages call x anchor ws) → All (λ m. is_to_send m ≡ true) (cond b (message_to_send (own_put x anchor w) ∷ []) [] ++ proof_messages call x anchor ws)
+    by true later = All-cons (λ (m : Message). is_to_send m ≡ true) (message_to_send (own_put x anchor w)) (proof_messages call x anchor ws) refl later
+    by false later = later
+
 module _ (k : Known) (x : OpenTxn) (s : Statement) (why : Why) (f : IsFresh k x s why) where
   -- what was sent before the call holds the puts
   before_all : sent_before k ≡ f.split.sent_first
@@ -225,49 +239,137 @@ module _ (k : Known) (x : OpenTxn) (s : Statement) (why : Why) (f : IsFresh k x 
       begins splits purposes.Read (own_get x key ∷ []) (one_alone (own_get x key) refl) (one_silent (own_get x key) refl) (one_two (own_get x key)) refl f.beaten
       (record { asked = subst (λ c. AreReadsOf splits x c (own_get x key ∷ [])) (sym is) refl; none_in_flight = none; heard = no_read (own_get x key ∷ []) })
 
-  pub write_begins : (splits : List (List ℕ)) (key : List ℕ) (value : Option (List ℕ)) → s.call ≡ write_call key value → x.in_flight ≡ [] → InCall splits k x (purposes.Write false) (message_to_send (next_put x key value) ∷ [])
+  pub write_begins : (splits : List (List ℕ)) (key : List ℕ) (value : Option (List ℕ)) → s.call ≡ write_call key value → x.in_flight ≡ [] → InCall splits k x purposes.Write (message_to_send (next_put x key value) ∷ [])
   write_begins splits key value is none =
-      begins splits (purposes.Write false) (next_put x key value ∷ []) (one_alone (next_put x key value) refl) (one_silent (next_put x key value) refl) (one_two (next_put x key value)) refl f.beaten
+      begins splits purposes.Write (next_put x key value ∷ []) (one_alone (next_put x key value) refl) (one_silent (next_put x key value) refl) (one_two (next_put x key value)) refl f.beaten
       (record {
         key = key;
         value = value;
         call = is;
         m = message_to_send (next_put x key value);
         one = refl;
-        lays = inl (record { none_in_flight = none; said = refl; own = refl; to_send = refl; new = no_new });
+        lays = inl (record { none_in_flight = none; said = refl; to_send = refl; new = no_new });
       })
 
-  pub again_begins : (splits : List (List ℕ)) (anchor : List ℕ) (w : WriteInFlight) → s.call ≡ write_call w.key w.value → x.in_flight ≡ w ∷ [] → x.anchor ≡ Some anchor
-      → InCall splits k x (purposes.Write true) (message_to_send (own_put x anchor w) ∷ [])
-  again_begins splits anchor w is some anchored =
-      let there : Contains x.in_flight w = subst (λ f. Contains f w) (sym some) (contains_head w []) in
-      let P : Sent → Type 0 = λ m. IsTrue (is_put_of f.t.id f.t.epoch w.seq m.request) in
-      let laid : Any P f.split.sent_first =
-      any_before P f.split.sent_first k.sent_now
-      (All-weaker (λ m. is_heartbeat m.request ≡ true) (λ m. P m → ⊥) (λ m beat put. beat_not_put f.t.id f.t.epoch w.seq m.request beat put) k.sent_now f.sent)
-      (subst (λ ms. Any P ms) f.split.sent (sent_of k [] None f.t x f.stands w there)) in
-      begins splits (purposes.Write true) (own_put x anchor w ∷ []) (one_alone (own_put x anchor w) refl) (one_silent (own_put x anchor w) refl) (one_two (own_put x anchor w)) refl f.beaten
-      (record {
-        key = w.key;
-        value = w.value;
-        call = is;
-        m = message_to_send (own_put x anchor w);
-        one = refl;
-        lays = inr (record {
-          w = w;
-          in_flight = some;
-          place = refl;
-          what = refl;
-          anchor = anchor;
-          anchored = sym (ap (λ x. x.anchor) f.stands.same) ∙ anchored;
-          said = refl;
-          first = λ e. absurd cc;
-          old = λ e. no_new;
-          before = λ e.
-              ap (λ ms. list_any (λ other. is_put_of f.t.id f.t.epoch w.seq other.request) ms) before_all
-              ∙ any_true (λ other. is_put_of f.t.id f.t.epoch w.seq other.request) f.split.sent_first laid;
-        });
-      })
+  -- ---- writes of earlier calls go out again
+
+  module _ (anchor : List ℕ) (anchored : x.anchor ≡ Some anchor) where
+    -- a put of each write in flight was sent before the call
+    sent_earlier : (w : WriteInFlight) → Contains x.in_flight w → list_any (λ other. is_put_of f.t.id f.t.epoch w.seq other.request) (sent_before k) ≡ true
+    sent_earlier w there =
+        let P : Sent → Type 0 = λ m. IsTrue (is_put_of f.t.id f.t.epoch w.seq m.request) in
+        let laid : Any P f.split.sent_first =
+        any_before P f.split.sent_first k.sent_now
+        (All-weaker (λ m. is_heartbeat m.request ≡ true) (λ m. P m → ⊥) (λ m beat put. beat_not_put f.t.id f.t.epoch w.seq m.request beat put) k.sent_now f.sent)
+        (subst (λ ms. Any P ms) f.split.sent (sent_of k [] None f.t x f.stands w there)) in
+        ap (λ ms. list_any (λ other. is_put_of f.t.id f.t.epoch w.seq other.request) ms) before_all
+        ∙ any_true (λ other. is_put_of f.t.id f.t.epoch w.seq other.request) f.split.sent_first laid
+
+    one_proves : (call : Call) (w : WriteInFlight) → Contains x.in_flight w → depends_on call w.key ≡ true → SendsAgain call k f.t x (message_to_send (own_put x anchor w))
+    one_proves call w there waits = record {
+      w = w;
+      waits = waits;
+      before = sent_earlier w there;
+      anchor = anchor;
+      anchored = sym (ap (λ x. x.anchor) f.stands.same) ∙ anchored;
+      ts = x.write_ts;
+      said = refl;
+      low = let e : x.write_ts ≡ f.t.write_ts = ap (λ x. x.write_ts) f.stands.same in omega (arith, e);
+      goes_at = inl (refl, ap (λ x. x.write_ts) f.stands.same);
+      there = λ none. there;
+    }
+
+    abbrev proof_requests : Call → List WriteInFlight → List Request
+    proof_requests call [] = []
+    proof_requests call (w ∷ ws) = cond (depends_on call w.key) (own_put x anchor w ∷ proof_requests call ws) (proof_requests call ws)
+
+    proofs_are : (call : Call) (ws : List WriteInFlight) → proof_messages call x anchor ws ≡ map message_to_send (proof_requests call ws)
+    proofs_are call [] = refl
+    proofs_are call (w ∷ ws) = by (depends_on call w.key) (proofs_are call ws)
+      where
+        by : (b : Bool) → proof_messages call x anchor ws ≡ map message_to_send (proof_requests call ws)
+            → cond b (message_to_send (own_put x anchor w) ∷ []) [] ++ proof_messages call x anchor ws ≡ map message_to_send (cond b (own_put x anchor w ∷ proof_requests call ws) (proof_requests call ws))
+        by true later = ap (λ ms. message_to_send (own_put x anchor w) ∷ ms) later
+        by false later = later
+
+    -- what holds of each put of these writes, for which the call waits
+    each_proof : (call : Call) (P : Request → Type 0) (ws : List WriteInFlight) → All (λ w. depends_on call w.key ≡ true → P (own_put x anchor w)) ws → All P (proof_requests call ws)
+    each_proof call P [] a = All-nil P
+    each_proof call P (w ∷ ws) a = by (depends_on call w.key) refl (each_proof call P ws (All-tail (λ w. depends_on call w.key ≡ true → P (own_put x anchor w)) w ws a))
+      where
+        by : (b : Bool) → depends_on call w.key ≡ b → All P (proof_requests call ws) → All P (cond b (own_put x anchor w ∷ proof_requests call ws) (proof_requests call ws))
+        by true waits later = All-cons P (own_put x anchor w) (proof_requests call ws) (All-head (λ w. depends_on call w.key ≡ true → P (own_put x anchor w)) w ws a waits) later
+        by false none later = later
+
+    proofs_two : (call : Call) (ws : List WriteInFlight) → Pairwise IsEarlierInFlight ws → Pairwise AreTwo (proof_requests call ws)
+    proofs_two call [] p = tt
+    proofs_two call (w ∷ ws) p = by (depends_on call w.key) (proofs_two call ws p.1)
+      where
+        two : (v : WriteInFlight) → w.seq < v.seq → AreTwo (own_put x anchor w) (own_put x anchor v)
+        two v low = record { differ = λ same. other w v (λ e. omega (arith, low, e)) same; back = λ same. other v w (λ e. omega (arith, low, e)) same }
+          where
+            other : (a b : WriteInFlight) → (a.seq ≡ b.seq → ⊥) → IsSameRequest (own_put x anchor a) (own_put x anchor b) → ⊥
+            other a b no_same (inl e) = let s : a.seq ≡ b.seq = cc in no_same s
+            other a b no_same (inr same) = no_same same.2
+
+        by : (b : Bool) → Pairwise AreTwo (proof_requests call ws) → Pairwise AreTwo (cond b (own_put x anchor w ∷ proof_requests call ws) (proof_requests call ws))
+        by true later = (each_proof call (AreTwo (own_put x anchor w)) ws (All-weaker (λ v. w.seq < v.seq) (λ v. depends_on call v.key ≡ true → AreTwo (own_put x anchor w) (own_put x anchor v)) (λ v low waits. two v low) ws p.0), later)
+        by false later = later
+
+    -- The message that sends the write is one of these.
+    abbrev HasProof : Call → List WriteInFlight → WriteInFlight → Type 0
+    HasProof call ws w = Any (IsOpenFor w) (map message_to_send (proof_requests call ws))
+
+    proof_here : (call : Call) (w : WriteInFlight) (ws : List WriteInFlight) → depends_on call w.key ≡ true → HasProof call (w ∷ ws) w
+    proof_here call w ws waits = by (depends_on call w.key) waits
+      where
+        by : (b : Bool) → b ≡ true → Any (IsOpenFor w) (map message_to_send (cond b (own_put x anchor w ∷ proof_requests call ws) (proof_requests call ws)))
+        by true e = any_head (IsOpenFor w) (message_to_send (own_put x anchor w)) (map message_to_send (proof_requests call ws)) ((meta_now x anchor, x.write_ts, refl), refl)
+        by false e = absurd cc
+
+    proof_later : (call : Call) (v w : WriteInFlight) (ws : List WriteInFlight) → HasProof call ws w → HasProof call (v ∷ ws) w
+    proof_later call v w ws some = by (depends_on call v.key)
+      where
+        by : (b : Bool) → Any (IsOpenFor w) (map message_to_send (cond b (own_put x anchor v ∷ proof_requests call ws) (proof_requests call ws)))
+        by true = any_later (IsOpenFor w) (message_to_send (own_put x anchor v)) (map message_to_send (proof_requests call ws)) some
+        by false = some
+
+    -- each write for which the call waits has its message
+    has_proof : (call : Call) (ws : List WriteInFlight) (w : WriteInFlight) → Contains ws w → depends_on call w.key ≡ true → HasProof call ws w
+    has_proof call [] w there waits = absurd (contains_nil w there)
+    has_proof call (v ∷ ws) w there waits =
+        elim (contains_cons v ws w there) [
+          | inl is ↦ subst (λ z. HasProof call (v ∷ ws) z) is (proof_here call v ws (ap (λ (w : WriteInFlight). depends_on call w.key) is ∙ waits))
+          | inr later ↦ proof_later call v w ws (has_proof call ws w later waits)
+        ]
+
+    all_beside : (call : Call) (ws : List WriteInFlight) → All (λ r. goes_beside r ≡ false) (proof_requests call ws)
+    all_beside call ws = each_proof call (λ r. goes_beside r ≡ false) ws (all_from_contains (λ w. depends_on call w.key ≡ true → goes_beside (own_put x anchor w) ≡ false) ws (λ w there waits. refl))
+
+    all_silent : (call : Call) (ws : List WriteInFlight) → All (λ r. is_heartbeat r ≡ false) (proof_requests call ws)
+    all_silent call ws = each_proof call (λ r. is_heartbeat r ≡ false) ws (all_from_contains (λ w. depends_on call w.key ≡ true → is_heartbeat (own_put x anchor w) ≡ false) ws (λ w there waits. refl))
+
+    prove_begins_so : (splits : List (List ℕ)) (call : Call) (key : List ℕ) (value : Option (List ℕ)) → s.call ≡ call → call ≡ write_call key value → SuitsFlight call x.in_flight → InCall splits k x (purposes.Prove call) (map message_to_send (proof_requests call x.in_flight))
+    prove_begins_so splits call key value is writes suits =
+        let rs = proof_requests call x.in_flight in
+        begins splits (purposes.Prove call) rs (all_beside call x.in_flight) (all_silent call x.in_flight) (proofs_two call x.in_flight (flight_order k [] None f.t x f.stands)) refl f.beaten
+        (record {
+          key = key;
+          value = value;
+          writes = writes;
+          asked = is;
+          suits = suits;
+          again =
+              All-map (SendsAgain call k f.t x) message_to_send rs
+              (each_proof call (λ r. SendsAgain call k f.t x (message_to_send r)) x.in_flight
+              (all_from_contains (λ w. depends_on call w.key ≡ true → SendsAgain call k f.t x (message_to_send (own_put x anchor w))) x.in_flight (λ w there waits. one_proves call w there waits)));
+          each = all_from_contains (λ w. depends_on call w.key ≡ true → Any (IsOpenFor w) (map message_to_send rs)) x.in_flight (λ w there waits. has_proof call x.in_flight w there waits);
+          new = no_new;
+        })
+
+    -- the call proves first the writes for which it waits
+    pub prove_begins : (splits : List (List ℕ)) (call : Call) (key : List ℕ) (value : Option (List ℕ)) → s.call ≡ call → call ≡ write_call key value → SuitsFlight call x.in_flight → InCall splits k x (purposes.Prove call) (proof_messages call x anchor x.in_flight)
+    prove_begins splits call key value is writes suits = subst (λ ms. InCall splits k x (purposes.Prove call) ms) (sym (proofs_are call x.in_flight)) (prove_begins_so splits call key value is writes suits)
 
   pub abort_begins : (splits : List (List ℕ)) (anchor : List ℕ) → s.call ≡ calls.Rollback → x.anchor ≡ Some anchor → InCall splits k x (purposes.Abort why) (message_to_send (own_abort x why anchor) ∷ [])
   abort_begins splits anchor is anchored =

@@ -59,6 +59,7 @@ use Rattle.pc_world.specs.Known.Traffic.{Heard, Sent}
 use Rattle.pc_world.specs.Known.Transactions.{Txn, txn_heard}
 use Rattle.pc_world.specs.MayTell.{is_past_range}
 use Rattle.pc_world.specs.SameRequest.{IsSameRequest}
+use Rattle.pc_world.specs.StageFate.{IsLate}
 use Rattle.pc_world.specs.Send.Abort.{own_cause}
 use Rattle.pc_world.specs.Tell.Refusal.{IsConflictOf, MayBlock, WasMoved, is_heard}
 use Rattle.pc_world.specs.Views.{ShowsAborted}
@@ -254,7 +255,7 @@ module _ (session clock count : ℕ) (splits : List (List ℕ)) (k : Known) (x :
         open_in = open2;
         stands =
             beat_heard k k2 [] None w.t x (meta_now x b.anchor) x.write_ts reading (views.Pending epoch recorded) recorded h st same_id b.anchored said told refl refl (λ epoch at staging. absurd cc) (λ at staging. absurd cc)
-            (gone session clock count splits k x p ms counted w number (replies.Status view) h waited is) low;
+            (All-nil (IsLate k.heard)) (gone session clock count splits k x p ms counted w number (replies.Status view) h waited is) low;
         client = w.cause;
         cause = refl;
         low = All-weaker (λ ts. ts ≤ k.top + 1) (λ ts. ts ≤ k2.top + 1) (λ ts low. omega (arith, low)) (why_stamps (own_cause w.t.restart)) b.low;

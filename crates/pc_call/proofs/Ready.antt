@@ -13,9 +13,10 @@ use Rattle.pc_call.proofs.Facts.{asks_for, open_is, put_for, unmoved}
 use Rattle.pc_call.proofs.Lists.{all_unmapped}
 use Rattle.pc_call.specs.declared.purpose.Purpose.{Purpose}
 use Rattle.pc_call.specs.declared.purpose.Purpose.TheVariants as purposes
-use Rattle.pc_call.specs.Serving.{AreReadsOf, IsOpenIn, LaysLast, LaysNext, Serves, ServesAbort, ServesBeat, ServesCommit, ServesRefresh, ServesWrite, commit_asked, out_of, write_call}
+use Rattle.pc_call.specs.Serving.{AreReadsOf, IsOpenIn, LaysLast, LaysNext, SendsAgain, Serves, ServesAbort, ServesBeat, ServesCommit, ServesProve, ServesRefresh, ServesWrite, commit_asked, out_of, write_call}
+use Rattle.pc_call.specs.Waiting.{depends_on}
 use Rattle.pc_lists.proofs.Lists.{all_from_contains, contains_head}
-use Rattle.pc_lists.proofs.Same.{same_txn-is}
+use Rattle.pc_lists.proofs.Same.{same_key-is, same_txn-is}
 use Rattle.pc_proto.specs.declared.call.Call.{Call}
 use Rattle.pc_proto.specs.declared.call.Call.TheVariants as calls
 use Rattle.pc_proto.specs.declared.meta.TxnMeta.{TxnMeta}
@@ -35,12 +36,14 @@ use Rattle.pc_txn.proofs.Rows.{may_abort, may_again, may_commit, may_get, may_ne
 use Rattle.pc_txn.specs.Counted.{IsCounted}
 use Rattle.pc_flight.specs.declared.write.WriteInFlight.{WriteInFlight}
 use Rattle.pc_txn.specs.declared.txn.OpenTxn.{OpenTxn}
-use Rattle.pc_txn.specs.Opened.{next_put, own_abort, own_commit, own_get, own_put, own_scan}
+use Rattle.pc_txn.specs.Opened.{next_put, own_abort, own_commit, own_get, own_put, own_scan, put_at}
 use Rattle.pc_txn.specs.Silence.{own_beat}
 use Rattle.pc_txn.specs.Standing.{TxnStands}
-use Rattle.pc_txn.specs.Writing.{IsNotWritten}
+use Rattle.pc_txn.specs.Writing.{IsNotWritten, WasAskedAt}
 use Rattle.pc_wave.specs.declared.message.Message.{Message}
-use Rattle.pc_wave.specs.Messages.{is_to_send}
+use Rattle.pc_wave.specs.declared.message.Progress.{Progress}
+use Rattle.pc_wave.specs.declared.message.Progress.TheVariants as progresses
+use Rattle.pc_wave.specs.Messages.{is_to_send, progress_has_answer, progress_to_send}
 use Rattle.pc_follows.specs.CallMessages.{IsFor, IsForCall}
 use Rattle.pc_follows.specs.Eighth.{IsBeforeEighth}
 use Rattle.pc_follows.specs.OneWrite.{IsItsPut}
@@ -63,6 +66,23 @@ pub record IsReady (splits : List (List ℕ)) (session : ℕ) (k : Known) (r : R
   pub kind : IsForCall k r
   pub before : IsBeforeEighth k r
   pub own : IsItsPut k r
+
+-- a message that is to be sent was not answered
+to_send_unanswered : (p : Progress) → progress_to_send p ≡ true → progress_has_answer p ≡ false
+to_send_unanswered progresses.ToSend is = refl
+to_send_unanswered (progresses.Sent number) is = absurd cc
+to_send_unanswered (progresses.Met number conflict) is = absurd cc
+to_send_unanswered (progresses.Answered number reply) is = absurd cc
+
+-- a call that writes waits for writes of its key
+waits_key : (key : List ℕ) (value : Option (List ℕ)) (place : List ℕ) → depends_on (write_call key value) place ≡ true → place ≡ key
+waits_key key None place waits = same_key-is place key waits
+waits_key key (Some value) place waits = same_key-is place key waits
+
+-- a put of the key is for a call that writes it
+put_on : (key : List ℕ) (value : Option (List ℕ)) (meta : TxnMeta) (seq ts : ℕ) (what : Option (List ℕ)) → IsFor (write_call key value) (requests.Put meta seq ts key what)
+put_on key None meta seq ts what = refl
+put_on key (Some value) meta seq ts what = refl
 
 -- puts of one write are of one request
 put_same : (meta : TxnMeta) (seq ts : ℕ) (key : List ℕ) (value : Option (List ℕ)) (other : Request) → is_put_of meta.id meta.epoch seq other ≡ true → IsSameRequest (requests.Put meta seq ts key value) other
@@ -137,8 +157,8 @@ module _ (session clock count : ℕ) (splits : List (List ℕ)) (k : Known) (t :
   ready_reads (calls.Scan span) rs none is e = subst (λ rs. All (IsReady splits session k) rs) (sym e) (ready_pieces span none is)
   ready_reads call rs none is e = absurd e
 
-  ready_next : (key : List ℕ) (value : Option (List ℕ)) (again : Bool) (m : Message) → s.call ≡ write_call key value → LaysNext k s t x key value again m → IsReady splits session k (next_put x key value)
-  ready_next key value again m is l = record {
+  ready_next : (key : List ℕ) (value : Option (List ℕ)) (m : Message) → s.call ≡ write_call key value → LaysNext k s t x key value m → IsReady splits session k (next_put x key value)
+  ready_next key value m is l = record {
     row =
         may_next splits (actors.Session session) k [] None t x st open_now key value (none_in (λ f. same_key f.key key) l.none_in_flight) over
         (subst (λ c. AsksFor c key value) (sym (call_is (write_call key value) is)) (asks_for key value));
@@ -154,32 +174,53 @@ module _ (session clock count : ℕ) (splits : List (List ℕ)) (k : Known) (t :
     );
   }
 
-  ready_last : (key : List ℕ) (value : Option (List ℕ)) (again : Bool) (m : Message) → s.call ≡ write_call key value → (l : LaysLast k s t x key value again m) → IsReady splits session k (own_put x l.anchor l.w)
-  ready_last key value again m is l =
-      let w : WriteInFlight = l.w in
-      let there : Contains x.in_flight w = subst (λ f. Contains f w) (sym l.in_flight) (contains_head w []) in
-      let call : s.call ≡ write_call w.key w.value = is ∙ ap (λ key. write_call key value) (sym l.place) ∙ ap (write_call w.key) (sym l.what) in
-      let meta : TxnMeta = record { id = x.id; epoch = x.epoch; priority = x.priority; born = x.born; anchor = l.anchor } in
-      let id_is : x.id ≡ t.id = ap (λ x. x.id) st.same in
-      let epoch_is : x.epoch ≡ t.epoch = ap (λ x. x.epoch) st.same in
-      let put_is : (r : Request) → is_put_of x.id x.epoch w.seq r ≡ is_put_of t.id t.epoch w.seq r = λ r.
-      ap (λ id. is_put_of id x.epoch w.seq r) id_is ∙ ap (λ n. is_put_of t.id n w.seq r) epoch_is in
-      let laid : Any (λ m. IsTrue (is_put_of t.id t.epoch w.seq m.request)) k.sent = sent_of k [] None t x st w there in
-      let unwritten : All (IsNotWritten t w.seq) k.heard = unwritten_of k [] None t x st w there in
-      record {
-        row = may_again splits (actors.Session session) k [] None t x st w l.anchor mine there l.anchored;
-        stamps = one_low x.write_ts low_write;
-        kind = for_call (write_call w.key w.value) (own_put x l.anchor w) call (put_for w.key w.value meta w.seq x.write_ts);
-        before = tt;
-        own = (
-          record { t = t; opened = open_now; whose = id_is; epoch_now = epoch_is },
-          inl (
-            (laid.0, laid.1, laid.2, laid.3, put_same meta w.seq x.write_ts w.key w.value laid.1.request (put_is laid.1.request ∙ laid.4)),
-            All-weaker (IsNotWritten t w.seq) (λ h. IsSameRequest (own_put x l.anchor w) h.request → IsTrue (not (is_written h.reply)))
-                (λ h u same. ap not (u (sym (put_is h.request) ∙ same_put meta w.seq x.write_ts w.key w.value h.request same))) k.heard unwritten,
-          ),
-        );
-      }
+  -- a write that is in flight goes out again
+  module _ (w : WriteInFlight) (there : Contains x.in_flight w) (anchor : List ℕ) (anchored : t.anchor ≡ Some anchor) (ts : ℕ) (low : ts ≤ t.write_ts) (when : (ts ≡ t.write_ts) ⊎ WasAskedAt t w.seq ts) where
+    abbrev meta : TxnMeta
+    meta = record { id = x.id; epoch = x.epoch; priority = x.priority; born = x.born; anchor = anchor }
+
+    id_is : x.id ≡ t.id
+    id_is = ap (λ x. x.id) st.same
+
+    epoch_is : x.epoch ≡ t.epoch
+    epoch_is = ap (λ x. x.epoch) st.same
+
+    put_is : (r : Request) → is_put_of x.id x.epoch w.seq r ≡ is_put_of t.id t.epoch w.seq r
+    put_is r = ap (λ id. is_put_of id x.epoch w.seq r) id_is ∙ ap (λ n. is_put_of t.id n w.seq r) epoch_is
+
+    ready_again : (value : Option (List ℕ)) → s.call ≡ write_call w.key value → IsReady splits session k (put_at x anchor ts w)
+    ready_again value call =
+        let laid : Any (λ m. IsTrue (is_put_of t.id t.epoch w.seq m.request)) k.sent = sent_of k [] None t x st w there in
+        let unwritten : All (IsNotWritten t w.seq) k.heard = unwritten_of k [] None t x st w there in
+        record {
+          row = may_again splits (actors.Session session) k [] None t x st w anchor ts mine there anchored when;
+          stamps = one_low ts (omega (arith, low, st.below, counted.below));
+          kind = for_call (write_call w.key value) (put_at x anchor ts w) call (put_on w.key value meta w.seq ts w.value);
+          before = tt;
+          own = (
+            record { t = t; opened = open_now; whose = id_is; epoch_now = epoch_is },
+            inl (
+              (laid.0, laid.1, laid.2, laid.3, put_same meta w.seq ts w.key w.value laid.1.request (put_is laid.1.request ∙ laid.4)),
+              All-weaker (IsNotWritten t w.seq) (λ h. IsSameRequest (put_at x anchor ts w) h.request → IsTrue (not (is_written h.reply)))
+                  (λ h u same. ap not (u (sym (put_is h.request) ∙ same_put meta w.seq ts w.key w.value h.request same))) k.heard unwritten,
+            ),
+          );
+        }
+
+  ready_last : (key : List ℕ) (value : Option (List ℕ)) (m : Message) → s.call ≡ write_call key value → (l : LaysLast k t x key value m) → IsReady splits session k (own_put x l.anchor l.w)
+  ready_last key value m is l =
+      let there : Contains x.in_flight l.w = subst (λ f. Contains f l.w) (sym l.in_flight) (contains_head l.w []) in
+      ready_again l.w there l.anchor l.anchored x.write_ts (omega (arith, writes_at)) (inl writes_at) value (is ∙ ap (λ key. write_call key value) (sym l.place))
+
+  -- so is each write of an earlier call, for which this one waits
+  ready_proof : (call : Call) (ms : List Message) (r : ServesProve call k s t x ms) (m : Message) → SendsAgain call k t x m → is_to_send m ≡ true → IsReady splits session k m.request
+  ready_proof call ms r m a to_send =
+      let there : Contains x.in_flight a.w = a.there (to_send_unanswered m.progress to_send) in
+      let waits : depends_on (write_call r.key r.value) a.w.key ≡ true = subst (λ c. depends_on c a.w.key ≡ true) r.writes a.waits in
+      let place : a.w.key ≡ r.key = waits_key r.key r.value a.w.key waits in
+      subst (λ q. IsReady splits session k q) (sym a.said)
+      (ready_again a.w there a.anchor a.anchored a.ts a.low (elim a.goes_at [ inl now ↦ inl now.1 | inr was ↦ inr was ])
+      r.value (r.asked ∙ r.writes ∙ ap (λ key. write_call key r.value) (sym place)))
 
   ready_refresh : (n : ℕ) (ms : List Message) → ServesRefresh n k s t x ms → All (IsReady splits session k) (map (refresh_to x.id x.reads.ts x.write_ts) x.reads.spans)
   ready_refresh n ms r =
@@ -250,12 +291,16 @@ all_ready splits session k ms a =
     All-weaker (λ (m : Message). IsReady splits session k m.request) (IsReadyToSend splits session k) (λ m r to_send. r) ms (all_unmapped (IsReady splits session k) (λ (m : Message). m.request) ms a)
 
 module _ (session clock count : ℕ) (splits : List (List ℕ)) (k : Known) (counted : IsCounted session clock count k) where
-  write_ready : (again : Bool) (t : Txn) (x : OpenTxn) (s : Statement) (ms : List Message) → TxnStands k [] None t x → IsOpenIn k t → k.statement ≡ Some s → ServesWrite again k s t x ms → All (IsReadyToSend splits session k) ms
-  write_ready again t x s ms st open_in opened w = by w.lays
+  write_ready : (t : Txn) (x : OpenTxn) (s : Statement) (ms : List Message) → TxnStands k [] None t x → IsOpenIn k t → k.statement ≡ Some s → ServesWrite k s t x ms → All (IsReadyToSend splits session k) ms
+  write_ready t x s ms st open_in opened w = by w.lays
     where
-      by : LaysNext k s t x w.key w.value again w.m ⊎ LaysLast k s t x w.key w.value again w.m → All (IsReadyToSend splits session k) ms
-      by (inl l) = one_ready splits session k ms w.m w.one (λ to_send. subst (λ r. IsReady splits session k r) (sym l.said) (ready_next session clock count splits k t x s counted st open_in opened w.key w.value again w.m w.call l))
-      by (inr l) = one_ready splits session k ms w.m w.one (λ to_send. subst (λ r. IsReady splits session k r) (sym l.said) (ready_last session clock count splits k t x s counted st open_in opened w.key w.value again w.m w.call l))
+      by : LaysNext k s t x w.key w.value w.m ⊎ LaysLast k t x w.key w.value w.m → All (IsReadyToSend splits session k) ms
+      by (inl l) = one_ready splits session k ms w.m w.one (λ to_send. subst (λ r. IsReady splits session k r) (sym l.said) (ready_next session clock count splits k t x s counted st open_in opened w.key w.value w.m w.call l))
+      by (inr l) = one_ready splits session k ms w.m w.one (λ to_send. subst (λ r. IsReady splits session k r) (sym l.said) (ready_last session clock count splits k t x s counted st open_in opened w.key w.value w.m w.call l))
+
+  prove_ready : (call : Call) (t : Txn) (x : OpenTxn) (s : Statement) (ms : List Message) → TxnStands k [] None t x → IsOpenIn k t → k.statement ≡ Some s → ServesProve call k s t x ms → All (IsReadyToSend splits session k) ms
+  prove_ready call t x s ms st open_in opened r =
+      All-weaker (SendsAgain call k t x) (IsReadyToSend splits session k) (λ m a to_send. ready_proof session clock count splits k t x s counted st open_in opened call ms r m a to_send) ms r.again
 
   -- where a commit is to be sent, none is out
   commit_ready : (n : ℕ) (t : Txn) (x : OpenTxn) (s : Statement) (ms : List Message) → TxnStands k [] (out_of (purposes.Commit n) ms) t x → IsOpenIn k t → k.statement ≡ Some s → ServesCommit n k s t x ms → All (IsReadyToSend splits session k) ms
@@ -270,9 +315,10 @@ module _ (session clock count : ℕ) (splits : List (List ℕ)) (k : Known) (cou
 
   pub ready : (p : Purpose) (t : Txn) (x : OpenTxn) (s : Statement) (ms : List Message) → TxnStands k [] (out_of p ms) t x → IsOpenIn k t → k.statement ≡ Some s → Serves splits k s t x p ms → All (IsReadyToSend splits session k) ms
   ready (purposes.Beat call reading) t x s ms st open_in opened r = beat_ready call reading t x s ms st open_in opened r
+  ready (purposes.Prove call) t x s ms st open_in opened r = prove_ready call t x s ms st open_in opened r
   ready purposes.Read t x s ms st open_in opened r =
       all_ready splits session k ms (ready_reads session clock count splits k t x s counted st open_in opened s.call (map (λ m. m.request) ms) r.none_in_flight refl r.asked)
-  ready (purposes.Write again) t x s ms st open_in opened r = write_ready again t x s ms st open_in opened r
+  ready purposes.Write t x s ms st open_in opened r = write_ready t x s ms st open_in opened r
   ready (purposes.Refresh n) t x s ms st open_in opened r =
       all_ready splits session k ms (subst (λ rs. All (IsReady splits session k) rs) (sym r.asked) (ready_refresh session clock count splits k t x s counted st open_in opened n ms r))
   ready (purposes.Commit n) t x s ms st open_in opened r = commit_ready n t x s ms st open_in opened r

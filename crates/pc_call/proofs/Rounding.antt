@@ -1,7 +1,7 @@
 -- A message of an open call that met an intent has its round, or its holder blocks the call.
 use Rattle.std.proofs.Common.{◌≡◌, ℕ, ◌≤◌, Bool, true, false, ◌⊎◌, inl, inr, List, [], ◌∷◌, map, find, Option, Some, None, IfSome, refl, sym, ap, ◌∙◌, subst, arith, All, Contains}
 use Rattle.std.specs.List.{list_all}
-use Rattle.std.proofs.lemmas.List.Elements.{All-cons, All-map, All-nil, Contains-append_right}
+use Rattle.std.proofs.lemmas.List.Elements.{All-cons, All-map, All-nil, All-weaker, Contains-append_right}
 use Rattle.pc_base.specs.declared.span.Span.{Span}
 use Rattle.pc_base.specs.declared.transaction.TxnId.{TxnId}
 use Rattle.pc_call.proofs.Beating.{not_nil}
@@ -12,7 +12,7 @@ use Rattle.pc_call.specs.declared.purpose.Purpose.{Purpose}
 use Rattle.pc_call.specs.declared.purpose.Purpose.TheVariants as purposes
 use Rattle.pc_call.specs.Opening.{reader_of}
 use Rattle.pc_call.specs.Sending.{IsConflictNow, read_at}
-use Rattle.pc_call.specs.Serving.{AreReadsOf, HasBeatenBy, InCall, LaysLast, LaysNext, Serves, ServesWrite, holder_met, out_of, write_call}
+use Rattle.pc_call.specs.Serving.{AreReadsOf, HasBeatenBy, InCall, LaysLast, LaysNext, SendsAgain, Serves, ServesWrite, holder_met, out_of, write_call}
 use Rattle.pc_call.specs.Suiting.{SuitsFlight}
 use Rattle.pc_follows.specs.Heartbeats.{HasBeaten}
 use Rattle.pc_proto.specs.declared.call.Call.{Call}
@@ -27,7 +27,7 @@ use Rattle.pc_txn.proofs.Rows.{undecided}
 use Rattle.pc_txn.specs.Counted.{IsCounted}
 use Rattle.pc_flight.specs.declared.write.WriteInFlight.{WriteInFlight}
 use Rattle.pc_txn.specs.declared.txn.OpenTxn.{OpenTxn}
-use Rattle.pc_txn.specs.Opened.{next_put, own_get, own_put, own_scan}
+use Rattle.pc_txn.specs.Opened.{next_put, own_get, own_scan, put_at}
 use Rattle.pc_wave.proofs.Changed.{found_all, found_passes}
 use Rattle.pc_wave.proofs.Dues.{may_be_due}
 use Rattle.pc_wave.proofs.Rounds.{due_round, first_found}
@@ -104,16 +104,16 @@ module _ (splits : List (List ℕ)) (k : Known) (t : Txn) (x : OpenTxn) (s : Sta
     blocks = λ holder ts at may. blockable_as (write_call key value) is (write_blockable key value);
   }
 
-  again_ours : (anchor key : List ℕ) (value : Option (List ℕ)) (w : WriteInFlight) → s.call ≡ write_call key value → IsOurs k s t None (own_put x anchor w)
-  again_ours anchor key value w is = record {
+  again_ours : (anchor key : List ℕ) (value : Option (List ℕ)) (ts : ℕ) (w : WriteInFlight) → s.call ≡ write_call key value → IsOurs k s t None (put_at x anchor ts w)
+  again_ours anchor key value ts w is = record {
     other = λ holder ts at may e. may (e ∙ sym same);
     reads = refl;
     blocks = λ holder ts at may. blockable_as (write_call key value) is (write_blockable key value);
   }
 
-  write_ours : (key : List ℕ) (value : Option (List ℕ)) (again : Bool) (m : Message) → s.call ≡ write_call key value → LaysNext k s t x key value again m ⊎ LaysLast k s t x key value again m → IsOurs k s t None m.request
-  write_ours key value again m is (inl l) = subst (λ r. IsOurs k s t None r) (sym l.said) (next_ours key value is)
-  write_ours key value again m is (inr l) = subst (λ r. IsOurs k s t None r) (sym l.said) (again_ours l.anchor key value l.w is)
+  write_ours : (key : List ℕ) (value : Option (List ℕ)) (m : Message) → s.call ≡ write_call key value → LaysNext k s t x key value m ⊎ LaysLast k t x key value m → IsOurs k s t None m.request
+  write_ours key value m is (inl l) = subst (λ r. IsOurs k s t None r) (sym l.said) (next_ours key value is)
+  write_ours key value m is (inr l) = subst (λ r. IsOurs k s t None r) (sym l.said) (again_ours l.anchor key value x.write_ts l.w is)
 
   one_ours : (r : Option ℕ) (ms : List Message) (m : Message) → ms ≡ m ∷ [] → IsOurs k s t r m.request → All (λ m. IsOurs k s t r m.request) ms
   one_ours r ms m one ours =
@@ -122,8 +122,10 @@ module _ (splits : List (List ℕ)) (k : Known) (t : Txn) (x : OpenTxn) (s : Sta
 
   ours : (p : Purpose) (ms : List Message) → (k.heard_now ≡ [] → ⊥) → Serves splits k s t x p ms → All (λ m. IsOurs k s t (reader_of p x) m.request) ms
   ours (purposes.Beat call reading) ms some r = absurd (some r.unheard)
+  ours (purposes.Prove call) ms some r =
+      All-weaker (SendsAgain call k t x) (λ m. IsOurs k s t None m.request) (λ m a. subst (λ r. IsOurs k s t None r) (sym a.said) (again_ours a.anchor r.key r.value a.ts a.w (r.asked ∙ r.writes))) ms r.again
   ours purposes.Read ms some r = all_unmapped (IsOurs k s t (Some x.reads.ts)) (λ m. m.request) ms (reads_ours s.call (map (λ m. m.request) ms) refl r.asked)
-  ours (purposes.Write again) ms some w = one_ours None ms w.m w.one (write_ours w.key w.value again w.m w.call w.lays)
+  ours purposes.Write ms some w = one_ours None ms w.m w.one (write_ours w.key w.value w.m w.call w.lays)
   ours (purposes.Refresh n) ms some r =
       all_unmapped (IsOurs k s t None) (λ m. m.request) ms
       (subst (λ rs. All (IsOurs k s t None) rs) (sym r.asked)
@@ -176,8 +178,9 @@ module _ (session clock count : ℕ) (splits : List (List ℕ)) (k : Known) (x :
 
       by : (p : Purpose) → IfSome (reader_of p x) (λ ts. ts ≤ k.top)
       by (purposes.Beat call reading) = tt
+      by (purposes.Prove call) = tt
       by purposes.Read = low
-      by (purposes.Write again) = tt
+      by purposes.Write = tt
       by (purposes.Refresh n) = tt
       by (purposes.Commit n) = tt
       by (purposes.Abort why) = tt
@@ -188,8 +191,9 @@ module _ (session clock count : ℕ) (splits : List (List ℕ)) (k : Known) (x :
     where
       by : (q : Purpose) → Serves splits k w.s w.t x q ms → HasBeatenBy q k w.t → HasBeaten k w.t
       by (purposes.Beat call reading) r b = absurd (some r.unheard)
+      by (purposes.Prove call) r b = b
       by purposes.Read r b = b
-      by (purposes.Write again) r b = b
+      by purposes.Write r b = b
       by (purposes.Refresh n) r b = b
       by (purposes.Commit n) r b = b
       by (purposes.Abort why) r b = b
@@ -263,8 +267,9 @@ module _ (session clock count : ℕ) (splits : List (List ℕ)) (k : Known) (x :
     where
       by : (q : Purpose) → p ≡ q → Serves splits k w.s w.t x q ms → out_of p ms ≡ None
       by (purposes.Beat call reading) e r = ap (λ q. out_of q ms) e
+      by (purposes.Prove call) e r = ap (λ q. out_of q ms) e
       by purposes.Read e r = ap (λ q. out_of q ms) e
-      by (purposes.Write again) e r = ap (λ q. out_of q ms) e
+      by purposes.Write e r = ap (λ q. out_of q ms) e
       by (purposes.Refresh n) e r = ap (λ q. out_of q ms) e
       by (purposes.Commit n) e r = absurd (b.other r.commits.call)
       by (purposes.Abort why) e r = ap (λ q. out_of q ms) e
@@ -273,9 +278,9 @@ module _ (session clock count : ℕ) (splits : List (List ℕ)) (k : Known) (x :
   pub flight_suits : IsBlockable w.s → SuitsFlight w.s.call x.in_flight
   flight_suits b = by p refl w.serves
     where
-      write_suits : (again : Bool) (r : ServesWrite again k w.s w.t x ms) → LaysNext k w.s w.t x r.key r.value again r.m ⊎ LaysLast k w.s w.t x r.key r.value again r.m → SuitsFlight w.s.call x.in_flight
-      write_suits again r (inl l) = subst (λ f. SuitsFlight w.s.call f) (sym l.none_in_flight) tt
-      write_suits again r (inr l) = subst (λ f. SuitsFlight w.s.call f) (sym l.in_flight) (subst (λ c. SuitsFlight c (l.w ∷ [])) (sym r.call) (same_write l.w r.key r.value l.place l.what))
+      write_suits : (r : ServesWrite k w.s w.t x ms) → LaysNext k w.s w.t x r.key r.value r.m ⊎ LaysLast k w.t x r.key r.value r.m → SuitsFlight w.s.call x.in_flight
+      write_suits r (inl l) = subst (λ f. SuitsFlight w.s.call f) (sym l.none_in_flight) tt
+      write_suits r (inr l) = subst (λ f. SuitsFlight w.s.call f) (sym l.in_flight) (subst (λ c. SuitsFlight c (l.w ∷ [])) (sym r.call) (same_write l.w r.key r.value l.place l.what))
         where
           same_write : (w : WriteInFlight) (key : List ℕ) (value : Option (List ℕ)) → w.key ≡ key → w.value ≡ value → SuitsFlight (write_call key value) (w ∷ [])
           same_write w key None place what = (place, what)
@@ -283,8 +288,9 @@ module _ (session clock count : ℕ) (splits : List (List ℕ)) (k : Known) (x :
 
       by : (q : Purpose) → p ≡ q → Serves splits k w.s w.t x q ms → SuitsFlight w.s.call x.in_flight
       by (purposes.Beat call reading) e r = subst (λ c. SuitsFlight c x.in_flight) (sym (ap (λ (s : Statement). s.call) r.asked)) r.suits
+      by (purposes.Prove call) e r = subst (λ c. SuitsFlight c x.in_flight) (sym r.asked) r.suits
       by purposes.Read e r = subst (λ f. SuitsFlight w.s.call f) (sym r.none_in_flight) tt
-      by (purposes.Write again) e r = write_suits again r r.lays
+      by purposes.Write e r = write_suits r r.lays
       by (purposes.Refresh n) e r = subst (λ f. SuitsFlight w.s.call f) (sym r.commits.none_in_flight) tt
       by (purposes.Commit n) e r = subst (λ f. SuitsFlight w.s.call f) (sym r.commits.none_in_flight) tt
       by (purposes.Abort why) e r = suits_abort x.in_flight

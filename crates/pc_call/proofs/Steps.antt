@@ -9,8 +9,8 @@ use Rattle.pc_base.specs.declared.transaction.TxnId.{TxnId}
 use Rattle.pc_call.proofs.Beating.{beaten_sent, not_nil}
 use Rattle.pc_call.proofs.Facts.{are_numbered}
 use Rattle.pc_call.proofs.Holders.{holders_sent}
-use Rattle.pc_call.proofs.Lists.{all_behind, all_front, all_unmapped, kept_by, only_found}
-use Rattle.pc_call.proofs.Meeting.{any_changed, gone_now, gone_out_on, low-more, met-more}
+use Rattle.pc_call.proofs.Lists.{all_behind, all_changed, all_front, all_unmapped, kept_by, only_found}
+use Rattle.pc_call.proofs.Meeting.{any_changed, any_goes_on, gone_now, gone_out_on, low-more, met-more}
 use Rattle.pc_call.proofs.Silent.{AreSilent, IsSilent, silent}
 use Rattle.pc_call.proofs.Turning.{turn_sent}
 use Rattle.pc_call.proofs.Beside.{IsAskedOrBeside, asked-kept, found_asked}
@@ -20,7 +20,8 @@ use Rattle.pc_call.specs.declared.purpose.Purpose.TheVariants as purposes
 use Rattle.pc_call.specs.Learned.{known_sent}
 use Rattle.pc_call.specs.Opening.{after_send, laid_first, laid_with}
 use Rattle.pc_call.specs.Paced.{IsPaced}
-use Rattle.pc_call.specs.Serving.{AreReadsOf, HasBeatenBy, HasGoneOut, InCall, IsCommitCall, IsMetUpTo, IsOpenIn, IsOutHere, IsReadFor, IsRefreshGoneOut, IsRefreshUpTo, IsSplit, LaysLast, LaysNext, MetNoOtherWrite, NoOtherMetEighth, Serves, ServesAbort, ServesBeat, ServesCommit, ServesRead, ServesRefresh, ServesWrite, WasRefusedIfCommit, commit_asked, holders_met, out_of, write_call}
+use Rattle.pc_call.specs.Serving.{AreReadsOf, HasBeatenBy, HasGoneOut, InCall, IsCommitCall, IsMetUpTo, IsOpenFor, IsOpenIn, IsOutHere, IsReadFor, IsRefreshGoneOut, IsRefreshUpTo, IsSplit, LaysLast, LaysNext, MetNoOtherWrite, NoOtherMetEighth, SendsAgain, Serves, ServesAbort, ServesBeat, ServesCommit, ServesProve, ServesRead, ServesRefresh, ServesWrite, WasRefusedIfCommit, commit_asked, holders_met, out_of, write_call}
+use Rattle.pc_call.specs.Waiting.{depends_on}
 use Rattle.pc_follows.specs.Heartbeats.{HasBeaten}
 use Rattle.pc_lists.proofs.Lists.{contains_head}
 use Rattle.pc_proto.specs.declared.call.Call.{Call}
@@ -35,26 +36,27 @@ use Rattle.pc_reads.specs.ReadsStanding.{refresh_to}
 use Rattle.pc_reads.specs.Replies.{unrefreshed_in}
 use Rattle.pc_refusals.proofs.Counted.{refusals_go}
 use Rattle.pc_refusals.specs.Moves.{CountsMoves, IsNoMove}
+use Rattle.pc_txn.proofs.Again.{asked_sent}
 use Rattle.pc_txn.proofs.Alive.{beat_sent}
 use Rattle.pc_txn.proofs.Commits.{commit_now, commit_sent}
 use Rattle.pc_txn.proofs.Keeping.{free_over, free_passed, quiet_sent, stands_on}
-use Rattle.pc_txn.proofs.Laying.{next_laid, put_resent}
+use Rattle.pc_txn.proofs.Laying.{asked_then, next_laid, put_resent}
 use Rattle.pc_txn.proofs.Puts.{no_put}
 use Rattle.pc_txn.specs.Counted.{IsCounted}
 use Rattle.pc_flight.specs.declared.write.WriteInFlight.{WriteInFlight}
 use Rattle.pc_txn.specs.declared.txn.OpenTxn.{OpenTxn}
-use Rattle.pc_txn.specs.Opened.{next_put, own_commit, own_get, own_put, own_scan, with_commit, with_next_write}
+use Rattle.pc_txn.specs.Opened.{next_put, own_commit, own_get, own_put, own_scan, put_at, with_commit, with_next_write}
 use Rattle.pc_txn.specs.Silence.{own_beat, shown_at}
 use Rattle.pc_txn.specs.Standing.{HasMovedOn, LeavesAsIs, TxnStands, is_plain}
-use Rattle.pc_txn.specs.Writing.{PutsUpTo}
+use Rattle.pc_txn.specs.Writing.{PutsUpTo, WasAskedAt}
 use Rattle.pc_wave.proofs.Changed.{found_all, found_passes}
 use Rattle.pc_wave.proofs.Sending.{sends_first, wave_sent}
 use Rattle.pc_wave.specs.declared.message.Message.{Message}
 use Rattle.pc_wave.specs.declared.message.Progress.{Progress}
 use Rattle.pc_wave.specs.declared.message.Progress.TheVariants as progresses
 use Rattle.pc_wave.specs.declared.step.Step.TheVariants as steps
-use Rattle.pc_wave.specs.Messages.{first_changed, first_in_conflict, has_answer, is_to_send, progress_awaits, progress_to_send, sent_under, step_of, wave_awaits}
-use Rattle.pc_wave.specs.Standing.{HasMore, WaveStands}
+use Rattle.pc_wave.specs.Messages.{first_changed, first_in_conflict, has_answer, is_to_send, progress_awaits, progress_has_answer, progress_to_send, sent_under, step_of, wave_awaits}
+use Rattle.pc_wave.specs.Standing.{AreOfTwo, HasMore, WaveStands}
 use Rattle.pc_world.specs.Known.{Known, next_number}
 use Rattle.pc_world.specs.Known.Traffic.{Heard, Sent}
 use Rattle.pc_world.specs.Known.Transactions.{Txn, txn_sent}
@@ -69,10 +71,6 @@ use Rattle.pc_world.specs.Tell.Data.{IsFirstPut, IsPutFor, sent_before}
 abbrev IsPutForAs : TxnId → ℕ → List ℕ → Option (List ℕ) → ℕ → Request → Type 0
 IsPutForAs id epoch key value seq (requests.Put meta at_seq ts at_key at_value) = (meta.id ≡ id) × (meta.epoch ≡ epoch) × (at_seq ≡ seq) × (at_key ≡ key) × (at_value ≡ value)
 IsPutForAs id epoch key value seq _ = ⊥
-
--- which sequence a put has
-seq_of_put : (t : Txn) (key : List ℕ) (value : Option (List ℕ)) (seq : ℕ) (request : Request) (x : OpenTxn) (anchor : List ℕ) (w : WriteInFlight) → request ≡ own_put x anchor w → IsPutFor t key value seq request → w.seq ≡ seq
-seq_of_put t key value seq request x anchor w said put = (subst (IsPutFor t key value seq) said put).2
 
 every : {X : Type 0} (P : X → Type 0) → ((x : X) → P x) → (xs : List X) → All P xs
 every P all [] = All-nil P
@@ -171,8 +169,9 @@ module _ (session clock count : ℕ) (splits : List (List ℕ)) (k : Known) (x :
 
       by : (q : Purpose) → HasBeatenBy q k w.t → AreSilent q ms → HasBeatenBy q k2 t2
       by (purposes.Beat call reading) b none = tt
+      by (purposes.Prove call) b none = on none b
       by purposes.Read b none = on none b
-      by (purposes.Write again) b none = on none b
+      by purposes.Write b none = on none b
       by (purposes.Refresh n) b none = on none b
       by (purposes.Commit n) b none = on none b
       by (purposes.Abort why) b none = on none b
@@ -295,15 +294,29 @@ module _ (session clock count : ℕ) (splits : List (List ℕ)) (k : Known) (x :
       let o = only_found is_to_send m first_one.0 found in
       (ap (λ (m : Message). m.request) o.0 ∙ first_one.2, o.1)
 
+  -- what is first after it was first before
+  first_back : (t : Txn) → t.id ≡ w.t.id → t.epoch ≡ w.t.epoch → (m : Sent) → IsFirstPut k2 w.s t m → IsFirstPut k w.s w.t m
+  first_back t id epoch m f = record {
+    seq = f.seq;
+    key = f.key;
+    value = f.value;
+    asked = f.asked;
+    put = subst (λ e. IsPutForAs w.t.id e f.key f.value f.seq m.request) epoch (subst (λ i. IsPutForAs i t.epoch f.key f.value f.seq m.request) id f.put);
+    first =
+        subst (λ ms. IsTrue (not (list_any (λ other. is_put_of w.t.id w.t.epoch f.seq other.request) ms))) before_same
+        (subst (λ e. IsTrue (not (list_any (λ other. is_put_of w.t.id e f.seq other.request) (sent_before k2)))) epoch
+        (subst (λ i. IsTrue (not (list_any (λ other. is_put_of i t.epoch f.seq other.request) (sent_before k2)))) id f.first));
+  }
+
   -- a write goes out
-  module _ (key : List ℕ) (value : Option (List ℕ)) (again : Bool) (m : Message) (call : w.s.call ≡ write_call key value) (one : ms ≡ m ∷ []) where
+  module _ (key : List ℕ) (value : Option (List ℕ)) (m : Message) (call : w.s.call ≡ write_call key value) (one : ms ≡ m ∷ []) where
     is_request : m.request ≡ request
     is_request = (one_message m one).0
 
     one2 : ms2 ≡ sent_under number m ∷ []
     one2 = ap (first_changed is_to_send (sent_under number)) one ∙ one_sent number m (one_message m one).1
 
-    next_serves : (st : TxnStands k [] None w.t x) → (l : LaysNext k w.s w.t x key value again m) → (x2 : OpenTxn) → x2 ≡ with_next_write key value x → TxnStands k2 [] None t2 x2 → ServesWrite again k2 w.s t2 x2 ms2
+    next_serves : (st : TxnStands k [] None w.t x) → (l : LaysNext k w.s w.t x key value m) → (x2 : OpenTxn) → x2 ≡ with_next_write key value x → TxnStands k2 [] None t2 x2 → ServesWrite k2 w.s t2 x2 ms2
     next_serves st l x2 made st2 =
         let anchor : x2.anchor ≡ t2.anchor = ap (λ x. x.anchor) st2.same in
         let own_anchor : x2.anchor ≡ Some (unwrap_or x.anchor key) = ap (λ x. x.anchor) made in
@@ -325,30 +338,14 @@ module _ (session clock count : ℕ) (splits : List (List ℕ)) (k : Known) (x :
             anchor = unwrap_or x.anchor key;
             anchored = sym anchor ∙ own_anchor;
             said = l.said ∙ sym (ap (λ x. own_put x (unwrap_or x.anchor key) laid) made) ∙ ap (λ a. own_put x2 a laid) (ap (λ o. unwrap_or o key) own_anchor);
-            first = λ e.
+            first =
                 ap (λ ms. list_any (λ other. is_put_of w.t.id w.t.epoch laid.seq other.request) ms) (before_same ∙ before_is)
                 ∙ ap (λ n. list_any (λ other. is_put_of w.t.id w.t.epoch n other.request) w.split.sent_first) seq_is
                 ∙ no_put w.t (last_seq_of w.t.writes) (last_seq_of w.t.writes + 1) w.split.sent_first (omega arith) earlier;
-            old = λ e. let f : true ≡ false = sym e ∙ l.own in absurd cc;
-            before = λ e. let f : true ≡ false = sym e ∙ l.own in absurd cc;
           });
         }
 
-    -- what is first after it was first before, and the call's old write is none
-    first_back : (t : Txn) → t.id ≡ w.t.id → t.epoch ≡ w.t.epoch → (m : Sent) → IsFirstPut k2 w.s t m → IsFirstPut k w.s w.t m
-    first_back t id epoch m f = record {
-      seq = f.seq;
-      key = f.key;
-      value = f.value;
-      asked = f.asked;
-      put = subst (λ e. IsPutForAs w.t.id e f.key f.value f.seq m.request) epoch (subst (λ i. IsPutForAs i t.epoch f.key f.value f.seq m.request) id f.put);
-      first =
-          subst (λ ms. IsTrue (not (list_any (λ other. is_put_of w.t.id w.t.epoch f.seq other.request) ms))) before_same
-          (subst (λ e. IsTrue (not (list_any (λ other. is_put_of w.t.id e f.seq other.request) (sent_before k2)))) epoch
-          (subst (λ i. IsTrue (not (list_any (λ other. is_put_of i t.epoch f.seq other.request) (sent_before k2)))) id f.first));
-    }
-
-    last_serves : (st : TxnStands k [] None w.t x) → (l : LaysLast k w.s w.t x key value again m) → TxnStands k2 [] None t2 x → ServesWrite again k2 w.s t2 x ms2
+    last_serves : (st : TxnStands k [] None w.t x) → (l : LaysLast k w.t x key value m) → TxnStands k2 [] None t2 x → ServesWrite k2 w.s t2 x ms2
     last_serves st l st2 =
         let a : x.anchor ≡ w.t.anchor = ap (λ x. x.anchor) st.same in
         let b : x.anchor ≡ t2.anchor = ap (λ x. x.anchor) st2.same in
@@ -366,24 +363,11 @@ module _ (session clock count : ℕ) (splits : List (List ℕ)) (k : Known) (x :
             anchor = l.anchor;
             anchored = sym b ∙ a ∙ l.anchored;
             said = l.said;
-            first = λ e. ap (λ ms. list_any (λ other. is_put_of w.t.id w.t.epoch l.w.seq other.request) ms) before_same ∙ l.first e;
-            old = λ e. All-push (λ m. IsFirstPut k2 w.s t2 m → ⊥) k.sent_now m2 (All-weaker (λ m. IsFirstPut k w.s w.t m → ⊥) (λ m. IsFirstPut k2 w.s t2 m → ⊥) (λ m none f. none (first_back t2 refl refl m f)) k.sent_now (l.old e)) (old_one e);
-            before = λ e. ap (λ ms. list_any (λ other. is_put_of w.t.id w.t.epoch l.w.seq other.request) ms) before_same ∙ l.before e;
+            first = ap (λ ms. list_any (λ other. is_put_of w.t.id w.t.epoch l.w.seq other.request) ms) before_same ∙ l.first;
           });
         }
-      where
-        old_one : again ≡ true → IsFirstPut k2 w.s t2 m2 → ⊥
-        old_one e f =
-            let g : IsFirstPut k w.s w.t m2 = first_back t2 refl refl m2 f in
-            let said : request ≡ own_put x l.anchor l.w = sym is_request ∙ l.said in
-            let seq : l.w.seq ≡ g.seq = seq_of_put w.t g.key g.value g.seq request x l.anchor l.w said g.put in
-            let none : not (list_any (λ other. is_put_of w.t.id w.t.epoch l.w.seq other.request) (sent_before k)) ≡ true =
-            ap (λ n. not (list_any (λ other. is_put_of w.t.id w.t.epoch n other.request) (sent_before k))) seq ∙ g.first in
-            let some : not (list_any (λ other. is_put_of w.t.id w.t.epoch l.w.seq other.request) (sent_before k)) ≡ false = ap not (l.before e) in
-            let f : true ≡ false = sym none ∙ some in
-            absurd cc
 
-    write_out : (st : TxnStands k [] None w.t x) → LaysNext k w.s w.t x key value again m ⊎ LaysLast k w.s w.t x key value again m → p ≡ purposes.Write again → InCall splits k2 (laid_first ms x) p ms2
+    write_out : (st : TxnStands k [] None w.t x) → LaysNext k w.s w.t x key value m ⊎ LaysLast k w.t x key value m → p ≡ purposes.Write → InCall splits k2 (laid_first ms x) p ms2
     write_out st (inl l) is =
         let said : request ≡ next_put x key value = sym is_request ∙ l.said in
         let made : laid_first ms x ≡ with_next_write key value x =
@@ -401,7 +385,7 @@ module _ (session clock count : ℕ) (splits : List (List ℕ)) (k : Known) (x :
         let made : laid_first ms x ≡ x = ap (λ ms. laid_first ms x) one ∙ ap (λ f. laid_with f m.request x) l.in_flight in
         let gone2 : HasMovedOn k k2 (record { number = number; range = range; request = own_put x l.anchor l.w } ∷ []) [] =
         subst (λ r. HasMovedOn k k2 (record { number = number; range = range; request = r } ∷ []) []) said gone in
-        let st2 : TxnStands k2 [] None t2 x = subst (λ r. TxnStands k2 [] None (txn_sent r w.t) x) (sym said) (put_resent k [] None w.t x st l.w there l.anchor l.anchored k2 number range gone2) in
+        let st2 : TxnStands k2 [] None t2 x = subst (λ r. TxnStands k2 [] None (txn_sent r w.t) x) (sym said) (put_resent k [] None w.t x st l.w there l.anchor l.anchored x.write_ts k2 number range gone2) in
         subst (λ y. InCall splits k2 y p ms2) (sym made)
         (gone_out x (subst (λ q. TxnStands k2 [] (out_of q ms2) t2 x) (sym is) st2) w.cause (subst (λ q. Serves splits k2 w.s t2 x q ms2) (sym is) (last_serves st l st2)))
 
@@ -448,6 +432,94 @@ module _ (session clock count : ℕ) (splits : List (List ℕ)) (k : Known) (x :
           let f : false ≡ true = sym (none_waited s.number m to_send) ∙ ap (wave_awaits s.number) (sym one) ∙ o.waited in absurd cc
       earlier m one to_send s (inr r) = inr r
 
+  -- a write of an earlier call goes out again
+  module _ (call : Call) (r : ServesProve call k w.s w.t x ms) where
+    one : SendsAgain call k w.t x first_one.0
+    one = found_all is_to_send (SendsAgain call k w.t x) ms first_one.0 first_one.1 r.again
+
+    one_to_send : is_to_send first_one.0 ≡ true
+    one_to_send = found_passes is_to_send ms first_one.0 first_one.1
+
+    flies : Contains x.in_flight one.w
+    flies = one.there (ap progress_has_answer (to_send_as first_one.0.progress one_to_send))
+
+    said_one : request ≡ put_at x one.anchor one.ts one.w
+    said_one = sym first_one.2 ∙ one.said
+
+    gone_one : HasMovedOn k k2 (record { number = number; range = range; request = put_at x one.anchor one.ts one.w } ∷ []) []
+    gone_one = subst (λ r. HasMovedOn k k2 (record { number = number; range = range; request = r } ∷ []) []) said_one gone
+
+    module _ (st : TxnStands k [] None w.t x) where
+      st_one : TxnStands k2 [] None t2 x
+      st_one = subst (λ r. TxnStands k2 [] None (txn_sent r w.t) x) (sym said_one) (put_resent k [] None w.t x st one.w flies one.anchor one.anchored one.ts k2 number range gone_one)
+
+      same_anchor : t2.anchor ≡ w.t.anchor
+      same_anchor = sym (ap (λ x. x.anchor) st_one.same) ∙ ap (λ x. x.anchor) st.same
+
+      same_ts : t2.write_ts ≡ w.t.write_ts
+      same_ts = sym (ap (λ x. x.write_ts) st_one.same) ∙ ap (λ x. x.write_ts) st.same
+
+      before_then : (seq : ℕ) → list_any (λ other. is_put_of w.t.id w.t.epoch seq other.request) (sent_before k) ≡ true → list_any (λ other. is_put_of w.t.id w.t.epoch seq other.request) (sent_before k2) ≡ true
+      before_then seq was = ap (λ ms. list_any (λ other. is_put_of w.t.id w.t.epoch seq other.request) ms) before_same ∙ was
+
+      one_then : SendsAgain call k w.t x first_one.0 → SendsAgain call k2 t2 x (sent_under number first_one.0)
+      one_then a = record {
+        w = one.w;
+        waits = one.waits;
+        before = before_then one.w.seq one.before;
+        anchor = one.anchor;
+        anchored = same_anchor ∙ one.anchored;
+        ts = one.ts;
+        said = one.said;
+        low = omega (arith, one.low, same_ts);
+        goes_at = inr (subst (λ r. WasAskedAt (txn_sent r w.t) one.w.seq one.ts) (sym said_one) (asked_then k [] None w.t x st one.w flies one.anchor one.anchored one.ts));
+        there = λ none. flies;
+      }
+
+      other_then : (y : Message) → AreOfTwo y first_one.0 ⊎ AreOfTwo first_one.0 y → SendsAgain call k w.t x y → SendsAgain call k2 t2 x y
+      other_then y apart a = record {
+        w = a.w;
+        waits = a.waits;
+        before = before_then a.w.seq a.before;
+        anchor = a.anchor;
+        anchored = same_anchor ∙ a.anchored;
+        ts = a.ts;
+        said = a.said;
+        low = omega (arith, a.low, same_ts);
+        goes_at = elim a.goes_at [ inl now ↦ inl (now.0, now.1 ∙ sym same_ts) | inr was ↦ inr (asked_sent a.w.seq a.ts w.t request was) ];
+        there = a.there;
+      }
+
+      no_first : IsFirstPut k2 w.s t2 m2 → ⊥
+      no_first f =
+          let g : IsFirstPut k w.s w.t m2 = first_back t2 refl refl m2 f in
+          let seq : one.w.seq ≡ g.seq = (subst (IsPutFor w.t g.key g.value g.seq) said_one g.put).2 in
+          let none : not (list_any (λ other. is_put_of w.t.id w.t.epoch one.w.seq other.request) (sent_before k)) ≡ true =
+          ap (λ n. not (list_any (λ other. is_put_of w.t.id w.t.epoch n other.request) (sent_before k))) seq ∙ g.first in
+          let some : not (list_any (λ other. is_put_of w.t.id w.t.epoch one.w.seq other.request) (sent_before k)) ≡ false = ap not one.before in
+          let f : true ≡ false = sym none ∙ some in
+          absurd cc
+
+      prove_serves : ServesProve call k2 w.s t2 x ms2
+      prove_serves = record {
+        key = r.key;
+        value = r.value;
+        writes = r.writes;
+        asked = r.asked;
+        suits = r.suits;
+        again = all_changed AreOfTwo is_to_send (sent_under number) (SendsAgain call k w.t x) (SendsAgain call k2 t2 x) first_one.0 one_then other_then ms first_one.1 w.wave.differ r.again;
+        each =
+            All-weaker (λ f. depends_on call f.key ≡ true → Any (IsOpenFor f) ms) (λ f. depends_on call f.key ≡ true → Any (IsOpenFor f) ms2)
+            (λ f some waits. any_goes_on is_to_send (sent_under number) (IsOpenFor f) (λ y at goes. (goes.0, refl)) ms (some waits)) x.in_flight r.each;
+        new =
+            All-push (λ m. IsFirstPut k2 w.s t2 m → ⊥) k.sent_now m2
+            (All-weaker (λ m. IsFirstPut k w.s w.t m → ⊥) (λ m. IsFirstPut k2 w.s t2 m → ⊥) (λ m none f. none (first_back t2 refl refl m f)) k.sent_now r.new) no_first;
+      }
+
+  prove_out : (call : Call) → p ≡ purposes.Prove call → ServesProve call k w.s w.t x ms → TxnStands k [] None w.t x → InCall splits k2 x p ms2
+  prove_out call is r st =
+      gone_out x (subst (λ q. TxnStands k2 [] (out_of q ms2) t2 x) (sym is) (st_one call r st)) w.cause (subst (λ q. Serves splits k2 w.s t2 x q ms2) (sym is) (prove_serves call r st))
+
   -- a heartbeat goes out
   beat_out : (call : Call) (reading : ℕ) → p ≡ purposes.Beat call reading → ServesBeat call reading k w.s w.t x ms → TxnStands k [] None w.t x → InCall splits k2 (shown_at reading x) p ms2
   beat_out call reading is r st =
@@ -477,10 +549,11 @@ module _ (session clock count : ℕ) (splits : List (List ℕ)) (k : Known) (x :
 
   sent_by : (q : Purpose) → p ≡ q → Serves splits k w.s w.t x q ms → TxnStands k [] (out_of q ms) w.t x → InCall splits k2 (after_send q ms x) p ms2
   sent_by (purposes.Beat call reading) is r st = beat_out call reading is r st
+  sent_by (purposes.Prove call) is r st = prove_out call is r st
   sent_by purposes.Read is r st =
       let quiet : is_plain request ≡ true = of_request (λ q. is_plain q ≡ true) (quiet_reads splits x w.s.call (map (λ m. m.request) ms) r.asked) in
       gone_out x (subst (λ q. TxnStands k2 [] (out_of q ms2) t2 x) (sym is) (quiet_stands quiet None st)) w.cause (subst (λ q. Serves splits k2 w.s t2 x q ms2) (sym is) (read_serves r))
-  sent_by (purposes.Write again) is r st = write_out r.key r.value again r.m r.call r.one st r.lays is
+  sent_by purposes.Write is r st = write_out r.key r.value r.m r.call r.one st r.lays is
   sent_by (purposes.Refresh n) is r st =
       let quiet : is_plain request ≡ true =
       of_request (λ q. is_plain q ≡ true)

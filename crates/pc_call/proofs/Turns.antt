@@ -13,7 +13,7 @@ use Rattle.pc_call.proofs.Silent.{AreSilent, IsSilent, silent}
 use Rattle.pc_call.proofs.Restarting.{any_cons, asks, behind, same_span_of, span_of}
 use Rattle.pc_call.specs.declared.purpose.Purpose.{Purpose}
 use Rattle.pc_call.specs.declared.purpose.Purpose.TheVariants as purposes
-use Rattle.pc_call.specs.Serving.{AreReadsOf, HasBeatenBy, HasGoneOut, InCall, IsRefreshGoneOut, IsSentBefore, LaysLast, LaysNext, Serves, ServesRefresh, ServesWrite}
+use Rattle.pc_call.specs.Serving.{AreReadsOf, HasBeatenBy, HasGoneOut, InCall, IsRefreshGoneOut, IsSentBefore, LaysLast, LaysNext, SendsAgain, Serves, ServesRefresh, ServesWrite}
 use Rattle.pc_lists.proofs.Anywhere.{any_head, any_later, any_of}
 use Rattle.pc_proto.specs.declared.call.Call.{Call}
 use Rattle.pc_proto.specs.declared.call.Call.TheVariants as calls
@@ -138,9 +138,9 @@ module _ (splits : List (List ℕ)) (k : Known) (x : OpenTxn) (p : Purpose) (ms 
             ap is_lt (gone_before x.id x.reads.ts x.write_ts x.reads.spans ms m span earlier r.asked w.stands.reads.ordered r.in_turn found said gone)
         before span said q out = tt
 
-    write_no_refresh : (again : Bool) → (r : ServesWrite again k w.s w.t x ms) → LaysNext k w.s w.t x r.key r.value again r.m ⊎ LaysLast k w.s w.t x r.key r.value again r.m → IsItsRefresh k m.request
-    write_no_refresh again r (inl l) = subst (λ (m : Message). IsItsRefresh k m.request) (one_of r.m r.one) (subst (IsItsRefresh k) (sym l.said) tt)
-    write_no_refresh again r (inr l) = subst (λ (m : Message). IsItsRefresh k m.request) (one_of r.m r.one) (subst (IsItsRefresh k) (sym l.said) tt)
+    write_no_refresh : (r : ServesWrite k w.s w.t x ms) → LaysNext k w.s w.t x r.key r.value r.m ⊎ LaysLast k w.t x r.key r.value r.m → IsItsRefresh k m.request
+    write_no_refresh r (inl l) = subst (λ (m : Message). IsItsRefresh k m.request) (one_of r.m r.one) (subst (IsItsRefresh k) (sym l.said) tt)
+    write_no_refresh r (inr l) = subst (λ (m : Message). IsItsRefresh k m.request) (one_of r.m r.one) (subst (IsItsRefresh k) (sym l.said) tt)
 
     -- where it is a refresh, the first message that is to be sent is of a span that was read, and behind all that went out
     pub its_refresh : IsItsRefresh k m.request
@@ -148,8 +148,9 @@ module _ (splits : List (List ℕ)) (k : Known) (x : OpenTxn) (p : Purpose) (ms 
       where
         by : (q : Purpose) → p ≡ q → Serves splits k w.s w.t x q ms → IsItsRefresh k m.request
         by (purposes.Beat call reading) e r = subst (λ (m : Message). IsItsRefresh k m.request) (one_of r.m r.one) (subst (IsItsRefresh k) (sym r.said) tt)
+        by (purposes.Prove call) e r = subst (IsItsRefresh k) (sym (found_all is_to_send (SendsAgain call k w.t x) ms m found r.again).said) tt
         by purposes.Read e r = all_unmap (IsItsRefresh k) ms (reads_refresh splits k x w.s.call (map (λ (m : Message). m.request) ms) r.asked) m found
-        by (purposes.Write again) e r = write_no_refresh again r r.lays
+        by purposes.Write e r = write_no_refresh r r.lays
         by (purposes.Refresh n) e r = refresh_in_turn n r
         by (purposes.Commit n) e r = subst (λ (m : Message). IsItsRefresh k m.request) (one_of r.m r.one) (subst (IsItsRefresh k) (sym r.said) tt)
         by (purposes.Abort why) e r = subst (λ (m : Message). IsItsRefresh k m.request) (one_of r.m r.one) (subst (IsItsRefresh k) (sym r.said) tt)
@@ -177,8 +178,9 @@ module _ (splits : List (List ℕ)) (k : Known) (x : OpenTxn) (p : Purpose) (ms 
                 is = said ∙ ap (λ x. own_beat x reading r.anchor) w.stands.same;
               },
             )
+        by (purposes.Prove call) r b none = other none b
         by purposes.Read r b none = other none b
-        by (purposes.Write again) r b none = other none b
+        by purposes.Write r b none = other none b
         by (purposes.Refresh n) r b none = other none b
         by (purposes.Commit n) r b none = other none b
         by (purposes.Abort why) r b none = other none b

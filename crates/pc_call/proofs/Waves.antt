@@ -7,7 +7,7 @@ use Rattle.pc_call.proofs.Facts.{open_is}
 use Rattle.pc_call.proofs.Hearing.{of_request}
 use Rattle.pc_call.specs.declared.purpose.Purpose.{Purpose}
 use Rattle.pc_call.specs.declared.purpose.Purpose.TheVariants as purposes
-use Rattle.pc_call.specs.Serving.{AreReadsOf, InCall, LaysLast, LaysNext, Serves, ServesWrite}
+use Rattle.pc_call.specs.Serving.{AreReadsOf, InCall, LaysLast, LaysNext, SendsAgain, Serves, ServesWrite}
 use Rattle.pc_lists.proofs.Anywhere.{any_weaker}
 use Rattle.pc_lists.proofs.Lists.{contains_cons, contains_nil}
 use Rattle.pc_proto.specs.declared.call.Call.{Call}
@@ -67,14 +67,16 @@ module _ (session clock count : ℕ) (splits : List (List ℕ)) (k : Known) (x :
   one_whole : (other : Message) → ms ≡ other ∷ [] → IsOfWholeRefresh k other.request → All (IsOfWholeRefresh k) (map (λ m. m.request) ms)
   one_whole other one whole = subst (λ ms. All (IsOfWholeRefresh k) (map (λ (m : Message). m.request) ms)) (sym one) (All-cons (IsOfWholeRefresh k) other.request [] whole (All-nil (IsOfWholeRefresh k)))
 
-  write_whole : (again : Bool) (r : ServesWrite again k w.s w.t x ms) → LaysNext k w.s w.t x r.key r.value again r.m ⊎ LaysLast k w.s w.t x r.key r.value again r.m → All (IsOfWholeRefresh k) (map (λ m. m.request) ms)
-  write_whole again r (inl l) = one_whole r.m r.one (subst (IsOfWholeRefresh k) (sym l.said) tt)
-  write_whole again r (inr l) = one_whole r.m r.one (subst (IsOfWholeRefresh k) (sym l.said) tt)
+  write_whole : (r : ServesWrite k w.s w.t x ms) → LaysNext k w.s w.t x r.key r.value r.m ⊎ LaysLast k w.t x r.key r.value r.m → All (IsOfWholeRefresh k) (map (λ m. m.request) ms)
+  write_whole r (inl l) = one_whole r.m r.one (subst (IsOfWholeRefresh k) (sym l.said) tt)
+  write_whole r (inr l) = one_whole r.m r.one (subst (IsOfWholeRefresh k) (sym l.said) tt)
 
   all_whole : (q : Purpose) → p ≡ q → Serves splits k w.s w.t x q ms → All (IsOfWholeRefresh k) (map (λ m. m.request) ms)
   all_whole (purposes.Beat call reading) e r = one_whole r.m r.one (subst (IsOfWholeRefresh k) (sym r.said) tt)
+  all_whole (purposes.Prove call) e r =
+      All-map (IsOfWholeRefresh k) (λ (m : Message). m.request) ms (All-weaker (SendsAgain call k w.t x) (λ m. IsOfWholeRefresh k m.request) (λ m a. subst (IsOfWholeRefresh k) (sym a.said) tt) ms r.again)
   all_whole purposes.Read e r = reads_whole splits k x w.s.call (map (λ m. m.request) ms) r.asked
-  all_whole (purposes.Write again) e r = write_whole again r r.lays
+  all_whole purposes.Write e r = write_whole r r.lays
   all_whole (purposes.Refresh n) e r =
       let all : AreAllAsked k x.id x.reads.ts x.write_ts = λ t opened.
       let same : w.t ≡ t = same_Some w.t t (sym (open_is k w.t w.open_in) ∙ opened) in

@@ -17,3 +17,4 @@ pub mod Sending
 pub mod Serving
 pub mod Suiting
 pub mod Telling
+pub mod Waiting

@@ -24,17 +24,20 @@ laid_first (m ∷ messages) x = laid_with x.in_flight m.request x
 -- is, and a commit reads where it writes.
 abbrev pub after_send : Purpose → List Message → OpenTxn → OpenTxn
 after_send (purposes.Beat call reading) messages x = shown_at reading x
+after_send (purposes.Prove call) messages x = x
 after_send purposes.Read messages x = x
-after_send (purposes.Write again) messages x = laid_first messages x
+after_send purposes.Write messages x = laid_first messages x
 after_send (purposes.Refresh refusals) messages x = x
 after_send (purposes.Commit refusals) messages x = with_commit x
 after_send (purposes.Abort why) messages x = x
 
--- The reply leaves the open call going on, and its transaction as it is: any reply to a read or a refresh, and a conflict of a write.
+-- The reply leaves the open call going on, and its transaction as it is: any reply to a read or a refresh, and a conflict of a write, the call's own
+-- or an earlier one.
 abbrev pub GoesOn : Purpose → Reply → Type 0
 GoesOn (purposes.Beat call reading) reply = ⊥
+GoesOn (purposes.Prove call) reply = is_conflict reply ≡ true
 GoesOn purposes.Read reply = ⊤
-GoesOn (purposes.Write again) reply = is_conflict reply ≡ true
+GoesOn purposes.Write reply = is_conflict reply ≡ true
 GoesOn (purposes.Refresh refusals) reply = ⊤
 GoesOn (purposes.Commit refusals) reply = ⊥
 GoesOn (purposes.Abort why) reply = ⊥

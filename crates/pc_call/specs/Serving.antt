@@ -1,5 +1,5 @@
 -- How the messages of an open call stand beside what their session knows: what they are sent for.
-use Rattle.std.specs.Prelude.{◌≡◌, ◌≢◌, ℕ, ◌+◌, ◌<◌, ◌≤◌, Bool, true, false, ◌⊎◌, if◌then◌else◌, Option, None, Some, List, [], ◌∷◌, ◌++◌, map, All, Any, IfSome, IsTrue, ⊤}
+use Rattle.std.specs.Prelude.{◌≡◌, ◌≢◌, ℕ, ◌+◌, ◌<◌, ◌≤◌, true, false, ◌⊎◌, if◌then◌else◌, Option, None, Some, List, [], ◌∷◌, ◌++◌, map, All, Any, Contains, IfSome, IsTrue, ⊤}
 use Rattle.std.specs.List.{flat_map, list_any}
 use Rattle.std.specs.Option.{option_to_list}
 use Rattle.pc_base.specs.declared.limits.TheConstants.{MOST_CONFLICTS, MOST_REFUSALS}
@@ -9,6 +9,7 @@ use Rattle.pc_call.specs.declared.purpose.Purpose.{Purpose}
 use Rattle.pc_call.specs.declared.purpose.Purpose.TheVariants as purposes
 use Rattle.pc_call.specs.Paced.{IsPaced}
 use Rattle.pc_call.specs.Suiting.{SuitsFlight}
+use Rattle.pc_call.specs.Waiting.{SendsWrite, depends_on}
 use Rattle.pc_follows.specs.Heartbeats.{HasBeaten, IsBeatDue}
 use Rattle.pc_proto.specs.declared.call.Call.{Call}
 use Rattle.pc_proto.specs.declared.call.Call.TheVariants as calls
@@ -24,13 +25,14 @@ use Rattle.pc_reads.specs.Replies.{unrefreshed_by, unrefreshed_in}
 use Rattle.pc_refusals.specs.Moves.{CountsMoves}
 use Rattle.pc_txn.specs.declared.txn.OpenTxn.{OpenTxn}
 use Rattle.pc_flight.specs.declared.write.WriteInFlight.{WriteInFlight}
-use Rattle.pc_txn.specs.Opened.{next_put, own_abort, own_commit, own_get, own_put, own_scan}
+use Rattle.pc_txn.specs.Opened.{next_put, own_abort, own_commit, own_get, own_put, own_scan, put_at}
 use Rattle.pc_txn.specs.Silence.{own_beat}
 use Rattle.pc_txn.specs.Standing.{TxnStands}
+use Rattle.pc_txn.specs.Writing.{WasAskedAt}
 use Rattle.pc_wave.specs.declared.message.Message.{Message}
 use Rattle.pc_wave.specs.declared.message.Progress.{Progress}
 use Rattle.pc_wave.specs.declared.message.Progress.TheVariants as progresses
-use Rattle.pc_wave.specs.Messages.{is_to_send, wave_awaits}
+use Rattle.pc_wave.specs.Messages.{has_answer, is_to_send, wave_awaits}
 use Rattle.pc_wave.specs.Standing.{Pairwise, WaveStands}
 use Rattle.pc_world.specs.Counting.{AtLeast}
 use Rattle.pc_world.specs.Known.{Known}
@@ -71,15 +73,14 @@ abbrev pub WroteNothingNew : Known → Statement → Txn → Type 0
 WroteNothingNew k s t = All (λ m. IsFirstPut k s t m → ⊥) k.sent_now
 
 -- The call's own write is to be sent.
-pub record LaysNext (k : Known) (s : Statement) (t : Txn) (x : OpenTxn) (key : List ℕ) (value : Option (List ℕ)) (again : Bool) (m : Message) : Type 0 where
+pub record LaysNext (k : Known) (s : Statement) (t : Txn) (x : OpenTxn) (key : List ℕ) (value : Option (List ℕ)) (m : Message) : Type 0 where
   pub none_in_flight : x.in_flight ≡ []
   pub said : m.request ≡ next_put x key value
-  pub own : again ≡ false
   pub to_send : m.progress ≡ progresses.ToSend
   pub new : WroteNothingNew k s t
 
--- The write is in flight: it is the call's own, or one of an earlier call.
-pub record LaysLast (k : Known) (s : Statement) (t : Txn) (x : OpenTxn) (key : List ℕ) (value : Option (List ℕ)) (again : Bool) (m : Message) : Type 0 where
+-- The call's own write is in flight.
+pub record LaysLast (k : Known) (t : Txn) (x : OpenTxn) (key : List ℕ) (value : Option (List ℕ)) (m : Message) : Type 0 where
   pub w : WriteInFlight
   pub in_flight : x.in_flight ≡ w ∷ []
   pub place : w.key ≡ key
@@ -87,18 +88,45 @@ pub record LaysLast (k : Known) (s : Statement) (t : Txn) (x : OpenTxn) (key : L
   pub anchor : List ℕ
   pub anchored : t.anchor ≡ Some anchor
   pub said : m.request ≡ own_put x anchor w
-  pub first : again ≡ false → list_any (λ other. is_put_of t.id t.epoch w.seq other.request) (sent_before k) ≡ false
-  pub old : again ≡ true → WroteNothingNew k s t
-  pub before : again ≡ true → list_any (λ other. is_put_of t.id t.epoch w.seq other.request) (sent_before k) ≡ true
+  pub first : list_any (λ other. is_put_of t.id t.epoch w.seq other.request) (sent_before k) ≡ false
 
 -- A call that writes.
-pub record ServesWrite (again : Bool) (k : Known) (s : Statement) (t : Txn) (x : OpenTxn) (messages : List Message) : Type 0 where
+pub record ServesWrite (k : Known) (s : Statement) (t : Txn) (x : OpenTxn) (messages : List Message) : Type 0 where
   pub key : List ℕ
   pub value : Option (List ℕ)
   pub call : s.call ≡ write_call key value
   pub m : Message
   pub one : messages ≡ m ∷ []
-  pub lays : LaysNext k s t x key value again m ⊎ LaysLast k s t x key value again m
+  pub lays : LaysNext k s t x key value m ⊎ LaysLast k t x key value m
+
+-- The message sends a write of an earlier call again, for which this one waits, and which is in flight until it was answered: at the write timestamp,
+-- or at one at which it went out before.
+pub record SendsAgain (call : Call) (k : Known) (t : Txn) (x : OpenTxn) (m : Message) : Type 0 where
+  pub w : WriteInFlight
+  pub waits : depends_on call w.key ≡ true
+  pub before : list_any (λ other. is_put_of t.id t.epoch w.seq other.request) (sent_before k) ≡ true
+  pub anchor : List ℕ
+  pub anchored : t.anchor ≡ Some anchor
+  pub ts : ℕ
+  pub said : m.request ≡ put_at x anchor ts w
+  pub low : ts ≤ t.write_ts
+  pub goes_at : ((is_to_send m ≡ true) × (ts ≡ t.write_ts)) ⊎ WasAskedAt t w.seq ts
+  pub there : has_answer m ≡ false → Contains x.in_flight w
+
+-- The message sends this write, and was not answered.
+abbrev pub IsOpenFor : WriteInFlight → Message → Type 0
+IsOpenFor w m = SendsWrite w m × (has_answer m ≡ false)
+
+-- Writes of earlier calls, for which this one waits, are proved first: each that is in flight has its message. So far the call is one that writes.
+pub record ServesProve (call : Call) (k : Known) (s : Statement) (t : Txn) (x : OpenTxn) (messages : List Message) : Type 0 where
+  pub key : List ℕ
+  pub value : Option (List ℕ)
+  pub writes : call ≡ write_call key value
+  pub asked : s.call ≡ call
+  pub suits : SuitsFlight call x.in_flight
+  pub again : All (SendsAgain call k t x) messages
+  pub each : All (λ w. depends_on call w.key ≡ true → Any (IsOpenFor w) messages) x.in_flight
+  pub new : WroteNothingNew k s t
 
 -- If the request commits, it does so below this timestamp.
 abbrev pub IsCommitBelow : ℕ → Request → Type 0
@@ -221,8 +249,9 @@ pub record ServesBeat (call : Call) (reading : ℕ) (k : Known) (s : Statement) 
 -- The messages serve this purpose.
 abbrev pub Serves : List (List ℕ) → Known → Statement → Txn → OpenTxn → Purpose → List Message → Type 0
 Serves splits k s t x (purposes.Beat call reading) messages = ServesBeat call reading k s t x messages
+Serves splits k s t x (purposes.Prove call) messages = ServesProve call k s t x messages
 Serves splits k s t x purposes.Read messages = ServesRead splits k s x messages
-Serves splits k s t x (purposes.Write again) messages = ServesWrite again k s t x messages
+Serves splits k s t x purposes.Write messages = ServesWrite k s t x messages
 Serves splits k s t x (purposes.Refresh refusals) messages = ServesRefresh refusals k s t x messages
 Serves splits k s t x (purposes.Commit refusals) messages = ServesCommit refusals k s t x messages
 Serves splits k s t x (purposes.Abort why) messages = ServesAbort why k s t x messages

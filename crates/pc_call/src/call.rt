@@ -1,11 +1,13 @@
 ghost use Rattle.std.specs.Prelude.{◌≡◌, ℕ, ◌==◌, ◌||◌, ◌&&◌, not, Bool, true, false, List, [], ◌∷◌, All, None, Some, IfOk, IfSome, OnOk};
 ghost use Rattle.pc_call.specs.declared.purpose.Purpose.TheVariants as purposes;
-ghost use Rattle.pc_call.specs.Ended.{HasLanded, is_again, landed_first, landed_with, laying_as, laying_first};
+ghost use Rattle.pc_call.specs.Ended.{landed_first, landed_with};
 ghost use Rattle.pc_call.specs.Giving.{MayBeGiven};
 ghost use Rattle.pc_call.specs.Learned.{known_heard, known_sent};
 ghost use Rattle.pc_call.specs.Opening.{GoesOn, after_send, laid_first, laid_with, reader_of};
 ghost use Rattle.pc_call.specs.Rounding.{MakesRound};
 ghost use Rattle.pc_call.specs.Serving.{InCall};
+ghost use Rattle.pc_call.specs.Telling.{MayTellOpen};
+ghost use Rattle.pc_proto.specs.declared.answer.Answer.TheVariants as answers;
 ghost use Rattle.pc_proto.specs.declared.reply.Reply.{Reply};
 ghost use Rattle.pc_proto.specs.declared.reply.Reply.TheVariants as replies;
 ghost use Rattle.pc_proto.specs.declared.request.Request.{Request};
@@ -79,34 +81,12 @@ impl OpenCall {
         self.wave.heard(number, reply);
     }
 
-    /// Its write was heard to be written at this timestamp, by a reply that was evaluated at this step: its call is told so; or, where the write was
-    /// of an earlier call, it goes on with the call's own.
-    pub fn written(
-        self,
-        alloc: Global,
-        txn: &mut OpenTxn,
-        ts: Timestamp,
-        step: u64,
-    ) -> Result<Option<OpenCall>, NoMemory>
-        ensures stands { (session clock begun number : ℕ) (splits : List (List ℕ)) (k : Known) (again : Bool) (h : Heard) → IsCounted session clock begun k → InCall splits k txn.old self.purpose self.wave → self.purpose ≡ purposes.Write again → wave_awaits number self.wave ≡ true → IsHeardTo k number (replies.Written ts) h → h.step ≡ step → IfOk result (HasLanded splits session (known_heard h k) txn.new) }
-        ensures landed { OnOk result (txn.new ≡ landed_first self.wave ts step txn.old) }
-        ensures goes_on { IfOk result (λ next. IfSome next (λ call. (request : Request) × (call.wave ≡ message_to_send request ∷ []))) }
+    /// Its write was heard to be written at this timestamp, by a reply that was evaluated at this step: its call is told so.
+    pub fn written(self, txn: &mut OpenTxn, ts: Timestamp, step: u64)
+        ensures stands { (session clock begun number : ℕ) (splits : List (List ℕ)) (k : Known) (h : Heard) → IsCounted session clock begun k → InCall splits k txn.old self.purpose self.wave → self.purpose ≡ purposes.Write → wave_awaits number self.wave ≡ true → IsHeardTo k number (replies.Written ts) h → h.step ≡ step → MayTellOpen splits session (known_heard h k) answers.Written txn.new }
+        ensures landed { txn.new ≡ landed_first self.wave ts step txn.old }
     {
-        let messages = self.wave.messages();
-        land_first(messages, txn, ts, step);
-        if self.is_again() {
-            return own_write(alloc, txn, messages);
-        }
-        Ok(None)
-    }
-
-    fn is_again(&self) -> bool
-        ensures { result ≡ is_again self.now.purpose }
-    {
-        match &self.purpose {
-            Purpose::Write { again } => *again,
-            _ => false,
-        }
+        land_first(self.wave.messages(), txn, ts, step);
     }
 
     /// The round of the conflict that the message of this number met was made: the message is to be sent again.
@@ -126,12 +106,15 @@ impl OpenCall {
                 txn.show(*reading);
                 Ok(())
             }
-            Purpose::Write { .. } => lay_first(self.wave.messages(), txn),
+            Purpose::Write => lay_first(self.wave.messages(), txn),
             Purpose::Commit { .. } => {
                 txn.committing();
                 Ok(())
             }
-            Purpose::Read | Purpose::Refresh { .. } | Purpose::Abort { .. } => Ok(()),
+            Purpose::Prove { .. }
+            | Purpose::Read
+            | Purpose::Refresh { .. }
+            | Purpose::Abort { .. } => Ok(()),
         }
     }
 }
@@ -169,41 +152,11 @@ fn land_first(messages: &[Message], txn: &mut OpenTxn, ts: Timestamp, step: u64)
     }
 }
 
-fn land(request: &Request, txn: &mut OpenTxn, ts: Timestamp, step: u64)
+pub(crate) fn land(request: &Request, txn: &mut OpenTxn, ts: Timestamp, step: u64)
     ensures { txn.new ≡ landed_with request.now ts step txn.old }
 {
     match request {
         Request::Put { key, seq, .. } => txn.land(key, *seq, ts, step),
         _ => (),
-    }
-}
-
-/// The transaction, of which no write is in flight, makes the write that the first of the messages asks for.
-fn own_write(
-    alloc: Global,
-    txn: &OpenTxn,
-    messages: &[Message],
-) -> Result<Option<OpenCall>, NoMemory>
-    ensures { IfOk result (λ next. next ≡ laying_first messages.now txn.now) }
-{
-    match messages {
-        [] => Ok(None),
-        [message, ..] => own_write_of(alloc, txn, &message.request),
-    }
-}
-
-fn own_write_of(
-    alloc: Global,
-    txn: &OpenTxn,
-    request: &Request,
-) -> Result<Option<OpenCall>, NoMemory>
-    ensures { IfOk result (λ next. next ≡ laying_as request.now txn.now) }
-{
-    match request {
-        Request::Put { key, value, .. } => {
-            let call = OpenCall::write(alloc, txn, key, value)?;
-            Ok(Some(call))
-        }
-        _ => Ok(None),
     }
 }

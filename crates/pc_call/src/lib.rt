@@ -9,11 +9,13 @@ mod commits;
 mod opening;
 mod over;
 mod pieces;
+mod proves;
 mod purpose;
 mod reads;
 mod refreshes;
 
 pub use call::OpenCall;
 pub use over::{Left, Over};
+pub use proves::depends_on;
 pub use purpose::Purpose;
 pub use refreshes::Refreshed;

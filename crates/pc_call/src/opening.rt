@@ -15,7 +15,6 @@ use crate::call::OpenCall;
 use crate::pieces::scan_wave;
 use crate::purpose::Purpose;
 use pc_base::{Key, NoMemory, Span, Value};
-use pc_flight::WriteInFlight;
 use pc_proto::{Keys, Request, Why};
 use pc_refusals::Refusals;
 use pc_txn::OpenTxn;
@@ -64,24 +63,7 @@ impl OpenCall {
     {
         let wave = wave_of(alloc, txn.next_put(key, value)?)?;
         Ok(OpenCall {
-            purpose: Purpose::Write { again: false },
-            wave,
-        })
-    }
-
-    /// The open transaction's write that is in flight goes out again, for a call that asks for the same write.
-    pub fn write_again(
-        alloc: Global,
-        txn: &OpenTxn,
-        anchor: &Key,
-        write: &WriteInFlight,
-    ) -> Result<OpenCall, NoMemory>
-        ensures unsent { IfOk result (λ call. All (λ m. is_to_send m ≡ true) call.wave) }
-        ensures stands { (splits : List (List ℕ)) (k : Known) (s : Statement) (why : Why) → IsFresh k txn.now s why → s.call ≡ write_call write.now.key write.now.value → txn.now.in_flight ≡ write.now ∷ [] → txn.now.anchor ≡ Some anchor.now → IfOk result (λ call. InCall splits k txn.now call.purpose call.wave) }
-    {
-        let wave = wave_of(alloc, txn.put_again(anchor, write)?)?;
-        Ok(OpenCall {
-            purpose: Purpose::Write { again: true },
+            purpose: Purpose::Write,
             wave,
         })
     }

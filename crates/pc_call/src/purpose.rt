@@ -6,10 +6,12 @@ use pc_refusals::Refusals;
 pub enum Purpose {
     /// The open transaction shows that it is alive, at the reading at which this call was asked; the call goes on after that.
     Beat { call: Call, reading: u64 },
+    /// Writes of earlier calls that are still in flight, for which this call waits, go out again first; the call goes on once they are proved.
+    Prove { call: Call },
     /// It reads.
     Read,
-    /// It writes. A write of an earlier call that is still in flight goes out again first, and is followed by the call's own.
-    Write { again: bool },
+    /// It writes.
+    Write,
     /// What it read is refreshed, so that it may commit, after its commit was moved so often.
     Refresh { refusals: Refusals },
     /// It commits, after its commit was moved so often.

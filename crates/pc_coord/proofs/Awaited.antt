@@ -9,7 +9,7 @@ use Rattle.pc_base.specs.declared.span.Span.{Span}
 use Rattle.pc_call.proofs.Lists.{all_behind, all_unmapped}
 use Rattle.pc_call.specs.declared.purpose.Purpose.{Purpose}
 use Rattle.pc_call.specs.declared.purpose.Purpose.TheVariants as purposes
-use Rattle.pc_call.specs.Serving.{AreReadsOf, InCall, LaysLast, LaysNext, Serves}
+use Rattle.pc_call.specs.Serving.{AreReadsOf, InCall, LaysLast, LaysNext, SendsAgain, Serves}
 use Rattle.pc_proto.specs.declared.call.Call.{Call}
 use Rattle.pc_proto.specs.declared.call.Call.TheVariants as calls
 use Rattle.pc_proto.specs.declared.request.Request.{Request}
@@ -101,16 +101,18 @@ module _ (session : ℕ) (splits : List (List ℕ)) (k : Known) (x : OpenTxn) (p
       (All-map (IsOwn session k.begun) (λ p. own_scan x p.1) (pieces splits span) (every (λ p. IsOwn session k.begun (own_scan x p.1)) (λ p. own_scan_is p.1) (pieces splits span)))
   own_reads call rs e = absurd e
 
-  own_writes : (key : List ℕ) (value : Option (List ℕ)) (again : Bool) (m : Message) → LaysNext k w.s w.t x key value again m ⊎ LaysLast k w.s w.t x key value again m → IsOwn session k.begun m.request
-  own_writes key value again m (inl l) = own_put m.request _ (x.seq + 1) x.write_ts key value l.said refl
-  own_writes key value again m (inr l) = own_put m.request _ l.w.seq x.write_ts l.w.key l.w.value l.said refl
+  own_writes : (key : List ℕ) (value : Option (List ℕ)) (m : Message) → LaysNext k w.s w.t x key value m ⊎ LaysLast k w.t x key value m → IsOwn session k.begun m.request
+  own_writes key value m (inl l) = own_put m.request _ (x.seq + 1) x.write_ts key value l.said refl
+  own_writes key value m (inr l) = own_put m.request _ l.w.seq x.write_ts l.w.key l.w.value l.said refl
 
   all_own : (p : Purpose) → Serves splits k w.s w.t x p ms → All (λ m. IsOwn session k.begun m.request) ms
   all_own (purposes.Beat call reading) s =
       own_one s.m s.one (subst (IsOwn session k.begun) (sym s.said)
       (record { write = tt; record_of = λ id about whose. let e : x.id ≡ id = same_Some x.id id about in omega (arith, low, ap (λ i. i.number) e); query_of = tt }))
+  all_own (purposes.Prove call) s =
+      All-weaker (SendsAgain call k w.t x) (λ m. IsOwn session k.begun m.request) (λ m a. own_put m.request _ a.w.seq a.ts a.w.key a.w.value a.said refl) ms s.again
   all_own purposes.Read s = all_unmapped (IsOwn session k.begun) (λ m. m.request) ms (own_reads w.s.call _ s.asked)
-  all_own (purposes.Write again) s = own_one s.m s.one (own_writes s.key s.value again s.m s.lays)
+  all_own purposes.Write s = own_one s.m s.one (own_writes s.key s.value s.m s.lays)
   all_own (purposes.Refresh n) s =
       all_unmapped (IsOwn session k.begun) (λ m. m.request) ms
       (subst (λ rs. All (IsOwn session k.begun) rs) (sym s.asked)

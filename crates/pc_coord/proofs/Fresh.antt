@@ -46,6 +46,7 @@ stands_caused k stages commit t x why st = record {
   views = st.views;
   staged = st.staged;
   late = st.late;
+  live = st.live;
   shown = st.shown;
   puts = st.puts;
   put_heard = st.put_heard;
@@ -127,9 +128,10 @@ unsent_many splits k x p ms w a due = by p w.serves
   where
     by : (p : Purpose) → Serves splits k w.s w.t x p ms → IsForMany p
     by (purposes.Beat call reading) s = absurd (one_unsent ms s.m s.one a due)
+    by (purposes.Prove call) s = tt
     by purposes.Read s = tt
     by (purposes.Refresh n) s = tt
-    by (purposes.Write again) s = absurd (one_unsent ms s.m s.one a due)
+    by purposes.Write s = absurd (one_unsent ms s.m s.one a due)
     by (purposes.Commit n) s = absurd (one_unsent ms s.m s.one a due)
     by (purposes.Abort why) s = absurd (one_unsent ms s.m s.one a due)
 

@@ -1,5 +1,5 @@
 -- A coordinator as contracts see it, and what it gives next.
-use Rattle.std.specs.Prelude.{ℕ, ◌+◌, Bool, false, Option, None, Some, List}
+use Rattle.std.specs.Prelude.{◌≡◌, ℕ, ◌+◌, Bool, false, Option, None, Some, List, All, ⊤}
 use Rattle.pc_base.specs.declared.transaction.Priority.{Priority}
 use Rattle.pc_base.specs.declared.transaction.TxnId.{TxnId}
 use Rattle.pc_call.specs.declared.call.OpenCall.{OpenCall}
@@ -17,7 +17,7 @@ use Rattle.pc_txn.specs.declared.txn.OpenTxn.{OpenTxn}
 use Rattle.pc_txn.specs.Opened.{just_begun}
 use Rattle.pc_wave.specs.declared.step.Step.{Step}
 use Rattle.pc_wave.specs.declared.step.Step.TheVariants as steps
-use Rattle.pc_wave.specs.Messages.{step_of, wave_awaits}
+use Rattle.pc_wave.specs.Messages.{is_to_send, step_of, wave_awaits}
 use Rattle.pc_world.specs.Known.Transactions.{begun}
 
 -- A coordinator: its session and the keys at which the ranges are cut; the greatest timestamp heard or given; how many
@@ -62,6 +62,11 @@ abbrev pub awaits_number : ℕ → Due → Bool
 awaits_number number dues.Nothing = false
 awaits_number number (dues.Call call) = wave_awaits number call.wave
 awaits_number number (dues.Tell answer) = false
+
+-- None of the messages of the open call is still to be sent.
+abbrev pub SendsNoMore : Due → Type 0
+SendsNoMore (dues.Call call) = All (λ m. is_to_send m ≡ false) call.wave
+SendsNoMore _ = ⊤
 
 -- It has heard timestamps up to this one.
 abbrev pub with_clock : ℕ → Coordination → Coordination

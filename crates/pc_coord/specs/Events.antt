@@ -2,7 +2,7 @@
 use Rattle.std.specs.Prelude.{◌≡◌, ℕ, true, false, None, Some, Contains, ⊤}
 use Rattle.pc_base.specs.declared.actor.ActorId.{ActorId}
 use Rattle.pc_base.specs.declared.entry.Entry.{Entry}
-use Rattle.pc_coord.specs.Coordination.{Coordination, awaits_number, next_of}
+use Rattle.pc_coord.specs.Coordination.{Coordination, SendsNoMore, awaits_number, next_of}
 use Rattle.pc_coord.specs.declared.next.Next.TheVariants as nexts
 use Rattle.pc_coord.specs.Suiting.{Suits}
 use Rattle.pc_history.specs.declared.pair.Pair.{Pair}
@@ -56,10 +56,11 @@ abbrev pub IsAnsweredAlive : Known → Request → Reply → Type 0
 IsAnsweredAlive k (requests.Beat meta ts now) reply = (t : Txn) → open_txn k ≡ Some t → meta.id ≡ t.id → IsUncommitted t.id k.sent k.heard → ShowsUncommitted reply
 IsAnsweredAlive k _ reply = ⊤
 
--- The reply that was waited for was heard: the entry names an evaluation that answered so, as the message may be answered where
--- nothing is staged, by no record in a later epoch than the session has reached, and to a heartbeat by no commit.
+-- The reply that was waited for was heard, once all messages of the wave were sent: the entry names an evaluation that answered so, as the message
+-- may be answered where nothing is staged, by no record in a later epoch than the session has reached, and to a heartbeat by no commit.
 pub record HearsAwaited (c : Coordination) (number step : ℕ) (reply : Reply) (k : Known) (p : Pair Event) : Type 0 where
   pub waited : awaits_number number c.due ≡ true
+  pub whole : SendsNoMore c.due
   pub event : p.entry.event ≡ events.Hear number step
   pub evaluation : Entry Event
   pub actor : ActorId

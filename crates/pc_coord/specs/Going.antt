@@ -1,5 +1,5 @@
 -- How an open call goes on, beside what its session knows.
-use Rattle.std.specs.Prelude.{◌≡◌, ℕ, true, false, None, Some, ⊤}
+use Rattle.std.specs.Prelude.{◌≡◌, ℕ, true, false, None, Some, All, ⊤}
 use Rattle.pc_base.specs.declared.transaction.TxnId.{TxnId}
 use Rattle.pc_base.specs.Rising.{AreRising}
 use Rattle.pc_call.specs.declared.call.OpenCall.{OpenCall}
@@ -17,7 +17,7 @@ use Rattle.pc_proto.specs.declared.reply.Reply.{Reply}
 use Rattle.pc_proto.specs.declared.why.Why.{Why}
 use Rattle.pc_txn.specs.Counted.{IsCounted}
 use Rattle.pc_txn.specs.declared.txn.OpenTxn.{OpenTxn}
-use Rattle.pc_wave.specs.Messages.{wave_awaits}
+use Rattle.pc_wave.specs.Messages.{is_to_send, wave_awaits}
 use Rattle.pc_wave.specs.Standing.{IsHeardTo}
 use Rattle.pc_world.specs.Known.{Known}
 use Rattle.pc_world.specs.Known.Statements.{Statement}
@@ -36,8 +36,10 @@ pub record StandsReady (c : Coordination) (k : Known) : Type 0 where
 abbrev pub BeginsNothing : Known → Type 0
 BeginsNothing k = (s : Statement) → k.statement ≡ Some s → is_begin s.call ≡ false
 
--- Messages of this purpose may all be answered before their call ends: those that read or refresh. Any other call ends with its one reply.
+-- Messages of this purpose may all be answered before their call ends or goes on: those that read or refresh, or prove writes of earlier calls. Any
+-- other call ends with its one reply.
 abbrev pub IsForMany : Purpose → Type 0
+IsForMany (purposes.Prove call) = ⊤
 IsForMany purposes.Read = ⊤
 IsForMany (purposes.Refresh refusals) = ⊤
 IsForMany _ = ⊥
@@ -48,6 +50,7 @@ pub record HearsNow (c : Coordination) (call : OpenCall) (x : OpenTxn) (number :
   pub counted : IsCounted c.session before c.begun k
   pub in_call : InCall c.splits k x call.purpose call.wave
   pub waited : wave_awaits number call.wave ≡ true
+  pub whole : All (λ m. is_to_send m ≡ false) call.wave
   pub heard : IsHeardTo k number reply h
   pub alive : IsAnsweredAlive k h.request reply
   pub ready : StandsReady c (known_heard h k)

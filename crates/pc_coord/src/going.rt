@@ -97,7 +97,7 @@ impl<'a> Coordinator<'a> {
         Ok(())
     }
 
-    /// Each of these messages was answered: a read is told, and what was refreshed commits or restarts.
+    /// Each of these messages was answered: a read is told, what was refreshed commits or restarts, and a call whose earlier writes are proved goes on.
     fn end(&mut self, call: OpenCall, txn: OpenTxn) -> Result<(), NoMemory>
         ensures knows { (k : Known) → StandsReady self.old k → InCall self.old.splits k txn call.purpose call.wave → step_of call.wave ≡ steps.Answered → IsForMany call.purpose → OnOk result (Knows self.new k) }
         ensures waits { (other : ℕ) → OnOk result (awaits_number other self.new.due ≡ false) }
@@ -106,16 +106,33 @@ impl<'a> Coordinator<'a> {
         ensures splits { self.new.splits ≡ self.old.splits }
     {
         match &call.purpose {
+            Purpose::Prove { .. } => self.proven(call, txn),
             Purpose::Read => self.read(call, txn),
             Purpose::Refresh { .. } => self.refreshed(call, txn),
             Purpose::Beat { .. }
-            | Purpose::Write { .. }
+            | Purpose::Write
             | Purpose::Commit { .. }
             | Purpose::Abort { .. } => {
                 self.told();
                 Ok(())
             }
         }
+    }
+
+    /// All writes for which the call waited are proved: it goes on by its own write.
+    fn proven(&mut self, call: OpenCall, txn: OpenTxn) -> Result<(), NoMemory>
+        ensures knows { (k : Known) (kept : Call) → StandsReady self.old k → InCall self.old.splits k txn call.purpose call.wave → call.purpose ≡ purposes.Prove kept → step_of call.wave ≡ steps.Answered → OnOk result (Knows self.new k) }
+        ensures waits { (other : ℕ) → OnOk result (awaits_number other self.new.due ≡ false) }
+        ensures comes { list_any is_in_conflict call.wave ≡ false → OnOk result (ComesOf call.wave self.new.due) }
+        ensures session { self.new.session ≡ self.old.session }
+        ensures splits { self.new.splits ≡ self.old.splits }
+    {
+        let next = call.proven(self.alloc, &txn)?;
+        match next {
+            Some(call) => self.call(call, txn),
+            None => self.told(),
+        }
+        Ok(())
     }
 
     fn read(&mut self, call: OpenCall, mut txn: OpenTxn) -> Result<(), NoMemory>
@@ -177,7 +194,8 @@ impl<'a> Coordinator<'a> {
         match &call.purpose {
             Purpose::Beat { .. } => self.beat_heard(call, txn, step, reply),
             Purpose::Read | Purpose::Refresh { .. } => self.come_back(call, txn, number, reply),
-            Purpose::Write { .. } => self.write_heard(call, txn, number, step, reply),
+            Purpose::Prove { .. } => self.proof_heard(call, txn, number, step, reply),
+            Purpose::Write => self.write_heard(call, txn, number, step, reply),
             Purpose::Commit { .. } => self.commit_heard(call, txn, step, reply),
             Purpose::Abort { .. } => self.abort_heard(call, txn, reply),
         }
@@ -202,6 +220,49 @@ impl<'a> Coordinator<'a> {
         self.go_on(call, txn)
     }
 
+    /// This was replied to a write of an earlier call, for which the open one waits.
+    fn proof_heard(
+        &mut self,
+        call: OpenCall,
+        txn: OpenTxn,
+        number: u64,
+        step: u64,
+        reply: &Reply,
+    ) -> Result<(), NoMemory>
+        ensures knows { (k : Known) (h : Heard) (kept : Call) → HearsNow self.old call txn number reply.now k h → call.purpose ≡ purposes.Prove kept → h.step ≡ step → OnOk result (Knows self.new (known_heard h k)) }
+        ensures waits { (k : Known) (other : ℕ) → InCall self.old.splits k txn call.purpose call.wave → wave_awaits number call.wave ≡ true → OnOk result (awaits_number other self.new.due ≡ (wave_awaits other call.wave && not (number == other))) }
+        ensures comes { OnOk result (ComesOf (first_changed (awaits_at number) (back_with number reply.now) call.wave) self.new.due) }
+        ensures session { self.new.session ≡ self.old.session }
+        ensures splits { self.new.splits ≡ self.old.splits }
+    {
+        let written = written_at(reply);
+        match written {
+            Some(ts) => self.proved(call, txn, number, step, ts, reply),
+            None => self.come_back(call, txn, number, reply),
+        }
+    }
+
+    /// Such a write was written at this timestamp, as this reply to the message of this number says.
+    fn proved(
+        &mut self,
+        mut call: OpenCall,
+        mut txn: OpenTxn,
+        number: u64,
+        step: u64,
+        ts: Timestamp,
+        reply: &Reply,
+    ) -> Result<(), NoMemory>
+        ensures knows { (k : Known) (h : Heard) (kept : Call) → HearsNow self.old call txn number reply.now k h → reply.now ≡ replies.Written ts → call.purpose ≡ purposes.Prove kept → h.step ≡ step → OnOk result (Knows self.new (known_heard h k)) }
+        ensures waits { (k : Known) (other : ℕ) → InCall self.old.splits k txn call.purpose call.wave → wave_awaits number call.wave ≡ true → OnOk result (awaits_number other self.new.due ≡ (wave_awaits other call.wave && not (number == other))) }
+        ensures comes { OnOk result (ComesOf (first_changed (awaits_at number) (back_with number reply.now) call.wave) self.new.due) }
+        ensures session { self.new.session ≡ self.old.session }
+        ensures splits { self.new.splits ≡ self.old.splits }
+    {
+        let told = reply.copy()?;
+        call.proved(&mut txn, number, step, ts, told);
+        self.go_on(call, txn)
+    }
+
     /// This was replied to a write.
     fn write_heard(
         &mut self,
@@ -211,9 +272,9 @@ impl<'a> Coordinator<'a> {
         step: u64,
         reply: &Reply,
     ) -> Result<(), NoMemory>
-        ensures knows { (k : Known) (h : Heard) (again : Bool) → HearsNow self.old call txn number reply.now k h → call.purpose ≡ purposes.Write again → h.step ≡ step → OnOk result (Knows self.new (known_heard h k)) }
-        ensures waits { (k : Known) (other : ℕ) (again : Bool) → InCall self.old.splits k txn call.purpose call.wave → call.purpose ≡ purposes.Write again → wave_awaits number call.wave ≡ true → OnOk result (awaits_number other self.new.due ≡ (wave_awaits other call.wave && not (number == other))) }
-        ensures comes { (k : Known) (h : Heard) (again : Bool) → HearsNow self.old call txn number reply.now k h → call.purpose ≡ purposes.Write again → OnOk result (ComesOf (first_changed (awaits_at number) (back_with number reply.now) call.wave) self.new.due) }
+        ensures knows { (k : Known) (h : Heard) → HearsNow self.old call txn number reply.now k h → call.purpose ≡ purposes.Write → h.step ≡ step → OnOk result (Knows self.new (known_heard h k)) }
+        ensures waits { (k : Known) (other : ℕ) → InCall self.old.splits k txn call.purpose call.wave → call.purpose ≡ purposes.Write → wave_awaits number call.wave ≡ true → OnOk result (awaits_number other self.new.due ≡ (wave_awaits other call.wave && not (number == other))) }
+        ensures comes { (k : Known) (h : Heard) → HearsNow self.old call txn number reply.now k h → call.purpose ≡ purposes.Write → OnOk result (ComesOf (first_changed (awaits_at number) (back_with number reply.now) call.wave) self.new.due) }
         ensures session { self.new.session ≡ self.old.session }
         ensures splits { self.new.splits ≡ self.old.splits }
     {
@@ -224,7 +285,7 @@ impl<'a> Coordinator<'a> {
         }
     }
 
-    /// A write was written at this timestamp: its call is told so, or goes on by its own write.
+    /// Its write was written at this timestamp, and the call is told so.
     fn written(
         &mut self,
         call: OpenCall,
@@ -232,17 +293,14 @@ impl<'a> Coordinator<'a> {
         ts: Timestamp,
         step: u64,
     ) -> Result<(), NoMemory>
-        ensures knows { (k : Known) (h : Heard) (number : ℕ) (again : Bool) → HearsNow self.old call txn number (replies.Written ts) k h → call.purpose ≡ purposes.Write again → h.step ≡ step → OnOk result (Knows self.new (known_heard h k)) }
+        ensures knows { (k : Known) (h : Heard) (number : ℕ) → HearsNow self.old call txn number (replies.Written ts) k h → call.purpose ≡ purposes.Write → h.step ≡ step → OnOk result (Knows self.new (known_heard h k)) }
         ensures waits { (other : ℕ) → OnOk result (awaits_number other self.new.due ≡ false) }
         ensures comes { (messages : List Message) → list_any is_in_conflict messages ≡ false → OnOk result (ComesOf messages self.new.due) }
         ensures session { self.new.session ≡ self.old.session }
         ensures splits { self.new.splits ≡ self.old.splits }
     {
-        let next = call.written(self.alloc, &mut txn, ts, step)?;
-        match next {
-            Some(call) => self.call(call, txn),
-            None => self.tell(Answer::Written, txn),
-        }
+        call.written(&mut txn, ts, step);
+        self.tell(Answer::Written, txn);
         Ok(())
     }
 

@@ -1,4 +1,4 @@
-ghost use Rattle.std.specs.Prelude.{◌≡◌, ℕ, true, false, All, List, [], ◌∷◌, None, Some, IfOk, OnOk};
+ghost use Rattle.std.specs.Prelude.{◌≡◌, ℕ, true, false, All, List, [], Option, None, Some, IfOk, OnOk};
 ghost use Rattle.std.specs.List.{list_any};
 ghost use Rattle.pc_call.specs.Fresh.{IsFresh, IsJustAsked};
 ghost use Rattle.pc_call.specs.Serving.{InCall, write_call};
@@ -19,7 +19,6 @@ ghost use Rattle.pc_world.specs.Tell.Refusal.{MayBlock};
 use crate::coordinator::Coordinator;
 use pc_base::{Key, NoMemory, Span, TryCopy, Value};
 use pc_call::OpenCall;
-use pc_flight::WriteInFlight;
 use pc_proto::Call;
 use pc_refusals::Refusals;
 use pc_txn::OpenTxn;
@@ -98,7 +97,7 @@ impl<'a> Coordinator<'a> {
         self.go_on(call, txn)
     }
 
-    /// The call writes; no value is a deletion. A write that is in flight, which is the same one, goes out again first.
+    /// The call writes; no value is a deletion. Writes of its key that are in flight are proved first.
     fn write(&mut self, txn: OpenTxn, key: &Key, value: &Option<Value>) -> Result<(), NoMemory>
         ensures knows { (k : Known) (s : Statement) (why : Why) → StandsReady self.old k → IsFresh k txn s why → s.call ≡ write_call key.now value.now → SuitsFlight (write_call key.now value.now) txn.in_flight → OnOk result (Knows self.new k) }
         ensures waits { (other : ℕ) → OnOk result (awaits_number other self.new.due ≡ false) }
@@ -144,23 +143,36 @@ fn beat_of(alloc: Global, txn: &OpenTxn, call: Call, reading: u64) -> Result<Ope
     }
 }
 
-/// The messages of a call that writes; no value is a deletion. A write that is in flight, which is the same one, goes out again first.
+/// The messages of a call that writes; no value is a deletion. Writes of its key that are in flight are proved first.
 fn lay(alloc: Global, txn: &OpenTxn, key: &Key, value: &Option<Value>) -> Result<OpenCall, NoMemory>
     ensures unsent { IfOk result (λ call. All (λ m. is_to_send m ≡ true) call.wave) }
     ensures stands { (splits : List (List ℕ)) (k : Known) (s : Statement) (why : Why) → IsFresh k txn.now s why → s.call ≡ write_call key.now value.now → SuitsFlight (write_call key.now value.now) txn.now.in_flight → IfOk result (λ call. InCall splits k txn.now call.purpose call.wave) }
 {
-    match txn.in_flight.writes() {
-        [] => OpenCall::write(alloc, txn, key, value),
-        [write, ..] => lay_again(alloc, txn, write),
+    if txn.in_flight.is_empty() {
+        OpenCall::write(alloc, txn, key, value)
+    } else {
+        let call = write_call(key, value)?;
+        prove_first(alloc, txn, call)
     }
 }
 
-fn lay_again(alloc: Global, txn: &OpenTxn, write: &WriteInFlight) -> Result<OpenCall, NoMemory>
-    ensures unsent { IfOk result (λ call. All (λ m. is_to_send m ≡ true) call.wave) }
-    ensures stands { (splits : List (List ℕ)) (k : Known) (s : Statement) (why : Why) → IsFresh k txn.now s why → s.call ≡ write_call write.now.key write.now.value → txn.now.in_flight ≡ write.now ∷ [] → IfOk result (λ call. InCall splits k txn.now call.purpose call.wave) }
+fn prove_first(alloc: Global, txn: &OpenTxn, call: Call) -> Result<OpenCall, NoMemory>
+    ensures unsent { IfOk result (λ made. All (λ m. is_to_send m ≡ true) made.wave) }
+    ensures stands { (splits : List (List ℕ)) (k : Known) (s : Statement) (why : Why) (key : List ℕ) (value : Option (List ℕ)) → IsFresh k txn.now s why → s.call ≡ call → call ≡ write_call key value → SuitsFlight call txn.now.in_flight → IfOk result (λ made. InCall splits k txn.now made.purpose made.wave) }
 {
     match &txn.anchor {
-        Some(anchor) => OpenCall::write_again(alloc, txn, anchor, write),
+        Some(anchor) => OpenCall::prove(alloc, txn, anchor, call),
         None => Err(NoMemory),
+    }
+}
+
+/// The call that asks for this write; no value is a deletion.
+fn write_call(key: &Key, value: &Option<Value>) -> Result<Call, NoMemory>
+    ensures { IfOk result (λ call. call ≡ write_call key.now value.now) }
+{
+    let key = key.copy()?;
+    match value {
+        Some(value) => Ok(Call::Put(key, value.copy()?)),
+        None => Ok(Call::Delete(key)),
     }
 }

@@ -26,20 +26,20 @@ use Rattle.pc_staging.specs.Kept.{Evidence, seen_undecided}
 use Rattle.pc_staging.specs.Laws.{LeavesStages, SendsNothingNew}
 use Rattle.pc_staging.specs.Standing.{StagingStands, WasStagedAt}
 use Rattle.pc_txn.proofs.Keeping.{staged_split}
-use Rattle.pc_txn.proofs.Late.{late_on, none_by_other}
+use Rattle.pc_txn.proofs.Late.{late_on, none_by_other, none_live, still_late}
 use Rattle.pc_txn.proofs.Same.{if_true}
 use Rattle.pc_txn.proofs.Shown.{shown-beat}
 use Rattle.pc_txn.proofs.Written.{writes_on}
 use Rattle.pc_txn.specs.declared.txn.OpenTxn.{OpenTxn}
 use Rattle.pc_txn.specs.Silence.{own_beat, raised_at, shown_at}
-use Rattle.pc_txn.specs.Standing.{AreLateByWrites, HasMovedOn, IsProvedAbove, IsUndecidedOf, TxnStands}
+use Rattle.pc_txn.specs.Standing.{AreLateByWrites, AreLiveHere, HasMovedOn, IsProvedAbove, IsUndecidedOf, TxnStands}
 use Rattle.pc_txn.specs.Writing.{IsNotWritten, PutsUpTo, WritesStand}
 use Rattle.pc_world.specs.Known.{Known, open_txn, reading_of}
 use Rattle.pc_world.specs.Known.Traffic.{Heard, Sent}
 use Rattle.pc_world.specs.Known.Transactions.{Txn, txn_heard, txn_sent}
 use Rattle.pc_world.specs.Known.Writes.{last_seq_of}
 use Rattle.pc_world.specs.MaySend.{MaySendRow}
-use Rattle.pc_world.specs.StageFate.{RefutesRecord, RefutesWrite, SentCommit, SentStage}
+use Rattle.pc_world.specs.StageFate.{IsLate, RefutesRecord, RefutesWrite, SentCommit, SentStage}
 use Rattle.pc_world.specs.Tell.End.{shows_staging}
 
 module _ (k now : Known) (stages : List SentStage) (commit : Option SentCommit) (t : Txn) (x : OpenTxn) (anchor : List ℕ) (reading number range : ℕ) (st : TxnStands k stages commit t x) where
@@ -66,6 +66,7 @@ module _ (k now : Known) (stages : List SentStage) (commit : Option SentCommit) 
       shown = sym (ap (last_shown t) more.sent ∙ shown-beat t k.sent number range (record { id = x.id; epoch = x.epoch; priority = x.priority; born = x.born; anchor = anchor }) x.write_ts reading same_own);
       staged = λ ts was. st.staged ts (subst (λ hs. WasStagedAt hs t ts) heard-same was);
       late = subst (λ hs. AreLateByWrites stages hs t) (sym heard-same) st.late;
+      live = subst (λ hs. AreLiveHere stages hs x.staging.staged t) (sym heard-same) st.live;
       puts =
           subst (λ ms. All (λ m. PutsUpTo t (last_seq_of t.writes) m.request) ms) (sym more.sent)
           (All-push (λ m. PutsUpTo t (last_seq_of t.writes) m.request) k.sent m0 st.puts (λ epoch seq put. absurd cc));
@@ -86,7 +87,7 @@ module _ (k now : Known) (stages : List SentStage) (commit : Option SentCommit) 
     (anchored : t.anchor ≡ Some meta.anchor) (asked : h.request ≡ requests.Beat meta ts reading) (told : h.reply ≡ replies.Status view) (unfinal : is_final_view view ≡ false) (stands_at : undecided_ts view ≡ recorded)
     (no_later : (epoch at : ℕ) → IsTrue (is_staging_at epoch at view) → epoch ≤ t.epoch)
     (known : (at : ℕ) → IsTrue (is_staging_at t.epoch at view) → Any (λ s. s.ts ≡ at) stages ⊎ Any (IsProvedAbove at) t.writes)
-    (more : HasMovedOn k now [] (h ∷ [])) (low : recorded ≤ now.high) where
+    (all_late : All (IsLate k.heard) stages) (more : HasMovedOn k now [] (h ∷ [])) (low : recorded ≤ now.high) where
   -- The transaction once its record was heard to stand there.
   abbrev raised : Txn
   raised = record t { write_ts = max t.write_ts recorded }
@@ -147,6 +148,7 @@ module _ (k now : Known) (stages : List SentStage) (commit : Option SentCommit) 
             (λ s there.
             All-cons (λ h. RefutesWrite s h ⊎ RefutesRecord s h → ⊥) h [] (none_by_other s h (requests.Beat meta ts reading) asked (λ reply. refl) (λ e. absurd cc))
             (All-nil (λ h. RefutesWrite s h ⊎ RefutesRecord s h → ⊥))));
+        live = none_live now.heard x.staging.staged raised stages (subst (λ hs. All (IsLate hs) stages) (sym more.heard) (still_late k.heard (h ∷ []) stages all_late));
         puts = subst (λ ms. All (λ m. PutsUpTo t (last_seq_of t.writes) m.request) ms) (sym sent-same) st.puts;
         put_heard =
             let P : Heard → Type 0 = λ h. PutsUpTo t (last_seq_of t.writes) h.request in

@@ -25,20 +25,20 @@ use Rattle.pc_staging.proofs.Sending.{commit_stands}
 use Rattle.pc_staging.specs.Kept.{Evidence, is_passed_by, seen_undecided}
 use Rattle.pc_staging.specs.Standing.{StagingStands, WasStagedAt}
 use Rattle.pc_txn.proofs.Keeping.{staged_split}
-use Rattle.pc_txn.proofs.Late.{late_on, none_by_other}
+use Rattle.pc_txn.proofs.Late.{late_on, live_on, none_by_other, none_live, still_late}
 use Rattle.pc_txn.proofs.Same.{if_true}
 use Rattle.pc_txn.proofs.Shown.{shown-one}
 use Rattle.pc_txn.proofs.Written.{writes_on}
 use Rattle.pc_txn.specs.declared.txn.OpenTxn.{OpenTxn}
 use Rattle.pc_txn.specs.Opened.{with_commit, opened_as, own_commit, refused_at}
-use Rattle.pc_txn.specs.Standing.{AreLateByWrites, HasMovedOn, IsProvedAbove, IsUndecidedOf, TxnStands}
+use Rattle.pc_txn.specs.Standing.{AreLateByWrites, AreLiveHere, HasMovedOn, IsProvedAbove, IsUndecidedOf, TxnStands}
 use Rattle.pc_txn.specs.Writing.{IsNotWritten, PutsUpTo, WritesStand}
 use Rattle.pc_world.specs.Known.{Known}
 use Rattle.pc_world.specs.Known.Reads.{IsGoodAt}
 use Rattle.pc_world.specs.Known.Traffic.{Heard, Sent}
 use Rattle.pc_world.specs.Known.Transactions.{Txn, meta_of, txn_heard, txn_sent}
 use Rattle.pc_world.specs.Known.Writes.{last_seq_of}
-use Rattle.pc_world.specs.StageFate.{RefutesRecord, RefutesWrite, SentCommit, SentStage, commit_request}
+use Rattle.pc_world.specs.StageFate.{IsLate, RefutesRecord, RefutesWrite, SentCommit, SentStage, commit_request}
 use Rattle.pc_world.specs.Tell.End.{shows_staging}
 
 -- The commit of the transaction, with this anchor.
@@ -87,6 +87,9 @@ module _ (k now : Known) (stages : List SentStage) (commit : Option SentCommit) 
       shown = st.shown ∙ sym (ap (last_shown t) more.sent ∙ shown-one t k.sent m0 refl);
       staged = λ ts was. st.staged ts (subst (λ hs. WasStagedAt hs t ts) heard-same was);
       late = subst (λ hs. AreLateByWrites stages hs t) (sym heard-same) st.late;
+      live =
+          subst (λ hs. AreLiveHere stages hs evidence.staged (read_on t)) (sym more.heard)
+          (live_on k.heard [] evidence.staged t (read_on t) stages refl refl refl (All-nil (λ h. (ts : ℕ) → IsTrue (shows_staging t.id t.epoch ts h) → ⊥)) st.live);
       puts =
           subst (λ ms. All (λ m. PutsUpTo t (last_seq_of t.writes) m.request) ms) (sym more.sent)
           (All-push (λ m. PutsUpTo t (last_seq_of t.writes) m.request) k.sent m0 st.puts (λ epoch seq put. absurd cc));
@@ -182,6 +185,7 @@ module _ (k now : Known) (stages : List SentStage) (t : Txn) (x : OpenTxn) (c : 
             (λ s there.
             All-cons (λ h. RefutesWrite s h ⊎ RefutesRecord s h → ⊥) h [] (none_by_other s h (commit_request c) asked (λ reply. refl) (λ e. absurd cc))
             (All-nil (λ h. RefutesWrite s h ⊎ RefutesRecord s h → ⊥))));
+        live = none_live now.heard x.staging.staged risen stages (subst (λ hs. All (IsLate hs) stages) (sym more.heard) (still_late k.heard (h ∷ []) stages (st.staging.behind_commit c refl)));
         puts = subst (λ ms. All (λ m. PutsUpTo t (last_seq_of t.writes) m.request) ms) (sym sent-same) st.puts;
         put_heard =
             let P : Heard → Type 0 = λ h. PutsUpTo t (last_seq_of t.writes) h.request in

@@ -21,13 +21,13 @@ use Rattle.pc_staging.specs.declared.stage_out.StageOut.{StageOut}
 use Rattle.pc_staging.specs.Kept.{Evidence, is_dead_by, is_over, is_passed_by, is_refuted}
 use Rattle.pc_staging.specs.Laws.{LeavesStages, SendsNothingNew}
 use Rattle.pc_staging.specs.Standing.{AreEvidence, StagingStands, WasStagedAt, WasStageSent}
-use Rattle.pc_txn.proofs.Late.{late_on, none_by}
+use Rattle.pc_txn.proofs.Late.{late_on, live_on, none_by}
 use Rattle.pc_txn.proofs.Lists.{any_before}
 use Rattle.pc_txn.proofs.Shown.{shown-plain}
 use Rattle.pc_txn.proofs.Written.{writes_on}
 use Rattle.pc_txn.specs.declared.txn.OpenTxn.{OpenTxn}
 use Rattle.pc_txn.specs.Laws.{TxnStandsOn}
-use Rattle.pc_txn.specs.Standing.{AreLateByWrites, AreStagedThere, HasMovedOn, IsProvedAbove, IsUndecidedOf, LeavesAsIs, TxnStands, is_plain, is_query_of}
+use Rattle.pc_txn.specs.Standing.{AreLateByWrites, AreLiveHere, AreStagedThere, HasMovedOn, IsProvedAbove, IsUndecidedOf, LeavesAsIs, TxnStands, is_plain, is_query_of}
 use Rattle.pc_txn.specs.Writing.{IsNotWritten, PutsUpTo, WritesStand}
 use Rattle.pc_world.specs.Known.{Known}
 use Rattle.pc_world.specs.Known.Traffic.{Heard, Sent}
@@ -157,6 +157,10 @@ module _ (k now : Known) (stages : List SentStage) (commit : Option SentCommit) 
         (λ s there.
         let w : WasStageSent k.sent t.id s = All-contains (WasStageSent k.sent t.id) stages s st.staging.sent there in
         All-weaker (LeavesAsIs t) (λ h. RefutesWrite s h ⊎ RefutesRecord s h → ⊥) (λ h l. none_by t s h w.whose l.other (l.unrefuted s w.whose)) heard_more leave));
+    live =
+        subst (λ hs. AreLiveHere stages hs x.staging.staged t) (sym more.heard)
+        (live_on k.heard heard_more x.staging.staged t t stages refl refl refl
+        (All-weaker (LeavesAsIs t) (λ h. (ts : ℕ) → IsTrue (shows_staging t.id t.epoch ts h) → ⊥) (λ h l ts. shows_none t.id t.epoch ts h l.other) heard_more leave) st.live);
     puts =
         let P : Sent → Type 0 = λ m. PutsUpTo t (last_seq_of t.writes) m.request in
         subst (λ ms. All P ms) (sym more.sent)

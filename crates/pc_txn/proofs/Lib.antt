@@ -1,4 +1,5 @@
 -- Why the open transaction stands on.
+pub mod Again
 pub mod Alive
 pub mod Commits
 pub mod Keeping

@@ -30,10 +30,11 @@ use Rattle.pc_staging.specs.Laws.{LeavesStages, SendsNothingNew}
 use Rattle.pc_staging.specs.Standing.{AreRefutedBelow, WasStagedAt}
 use Rattle.pc_txn.proofs.Shown.{shown-new}
 use Rattle.pc_txn.proofs.Keeping.{shows_none}
+use Rattle.pc_txn.proofs.Late.{live_on}
 use Rattle.pc_txn.specs.Counted.{IsOfBegun, IsOwnHeard, IsOwnSent, IsOwnWrite, IsQueryOfBegun}
 use Rattle.pc_txn.specs.declared.txn.OpenTxn.{OpenTxn}
 use Rattle.pc_txn.specs.Opened.{just_begun, restarted_by}
-use Rattle.pc_txn.specs.Standing.{AreLateByWrites, HasMovedOn, IsProvedAbove, IsUndecidedOf, TxnStands}
+use Rattle.pc_txn.specs.Standing.{AreLateByWrites, AreLiveHere, HasMovedOn, IsProvedAbove, IsStageHere, IsUndecidedOf, TxnStands}
 use Rattle.pc_txn.specs.Writing.{AreEarlierFirst, IsKeyLocked, IsUnwrittenWhereUnproved, PutsUpTo, WasWriteSent, WritesStand}
 use Rattle.pc_world.specs.Known.{Known}
 use Rattle.pc_world.specs.Known.Reads.{Read}
@@ -66,6 +67,9 @@ stands_told k now stages commit t x reads spans committed st more good =
       shown = st.shown ∙ sym (ap (last_shown t) sent-same);
       staged = λ ts was. st.staged ts (subst (λ hs. WasStagedAt hs t ts) heard-same was);
       late = subst (λ hs. AreLateByWrites stages hs t) (sym heard-same) st.late;
+      live =
+          subst (λ hs. AreLiveHere stages hs x.staging.staged (told_open reads committed t)) (sym more.heard)
+          (live_on k.heard [] x.staging.staged t (told_open reads committed t) stages refl refl refl (All-nil (λ h. (ts : ℕ) → IsTrue (shows_staging t.id t.epoch ts h) → ⊥)) st.live);
       puts = subst (λ ms. All (λ m. PutsUpTo t (last_seq_of t.writes) m.request) ms) (sym sent-same) st.puts;
       put_heard = subst (λ hs. All (λ h. PutsUpTo t (last_seq_of t.writes) h.request) hs) (sym heard-same) st.put_heard;
       writes = record { by_sequence = w.by_sequence; each_sent = w.each_sent; unwritten = w.unwritten; locked = w.locked; unanchored = w.unanchored };
@@ -134,6 +138,7 @@ stands_restarted k now stages commit t x anchor key ts st over anchored more =
       shown = st.shown ∙ sym (ap (last_shown t) sent-same);
       staged = λ at was. absurd (unstaged_next t k.heard (t.epoch + 1) at (omega arith) st.views (subst (λ hs. WasStagedAt hs (restarted key ts t) at) heard-same was));
       late = All-nil (λ s. IsLate now.heard s → Any (IsProvedAbove s.ts) []);
+      live = All-nil (λ s. (IsLate now.heard s → ⊥) → IsStageHere now.heard None (restarted key ts t) s);
       puts =
           subst (λ ms. All (λ m. PutsUpTo (restarted key ts t) 0 m.request) ms) (sym sent-same)
           (All-weaker (λ m. PutsUpTo t (last_seq_of t.writes) m.request) (λ m. PutsUpTo (restarted key ts t) 0 m.request) (λ m up. puts_before key ts t m.request up) k.sent st.puts);
@@ -230,6 +235,7 @@ module _ (k now : Known) (session count : ℕ) (id : TxnId) (priority : Priority
         let f = any_of (λ h. is_about id h.request ≡ false) (λ h. IsTrue (shows_staging id 0 at h)) now.heard none_heard was in
         absurd (shows_none id 0 at f.0 f.1 f.2);
     late = All-nil (λ s. IsLate now.heard s → Any (IsProvedAbove s.ts) []);
+    live = All-nil (λ s. (IsLate now.heard s → ⊥) → IsStageHere now.heard None t0 s);
     puts =
         subst (λ ms. All (λ m. PutsUpTo t0 0 m.request) ms) (sym same_sent)
         (All-weaker (IsOwnSent session k.begun count) (λ m. PutsUpTo t0 0 m.request) (λ m own epoch seq put. absurd (new_put id epoch k.begun m.request later own.own.write seq put)) k.sent sent);

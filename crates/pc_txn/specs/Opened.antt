@@ -45,9 +45,13 @@ meta_now x anchor = record { id = x.id; epoch = x.epoch; priority = x.priority; 
 abbrev pub next_put : OpenTxn → List ℕ → Option (List ℕ) → Request
 next_put x key value = requests.Put (meta_now x (unwrap_or x.anchor key)) (x.seq + 1) x.write_ts key value
 
+-- A write of its that is in flight, at this timestamp.
+abbrev pub put_at : OpenTxn → List ℕ → ℕ → WriteInFlight → Request
+put_at x anchor ts w = requests.Put (meta_now x anchor) w.seq ts w.key w.value
+
 -- A write of its that is in flight, at its write timestamp.
 abbrev pub own_put : OpenTxn → List ℕ → WriteInFlight → Request
-own_put x anchor w = requests.Put (meta_now x anchor) w.seq x.write_ts w.key w.value
+own_put x anchor w = put_at x anchor x.write_ts w
 
 -- Its get of a key, at its read timestamp.
 abbrev pub own_get : OpenTxn → List ℕ → Request

@@ -1,5 +1,5 @@
 -- How the open transaction stands beside what its session knows, and what leaves it so.
-use Rattle.std.specs.Prelude.{◌≡◌, ℕ, ◌≤◌, Bool, true, false, ◌⊎◌, Option, None, List, ◌++◌, All, Any, IsTrue}
+use Rattle.std.specs.Prelude.{◌≡◌, ℕ, ◌≤◌, Bool, true, false, ◌⊎◌, Option, None, Some, List, ◌++◌, All, Any, IsTrue}
 use Rattle.std.specs.Option.{option_map_or}
 use Rattle.pc_base.specs.declared.transaction.TxnId.{TxnId}
 use Rattle.pc_base.specs.Transaction.{same_txn}
@@ -57,6 +57,15 @@ AreStagedThere stages heard t = (ts : ℕ) → WasStagedAt heard t ts → Any (�
 abbrev pub AreLateByWrites : List SentStage → List Heard → Txn → Type 0
 AreLateByWrites stages heard t = All (λ s. IsLate heard s → Any (IsProvedAbove s.ts) t.writes) stages
 
+-- The stage lies at the write timestamp; and where the transaction was heard to stage there, that is where it was last heard to stage.
+pub record IsStageHere (heard : List Heard) (staged : Option ℕ) (t : Txn) (s : SentStage) : Type 0 where
+  pub at_write_ts : s.ts ≡ t.write_ts
+  pub heard_last : WasStagedAt heard t s.ts → staged ≡ Some s.ts
+
+-- Each of these stages that is not late is so.
+abbrev pub AreLiveHere : List SentStage → List Heard → Option ℕ → Txn → Type 0
+AreLiveHere stages heard staged t = All (λ s. (IsLate heard s → ⊥) → IsStageHere heard staged t s) stages
+
 -- The reply refutes no stage of the transaction.
 abbrev pub RefutesNoStage : Txn → Heard → Type 0
 RefutesNoStage t h = (s : SentStage) → s.meta.id ≡ t.id → is_write_refuted s h.request h.reply ≡ false
@@ -70,7 +79,8 @@ pub record LeavesAsIs (t : Txn) (h : Heard) : Type 0 where
 
 -- The open transaction is the one that its session knows; no view of it that was heard is final; it last showed that it is alive at
 -- the reading that is kept; each write of its epoch is in flight, or proved
--- at or below its write timestamp; what became of its stages and commits is as its session knows it; and its reads are good where it reads.
+-- at or below its write timestamp; what became of its stages and commits is as its session knows it, and one that is not late lies at the write
+-- timestamp; and its reads are good where it reads.
 pub record TxnStands (k : Known) (stages : List SentStage) (commit : Option SentCommit) (t : Txn) (x : OpenTxn) : Type 0 where
   pub same : x ≡ opened_as x.shown x.cause x.reads.spans x.in_flight x.staging t
   pub number : t.id.number ≤ k.begun
@@ -82,6 +92,7 @@ pub record TxnStands (k : Known) (stages : List SentStage) (commit : Option Sent
   pub shown : x.shown ≡ last_shown t k.sent
   pub staged : AreStagedThere stages k.heard t
   pub late : AreLateByWrites stages k.heard t
+  pub live : AreLiveHere stages k.heard x.staging.staged t
   pub puts : All (λ m. PutsUpTo t (last_seq_of t.writes) m.request) k.sent
   pub put_heard : All (λ h. PutsUpTo t (last_seq_of t.writes) h.request) k.heard
   pub writes : WritesStand k.sent k.heard t
