@@ -7,6 +7,7 @@ use Rattle.std.proofs.lemmas.List.{append-nil}
 use Rattle.std.proofs.lemmas.List.Elements.{All-contains, All-cons, All-nil, All-push, All-weaker, Contains-push}
 use Rattle.pc_base.specs.declared.span.Span.{Span}
 use Rattle.pc_base.specs.declared.transaction.TxnId.{TxnId}
+use Rattle.pc_base.specs.declared.transaction.Who.{Who}
 use Rattle.pc_base.specs.Span.{same_key}
 use Rattle.pc_base.specs.Transaction.{same_txn}
 use Rattle.pc_flight.proofs.Holding.{added_stands, flights_hold, heard_stands}
@@ -26,7 +27,7 @@ use Rattle.pc_proto.specs.declared.why.Why.{Why}
 use Rattle.pc_proto.specs.Requests.{is_about, is_put_of, subject_anchor}
 use Rattle.pc_reads.proofs.Goods.{stand_on}
 use Rattle.pc_reads.specs.ReadsStanding.{TxnReadsStand}
-use Rattle.pc_staging.proofs.Going.{again_proves, staging_on}
+use Rattle.pc_staging.proofs.Going.{again_proves, proves_one, staging_on}
 use Rattle.pc_staging.proofs.Hears.{refutes_above, written_heard}
 use Rattle.pc_staging.proofs.Sending.{forgets}
 use Rattle.pc_staging.proofs.Steps.{lt_true}
@@ -35,7 +36,7 @@ use Rattle.pc_staging.specs.Kept.{Evidence, is_over, refuted_above, with_stages,
 use Rattle.pc_staging.specs.Laws.{LeavesStages, ProvesOn, SendsNothingNew}
 use Rattle.pc_staging.specs.Standing.{HasUnproved, StagingStands, WasStagedAt, WasStageSent}
 use Rattle.pc_txn.proofs.Keeping.{shows_none, staged_before}
-use Rattle.pc_txn.proofs.Late.{dead_late, kept_above, live_on, none_by, none_live}
+use Rattle.pc_txn.proofs.Late.{dead_late, kept_above, late_on, live_on, none_by, none_live}
 use Rattle.pc_txn.proofs.Lists.{any_before, any_mapped, any_numbered, none_among}
 use Rattle.pc_txn.proofs.Puts.{anchor-some, own_seq, puts-own, puts-one, puts-up}
 use Rattle.pc_txn.proofs.Same.{if_true, same_epoch-self}
@@ -43,7 +44,7 @@ use Rattle.pc_txn.proofs.Shown.{shown-one}
 use Rattle.pc_txn.proofs.Writes.{asked-last_seq, asked-proofs, asked-seq, below_last, last_seq-push, none_later, proved-last_seq, put-again, put-new}
 use Rattle.pc_txn.proofs.Written.{laid, laid_again, new_write, proved_stays, writes_laid, writes_landed, writes_resent}
 use Rattle.pc_txn.specs.declared.txn.OpenTxn.{OpenTxn}
-use Rattle.pc_txn.specs.Opened.{landed_at, next_put, opened_as, put_at, with_next_write}
+use Rattle.pc_txn.specs.Opened.{landed_at, next_put, opened_as, put_at, with_found, with_next_write}
 use Rattle.pc_txn.specs.Standing.{AreLateByWrites, AreLiveHere, HasMovedOn, IsProvedAbove, IsStageHere, IsUndecidedOf, TxnStands}
 use Rattle.pc_txn.specs.Writing.{IsNotWritten, IsUnwrittenWhereUnproved, PutsUpTo, WasAskedAt, WasWriteSent, WritesStand}
 use Rattle.pc_world.specs.Known.{Known}
@@ -52,6 +53,7 @@ use Rattle.pc_world.specs.Known.Transactions.{Txn, lists_write, meta_of, txn_hea
 use Rattle.pc_world.specs.Known.Writes.{Write, asked_again, is_proved, last_seq_of, proved_at}
 use Rattle.pc_world.specs.StageFate.{IsLate, RefutesRecord, RefutesWrite, SentCommit, SentStage, is_write_refuted}
 use Rattle.pc_world.specs.Tell.End.{shows_staging}
+use Rattle.pc_world.specs.Views.{shows_undecided}
 
 abbrev put_next : List ℕ → Option (List ℕ) → Txn → Request
 put_next key value t = requests.Put (meta_of t (unwrap_or t.anchor key)) (last_seq_of t.writes + 1) t.write_ts key value
@@ -511,3 +513,114 @@ module _ (k : Known) (stages : List SentStage) (commit : Option SentCommit) (t :
     -- it was written
     pub put_landed : TxnStands now stages commit (txn_heard k.sent (Some h) t) (landed_at f.key f.seq at h.step x)
     put_landed = subst (λ t2. TxnStands now stages commit t2 (landed_at f.key f.seq at h.step x)) (sym heard-put) landed_by
+
+  module _ (now : Known) (h : Heard) (ts : ℕ) (by : Who) (asked : h.request ≡ requests.Query t.id t.epoch f.seq ts f.key by) (told : h.reply ≡ replies.Found) (low : ts ≤ t.write_ts) (more : HasMovedOn k now [] (h ∷ [])) where
+    abbrev query : Request
+    query = requests.Query t.id t.epoch f.seq ts f.key by
+
+    -- The transaction once a query found the write.
+    abbrev t5 : Txn
+    t5 = record t { writes = map (proved_at f.key f.seq ts) t.writes }
+
+    heard-found : txn_heard k.sent (Some h) t ≡ t5
+    heard-found =
+        let F : Request → Reply → Txn = λ r y. txn_heard k.sent (Some (record { number = h.number; request = r; reply = y; step = h.step })) t in
+        let G : ℕ → List Write → Txn = λ n w. record t { write_ts = n; writes = w } in
+        let both = map (proved_at f.key f.seq ts) t.writes in
+        let stays : max t.write_ts 0 ≡ t.write_ts = omega arith in
+        ap (λ r. F r h.reply) asked
+        ∙ ap (F query) told
+        ∙ ap (λ n. G (max t.write_ts n) (cond (same_txn t.id t.id && (t.epoch == t.epoch)) both t.writes)) (if_true (same_txn t.id t.id) 0 0 (same_txn-self t.id))
+        ∙ ap (λ n. G n (cond (same_txn t.id t.id && (t.epoch == t.epoch)) both t.writes)) stays
+        ∙ ap (G t.write_ts) (if_true (same_txn t.id t.id && (t.epoch == t.epoch)) both t.writes (same_epoch-self t.id t.epoch))
+
+    no_record : is_about t.id h.request ≡ false
+    no_record = ap (is_about t.id) asked
+
+    no_put : (n : ℕ) → IsTrue (is_put_of t.id t.epoch n h.request) → n ≡ f.seq
+    no_put n put = let none : is_put_of t.id t.epoch n h.request ≡ false = ap (is_put_of t.id t.epoch n) asked in absurd cc
+
+    same-sent : now.sent ≡ k.sent
+    same-sent = more.sent ∙ append-nil k.sent
+
+    spares : (s : SentStage) → is_write_refuted s h.request h.reply ≡ false
+    spares s = ap (λ r. is_write_refuted s r h.reply) asked ∙ ap (is_write_refuted s query) told
+
+    leaves : LeavesStages stages t5 h
+    leaves = record {
+      unrefuted = all_from_contains (λ s. is_write_refuted s h.request h.reply ≡ false) stages (λ s inside. spares s);
+      unseen = ap (λ r. shows_undecided t.id r h.reply) asked;
+      reaches = λ s whose r. let none : is_write_refuted s h.request h.reply ≡ false = spares s in let is : is_write_refuted s h.request h.reply ≡ true = r in absurd cc;
+    }
+
+    staging5 : StagingStands now stages commit t5 x.staging
+    staging5 =
+        staging_on k now stages commit t t5 x.staging [] (h ∷ []) st.staging (record { sent = more.sent; heard = more.heard })
+        (record { same = refl; no_earlier = omega arith; stays = inl (refl, proves_one f.key f.seq ts t.writes) })
+        (All-nil (λ m. SendsNothingNew stages commit t.id m.request)) (All-cons (LeavesStages stages t5) h [] leaves (All-nil (LeavesStages stages t5)))
+
+    above5 : (at : ℕ) → Any (IsProvedAbove at) t.writes → Any (IsProvedAbove at) t5.writes
+    above5 at above =
+        any_mapped (IsProvedAbove at) (IsProvedAbove at) (proved_at f.key f.seq ts) t.writes
+        (all_from_contains (λ w. IsProvedAbove at w → IsProvedAbove at (proved_at f.key f.seq ts w)) t.writes
+        (λ w inside a. subst (IsProvedAbove at) (sym (proved_stays k.heard k.sent t f.key f.seq ts t.write_ts h st.writes known_one.w known_one.written place_is seq_is no_put known_one.unproved w inside a.proved)) a)) above
+
+    staged5 : (at : ℕ) → Any (λ s. s.ts ≡ at) stages ⊎ Any (IsProvedAbove at) t.writes → Any (λ s. s.ts ≡ at) stages ⊎ Any (IsProvedAbove at) t5.writes
+    staged5 at (inl kept) = inl kept
+    staged5 at (inr above) = inr (above5 at above)
+
+    late5 : AreLateByWrites stages (k.heard ++ h ∷ []) t5
+    late5 =
+        All-weaker (λ s. IsLate (k.heard ++ h ∷ []) s → Any (IsProvedAbove s.ts) t.writes) (λ s. IsLate (k.heard ++ h ∷ []) s → Any (IsProvedAbove s.ts) t5.writes) (λ s above late. above5 s.ts (above late)) stages
+        (late_on k.heard (h ∷ []) t stages st.late
+        (λ s inside.
+        let w : WasStageSent k.sent t.id s = All-contains (WasStageSent k.sent t.id) stages s st.staging.sent inside in
+        All-cons (λ h. RefutesWrite s h ⊎ RefutesRecord s h → ⊥) h [] (none_by t s h w.whose no_record (spares s)) (All-nil (λ h. RefutesWrite s h ⊎ RefutesRecord s h → ⊥))))
+
+    shows_no_stage : All (λ h. (at : ℕ) → IsTrue (shows_staging t.id t.epoch at h) → ⊥) (h ∷ [])
+    shows_no_stage =
+        All-cons (λ h. (at : ℕ) → IsTrue (shows_staging t.id t.epoch at h) → ⊥) h [] (λ at. shows_none t.id t.epoch at h no_record) (All-nil (λ h. (at : ℕ) → IsTrue (shows_staging t.id t.epoch at h) → ⊥))
+
+    found_by : TxnStands now stages commit t5 (with_found f.key f.seq x)
+    found_by =
+        let last : last_seq_of t5.writes ≡ last_seq_of t.writes = proved-last_seq f.key f.seq ts t.writes in
+        let flight = filter (is_another f.key f.seq) x.in_flight in
+        record {
+          same =
+              ap (λ (x : OpenTxn). record x { in_flight = flight }) st.same
+              ∙ ap (λ n. record (opened_as x.shown x.cause x.reads.spans flight x.staging t5) { seq = n }) (sym last);
+          number = omega (arith, st.number, more.begun);
+          begun = st.begun;
+          behind = st.behind;
+          at_begin = st.at_begin;
+          below = omega (arith, st.below, more.high);
+          views =
+              subst (λ hs. All (IsUndecidedOf t) hs) (sym more.heard)
+              (All-push (IsUndecidedOf t) k.heard h st.views (λ about. let none = no_record in absurd cc));
+          shown = st.shown ∙ sym (ap (last_shown t) same-sent);
+          staged = λ at was.
+              staged5 at (st.staged at
+              (staged_before k.heard (h ∷ []) t at
+              (All-weaker (λ h. (at : ℕ) → IsTrue (shows_staging t.id t.epoch at h) → ⊥) (λ h. IsTrue (shows_staging t.id t.epoch at h) → ⊥) (λ h none. none at) (h ∷ []) shows_no_stage)
+              (subst (λ hs. WasStagedAt hs t at) more.heard was)));
+          late = subst (λ hs. AreLateByWrites stages hs t5) (sym more.heard) late5;
+          live = subst (λ hs. AreLiveHere stages hs x.staging.staged t5) (sym more.heard) (live_on k.heard (h ∷ []) x.staging.staged t t5 stages refl refl refl shows_no_stage st.live);
+          puts = subst (λ n. All (λ m. PutsUpTo t n m.request) now.sent) (sym last) (subst (λ ms. All (λ m. PutsUpTo t (last_seq_of t.writes) m.request) ms) (sym same-sent) st.puts);
+          put_heard =
+              subst (λ n. All (λ h. PutsUpTo t n h.request) now.heard) (sym last)
+              (subst (λ hs. All (λ h. PutsUpTo t (last_seq_of t.writes) h.request) hs) (sym more.heard)
+              (All-push (λ h. PutsUpTo t (last_seq_of t.writes) h.request) k.heard h st.put_heard (subst (λ r. PutsUpTo t (last_seq_of t.writes) r) (sym asked) (λ epoch seq put. absurd cc))));
+          writes =
+              subst (λ ms. WritesStand ms now.heard t5) (sym same-sent)
+              (subst (λ hs. WritesStand k.sent hs t5) (sym more.heard)
+              (writes_landed k.heard k.sent t f.key f.seq ts t.write_ts h st.writes known_one.w known_one.written place_is seq_is no_put));
+          flight =
+              subst (λ t2. FlightStands flight t2) heard-found
+              (heard_stands f.key f.seq x.in_flight flight refl t k.sent h st.flight (inr (record { ts = ts; by = by; asked = asked; told = told; low = low })));
+          staging = staging5;
+          reads = subst (λ hs. TxnReadsStand t.id hs t.reads x.reads) (sym more.heard) (stand_on t.id k.heard (h ∷ []) t.reads x.reads st.reads);
+        }
+
+    -- a query found it, no later than the write timestamp
+    pub query_found : TxnStands now stages commit (txn_heard k.sent (Some h) t) (with_found f.key f.seq x)
+    query_found = subst (λ t2. TxnStands now stages commit t2 (with_found f.key f.seq x)) (sym heard-found) found_by

@@ -87,6 +87,10 @@ landed_at key seq ts step x = record x {
   staging = with_stages (map (refuted_above ts step) x.staging.stages) x.staging;
 }
 
+-- The transaction once a query found its write of this key and sequence.
+abbrev pub with_found : List ℕ → ℕ → OpenTxn → OpenTxn
+with_found key seq x = record x { in_flight = filter (is_another key seq) x.in_flight }
+
 -- The transaction once its commit was refused, by a reply that was evaluated at this step and shows where the record stands.
 abbrev pub refused_at : ℕ → ℕ → OpenTxn → OpenTxn
 refused_at recorded step x = record x {

@@ -1,6 +1,6 @@
 ghost use Rattle.std.specs.Prelude.{◌≡◌, ◌+◌, ◌<◌, All, IfOk, OnOk, length, unwrap_or};
 ghost use Rattle.pc_base.specs.declared.limits.TheConstants.{MOST_IN_FLIGHT};
-ghost use Rattle.pc_txn.specs.Opened.{just_begun, landed_at, meta_now, next_put, own_abort, own_commit, own_get, own_put, own_scan, refused_at, restarted_by, with_commit, with_next_write};
+ghost use Rattle.pc_txn.specs.Opened.{just_begun, landed_at, meta_now, next_put, own_abort, own_commit, own_get, own_put, own_scan, refused_at, restarted_by, with_commit, with_found, with_next_write};
 ghost use Rattle.pc_world.specs.Known.Transactions.{begun};
 
 use pc_base::{Key, NoMemory, Priority, Span, Timestamp, TryCopy, TxnId, Value};
@@ -168,6 +168,13 @@ impl OpenTxn {
         self.write_ts = self.write_ts.max(ts);
         self.in_flight.proved(key, seq);
         self.staging.heard_written(ts, step);
+    }
+
+    /// A query found its write of this key and sequence, no later than the write timestamp.
+    pub fn found(&mut self, key: &Key, seq: u32)
+        ensures { self.new ≡ with_found key.now seq self.old }
+    {
+        self.in_flight.proved(key, seq);
     }
 
     /// Its commit was refused: its record is not final and stands at this timestamp, by a reply that was evaluated at this step.
