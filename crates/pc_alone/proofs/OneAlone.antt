@@ -27,7 +27,7 @@ use Rattle.pc_proto.specs.declared.request.Request.{Request}
 use Rattle.pc_proto.specs.declared.request.Request.TheVariants as requests
 use Rattle.pc_runs.specs.Follows.{FollowsByItself, FollowsWork}
 use Rattle.pc_runs.specs.Order.{GoAsStated, GoInTurnsOf, ended_in_work, is_work_opened, next_in_work, recoverer_ended_in_work, rounds_in_work}
-use Rattle.pc_closing.specs.Full.{range_is_full}
+use Rattle.pc_closing.specs.HeldUp.{holds_up}
 use Rattle.pc_closing.specs.Served.{IsServedOnce}
 use Rattle.pc_serial.proofs.AloneStanding.{contains_split, heard_evaluated, sent-there}
 use Rattle.pc_alone.proofs.OneInOrder.{AllGood, HearsEach, IsGoodAt, TellsHeard, heard_ever, hears-before, in-turns, on-threads}
@@ -114,13 +114,13 @@ module _ (work : Workload) (rules : ActorId → ℕ → ℕ → Bool) (head : He
   one : head.sessions ≡ 1
   one = follows.sessions ∙ of.one
 
-  abbrev full : ℕ → Bool
-  full = range_is_full work.limit head history
+  abbrev held : ActorId → Sent → Bool
+  held = holds_up work.limit head history
 
   abbrev list : List (Pair Event)
   list = own (protocol head) the_session history
 
-  by-itself : FollowsByItself work session (rules the_session) full the_session list history
+  by-itself : FollowsByItself work session (rules the_session) (held the_session) the_session list history
   by-itself = follows.each 1 session (omega arith) (ap (λ (l : List SessionWork). slice_get l (1 - 1)) sessions-are)
 
   -- what its own list keeps of an entry
@@ -184,13 +184,13 @@ module _ (work : Workload) (rules : ActorId → ℕ → ℕ → Bool) (head : He
 
   -- each call and answer of its list is at a good place
   good : AllGood [] list
-  good = stated work.turns of.no_turns (subst (GoAsStated work full work.turns 1) clients-own (subst (λ n. GoAsStated work full work.turns n (client_pairs head history)) of.one follows.order))
+  good = stated work.turns of.no_turns (subst (GoAsStated work held work.turns 1) clients-own (subst (λ n. GoAsStated work held work.turns n (client_pairs head history)) of.one follows.order))
     where
-      stated : (turns : Option (List Turn)) → (turns ≡ None) ⊎ (turns ≡ Some []) → GoAsStated work full turns 1 list → AllGood [] list
-      stated None none goes = on-threads list tells-heard (next_in_work work) (ended_in_work work full) mine (is_work_opened work) goes
+      stated : (turns : Option (List Turn)) → (turns ≡ None) ⊎ (turns ≡ Some []) → GoAsStated work held turns 1 list → AllGood [] list
+      stated None none goes = on-threads list tells-heard (next_in_work work) (ended_in_work work held) mine (is_work_opened work) goes
       stated (Some []) none goes =
-          in-turns list tells-heard (next_in_work work) (ended_in_work work full) mine (is_work_opened work) (recoverer_ended_in_work work full) (rounds_in_work work)
-          (subst (λ n. GoInTurnsOf work full [] 1 n list) (ap length of.unaided) goes)
+          in-turns list tells-heard (next_in_work work) (ended_in_work work held) mine (is_work_opened work) (recoverer_ended_in_work work held) (rounds_in_work work)
+          (subst (λ n. GoInTurnsOf work held [] 1 n list) (ap length of.unaided) goes)
       stated (Some (turn ∷ turns)) none goes = absurd (elim none [ inl is ↦ (let no : ⊥ = cc is in no) | inr is ↦ (let no : ⊥ = cc is in no) ])
 
   good-at : (before : List (Entry Event)) (e : Entry Event) (later : List (Entry Event)) → history ≡ before ++ e ∷ later → e.actor ≡ the_session
@@ -245,7 +245,7 @@ module _ (work : Workload) (rules : ActorId → ℕ → ℕ → Bool) (head : He
       let here : Contains history e = subst (λ h. Contains h e) (sym split) (contains_split before e (between ++ other ∷ later)) in
       let s = evaluated-of e here actor number first in
       let m = s.1 in
-      let once_there : evaluations_of the_session m.0.number history ≤ 1 = (All-contains (IsServedOnce full the_session history (known_of list)) (known_at head the_session history).sent m.0 by-itself.wire m.1).most in
+      let once_there : evaluations_of the_session m.0.number history ≤ 1 = (All-contains (IsServedOnce (held the_session) the_session history (known_of list)) (known_at head the_session history).sent m.0 by-itself.wire m.1).most in
       let p : Entry Event → Bool = λ x. is_evaluation_of the_session number x.event in
       let total : count_by p history ≤ 1 = subst (λ n. evaluations_of the_session n history ≤ 1) m.2 once_there in
       let a = count-append p before (e ∷ (between ++ other ∷ later)) in

@@ -1,17 +1,23 @@
 -- An actor's messages are settled once what it left was evaluated, up to one whose range is full.
 use Rattle.std.proofs.Common.{◌≡◌, ℕ, ◌<◌, ◌≤◌, ◌⊎◌, inl, inr, false, All, Contains, IsTrue, List, [], ◌∷◌, ◌++◌, map, refl, sym, ap, subst, ◌∙◌, arith}
+use Rattle.std.proofs.lemmas.List.{append_assoc}
 use Rattle.std.proofs.lemmas.List.Elements.{All-contains, All-nil, All-weaker, Contains-append_cases, Contains-append_left, Contains-append_right}
 use Rattle.pc_base.specs.declared.actor.ActorId.{ActorId}
 use Rattle.pc_closing.specs.Leaving.{HasSettledAll, IsSettled, KnowsHeldUp, MayLeave, WaitsOrIsSettled}
-use Rattle.pc_desk.specs.Desk.{DeskMeaning, GivesOnce, IsReadyToGo, KnowsFull, Posted, WaitingMessage, as_sent}
-use Rattle.pc_desk.specs.Ending.{IsAtFullRange, IsAtOwnEnd, IsAtStop, IsNotLost, KnowsEvaluation, WaitsStill, WaitsUnheard}
+use Rattle.pc_desk.proofs.Refusing.{refused_still, was_given_back}
+use Rattle.pc_desk.specs.Desk.{DeskMeaning, GivesOnce, IsReadyToGo, Posted, WaitingMessage, as_sent, posting}
+use Rattle.pc_desk.specs.Ending.{IsAtFullRange, IsAtOwnEnd, IsAtStop, IsNotLost, IsSpent, KnowsEvaluation, WaitsStill, WaitsUnheard}
+use Rattle.pc_desk.specs.Refused.{WasGivenBack}
 use Rattle.pc_desk.specs.Rest.{HasOnlyLearnt, IsEvaluatedIn}
+use Rattle.pc_history.specs.declared.named.Named.{Ghosts}
 use Rattle.pc_history.specs.declared.view.Known.{Known as KnownEntry}
 use Rattle.pc_history.specs.declared.view.Part.{Part}
 use Rattle.pc_history.specs.Meanings.{ActorMeaning}
-use Rattle.pc_history.specs.Parts.{known_entry, told}
+use Rattle.pc_history.specs.Parts.{known_entry, told, uses_left}
 use Rattle.pc_lists.proofs.Lists.{all_from_contains, contains_cons, contains_head, contains_in_map, contains_map}
 use Rattle.pc_proto.specs.declared.event.Event.{Event}
+use Rattle.pc_range.specs.declared.commit_world.CommitWorld.{CommitWorld}
+use Rattle.pc_range.specs.declared.message.Message.{Message}
 use Rattle.pc_range.specs.Message.{IsFullNote, evaluation}
 use Rattle.pc_world.specs.Caused.{Evaluates}
 use Rattle.pc_world.specs.Known.{known_of}
@@ -60,18 +66,12 @@ module _ {C : Type 0} (d : DeskMeaning C) (rest : List WaitingMessage) (posted :
   full_range_may_leave end = record {
     given = given;
     waits = waits-posted end.waits;
-    messages = All-weaker (λ m. (m.number ≡ end.message.number) ⊎ IsNotLost d m) (WaitsOrIsSettled d.range_limit d.log.part rest) by (known_of d.log.part.own).sent end.others;
+    messages = all_from_contains (WaitsOrIsSettled d.range_limit d.log.part rest) (known_of d.log.part.own).sent (λ m there. by m there (All-contains (λ x. IsSpent d x ⊎ IsNotLost d x) (known_of d.log.part.own).sent m end.others there));
   }
     where
-      by : (m : Sent) → (m.number ≡ end.message.number) ⊎ IsNotLost d m → WaitsOrIsSettled d.range_limit d.log.part rest m
-      by m (inl it) = inr (inr (inr (record {
-        front = end.message;
-        sent = end.sent;
-        no_later = omega arith;
-        unheard = end.unheard;
-        full = subst (λ range. KnowsFull range d.range_limit d.log.part.known) (sym end.goes) end.full;
-      })))
-      by m (inr kept) = not-lost m kept
+      by : (m : Sent) → Contains (known_of d.log.part.own).sent m → IsSpent d m ⊎ IsNotLost d m → WaitsOrIsSettled d.range_limit d.log.part rest m
+      by m there (inl it) = inr (inr (inr (record { front = m; sent = there; no_later = omega arith; unheard = it.unheard; refused = it.refused })))
+      by m there (inr kept) = not-lost m kept
 
 -- ---- what is settled stays so
 
@@ -79,13 +79,16 @@ module _ (limit : ℕ) (old new : Part Event) (own : new.own ≡ old.own) (id : 
   knows-on : (number : ℕ) → KnowsEvaluation old number → KnowsEvaluation new number
   knows-on number knows = record { evaluation = knows.evaluation; knows = more knows.evaluation knows.knows; of_it = subst (λ (i : ActorId). Evaluates i number knows.evaluation.entry.event) (sym id) knows.of_it }
 
+  pub refused-on : (m : Sent) → WasGivenBack limit old m → WasGivenBack limit new m
+  refused-on m refused = refused_still limit limit old new m refl id more refused
+
   held-on : (m : Sent) → KnowsHeldUp limit old m → KnowsHeldUp limit new m
   held-on m held = record {
     front = held.front;
     sent = subst (λ o. Contains (known_of o).sent held.front) (sym own) held.sent;
     no_later = held.no_later;
     unheard = subst (λ o. is_heard (known_of o).heard held.front ≡ false) (sym own) held.unheard;
-    full = record { entry = held.full.entry; knows = more held.full.entry held.full.knows; full = held.full.full };
+    refused = refused-on held.front held.refused;
   }
 
   settled-on : (m : Sent) → IsSettled limit old m → IsSettled limit new m
@@ -126,7 +129,7 @@ module _ (limit : ℕ) (splits : List (List ℕ)) (old new : ActorMeaning Head E
 
   -- up to one whose range is full
   module _ (after : ActorMeaning Head Event) (note : List (KnownEntry Event)) (done behind : List WaitingMessage) (refused : WaitingMessage) (whole : rest ≡ done ++ refused ∷ behind) (evaluated : All (IsEvaluatedIn new.part) done)
-      (rises : All (λ (w : WaitingMessage). refused.key < w.key) behind) (full : IsFullNote refused.posted.range limit note) (took : after ≡ record new { part = told note new.part }) where
+      (rises : All (λ (w : WaitingMessage). refused.key < w.key) behind) (took : after ≡ record new { part = told note new.part }) (spent : WasGivenBack limit (told note new.part) (as_sent refused.posted)) where
     known-is : after.part.known ≡ new.part.known ++ note
     known-is = ap (λ (a : ActorMeaning Head Event). a.part.known) took
 
@@ -138,14 +141,6 @@ module _ (limit : ℕ) (splits : List (List ℕ)) (old new : ActorMeaning Head E
 
     id-now : after.part.id ≡ old.part.id
     id-now = ap (λ (a : ActorMeaning Head Event). a.part.id) took ∙ id-same
-
-    knows-full : KnowsFull refused.posted.range limit after.part.known
-    knows-full = record {
-      entry = known_entry full.entry full.place 0;
-      knows = subst (λ l. Contains l (known_entry full.entry full.place 0)) (sym known-is)
-          (Contains-append_right new.part.known note (known_entry full.entry full.place 0) (subst (λ l. Contains l (known_entry full.entry full.place 0)) (sym full.tells) (contains_head (known_entry full.entry full.place 0) [])));
-      full = record { entry = full.entry; place = full.place; tells = refl; whose = full.whose; many = full.many };
-    }
 
     there-refused : Contains rest refused
     there-refused = subst (λ l. Contains l refused) (sym whole) (Contains-append_right done (refused ∷ behind) refused (contains_head refused behind))
@@ -159,7 +154,7 @@ module _ (limit : ℕ) (splits : List (List ℕ)) (old new : ActorMeaning Head E
       sent = subst (λ o. Contains (known_of o).sent (as_sent refused.posted)) (sym own-now) waited.sent;
       no_later = later;
       unheard = subst (λ o. is_heard (known_of o).heard (as_sent refused.posted) ≡ false) (sym own-now) waited.unheard;
-      full = knows-full;
+      refused = subst (λ (a : ActorMeaning Head Event). WasGivenBack limit a.part (as_sent refused.posted)) (sym took) spent;
     }
 
     key-is : (w : WaitingMessage) → Contains rest w → w.key ≡ w.posted.number
@@ -188,3 +183,14 @@ module _ (limit : ℕ) (splits : List (List ℕ)) (old new : ActorMeaning Head E
             let w = contains_in_map (λ (x : WaitingMessage). x.posted) rest waits.waiting waits.there in
             waiting m w.0 w.1 (ap (λ (p : Posted). p.number) w.2 ∙ waits.is) (Contains-append_cases done (refused ∷ behind) w.0 (subst (λ l. Contains l w.0) whole w.1))
         by m (inr settled) = settled-on limit old.part after.part own-now id-now (λ k there. more-now k (learnt.more k there)) m settled
+
+  -- it took what the range gave, and then the use of its message
+  pub refused_at_end : {N : Type 0} {G : Ghosts N CommitWorld} (after : ActorMeaning Head Event) (last : List (KnownEntry Event)) (message : Message N G) (done behind : List WaitingMessage) (refused : WaitingMessage) → rest ≡ done ++ refused ∷ behind → All (IsEvaluatedIn new.part) done
+      → All (λ (w : WaitingMessage). refused.key < w.key) behind → IsFullNote refused.posted.range limit last → message.sender ≡ new.part.id → posting message.number message.range message.request (uses_left message.note.known) ≡ refused.posted
+      → after ≡ record new { part = told message.note.known (told last new.part) } → HasSettledAll limit old.part after.part
+  refused_at_end after last message done behind refused whole evaluated rises full whose is back =
+      let notes = last ++ message.note.known in
+      let there : Contains rest refused = subst (λ l. Contains l refused) (sym whole) (Contains-append_right done (refused ∷ behind) refused (contains_head refused behind)) in
+      let some = (All-contains (IsReadyToGo old.part.id splits) rest refused ready there).use_left in
+      left_till after notes done behind refused whole evaluated rises (back ∙ ap (λ ks. record new { part = record new.part { known = ks } }) (append_assoc new.part.known last message.note.known))
+      (was_given_back limit (told notes new.part) refused.posted message last new.part.known refl full whose is some)

@@ -3,9 +3,11 @@ use Rattle.std.specs.Prelude.{◌≡◌, ℕ, true, Some, List, map, slice_get}
 use Rattle.pc_base.specs.declared.actor.ActorId.{ActorId}
 use Rattle.pc_base.specs.declared.entry.Entry.{Entry}
 use Rattle.pc_closing.specs.Full.{range_is_full}
+use Rattle.pc_closing.specs.HeldUp.{holds_up}
 use Rattle.pc_closing.specs.Leaving.{Leaver}
 use Rattle.pc_closing.specs.Served.{AreServed}
 use Rattle.pc_desk.specs.Desk.{KnowsFull}
+use Rattle.pc_desk.specs.Refused.{WasGivenBack}
 use Rattle.pc_history.specs.declared.pair.Pair.{Pair}
 use Rattle.pc_history.specs.declared.view.Part.{Part}
 use Rattle.pc_history.specs.Own.{own}
@@ -13,6 +15,7 @@ use Rattle.pc_proto.specs.declared.event.Event.{Event}
 use Rattle.pc_turns.specs.Clients.{IsStoredBy}
 use Rattle.pc_turns.specs.Shares.{AreHandedIn, client_at}
 use Rattle.pc_world.specs.Known.{known_of}
+use Rattle.pc_world.specs.Known.Traffic.{Sent}
 use Rattle.pc_world.specs.Local.{Head}
 use Rattle.pc_world.specs.Run.{IsRun, protocol}
 use Rattle.pc_world.specs.Unstaged.{NothingIsStaged}
@@ -22,11 +25,12 @@ abbrev pub lists_of : List Leaver → List (List (Pair Event))
 lists_of leavers = map (λ l. l.0.part.own) leavers
 
 -- The actor's own list is what the history has of it, each message of it is evaluated once unless it is held up, and the ranges that it
--- knows to be full are.
+-- knows to be full are; what it knows to be refused a full range holds up, and is never evaluated.
 pub record IsKeptIn (limit : ℕ) (head : Head) (history : List (Entry Event)) (id : ActorId) (part : Part Event) : Type 0 where
   pub list : own (protocol head) id history ≡ part.own
-  pub served : AreServed (range_is_full limit head history) id history (known_of part.own)
+  pub served : AreServed (holds_up limit head history id) id history (known_of part.own)
   pub full : (range : ℕ) → KnowsFull range limit part.known → range_is_full limit head history range ≡ true
+  pub held : (m : Sent) → WasGivenBack limit part m → holds_up limit head history id m ≡ true
 
 -- The history is a run, without stages; it is what the ranges and these clients stored, each of which is kept in it.
 pub record IsClosedOver (limit : ℕ) (head : Head) (leavers : List Leaver) (history : List (Entry Event)) : Type 0 where

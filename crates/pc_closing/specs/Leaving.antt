@@ -1,7 +1,8 @@
 -- What a session or a recoverer that has finished leaves: its own list, what it knows, and the messages that still wait to be evaluated.
 use Rattle.std.specs.Prelude.{◌≡◌, ℕ, ◌+◌, ◌≤◌, ◌⊎◌, false, Some, List, length, map, slice_get, All, Contains, IsTrue}
-use Rattle.pc_desk.specs.Desk.{GivesOnce, IsReadyToGo, KnowsFull, WaitingMessage}
+use Rattle.pc_desk.specs.Desk.{GivesOnce, IsReadyToGo, WaitingMessage}
 use Rattle.pc_desk.specs.Ending.{KnowsEvaluation, WaitsStill, WaitsUnheard}
+use Rattle.pc_desk.specs.Refused.{WasGivenBack}
 use Rattle.pc_history.specs.declared.view.Known.{Known as KnownEntry}
 use Rattle.pc_history.specs.declared.view.Part.{Part}
 use Rattle.pc_history.specs.Meanings.{ActorMeaning}
@@ -16,13 +17,13 @@ use Rattle.pc_world.specs.Tell.Refusal.{is_heard}
 abbrev pub Leaver : Type 0
 Leaver = ActorMeaning Head Event × List WaitingMessage
 
--- A message of the actor, or one that it sent before, was not heard, and the actor knows that the range of that one is full.
+-- The message, or one that the actor sent before it, was not heard, and was refused by its range, which is full.
 pub record KnowsHeldUp (limit : ℕ) (part : Part Event) (m : Sent) : Type 0 where
   pub front : Sent
   pub sent : Contains (known_of part.own).sent front
   pub no_later : front.number ≤ m.number
   pub unheard : is_heard (known_of part.own).heard front ≡ false
-  pub full : KnowsFull front.range limit part.known
+  pub refused : WasGivenBack limit part front
 
 -- The message was heard, or the actor knows an evaluation of it, or it is held up.
 abbrev pub IsSettled : ℕ → Part Event → Sent → Type 0

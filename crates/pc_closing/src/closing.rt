@@ -4,13 +4,14 @@ ghost use Rattle.pc_closing.specs.Leaving.{AreLeavers, HasSettledAll, MayLeave};
 ghost use Rattle.pc_closing.specs.Opening.{opener_of};
 ghost use Rattle.pc_desk.specs.Desk.{IsReadyToGo};
 ghost use Rattle.pc_history.specs.declared.view.Part.{Part};
+ghost use Rattle.pc_history.specs.Parts.{told};
 ghost use Rattle.pc_proto.specs.declared.event.Event.{Event as Made};
 
 use pc_base::{Entry, NoMemory};
 use pc_desk::{Rest, deliver_rest};
-use pc_history::{Actor, Named, Opener};
+use pc_history::{Actor, Named, Note, Opener};
 use pc_proto::Event;
-use pc_range::{CommitWorld, Gate, Ranges, ServeFault};
+use pc_range::{CommitWorld, Gate, Message, Ranges, ServeFault};
 use std::sync::Wait;
 
 /// A session or a recoverer that has finished: its actor, and what is still in its outbox.
@@ -52,7 +53,8 @@ fn leave<N: Named<CommitWorld>, G: Gate, R: Wait>(
     opener.hand_in(actor)
 }
 
-/// Evaluates what is left of the actor's messages, in the order of their numbers, up to one whose range is full.
+/// Evaluates what is left of the actor's messages, in the order of their numbers, up to one whose range is full. The actor has that one's
+/// use back: it is never evaluated.
 fn deliver<N: Named<CommitWorld>, G: Gate, R: Wait>(
     rt: &R,
     ranges: &Ranges<'_, N, G>,
@@ -65,10 +67,28 @@ fn deliver<N: Named<CommitWorld>, G: Gate, R: Wait>(
 {
     match deliver_rest(rt, rest, actor, ranges) {
         Ok(()) => Ok(()),
-        Err(ServeFault::Full { range: _, last }) => {
-            actor.take(last);
+        Err(
+            ServeFault::Full {
+                range: _,
+                last,
+                message,
+            },
+        ) => {
+            have_back(actor, last, message);
             Ok(())
         }
         Err(ServeFault::NoMemory) => Err(NoMemory),
     }
+}
+
+/// Knows the last entry of a range that gave the message back, and has its use back.
+fn have_back<N: Named<CommitWorld>>(
+    actor: &mut Actor<CommitWorld, N>,
+    last: Note<CommitWorld, N>,
+    message: Message<N>,
+)
+    ensures { actor.new ≡ record actor.old { part = told message.note.known (told last.known actor.old.part) } }
+{
+    actor.take(last);
+    actor.take(message.note);
 }

@@ -12,7 +12,7 @@ use Rattle.std.specs.Map.{lookup}
 use Rattle.std.specs.Option.{option_map, option_or}
 use Rattle.std.specs.Ordering.{is_eq, match_ordering, nat_cmp}
 use Rattle.pc_lists.proofs.Counts.{count-cons, one_if}
-use Rattle.pc_lists.proofs.Lists.{all_from_contains}
+use Rattle.pc_lists.proofs.Lists.{all_from_contains, contains_cons, contains_nil}
 use Rattle.pc_proto.specs.declared.request.Request.{Request}
 use Rattle.pc_world.specs.Known.Traffic.{Sent, request_sent}
 
@@ -51,6 +51,34 @@ module _ {X : Type 0} (p : X → Bool) where
       by : (b : Bool) → list_any p xs ≡ b → list_any p xs ≡ nat_lt 0 (count_by p xs)
       by true is = let some : 1 ≤ count_by p xs = counts_any xs is in grind (arith, nat_tests)
       by false is = let none : count_by p xs ≡ 0 = uncounted xs is in grind (arith, nat_tests)
+
+  -- where one passes at most, two that pass are the same
+  pub counted_once : (xs : List X) (a b : X) → count_by p xs ≤ 1 → Contains xs a → Contains xs b → p a ≡ true → p b ≡ true → a ≡ b
+  counted_once [] a b once one other pa pb = absurd (contains_nil a one)
+  counted_once (x ∷ xs) a b once one other pa pb =
+      let c = count-cons p x xs in
+      by (contains_cons x xs a one) (contains_cons x xs b other) (λ here there. counted_once xs a b (omega (arith, c, once)) here there pa pb)
+    where
+      late : (ys : List X) (y : X) → Contains ys y → p y ≡ true → 1 ≤ count_by p ys
+      late [] y there is = absurd (contains_nil y there)
+      late (z ∷ zs) y there is =
+          let c = count-cons p z zs in
+          elim (contains_cons z zs y there) [
+            | inl here ↦ let o : one_if (p z) ≡ 1 = ap one_if (ap p here ∙ is) in omega (arith, c, o)
+            | inr behind ↦ let l : 1 ≤ count_by p zs = late zs y behind is in omega (arith, c, l)
+          ]
+
+      two : p x ≡ true → 1 ≤ count_by p xs → a ≡ b
+      two is l =
+          let c = count-cons p x xs in
+          let o : one_if (p x) ≡ 1 = ap one_if is in
+          absurd (omega (arith, c, o, l, once))
+
+      by : (x ≡ a) ⊎ Contains xs a → (x ≡ b) ⊎ Contains xs b → (Contains xs a → Contains xs b → a ≡ b) → a ≡ b
+      by (inl here) (inl there) on = sym here ∙ there
+      by (inl here) (inr there) on = two (ap p here ∙ pa) (late xs b there pb)
+      by (inr here) (inl there) on = two (ap p there ∙ pb) (late xs a here pa)
+      by (inr here) (inr there) on = on here there
 
 -- where all have smaller numbers, none has this one
 pub none_beyond : {X : Type 0} (n : X → ℕ) (most number : ℕ) (xs : List X) → All (λ x. n x ≤ most) xs → most < number → count_by (λ x. n x == number) xs ≡ 0

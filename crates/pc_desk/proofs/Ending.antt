@@ -1,19 +1,26 @@
 -- An actor's list that has ended, and what became of its messages.
-use Rattle.std.proofs.Common.{◌≡◌, ℕ, ◌<◌, ◌≤◌, ◌⊎◌, ◌==◌, ◌||◌, Bool, true, false, All, Contains, IfErr, inl, inr, List, [], ◌∷◌, length, Result, Ok, Err, refl, sym, ap, subst, ◌∙◌, arith}
+use Rattle.std.proofs.Common.{◌≡◌, ℕ, ◌<◌, ◌≤◌, ◌⊎◌, ◌==◌, ◌||◌, Bool, true, false, All, Contains, IfErr, inl, inr, List, [], ◌∷◌, ◌++◌, length, Result, Ok, Err, refl, sym, ap, subst, ◌∙◌, arith}
 use Rattle.std.proofs.lemmas.Bool.{eq-eqb, eqb-true}
-use Rattle.std.proofs.lemmas.List.Elements.{All-contains, All-head, All-tail, Contains-append_left, Contains-append_right}
+use Rattle.std.proofs.lemmas.List.{append_assoc}
+use Rattle.std.proofs.lemmas.List.Elements.{All-contains, All-head, All-tail, Contains-append_left}
 use Rattle.std.specs.List.{list_any}
-use Rattle.pc_desk.proofs.Counting.{counts_any, none_counted, uncounted}
+use Rattle.pc_desk.proofs.Counting.{counted_once, counts_any, none_counted, uncounted}
+use Rattle.pc_desk.proofs.Refusing.{was_given_back}
 use Rattle.pc_desk.specs.declared.answered.Answered.{Answered}
 use Rattle.pc_desk.specs.declared.halt.Halt.{Halt}
 use Rattle.pc_desk.specs.declared.halt.Halt.TheVariants as halts
-use Rattle.pc_desk.specs.Desk.{DeskMeaning, IsAnsweredBy, HasTakenFirst, IsOneSent, KeepsTrack, Posted, as_sent, posted_as, times_sent}
-use Rattle.pc_desk.specs.Ending.{EndsBy, EndsOnly, HasEnded, HasMadeLast, IsNotLost, WaitsUnheard}
-use Rattle.pc_desk.specs.OwnLog.{HasStopped, IsHalt, LogMeaning, Took}
+use Rattle.pc_base.specs.declared.actor.ActorId.TheVariants as actors
+use Rattle.pc_desk.specs.Desk.{DeskMeaning, HasHalted, IsAnsweredBy, HasTakenFirst, KnowsFull, IsOneSent, KeepsTrack, Posted, as_sent, posted_as, posting, times_sent}
+use Rattle.pc_desk.specs.Ending.{EndsBy, EndsOnly, HasEnded, HasMadeLast, IsNotLost, IsSpent, WaitsUnheard}
+use Rattle.pc_desk.specs.OwnLog.{HasStopped, IsHalt, LogMeaning}
+use Rattle.pc_desk.specs.Refused.{WasGivenBack}
+use Rattle.pc_history.specs.declared.named.Named.{Ghosts}
 use Rattle.pc_history.specs.declared.view.Known.{Known as KnownEntry}
-use Rattle.pc_history.specs.Parts.{known_entry, told}
+use Rattle.pc_history.specs.Parts.{known_entry, told, uses_left}
 use Rattle.pc_lists.proofs.Lists.{all_from_contains, contains_head, contains_nil, contains_cons, contains_tail}
 use Rattle.pc_proto.specs.declared.event.Event.{Event}
+use Rattle.pc_range.specs.declared.commit_world.CommitWorld.{CommitWorld}
+use Rattle.pc_range.specs.declared.message.Message.{Message}
 use Rattle.pc_range.specs.Message.{IsFullNote, evaluation}
 use Rattle.pc_world.specs.Known.{Known, known_of}
 use Rattle.pc_world.specs.Known.Traffic.{Heard, Sent}
@@ -110,7 +117,7 @@ ended_if {C} P v old after (Err halt) same track last h =
 
 -- ---- a range that is full
 
-module _ {C : Type 0} (old : DeskMeaning C) (m : Posted) (rest : List Posted) (note : List (KnownEntry Event)) (track : KeepsTrack old) (first : old.posted ≡ m ∷ rest) (later : All (λ (p : Posted). m.number < p.number) rest) (full : IsFullNote m.range old.range_limit note) where
+module _ {C : Type 0} (old : DeskMeaning C) (m : Posted) (rest : List Posted) (notes : List (KnownEntry Event)) (track : KeepsTrack old) (first : old.posted ≡ m ∷ rest) (later : All (λ (p : Posted). m.number < p.number) rest) (refused : WasGivenBack old.range_limit (told notes old.log.part) (as_sent m)) where
   all-waited : All (WaitsUnheard (known_of old.log.part.own)) (m ∷ rest)
   all-waited = subst (All (WaitsUnheard (known_of old.log.part.own))) first (all_wait old track)
 
@@ -120,51 +127,71 @@ module _ {C : Type 0} (old : DeskMeaning C) (m : Posted) (rest : List Posted) (n
 
   -- The desk that has stopped.
   abbrev stopped : DeskMeaning C
-  stopped = record old { posted = rest; log = record old.log { part = told note old.log.part; stopped = true } }
+  stopped = record old { posted = rest; log = record old.log { part = told notes old.log.part; stopped = true } }
 
-  not_lost_now : (x : Sent) → IsNotLost old x → (x.number ≡ m.number) ⊎ IsNotLost stopped x
-  not_lost_now x (inl heard) = inr (inl heard)
-  not_lost_now x (inr (inl waits)) = elim (contains_cons m rest waits.waiting (subst (λ l. Contains l waits.waiting) first waits.there)) [
-    | inl here ↦ inl (sym (ap (λ (p : Posted). p.number) here ∙ waits.is))
+  -- what was sent under its number is it
+  the-one : (x : Sent) → Contains (known_of old.log.part.own).sent x → m.number ≡ x.number → as_sent m ≡ x
+  the-one x there same =
+      counted_once (λ (y : Sent). y.number == m.number) (known_of old.log.part.own).sent (as_sent m) x (track.once m.number) it-waited.sent there (eq-eqb m.number m.number refl) (eq-eqb x.number m.number (sym same))
+
+  it-is-spent : IsSpent stopped (as_sent m)
+  it-is-spent = record { refused = refused; unheard = it-waited.unheard }
+
+  not_lost_now : (x : Sent) → Contains (known_of old.log.part.own).sent x → IsNotLost old x → IsSpent stopped x ⊎ IsNotLost stopped x
+  not_lost_now x there (inl heard) = inr (inl heard)
+  not_lost_now x there (inr (inl waits)) = elim (contains_cons m rest waits.waiting (subst (λ l. Contains l waits.waiting) first waits.there)) [
+    | inl here ↦ inl (subst (IsSpent stopped) (the-one x there (ap (λ (p : Posted). p.number) here ∙ waits.is)) it-is-spent)
     | inr behind ↦ inr (inr (inl (record { waiting = waits.waiting; there = behind; is = waits.is })))
   ]
-  not_lost_now x (inr (inr knows)) = inr (inr (inr (record { evaluation = knows.evaluation; knows = Contains-append_left old.log.part.known note knows.evaluation knows.knows; of_it = knows.of_it })))
+  not_lost_now x there (inr (inr knows)) = inr (inr (inr (record { evaluation = knows.evaluation; knows = Contains-append_left old.log.part.known notes knows.evaluation knows.knows; of_it = knows.of_it })))
 
   pub ended_full : HasEnded old stopped
   ended_full = record {
-    known = λ x there. Contains-append_left old.log.part.known note x there;
+    known = λ x there. Contains-append_left old.log.part.known notes x there;
     rest = refl;
     limit = refl;
     end = inr (record {
-      range = m.range;
-      full = record {
-        entry = known_entry full.entry full.place 0;
-        knows = Contains-append_right old.log.part.known note (known_entry full.entry full.place 0) (subst (λ l. Contains l (known_entry full.entry full.place 0)) (sym full.tells) (contains_head (known_entry full.entry full.place 0) []));
-        full = record { entry = full.entry; place = full.place; tells = refl; whose = full.whose; many = full.many };
-      };
       message = as_sent m;
       sent = it-waited.sent;
-      goes = refl;
-      unheard = it-waited.unheard;
-      others = all_from_contains (λ (x : Sent). (x.number ≡ m.number) ⊎ IsNotLost stopped x) (known_of old.log.part.own).sent
-          (λ x there. not_lost_now x (All-contains (IsNotLost old) (known_of old.log.part.own).sent x (not_lost old track) there));
+      spent = it-is-spent;
+      others = all_from_contains (λ (x : Sent). IsSpent stopped x ⊎ IsNotLost stopped x) (known_of old.log.part.own).sent
+          (λ x there. not_lost_now x there (All-contains (IsNotLost old) (known_of old.log.part.own).sent x (not_lost old track) there));
       waits = All-tail (WaitsUnheard (known_of old.log.part.own)) m rest all-waited;
       later = later;
     });
   }
 
 -- the desk from which the message was taken
-pub ended_at_range : {C : Type 0} (v d old : DeskMeaning C) (m : Posted) (note : List (KnownEntry Event)) → v ≡ d → KeepsTrack old → HasTakenFirst old d m → IsFullNote m.range d.range_limit note
-    → HasEnded old (record v { log = record v.log { part = told note v.log.part; stopped = true } })
-ended_at_range {C} v d old m note same track taken full =
-    subst (λ (x : DeskMeaning C). HasEnded old (record x { log = record x.log { part = told note x.log.part; stopped = true } })) (sym (same ∙ taken.rest))
-    (ended_full old m d.posted note track taken.first taken.later (subst (λ n. IsFullNote m.range n note) (ap (λ (x : DeskMeaning C). x.range_limit) taken.rest) full))
+ended-at_range : {C : Type 0} (d old : DeskMeaning C) (m : Posted) (notes : List (KnownEntry Event)) → KeepsTrack old → HasTakenFirst old d m → WasGivenBack d.range_limit (told notes d.log.part) (as_sent m)
+    → HasEnded old (record d { log = record d.log { part = told notes d.log.part; stopped = true } })
+ended-at_range {C} d old m notes track taken refused =
+    subst (λ (x : DeskMeaning C). WasGivenBack x.range_limit (told notes x.log.part) (as_sent m) → HasEnded old (record x { log = record x.log { part = told notes x.log.part; stopped = true } })) (sym taken.rest)
+    (λ r. ended_full old m d.posted notes track taken.first taken.later r) refused
 
--- as its code has it
-pub ended_refused : {C : Type 0} (v d old : DeskMeaning C) (m : Posted) (note : List (KnownEntry Event)) (mid after : LogMeaning C) → v ≡ d → Took note v.log mid → after ≡ record mid { stopped = true } → KeepsTrack old → HasTakenFirst old d m
-    → IsFullNote m.range d.range_limit note → HasEnded old (record v { log = after })
-ended_refused {C} v d old m note mid after same took halted track taken full =
-    subst (λ (l : LogMeaning C). HasEnded old (record v { log = l })) (sym (halted ∙ ap (λ (l : LogMeaning C). record l { stopped = true }) took.told_this)) (ended_at_range v d old m note same track taken full)
+-- The desk took what the range gave, and then the use of its message, and stopped.
+abbrev HasItBack : {C N : Type 0} {G : Ghosts N CommitWorld} → DeskMeaning C → List (KnownEntry Event) → Message N G → DeskMeaning C
+HasItBack d last message = record d { log = record d.log { part = told message.note.known (told last d.log.part); stopped = true } }
+
+taken-both : (known last more : List (KnownEntry Event)) → (known ++ last) ++ more ≡ known ++ (last ++ more)
+taken-both known last more = append_assoc known last more
+
+-- a range that is full is the cause
+pub halted_full : {C N : Type 0} {G : Ghosts N CommitWorld} (d after : DeskMeaning C) (m : Posted) (message : Message N G) (range : ℕ) (last : List (KnownEntry Event)) → after ≡ HasItBack d last message → 1 ≤ m.uses → range ≡ m.range → IsFullNote m.range d.range_limit last
+    → message.sender ≡ d.log.part.id → posting message.number message.range message.request (uses_left message.note.known) ≡ m → HasHalted d after (halts.Full (actors.Range range))
+halted_full {C} d after m message range last is some at full whose same =
+    let notes = last ++ message.note.known in
+    let refused = was_given_back d.range_limit (told notes d.log.part) m message last d.log.part.known refl full whose same some in
+    let knows : KnowsFull m.range d.range_limit (HasItBack d last message).log.part.known = subst (KnowsFull m.range d.range_limit) (sym (taken-both d.log.part.known last message.note.known)) refused.full in
+    subst (λ (x : DeskMeaning C). HasHalted d x (halts.Full (actors.Range range))) (sym is)
+    record { stopped = refl; head = refl; id = refl; cause = inr (m.range, ap actors.Range at, knows) }
+
+-- one message was given back, and the list has ended
+pub ended_refused : {C N : Type 0} {G : Ghosts N CommitWorld} (d after old : DeskMeaning C) (m : Posted) (message : Message N G) (last : List (KnownEntry Event)) → after ≡ HasItBack d last message → KeepsTrack old → HasTakenFirst old d m → 1 ≤ m.uses → IsFullNote m.range d.range_limit last
+    → message.sender ≡ d.log.part.id → posting message.number message.range message.request (uses_left message.note.known) ≡ m → HasEnded old after
+ended_refused {C} d after old m message last is track taken some full whose same =
+    let notes = last ++ message.note.known in
+    subst (HasEnded old) (sym (is ∙ ap (λ ks. record d { log = record d.log { part = record d.log.part { known = ks }; stopped = true } }) (taken-both d.log.part.known last message.note.known)))
+    (ended-at_range d old m notes track taken (was_given_back d.range_limit (told notes d.log.part) m message last d.log.part.known refl full whose same some))
 
 -- first messages were delivered, then the list ended
 pub ended_later : {C : Type 0} (old mid new : DeskMeaning C) (halt : Halt) → mid.log.stopped ≡ old.log.stopped → ((k : KnownEntry Event) → Contains old.log.part.known k → Contains mid.log.part.known k)

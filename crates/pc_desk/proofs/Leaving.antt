@@ -3,16 +3,21 @@ use Rattle.std.proofs.Common.{◌≡◌, ℕ, ◌<◌, All, Contains, List, [], 
 use Rattle.std.proofs.lemmas.List.{append-nil, append_assoc}
 use Rattle.std.proofs.lemmas.List.Elements.{All-contains, All-head, All-map, All-nil, All-push, All-tail, All-weaker, Contains-append_left, Contains-push}
 use Rattle.pc_base.specs.declared.actor.ActorId.{ActorId}
-use Rattle.pc_desk.specs.Desk.{DeskMeaning, HasTakenFirst, IsDesk, IsReadyToGo, Posted, WaitingMessage, waiting_as}
+use Rattle.pc_desk.specs.Desk.{DeskMeaning, HasTakenFirst, IsDesk, IsReadyToGo, Posted, WaitingMessage, posting, waiting_as}
+use Rattle.pc_desk.proofs.Refusing.{given_back}
+use Rattle.pc_desk.specs.Refused.{GivesBack}
 use Rattle.pc_desk.specs.Rest.{HasOnlyLearnt, IsEvaluatedIn, IsFirstOf, StopsAt}
+use Rattle.pc_history.specs.declared.named.Named.{Ghosts}
 use Rattle.pc_history.specs.declared.view.Known.{Known as KnownEntry}
 use Rattle.pc_history.specs.declared.view.Part.{Part}
 use Rattle.pc_history.specs.Meanings.{ActorMeaning}
-use Rattle.pc_history.specs.Parts.{told}
+use Rattle.pc_history.specs.Parts.{told, uses_left}
 use Rattle.pc_lists.proofs.Lists.{all_from_contains, contains_head, contains_map, contains_tail}
 use Rattle.pc_proto.specs.declared.event.Event.{Event}
 use Rattle.pc_proto.specs.declared.reply.Reply.{Reply}
 use Rattle.pc_range.specs.Cell.{IsFullAt}
+use Rattle.pc_range.specs.declared.commit_world.CommitWorld.{CommitWorld}
+use Rattle.pc_range.specs.declared.message.Message.{Message}
 use Rattle.pc_range.specs.declared.message.ServeFault.{ServeFault}
 use Rattle.pc_range.specs.Message.{IsEvalNote, evaluation}
 use Rattle.pc_wire.specs.declared.verdict.Verdict.{Verdict}
@@ -83,17 +88,20 @@ pub first_of_rest : {Y : Type 0} (v : List WaitingMessage) (g : Y → WaitingMes
 first_of_rest v g ws rest y key sender verdict posted same whole is rises = record { key = key; verdict = verdict; whole = sym same ∙ (ap (map g) whole ∙ ap (λ w. w ∷ map g rest) is); rises = All-map (λ (w : WaitingMessage). key < w.key) g rest rises }
 
 -- the first of those that are left was refused
-pub stopped_at : {N : Type 0} (splits : List (List ℕ)) (limit : ℕ) (all left after : List WaitingMessage) (before now : ActorMeaning Head Event) (sender : ActorId) (posted : Posted) (fault : ServeFault N)
-    → IsUnderWay splits all left before now → IsFirstOf left after sender posted → IsFullAt posted.range limit fault → StopsAt limit all now.part fault
-stopped_at splits limit all left after before now sender posted fault under f full = record {
-  done = under.done;
-  refused = waiting_as f.key sender f.verdict posted;
-  behind = after;
-  whole = under.whole ∙ ap (λ l. under.done ++ l) f.whole;
-  evaluated = under.evaluated;
-  rises = f.rises;
-  full = full;
-}
+pub stopped_at : {N : Type 0} {G : Ghosts N CommitWorld} (splits : List (List ℕ)) (limit : ℕ) (all left after : List WaitingMessage) (before now : ActorMeaning Head Event) (msg : Message N G) (fault : ServeFault N G)
+    → IsUnderWay splits all left before now → IsFirstOf left after msg.sender (posting msg.number msg.range msg.request (uses_left msg.note.known)) → IsFullAt msg.range limit msg fault → StopsAt limit all now.part fault
+stopped_at splits limit all left after before now msg fault under f full =
+    let posted = posting msg.number msg.range msg.request (uses_left msg.note.known) in
+    let was : now.part.id ≡ before.part.id = ap (λ (a : ActorMeaning Head Event). a.part.id) under.learnt.rest in
+    record {
+      done = under.done;
+      refused = waiting_as f.key msg.sender f.verdict posted;
+      behind = after;
+      whole = under.whole ∙ ap (λ l. under.done ++ l) f.whole;
+      evaluated = under.evaluated;
+      rises = f.rises;
+      gives = subst (λ i. GivesBack limit i posted fault) ((first_ready splits all left after before now msg.sender posted under f).whose ∙ sym was) (given_back limit msg fault full);
+    }
 
 -- the first of the outbox was taken from it
 pub taken_first : {C Y : Type 0} (v old : DeskMeaning C) (splits : List (List ℕ)) (g : Y → WaitingMessage) (ws rest : List Y) (y : Y) → v ≡ old → v.posted ≡ map (λ x. (g x).posted) ws → ws ≡ y ∷ rest → IsDesk splits v.log (map g ws) → All (λ z. (g y).key < (g z).key) rest

@@ -9,6 +9,7 @@ pub mod Places
 pub mod Halting
 pub mod Going
 pub mod Desking
+pub mod Refusing
 pub mod Leaving
 pub mod Ending
 pub mod Stopping

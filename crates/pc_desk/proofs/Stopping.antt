@@ -1,5 +1,5 @@
 -- An actor whose list stops with one last entry: its messages stand as they would if the list went on.
-use Rattle.std.proofs.Common.{◌≡◌, ℕ, ◌+◌, ◌-◌, ◌≤◌, Bool, inr, true, false, cond, ◌==◌, All, Contains, List, [], ◌∷◌, ◌++◌, length, map, Option, Some, None, Result, Ok, Err, IfErr, IfOk, refl, sym, ap, subst, ◌∙◌, arith}
+use Rattle.std.proofs.Common.{◌≡◌, ℕ, ◌+◌, ◌-◌, ◌≤◌, Bool, inr, true, false, cond, Contains, List, [], ◌∷◌, length, Option, Some, None, Result, Ok, Err, IfErr, refl, sym, ap, subst, ◌∙◌}
 use Rattle.std.proofs.lemmas.List.Elements.{All-weaker}
 use Rattle.pc_base.specs.declared.entry.Entry.{Entry}
 use Rattle.pc_desk.proofs.Desking.{ends_with_send, has_done, has_heard, has_sent, sent_below, there_still}
@@ -8,15 +8,14 @@ use Rattle.pc_desk.proofs.Entering.{log_kept}
 use Rattle.pc_desk.specs.declared.answered.Answered.{Answered}
 use Rattle.pc_desk.specs.declared.halt.Halt.{Halt}
 use Rattle.pc_desk.specs.declared.halt.Halt.TheVariants as halts
-use Rattle.pc_desk.specs.Desk.{DeskMeaning, EndsWithSend, HasHalted, HasPosted, HasSentNext, IsAnsweredBy, KeepsTrack}
-use Rattle.pc_desk.specs.Ending.{EndsBy, EndsOnly, HasEnded, HasMadeLast, IsAtStop}
-use Rattle.pc_desk.specs.OwnLog.{HasEntered, HasMadeEntry, HasStopped, IsHalt, IsOwnLog, LogMeaning, with_event}
+use Rattle.pc_desk.specs.Desk.{DeskMeaning, EndsWithSend, HasHalted, HasPosted, IsAnsweredBy, KeepsTrack}
+use Rattle.pc_desk.specs.Ending.{EndsBy, EndsOnly, HasMadeLast, IsAtStop}
+use Rattle.pc_desk.specs.OwnLog.{HasEntered, HasMadeEntry, HasStopped, IsOwnLog, LogMeaning, with_event}
 use Rattle.pc_follows.specs.WaveEvaluation.{IsSending}
 use Rattle.pc_follows.specs.WaveOrder.{IsHearing}
 use Rattle.pc_history.specs.declared.pair.Pair.{Pair}
-use Rattle.pc_history.specs.declared.view.Known.{Known as KnownEntry}
 use Rattle.pc_history.specs.Own.{pair}
-use Rattle.pc_history.specs.Parts.{acted, entry_of, gave, knowledge, named_by, spend}
+use Rattle.pc_history.specs.Parts.{acted, entry_of, gave, named_by, spend}
 use Rattle.pc_proto.specs.declared.event.Event.{Event}
 use Rattle.pc_proto.specs.declared.event.Event.TheVariants as events
 use Rattle.pc_proto.specs.declared.request.Request.{Request}

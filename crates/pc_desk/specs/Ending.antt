@@ -3,7 +3,8 @@
 use Rattle.std.specs.Prelude.{◌≡◌, ℕ, ◌<◌, true, false, ◌⊎◌, Some, List, [], ◌∷◌, ◌++◌, length, All, Contains, IsTrue, ⊤}
 use Rattle.pc_desk.specs.declared.halt.Halt.{Halt}
 use Rattle.pc_desk.specs.declared.halt.Halt.TheVariants as halts
-use Rattle.pc_desk.specs.Desk.{DeskMeaning, KeepsTrack, KnowsFull, Posted, as_sent}
+use Rattle.pc_desk.specs.Desk.{DeskMeaning, KeepsTrack, Posted, as_sent}
+use Rattle.pc_desk.specs.Refused.{WasGivenBack}
 use Rattle.pc_history.specs.declared.pair.Pair.{Pair}
 use Rattle.pc_history.specs.declared.view.Known.{Known as KnownEntry}
 use Rattle.pc_history.specs.declared.view.Part.{Part}
@@ -47,16 +48,18 @@ pub record IsAtStop {C : Type 0} (d : DeskMeaning C) : Type 0 where
   pub each : All (IsNotLost d) (known_of d.log.part.own).sent
   pub waits : All (WaitsUnheard (known_of d.log.part.own)) d.posted
 
--- A range has as many entries as it may have, and a message to it was not heard. No other message was lost, and those that wait to be
--- evaluated were sent later.
+-- The message is spent: its range, which is full, refused it, so it is never evaluated, and no reply to it was heard.
+pub record IsSpent {C : Type 0} (d : DeskMeaning C) (m : Sent) : Type 0 where
+  pub refused : WasGivenBack d.range_limit d.log.part m
+  pub unheard : is_heard (known_of d.log.part.own).heard m ≡ false
+
+-- A range has as many entries as it may have, and refused this message. No message was lost but those that are spent so, and those that wait
+-- to be evaluated were sent later.
 pub record IsAtFullRange {C : Type 0} (d : DeskMeaning C) : Type 0 where
-  pub range : ℕ
-  pub full : KnowsFull range d.range_limit d.log.part.known
   pub message : Sent
   pub sent : Contains (known_of d.log.part.own).sent message
-  pub goes : message.range ≡ range
-  pub unheard : is_heard (known_of d.log.part.own).heard message ≡ false
-  pub others : All (λ m. (m.number ≡ message.number) ⊎ IsNotLost d m) (known_of d.log.part.own).sent
+  pub spent : IsSpent d message
+  pub others : All (λ m. IsSpent d m ⊎ IsNotLost d m) (known_of d.log.part.own).sent
   pub waits : All (WaitsUnheard (known_of d.log.part.own)) d.posted
   pub later : All (λ p. message.number < p.number) d.posted
 

@@ -8,5 +8,6 @@ pub mod OwnLog
 pub mod Commits
 pub mod Waiting
 pub mod Desk
+pub mod Refused
 pub mod Ending
 pub mod Rest

@@ -2,12 +2,14 @@
 use Rattle.std.specs.Prelude.{◌≡◌, ℕ, ◌<◌, List, ◌∷◌, ◌++◌, All, Contains}
 use Rattle.pc_base.specs.declared.actor.ActorId.{ActorId}
 use Rattle.pc_desk.specs.Desk.{Posted, WaitingMessage, waiting_as}
+use Rattle.pc_desk.specs.Refused.{GivesBack}
+use Rattle.pc_history.specs.declared.named.Named.{Ghosts}
 use Rattle.pc_history.specs.declared.view.Known.{Known as KnownEntry}
 use Rattle.pc_history.specs.declared.view.Part.{Part}
 use Rattle.pc_history.specs.Meanings.{ActorMeaning}
 use Rattle.pc_proto.specs.declared.event.Event.{Event}
 use Rattle.pc_proto.specs.declared.reply.Reply.{Reply}
-use Rattle.pc_range.specs.Cell.{IsFullAt}
+use Rattle.pc_range.specs.declared.commit_world.CommitWorld.{CommitWorld}
 use Rattle.pc_range.specs.declared.message.ServeFault.{ServeFault}
 use Rattle.pc_range.specs.Message.{evaluation}
 use Rattle.pc_wire.specs.declared.verdict.Verdict.{Verdict}
@@ -32,12 +34,13 @@ pub record IsEvaluatedIn (part : Part Event) (w : WaitingMessage) : Type 0 where
   pub place : ℕ
   pub knows : Contains part.known (record { entry = evaluation step w.posted.range part.id w.posted.number reply; place = place; uses = 0 })
 
--- Of these messages those before one were evaluated, and that one was refused, its range being full; those behind it have greater numbers.
-pub record StopsAt {N : Type 0} (limit : ℕ) (all : List WaitingMessage) (part : Part Event) (fault : ServeFault N) : Type 0 where
+-- Of these messages those before one were evaluated, and that one was refused and given back, its range being full; those behind it have
+-- greater numbers.
+pub record StopsAt {N : Type 0} {G : Ghosts N CommitWorld} (limit : ℕ) (all : List WaitingMessage) (part : Part Event) (fault : ServeFault N G) : Type 0 where
   pub done : List WaitingMessage
   pub refused : WaitingMessage
   pub behind : List WaitingMessage
   pub whole : all ≡ done ++ refused ∷ behind
   pub evaluated : All (IsEvaluatedIn part) done
   pub rises : All (λ w. refused.key < w.key) behind
-  pub full : IsFullAt refused.posted.range limit fault
+  pub gives : GivesBack limit part.id refused.posted fault

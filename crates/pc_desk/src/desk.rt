@@ -1,4 +1,4 @@
-ghost use Rattle.std.specs.Prelude.{◌≡◌, ℕ, ◌+◌, ◌-◌, ◌<◌, ◌≤◌, ◌^◌, [], ◌∷◌, length, map, All, IfErr, IfOk, IfNone, IfSome, OnErr, OnOk};
+ghost use Rattle.std.specs.Prelude.{◌≡◌, ℕ, ◌+◌, ◌-◌, ◌<◌, ◌≤◌, ◌^◌, [], ◌∷◌, true, length, map, All, IfErr, IfOk, IfNone, IfSome, OnErr, OnOk};
 ghost use Rattle.pc_base.specs.Rising.{AreRising};
 ghost use Rattle.pc_desk.specs.declared.halt.Halt.TheVariants as halts;
 ghost use Rattle.pc_desk.specs.Commits.{IsCommitPlace};
@@ -6,12 +6,12 @@ ghost use Rattle.pc_desk.specs.Desk.{DeskMeaning, EndsWithSend, HasDelivered, Ha
 ghost use Rattle.pc_desk.specs.Ending.{EndsOnly};
 ghost use Rattle.pc_desk.specs.Keeping.{ReadsEach};
 ghost use Rattle.pc_desk.specs.OwnLog.{HasMadeEntry, IsNoRange, IsOwnLog, MayEnter};
+ghost use Rattle.pc_desk.specs.Refused.{GivesBack};
 ghost use Rattle.pc_desk.specs.Waiting.{IsBehindAll, IsNewest};
 ghost use Rattle.pc_history.specs.Own.{entries_of};
 ghost use Rattle.pc_history.specs.Parts.{newcomer, noted, told, with_uses, without_uses};
 ghost use Rattle.pc_proto.specs.declared.event.Event.TheVariants as events;
 ghost use Rattle.pc_proto.specs.Stamps.{request_stamps};
-ghost use Rattle.pc_range.specs.Cell.{IsFullAt};
 ghost use Rattle.pc_world.specs.Known.{known_of};
 ghost use Rattle.pc_wire.specs.declared.verdict.Verdict.TheVariants as verdicts;
 ghost use Rattle.pc_world.specs.Local.{IsActorOf, MayAsk};
@@ -402,23 +402,35 @@ impl<'a, N: Named<CommitWorld>, C: Clock, V: Wire, G: Gate> Desk<'a, N, C, V, G>
         }
     }
 
-    /// Stops where a range refused a message.
+    /// Stops where a range refused a message. It has the use of a message back that a full range gave back: that one is never evaluated.
     fn refused(&mut self, fault: ServeFault<N>) -> Halt
-        requires { (range : ℕ) × IsFullAt range self.old.range_limit fault }
+        requires { (m : Posted) × (1 ≤ m.uses) × GivesBack self.old.range_limit self.old.log.part.id m fault }
         ensures halted { HasHalted self.old self.new result }
         ensures clock { self.new.log.clock ≡ self.old.log.clock }
-        ensures ended { (old : DeskMeaning C) (m : Posted) → KeepsTrack old → HasTakenFirst old self.old m → IsFullAt m.range self.old.range_limit fault → EndsOnly (λ made. ⊥) old self.new result }
+        ensures ended { (old : DeskMeaning C) (m : Posted) → KeepsTrack old → HasTakenFirst old self.old m → 1 ≤ m.uses → GivesBack self.old.range_limit self.old.log.part.id m fault → EndsOnly (λ made. ⊥) old self.new result }
     {
         match fault {
-            ServeFault::Full { range, last } => {
-                self.log.take(last);
-                self.log.halt();
+            ServeFault::Full {
+                range,
+                last,
+                message,
+            } => {
+                self.have_back(last, message);
                 Halt::Full {
                     actor: ActorId::Range(range),
                 }
             }
             ServeFault::NoMemory => self.want_memory(),
         }
+    }
+
+    /// Knows the last entry of a range that gave the message back, has its use back, and makes no more entries.
+    fn have_back(&mut self, last: Note<CommitWorld, N>, message: Message<N>)
+        ensures { self.new ≡ record self.old { log = record self.old.log { part = told message.note.known (told last.known self.old.log.part); stopped = true } } }
+    {
+        self.log.take(last);
+        self.log.take(message.note);
+        self.log.halt();
     }
 
     /// Hears the reply that has waited longest, if there is one. All messages are evaluated by then.

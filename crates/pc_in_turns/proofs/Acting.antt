@@ -69,7 +69,7 @@ module _ {C : Type 0} (rule : C → ℕ → ℕ → Bool) (index : ℕ) where
 
     pub learnt_now : (id : TxnId) (given : Bool) → HasMoved (LearnsInTurn s id given) s now → (given ≡ false → OwnerWasUntold id old.sessions) → HasActed rule AsksInTurn index old (record t { sessions = slice_set t.sessions index now })
     learnt_now id given moved untold =
-        acted AsksInTurn (record { part = moved.part; by = moved.by; is = λ full says. (moved.is full says).0 })
+        acted AsksInTurn (record { part = moved.part; by = moved.by; is = λ held says. (moved.is held says).0 })
         (learn_learns old.sessions index s now id given at (number_at old index s in_turns at) moved untold)
 
 -- a task, by the name that its code has for it

@@ -23,11 +23,11 @@ use Rattle.pc_lists.proofs.Lists.{get_append, length_set}
 use Rattle.pc_proto.specs.declared.event.Event.{Event}
 use Rattle.pc_runs.specs.Learning.{LearnInOrder, LearnsNext}
 use Rattle.pc_rounds.specs.Counted.{CountedMeaning, entries_made}
-use Rattle.pc_runs.specs.Runners.{AreRunners, HaveClocks, IsRunnerIn, SaysAllFull, head_in_work}
+use Rattle.pc_runs.specs.Runners.{AreRunners, HaveClocks, IsRunnerIn, SaysAllHeldUp, head_in_work}
 use Rattle.pc_script.specs.Clocks.{clock_rule}
-use Rattle.pc_scripted.proofs.Going.{says_before}
+use Rattle.pc_scripted.proofs.Going.{same_actor, says_before}
 use Rattle.pc_scripted.proofs.Passing.{each_join}
-use Rattle.pc_scripted.specs.Ended.{SaysFull}
+use Rattle.pc_scripted.specs.Ended.{SaysHeldUp}
 use Rattle.pc_scripted.specs.Scripted.{IsScripted, ScriptedMeaning, own_list, own_number}
 use Rattle.pc_scripted.specs.Taking.{HasMoved}
 use Rattle.pc_turns.proofs.Shares.{session_at}
@@ -36,6 +36,7 @@ use Rattle.pc_turns.specs.Shares.{AreShares, IsClientOf, client_at}
 use Rattle.pc_work.specs.declared.session.SessionWork.{SessionWork}
 use Rattle.pc_work.specs.declared.workload.Workload.{Workload}
 use Rattle.pc_world.specs.Local.{Head}
+use Rattle.pc_world.specs.Known.Traffic.{Sent}
 
 -- a client is no session but one of these
 no-other : (head : Head) (id : ActorId) → IsClientOf head id → IsNoOtherSession head.sessions id
@@ -97,16 +98,18 @@ module _ {C : Type 0} (rule : C → ℕ → ℕ → Bool) (task : Task) (index :
   still_runners : AreRunners old.work after
   still_runners = runners_set old.work old.sessions index now in_turns.runners within (runner_moved old.work index (told_of note s) now told_runner moved.part moved.by)
 
-  still_know : (full : ℕ → Bool) → SaysAllFull full after → SaysAllFull full old.sessions
-  still_know full says other x got = by (cases_eq other index)
+  still_know : (held : ActorId → Sent → Bool) → SaysAllHeldUp held after → SaysAllHeldUp held old.sessions
+  still_know held says other x got = by (cases_eq other index)
     where
-      mine : SaysFull full s.session.desk
+      mine : SaysHeldUp (held (actors.Session (index + 1))) s.session.desk
       mine =
-          says_before full s.session.desk now.session.desk moved.by.same.range_limit (λ k c. moved.by.known k (Contains-append_left s.session.desk.log.part.known note k c))
+          says_before (held (actors.Session (index + 1))) s.session.desk now.session.desk moved.by.same.range_limit (same_actor (told_of note s) now moved.part scripted moved.by) (λ k c. moved.by.known k (Contains-append_left s.session.desk.log.part.known note k c))
           (says index now (get_set_same old.sessions index now within))
 
-      by : (other ≡ index) ⊎ (other ≢ index) → SaysFull full x.session.desk
-      by (inl same) = subst (λ (y : ScriptedMeaning C). SaysFull full y.session.desk) (same_some (slice_get old.sessions index) s x at (subst (λ n. slice_get old.sessions n ≡ Some x) same got)) mine
+      by : (other ≡ index) ⊎ (other ≢ index) → SaysHeldUp (held (actors.Session (other + 1))) x.session.desk
+      by (inl same) =
+          subst (λ n. SaysHeldUp (held (actors.Session (n + 1))) x.session.desk) (sym same)
+          (subst (λ (y : ScriptedMeaning C). SaysHeldUp (held (actors.Session (index + 1))) y.session.desk) (same_some (slice_get old.sessions index) s x at (subst (λ n. slice_get old.sessions n ≡ Some x) same got)) mine)
       by (inr differ) = says other x (get_set_other old.sessions index other now differ ∙ got)
 
   still_clocks : (rules : ActorId → ℕ → ℕ → Bool) → HaveClocks rule rules old.work old.sessions → HaveClocks rule rules old.work after
@@ -148,14 +151,14 @@ module _ {C : Type 0} (rule : C → ℕ → ℕ → Bool) (task : Task) (index :
   moved_on inside grew rested = record {
     in_turns = record { some = in_turns.some; runners = still_runners; recoverers = in_turns.recoverers; there = subst (λ n. last < n + length old.recoverers) (sym (length_set old.sessions index now)) inside };
     work = refl;
-    knows = λ full says. record { sessions = still_know full says.sessions; recoverers = says.recoverers };
+    knows = λ held says. record { sessions = still_know held says.sessions; recoverers = says.recoverers };
     clocks = λ rules have. record { sessions = still_clocks rules have.sessions; recoverers = have.recoverers };
     goes = λ order made. (
       moved.part,
       record { shares = still_shares order made; learns = still_learns order made; made = still_last order made grew rested },
-      λ full says.
-          task_among old.work index (told_of note s) told_runner full order moved.part ((entries_are old in_turns order made).each index s at) task
-          (moved.is full (says.sessions index now (get_set_same old.sessions index now within))),
+      λ held says.
+          task_among old.work index (told_of note s) told_runner held order moved.part ((entries_are old in_turns order made).each index s at) task
+          (moved.is (held (actors.Session (index + 1))) (says.sessions index now (get_set_same old.sessions index now within))),
     );
   }
 

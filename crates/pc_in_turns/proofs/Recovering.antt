@@ -19,12 +19,12 @@ use Rattle.pc_rounds.specs.Counted.{AsksOnlyRounds, CountedMeaning, GoesInRounds
 use Rattle.pc_runs.proofs.Learnless.{rounds_learn_nothing}
 use Rattle.pc_runs.specs.Learning.{LearnInOrder, LearnsNext}
 use Rattle.pc_runs.specs.Order.{recoverer_stop, rounds_in_work, rounds_of_work}
-use Rattle.pc_runs.specs.Recoverers.{AreRecoverers, HaveRecovererClocks, IsRecovererIn, RecoverersSayFull}
+use Rattle.pc_runs.specs.Recoverers.{AreRecoverers, HaveRecovererClocks, IsRecovererIn, RecoverersSayHeldUp}
 use Rattle.pc_runs.specs.Runners.{head_in_work}
 use Rattle.pc_script.specs.Clocks.{clock_rule}
 use Rattle.pc_scripted.proofs.Going.{says_before}
 use Rattle.pc_scripted.proofs.Passing.{each_join}
-use Rattle.pc_scripted.specs.Ended.{SaysFull, list_has_ended}
+use Rattle.pc_scripted.specs.Ended.{SaysHeldUp, list_has_ended}
 use Rattle.pc_scripted.specs.Scripted.{ScriptedMeaning, own_list}
 use Rattle.pc_turns.proofs.Shares.{recoverer_at}
 use Rattle.pc_turns.specs.Clients.{share_of}
@@ -33,6 +33,7 @@ use Rattle.pc_turns.specs.Shares.{AreShares, client_at}
 use Rattle.pc_work.specs.declared.recoverer.RecovererWork.{RecovererWork}
 use Rattle.pc_work.specs.declared.turn.Turn.TheVariants as turns
 use Rattle.pc_work.specs.declared.workload.Workload.{Workload}
+use Rattle.pc_world.specs.Known.Traffic.{Sent}
 
 -- it has made a round
 recoverer_moved : {C : Type 0} (work : Workload) (index : ℕ) (r now : CountedMeaning C) (part : List (Pair Event)) → IsRecovererIn work index r → HasGoneInRounds r now part → IsRecovererIn work index now
@@ -123,16 +124,18 @@ module _ {C : Type 0} (rule : C → ℕ → ℕ → Bool) (index : ℕ) (old : T
   still_recoverers : AreRecoverers old.work after
   still_recoverers = recoverers_set old.work old.recoverers index now in_turns.recoverers within (recoverer_moved old.work index (taught_of note r) now made.part taught made.by)
 
-  still_know : (full : ℕ → Bool) → RecoverersSayFull full after → RecoverersSayFull full old.recoverers
-  still_know full says other x got = by (cases_eq other index)
+  still_know : (held : ActorId → Sent → Bool) → RecoverersSayHeldUp held after → RecoverersSayHeldUp held old.recoverers
+  still_know held says other x got = by (cases_eq other index)
     where
-      mine : SaysFull full r.recoverer.desk
+      mine : SaysHeldUp (held (actors.Recoverer (index + 1))) r.recoverer.desk
       mine =
-          says_before full r.recoverer.desk now.recoverer.desk made.by.same.range_limit (λ k c. made.by.known k (Contains-append_left r.recoverer.desk.log.part.known note k c))
+          says_before (held (actors.Recoverer (index + 1))) r.recoverer.desk now.recoverer.desk made.by.same.range_limit (made.by.counted.id ∙ (ap actors.Recoverer made.by.same.number ∙ sym counted.id)) (λ k c. made.by.known k (Contains-append_left r.recoverer.desk.log.part.known note k c))
           (says index now (get_set_same old.recoverers index now within))
 
-      by : (other ≡ index) ⊎ (other ≢ index) → SaysFull full x.recoverer.desk
-      by (inl same) = subst (λ (y : CountedMeaning C). SaysFull full y.recoverer.desk) (same_some (slice_get old.recoverers index) r x at (subst (λ n. slice_get old.recoverers n ≡ Some x) same got)) mine
+      by : (other ≡ index) ⊎ (other ≢ index) → SaysHeldUp (held (actors.Recoverer (other + 1))) x.recoverer.desk
+      by (inl same) =
+          subst (λ n. SaysHeldUp (held (actors.Recoverer (n + 1))) x.recoverer.desk) (sym same)
+          (subst (λ (y : CountedMeaning C). SaysHeldUp (held (actors.Recoverer (index + 1))) y.recoverer.desk) (same_some (slice_get old.recoverers index) r x at (subst (λ n. slice_get old.recoverers n ≡ Some x) same got)) mine)
       by (inr differ) = says other x (get_set_other old.recoverers index other now differ ∙ got)
 
   still_clocks : (rules : ActorId → ℕ → ℕ → Bool) → HaveRecovererClocks rule rules old.work old.recoverers → HaveRecovererClocks rule rules old.work after
@@ -176,27 +179,27 @@ module _ {C : Type 0} (rule : C → ℕ → ℕ → Bool) (index : ℕ) (old : T
         subst (λ (lists : List (List (Pair Event))). MadeLast lists last (order ++ made.part)) lists-now
         (last_on (lists_in old) order made.part place old.last last (entries_made r) (entries_made now) (recoverer_list old in_turns index r at) made.by.own before.made grew rested)
 
-    taken : (full : ℕ → Bool) → SaysFull full now.recoverer.desk → TakesTurn old.work (turns.Recoverer (index + 1)) full order made.part
-    taken full says =
-        let M : ℕ → Option ℕ → ℕ → ℕ → List (Pair Event) → Type 0 = λ limit stop rounds number own. MakesRoundAfter (list_has_ended limit stop full) rounds number own made.part in
+    taken : (held : ActorId → Sent → Bool) → SaysHeldUp (held (actors.Recoverer (index + 1))) now.recoverer.desk → TakesTurn old.work (turns.Recoverer (index + 1)) held order made.part
+    taken held says =
+        let M : ℕ → Option ℕ → ℕ → ℕ → List (Pair Event) → Type 0 = λ limit stop rounds number own. MakesRoundAfter (list_has_ended limit stop (held (actors.Recoverer (index + 1)))) rounds number own made.part in
         let stop = recoverer_stop (slice_get old.work.recoverers ((index + 1) - 1)) in
         subst (λ own. M old.work.limit stop (rounds_in_work old.work (index + 1)) (index + 1) own) (sym mine)
         (subst (λ n. M old.work.limit stop (rounds_in_work old.work (index + 1)) n (entries_made r)) runner.number
         (subst (λ n. M old.work.limit stop n r.recoverer.number (entries_made r)) (rounds_are old.work index r runner)
         (subst (λ (o : Option ℕ). M old.work.limit o r.rounds r.recoverer.number (entries_made r)) (stop_is old.work index r runner)
-        (subst (λ l. M l r.recoverer.desk.log.stop r.rounds r.recoverer.number (entries_made r)) runner.limit (made.is full says)))))
+        (subst (λ l. M l r.recoverer.desk.log.stop r.rounds r.recoverer.number (entries_made r)) runner.limit (made.is (held (actors.Recoverer (index + 1))) says)))))
 
   pub rounded_on : last < length old.sessions + length old.recoverers → (length (entries_made r) < length (entries_made now) → last ≡ length old.sessions + index) → (length (entries_made now) ≤ length (entries_made r) → last ≡ old.last)
       → HaveGoneOn rule (TakesTurn old.work (turns.Recoverer (index + 1))) old new
   rounded_on inside grew rested = record {
     in_turns = record { some = in_turns.some; runners = in_turns.runners; recoverers = still_recoverers; there = subst (λ n. last < length old.sessions + n) (sym (length_set old.recoverers index now)) inside };
     work = refl;
-    knows = λ full says. record { sessions = says.sessions; recoverers = still_know full says.recoverers };
+    knows = λ held says. record { sessions = says.sessions; recoverers = still_know held says.recoverers };
     clocks = λ rules have. record { sessions = have.sessions; recoverers = still_clocks rules have.recoverers };
     goes = λ order before. (
       made.part,
       record { shares = still_shares order before; learns = still_learns order before; made = still_last order before grew rested },
-      λ full says. taken order before full (says.recoverers index now (get_set_same old.recoverers index now within)),
+      λ held says. taken order before held (says.recoverers index now (get_set_same old.recoverers index now within)),
     );
   }
 

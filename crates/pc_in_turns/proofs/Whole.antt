@@ -30,6 +30,7 @@ use Rattle.pc_work.specs.declared.session.SessionWork.{SessionWork}
 use Rattle.pc_work.specs.declared.turn.Turn.{Turn}
 use Rattle.pc_work.specs.declared.turn.Turn.TheVariants as turns
 use Rattle.pc_work.specs.declared.workload.Workload.{Workload}
+use Rattle.pc_world.specs.Known.Traffic.{Sent}
 
 -- the workload has a session of each index that a runner has
 session-of : {C : Type 0} (t : TurnsMeaning C) → AreInTurns t → (index : ℕ) → index < length t.sessions → (session : SessionWork) × (slice_get t.work.sessions index ≡ Some session)
@@ -43,10 +44,10 @@ module _ {C : Type 0} (rule : C → ℕ → ℕ → Bool) (old : TurnsMeaning C)
   pub opened : (new : TurnsMeaning C) → HaveGoneOn rule (IsTask old.work (tasks.Open old.work.opening) 0) old new → HaveGoneOn rule (IsOpening old.work) old new
   opened new gone = gone_so rule (IsTask old.work (tasks.Open old.work.opening) 0) (IsOpening old.work) old new turned gone
     where
-      turned : (full : ℕ → Bool) (before part : List (Pair Event)) → IsTask old.work (tasks.Open old.work.opening) 0 full before part → IsOpening old.work full before part
-      turned full before part is =
+      turned : (held : ActorId → Sent → Bool) (before part : List (Pair Event)) → IsTask old.work (tasks.Open old.work.opening) 0 held before part → IsOpening old.work held before part
+      turned held before part is =
           let w = session-of old in_turns 0 first in
-          subst (λ (o : Option SessionWork). GoesByItself (next_in_work old.work) (ended_in_work old.work full) 1 (λ order. is_opening_over old.work.opening old.work.reruns o order) before part) (sym w.1) (is w.0 w.1)
+          subst (λ (o : Option SessionWork). GoesByItself (next_in_work old.work) (ended_in_work old.work held) 1 (λ order. is_opening_over old.work.opening old.work.reruns o order) before part) (sym w.1) (is w.0 w.1)
 
   -- a session takes its turn
   pub took_call : (new : TurnsMeaning C) (number : ℕ) → 1 ≤ number → HaveGoneOn rule (IsTask old.work tasks.Call (number - 1)) old new → HaveGoneOn rule (TakesTurn old.work (turns.Session number)) old new
@@ -72,14 +73,14 @@ module _ {C : Type 0} (rule : C → ℕ → ℕ → Bool) (old : TurnsMeaning C)
   is_there number h = let many = in_turns.runners.many in let from = h.0 in let to = h.1 in omega arith
 
   -- the sessions are as many as before
-  pub as_many : {Is : (ℕ → Bool) → List (Pair Event) → List (Pair Event) → Type 0} (new : TurnsMeaning C) → HaveGoneOn rule Is old new → length new.sessions ≡ length old.work.sessions
+  pub as_many : {Is : (ActorId → Sent → Bool) → List (Pair Event) → List (Pair Event) → Type 0} (new : TurnsMeaning C) → HaveGoneOn rule Is old new → length new.sessions ≡ length old.work.sessions
   as_many new gone = gone.in_turns.runners.many ∙ ap (λ (w : Workload). length w.sessions) gone.work
 
   -- one more turn
   pub took_next : (mid new : TurnsMeaning C) (done : List Turn) (turn : Turn) → HaveGoneOn rule (TakeTurns old.work done) old mid → HaveGoneOn rule (TakesTurn mid.work turn) mid new → HaveGoneOn rule (TakeTurns old.work (done ++ turn ∷ [])) old new
   took_next mid new done turn a b =
       gone_then rule (TakeTurns old.work done) (TakesTurn old.work turn) (TakeTurns old.work (done ++ turn ∷ [])) old mid new
-      (λ full before part more is then. taken_next (next_in_work old.work) (ended_in_work old.work full) (recoverer_ended_in_work old.work full) (rounds_in_work old.work) done turn before part more is then) a
+      (λ held before part more is then. taken_next (next_in_work old.work) (ended_in_work old.work held) (recoverer_ended_in_work old.work held) (rounds_in_work old.work) done turn before part more is then) a
       (subst (λ (w : Workload). HaveGoneOn rule (TakesTurn w turn) mid new) a.work b)
 
   pub took_at : (mid new : TurnsMeaning C) (stated : List Turn) (i : ℕ) (d : Turn) → i < length stated → HaveGoneOn rule (TakeTurns old.work (take i stated)) old mid → HaveGoneOn rule (TakesTurn mid.work (get_or stated i d)) mid new
@@ -92,11 +93,11 @@ module _ {C : Type 0} (rule : C → ℕ → ℕ → Bool) (old : TurnsMeaning C)
   took_all new stated i le a = subst (λ ts. HaveGoneOn rule (TakeTurns old.work ts) old new) (take-all i stated le) a
 
   pub took_none : (stated : List Turn) → HaveGoneOn rule (TakeTurns old.work (take 0 stated)) old old
-  took_none stated = gone_nowhere rule (TakeTurns old.work (take 0 stated)) old in_turns (λ full before. refl)
+  took_none stated = gone_nowhere rule (TakeTurns old.work (take 0 stated)) old in_turns (λ held before. refl)
 
   -- no session has gone to its end yet
   pub went_none : HaveGoneOn rule (GoOut old.work 0) old old
-  went_none = gone_nowhere rule (GoOut old.work 0) old in_turns (λ full before. refl)
+  went_none = gone_nowhere rule (GoOut old.work 0) old in_turns (λ held before. refl)
 
   -- all have
   pub went_all : (new : TurnsMeaning C) (count : ℕ) → count ≡ length old.sessions → HaveGoneOn rule (GoOut old.work count) old new → HaveGoneOn rule (GoOut old.work (length old.work.sessions)) old new
@@ -108,12 +109,12 @@ module _ {C : Type 0} (rule : C → ℕ → ℕ → Bool) (old : TurnsMeaning C)
       let same : 1 + count ≡ count + 1 = omega arith in
       let one : suc count ≡ count + 1 = omega arith in
       gone_then rule (GoOut old.work count) (IsTask old.work tasks.Rest count) (GoOut old.work (count + 1)) old mid new
-      (λ full before part more is then. subst (λ n. GoOut old.work n full before (part ++ more)) one (gone_out_next (next_in_work old.work) (ended_in_work old.work full) 1 count before part more is (subst (λ n. GoesByItself (next_in_work old.work) (ended_in_work old.work full) n (is_at_end (next_in_work old.work) n) (before ++ part) more) (sym same) then))) a
+      (λ held before part more is then. subst (λ n. GoOut old.work n held before (part ++ more)) one (gone_out_next (next_in_work old.work) (ended_in_work old.work held) 1 count before part more is (subst (λ n. GoesByItself (next_in_work old.work) (ended_in_work old.work held) n (is_at_end (next_in_work old.work) n) (before ++ part) more) (sym same) then))) a
       (subst (λ (w : Workload). HaveGoneOn rule (IsTask w tasks.Rest count) mid new) a.work b)
 
   -- one more turn of a recoverer
   pub turned_none : (number : ℕ) → HaveGoneOn rule (TakeTurns old.work (recoverer_turns number 0)) old old
-  turned_none number = gone_nowhere rule (TakeTurns old.work (recoverer_turns number 0)) old in_turns (λ full before. refl)
+  turned_none number = gone_nowhere rule (TakeTurns old.work (recoverer_turns number 0)) old in_turns (λ held before. refl)
 
   pub turned_next : (mid new : TurnsMeaning C) (number count : ℕ) → HaveGoneOn rule (TakeTurns old.work (recoverer_turns number count)) old mid → HaveGoneOn rule (TakesTurn mid.work (turns.Recoverer number)) mid new
       → HaveGoneOn rule (TakeTurns old.work (recoverer_turns number (count + 1))) old new
@@ -122,7 +123,7 @@ module _ {C : Type 0} (rule : C → ℕ → ℕ → Bool) (old : TurnsMeaning C)
 
   -- no recoverer has made what is left to it yet
   pub recovered_none : HaveGoneOn rule (RecoverOut old.work 0) old old
-  recovered_none = gone_nowhere rule (RecoverOut old.work 0) old in_turns (λ full before. refl)
+  recovered_none = gone_nowhere rule (RecoverOut old.work 0) old in_turns (λ held before. refl)
 
   -- all have
   pub recovered_all : (new : TurnsMeaning C) (count : ℕ) → count ≡ length old.recoverers → HaveGoneOn rule (RecoverOut old.work count) old new → HaveGoneOn rule (RecoverOut old.work (length old.work.recoverers)) old new
@@ -134,10 +135,10 @@ module _ {C : Type 0} (rule : C → ℕ → ℕ → Bool) (old : TurnsMeaning C)
   recovered_one mid new count a b =
       let same : count + 1 ≡ 1 + count = omega arith in
       let one : suc count ≡ count + 1 = omega arith in
-      let T : ℕ → (ℕ → Bool) → List (Pair Event) → List (Pair Event) → Type 0 = λ n full before part. TakeTurns old.work (recoverer_turns n (rounds_in_work old.work n)) full before part in
+      let T : ℕ → (ActorId → Sent → Bool) → List (Pair Event) → List (Pair Event) → Type 0 = λ n held before part. TakeTurns old.work (recoverer_turns n (rounds_in_work old.work n)) held before part in
       gone_then rule (RecoverOut old.work count) (T (count + 1)) (RecoverOut old.work (count + 1)) old mid new
-      (λ full before part more is then. subst (λ n. RecoverOut old.work n full before (part ++ more)) one
-      (recovered_next (next_in_work old.work) (ended_in_work old.work full) (recoverer_ended_in_work old.work full) (rounds_in_work old.work) 1 count before part more is (subst (λ n. T n full (before ++ part) more) same then))) a
+      (λ held before part more is then. subst (λ n. RecoverOut old.work n held before (part ++ more)) one
+      (recovered_next (next_in_work old.work) (ended_in_work old.work held) (recoverer_ended_in_work old.work held) (rounds_in_work old.work) 1 count before part more is (subst (λ n. T n held (before ++ part) more) same then))) a
       (subst (λ (w : Workload). HaveGoneOn rule (TakeTurns w (recoverer_turns (count + 1) (rounds_in_work w (count + 1)))) mid new) a.work b)
 
 -- nothing has happened
@@ -201,24 +202,24 @@ module _ {C : Type 0} (work : Workload) (sessions : List (ScriptedMeaning C)) (r
           order = ((x.0 ++ y.0) ++ z.0) ++ v.0;
           shares = subst (λ (w : Workload). AreShares (head_in_work w) (lists_in four) (((x.0 ++ y.0) ++ z.0) ++ v.0)) (d.work ∙ work_three) v.1.shares;
           learns = v.1.learns;
-          goes = λ full says.
-              let says_three = recovered.knows full says in
-              let says_two = left.knows full says_three in
-              let says_one = taken.knows full says_two in
+          goes = λ held says.
+              let says_three = recovered.knows held says in
+              let says_two = left.knows held says_three in
+              let says_one = taken.knows held says_two in
               record {
                 opening = x.0;
                 taken = y.0;
                 left = z.0;
                 recovered = v.0;
                 whole = append_assoc (x.0 ++ y.0) z.0 v.0 ∙ append_assoc x.0 y.0 (z.0 ++ v.0);
-                opens = x.2 full says_one;
-                takes = y.2 full says_two;
-                ends = z.2 full says_three;
-                recovers = subst (λ before. MakeRoundsLeft (next_in_work work) (ended_in_work work full) (recoverer_ended_in_work work full) (rounds_in_work work) 1 (length work.recoverers) before v.0) (append_assoc x.0 y.0 z.0) (v.2 full says);
+                opens = x.2 held says_one;
+                takes = y.2 held says_two;
+                ends = z.2 held says_three;
+                recovers = subst (λ before. MakeRoundsLeft (next_in_work work) (ended_in_work work held) (recoverer_ended_in_work work held) (rounds_in_work work) 1 (length work.recoverers) before v.0) (append_assoc x.0 y.0 z.0) (v.2 held says);
               };
         }
 
-    clocks-on : (old new : TurnsMeaning C) {Is : (ℕ → Bool) → List (Pair Event) → List (Pair Event) → Type 0} (rules : ActorId → ℕ → ℕ → Bool) → old.work ≡ work → HaveGoneOn rule Is old new → HaveClientClocks rule rules work (clients_in old) → HaveClientClocks rule rules work (clients_in new)
+    clocks-on : (old new : TurnsMeaning C) {Is : (ActorId → Sent → Bool) → List (Pair Event) → List (Pair Event) → Type 0} (rules : ActorId → ℕ → ℕ → Bool) → old.work ≡ work → HaveGoneOn rule Is old new → HaveClientClocks rule rules work (clients_in old) → HaveClientClocks rule rules work (clients_in new)
     clocks-on old new rules same gone h =
         subst (λ (w : Workload). HaveClientClocks rule rules w (clients_in new)) same (gone.clocks rules (subst (λ (w : Workload). HaveClientClocks rule rules w (clients_in old)) (sym same) h))
 

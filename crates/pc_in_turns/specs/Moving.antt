@@ -14,7 +14,7 @@ use Rattle.pc_rounds.specs.Counted.{CountedMeaning, GoesInRounds, HasMadeNext}
 use Rattle.pc_runs.specs.Order.{ended_in_work, is_work_opened, next_in_work, recoverer_ended_in_work, rounds_in_work}
 use Rattle.pc_runs.specs.Recoverers.{AreRecoverers, HasNoRoundLeft}
 use Rattle.pc_runs.specs.Runners.{AreRunners, head_in_work}
-use Rattle.pc_runs.specs.Together.{ClientsMeaning, ClientsSayFull, HaveClientClocks, client_lists}
+use Rattle.pc_runs.specs.Together.{ClientsMeaning, ClientsSayHeldUp, HaveClientClocks, client_lists}
 use Rattle.pc_scripted.specs.Scripted.{IsScripted, ScriptedMeaning, own_list}
 use Rattle.pc_scripted.specs.Taking.{HasMoved, IsRunOut, Move, are_items_over}
 use Rattle.pc_turns.specs.Order.{AreTakenIn, GoToEnds, GoesByItself, IsTakenIn, MakeRoundsLeft, entries_by, is_at_end}
@@ -23,40 +23,41 @@ use Rattle.pc_work.specs.declared.session.SessionWork.{SessionWork}
 use Rattle.pc_work.specs.declared.turn.Turn.{Turn}
 use Rattle.pc_work.specs.declared.turn.Turn.TheVariants as turns
 use Rattle.pc_work.specs.declared.workload.Workload.{Workload}
+use Rattle.pc_world.specs.Known.Traffic.{Sent}
 
--- What may be said of a part of the clients' entries, behind others, where a test says which ranges are full.
+-- What may be said of a part of the clients' entries, behind others, where a test says which messages of whom are held up.
 abbrev pub Stretch : Type 1
-Stretch = (ℕ → Bool) → List (Pair Event) → List (Pair Event) → Type 0
+Stretch = (ActorId → Sent → Bool) → List (Pair Event) → List (Pair Event) → Type 0
 
 module _ (work : Workload) where
   -- The part is what the session of this index makes of its task.
   abbrev pub IsTask : Task → ℕ → Stretch
-  IsTask (tasks.Open items) index full before part =
+  IsTask (tasks.Open items) index held before part =
       (session : SessionWork) → slice_get work.sessions index ≡ Some session
-      → GoesByItself (next_in_work work) (ended_in_work work full) (index + 1) (λ order. are_items_over items work.reruns session.script (entries_by (index + 1) order)) before part
-  IsTask tasks.Call index full before part = IsTakenIn (next_in_work work) (ended_in_work work full) (recoverer_ended_in_work work full) (rounds_in_work work) (turns.Session (index + 1)) before part
-  IsTask tasks.Job index full before part = IsTakenIn (next_in_work work) (ended_in_work work full) (recoverer_ended_in_work work full) (rounds_in_work work) (turns.Job (index + 1)) before part
-  IsTask tasks.Rest index full before part = GoesByItself (next_in_work work) (ended_in_work work full) (index + 1) (is_at_end (next_in_work work) (index + 1)) before part
+      → GoesByItself (next_in_work work) (ended_in_work work held) (index + 1) (λ order. are_items_over items work.reruns session.script (entries_by (index + 1) order)) before part
+  IsTask tasks.Call index held before part = IsTakenIn (next_in_work work) (ended_in_work work held) (recoverer_ended_in_work work held) (rounds_in_work work) (turns.Session (index + 1)) before part
+  IsTask tasks.Job index held before part = IsTakenIn (next_in_work work) (ended_in_work work held) (recoverer_ended_in_work work held) (rounds_in_work work) (turns.Job (index + 1)) before part
+  IsTask tasks.Rest index held before part = GoesByItself (next_in_work work) (ended_in_work work held) (index + 1) (is_at_end (next_in_work work) (index + 1)) before part
 
   -- The part is the workload's opening.
   abbrev pub IsOpening : Stretch
-  IsOpening full before part = GoesByItself (next_in_work work) (ended_in_work work full) 1 (is_work_opened work) before part
+  IsOpening held before part = GoesByItself (next_in_work work) (ended_in_work work held) 1 (is_work_opened work) before part
 
   -- The part is what this turn takes.
   abbrev pub TakesTurn : Turn → Stretch
-  TakesTurn turn full before part = IsTakenIn (next_in_work work) (ended_in_work work full) (recoverer_ended_in_work work full) (rounds_in_work work) turn before part
+  TakesTurn turn held before part = IsTakenIn (next_in_work work) (ended_in_work work held) (recoverer_ended_in_work work held) (rounds_in_work work) turn before part
 
   -- The part is what these turns take, one after another.
   abbrev pub TakeTurns : List Turn → Stretch
-  TakeTurns stated full before part = AreTakenIn (next_in_work work) (ended_in_work work full) (recoverer_ended_in_work work full) (rounds_in_work work) stated before part
+  TakeTurns stated held before part = AreTakenIn (next_in_work work) (ended_in_work work held) (recoverer_ended_in_work work held) (rounds_in_work work) stated before part
 
   -- The part is what is left to the first sessions, of this number, which go to their ends one after another.
   abbrev pub GoOut : ℕ → Stretch
-  GoOut count full before part = GoToEnds (next_in_work work) (ended_in_work work full) 1 count before part
+  GoOut count held before part = GoToEnds (next_in_work work) (ended_in_work work held) 1 count before part
 
   -- The part is what is left to the first recoverers, of this number, which make the rounds that are left one after another.
   abbrev pub RecoverOut : ℕ → Stretch
-  RecoverOut count full before part = MakeRoundsLeft (next_in_work work) (ended_in_work work full) (recoverer_ended_in_work work full) (rounds_in_work work) 1 count before part
+  RecoverOut count held before part = MakeRoundsLeft (next_in_work work) (ended_in_work work held) (recoverer_ended_in_work work held) (rounds_in_work work) 1 count before part
 
 -- The sessions and recoverers of a workload, and the index, among all of them in order, of the one that made the last entry.
 pub record TurnsMeaning (C : Type 0) : Type 0 where
@@ -92,16 +93,16 @@ pub record HaveMade {C : Type 0} (t : TurnsMeaning C) (order : List (Pair Event)
   pub learns : LearnInOrder order
   pub made : MadeLast (lists_in t) t.last order
 
--- The clients went on, and forgot nothing: behind the entries that they had made they made a part of which this is so, whichever ranges are
--- full beside those that they know to be.
+-- The clients went on, and forgot nothing: behind the entries that they had made they made a part of which this is so, whichever messages
+-- are held up beside those that they know to be refused.
 pub record HaveGoneOn {C : Type 0} (rule : C → ℕ → ℕ → Bool) (Is : Stretch) (old new : TurnsMeaning C) : Type 0 where
   pub in_turns : AreInTurns new
   pub work : new.work ≡ old.work
-  pub knows : (full : ℕ → Bool) → ClientsSayFull full (clients_in new) → ClientsSayFull full (clients_in old)
+  pub knows : (held : ActorId → Sent → Bool) → ClientsSayHeldUp held (clients_in new) → ClientsSayHeldUp held (clients_in old)
   pub clocks : (rules : ActorId → ℕ → ℕ → Bool) → HaveClientClocks rule rules old.work (clients_in old) → HaveClientClocks rule rules old.work (clients_in new)
   pub goes :
       (order : List (Pair Event)) → HaveMade old order
-      → (part : List (Pair Event)) × HaveMade new (order ++ part) × ((full : ℕ → Bool) → ClientsSayFull full (clients_in new) → Is full order part)
+      → (part : List (Pair Event)) × HaveMade new (order ++ part) × ((held : ActorId → Sent → Bool) → ClientsSayHeldUp held (clients_in new) → Is held order part)
 
 -- No session but that of this index has changed, and it has done its task.
 pub record HaveMovedAt {C : Type 0} (index : ℕ) (task : Task) (old new : List (ScriptedMeaning C)) : Type 0 where

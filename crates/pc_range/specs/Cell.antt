@@ -10,6 +10,9 @@ use Rattle.pc_proto.specs.declared.event.Event.{Event}
 use Rattle.pc_proto.specs.declared.event.Event.TheVariants as events
 use Rattle.pc_proto.specs.declared.reply.Reply.{Reply}
 use Rattle.pc_proto.specs.declared.request.Request.{Request}
+use Rattle.pc_history.specs.declared.named.Named.{Ghosts}
+use Rattle.pc_range.specs.declared.commit_world.CommitWorld.{CommitWorld}
+use Rattle.pc_range.specs.declared.message.Message.{Message}
 use Rattle.pc_range.specs.declared.message.ServeFault.{ServeFault}
 use Rattle.pc_range.specs.declared.message.ServeFault.TheVariants as faults
 use Rattle.pc_range.specs.Message.{IsFullNote, evaluation, sending}
@@ -53,23 +56,23 @@ pub record HasServed (range : ℕ) (before after : CellMeaning) (sender : ActorI
   pub told : Reply
   pub evaluated : StoresEvaluation range before after sender number request step told
 
--- The fault of a range that is full: its note tells the last of its entries.
-abbrev pub IsFullFault : {N : Type 0} → ℕ → Part Event → ServeFault N → Type 0
-IsFullFault range part (faults.Full at last) = (at ≡ range) × IsFullNote range (length part.own) last.known
-IsFullFault range part faults.NoMemory = ⊤
+-- The fault of a range that is full: its note tells the last of its entries, and it gives this message back.
+abbrev pub IsFullFault : {N : Type 0} {G : Ghosts N CommitWorld} → ℕ → Part Event → Message N G → ServeFault N G → Type 0
+IsFullFault range part msg (faults.Full at last message) = (at ≡ range) × IsFullNote range (length part.own) last.known × (message ≡ msg)
+IsFullFault range part msg faults.NoMemory = ⊤
 
--- The fault of the range of this number: where it is full, its note tells its last entry, of at least so many.
-abbrev pub IsFullAt : {N : Type 0} → ℕ → ℕ → ServeFault N → Type 0
-IsFullAt range limit (faults.Full at last) = (at ≡ range) × IsFullNote range limit last.known
-IsFullAt range limit faults.NoMemory = ⊤
+-- The fault of the range of this number: where it is full, its note tells its last entry, of at least so many, and it gives this message back.
+abbrev pub IsFullAt : {N : Type 0} {G : Ghosts N CommitWorld} → ℕ → ℕ → Message N G → ServeFault N G → Type 0
+IsFullAt range limit msg (faults.Full at last message) = (at ≡ range) × IsFullNote range limit last.known × (message ≡ msg)
+IsFullAt range limit msg faults.NoMemory = ⊤
 
--- Why the range refused a message, and what that left: it is full, and the note tells its last entry; or memory was wanted, before it
--- evaluated the message or after it stored the evaluation.
-abbrev pub IsRefusal : {N : Type 0} → ℕ → ℕ → CellMeaning → CellMeaning → ActorId → ℕ → Request → ServeFault N → Type 0
-IsRefusal range limit before after sender number request (faults.Full at last) =
-    (at ≡ range) × (limit ≤ length before.part.own) × (after ≡ before) × IsFullNote range limit last.known
-IsRefusal range limit before after sender number request faults.NoMemory =
-    (after ≡ before) ⊎ (HasServed range before after sender number request × (length before.part.own < limit))
+-- Why the range refused this message, and what that left: it is full, the note tells its last entry, and it gives the message back, with the
+-- note of its sending and that note's uses; or memory was wanted, before it evaluated the message or after it stored the evaluation.
+abbrev pub IsRefusal : {N : Type 0} {G : Ghosts N CommitWorld} → ℕ → ℕ → CellMeaning → CellMeaning → Message N G → ServeFault N G → Type 0
+IsRefusal range limit before after msg (faults.Full at last message) =
+    (at ≡ range) × (limit ≤ length before.part.own) × (after ≡ before) × IsFullNote range limit last.known × (message ≡ msg)
+IsRefusal range limit before after msg faults.NoMemory =
+    (after ≡ before) ⊎ (HasServed range before after msg.sender msg.number msg.request × (length before.part.own < limit))
 
 -- What becomes of an actor that took the note of a message, and stored its evaluation: its own list has this one entry more, and the
 -- message was sent early enough.

@@ -61,7 +61,7 @@ impl<N: Named<CommitWorld>, const I: u32> RangeCell<N, I> {
 
     /// Evaluates a message, and stores the evaluation.
     ///
-    /// A range that stores as many entries as it may have serves nothing more. Want of memory is met before the evaluation, and then
+    /// A range that stores as many entries as it may have serves nothing more, and gives the message back. Want of memory is met before the evaluation, and then
     /// the range is as it was, or after it was stored. Where a note is given, the evaluation comes after what it tells of.
     pub fn serve(
         &mut self,
@@ -78,10 +78,10 @@ impl<N: Named<CommitWorld>, const I: u32> RangeCell<N, I> {
         ensures later { IfOk result (λ r. IsToldBefore r.step msg.note.known) }
         ensures behind { IfOk result (λ r. IfSome after (λ n. ComesAfter r.step n.known)) }
         ensures room { OnOk result (length self.old.part.own < limit) }
-        ensures refused { IfErr result (λ fault. IsRefusal I limit self.old self.new msg.sender msg.number msg.request fault) }
+        ensures refused { IfErr result (λ fault. IsRefusal I limit self.old self.new msg fault) }
     {
         if self.actor.entries().len() as u64 >= limit {
-            return Err(self.full());
+            return Err(self.full(msg));
         }
         match self.evaluate(msg, after) {
             Ok(reply) => Ok(reply),
@@ -89,15 +89,19 @@ impl<N: Named<CommitWorld>, const I: u32> RangeCell<N, I> {
         }
     }
 
-    /// Why a range that stores an entry serves nothing more.
-    fn full(&mut self) -> ServeFault<N>
+    /// Why a range that stores an entry does not serve the message, which it gives back.
+    fn full(&mut self, message: Message<N>) -> ServeFault<N>
         requires { 1 ≤ length self.old.part.own }
         ensures same { self.new ≡ self.old }
-        ensures fault { IsFullFault I self.old.part result }
+        ensures fault { IsFullFault I self.old.part message result }
     {
         let last = self.actor.entries().len() - 1;
         match self.actor.note(last, 0) {
-            Ok(last) => ServeFault::Full { range: I, last },
+            Ok(last) => ServeFault::Full {
+                range: I,
+                last,
+                message,
+            },
             Err(NoMemory) => ServeFault::NoMemory,
         }
     }

@@ -129,7 +129,7 @@ impl<
         ensures told { IfOk result (λ r. (r.number ≡ msg.number) × IsEvalNote msg.sender msg.number msg.range r.step r.reply r.note.known) }
         ensures later { IfOk result (λ r. IsToldBefore r.step msg.note.known) }
         ensures behind { IfOk result (λ r. IfSome after (λ n. ComesAfter r.step n.known)) }
-        ensures full { IfErr result (IsFullAt msg.range limit) }
+        ensures full { IfErr result (IsFullAt msg.range limit msg) }
     {
         if msg.range == A {
             slot::serve(rt, &self.first, gate, limit, msg, after)

@@ -28,10 +28,12 @@ pub struct ReplyMsg<N: Named<CommitWorld>> {
 /// Why a range did not serve a message.
 #[derive(Drop)]
 pub enum ServeFault<N: Named<CommitWorld>> {
-    /// The range has as many entries as it may have, of which the note tells the last one.
+    /// The range has as many entries as it may have, of which the note tells the last one. It gives the message back, which it has not
+    /// evaluated.
     Full {
         range: u32,
         last: Note<CommitWorld, N>,
+        message: Message<N>,
     },
     NoMemory,
 }

@@ -100,7 +100,7 @@ impl<'a, N: Named<CommitWorld>, G: Gate> Ranges<'a, N, G> {
         ensures told { IfOk result (λ r. (r.number ≡ msg.number) × IsEvalNote msg.sender msg.number msg.range r.step r.reply r.note.known) }
         ensures later { IfOk result (λ r. IsToldBefore r.step msg.note.known) }
         ensures behind { IfOk result (λ r. IfSome after (λ n. ComesAfter r.step n.known)) }
-        ensures full { IfErr result (IsFullAt msg.range self.now.limit) }
+        ensures full { IfErr result (IsFullAt msg.range self.now.limit msg) }
     {
         if msg.range < 8 {
             self.first.serve(rt, self.gate, self.limit, msg, after)

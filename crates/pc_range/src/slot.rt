@@ -57,7 +57,7 @@ pub(crate) fn serve<N: Named<CommitWorld>, G: Gate, R: Wait, const I: u32>(
     ensures told { IfOk result (λ r. (r.number ≡ msg.number) × IsEvalNote msg.sender msg.number I r.step r.reply r.note.known) }
     ensures later { IfOk result (λ r. IsToldBefore r.step msg.note.known) }
     ensures behind { IfOk result (λ r. IfSome after (λ n. ComesAfter r.step n.known)) }
-    ensures full { IfErr result (IsFullAt I limit) }
+    ensures full { IfErr result (IsFullAt I limit msg) }
 {
     match slot {
         Some(cell) => {

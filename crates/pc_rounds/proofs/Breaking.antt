@@ -21,8 +21,9 @@ use Rattle.pc_rounds.proofs.Making.{made_left}
 use Rattle.pc_rounds.specs.Counted.{AsksOnlyRounds, CountedMeaning, GoesInRounds, GoesOnInRounds, HasMadeNext, entries_made}
 use Rattle.pc_rounds.specs.Made.{AreWholeRounds, StopsBefore}
 use Rattle.pc_scripted.proofs.Tests.{has_ended_now, no_room, only_at_limit}
-use Rattle.pc_scripted.specs.Ended.{SaysFull, list_has_ended}
+use Rattle.pc_scripted.specs.Ended.{SaysHeldUp, list_has_ended}
 use Rattle.pc_turns.specs.Order.{MakesRoundAfter, MakesRoundIfLeft, UnlessEnded, rounds_asked}
+use Rattle.pc_world.specs.Known.Traffic.{Sent}
 
 -- what ended the list, where memory was not wanted
 ended_off : (halt : Halt) (So : Type 0) → (halt ≡ halts.NoMemory → ⊥) → IsEndedBy halt So → So
@@ -117,30 +118,30 @@ module _ {C : Type 0} (old : CountedMeaning C) (new : RecovererMeaning C) (count
   }
 
   -- the list has ended
-  ended-then : (full : ℕ → Bool) → SaysFull full new.desk → list_has_ended old.recoverer.desk.log.limit old.recoverer.desk.log.stop full (entries_made old ++ part) ≡ true
-  ended-then full says =
-      subst (λ own. list_has_ended old.recoverer.desk.log.limit old.recoverer.desk.log.stop full own ≡ true) broke.own
-      (subst (λ n. list_has_ended n old.recoverer.desk.log.stop full new.desk.log.part.own ≡ true) limit-then
-      (subst (λ stop. list_has_ended new.desk.log.limit stop full new.desk.log.part.own ≡ true) stop-then (has_ended_now new.desk full says broke.end)))
+  ended-then : (held : Sent → Bool) → SaysHeldUp held new.desk → list_has_ended old.recoverer.desk.log.limit old.recoverer.desk.log.stop held (entries_made old ++ part) ≡ true
+  ended-then held says =
+      subst (λ own. list_has_ended old.recoverer.desk.log.limit old.recoverer.desk.log.stop held own ≡ true) broke.own
+      (subst (λ n. list_has_ended n old.recoverer.desk.log.stop held new.desk.log.part.own ≡ true) limit-then
+      (subst (λ stop. list_has_ended new.desk.log.limit stop held new.desk.log.part.own ≡ true) stop-then (has_ended_now new.desk held says broke.end)))
 
-  makes-so : (full : ℕ → Bool) → SaysFull full new.desk → (b : Bool) → list_has_ended old.recoverer.desk.log.limit old.recoverer.desk.log.stop full (entries_made old) ≡ b
-      → MakesRoundAfter (list_has_ended old.recoverer.desk.log.limit old.recoverer.desk.log.stop full) old.rounds old.recoverer.number (entries_made old) part
-  makes-so full says true is =
-      let ended = list_has_ended old.recoverer.desk.log.limit old.recoverer.desk.log.stop full in
+  makes-so : (held : Sent → Bool) → SaysHeldUp held new.desk → (b : Bool) → list_has_ended old.recoverer.desk.log.limit old.recoverer.desk.log.stop held (entries_made old) ≡ b
+      → MakesRoundAfter (list_has_ended old.recoverer.desk.log.limit old.recoverer.desk.log.stop held) old.rounds old.recoverer.number (entries_made old) part
+  makes-so held says true is =
+      let ended = list_has_ended old.recoverer.desk.log.limit old.recoverer.desk.log.stop held in
       let none : part ≡ [] = no_room old.recoverer.desk.log.limit (entries_made old) part
-      (only_at_limit old.recoverer.desk.log.limit old.recoverer.desk.log.stop full (entries_made old) (goes.between.back.track.log.before_stop going) (all_heard_ever old.recoverer.desk goes.between.back) is)
+      (only_at_limit old.recoverer.desk.log.limit old.recoverer.desk.log.stop held (entries_made old) (goes.between.back.track.log.before_stop going) (all_heard_ever old.recoverer.desk goes.between.back) is)
       (subst (λ own. length own ≤ old.recoverer.desk.log.limit) broke.own (subst (λ n. length new.desk.log.part.own ≤ n) limit-then broke.within)) in
       subst (λ b. UnlessEnded b part (MakesRoundIfLeft ended old.recoverer.number (nat_lt (rounds_asked (entries_made old)) old.rounds) (entries_made old) part)) (sym is) none
-  makes-so full says false is =
-      let ended = list_has_ended old.recoverer.desk.log.limit old.recoverer.desk.log.stop full in
+  makes-so held says false is =
+      let ended = list_has_ended old.recoverer.desk.log.limit old.recoverer.desk.log.stop held in
       let some : part ≡ [] → ⊥ = λ none. (
-      let now : ended (entries_made old) ≡ true = ap ended (sym (append-nil (entries_made old)) ∙ ap (λ p. entries_made old ++ p) (sym none)) ∙ ended-then full says in
+      let now : ended (entries_made old) ≡ true = ap ended (sym (append-nil (entries_made old)) ∙ ap (λ p. entries_made old ++ p) (sym none)) ∙ ended-then held says in
       let e : true ≡ false = sym now ∙ is in absurd cc) in
       let before = goes.counted in
       made_left ended old.rounds old.recoverer.number (entries_made old) part is (omega arith)
       (elim are [
         | inl whole ↦ inl (whole_events old.recoverer.desk.log.head.splits old.recoverer.number old.recoverer.level part whole)
-        | inr broken ↦ inr (ended_events old.recoverer.desk.log.head.splits old.recoverer.number old.recoverer.level part some whose-part broken, ended-then full says)
+        | inr broken ↦ inr (ended_events old.recoverer.desk.log.head.splits old.recoverer.number old.recoverer.level part some whose-part broken, ended-then held says)
       ])
 
   broke_round : HasMadeNext old then
@@ -163,7 +164,7 @@ module _ {C : Type 0} (old : CountedMeaning C) (new : RecovererMeaning C) (count
       above = broke.above;
       known = broke.known;
     };
-    is = λ full says. makes-so full says (list_has_ended old.recoverer.desk.log.limit old.recoverer.desk.log.stop full (entries_made old)) refl;
+    is = λ held says. makes-so held says (list_has_ended old.recoverer.desk.log.limit old.recoverer.desk.log.stop held (entries_made old)) refl;
     onward = λ still more. let e : true ≡ false = sym (log-is (λ l. l.stopped ≡ true) refl) ∙ still in absurd cc;
   }
 

@@ -54,9 +54,9 @@ module _ {C : Type 0} (r : CountedMeaning C) (counted : GoesInRounds r) where
   stopped_makes_none stopped = record {
     part = [];
     by = gone_none;
-    is = λ full says.
-        let ended = list_has_ended r.recoverer.desk.log.limit r.recoverer.desk.log.stop full in
-        let over : ended (entries_made r) ≡ true = has_ended_now r.recoverer.desk full says (counted.ends stopped).end in
+    is = λ held says.
+        let ended = list_has_ended r.recoverer.desk.log.limit r.recoverer.desk.log.stop held in
+        let over : ended (entries_made r) ≡ true = has_ended_now r.recoverer.desk held says (counted.ends stopped).end in
         subst (λ b. UnlessEnded b [] (MakesRoundIfLeft ended r.recoverer.number (nat_lt (rounds_asked (entries_made r)) r.rounds) (entries_made r) [])) (sym over) refl;
     onward = λ still more. let e : true ≡ false = sym stopped ∙ still in absurd cc;
   }
@@ -65,8 +65,8 @@ module _ {C : Type 0} (r : CountedMeaning C) (counted : GoesInRounds r) where
   all_makes_none going over = record {
     part = [];
     by = gone_none;
-    is = λ full says.
-        let ended = list_has_ended r.recoverer.desk.log.limit r.recoverer.desk.log.stop full in
+    is = λ held says.
+        let ended = list_has_ended r.recoverer.desk.log.limit r.recoverer.desk.log.stop held in
         let before = (counted.goes going).counted in
         by ended (ended (entries_made r)) (none_left (rounds_asked (entries_made r)) r.rounds (omega arith));
     onward = λ still more. absurd (omega arith);

@@ -11,10 +11,11 @@ use Rattle.pc_proto.specs.declared.event.Event.{Event}
 use Rattle.pc_proto.specs.declared.event.Event.TheVariants as events
 use Rattle.pc_recoverer.specs.Recoverer.{IsBetweenRounds, RecovererMeaning}
 use Rattle.pc_rounds.specs.Made.{AreWholeRounds, StopsBefore}
-use Rattle.pc_scripted.specs.Ended.{SaysFull, list_has_ended}
+use Rattle.pc_scripted.specs.Ended.{SaysHeldUp, list_has_ended}
 use Rattle.pc_turns.specs.Clients.{RisesFrom}
 use Rattle.pc_turns.specs.Laws.{AreAboveKnown}
 use Rattle.pc_turns.specs.Order.{MakesRoundAfter, rounds_asked}
+use Rattle.pc_world.specs.Known.Traffic.{Sent}
 
 -- A recoverer, how many rounds it makes in all, and how many it has made.
 pub record CountedMeaning (C : Type 0) : Type 0 where
@@ -76,14 +77,14 @@ pub record HasGoneInRounds {C : Type 0} (old new : CountedMeaning C) (part : Lis
   pub above : AreAboveKnown (knowledge old.recoverer.desk.log.part) part
   pub known : (k : KnownEntry Event) → Contains old.recoverer.desk.log.part.known k → Contains new.recoverer.desk.log.part.known k
 
--- The recoverer made its next round, if one was left, whichever ranges are full beside those that it knows to be; where it goes on, and rounds
--- are left behind that one, it made one.
+-- The recoverer made its next round, if one was left, whichever of its messages are held up beside those that it knows to be refused; where it
+-- goes on, and rounds are left behind that one, it made one.
 pub record HasMadeNext {C : Type 0} (old new : CountedMeaning C) : Type 0 where
   pub part : List (Pair Event)
   pub by : HasGoneInRounds old new part
   pub is :
-      (full : ℕ → Bool) → SaysFull full new.recoverer.desk
-      → MakesRoundAfter (list_has_ended old.recoverer.desk.log.limit old.recoverer.desk.log.stop full) old.rounds old.recoverer.number (entries_made old) part
+      (held : Sent → Bool) → SaysHeldUp held new.recoverer.desk
+      → MakesRoundAfter (list_has_ended old.recoverer.desk.log.limit old.recoverer.desk.log.stop held) old.rounds old.recoverer.number (entries_made old) part
   pub onward : new.recoverer.desk.log.stopped ≡ false → new.made < new.rounds → (old.recoverer.desk.log.stopped ≡ false) × (new.made ≡ old.made + 1)
 
 -- The recoverer made the rounds that were left.

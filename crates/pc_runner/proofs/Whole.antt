@@ -4,7 +4,7 @@ use Rattle.std.proofs.lemmas.Option.{slice_get-get_or}
 use Rattle.pc_base.specs.declared.actor.ActorId.{ActorId}
 use Rattle.pc_base.specs.declared.entry.Entry.{Entry}
 use Rattle.pc_closing.specs.Closing.{IsClosedOver}
-use Rattle.pc_closing.specs.Full.{range_is_full}
+use Rattle.pc_closing.specs.HeldUp.{holds_up}
 use Rattle.pc_closing.specs.Leaving.{AreLeavers, Leaver}
 use Rattle.pc_in_turns.specs.InTurns.{HaveGoneInTurns}
 use Rattle.pc_proto.specs.declared.event.Event.{Event}
@@ -13,7 +13,7 @@ use Rattle.pc_runner.specs.WorkRun.{IsWorkRun}
 use Rattle.pc_rounds.specs.Counted.{GoesInRounds}
 use Rattle.pc_runs.proofs.Finished.{clients_leave}
 use Rattle.pc_runs.proofs.Learnless.{transactions_learn_nothing}
-use Rattle.pc_runs.proofs.Whole.{history_follows, learns_are_kept, say_full, turns_are_as_stated}
+use Rattle.pc_runs.proofs.Whole.{history_follows, learns_are_kept, say_held_up, turns_are_as_stated}
 use Rattle.pc_runs.specs.Learning.{LearnInOrder}
 use Rattle.pc_runs.specs.Order.{GoAsStated}
 use Rattle.pc_runs.specs.Laws.{HaveFinished}
@@ -39,7 +39,7 @@ module _ {C : Type 0} (rule : C → ℕ → ℕ → Bool) (rules : ActorId → �
 
     -- a history whose clients go and learn as they should
     follows_so : (history : List (Entry Event)) → IsClosedOver work.limit (head_in_work work) leavers history
-        → GoAsStated work (range_is_full work.limit (head_in_work work) history) work.turns (length work.sessions) (client_pairs (head_in_work work) history)
+        → GoAsStated work (holds_up work.limit (head_in_work work) history) work.turns (length work.sessions) (client_pairs (head_in_work work) history)
         → LearnInOrder (client_pairs (head_in_work work) history) → IsWorkRun work rules history
     follows_so history closed goes learns = record {
       run = closed.run;
@@ -53,9 +53,9 @@ module _ {C : Type 0} (rule : C → ℕ → ℕ → Bool) (rules : ActorId → �
   follows_turns stated is left history closed =
       let went = left.went in
       let all = have_left (HaveGoneInTurns work stated) left in
-      let says = say_full work rules left.clients leavers history left.are all closed in
+      let says = say_held_up work rules left.clients leavers history left.are all closed in
       follows_so (HaveGoneInTurns work stated) left history closed
-      (turns_are_as_stated C work rules left.clients leavers history went.order stated all closed went.shares is (went.goes (range_is_full work.limit (head_in_work work) history) says))
+      (turns_are_as_stated C work rules left.clients leavers history went.order stated all closed went.shares is (went.goes (holds_up work.limit (head_in_work work) history) says))
       (learns_are_kept C work rules left.clients leavers history went.order all closed went.shares went.learns)
 
   -- the history of sessions that went on threads

@@ -6,10 +6,10 @@ use Rattle.pc_base.specs.declared.actor.ActorId.TheVariants as actors
 use Rattle.pc_base.specs.declared.transaction.Priority.{Priority}
 use Rattle.pc_base.specs.declared.entry.Entry.{Entry}
 use Rattle.pc_closing.specs.Closing.{IsClosedOver, IsKeptIn, lists_of}
-use Rattle.pc_closing.specs.Full.{range_is_full}
+use Rattle.pc_closing.specs.HeldUp.{holds_up}
 use Rattle.pc_closing.specs.Leaving.{Leaver}
 use Rattle.pc_closing.specs.Served.{AreServed}
-use Rattle.pc_desk.specs.Desk.{KnowsFull}
+use Rattle.pc_desk.specs.Refused.{WasGivenBack}
 use Rattle.pc_history.specs.declared.pair.Pair.{Pair}
 use Rattle.pc_history.specs.declared.view.Part.{Part}
 use Rattle.pc_history.specs.Own.{own}
@@ -25,11 +25,11 @@ use Rattle.pc_runs.specs.Order.{GoAsStated, GoInTurnsOf, ended_in_work, is_work_
 use Rattle.pc_runs.specs.Recoverers.{HasNoRoundLeft, HaveNoRoundLeft}
 use Rattle.pc_runs.specs.Rounds.{FollowsInRounds}
 use Rattle.pc_runs.specs.Runners.{AreRunOut, head_in_work}
-use Rattle.pc_runs.specs.Together.{AreAtEnds, AreClients, ClientsMeaning, ClientsSayFull, HaveAllLeft, client_lists}
+use Rattle.pc_runs.specs.Together.{AreAtEnds, AreClients, ClientsMeaning, ClientsSayHeldUp, HaveAllLeft, client_lists}
 use Rattle.pc_script.specs.End.{IsScriptEnd}
 use Rattle.pc_script.specs.Script.{next_call, script_position}
 use Rattle.pc_scripted.proofs.Tests.{has_ended_now}
-use Rattle.pc_scripted.specs.Ended.{SaysFull, list_has_ended}
+use Rattle.pc_scripted.specs.Ended.{SaysHeldUp, list_has_ended}
 use Rattle.pc_scripted.specs.Scripted.{IsScripted, ScriptedMeaning, own_list}
 use Rattle.pc_scripted.specs.Taking.{IsRunOut}
 use Rattle.pc_turns.proofs.Moves.{turns_are_kept}
@@ -45,29 +45,30 @@ use Rattle.pc_work.specs.declared.workload.Workload.{Workload}
 use Rattle.pc_world.specs.Known.{known_of}
 use Rattle.pc_world.specs.Local.{Head}
 use Rattle.pc_world.specs.Run.{protocol}
+use Rattle.pc_world.specs.Known.Traffic.{Sent}
 
 -- a session whose list has ended, or whose script is over
-pub ends_so : {C : Type 0} (s : ScriptedMeaning C) (full : ℕ → Bool) → IsScripted s → IsRunOut s → SaysFull full s.session.desk
-    → IsScriptEnd (script_position s.at.reruns s.script (own_list s)) (own_list s) ⊎ (list_has_ended s.session.desk.log.limit s.session.desk.log.stop full (own_list s) ≡ true)
-ends_so s full scripted out says = by s.session.desk.log.stopped refl
+pub ends_so : {C : Type 0} (s : ScriptedMeaning C) (held : Sent → Bool) → IsScripted s → IsRunOut s → SaysHeldUp held s.session.desk
+    → IsScriptEnd (script_position s.at.reruns s.script (own_list s)) (own_list s) ⊎ (list_has_ended s.session.desk.log.limit s.session.desk.log.stop held (own_list s) ≡ true)
+ends_so s held scripted out says = by s.session.desk.log.stopped refl
   where
-    by : (b : Bool) → s.session.desk.log.stopped ≡ b → IsScriptEnd (script_position s.at.reruns s.script (own_list s)) (own_list s) ⊎ (list_has_ended s.session.desk.log.limit s.session.desk.log.stop full (own_list s) ≡ true)
-    by true stopped = inr (has_ended_now s.session.desk full says (scripted.ends stopped))
+    by : (b : Bool) → s.session.desk.log.stopped ≡ b → IsScriptEnd (script_position s.at.reruns s.script (own_list s)) (own_list s) ⊎ (list_has_ended s.session.desk.log.limit s.session.desk.log.stop held (own_list s) ≡ true)
+    by true stopped = inr (has_ended_now s.session.desk held says (scripted.ends stopped))
     by false going = inl (record { no_next = ap next_call (sym (scripted.goes going).place) ∙ out.over going; none_open = (scripted.goes going).rest.closed })
 
 -- All rounds were made, or fewer, and the list has ended.
-abbrev HasMadeOrEnded : List (List ℕ) → ℕ → Priority → ℕ → ℕ → Option ℕ → (ℕ → Bool) → List (Pair Event) → Type 0
-HasMadeOrEnded splits number level rounds limit stop full list = AreWholeRounds splits number level rounds list ⊎ (StopsBefore splits number level rounds list × (list_has_ended limit stop full list ≡ true))
+abbrev HasMadeOrEnded : List (List ℕ) → ℕ → Priority → ℕ → ℕ → Option ℕ → (Sent → Bool) → List (Pair Event) → Type 0
+HasMadeOrEnded splits number level rounds limit stop held list = AreWholeRounds splits number level rounds list ⊎ (StopsBefore splits number level rounds list × (list_has_ended limit stop held list ≡ true))
 
 -- a recoverer whose list has ended, or whose rounds are made
-rounds_so : {C : Type 0} (r : CountedMeaning C) (full : ℕ → Bool) → GoesInRounds r → HasNoRoundLeft r → SaysFull full r.recoverer.desk
-    → HasMadeOrEnded r.recoverer.desk.log.head.splits r.recoverer.number r.recoverer.level r.rounds r.recoverer.desk.log.limit r.recoverer.desk.log.stop full (entries_made r)
-rounds_so r full counted out says = by r.recoverer.desk.log.stopped refl
+rounds_so : {C : Type 0} (r : CountedMeaning C) (held : Sent → Bool) → GoesInRounds r → HasNoRoundLeft r → SaysHeldUp held r.recoverer.desk
+    → HasMadeOrEnded r.recoverer.desk.log.head.splits r.recoverer.number r.recoverer.level r.rounds r.recoverer.desk.log.limit r.recoverer.desk.log.stop held (entries_made r)
+rounds_so r held counted out says = by r.recoverer.desk.log.stopped refl
   where
-    by : (b : Bool) → r.recoverer.desk.log.stopped ≡ b → HasMadeOrEnded r.recoverer.desk.log.head.splits r.recoverer.number r.recoverer.level r.rounds r.recoverer.desk.log.limit r.recoverer.desk.log.stop full (entries_made r)
+    by : (b : Bool) → r.recoverer.desk.log.stopped ≡ b → HasMadeOrEnded r.recoverer.desk.log.head.splits r.recoverer.number r.recoverer.level r.rounds r.recoverer.desk.log.limit r.recoverer.desk.log.stop held (entries_made r)
     by true stopped = elim ((counted.ends stopped).stops) [
       | inl all ↦ inl all
-      | inr stops ↦ inr (stops, has_ended_now r.recoverer.desk full says (counted.ends stopped).end)
+      | inr stops ↦ inr (stops, has_ended_now r.recoverer.desk held says (counted.ends stopped).end)
     ]
     by false going =
         let few = counted.few in
@@ -77,8 +78,8 @@ rounds_so r full counted out says = by r.recoverer.desk.log.stopped refl
 
 module _ {C : Type 0} (work : Workload) (rules : ActorId → ℕ → ℕ → Bool) (c : ClientsMeaning C) (leavers : List Leaver) (history : List (Entry Event)) (clients : AreClients work c) (left : HaveAllLeft work rules c leavers)
     (closed : IsClosedOver work.limit (head_in_work work) leavers history) where
-  abbrev full : ℕ → Bool
-  full = range_is_full work.limit (head_in_work work) history
+  abbrev held : ActorId → Sent → Bool
+  held = holds_up work.limit (head_in_work work) history
 
   abbrev head : Head
   head = head_in_work work
@@ -91,25 +92,27 @@ module _ {C : Type 0} (work : Workload) (rules : ActorId → ℕ → ℕ → Boo
   leaver-behind : (index : ℕ) (r : CountedMeaning C) → slice_get c.recoverers index ≡ Some r → (l : Leaver) × (slice_get leavers (length c.sessions + index) ≡ Some l)
   leaver-behind index r at = there leavers (length c.sessions + index) (let n : index < length c.recoverers = slice_get_within c.recoverers index r at in let m = left.many in omega arith)
 
-  -- what each knows of full ranges is so
-  pub say_full : ClientsSayFull full c
-  say_full = record {
-    sessions = λ index s at range knows.
+  -- what each knows to be refused is held up
+  pub say_held_up : ClientsSayHeldUp held c
+  say_held_up = record {
+    sessions = λ index s at m refused.
         let l = leaver-of index s at in
         let r = clients.runners.each index s at in
         let gone = left.sessions index s l.0 at l.1 in
-        (closed.each index l.0 l.1).full range
-        (subst (λ n. KnowsFull range n l.0.0.part.known) r.range_limit (subst (λ (p : Part Event). KnowsFull range s.session.desk.range_limit p.known) (sym gone.part) knows));
-    recoverers = λ index x at range knows.
+        let within : index < length work.sessions = (let n : index < length c.sessions = slice_get_within c.sessions index s at in let many = clients.runners.many in omega arith) in
+        subst (λ (i : ActorId). held i m ≡ true) (session_at head index within)
+        ((closed.each index l.0 l.1).held m (subst (λ n. WasGivenBack n l.0.0.part m) r.range_limit (subst (λ (p : Part Event). WasGivenBack s.session.desk.range_limit p m) (sym gone.part) refused)));
+    recoverers = λ index x at m refused.
         let l = leaver-behind index x at in
         let r = clients.recoverers.each index x at in
         let gone = left.recoverers index x l.0 at l.1 in
-        (closed.each (length c.sessions + index) l.0 l.1).full range
-        (subst (λ n. KnowsFull range n l.0.0.part.known) r.range_limit (subst (λ (p : Part Event). KnowsFull range x.recoverer.desk.range_limit p.known) (sym gone.part) knows));
+        let place : client_at head (length c.sessions + index) ≡ actors.Recoverer (index + 1) = ap (λ n. client_at head (n + index)) clients.runners.many ∙ recoverer_at head index in
+        subst (λ (i : ActorId). held i m ≡ true) place
+        ((closed.each (length c.sessions + index) l.0 l.1).held m (subst (λ n. WasGivenBack n l.0.0.part m) r.range_limit (subst (λ (p : Part Event). WasGivenBack x.recoverer.desk.range_limit p m) (sym gone.part) refused)));
   }
 
   pub follows_each : AreRunOut c.sessions → (index : ℕ) (session : SessionWork) → slice_get work.sessions index ≡ Some session
-      → FollowsByItself work session (rules (actors.Session (index + 1))) full (actors.Session (index + 1)) (own (protocol head) (actors.Session (index + 1)) history) history
+      → FollowsByItself work session (rules (actors.Session (index + 1))) held (actors.Session (index + 1)) (own (protocol head) (actors.Session (index + 1)) history) history
   follows_each out index session listed =
       let within : index < length work.sessions = slice_get_within work.sessions index session listed in
       let s = there c.sessions index (let m = clients.runners.many in omega arith) in
@@ -120,19 +123,19 @@ module _ {C : Type 0} (work : Workload) (rules : ActorId → ℕ → ℕ → Boo
       let list : own (protocol head) (actors.Session (index + 1)) history ≡ own_list s.0 = kept.list ∙ ap (λ (p : Part Event). p.own) gone.part in
       let script : session.script ≡ s.0.script = ap (λ (w : SessionWork). w.script) (same_some session r.session (sym listed ∙ r.listed)) ∙ r.script in
       let stop : s.0.session.desk.log.stop ≡ session.stop = r.stop ∙ ap (λ (w : SessionWork). w.stop) (sym (same_some session r.session (sym listed ∙ r.listed))) in
-      let P : List (Pair Event) → Type 0 = λ list. FollowsByItself work session (rules (actors.Session (index + 1))) full (actors.Session (index + 1)) list history in
+      let P : List (Pair Event) → Type 0 = λ list. FollowsByItself work session (rules (actors.Session (index + 1))) held (actors.Session (index + 1)) list history in
       subst P (sym list) (record {
         steps = gone.steps session listed;
         keeps = gone.keeps;
         waves = gone.waves;
-        wire = subst (λ (p : Part Event). AreServed full (actors.Session (index + 1)) history (known_of p.own)) gone.part kept.served;
+        wire = subst (λ (p : Part Event). AreServed held (actors.Session (index + 1)) history (known_of p.own)) gone.part kept.served;
         within = gone.within;
         no_later = subst (λ (o : Option ℕ). IfSome o (λ stop. length (own_list s.0) ≤ stop)) stop gone.no_later;
-        end = subst (λ n. IsScriptEnd (script_position n session.script (own_list s.0)) (own_list s.0) ⊎ (list_has_ended work.limit session.stop full (own_list s.0) ≡ true)) (sym r.reruns)
-            (subst (λ (sc : List Item). IsScriptEnd (script_position s.0.at.reruns sc (own_list s.0)) (own_list s.0) ⊎ (list_has_ended work.limit session.stop full (own_list s.0) ≡ true)) (sym script)
-            (subst (λ n. IsScriptEnd (script_position s.0.at.reruns s.0.script (own_list s.0)) (own_list s.0) ⊎ (list_has_ended n session.stop full (own_list s.0) ≡ true)) r.limit
-            (subst (λ (o : Option ℕ). IsScriptEnd (script_position s.0.at.reruns s.0.script (own_list s.0)) (own_list s.0) ⊎ (list_has_ended s.0.session.desk.log.limit o full (own_list s.0) ≡ true)) stop
-            (ends_so s.0 full r.scripted (out index s.0 s.1) (say_full.sessions index s.0 s.1)))));
+        end = subst (λ n. IsScriptEnd (script_position n session.script (own_list s.0)) (own_list s.0) ⊎ (list_has_ended work.limit session.stop (held (actors.Session (index + 1))) (own_list s.0) ≡ true)) (sym r.reruns)
+            (subst (λ (sc : List Item). IsScriptEnd (script_position s.0.at.reruns sc (own_list s.0)) (own_list s.0) ⊎ (list_has_ended work.limit session.stop (held (actors.Session (index + 1))) (own_list s.0) ≡ true)) (sym script)
+            (subst (λ n. IsScriptEnd (script_position s.0.at.reruns s.0.script (own_list s.0)) (own_list s.0) ⊎ (list_has_ended n session.stop (held (actors.Session (index + 1))) (own_list s.0) ≡ true)) r.limit
+            (subst (λ (o : Option ℕ). IsScriptEnd (script_position s.0.at.reruns s.0.script (own_list s.0)) (own_list s.0) ⊎ (list_has_ended s.0.session.desk.log.limit o (held (actors.Session (index + 1))) (own_list s.0) ≡ true)) stop
+            (ends_so s.0 (held (actors.Session (index + 1))) r.scripted (out index s.0 s.1) (say_held_up.sessions index s.0 s.1)))));
       })
     where
       same_some : (x y : SessionWork) → Some x ≡ Some y → x ≡ y
@@ -140,7 +143,7 @@ module _ {C : Type 0} (work : Workload) (rules : ActorId → ℕ → ℕ → Boo
 
   -- a recoverer's rounds
   pub follows_rounds : HaveNoRoundLeft c.recoverers → (index : ℕ) (recoverer : RecovererWork) → slice_get work.recoverers index ≡ Some recoverer
-      → FollowsInRounds work recoverer (rules (actors.Recoverer (index + 1))) full (index + 1) (own (protocol head) (actors.Recoverer (index + 1)) history) history
+      → FollowsInRounds work recoverer (rules (actors.Recoverer (index + 1))) (held (actors.Recoverer (index + 1))) (index + 1) (own (protocol head) (actors.Recoverer (index + 1)) history) history
   follows_rounds out index recoverer listed =
       let within : index < length work.recoverers = slice_get_within work.recoverers index recoverer listed in
       let x = there c.recoverers index (let m = clients.recoverers.many in omega arith) in
@@ -150,14 +153,14 @@ module _ {C : Type 0} (work : Workload) (rules : ActorId → ℕ → ℕ → Boo
       let place : client_at head (length c.sessions + index) ≡ actors.Recoverer (index + 1) = ap (λ n. client_at head (n + index)) clients.runners.many ∙ recoverer_at head index in
       let kept : IsKeptIn work.limit head history (actors.Recoverer (index + 1)) l.0.0.part = subst (λ (i : ActorId). IsKeptIn work.limit head history i l.0.0.part) place (closed.each (length c.sessions + index) l.0 l.1) in
       let list : own (protocol head) (actors.Recoverer (index + 1)) history ≡ entries_made x.0 = kept.list ∙ ap (λ (p : Part Event). p.own) gone.part in
-      let P : List (Pair Event) → Type 0 = λ list. FollowsInRounds work recoverer (rules (actors.Recoverer (index + 1))) full (index + 1) list history in
+      let P : List (Pair Event) → Type 0 = λ list. FollowsInRounds work recoverer (rules (actors.Recoverer (index + 1))) (held (actors.Recoverer (index + 1))) (index + 1) list history in
       let same : recoverer ≡ r.recoverer = same_some recoverer r.recoverer (sym listed ∙ r.listed) in
       let D = x.0.recoverer in
       let stop : D.desk.log.stop ≡ recoverer.stop = r.stop ∙ ap (λ (w : RecovererWork). w.stop) (sym same) in
-      let R : ℕ → Option ℕ → ℕ → Priority → List (List ℕ) → Type 0 = λ limit stop number level splits. HasMadeOrEnded splits number level recoverer.rounds limit stop full (entries_made x.0) in
-      let made : HasMadeOrEnded D.desk.log.head.splits D.number D.level x.0.rounds D.desk.log.limit D.desk.log.stop full (entries_made x.0) = rounds_so x.0 full r.counted (out index x.0 x.1) (say_full.recoverers index x.0 x.1) in
+      let R : ℕ → Option ℕ → ℕ → Priority → List (List ℕ) → Type 0 = λ limit stop number level splits. HasMadeOrEnded splits number level recoverer.rounds limit stop (held (actors.Recoverer (index + 1))) (entries_made x.0) in
+      let made : HasMadeOrEnded D.desk.log.head.splits D.number D.level x.0.rounds D.desk.log.limit D.desk.log.stop (held (actors.Recoverer (index + 1))) (entries_made x.0) = rounds_so x.0 (held (actors.Recoverer (index + 1))) r.counted (out index x.0 x.1) (say_held_up.recoverers index x.0 x.1) in
       let rounds : R D.desk.log.limit D.desk.log.stop D.number D.level D.desk.log.head.splits =
-      subst (λ n. HasMadeOrEnded D.desk.log.head.splits D.number D.level n D.desk.log.limit D.desk.log.stop full (entries_made x.0)) (sym (ap (λ (w : RecovererWork). w.rounds) same ∙ r.rounds)) made in
+      subst (λ n. HasMadeOrEnded D.desk.log.head.splits D.number D.level n D.desk.log.limit D.desk.log.stop (held (actors.Recoverer (index + 1))) (entries_made x.0)) (sym (ap (λ (w : RecovererWork). w.rounds) same ∙ r.rounds)) made in
       let levels : R D.desk.log.limit D.desk.log.stop D.number recoverer.level D.desk.log.head.splits =
       subst (λ v. R D.desk.log.limit D.desk.log.stop D.number v D.desk.log.head.splits) (sym (ap (λ (w : RecovererWork). w.level) same ∙ r.level)) rounds in
       let numbers : R D.desk.log.limit D.desk.log.stop (index + 1) recoverer.level D.desk.log.head.splits = subst (λ n. R D.desk.log.limit D.desk.log.stop n recoverer.level D.desk.log.head.splits) r.number levels in
@@ -166,7 +169,7 @@ module _ {C : Type 0} (work : Workload) (rules : ActorId → ℕ → ℕ → Boo
       let all : R work.limit recoverer.stop (index + 1) recoverer.level work.splits = subst (λ (h : Head). R work.limit recoverer.stop (index + 1) recoverer.level h.splits) r.head stops in
       subst P (sym list) (record {
         readings = gone.readings recoverer listed;
-        wire = subst (λ (p : Part Event). AreServed full (actors.Recoverer (index + 1)) history (known_of p.own)) gone.part kept.served;
+        wire = subst (λ (p : Part Event). AreServed held (actors.Recoverer (index + 1)) history (known_of p.own)) gone.part kept.served;
         within = gone.within;
         no_later = subst (λ (o : Option ℕ). IfSome o (λ n. length (entries_made x.0) ≤ n)) stop gone.no_later;
         rounds = all;
@@ -176,7 +179,7 @@ module _ {C : Type 0} (work : Workload) (rules : ActorId → ℕ → ℕ → Boo
       same_some x y e = cc
 
   -- the whole
-  pub follows_whole : AreAtEnds c → GoAsStated work full work.turns (length work.sessions) (client_pairs head history) → LearnInOrder (client_pairs head history) → FollowsWork work rules head history
+  pub follows_whole : AreAtEnds c → GoAsStated work held work.turns (length work.sessions) (client_pairs head history) → LearnInOrder (client_pairs head history) → FollowsWork work rules head history
   follows_whole out order learns = record {
     splits = refl;
     sessions = refl;
@@ -185,10 +188,10 @@ module _ {C : Type 0} (work : Workload) (rules : ActorId → ℕ → ℕ → Boo
     learns = all_learn_truly head history closed.run learns;
     each = λ number session from listed.
         let same : (number - 1) + 1 ≡ number = omega arith in
-        subst (λ n. FollowsByItself work session (rules (actors.Session n)) full (actors.Session n) (own (protocol head) (actors.Session n) history) history) same (follows_each out.sessions (number - 1) session listed);
+        subst (λ n. FollowsByItself work session (rules (actors.Session n)) (held (actors.Session n)) (actors.Session n) (own (protocol head) (actors.Session n) history) history) same (follows_each out.sessions (number - 1) session listed);
     rounds = λ number recoverer from listed.
         let same : (number - 1) + 1 ≡ number = omega arith in
-        subst (λ n. FollowsInRounds work recoverer (rules (actors.Recoverer n)) full n (own (protocol head) (actors.Recoverer n) history) history) same (follows_rounds out.recoverers (number - 1) recoverer listed);
+        subst (λ n. FollowsInRounds work recoverer (rules (actors.Recoverer n)) (held (actors.Recoverer n)) n (own (protocol head) (actors.Recoverer n) history) history) same (follows_rounds out.recoverers (number - 1) recoverer listed);
   }
 
 pub history_follows : (C : Type 0) → HistoryFollows C
@@ -231,10 +234,10 @@ order-made work rules c leavers history order left closed shares =
 
 pub turns_are_as_stated : (C : Type 0) → TurnsAreAsStated C
 turns_are_as_stated C work rules c leavers history order stated left closed shares some goes =
-    let full = range_is_full work.limit (head_in_work work) history in
-    let kept : GoInTurnsOf work full stated (length work.sessions) (length work.recoverers) (client_pairs (head_in_work work) history) =
-    turns_are_kept (head_in_work work) history closed.parts order (next_in_work work) (ended_in_work work full) (recoverer_ended_in_work work full) (rounds_in_work work) (is_work_opened work) stated closed.stored (order-made work rules c leavers history order left closed shares) goes in
-    subst (λ (o : Option (List Turn)). GoAsStated work full o (length work.sessions) (client_pairs (head_in_work work) history)) (sym some) kept
+    let held = holds_up work.limit (head_in_work work) history in
+    let kept : GoInTurnsOf work held stated (length work.sessions) (length work.recoverers) (client_pairs (head_in_work work) history) =
+    turns_are_kept (head_in_work work) history closed.parts order (next_in_work work) (ended_in_work work held) (recoverer_ended_in_work work held) (rounds_in_work work) (is_work_opened work) stated closed.stored (order-made work rules c leavers history order left closed shares) goes in
+    subst (λ (o : Option (List Turn)). GoAsStated work held o (length work.sessions) (client_pairs (head_in_work work) history)) (sym some) kept
 
 pub learns_are_kept : (C : Type 0) → LearnsAreKept C
 learns_are_kept C work rules c leavers history order left closed shares learns =

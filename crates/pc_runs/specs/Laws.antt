@@ -3,7 +3,7 @@ use Rattle.std.specs.Prelude.{◌≡◌, ℕ, ◌+◌, Bool, false, Some, List, 
 use Rattle.pc_base.specs.declared.actor.ActorId.{ActorId}
 use Rattle.pc_base.specs.declared.entry.Entry.{Entry}
 use Rattle.pc_closing.specs.Closing.{IsClosedOver}
-use Rattle.pc_closing.specs.Full.{range_is_full}
+use Rattle.pc_closing.specs.HeldUp.{holds_up}
 use Rattle.pc_closing.specs.Leaving.{AreLeavers, Leaver}
 use Rattle.pc_desk.specs.Desk.{IsReadyToGo}
 use Rattle.pc_desk.specs.Keeping.{EachAfter, ReadsEach}
@@ -63,8 +63,8 @@ abbrev pub TurnsAreAsStated : Type 0 → Type 0
 TurnsAreAsStated C =
     (work : Workload) (rules : ActorId → ℕ → ℕ → Bool) (clients : ClientsMeaning C) (leavers : List Leaver) (history : List (Entry Event)) (order : List (Pair Event)) (stated : List Turn)
     → HaveAllLeft work rules clients leavers → IsClosedOver work.limit (head_in_work work) leavers history → AreShares (head_in_work work) (client_lists clients) order → work.turns ≡ Some stated
-    → GoInTurnsOf work (range_is_full work.limit (head_in_work work) history) stated (length work.sessions) (length work.recoverers) order
-    → GoAsStated work (range_is_full work.limit (head_in_work work) history) work.turns (length work.sessions) (client_pairs (head_in_work work) history)
+    → GoInTurnsOf work (holds_up work.limit (head_in_work work) history) stated (length work.sessions) (length work.recoverers) order
+    → GoAsStated work (holds_up work.limit (head_in_work work) history) work.turns (length work.sessions) (client_pairs (head_in_work work) history)
 
 -- Where the own lists are the clients' shares of entries among which they learn in order, so they do in the history that they leave.
 abbrev pub LearnsAreKept : Type 0 → Type 0
@@ -86,6 +86,6 @@ abbrev pub HistoryFollows : Type 0 → Type 0
 HistoryFollows C =
     (work : Workload) (rules : ActorId → ℕ → ℕ → Bool) (clients : ClientsMeaning C) (leavers : List Leaver) (history : List (Entry Event))
     → AreClients work clients → HaveAllLeft work rules clients leavers → IsClosedOver work.limit (head_in_work work) leavers history → AreAtEnds clients
-    → GoAsStated work (range_is_full work.limit (head_in_work work) history) work.turns (length work.sessions) (client_pairs (head_in_work work) history)
+    → GoAsStated work (holds_up work.limit (head_in_work work) history) work.turns (length work.sessions) (client_pairs (head_in_work work) history)
     → LearnInOrder (client_pairs (head_in_work work) history)
     → FollowsWork work rules (head_in_work work) history

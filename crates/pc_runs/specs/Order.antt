@@ -12,6 +12,9 @@ use Rattle.pc_work.specs.declared.recoverer.RecovererWork.{RecovererWork}
 use Rattle.pc_work.specs.declared.session.SessionWork.{SessionWork}
 use Rattle.pc_work.specs.declared.turn.Turn.{Turn}
 use Rattle.pc_work.specs.declared.workload.Workload.{Workload}
+use Rattle.pc_world.specs.Known.Traffic.{Sent}
+use Rattle.pc_base.specs.declared.actor.ActorId.{ActorId}
+use Rattle.pc_base.specs.declared.actor.ActorId.TheVariants as actors
 
 -- The call that comes next in a session's script, after its own list; none where the workload has no such session.
 abbrev pub next_of_work : ℕ → Option SessionWork → List (Pair Event) → Option Call
@@ -36,18 +39,18 @@ abbrev pub stop_of_work : Option SessionWork → Option ℕ
 stop_of_work None = None
 stop_of_work (Some session) = session.stop
 
--- After these entries of its own the list of the session of this number has ended; this says which ranges are full.
-abbrev pub ended_in_work : Workload → (ℕ → Bool) → ℕ → List (Pair Event) → Bool
-ended_in_work work full number own = list_has_ended work.limit (stop_of_work (slice_get work.sessions (number - 1))) full own
+-- After these entries of its own the list of the session of this number has ended; this says which messages of whom are held up.
+abbrev pub ended_in_work : Workload → (ActorId → Sent → Bool) → ℕ → List (Pair Event) → Bool
+ended_in_work work held number own = list_has_ended work.limit (stop_of_work (slice_get work.sessions (number - 1))) (held (actors.Session number)) own
 
 -- The number of entries that is stated for a recoverer's stop, if one is; none where the workload has no such recoverer.
 abbrev pub recoverer_stop : Option RecovererWork → Option ℕ
 recoverer_stop None = None
 recoverer_stop (Some recoverer) = recoverer.stop
 
--- After these entries of its own the list of the recoverer of this number has ended; this says which ranges are full.
-abbrev pub recoverer_ended_in_work : Workload → (ℕ → Bool) → ℕ → List (Pair Event) → Bool
-recoverer_ended_in_work work full number own = list_has_ended work.limit (recoverer_stop (slice_get work.recoverers (number - 1))) full own
+-- After these entries of its own the list of the recoverer of this number has ended; this says which messages of whom are held up.
+abbrev pub recoverer_ended_in_work : Workload → (ActorId → Sent → Bool) → ℕ → List (Pair Event) → Bool
+recoverer_ended_in_work work held number own = list_has_ended work.limit (recoverer_stop (slice_get work.recoverers (number - 1))) (held (actors.Recoverer number)) own
 
 -- How many rounds a recoverer makes; none where the workload has no such recoverer.
 abbrev pub rounds_of_work : Option RecovererWork → ℕ
@@ -58,13 +61,13 @@ rounds_of_work (Some recoverer) = recoverer.rounds
 abbrev pub rounds_in_work : Workload → ℕ → ℕ
 rounds_in_work work number = rounds_of_work (slice_get work.recoverers (number - 1))
 
--- The order of the clients' entries is that of these turns of the workload; this says which ranges are full.
-abbrev pub GoInTurnsOf : Workload → (ℕ → Bool) → List Turn → ℕ → ℕ → List (Pair Event) → Type 0
-GoInTurnsOf work full stated sessions recoverers order =
-    GoInTurns (next_in_work work) (ended_in_work work full) (recoverer_ended_in_work work full) (rounds_in_work work) (is_work_opened work) stated sessions recoverers order
+-- The order of the clients' entries is that of these turns of the workload; this says which messages of whom are held up.
+abbrev pub GoInTurnsOf : Workload → (ActorId → Sent → Bool) → List Turn → ℕ → ℕ → List (Pair Event) → Type 0
+GoInTurnsOf work held stated sessions recoverers order =
+    GoInTurns (next_in_work work) (ended_in_work work held) (recoverer_ended_in_work work held) (rounds_in_work work) (is_work_opened work) stated sessions recoverers order
 
-module _ (work : Workload) (full : ℕ → Bool) where
-  -- The clients' entries go in these turns, or on threads where no turns are stated; this says which ranges are full.
+module _ (work : Workload) (held : ActorId → Sent → Bool) where
+  -- The clients' entries go in these turns, or on threads where no turns are stated; this says which messages of whom are held up.
   abbrev pub GoAsStated : Option (List Turn) → ℕ → List (Pair Event) → Type 0
-  GoAsStated (Some stated) sessions order = GoInTurnsOf work full stated sessions (length work.recoverers) order
-  GoAsStated None sessions order = GoOnThreads (next_in_work work) (ended_in_work work full) (is_work_opened work) sessions order
+  GoAsStated (Some stated) sessions order = GoInTurnsOf work held stated sessions (length work.recoverers) order
+  GoAsStated None sessions order = GoOnThreads (next_in_work work) (ended_in_work work held) (is_work_opened work) sessions order

@@ -7,9 +7,10 @@ use Rattle.pc_desk.specs.Keeping.{ReadsEach}
 use Rattle.pc_rounds.specs.Counted.{CountedMeaning, GoesInRounds, entries_made}
 use Rattle.pc_runs.specs.Runners.{head_in_work}
 use Rattle.pc_script.specs.Clocks.{clock_rule}
-use Rattle.pc_scripted.specs.Ended.{SaysFull}
+use Rattle.pc_scripted.specs.Ended.{SaysHeldUp}
 use Rattle.pc_work.specs.declared.recoverer.RecovererWork.{RecovererWork}
 use Rattle.pc_work.specs.declared.workload.Workload.{Workload}
+use Rattle.pc_world.specs.Known.Traffic.{Sent}
 
 -- The recoverer makes the rounds that the workload states at this index, at the level stated there, within its limits and up to its stop.
 pub record IsRecovererIn {C : Type 0} (work : Workload) (index : ℕ) (r : CountedMeaning C) : Type 0 where
@@ -35,9 +36,9 @@ HaveRecovererClocks {C} rule rules work recoverers =
     (index : ℕ) (r : CountedMeaning C) (recoverer : RecovererWork) → slice_get recoverers index ≡ Some r → slice_get work.recoverers index ≡ Some recoverer
     → rule r.recoverer.desk.log.clock ≡ clock_rule recoverer.clock (rules (actors.Recoverer (index + 1)))
 
--- Where a recoverer knows that a range is full, this says so.
-abbrev pub RecoverersSayFull : {C : Type 0} → (ℕ → Bool) → List (CountedMeaning C) → Type 0
-RecoverersSayFull {C} full recoverers = (index : ℕ) (r : CountedMeaning C) → slice_get recoverers index ≡ Some r → SaysFull full r.recoverer.desk
+-- Where a recoverer knows that its message was refused by a full range, this says that it is held up.
+abbrev pub RecoverersSayHeldUp : {C : Type 0} → (ActorId → Sent → Bool) → List (CountedMeaning C) → Type 0
+RecoverersSayHeldUp {C} held recoverers = (index : ℕ) (r : CountedMeaning C) → slice_get recoverers index ≡ Some r → SaysHeldUp (held (actors.Recoverer (index + 1))) r.recoverer.desk
 
 -- The recoverer's list has ended, or it made all its rounds.
 pub record HasNoRoundLeft {C : Type 0} (r : CountedMeaning C) : Type 0 where

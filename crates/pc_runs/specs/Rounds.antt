@@ -12,14 +12,17 @@ use Rattle.pc_scripted.specs.Ended.{list_has_ended}
 use Rattle.pc_work.specs.declared.recoverer.RecovererWork.{RecovererWork}
 use Rattle.pc_work.specs.declared.workload.Workload.{Workload}
 use Rattle.pc_world.specs.Known.{known_of}
+use Rattle.pc_world.specs.Known.Traffic.{Sent}
+use Rattle.pc_base.specs.declared.actor.ActorId.{ActorId}
 
 -- The recoverer's own list follows its work: in its readings, on the wire, in its length, and in its rounds, which are all that it has to make,
--- or fewer where its list ends early; this says which ranges are full. A recoverer that stops leaves its message to be evaluated like any other's.
-pub record FollowsInRounds (work : Workload) (recoverer : RecovererWork) (rule : ℕ → ℕ → Bool) (full : ℕ → Bool) (number : ℕ) (list : List (Pair Event)) (history : List (Entry Event)) : Type 0 where
+-- or fewer where its list ends early; this says which of its messages full ranges hold up. A recoverer that stops leaves its message to be evaluated
+-- like any other's.
+pub record FollowsInRounds (work : Workload) (recoverer : RecovererWork) (rule : ℕ → ℕ → Bool) (held : Sent → Bool) (number : ℕ) (list : List (Pair Event)) (history : List (Entry Event)) : Type 0 where
   pub readings : ReadsEach (clock_rule recoverer.clock rule) list
-  pub wire : AreServed full (actors.Recoverer number) history (known_of list)
+  pub wire : AreServed held (actors.Recoverer number) history (known_of list)
   pub within : length list ≤ work.limit
   pub no_later : IfSome recoverer.stop (λ stop. length list ≤ stop)
   pub rounds :
       AreWholeRounds work.splits number recoverer.level recoverer.rounds list
-      ⊎ (StopsBefore work.splits number recoverer.level recoverer.rounds list × (list_has_ended work.limit recoverer.stop full list ≡ true))
+      ⊎ (StopsBefore work.splits number recoverer.level recoverer.rounds list × (list_has_ended work.limit recoverer.stop held list ≡ true))

@@ -7,11 +7,12 @@ use Rattle.pc_desk.specs.Keeping.{EachAfter, KeepsEach}
 use Rattle.pc_desk.specs.Waves.{KeepsWavesEach}
 use Rattle.pc_script.specs.Clocks.{clock_rule}
 use Rattle.pc_script.specs.Steps.{KeepsWork}
-use Rattle.pc_scripted.specs.Ended.{SaysFull}
+use Rattle.pc_scripted.specs.Ended.{SaysHeldUp}
 use Rattle.pc_scripted.specs.Scripted.{IsScripted, ScriptedMeaning, own_number, own_list}
 use Rattle.pc_scripted.specs.Taking.{IsRunOut}
 use Rattle.pc_work.specs.declared.session.SessionWork.{SessionWork}
 use Rattle.pc_work.specs.declared.workload.Workload.{Workload}
+use Rattle.pc_world.specs.Known.Traffic.{Sent}
 use Rattle.pc_world.specs.Local.{Head}
 
 -- The head of a workload's history.
@@ -42,9 +43,9 @@ HaveClocks {C} rule rules work sessions =
     (index : ℕ) (s : ScriptedMeaning C) (session : SessionWork) → slice_get sessions index ≡ Some s → slice_get work.sessions index ≡ Some session
     → rule s.session.desk.log.clock ≡ clock_rule session.clock (rules (actors.Session (index + 1)))
 
--- Where a session knows that a range is full, this says so.
-abbrev pub SaysAllFull : {C : Type 0} → (ℕ → Bool) → List (ScriptedMeaning C) → Type 0
-SaysAllFull {C} full sessions = (index : ℕ) (s : ScriptedMeaning C) → slice_get sessions index ≡ Some s → SaysFull full s.session.desk
+-- Where a session knows that its message was refused by a full range, this says that it is held up.
+abbrev pub SaysAllHeldUp : {C : Type 0} → (ActorId → Sent → Bool) → List (ScriptedMeaning C) → Type 0
+SaysAllHeldUp {C} held sessions = (index : ℕ) (s : ScriptedMeaning C) → slice_get sessions index ≡ Some s → SaysHeldUp (held (actors.Session (index + 1))) s.session.desk
 
 -- Each session's list has ended, or its script is over.
 abbrev pub AreRunOut : {C : Type 0} → List (ScriptedMeaning C) → Type 0

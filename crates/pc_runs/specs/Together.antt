@@ -5,10 +5,11 @@ use Rattle.pc_closing.specs.Leaving.{Leaver}
 use Rattle.pc_history.specs.declared.pair.Pair.{Pair}
 use Rattle.pc_proto.specs.declared.event.Event.{Event}
 use Rattle.pc_rounds.specs.Counted.{CountedMeaning, entries_made}
-use Rattle.pc_runs.specs.Recoverers.{AreRecoverers, HasLeftInRounds, HaveNoRoundLeft, HaveRecovererClocks, RecoverersSayFull}
-use Rattle.pc_runs.specs.Runners.{AreRunOut, AreRunners, HasLeftAs, HaveClocks, SaysAllFull}
+use Rattle.pc_runs.specs.Recoverers.{AreRecoverers, HasLeftInRounds, HaveNoRoundLeft, HaveRecovererClocks, RecoverersSayHeldUp}
+use Rattle.pc_runs.specs.Runners.{AreRunOut, AreRunners, HasLeftAs, HaveClocks, SaysAllHeldUp}
 use Rattle.pc_scripted.specs.Scripted.{ScriptedMeaning, own_list}
 use Rattle.pc_work.specs.declared.workload.Workload.{Workload}
+use Rattle.pc_world.specs.Known.Traffic.{Sent}
 
 -- Sessions with their scripts, and recoverers with their rounds.
 pub record ClientsMeaning (C : Type 0) : Type 0 where
@@ -29,10 +30,10 @@ pub record HaveClientClocks {C : Type 0} (rule : C → ℕ → ℕ → Bool) (ru
   pub sessions : HaveClocks rule rules work c.sessions
   pub recoverers : HaveRecovererClocks rule rules work c.recoverers
 
--- Where one of them knows that a range is full, this says so.
-pub record ClientsSayFull {C : Type 0} (full : ℕ → Bool) (c : ClientsMeaning C) : Type 0 where
-  pub sessions : SaysAllFull full c.sessions
-  pub recoverers : RecoverersSayFull full c.recoverers
+-- Where one of them knows that its message was refused by a full range, this says that it is held up.
+pub record ClientsSayHeldUp {C : Type 0} (held : ActorId → Sent → Bool) (c : ClientsMeaning C) : Type 0 where
+  pub sessions : SaysAllHeldUp held c.sessions
+  pub recoverers : RecoverersSayHeldUp held c.recoverers
 
 -- Each list has ended, or its script is over or its rounds are made.
 pub record AreAtEnds {C : Type 0} (c : ClientsMeaning C) : Type 0 where

@@ -121,6 +121,6 @@ module _ {C : Type 0} (old : ScriptedMeaning C) (new : SessionMeaning C) (at : P
       above = called.grown.above;
       known = called.grown.known;
     };
-    is = λ full says. asks_whole (next_in_script reruns old.script) (ended_in_script old.session.desk.log.limit old.session.desk.log.stop full) (own_number old) (own_list old) called.part
-        (not_ended old.session.desk.log.limit old.session.desk.log.stop full (own_list old) (goes.rest.track.log.before_stop going) goes.rest.heard room) call next-here whole-call;
+    is = λ held says. asks_whole (next_in_script reruns old.script) (ended_in_script old.session.desk.log.limit old.session.desk.log.stop held) (own_number old) (own_list old) called.part
+        (not_ended old.session.desk.log.limit old.session.desk.log.stop held (own_list old) (goes.rest.track.log.before_stop going) goes.rest.heard room) call next-here whole-call;
   }

@@ -5,7 +5,8 @@ use Rattle.pc_base.specs.declared.actor.ActorId.TheVariants as actors
 use Rattle.pc_coord.specs.declared.job.Job.{Job}
 use Rattle.pc_coord.specs.Knows.{messages_of_job}
 use Rattle.pc_desk.specs.Desk.{DeskMeaning}
-use Rattle.pc_desk.specs.Ending.{EndsEarly, IsNotLost}
+use Rattle.pc_desk.proofs.Refusing.{refused_still}
+use Rattle.pc_desk.specs.Ending.{IsSpent, EndsEarly, IsNotLost}
 use Rattle.pc_history.specs.declared.pair.Pair.{Pair}
 use Rattle.pc_history.specs.declared.view.Known.{Known as KnownEntry}
 use Rattle.pc_history.specs.Parts.{told}
@@ -72,19 +73,19 @@ module _ {C : Type 0} (d : DeskMeaning C) (note : List (KnownEntry Event)) where
   ends_still (inl end) = inl (record { long = end.long; each = All-weaker (IsNotLost d) (IsNotLost taught) not_lost_still (known_of d.log.part.own).sent end.each; waits = end.waits })
   ends_still (inr (inr end)) = inr (inr (record { long = end.long; each = All-weaker (IsNotLost d) (IsNotLost taught) not_lost_still (known_of d.log.part.own).sent end.each; waits = end.waits }))
   ends_still (inr (inl end)) = inr (inl (record {
-    range = end.range;
-    full = record { entry = end.full.entry; knows = Contains-append_left d.log.part.known note end.full.entry end.full.knows; full = end.full.full };
     message = end.message;
     sent = end.sent;
-    goes = end.goes;
-    unheard = end.unheard;
-    others = All-weaker (λ m. (m.number ≡ end.message.number) ⊎ IsNotLost d m) (λ m. (m.number ≡ end.message.number) ⊎ IsNotLost taught m) other (known_of d.log.part.own).sent end.others;
+    spent = spent_still end.message end.spent;
+    others = All-weaker (λ m. IsSpent d m ⊎ IsNotLost d m) (λ m. IsSpent taught m ⊎ IsNotLost taught m) other (known_of d.log.part.own).sent end.others;
     waits = end.waits;
     later = end.later;
   }))
     where
-      other : (m : Sent) → (m.number ≡ end.message.number) ⊎ IsNotLost d m → (m.number ≡ end.message.number) ⊎ IsNotLost taught m
-      other m (inl it) = inl it
+      spent_still : (m : Sent) → IsSpent d m → IsSpent taught m
+      spent_still m spent = record { refused = refused_still d.range_limit d.range_limit d.log.part taught.log.part m refl refl (λ k there. Contains-append_left d.log.part.known note k there) spent.refused; unheard = spent.unheard }
+
+      other : (m : Sent) → IsSpent d m ⊎ IsNotLost d m → IsSpent taught m ⊎ IsNotLost taught m
+      other m (inl it) = inl (spent_still m it)
       other m (inr kept) = inr (not_lost_still m kept)
 
 pub followed_scripted : {C : Type 0} (old : ScriptedMeaning C) (new : SessionMeaning C) (note : List (KnownEntry Event))

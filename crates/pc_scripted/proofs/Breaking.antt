@@ -19,13 +19,14 @@ use Rattle.pc_script.specs.Script.{next_call, script_position}
 use Rattle.pc_scripted.proofs.Passing.{order_asked, order_between, order_told}
 use Rattle.pc_scripted.proofs.Tests.{has_ended_now, no_room, only_at_limit}
 use Rattle.pc_scripted.proofs.Turning.{asks_ended, asks_partly, asks_whole, finishes_ended, finishes_partly}
-use Rattle.pc_scripted.specs.Ended.{SaysFull, ended_in_script, list_has_ended}
+use Rattle.pc_scripted.specs.Ended.{SaysHeldUp, ended_in_script, list_has_ended}
 use Rattle.pc_scripted.specs.Scripted.{AskInOrder, GoesOnInScript, IsScripted, ScriptedMeaning, next_in_script, own_number, own_list, session_number}
 use Rattle.pc_scripted.specs.Taking.{AsksInTurn, FinishesInTurn, HasMoved, HasMovedBy, Move}
 use Rattle.pc_session.specs.Ending.{AreOfBrokenCall, AreOfOpenCall, AreToldAtLast}
 use Rattle.pc_session.specs.Session.{SessionMeaning}
 use Rattle.pc_turns.specs.Order.{AsksAfter, FinishesAfter, IsInBetween, events_of}
 use Rattle.pc_follows.specs.FinishingJobs.{jobs_of}
+use Rattle.pc_world.specs.Known.Traffic.{Sent}
 
 -- what ended the list, where memory was not wanted
 ended_off : (halt : Halt) (So : Type 0) → (halt ≡ halts.NoMemory → ⊥) → IsEndedBy halt So → So
@@ -128,27 +129,27 @@ module _ {C : Type 0} (Are : List Event → Type 0) (old : ScriptedMeaning C) (n
   }
 
   -- the list has ended
-  ended-then : (full : ℕ → Bool) → SaysFull full new.desk → list_has_ended old.session.desk.log.limit old.session.desk.log.stop full (own_list old ++ b.part) ≡ true
-  ended-then full says =
-      subst (λ own. list_has_ended old.session.desk.log.limit old.session.desk.log.stop full own ≡ true) b.own
-      (subst (λ n. list_has_ended n old.session.desk.log.stop full new.desk.log.part.own ≡ true) limit-then
-      (subst (λ o. list_has_ended new.desk.log.limit o full new.desk.log.part.own ≡ true) stop-then (has_ended_now new.desk full says b.end)))
+  ended-then : (held : Sent → Bool) → SaysHeldUp held new.desk → list_has_ended old.session.desk.log.limit old.session.desk.log.stop held (own_list old ++ b.part) ≡ true
+  ended-then held says =
+      subst (λ own. list_has_ended old.session.desk.log.limit old.session.desk.log.stop held own ≡ true) b.own
+      (subst (λ n. list_has_ended n old.session.desk.log.stop held new.desk.log.part.own ≡ true) limit-then
+      (subst (λ o. list_has_ended new.desk.log.limit o held new.desk.log.part.own ≡ true) stop-then (has_ended_now new.desk held says b.end)))
 
   -- and if it had before, nothing was made
-  nothing-made : (full : ℕ → Bool) → list_has_ended old.session.desk.log.limit old.session.desk.log.stop full (own_list old) ≡ true → b.part ≡ []
-  nothing-made full before =
-      no_room old.session.desk.log.limit (own_list old) b.part (only_at_limit old.session.desk.log.limit old.session.desk.log.stop full (own_list old) (goes.rest.track.log.before_stop going) goes.rest.heard before)
+  nothing-made : (held : Sent → Bool) → list_has_ended old.session.desk.log.limit old.session.desk.log.stop held (own_list old) ≡ true → b.part ≡ []
+  nothing-made held before =
+      no_room old.session.desk.log.limit (own_list old) b.part (only_at_limit old.session.desk.log.limit old.session.desk.log.stop held (own_list old) (goes.rest.track.log.before_stop going) goes.rest.heard before)
       (subst (λ own. length own ≤ old.session.desk.log.limit) b.own (subst (λ n. length new.desk.log.part.own ≤ n) limit-then b.within))
 
   -- if it had not, something was made
-  something-made : (full : ℕ → Bool) → SaysFull full new.desk → list_has_ended old.session.desk.log.limit old.session.desk.log.stop full (own_list old) ≡ false → b.part ≡ [] → ⊥
-  something-made full says before none =
-      let now : list_has_ended old.session.desk.log.limit old.session.desk.log.stop full (own_list old) ≡ true =
-      ap (list_has_ended old.session.desk.log.limit old.session.desk.log.stop full) (sym (append-nil (own_list old)) ∙ ap (λ p. own_list old ++ p) (sym none)) ∙ ended-then full says in
+  something-made : (held : Sent → Bool) → SaysHeldUp held new.desk → list_has_ended old.session.desk.log.limit old.session.desk.log.stop held (own_list old) ≡ false → b.part ≡ [] → ⊥
+  something-made held says before none =
+      let now : list_has_ended old.session.desk.log.limit old.session.desk.log.stop held (own_list old) ≡ true =
+      ap (list_has_ended old.session.desk.log.limit old.session.desk.log.stop held) (sym (append-nil (own_list old)) ∙ ap (λ p. own_list old ++ p) (sym none)) ∙ ended-then held says in
       let e : true ≡ false = sym now ∙ before in
       absurd cc
 
-  moved-so : (Is : Move) → ((full : ℕ → Bool) → SaysFull full new.desk → Is (ended_in_script old.session.desk.log.limit old.session.desk.log.stop full) (own_list old) b.part) → HasMoved Is old broken_then
+  moved-so : (Is : Move) → ((held : Sent → Bool) → SaysHeldUp held new.desk → Is (ended_in_script old.session.desk.log.limit old.session.desk.log.stop held) (own_list old) b.part) → HasMoved Is old broken_then
   moved-so Is is = record { part = b.part; by = moved-by; is = is }
 
 -- in a call
@@ -163,8 +164,8 @@ module _ {C : Type 0} (Are : List Event → Type 0) (old : ScriptedMeaning C) (n
   order-by (p ∷ ps) (inr (inl asked)) = order_asked old.at.reruns old.script (own_list old) (p ∷ ps) call asked.reading asked.between scripted.asks asked.begins asked.within next-here
   order-by (p ∷ ps) (inr (inr told)) = order_told old.at.reruns old.script (own_list old) (p ∷ ps) call told.reading told.between told.answer scripted.asks told.whole told.within next-here
 
-  abbrev ended-by : (ℕ → Bool) → ℕ → List (Pair Event) → Bool
-  ended-by full = ended_in_script old.session.desk.log.limit old.session.desk.log.stop full
+  abbrev ended-by : (Sent → Bool) → ℕ → List (Pair Event) → Bool
+  ended-by held = ended_in_script old.session.desk.log.limit old.session.desk.log.stop held
 
   abbrev next-by : ℕ → List (Pair Event) → Option Call
   next-by = next_in_script old.at.reruns old.script
@@ -176,31 +177,31 @@ module _ {C : Type 0} (Are : List Event → Type 0) (old : ScriptedMeaning C) (n
   no-events [] none = refl
   no-events (p ∷ ps) none = absurd (let e : p.entry.event ∷ events_of ps ≡ [] = none in cc)
 
-  partly : (full : ℕ → Bool) → SaysFull full new.desk → ended-by full (own_number old) (own_list old) ≡ false → IsMadeOf call (events_of b.part) → AsksAfter next-by (ended-by full) (own_number old) (own_list old) b.part
-  partly full says on (inl none) = absurd (something-made Are old new scripted going b orders full says on (no-events b.part none))
-  partly full says on (inr (inl asked)) =
-      asks_partly next-by (ended-by full) (own_number old) (own_list old) b.part on call next-here
+  partly : (held : Sent → Bool) → SaysHeldUp held new.desk → ended-by held (own_number old) (own_list old) ≡ false → IsMadeOf call (events_of b.part) → AsksAfter next-by (ended-by held) (own_number old) (own_list old) b.part
+  partly held says on (inl none) = absurd (something-made Are old new scripted going b orders held says on (no-events b.part none))
+  partly held says on (inr (inl asked)) =
+      asks_partly next-by (ended-by held) (own_number old) (own_list old) b.part on call next-here
       (record { whose = whose-part Are old new scripted going b orders; reading = asked.reading; between = asked.between; begins = asked.begins; within = asked.within })
-      (ended-then Are old new scripted going b orders full says)
-  partly full says on (inr (inr told)) =
-      asks_whole next-by (ended-by full) (own_number old) (own_list old) b.part on call next-here
+      (ended-then Are old new scripted going b orders held says)
+  partly held says on (inr (inr told)) =
+      asks_whole next-by (ended-by held) (own_number old) (own_list old) b.part on call next-here
       (record { whose = whose-part Are old new scripted going b orders; reading = told.reading; between = told.between; answer = told.answer; whole = told.whole; within = told.within })
 
-  asks-so : (full : ℕ → Bool) → SaysFull full new.desk → (e : Bool) → ended-by full (own_number old) (own_list old) ≡ e → AsksAfter next-by (ended-by full) (own_number old) (own_list old) b.part
-  asks-so full says true is =
-      asks_ended next-by (ended-by full) (own_number old) (own_list old) b.part is (nothing-made Are old new scripted going b orders full is)
-  asks-so full says false is = partly full says is made
+  asks-so : (held : Sent → Bool) → SaysHeldUp held new.desk → (e : Bool) → ended-by held (own_number old) (own_list old) ≡ e → AsksAfter next-by (ended-by held) (own_number old) (own_list old) b.part
+  asks-so held says true is =
+      asks_ended next-by (ended-by held) (own_number old) (own_list old) b.part is (nothing-made Are old new scripted going b orders held is)
+  asks-so held says false is = partly held says is made
 
   pub moved_broken_call : HasMoved (AsksInTurn old) old (record { session = new; script = old.script; at = old.at })
   moved_broken_call =
       moved-so Are old new scripted going b orders (AsksInTurn old)
-      (λ full says. asks-so full says (ended-by full (own_number old) (own_list old)) refl)
+      (λ held says. asks-so held says (ended-by held (own_number old) (own_list old)) refl)
 
 -- in a job
 module _ {C : Type 0} (old : ScriptedMeaning C) (new : SessionMeaning C) (scripted : IsScripted old) (going : old.session.desk.log.stopped ≡ false)
     (b : HasBrokenOff (All IsInBetween) old.session.desk new.desk) where
-  abbrev ended-at : (ℕ → Bool) → ℕ → List (Pair Event) → Bool
-  ended-at full = ended_in_script old.session.desk.log.limit old.session.desk.log.stop full
+  abbrev ended-at : (Sent → Bool) → ℕ → List (Pair Event) → Bool
+  ended-at held = ended_in_script old.session.desk.log.limit old.session.desk.log.stop held
 
   abbrev next-at : ℕ → List (Pair Event) → Option Call
   next-at = next_in_script old.at.reruns old.script
@@ -208,19 +209,19 @@ module _ {C : Type 0} (old : ScriptedMeaning C) (new : SessionMeaning C) (script
   orders-then : AskInOrder old.at.reruns old.script (own_list old ++ b.part)
   orders-then = order_between old.at.reruns old.script (own_list old) b.part scripted.asks b.are
 
-  finishes-so : (full : ℕ → Bool) → SaysFull full new.desk → (job : List Request) (jobs : List (List Request)) → jobs_of (own_list old) ≡ job ∷ jobs → (e : Bool) → ended-at full (own_number old) (own_list old) ≡ e
-      → FinishesAfter next-at (ended-at full) (own_number old) (own_list old) b.part
-  finishes-so full says job jobs waits true is =
-      finishes_ended next-at (ended-at full) (own_number old) (own_list old) b.part is (nothing-made (All IsInBetween) old new scripted going b orders-then full is)
-  finishes-so full says job jobs waits false is =
-      finishes_partly next-at (ended-at full) (own_number old) (own_list old) b.part is job jobs waits
+  finishes-so : (held : Sent → Bool) → SaysHeldUp held new.desk → (job : List Request) (jobs : List (List Request)) → jobs_of (own_list old) ≡ job ∷ jobs → (e : Bool) → ended-at held (own_number old) (own_list old) ≡ e
+      → FinishesAfter next-at (ended-at held) (own_number old) (own_list old) b.part
+  finishes-so held says job jobs waits true is =
+      finishes_ended next-at (ended-at held) (own_number old) (own_list old) b.part is (nothing-made (All IsInBetween) old new scripted going b orders-then held is)
+  finishes-so held says job jobs waits false is =
+      finishes_partly next-at (ended-at held) (own_number old) (own_list old) b.part is job jobs waits
       (record { whose = whose-part (All IsInBetween) old new scripted going b orders-then; within = b.are })
-      (ended-then (All IsInBetween) old new scripted going b orders-then full says)
+      (ended-then (All IsInBetween) old new scripted going b orders-then held says)
 
   pub moved_broken_job : (job : List Request) (jobs : List (List Request)) → jobs_of (own_list old) ≡ job ∷ jobs → HasMoved (FinishesInTurn old) old (record { session = new; script = old.script; at = old.at })
   moved_broken_job job jobs waits =
       moved-so (All IsInBetween) old new scripted going b orders-then (FinishesInTurn old)
-      (λ full says. finishes-so full says job jobs waits (ended-at full (own_number old) (own_list old)) refl)
+      (λ held says. finishes-so held says job jobs waits (ended-at held (own_number old) (own_list old)) refl)
 
   -- where a job waited
   pub moved_broken_step : (jobs_of (own_list old) ≡ [] → ⊥) → HasMoved (FinishesInTurn old) old (record { session = new; script = old.script; at = old.at })

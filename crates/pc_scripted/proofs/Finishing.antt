@@ -106,6 +106,6 @@ module _ {C : Type 0} (old : ScriptedMeaning C) (new : SessionMeaning C) (script
       above = step.grown.above;
       known = step.grown.known;
     };
-    is = λ full says. finishes_whole (next_in_script old.at.reruns old.script) (ended_in_script old.session.desk.log.limit old.session.desk.log.stop full) (own_number old) (own_list old) step.part
-        (not_ended old.session.desk.log.limit old.session.desk.log.stop full (own_list old) (goes.rest.track.log.before_stop going) goes.rest.heard room) (messages_of_job step.job) waiting oldest-is whole-job;
+    is = λ held says. finishes_whole (next_in_script old.at.reruns old.script) (ended_in_script old.session.desk.log.limit old.session.desk.log.stop held) (own_number old) (own_list old) step.part
+        (not_ended old.session.desk.log.limit old.session.desk.log.stop held (own_list old) (goes.rest.track.log.before_stop going) goes.rest.heard room) (messages_of_job step.job) waiting oldest-is whole-job;
   }

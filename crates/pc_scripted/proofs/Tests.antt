@@ -7,7 +7,7 @@ use Rattle.pc_desk.specs.Ending.{EndsEarly}
 use Rattle.pc_history.specs.declared.pair.Pair.{Pair}
 use Rattle.pc_lists.proofs.Lists.{contains_cons, contains_nil}
 use Rattle.pc_proto.specs.declared.event.Event.{Event}
-use Rattle.pc_scripted.specs.Ended.{SaysFull, list_has_ended, reaches_stop, waits_for_one_of}
+use Rattle.pc_scripted.specs.Ended.{SaysHeldUp, list_has_ended, reaches_stop, waits_for_one_of}
 use Rattle.pc_world.specs.Known.{Known, known_of}
 use Rattle.pc_world.specs.Known.Traffic.{Sent}
 use Rattle.pc_world.specs.Tell.Refusal.{is_heard}
@@ -40,13 +40,13 @@ both_false true false e = absurd cc
 both_false false b e = refl
 
 -- where each message was heard, no session waits
-pub waits_for_none : (full : ℕ → Bool) (k : Known) → All (λ m. IsTrue (is_heard k.heard m)) k.sent → waits_for_one_of full k ≡ false
-waits_for_none full k heard = none_any (λ m. full m.range && not (is_heard k.heard m)) k.sent (each k.sent heard)
+pub waits_for_none : (held : Sent → Bool) (k : Known) → All (λ m. IsTrue (is_heard k.heard m)) k.sent → waits_for_one_of held k ≡ false
+waits_for_none held k heard = none_any (λ m. held m && not (is_heard k.heard m)) k.sent (each k.sent heard)
   where
-    each : (sent : List Sent) → All (λ m. IsTrue (is_heard k.heard m)) sent → All (λ m. (full m.range && not (is_heard k.heard m)) ≡ false) sent
-    each [] all = All-nil (λ m. (full m.range && not (is_heard k.heard m)) ≡ false)
+    each : (sent : List Sent) → All (λ m. IsTrue (is_heard k.heard m)) sent → All (λ m. (held m && not (is_heard k.heard m)) ≡ false) sent
+    each [] all = All-nil (λ m. (held m && not (is_heard k.heard m)) ≡ false)
     each (m ∷ ms) all =
-        All-cons (λ m. (full m.range && not (is_heard k.heard m)) ≡ false) m ms (both_false (full m.range) (is_heard k.heard m) (true_is (is_heard k.heard m) (All-head (λ m. IsTrue (is_heard k.heard m)) m ms all)))
+        All-cons (λ m. (held m && not (is_heard k.heard m)) ≡ false) m ms (both_false (held m) (is_heard k.heard m) (true_is (is_heard k.heard m) (All-head (λ m. IsTrue (is_heard k.heard m)) m ms all)))
         (each ms (All-tail (λ m. IsTrue (is_heard k.heard m)) m ms all))
       where
         true_is : (b : Bool) → IsTrue b → b ≡ true
@@ -61,43 +61,42 @@ not_stopped : (stop : Option ℕ) (long : ℕ) → IfSome stop (λ n. long < n) 
 not_stopped None long going = refl
 not_stopped (Some n) long going = eqb_other long n going
 
-module _ (limit : ℕ) (stop : Option ℕ) (full : ℕ → Bool) (own : List (Pair Event)) (going : IfSome stop (λ n. length own < n)) (heard : All (λ m. IsTrue (is_heard (known_of own).heard m)) (known_of own).sent) where
+module _ (limit : ℕ) (stop : Option ℕ) (held : Sent → Bool) (own : List (Pair Event)) (going : IfSome stop (λ n. length own < n)) (heard : All (λ m. IsTrue (is_heard (known_of own).heard m)) (known_of own).sent) where
   abbrev waits : Bool
-  waits = waits_for_one_of full (known_of own)
+  waits = waits_for_one_of held (known_of own)
 
   abbrev at : Bool
   at = reaches_stop stop (length own)
 
   -- a session at rest goes on exactly below its limit
-  pub not_ended : length own < limit → list_has_ended limit stop full own ≡ false
-  not_ended less = ap (λ b. b || at || waits) (eqb_other (length own) limit less) ∙ (ap (λ b. b || waits) (not_stopped stop (length own) going) ∙ waits_for_none full (known_of own) heard)
+  pub not_ended : length own < limit → list_has_ended limit stop held own ≡ false
+  not_ended less = ap (λ b. b || at || waits) (eqb_other (length own) limit less) ∙ (ap (λ b. b || waits) (not_stopped stop (length own) going) ∙ waits_for_none held (known_of own) heard)
 
-  pub only_at_limit : list_has_ended limit stop full own ≡ true → length own ≡ limit
+  pub only_at_limit : list_has_ended limit stop held own ≡ true → length own ≡ limit
   only_at_limit ended = by (length own == limit) refl
     where
       by : (b : Bool) → (length own == limit) ≡ b → length own ≡ limit
       by true e = grind (arith, e)
       by false e =
           let w : waits ≡ true = sym (ap (λ b. b || at || waits) e ∙ ap (λ b. b || waits) (not_stopped stop (length own) going)) ∙ ended in
-          let no : true ≡ false = sym w ∙ waits_for_none full (known_of own) heard in
+          let no : true ≡ false = sym w ∙ waits_for_none held (known_of own) heard in
           absurd cc
 
 -- a session whose list has ended
-pub has_ended_now : {C : Type 0} (d : DeskMeaning C) (full : ℕ → Bool) → SaysFull full d → EndsEarly d → list_has_ended d.log.limit d.log.stop full d.log.part.own ≡ true
-has_ended_now d full says (inl own) =
-    ap (λ b. b || reaches_stop d.log.stop (length d.log.part.own) || waits_for_one_of full (known_of d.log.part.own)) (eqb_same (length d.log.part.own) d.log.limit own.long)
-has_ended_now d full says (inr (inl range)) =
+pub has_ended_now : {C : Type 0} (d : DeskMeaning C) (held : Sent → Bool) → SaysHeldUp held d → EndsEarly d → list_has_ended d.log.limit d.log.stop held d.log.part.own ≡ true
+has_ended_now d held says (inl own) =
+    ap (λ b. b || reaches_stop d.log.stop (length d.log.part.own) || waits_for_one_of held (known_of d.log.part.own)) (eqb_same (length d.log.part.own) d.log.limit own.long)
+has_ended_now d held says (inr (inl range)) =
     let k = known_of d.log.part.own in
-    let here : full range.message.range ≡ true = ap full range.goes ∙ says range.range range.full in
-    let waits : waits_for_one_of full k ≡ true =
-    any_there (λ m. full m.range && not (is_heard k.heard m)) k.sent range.message range.sent (ap (λ b. b && not (is_heard k.heard range.message)) here ∙ ap not range.unheard) in
+    let waits : waits_for_one_of held k ≡ true =
+    any_there (λ m. held m && not (is_heard k.heard m)) k.sent range.message range.sent (ap (λ b. b && not (is_heard k.heard range.message)) (says range.message range.spent.refused) ∙ ap not range.spent.unheard) in
     ap (λ b. length d.log.part.own == d.log.limit || reaches_stop d.log.stop (length d.log.part.own) || b) waits
     ∙ or_true (length d.log.part.own == d.log.limit || reaches_stop d.log.stop (length d.log.part.own))
-has_ended_now d full says (inr (inr stop)) =
+has_ended_now d held says (inr (inr stop)) =
     let long : ℕ = length d.log.part.own in
     let at : reaches_stop d.log.stop long ≡ true = subst (λ (o : Option ℕ). reaches_stop o long ≡ true) (sym stop.long) (eqb_same long long refl) in
-    ap (λ b. long == d.log.limit || b || waits_for_one_of full (known_of d.log.part.own)) at
-    ∙ ap (λ b. b || waits_for_one_of full (known_of d.log.part.own)) (or_true (long == d.log.limit))
+    ap (λ b. long == d.log.limit || b || waits_for_one_of held (known_of d.log.part.own)) at
+    ∙ ap (λ b. b || waits_for_one_of held (known_of d.log.part.own)) (or_true (long == d.log.limit))
 
 -- a part for which there is no room
 pub no_room : (limit : ℕ) (own part : List (Pair Event)) → length own ≡ limit → length (own ++ part) ≤ limit → part ≡ []

@@ -8,7 +8,7 @@ use Rattle.pc_proto.specs.declared.event.Event.{Event}
 use Rattle.pc_proto.specs.declared.call.Call.{Call}
 use Rattle.pc_proto.specs.declared.request.Request.{Request}
 use Rattle.pc_script.specs.Script.{items_over, next_call, script_position}
-use Rattle.pc_scripted.specs.Ended.{SaysFull, ended_in_script}
+use Rattle.pc_scripted.specs.Ended.{SaysHeldUp, ended_in_script}
 use Rattle.pc_scripted.specs.Scripted.{IsScripted, ScriptedMeaning, next_in_script, own_number, own_list}
 use Rattle.pc_turns.specs.Clients.{RisesFrom}
 use Rattle.pc_turns.specs.Laws.{AreAboveKnown}
@@ -17,6 +17,7 @@ use Rattle.pc_work.specs.declared.item.Item.{Item}
 use Rattle.pc_work.specs.declared.session.SessionWork.{SessionWork}
 use Rattle.pc_work.specs.declared.workload.Workload.{Workload}
 use Rattle.pc_follows.specs.FinishingJobs.{jobs_of}
+use Rattle.pc_world.specs.Known.Traffic.{Sent}
 
 -- The session, its script, its limits and its stop are the same.
 pub record IsSameScripted {C : Type 0} (old new : ScriptedMeaning C) : Type 0 where
@@ -43,11 +44,12 @@ pub record HasMovedBy {C : Type 0} (old new : ScriptedMeaning C) (part : List (P
 abbrev pub Move : Type 1
 Move = (ℕ → List (Pair Event) → Bool) → List (Pair Event) → List (Pair Event) → Type 0
 
--- The session made some entries, and nothing else, of which this is so, whichever ranges are full beside those that it knows to be.
+-- The session made some entries, and nothing else, of which this is so, whichever of its messages are held up beside those that it knows to be
+-- refused.
 pub record HasMoved {C : Type 0} (Is : Move) (old new : ScriptedMeaning C) : Type 0 where
   pub part : List (Pair Event)
   pub by : HasMovedBy old new part
-  pub is : (full : ℕ → Bool) → SaysFull full new.session.desk → Is (ended_in_script old.session.desk.log.limit old.session.desk.log.stop full) (own_list old) part
+  pub is : (held : Sent → Bool) → SaysHeldUp held new.session.desk → Is (ended_in_script old.session.desk.log.limit old.session.desk.log.stop held) (own_list old) part
 
 module _ {C : Type 0} (s : ScriptedMeaning C) where
   -- The session asks its script's next call, and is told its answer.

@@ -12,7 +12,7 @@ use Rattle.pc_proto.specs.declared.event.Event.{Event}
 use Rattle.pc_runs.specs.Order.{ended_in_work, is_opening_over, is_work_opened, next_in_work, next_of_work, stop_of_work}
 use Rattle.pc_runs.specs.Runners.{IsRunnerIn}
 use Rattle.pc_script.specs.Script.{next_call, script_position}
-use Rattle.pc_scripted.proofs.Going.{moved_both, says_before}
+use Rattle.pc_scripted.proofs.Going.{moved_both, same_actor, says_before}
 use Rattle.pc_scripted.proofs.Joining.{goes_among, goes_then, over_is_past}
 use Rattle.pc_scripted.specs.Ended.{ended_in_script, list_has_ended}
 use Rattle.pc_scripted.specs.Scripted.{ScriptedMeaning, next_in_script, own_list, own_number}
@@ -25,6 +25,8 @@ use Rattle.pc_turns.specs.Order.{GoesByItself, entries_by, is_at_end}
 use Rattle.pc_work.specs.declared.item.Item.{Item}
 use Rattle.pc_work.specs.declared.session.SessionWork.{SessionWork}
 use Rattle.pc_work.specs.declared.workload.Workload.{Workload}
+use Rattle.pc_world.specs.Known.Traffic.{Sent}
+use Rattle.pc_base.specs.declared.actor.ActorId.{ActorId}
 
 -- it is the workload's session still
 pub runner_went : {C : Type 0} (work : Workload) (index : ℕ) (old new : ScriptedMeaning C) (part : List (Pair Event)) → IsRunnerIn work index old → HasMovedBy old new part → IsRunnerIn work index new
@@ -45,10 +47,10 @@ runner_went work index old new part runner by =
 -- ---- on from where it stood
 
 -- what it makes to its end from there is so of the session that it was
-goes-as : {C : Type 0} (old mid : ScriptedMeaning C) → IsSameScripted old mid → (full : ℕ → Bool) (before part : List (Pair Event)) → GoesUntil mid (is_script_over mid.at.reruns mid.script) (ended_in_script mid.session.desk.log.limit mid.session.desk.log.stop full) before part
-    → GoesUntil old (is_script_over old.at.reruns old.script) (ended_in_script old.session.desk.log.limit old.session.desk.log.stop full) before part
-goes-as old mid same full before part goes =
-    let T : ℕ → List Item → ℕ → Option ℕ → ℕ → Type 0 = λ reruns script limit stop n. GoesByItself (next_in_script reruns script) (ended_in_script limit stop full) n (λ o. is_script_over reruns script (entries_by n o)) before part in
+goes-as : {C : Type 0} (old mid : ScriptedMeaning C) → IsSameScripted old mid → (held : Sent → Bool) (before part : List (Pair Event)) → GoesUntil mid (is_script_over mid.at.reruns mid.script) (ended_in_script mid.session.desk.log.limit mid.session.desk.log.stop held) before part
+    → GoesUntil old (is_script_over old.at.reruns old.script) (ended_in_script old.session.desk.log.limit old.session.desk.log.stop held) before part
+goes-as old mid same held before part goes =
+    let T : ℕ → List Item → ℕ → Option ℕ → ℕ → Type 0 = λ reruns script limit stop n. GoesByItself (next_in_script reruns script) (ended_in_script limit stop held) n (λ o. is_script_over reruns script (entries_by n o)) before part in
     subst (λ r. T r old.script old.session.desk.log.limit old.session.desk.log.stop (own_number old)) same.reruns
     (subst (λ s. T mid.at.reruns s old.session.desk.log.limit old.session.desk.log.stop (own_number old)) same.script
     (subst (λ l. T mid.at.reruns mid.script l old.session.desk.log.stop (own_number old)) same.limit
@@ -62,10 +64,10 @@ moved_on items old mid new a b = (
   record {
     part = a.part ++ b.part;
     by = moved_both old mid new a.part b.part a.by b.by;
-    is = λ full says.
-        goes_then (next_in_script old.at.reruns old.script) (ended_in_script old.session.desk.log.limit old.session.desk.log.stop full) (own_number old) (λ o. are_items_over items old.at.reruns old.script (entries_by (own_number old) o)) (λ o. is_script_over old.at.reruns old.script (entries_by (own_number old) o))
-        (λ o over. over_is_past items old.at.reruns old.script (entries_by (own_number old) o) over) (a.is full (says_before full mid.session.desk new.session.desk b.by.same.range_limit b.by.known says)) b.part
-        (subst (λ before. GoesUntil old (is_script_over old.at.reruns old.script) (ended_in_script old.session.desk.log.limit old.session.desk.log.stop full) before b.part) a.by.own (goes-as old mid a.by.same full (own_list mid) b.part (b.is full says)));
+    is = λ held says.
+        goes_then (next_in_script old.at.reruns old.script) (ended_in_script old.session.desk.log.limit old.session.desk.log.stop held) (own_number old) (λ o. are_items_over items old.at.reruns old.script (entries_by (own_number old) o)) (λ o. is_script_over old.at.reruns old.script (entries_by (own_number old) o))
+        (λ o over. over_is_past items old.at.reruns old.script (entries_by (own_number old) o) over) (a.is held (says_before held mid.session.desk new.session.desk b.by.same.range_limit (same_actor mid new b.part a.by.scripted b.by) b.by.known says)) b.part
+        (subst (λ before. GoesUntil old (is_script_over old.at.reruns old.script) (ended_in_script old.session.desk.log.limit old.session.desk.log.stop held) before b.part) a.by.own (goes-as old mid a.by.same held (own_list mid) b.part (b.is held says)));
   },
   refl,
 )
@@ -77,9 +79,9 @@ moved_behind order old mid new st b = (
   record {
     part = b.part;
     by = moved_both old mid new [] b.part st.by b.by;
-    is = λ full says.
-        subst (λ before. GoesUntil old (is_script_over old.at.reruns old.script) (ended_in_script old.session.desk.log.limit old.session.desk.log.stop full) before b.part) (st.by.own ∙ append-nil (own_list old))
-        (goes-as old mid st.by.same full (own_list mid) b.part (b.is full says));
+    is = λ held says.
+        subst (λ before. GoesUntil old (is_script_over old.at.reruns old.script) (ended_in_script old.session.desk.log.limit old.session.desk.log.stop held) before b.part) (st.by.own ∙ append-nil (own_list old))
+        (goes-as old mid st.by.same held (own_list mid) b.part (b.is held says));
   },
   refl,
 )
@@ -108,7 +110,7 @@ none_by number other ps differ whose = by-recursion ps (recursion_from_All (λ (
 
 -- ---- as the workload says it
 
-module _ {C : Type 0} (work : Workload) (index : ℕ) (s : ScriptedMeaning C) (runner : IsRunnerIn work index s) (fresh : own_list s ≡ []) (full : ℕ → Bool) (part : List (Pair Event)) where
+module _ {C : Type 0} (work : Workload) (index : ℕ) (s : ScriptedMeaning C) (runner : IsRunnerIn work index s) (fresh : own_list s ≡ []) (held : ActorId → Sent → Bool) (part : List (Pair Event)) where
   same-next : (own : List (Pair Event)) → next_in_script s.at.reruns s.script (index + 1) own ≡ next_in_work work (index + 1) own
   same-next own =
       let at : (index + 1) - 1 ≡ index = omega arith in
@@ -117,33 +119,33 @@ module _ {C : Type 0} (work : Workload) (index : ℕ) (s : ScriptedMeaning C) (r
       ∙ (ap (λ (script : List Item). next_call (script_position work.reruns script own)) (sym runner.script) ∙ ap (λ (o : Option SessionWork). next_of_work work.reruns o own) (sym listed))
 
   -- its list has ended where the workload says so
-  same-ended : (own : List (Pair Event)) → ended_in_script s.session.desk.log.limit s.session.desk.log.stop full (index + 1) own ≡ ended_in_work work full (index + 1) own
+  same-ended : (own : List (Pair Event)) → ended_in_script s.session.desk.log.limit s.session.desk.log.stop (held (actors.Session (index + 1))) (index + 1) own ≡ ended_in_work work held (index + 1) own
   same-ended own =
       let at : (index + 1) - 1 ≡ index = omega arith in
       let there : slice_get work.sessions ((index + 1) - 1) ≡ Some runner.session = ap (slice_get work.sessions) at ∙ runner.listed in
-      ap (λ limit. list_has_ended limit s.session.desk.log.stop full own) runner.limit
-      ∙ ap (λ (o : Option ℕ). list_has_ended work.limit o full own) (runner.stop ∙ ap (λ (o : Option SessionWork). stop_of_work o) (sym there))
+      ap (λ limit. list_has_ended limit s.session.desk.log.stop (held (actors.Session (index + 1))) own) runner.limit
+      ∙ ap (λ (o : Option ℕ). list_has_ended work.limit o (held (actors.Session (index + 1))) own) (runner.stop ∙ ap (λ (o : Option SessionWork). stop_of_work o) (sym there))
 
-  goes-in-work : (test : List (Pair Event) → Bool) → GoesUntil s test (ended_in_script s.session.desk.log.limit s.session.desk.log.stop full) (own_list s) part
-      → GoesByItself (next_in_work work) (ended_in_work work full) (index + 1) (λ o. test (entries_by (index + 1) o)) [] part
+  goes-in-work : (test : List (Pair Event) → Bool) → GoesUntil s test (ended_in_script s.session.desk.log.limit s.session.desk.log.stop (held (actors.Session (index + 1)))) (own_list s) part
+      → GoesByItself (next_in_work work) (ended_in_work work held) (index + 1) (λ o. test (entries_by (index + 1) o)) [] part
   goes-in-work test goes =
-      goes_among (next_in_script s.at.reruns s.script) (next_in_work work) (ended_in_script s.session.desk.log.limit s.session.desk.log.stop full) (ended_in_work work full) (index + 1) same-next same-ended test
-      (subst (λ n. GoesByItself (next_in_script s.at.reruns s.script) (ended_in_script s.session.desk.log.limit s.session.desk.log.stop full) n (λ o. test (entries_by n o)) (own_list s) part) runner.number goes) []
+      goes_among (next_in_script s.at.reruns s.script) (next_in_work work) (ended_in_script s.session.desk.log.limit s.session.desk.log.stop (held (actors.Session (index + 1)))) (ended_in_work work held) (index + 1) same-next same-ended test
+      (subst (λ n. GoesByItself (next_in_script s.at.reruns s.script) (ended_in_script s.session.desk.log.limit s.session.desk.log.stop (held (actors.Session (index + 1)))) n (λ o. test (entries_by n o)) (own_list s) part) runner.number goes) []
       (ap (entries_by (index + 1)) fresh)
 
   -- to the end of its script
-  pub goes_to_end : GoesUntil s (is_script_over s.at.reruns s.script) (ended_in_script s.session.desk.log.limit s.session.desk.log.stop full) (own_list s) part
-      → GoesByItself (next_in_work work) (ended_in_work work full) (index + 1) (is_at_end (next_in_work work) (index + 1)) [] part
+  pub goes_to_end : GoesUntil s (is_script_over s.at.reruns s.script) (ended_in_script s.session.desk.log.limit s.session.desk.log.stop (held (actors.Session (index + 1)))) (own_list s) part
+      → GoesByItself (next_in_work work) (ended_in_work work held) (index + 1) (is_at_end (next_in_work work) (index + 1)) [] part
   goes_to_end goes =
       let test : (λ (o : List (Pair Event)). is_script_over s.at.reruns s.script (entries_by (index + 1) o)) ≡ is_at_end (next_in_work work) (index + 1) = λ i. λ o. not (is_some (same-next (entries_by (index + 1) o) i)) in
-      subst (λ (t : List (Pair Event) → Bool). GoesByItself (next_in_work work) (ended_in_work work full) (index + 1) t [] part) test (goes-in-work (is_script_over s.at.reruns s.script) goes)
+      subst (λ (t : List (Pair Event) → Bool). GoesByItself (next_in_work work) (ended_in_work work held) (index + 1) t [] part) test (goes-in-work (is_script_over s.at.reruns s.script) goes)
 
 -- the first session, until the opening is over
-module _ {C : Type 0} (work : Workload) (s : ScriptedMeaning C) (runner : IsRunnerIn work 0 s) (fresh : own_list s ≡ []) (full : ℕ → Bool) (part : List (Pair Event)) where
-  pub goes_opening : GoesUntil s (are_items_over work.opening s.at.reruns s.script) (ended_in_script s.session.desk.log.limit s.session.desk.log.stop full) (own_list s) part → GoesByItself (next_in_work work) (ended_in_work work full) 1 (is_work_opened work) [] part
+module _ {C : Type 0} (work : Workload) (s : ScriptedMeaning C) (runner : IsRunnerIn work 0 s) (fresh : own_list s ≡ []) (held : ActorId → Sent → Bool) (part : List (Pair Event)) where
+  pub goes_opening : GoesUntil s (are_items_over work.opening s.at.reruns s.script) (ended_in_script s.session.desk.log.limit s.session.desk.log.stop (held (actors.Session 1))) (own_list s) part → GoesByItself (next_in_work work) (ended_in_work work held) 1 (is_work_opened work) [] part
   goes_opening goes =
       let stated : (λ (o : List (Pair Event)). are_items_over work.opening s.at.reruns s.script (entries_by 1 o)) ≡ (λ o. are_items_over work.opening work.reruns runner.session.script (entries_by 1 o)) =
       λ i. λ o. are_items_over work.opening (sym runner.reruns i) (sym runner.script i) (entries_by 1 o) in
       let listed : (λ (o : List (Pair Event)). are_items_over work.opening work.reruns runner.session.script (entries_by 1 o)) ≡ is_work_opened work = λ i. λ o. is_opening_over work.opening work.reruns (sym runner.listed i) o in
-      subst (λ (t : List (Pair Event) → Bool). GoesByItself (next_in_work work) (ended_in_work work full) 1 t [] part) (stated ∙ listed)
-      (goes-in-work work 0 s runner fresh full part (are_items_over work.opening s.at.reruns s.script) goes)
+      subst (λ (t : List (Pair Event) → Bool). GoesByItself (next_in_work work) (ended_in_work work held) 1 t [] part) (stated ∙ listed)
+      (goes-in-work work 0 s runner fresh held part (are_items_over work.opening s.at.reruns s.script) goes)

@@ -6,7 +6,7 @@ use Rattle.pc_base.specs.declared.actor.ActorId.{ActorId}
 use Rattle.pc_base.specs.declared.actor.ActorId.TheVariants as actors
 use Rattle.pc_base.specs.declared.entry.Entry.{Entry}
 use Rattle.pc_closing.specs.Closing.{IsClosedOver, lists_of}
-use Rattle.pc_closing.specs.Full.{range_is_full}
+use Rattle.pc_closing.specs.HeldUp.{holds_up}
 use Rattle.pc_closing.specs.Leaving.{Leaver}
 use Rattle.pc_history.specs.Closed.{ids_of}
 use Rattle.pc_history.specs.declared.pair.Pair.{Pair}
@@ -15,7 +15,7 @@ use Rattle.pc_lists.proofs.Lists.{contains_in_map}
 use Rattle.pc_proto.specs.declared.event.Event.{Event}
 use Rattle.pc_rounds.specs.Counted.{CountedMeaning, entries_made}
 use Rattle.pc_runs.proofs.Finished.{below_or_not, there}
-use Rattle.pc_runs.proofs.Whole.{say_full}
+use Rattle.pc_runs.proofs.Whole.{say_held_up}
 use Rattle.pc_runs.specs.Order.{GoAsStated, ended_in_work, is_work_opened, next_in_work}
 use Rattle.pc_runs.specs.Runners.{head_in_work}
 use Rattle.pc_runs.specs.Together.{AreClients, ClientsMeaning, HaveAllLeft}
@@ -31,6 +31,7 @@ use Rattle.pc_turns.specs.Shares.{IsPartAt, client_at}
 use Rattle.pc_world.specs.Local.{Head}
 use Rattle.pc_work.specs.declared.turn.Turn.{Turn}
 use Rattle.pc_work.specs.declared.workload.Workload.{Workload}
+use Rattle.pc_world.specs.Known.Traffic.{Sent}
 
 leaver-at : (leavers : List Leaver) (index : ℕ) (list : List (Pair Event)) → slice_get (lists_of leavers) index ≡ Some list → (l : Leaver) × (slice_get leavers index ≡ Some l) × (l.0.part.own ≡ list)
 leaver-at [] index list at = absurd cc
@@ -49,8 +50,8 @@ no-session i j e = cc
 
 module _ {C : Type 0} (work : Workload) (rules : ActorId → ℕ → ℕ → Bool) (c : ClientsMeaning C) (leavers : List Leaver) (history : List (Entry Event)) (clients : AreClients work c) (left : HaveAllLeft work rules c leavers)
     (closed : IsClosedOver work.limit (head_in_work work) leavers history) (gone : HaveGoneOnThreads work c) where
-  abbrev full : ℕ → Bool
-  full = range_is_full work.limit (head_in_work work) history
+  abbrev held : ActorId → Sent → Bool
+  held = holds_up work.limit (head_in_work work) history
 
   abbrev head : Head
   head = head_in_work work
@@ -129,31 +130,31 @@ module _ {C : Type 0} (work : Workload) (rules : ActorId → ℕ → ℕ → Boo
         (λ part is client. continues part (part-of part (is client))) closed.parts closed.handed.theirs;
   }
 
-  gone-alone : (number : ℕ) → 1 ≤ number → number ≤ length work.sessions → HasGoneAlone (next_in_work work) (ended_in_work work full) closed.parts number
+  gone-alone : (number : ℕ) → 1 ≤ number → number ≤ length work.sessions → HasGoneAlone (next_in_work work) (ended_in_work work held) closed.parts number
   gone-alone number from to =
       let handed = contains_in_map (λ (q : Part Event). q.id) closed.parts (actors.Session number) (handed-of number from to) in
       by handed.0 handed.1 handed.2 (part-of handed.0 (All-contains (λ (q : Part Event). is_client q.id ≡ true → IsPartAt head (lists_of leavers) q) closed.parts handed.0 closed.handed.theirs handed.1 (ap is_client handed.2)))
     where
-      by : (part : Part Event) → Contains closed.parts part → part.id ≡ actors.Session number → IsPartOfSession part ⊎ IsPartOfRecoverer part → HasGoneAlone (next_in_work work) (ended_in_work work full) closed.parts number
+      by : (part : Part Event) → Contains closed.parts part → part.id ≡ actors.Session number → IsPartOfSession part ⊎ IsPartOfRecoverer part → HasGoneAlone (next_in_work work) (ended_in_work work held) closed.parts number
       by part held id (inr p) = absurd (no-session (p.index + 1) number (sym p.whose ∙ id))
       by part held id (inl p) =
           let same : p.index + 1 ≡ number = same-number (p.index + 1) number (sym p.whose ∙ id) in
-          let alone : GoesByItself (next_in_work work) (ended_in_work work full) (p.index + 1) (is_at_end (next_in_work work) (p.index + 1)) [] (own_list p.s) =
-          gone.alone full (say_full work rules c leavers history clients left closed) p.index p.s p.at in (
+          let alone : GoesByItself (next_in_work work) (ended_in_work work held) (p.index + 1) (is_at_end (next_in_work work) (p.index + 1)) [] (own_list p.s) =
+          gone.alone held (say_held_up work rules c leavers history clients left closed) p.index p.s p.at in (
             part,
             held,
             id,
-            subst (λ n. GoesByItself (next_in_work work) (ended_in_work work full) n (is_at_end (next_in_work work) n) [] part.own) same
-                (subst (λ list. GoesByItself (next_in_work work) (ended_in_work work full) (p.index + 1) (is_at_end (next_in_work work) (p.index + 1)) [] list) p.list alone),
+            subst (λ n. GoesByItself (next_in_work work) (ended_in_work work held) n (is_at_end (next_in_work work) n) [] part.own) same
+                (subst (λ list. GoesByItself (next_in_work work) (ended_in_work work held) (p.index + 1) (is_at_end (next_in_work work) (p.index + 1)) [] list) p.list alone),
           )
 
-  on-threads : GoOnThreads (next_in_work work) (ended_in_work work full) (is_work_opened work) (length work.sessions) (client_pairs head history)
+  on-threads : GoOnThreads (next_in_work work) (ended_in_work work held) (is_work_opened work) (length work.sessions) (client_pairs head history)
   on-threads =
-      threads_go_on head history closed.parts gone.opening (next_in_work work) (ended_in_work work full) (is_work_opened work) closed.stored begins
-      (gone.opens full (say_full work rules c leavers history clients left closed)) gone-alone
+      threads_go_on head history closed.parts gone.opening (next_in_work work) (ended_in_work work held) (is_work_opened work) closed.stored begins
+      (gone.opens held (say_held_up work rules c leavers history clients left closed)) gone-alone
 
-  pub go_as_stated : work.turns ≡ None → GoAsStated work full work.turns (length work.sessions) (client_pairs head history)
-  go_as_stated none = subst (λ (o : Option (List Turn)). GoAsStated work full o (length work.sessions) (client_pairs head history)) (sym none) on-threads
+  pub go_as_stated : work.turns ≡ None → GoAsStated work held work.turns (length work.sessions) (client_pairs head history)
+  go_as_stated none = subst (λ (o : Option (List Turn)). GoAsStated work held o (length work.sessions) (client_pairs head history)) (sym none) on-threads
 
 pub threads_are_as_stated : (C : Type 0) → ThreadsAreAsStated C
 threads_are_as_stated C work rules c leavers history clients left closed gone none = go_as_stated work rules c leavers history clients left closed gone none

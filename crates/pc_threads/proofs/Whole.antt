@@ -9,11 +9,11 @@ use Rattle.pc_history.specs.declared.pair.Pair.{Pair}
 use Rattle.pc_lists.proofs.Lists.{all_from_contains, contains_cons, contains_get, get_contains}
 use Rattle.pc_proto.specs.declared.event.Event.{Event}
 use Rattle.pc_runs.specs.Order.{ended_in_work, next_in_work}
-use Rattle.pc_runs.specs.Runners.{AreRunOut, AreRunners, HaveClocks, IsRunnerIn, SaysAllFull}
+use Rattle.pc_runs.specs.Runners.{AreRunOut, AreRunners, HaveClocks, IsRunnerIn, SaysAllHeldUp}
 use Rattle.pc_rounds.specs.Counted.{CountedMeaning, entries_made}
 use Rattle.pc_runs.specs.Together.{AreAtEnds, AreClients, HaveClientClocks}
-use Rattle.pc_scripted.proofs.Going.{all_mine, says_before}
-use Rattle.pc_scripted.specs.Ended.{SaysFull}
+use Rattle.pc_scripted.proofs.Going.{all_mine, same_actor, says_before}
+use Rattle.pc_scripted.specs.Ended.{SaysHeldUp}
 use Rattle.pc_scripted.specs.Scripted.{IsScripted, ScriptedMeaning, own_list, own_number}
 use Rattle.pc_scripted.specs.Taking.{GoesUntil, HasMoved, HasMovedBy, IsRunOut, are_items_over, is_script_over}
 use Rattle.pc_threads.proofs.Gone.{after_mark, after_own, goes_opening, goes_to_end, moved_behind, moved_on, none_by, runner_went}
@@ -25,6 +25,7 @@ use Rattle.pc_threads.specs.OnThreads.{HaveGoneOnThreads}
 use Rattle.pc_turns.specs.Clients.{Continues, IsAfterAll, RisesFrom, share_of}
 use Rattle.pc_turns.specs.Order.{GoesByItself, entries_by, is_at_end}
 use Rattle.pc_work.specs.declared.workload.Workload.{Workload}
+use Rattle.pc_world.specs.Known.Traffic.{Sent}
 
 pub if_ok : {X E : Type 0} (r : Result X E) (P Q : X → Type 0) → IfOk r P → ((x : X) → P x → Q x) → IfOk r Q
 if_ok (Ok x) P Q is on = on x is
@@ -152,14 +153,14 @@ module _ {C : Type 0} (work : Workload) (rule : C → ℕ → ℕ → Bool) (ses
   pub over_gone : AreRunOut gone
   over_gone index s at = (has-gone index s at).over
 
-  -- the first session still knows which ranges are full
-  says-first : (full : ℕ → Bool) → SaysAllFull full gone → SaysFull full opened.session.desk
-  says-first full says =
+  -- the first session still knows what was refused
+  says-first : (held : ActorId → Sent → Bool) → SaysAllHeldUp held gone → SaysHeldUp (held (actors.Session 1)) opened.session.desk
+  says-first held says =
       let s = there gone 0 (let m = many-gone in let c : length sessions ≡ suc (length started.others) = ap length started.whole in omega arith) in
       let r = zip_at HasLeftLane run gone 0 s.0 back s.1 in
       let l = zip_at (HasRunLane rule) lanes run 0 r.0 ran r.1 in
       let a = ran-front l.0 s.0 (subst (λ ls. slice_get ls 0 ≡ Some l.0) started.leads.whole l.1) (ended-well l.0 r.0 s.0 l.2 r.2) in
-      says_before full opened.session.desk s.0.session.desk a.moved.by.same.range_limit a.moved.by.known (says 0 s.0 s.1)
+      says_before (held (actors.Session 1)) opened.session.desk s.0.session.desk a.moved.by.same.range_limit (same_actor opened s.0 a.moved.part opens.by.scripted a.moved.by) a.moved.by.known (says 0 s.0 s.1)
 
   pub opening_rises : RisesFrom 0 (own_list opened)
   opening_rises = subst (RisesFrom 0) (sym opening-list) opens.by.rises
@@ -174,12 +175,12 @@ module _ {C : Type 0} (work : Workload) (rule : C → ℕ → ℕ → Bool) (ses
       let id : s.session.desk.log.part.id ≡ actors.Session (index + 1) = r.scripted.id ∙ ap actors.Session r.number in
       record { later = g.later; whole = list-gone index s g ∙ (g.begins ∙ ap (λ (i : ActorId). share_of i opens.part ++ g.later) (sym id)); after = g.after }
 
-  alone-gone : (full : ℕ → Bool) → SaysAllFull full gone → (index : ℕ) (s : ScriptedMeaning C) → slice_get gone index ≡ Some s
-      → GoesByItself (next_in_work work) (ended_in_work work full) (index + 1) (is_at_end (next_in_work work) (index + 1)) [] (own_list s)
-  alone-gone full says index s at =
+  alone-gone : (held : ActorId → Sent → Bool) → SaysAllHeldUp held gone → (index : ℕ) (s : ScriptedMeaning C) → slice_get gone index ≡ Some s
+      → GoesByItself (next_in_work work) (ended_in_work work held) (index + 1) (is_at_end (next_in_work work) (index + 1)) [] (own_list s)
+  alone-gone held says index s at =
       let g = has-gone index s at in
-      subst (λ list. GoesByItself (next_in_work work) (ended_in_work work full) (index + 1) (is_at_end (next_in_work work) (index + 1)) [] list) (sym (list-gone index s g))
-      (goes_to_end work index g.old (runners.each index g.old g.at) (fresh-at index g.old g.at) full g.moved.part (g.moved.is full (says index s at)))
+      subst (λ list. GoesByItself (next_in_work work) (ended_in_work work held) (index + 1) (is_at_end (next_in_work work) (index + 1)) [] list) (sym (list-gone index s g))
+      (goes_to_end work index g.old (runners.each index g.old g.at) (fresh-at index g.old g.at) held g.moved.part (g.moved.is (held (actors.Session (index + 1))) (says index s at)))
 
   pub order_gone : (recoverers : List (CountedMeaning C)) → ((index : ℕ) (r : CountedMeaning C) → slice_get recoverers index ≡ Some r → Continues (own_list opened) r.recoverer.desk.log.part)
       → HaveGoneOnThreads work (record { sessions = gone; recoverers = recoverers })
@@ -188,10 +189,10 @@ module _ {C : Type 0} (work : Workload) (rule : C → ℕ → ℕ → Bool) (ses
     opening = opens.part;
     rises = opens.by.rises;
     only = opening-whose;
-    opens = λ full says. goes_opening work first (runners.each 0 first first-at) first-fresh full opens.part (opens.is full (says-first full says.sessions));
+    opens = λ held says. goes_opening work first (runners.each 0 first first-at) first-fresh held opens.part (opens.is (held (actors.Session 1)) (says-first held says.sessions));
     begin = begin-gone;
     recover = λ index r at. subst (λ l. Continues l r.recoverer.desk.log.part) opening-list (recover index r at);
-    alone = λ full says. alone-gone full says.sessions;
+    alone = λ held says. alone-gone held says.sessions;
   }
 
 -- ---- sessions and recoverers

@@ -3,7 +3,7 @@ use Rattle.std.specs.Prelude.{◌≡◌, ℕ, Bool, None, List, length}
 use Rattle.pc_base.specs.declared.actor.ActorId.{ActorId}
 use Rattle.pc_base.specs.declared.entry.Entry.{Entry}
 use Rattle.pc_closing.specs.Closing.{IsClosedOver}
-use Rattle.pc_closing.specs.Full.{range_is_full}
+use Rattle.pc_closing.specs.HeldUp.{holds_up}
 use Rattle.pc_closing.specs.Leaving.{Leaver}
 use Rattle.pc_proto.specs.declared.event.Event.{Event}
 use Rattle.pc_runs.specs.Order.{GoAsStated}
@@ -18,4 +18,4 @@ abbrev pub ThreadsAreAsStated : Type 0 → Type 0
 ThreadsAreAsStated C =
     (work : Workload) (rules : ActorId → ℕ → ℕ → Bool) (clients : ClientsMeaning C) (leavers : List Leaver) (history : List (Entry Event))
     → AreClients work clients → HaveAllLeft work rules clients leavers → IsClosedOver work.limit (head_in_work work) leavers history → HaveGoneOnThreads work clients → work.turns ≡ None
-    → GoAsStated work (range_is_full work.limit (head_in_work work) history) work.turns (length work.sessions) (client_pairs (head_in_work work) history)
+    → GoAsStated work (holds_up work.limit (head_in_work work) history) work.turns (length work.sessions) (client_pairs (head_in_work work) history)

@@ -1,4 +1,5 @@
-use Rattle.pc_desk.proofs.Leaving.{first_ready, left_one}
+use Rattle.std.proofs.lemmas.Result.{err_from_is_err_and}
+use Rattle.pc_desk.proofs.Leaving.{first_ready, left_one, stopped_at}
 use Rattle.pc_desk.specs.Desk.{posting}
 use Rattle.pc_history.specs.Parts.{uses_left}
 use Rattle.pc_desk.proofs.rest.deliver_rest.Goals as goal
@@ -14,3 +15,9 @@ loop-message-preserved g c =
     let r = c.in_ok-reply.reply in
     left_one c.args.ranges.now.splits c.args.rest c.loop-message.rest c.take_first.new.self c.args.actor.now c.loop-message.actor c.learn.new.actor m.sender (posting m.number m.range m.request (uses_left m.note.known)) r.step r.reply r.note.known
     c.loop-message.invariant c.in-Some.ensures.first c.in_ok-reply.ensures.told.1 c.learn.ensures
+
+pub returns-in_err-reply-clause-stopped : goal.returns-in_err-reply-clause-stopped
+returns-in_err-reply-clause-stopped g c =
+    let p = err_from_is_err_and c.from_residual.result c.from_residual.ensures.1 in
+    rw (p.1, p.2)
+    (stopped_at c.args.ranges.now.splits c.args.ranges.now.limit c.args.rest c.loop-message.rest c.take_first.new.self c.args.actor.now c.loop-message.actor c.in-Some.message c.in_err-reply.field-0.0 c.loop-message.invariant c.in-Some.ensures.first c.in_err-reply.ensures.full)

@@ -2,6 +2,7 @@ use Rattle.std.proofs.Common.{map, refl, ap}
 use Rattle.std.proofs.lemmas.Result.{on_ok_weaker}
 use Rattle.pc_desk.proofs.Desking.{desk_first, desk_rest, has_delivered, kept_as_told, newest_kept}
 use Rattle.pc_desk.proofs.Leaving.{taken_first}
+use Rattle.pc_desk.proofs.Refusing.{sent_back}
 use Rattle.pc_desk.specs.Desk.{posting}
 use Rattle.pc_history.specs.Parts.{known_entry, uses_left}
 use Rattle.pc_range.specs.Message.{evaluation}
@@ -41,7 +42,16 @@ returns-in-Ok-clause-newest g c =
     let tells = c.in-Ok.ensures.told.1 in
     newest_kept _ c.args.self.now c.keep_noted.new.self c.keep_noted.result (λ note. note.known) _ (record { number = r.number; step = r.step; reply = r.reply }) c.args.last.known r.note.known (evaluation r.step m.range m.sender m.number r.reply) tells.place c.self.view_is refl tells.tells c.requires.newest c.in-Ok.ensures.behind c.keep_noted.ensures.ok c.keep_noted.ensures.copy
 
+pub refused-requires : goal.refused-requires
+refused-requires g c =
+    let m = c.in-Some.message in
+    let ready = desk_first _ _ _ _ _ _ c.in-Some.ensures.taken.whole c.self.invariant.0 in
+    (posting m.number m.range m.request (uses_left m.note.known), ready.use_left, sent_back _ _ m c.in-Err.fault ready.whose c.in-Err.ensures.full)
+
 pub returns-in-Err-clause-ended : goal.returns-in-Err-clause-ended
 returns-in-Err-clause-ended g c =
     let taken = c.in-Some.ensures.taken in
-    c.refused.ensures.ended c.args.self.now _ c.requires.track (taken_first _ c.args.self.now _ _ _ _ _ c.self.view_is refl taken.whole c.self.invariant.0 taken.rises) c.in-Err.ensures.full
+    let m = c.in-Some.message in
+    let ready = desk_first _ _ _ _ _ _ taken.whole c.self.invariant.0 in
+    c.refused.ensures.ended c.args.self.now (posting m.number m.range m.request (uses_left m.note.known)) c.requires.track (taken_first _ c.args.self.now _ _ _ _ _ c.self.view_is refl taken.whole c.self.invariant.0 taken.rises) ready.use_left
+    (sent_back _ _ m c.in-Err.fault ready.whose c.in-Err.ensures.full)

@@ -1,4 +1,3 @@
-use Rattle.std.proofs.Common.{◌≡◌}
 use Rattle.std.proofs.lemmas.Result.{err_from_is_err_and}
 use Rattle.pc_desk.proofs.Ending.{ended_so}
 use Rattle.pc_proto.specs.declared.event.Event.{Event}

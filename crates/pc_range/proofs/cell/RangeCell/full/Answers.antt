@@ -12,8 +12,8 @@ pub returns-clause-fault : goal.returns-clause-fault
 returns-clause-fault g c =
     let some : 1 ≤ length c.self.inside.actor.part.own = subst (λ (m : CellMeaning). 1 ≤ length m.part.own) (sym c.self.view_is) c.requires in
     elim c.match-note.branch [
-      | in-Ok w ↦ subst (IsFullFault {N = g.row.N.Denot} g.row.I c.args.self.now.part) (sym w.result-is)
-          (subst (λ (m : CellMeaning). IsFullFault {N = g.row.N.Denot} g.row.I m.part (faults.Full g.row.I w.in-Ok.last)) c.self.view_is
-          (refl, last-note g.row.I c.self.inside.actor.world c.self.inside.actor.part c.self.inside.state (length c.entries.result.now - 1) w.in-Ok.last.known c.self.invariant some (ap (λ l. length l - 1) c.entries.ensures) w.in-Ok.ensures.note.1))
-      | in-Err w ↦ subst (IsFullFault {N = g.row.N.Denot} g.row.I c.args.self.now.part) (sym w.result-is) tt
+      | in-Ok w ↦ subst (IsFullFault {N = g.row.N.Denot} g.row.I c.args.self.now.part c.args.message) (sym w.result-is)
+          (subst (λ (m : CellMeaning). IsFullFault {N = g.row.N.Denot} g.row.I m.part c.args.message (faults.Full g.row.I w.in-Ok.last c.args.message)) c.self.view_is
+          (refl, last-note g.row.I c.self.inside.actor.world c.self.inside.actor.part c.self.inside.state (length c.entries.result.now - 1) w.in-Ok.last.known c.self.invariant some (ap (λ l. length l - 1) c.entries.ensures) w.in-Ok.ensures.note.1, refl))
+      | in-Err w ↦ subst (IsFullFault {N = g.row.N.Denot} g.row.I c.args.self.now.part c.args.message) (sym w.result-is) tt
     ]
