@@ -8,8 +8,9 @@ ghost use Rattle.pc_desk.specs.Keeping.{ReadsEach};
 ghost use Rattle.pc_desk.specs.OwnLog.{HasMadeEntry, IsNoRange, IsOwnLog, MayEnter};
 ghost use Rattle.pc_desk.specs.Refused.{GivesBack};
 ghost use Rattle.pc_desk.specs.Waiting.{IsBehindAll, IsNewest};
+ghost use Rattle.pc_desk.specs.Wave.{EndsFor, HasJoined, HasKeptAll, HasTakenWave, IsHaltOf, IsRefusalIn, IsReply, posted_of};
 ghost use Rattle.pc_history.specs.Own.{entries_of};
-ghost use Rattle.pc_history.specs.Parts.{newcomer, noted, told, with_uses, without_uses};
+ghost use Rattle.pc_history.specs.Parts.{newcomer, noted, told, uses_left, with_uses, without_uses};
 ghost use Rattle.pc_proto.specs.declared.event.Event.TheVariants as events;
 ghost use Rattle.pc_proto.specs.Stamps.{request_stamps};
 ghost use Rattle.pc_world.specs.Known.{known_of};
@@ -27,6 +28,7 @@ use pc_clock::Clock;
 use pc_history::{Actor, Named, Note};
 use pc_proto::{Answer, Call, Event, Request};
 use pc_range::{CommitWorld, Gate, Message, Ranges, ReplyMsg, ServeFault};
+use pc_serving::{Delivery, Outcome, Serves};
 use pc_wire::{Outbox, Verdict, Wire};
 use pc_world::range_for;
 use std::alloc::Global;
@@ -297,8 +299,25 @@ impl<'a, N: Named<CommitWorld>, C: Clock, V: Wire, G: Gate> Desk<'a, N, C, V, G>
         self.outbox.waiting()
     }
 
-    /// Has each message's range evaluate it, in the order of their numbers. All are sent by then, and no reply waits to be heard.
-    pub fn deliver<R: Wait>(&mut self, rt: &R) -> Result<(), Halt>
+    /// Has each message's range evaluate it: in the order of their numbers, or those of a wave beside each other. All are sent by then, and no
+    /// reply waits to be heard.
+    pub fn deliver<R: Serves<N, G>>(&mut self, rt: &R) -> Result<(), Halt>
+        requires track { KeepsTrack self.old }
+        requires none_waits { self.old.replies ≡ [] }
+        ensures ok { OnOk result (HasDelivered self.old self.new) }
+        ensures all { OnOk result (self.new.posted ≡ []) }
+        ensures clock { self.new.log.clock ≡ self.old.log.clock }
+        ensures err { IfErr result (HasHalted self.old self.new) }
+        ensures ended { IfErr result (EndsOnly (λ made. ⊥) self.old self.new) }
+    {
+        if self.log.is_beside() && self.waiting() > 1 {
+            return self.deliver_beside(rt);
+        }
+        self.deliver_in_order(rt)
+    }
+
+    /// Has each message's range evaluate it, in the order of their numbers.
+    fn deliver_in_order<R: Wait>(&mut self, rt: &R) -> Result<(), Halt>
         requires track { KeepsTrack self.old }
         requires none_waits { self.old.replies ≡ [] }
         ensures ok { OnOk result (HasDelivered self.old self.new) }
@@ -315,6 +334,105 @@ impl<'a, N: Named<CommitWorld>, C: Clock, V: Wire, G: Gate> Desk<'a, N, C, V, G>
             last = self.deliver_first(rt, last)?;
         }
         Ok(())
+    }
+
+    /// Has the messages' ranges evaluate them beside each other, and then keeps the replies in the order of their numbers. Where a range gave
+    /// one back, none of them is heard.
+    fn deliver_beside<R: Serves<N, G>>(&mut self, rt: &R) -> Result<(), Halt>
+        requires track { KeepsTrack self.old }
+        requires beside { self.old.log.beside ≡ true }
+        requires some { 1 ≤ length self.old.posted }
+        requires none_waits { self.old.replies ≡ [] }
+        ensures ok { OnOk result (HasDelivered self.old self.new) }
+        ensures all { OnOk result (self.new.posted ≡ []) }
+        ensures clock { self.new.log.clock ≡ self.old.log.clock }
+        ensures err { IfErr result (HasHalted self.old self.new) }
+        ensures ended { IfErr result (EndsOnly (λ made. ⊥) self.old self.new) }
+    {
+        let wave = self.take_wave()?;
+        let outcomes = match rt.serve_all(self.ranges, wave) {
+            Ok(outcomes) => outcomes,
+            Err(NoMemory) => return Err(self.want_memory()),
+        };
+        match first_refusal(outcomes.as_slice()) {
+            None => self.keep_all(outcomes),
+            Some(cause) => Err(self.end_for(cause, outcomes)),
+        }
+    }
+
+    /// Takes all messages that wait, in the order of their numbers, each with a note of the actor's last entry beside it.
+    fn take_wave(&mut self) -> Result<Vec<Delivery<N>>, Halt>
+        requires track { KeepsTrack self.old }
+        requires some { 1 ≤ length self.old.posted }
+        ensures taken { IfOk result (λ wave. HasTakenWave self.old self.new wave.items) }
+        ensures all { OnOk result (self.new.posted ≡ []) }
+        ensures clock { self.new.log.clock ≡ self.old.log.clock }
+        ensures err { IfErr result (HasHalted self.old self.new) }
+        ensures ended { IfErr result (EndsOnly (λ made. ⊥) self.old self.new) }
+    {
+        let mut last = self.note_last()?;
+        let mut wave = Vec::new(*self.replies.allocator());
+        while let Some(message) = self.take_first() {
+            match join_wave(&mut wave, message, &mut last) {
+                Ok(()) => {}
+                Err(NoMemory) => return Err(self.want_memory()),
+            }
+        }
+        Ok(wave)
+    }
+
+    /// Takes the message of the least number from those that wait.
+    fn take_first(&mut self) -> Option<Message<N>>
+        ensures first { IfSome result (λ m. HasTakenFirst self.old self.new (posted_of m)) }
+        ensures ready { IfSome result (λ m. (m.sender ≡ self.old.log.part.id) × (m.range ≤ length self.old.log.head.splits) × (1 ≤ uses_left m.note.known) × AllBelowGreatest (request_stamps m.request)) }
+        ensures none { IfNone result ((self.old.posted ≡ []) × (self.new ≡ self.old)) }
+        ensures clock { self.new.log.clock ≡ self.old.log.clock }
+    {
+        let (_, message) = self.outbox.take_first()?;
+        Some(message)
+    }
+
+    /// Knows the evaluations of a wave, and keeps their replies, in order, until they are heard.
+    fn keep_all(&mut self, outcomes: Vec<Outcome<N>>) -> Result<(), Halt>
+        requires log { IsOwnLog self.old.log }
+        requires replies { All IsReply outcomes.items }
+        ensures ok { OnOk result (HasKeptAll self.old self.new outcomes.entry.items) }
+        ensures clock { self.new.log.clock ≡ self.old.log.clock }
+        ensures err { IfErr result (HasHalted self.old self.new) }
+        ensures memory { IfErr result (λ halt. halt ≡ halts.NoMemory) }
+    {
+        for outcome in outcomes {
+            match outcome {
+                Ok(reply) => self.keep(reply)?,
+                Err(_) => unreachable!(),
+            }
+        }
+        Ok(())
+    }
+
+    /// Knows what became of the messages of a wave, has the uses of those that were given back, and makes no more entries.
+    fn end_for(&mut self, cause: Halt, outcomes: Vec<Outcome<N>>) -> Halt
+        ensures ends { EndsFor self.old self.new outcomes.entry.items cause result }
+        ensures clock { self.new.log.clock ≡ self.old.log.clock }
+    {
+        for outcome in outcomes {
+            match outcome {
+                Ok(reply) => self.log.take(reply.note),
+                Err(
+                    ServeFault::Full {
+                        range: _,
+                        last,
+                        message,
+                    },
+                ) => {
+                    self.log.take(last);
+                    self.log.take(message.note);
+                }
+                Err(ServeFault::NoMemory) => return self.want_memory(),
+            }
+        }
+        self.log.halt();
+        cause
     }
 
     /// A note of the actor's last entry, behind which the messages that wait are evaluated.
@@ -466,6 +584,46 @@ impl<'a, N: Named<CommitWorld>, C: Clock + Drop, V: Wire + Drop, G> Desk<'a, N, 
         ensures ready { All (IsReadyToGo self.entry.log.part.id self.entry.log.head.splits) result.1 }
     {
         (self.log.into_actor(), Rest::of(self.outbox))
+    }
+}
+
+/// Puts a message behind the others of its wave, with a copy of the note beside it.
+fn join_wave<N: Named<CommitWorld>>(
+    wave: &mut Vec<Delivery<N>>,
+    message: Message<N>,
+    last: &mut Note<CommitWorld, N>,
+) -> Result<(), NoMemory>
+    ensures put { OnOk result (HasJoined wave.old.items wave.new.items message last.old.known) }
+    ensures note { OnOk result (last.new.known ≡ without_uses 0 last.old.known) }
+{
+    let last = last.again(0)?;
+    wave.push(Delivery { message, last })?;
+    Ok(())
+}
+
+/// Why a wave is not heard: the first refusal among these outcomes. None where all are replies.
+fn first_refusal<N: Named<CommitWorld>>(outcomes: &[Outcome<N>]) -> Option<Halt>
+    ensures some { IfSome result (IsRefusalIn outcomes.now) }
+    ensures none { IfNone result (All IsReply outcomes.now) }
+{
+    for outcome in outcomes {
+        match outcome {
+            Ok(_) => {}
+            Err(fault) => return Some(halt_of(fault)),
+        }
+    }
+    None
+}
+
+/// Why a list ends at this fault.
+fn halt_of<N: Named<CommitWorld>>(fault: &ServeFault<N>) -> Halt
+    ensures { IsHaltOf fault.now result }
+{
+    match fault {
+        ServeFault::Full { range, .. } => Halt::Full {
+            actor: ActorId::Range(*range),
+        },
+        ServeFault::NoMemory => Halt::NoMemory,
     }
 }
 

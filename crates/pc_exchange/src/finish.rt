@@ -18,13 +18,13 @@ use pc_history::Named;
 use pc_proto::{MachineNext, Request};
 use pc_range::{CommitWorld, Gate};
 use pc_resolve::ResolveMachine;
+use pc_serving::Serves;
 use pc_wire::Wire;
-use std::sync::Wait;
 
 /// Does the session's oldest job, between its calls: each lock is settled, and then the record removed.
 ///
 /// Gives the greatest timestamp that was heard in it.
-pub fn finish_job<N: Named<CommitWorld>, C: Clock, V: Wire, G: Gate, R: Wait>(
+pub fn finish_job<N: Named<CommitWorld>, C: Clock, V: Wire, G: Gate, R: Serves<N, G>>(
     desk: &mut Desk<'_, N, C, V, G>,
     rt: &R,
     job: Job,
@@ -57,7 +57,7 @@ pub fn finish_job<N: Named<CommitWorld>, C: Clock, V: Wire, G: Gate, R: Wait>(
 }
 
 /// Exchanges what the job's machine has due. Gives the greatest timestamp in the reply.
-fn settle_on<N: Named<CommitWorld>, C: Clock, V: Wire, G: Gate, R: Wait>(
+fn settle_on<N: Named<CommitWorld>, C: Clock, V: Wire, G: Gate, R: Serves<N, G>>(
     desk: &mut Desk<'_, N, C, V, G>,
     rt: &R,
     machine: &mut ResolveMachine,

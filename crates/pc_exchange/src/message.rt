@@ -9,11 +9,11 @@ use pc_desk::{Desk, Halt};
 use pc_history::Named;
 use pc_proto::{Reply, Request};
 use pc_range::{CommitWorld, Gate};
+use pc_serving::Serves;
 use pc_wire::Wire;
-use std::sync::Wait;
 
 /// Sends one message that is no put, has it evaluated, and hears its reply, which it gives. No other message of the actor is on its way.
-pub fn exchange<N: Named<CommitWorld>, C: Clock, V: Wire, G: Gate, R: Wait>(
+pub fn exchange<N: Named<CommitWorld>, C: Clock, V: Wire, G: Gate, R: Serves<N, G>>(
     desk: &mut Desk<'_, N, C, V, G>,
     rt: &R,
     request: Request,

@@ -18,14 +18,14 @@ use pc_history::Named;
 use pc_proto::{MachineNext, Reply, Request};
 use pc_push::PushMachine;
 use pc_range::{CommitWorld, Gate};
+use pc_serving::Serves;
 use pc_wire::Wire;
-use std::sync::Wait;
 
 /// Makes the round of a conflict that the open call met, which was asked at this reading: the holder of the intent is pushed, and the
 /// intent settled as the push came out. A reader's conflict is given with the timestamp at which it reads.
 ///
 /// Gives how the round ended, and the greatest timestamp that was heard in it.
-pub fn make_round<N: Named<CommitWorld>, C: Clock, V: Wire, G: Gate, R: Wait>(
+pub fn make_round<N: Named<CommitWorld>, C: Clock, V: Wire, G: Gate, R: Serves<N, G>>(
     desk: &mut Desk<'_, N, C, V, G>,
     rt: &R,
     pusher: Pusher,
@@ -66,7 +66,7 @@ pub fn make_round<N: Named<CommitWorld>, C: Clock, V: Wire, G: Gate, R: Wait>(
 }
 
 /// Exchanges what the round's machine asks for. Gives the greatest timestamp in the reply.
-fn push_on<N: Named<CommitWorld>, C: Clock, V: Wire, G: Gate, R: Wait>(
+fn push_on<N: Named<CommitWorld>, C: Clock, V: Wire, G: Gate, R: Serves<N, G>>(
     desk: &mut Desk<'_, N, C, V, G>,
     rt: &R,
     machine: &mut PushMachine,

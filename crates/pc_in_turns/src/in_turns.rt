@@ -23,16 +23,16 @@ use pc_history::{Named, Note};
 use pc_range::{CommitWorld, Gate};
 use pc_rounds::{Clients, CountedRecoverer};
 use pc_scripted::Scripted;
+use pc_serving::Serves;
 use pc_session::Token;
 use pc_wire::Wire;
 use pc_work::{Turn, Workload};
 use std::marker::Model;
-use std::sync::Wait;
 
 /// Brings the sessions and recoverers of a workload through its turns to their ends: the first session goes on by itself until its opening is
 /// over, then each turn that is stated is taken, then each session goes to the end of its script, one after another, and then each recoverer
 /// makes the rounds that are left to it.
-pub fn go_in_turns<'a, N: Named<CommitWorld>, C: Clock + Drop, V: Wire + Drop, G: Gate, R: Wait>(
+pub fn go_in_turns<'a, N: Named<CommitWorld>, C: Clock + Drop, V: Wire + Drop, G: Gate, R: Serves<N, G>>(
     rt: &R,
     work: &'a Workload,
     stated: &[Turn],
@@ -82,7 +82,7 @@ impl<'a, N: Named<CommitWorld>, C: Clock, V: Wire, G> Model for InTurns<'a, N, C
 
 impl<'a, N: Named<CommitWorld>, C: Clock + Drop, V: Wire + Drop, G: Gate> InTurns<'a, N, C, V, G> {
     /// The first session goes on by itself until the opening is over.
-    fn open<R: Wait>(&mut self, rt: &R) -> Result<(), NoMemory>
+    fn open<R: Serves<N, G>>(&mut self, rt: &R) -> Result<(), NoMemory>
         requires { AreInTurns self.old }
         ensures { OnOk result (HaveGoneOn C.rule (IsOpening self.old.work) self.old self.new) }
     {
@@ -91,7 +91,7 @@ impl<'a, N: Named<CommitWorld>, C: Clock + Drop, V: Wire + Drop, G: Gate> InTurn
     }
 
     /// Takes these turns, one after another.
-    fn take_all<R: Wait>(&mut self, rt: &R, stated: &[Turn]) -> Result<(), NoMemory>
+    fn take_all<R: Serves<N, G>>(&mut self, rt: &R, stated: &[Turn]) -> Result<(), NoMemory>
         requires in_turns { AreInTurns self.old }
         requires there { All (IsTurnOf (length self.old.work.sessions) (length self.old.work.recoverers)) stated.now }
         ensures { OnOk result (HaveGoneOn C.rule (TakeTurns self.old.work stated.now) self.old self.new) }
@@ -103,7 +103,7 @@ impl<'a, N: Named<CommitWorld>, C: Clock + Drop, V: Wire + Drop, G: Gate> InTurn
     }
 
     /// Takes one turn: a session's next call, its oldest job, or a recoverer's next round.
-    fn take<R: Wait>(&mut self, rt: &R, turn: Turn) -> Result<(), NoMemory>
+    fn take<R: Serves<N, G>>(&mut self, rt: &R, turn: Turn) -> Result<(), NoMemory>
         requires in_turns { AreInTurns self.old }
         requires there { IsTurnOf (length self.old.work.sessions) (length self.old.work.recoverers) turn }
         ensures { OnOk result (HaveGoneOn C.rule (TakesTurn self.old.work turn) self.old self.new) }
@@ -116,7 +116,7 @@ impl<'a, N: Named<CommitWorld>, C: Clock + Drop, V: Wire + Drop, G: Gate> InTurn
     }
 
     /// Each session, in order, goes on by itself to the end of its script.
-    fn run_out<R: Wait>(&mut self, rt: &R) -> Result<(), NoMemory>
+    fn run_out<R: Serves<N, G>>(&mut self, rt: &R) -> Result<(), NoMemory>
         requires { AreInTurns self.old }
         ensures gone { OnOk result (HaveGoneOn C.rule (GoOut self.old.work (length self.old.work.sessions)) self.old self.new) }
         ensures over { OnOk result (AreRunOut self.new.sessions) }
@@ -128,7 +128,7 @@ impl<'a, N: Named<CommitWorld>, C: Clock + Drop, V: Wire + Drop, G: Gate> InTurn
     }
 
     /// Each recoverer, in order, makes the rounds that are left to it.
-    fn recover_out<R: Wait>(&mut self, rt: &R) -> Result<(), NoMemory>
+    fn recover_out<R: Serves<N, G>>(&mut self, rt: &R) -> Result<(), NoMemory>
         requires { AreInTurns self.old }
         ensures gone { OnOk result (HaveGoneOn C.rule (RecoverOut self.old.work (length self.old.work.recoverers)) self.old self.new) }
         ensures sessions { OnOk result (self.new.sessions ≡ self.old.sessions) }
@@ -141,7 +141,7 @@ impl<'a, N: Named<CommitWorld>, C: Clock + Drop, V: Wire + Drop, G: Gate> InTurn
     }
 
     /// The recoverer of this index takes as many turns as it makes rounds.
-    fn recover_all<R: Wait>(&mut self, rt: &R, index: usize) -> Result<(), NoMemory>
+    fn recover_all<R: Serves<N, G>>(&mut self, rt: &R, index: usize) -> Result<(), NoMemory>
         requires in_turns { AreInTurns self.old }
         requires there { index < length self.old.recoverers }
         ensures gone { OnOk result (HaveGoneOn C.rule (TakeTurns self.old.work (recoverer_turns (index + 1) (rounds_in_work self.old.work (index + 1)))) self.old self.new) }
@@ -159,7 +159,7 @@ impl<'a, N: Named<CommitWorld>, C: Clock + Drop, V: Wire + Drop, G: Gate> InTurn
     }
 
     /// The recoverer of this index makes its next round, behind all that was done before.
-    fn recover<R: Wait>(&mut self, rt: &R, index: usize) -> Result<(), NoMemory>
+    fn recover<R: Serves<N, G>>(&mut self, rt: &R, index: usize) -> Result<(), NoMemory>
         requires in_turns { AreInTurns self.old }
         requires there { index < length self.old.recoverers }
         ensures gone { OnOk result (HaveGoneOn C.rule (TakesTurn self.old.work (turns.Recoverer (index + 1))) self.old self.new) }
@@ -175,7 +175,7 @@ impl<'a, N: Named<CommitWorld>, C: Clock + Drop, V: Wire + Drop, G: Gate> InTurn
     }
 
     /// The recoverer of this index makes its next round.
-    fn round<R: Wait>(&mut self, rt: &R, index: usize) -> Result<(), NoMemory>
+    fn round<R: Serves<N, G>>(&mut self, rt: &R, index: usize) -> Result<(), NoMemory>
         requires in_turns { AreInTurns self.old }
         requires there { index < length self.old.recoverers }
         ensures { OnOk result (HasMadeRoundAt C.rule index self.old self.new) }
@@ -211,7 +211,7 @@ impl<'a, N: Named<CommitWorld>, C: Clock + Drop, V: Wire + Drop, G: Gate> InTurn
     }
 
     /// The session of this index does its task, behind all that was done before.
-    fn go<R: Wait>(&mut self, rt: &R, index: usize, task: Task) -> Result<(), NoMemory>
+    fn go<R: Serves<N, G>>(&mut self, rt: &R, index: usize, task: Task) -> Result<(), NoMemory>
         requires in_turns { AreInTurns self.old }
         requires there { index < length self.old.sessions }
         ensures gone { OnOk result (HaveGoneOn C.rule (IsTask self.old.work task index) self.old self.new) }
@@ -239,7 +239,7 @@ impl<'a, N: Named<CommitWorld>, C: Clock + Drop, V: Wire + Drop, G: Gate> InTurn
     }
 
     /// The session of this index does its task.
-    fn act<R: Wait>(&mut self, rt: &R, index: usize, task: Task) -> Result<(), NoMemory>
+    fn act<R: Serves<N, G>>(&mut self, rt: &R, index: usize, task: Task) -> Result<(), NoMemory>
         requires in_turns { AreInTurns self.old }
         requires there { index < length self.old.sessions }
         ensures acted { OnOk result (HasActed C.rule (DoesTask task) index self.old self.new) }
@@ -254,7 +254,7 @@ impl<'a, N: Named<CommitWorld>, C: Clock + Drop, V: Wire + Drop, G: Gate> InTurn
     }
 
     /// The session of this index goes on by itself until so many items of its script are over.
-    fn go_until<R: Wait>(&mut self, rt: &R, index: usize, items: usize) -> Result<(), NoMemory>
+    fn go_until<R: Serves<N, G>>(&mut self, rt: &R, index: usize, items: usize) -> Result<(), NoMemory>
         requires in_turns { AreInTurns self.old }
         requires there { index < length self.old.sessions }
         ensures { OnOk result (HasActed C.rule (λ s. GoesUntil s (are_items_over items s.at.reruns s.script)) index self.old self.new) }
@@ -269,7 +269,7 @@ impl<'a, N: Named<CommitWorld>, C: Clock + Drop, V: Wire + Drop, G: Gate> InTurn
     }
 
     /// The session of this index goes on by itself to the end of its script.
-    fn go_to_end<R: Wait>(&mut self, rt: &R, index: usize) -> Result<(), NoMemory>
+    fn go_to_end<R: Serves<N, G>>(&mut self, rt: &R, index: usize) -> Result<(), NoMemory>
         requires in_turns { AreInTurns self.old }
         requires there { index < length self.old.sessions }
         ensures acted { OnOk result (HasActed C.rule (λ s. GoesUntil s (is_script_over s.at.reruns s.script)) index self.old self.new) }
@@ -285,7 +285,7 @@ impl<'a, N: Named<CommitWorld>, C: Clock + Drop, V: Wire + Drop, G: Gate> InTurn
     }
 
     /// What the session of this index does by itself: its oldest job where one waits, else its script's next call.
-    fn go_on<R: Wait>(&mut self, rt: &R, index: usize) -> Result<(), NoMemory>
+    fn go_on<R: Serves<N, G>>(&mut self, rt: &R, index: usize) -> Result<(), NoMemory>
         requires in_turns { AreInTurns self.old }
         requires there { index < length self.old.sessions }
         requires going { IsAt (λ s. s.session.desk.log.stopped ≡ false) index self.old }
@@ -299,7 +299,7 @@ impl<'a, N: Named<CommitWorld>, C: Clock + Drop, V: Wire + Drop, G: Gate> InTurn
     }
 
     /// The session of this index does its oldest job.
-    fn finish_job<R: Wait>(&mut self, rt: &R, index: usize) -> Result<(), NoMemory>
+    fn finish_job<R: Serves<N, G>>(&mut self, rt: &R, index: usize) -> Result<(), NoMemory>
         requires in_turns { AreInTurns self.old }
         requires there { index < length self.old.sessions }
         ensures { OnOk result (HasActed C.rule FinishesInTurn index self.old self.new) }
@@ -308,7 +308,7 @@ impl<'a, N: Named<CommitWorld>, C: Clock + Drop, V: Wire + Drop, G: Gate> InTurn
     }
 
     /// The session of this index asks its script's next call.
-    fn call<R: Wait>(&mut self, rt: &R, index: usize) -> Result<(), NoMemory>
+    fn call<R: Serves<N, G>>(&mut self, rt: &R, index: usize) -> Result<(), NoMemory>
         requires in_turns { AreInTurns self.old }
         requires there { index < length self.old.sessions }
         ensures { OnOk result (HasActed C.rule AsksInTurn index self.old self.new) }
@@ -320,7 +320,7 @@ impl<'a, N: Named<CommitWorld>, C: Clock + Drop, V: Wire + Drop, G: Gate> InTurn
     }
 
     /// The session of this index asks its script's next call, which is no learn.
-    fn turn<R: Wait>(&mut self, rt: &R, index: usize) -> Result<(), NoMemory>
+    fn turn<R: Serves<N, G>>(&mut self, rt: &R, index: usize) -> Result<(), NoMemory>
         requires in_turns { AreInTurns self.old }
         requires there { index < length self.old.sessions }
         requires other { IsAt (λ s. learnt_ahead s ≡ None) index self.old }

@@ -14,12 +14,12 @@ use pc_desk::{Desk, Halt};
 use pc_history::Named;
 use pc_proto::{Goal, Reply, Request, TxnMeta};
 use pc_range::{CommitWorld, Gate};
+use pc_serving::Serves;
 use pc_wire::Wire;
-use std::sync::Wait;
 
 /// What a round does for a transaction that a range has listed: pushes it, recovers it where the push met its record staging, and settles it
 /// where it is final.
-pub(crate) fn deal_with<N: Named<CommitWorld>, C: Clock, V: Wire, G: Gate, R: Wait>(
+pub(crate) fn deal_with<N: Named<CommitWorld>, C: Clock, V: Wire, G: Gate, R: Serves<N, G>>(
     desk: &mut Desk<'_, N, C, V, G>,
     rt: &R,
     maker: RoundMaker,

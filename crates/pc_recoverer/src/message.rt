@@ -14,11 +14,11 @@ use pc_desk::{Desk, Halt};
 use pc_history::Named;
 use pc_proto::{Metas, Reply, Request};
 use pc_range::{CommitWorld, Gate};
+use pc_serving::Serves;
 use pc_wire::Wire;
-use std::sync::Wait;
 
 /// Sends one message, has it evaluated, and hears its reply, which it gives. No other message of the recoverer is on its way.
-pub(crate) fn exchange<N: Named<CommitWorld>, C: Clock, V: Wire, G: Gate, R: Wait>(
+pub(crate) fn exchange<N: Named<CommitWorld>, C: Clock, V: Wire, G: Gate, R: Serves<N, G>>(
     desk: &mut Desk<'_, N, C, V, G>,
     rt: &R,
     request: Request,
@@ -36,7 +36,7 @@ pub(crate) fn exchange<N: Named<CommitWorld>, C: Clock, V: Wire, G: Gate, R: Wai
 }
 
 /// Has the range list its records.
-pub(crate) fn list_records<N: Named<CommitWorld>, C: Clock, V: Wire, G: Gate, R: Wait>(
+pub(crate) fn list_records<N: Named<CommitWorld>, C: Clock, V: Wire, G: Gate, R: Serves<N, G>>(
     desk: &mut Desk<'_, N, C, V, G>,
     rt: &R,
     range: u32,
@@ -58,7 +58,7 @@ pub(crate) fn list_records<N: Named<CommitWorld>, C: Clock, V: Wire, G: Gate, R:
 }
 
 /// Has the message that was sent last evaluated, and hears its reply, which it gives.
-fn hear_reply<N: Named<CommitWorld>, C: Clock, V: Wire, G: Gate, R: Wait>(
+fn hear_reply<N: Named<CommitWorld>, C: Clock, V: Wire, G: Gate, R: Serves<N, G>>(
     desk: &mut Desk<'_, N, C, V, G>,
     rt: &R,
 ) -> Result<Reply, Halt>

@@ -21,11 +21,11 @@ use pc_history::Named;
 use pc_proto::{MachineNext, Request, TxnMeta, View};
 use pc_range::{CommitWorld, Gate};
 use pc_recover::RecoverMachine;
+use pc_serving::Serves;
 use pc_wire::Wire;
-use std::sync::Wait;
 
 /// Recovers the transaction, whose record a push met staging so. Gives the view that the recovery was answered with.
-pub(crate) fn recover<N: Named<CommitWorld>, C: Clock, V: Wire, G: Gate, R: Wait>(
+pub(crate) fn recover<N: Named<CommitWorld>, C: Clock, V: Wire, G: Gate, R: Serves<N, G>>(
     desk: &mut Desk<'_, N, C, V, G>,
     rt: &R,
     maker: RoundMaker,
@@ -59,7 +59,7 @@ pub(crate) fn recover<N: Named<CommitWorld>, C: Clock, V: Wire, G: Gate, R: Wait
 }
 
 /// Exchanges what the recovery has due.
-fn recover_on<N: Named<CommitWorld>, C: Clock, V: Wire, G: Gate, R: Wait>(
+fn recover_on<N: Named<CommitWorld>, C: Clock, V: Wire, G: Gate, R: Serves<N, G>>(
     desk: &mut Desk<'_, N, C, V, G>,
     rt: &R,
     machine: &mut RecoverMachine,

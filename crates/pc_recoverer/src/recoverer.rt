@@ -17,10 +17,10 @@ use pc_clock::Clock;
 use pc_desk::{Desk, Halt, Rest};
 use pc_history::{Actor, Named, Note};
 use pc_range::{CommitWorld, Gate, Ranges};
+use pc_serving::Serves;
 use pc_wire::Wire;
 use std::alloc::Global;
 use std::marker::Model;
-use std::sync::Wait;
 
 /// One recoverer of the ranges: round by round it decides and settles what transactions have left behind.
 ///
@@ -116,7 +116,7 @@ impl<'a, N: Named<CommitWorld>, C: Clock, V: Wire, G: Gate> Recoverer<'a, N, C, 
 
     /// Makes a round: each range lists its records, and each transaction that one lists is pushed, recovered where the push met it staging,
     /// and settled where it is final. The clock is read once, where the round is asked.
-    pub fn round<R: Wait>(&mut self, rt: &R) -> Result<(), Halt>
+    pub fn round<R: Serves<N, G>>(&mut self, rt: &R) -> Result<(), Halt>
         ensures ok { OnOk result (HasMadeWholeRound self.old.number self.old.level self.old.desk self.new.desk) }
         ensures same { (self.new.number ≡ self.old.number) × (self.new.level ≡ self.old.level) }
         ensures between { IsBetweenOrStopped self.new }

@@ -12,11 +12,11 @@ use pc_desk::{Desk, Halt};
 use pc_history::Named;
 use pc_proto::{Answer, Call};
 use pc_range::{CommitWorld, Gate};
+use pc_serving::Serves;
 use pc_wire::Wire;
-use std::sync::Wait;
 
 /// Asks a round, which reads the clock once, visits each of the ranges, of which there are so many, and is told that the round is done.
-pub(crate) fn make_whole_round<N: Named<CommitWorld>, C: Clock, V: Wire, G: Gate, R: Wait>(
+pub(crate) fn make_whole_round<N: Named<CommitWorld>, C: Clock, V: Wire, G: Gate, R: Serves<N, G>>(
     desk: &mut Desk<'_, N, C, V, G>,
     rt: &R,
     number: u32,

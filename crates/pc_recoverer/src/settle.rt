@@ -19,11 +19,11 @@ use pc_history::Named;
 use pc_proto::{Fate, Keys, MachineNext, Request, TxnMeta, View};
 use pc_range::{CommitWorld, Gate};
 use pc_resolve::ResolveMachine;
+use pc_serving::Serves;
 use pc_wire::Wire;
-use std::sync::Wait;
 
 /// Settles each lock that a final view of the transaction shows, and then removes its record. A view that is not final asks for nothing.
-pub(crate) fn settle<N: Named<CommitWorld>, C: Clock, V: Wire, G: Gate, R: Wait>(
+pub(crate) fn settle<N: Named<CommitWorld>, C: Clock, V: Wire, G: Gate, R: Serves<N, G>>(
     desk: &mut Desk<'_, N, C, V, G>,
     rt: &R,
     meta: &TxnMeta,
@@ -47,7 +47,7 @@ pub(crate) fn settle<N: Named<CommitWorld>, C: Clock, V: Wire, G: Gate, R: Wait>
 }
 
 /// Settles these locks of the transaction with its fate, one after another, and then removes its record.
-fn settle_locks<N: Named<CommitWorld>, C: Clock, V: Wire, G: Gate, R: Wait>(
+fn settle_locks<N: Named<CommitWorld>, C: Clock, V: Wire, G: Gate, R: Serves<N, G>>(
     desk: &mut Desk<'_, N, C, V, G>,
     rt: &R,
     meta: &TxnMeta,
@@ -82,7 +82,7 @@ fn settle_locks<N: Named<CommitWorld>, C: Clock, V: Wire, G: Gate, R: Wait>(
 }
 
 /// Exchanges what the machine has due.
-fn settle_on<N: Named<CommitWorld>, C: Clock, V: Wire, G: Gate, R: Wait>(
+fn settle_on<N: Named<CommitWorld>, C: Clock, V: Wire, G: Gate, R: Serves<N, G>>(
     desk: &mut Desk<'_, N, C, V, G>,
     rt: &R,
     machine: &mut ResolveMachine,

@@ -12,11 +12,11 @@ use pc_desk::{Desk, Halt};
 use pc_history::Named;
 use pc_proto::TxnMeta;
 use pc_range::{CommitWorld, Gate};
+use pc_serving::Serves;
 use pc_wire::Wire;
-use std::sync::Wait;
 
 /// What a round does at so many ranges, from the first on, in their order.
-pub(crate) fn visit_each<N: Named<CommitWorld>, C: Clock, V: Wire, G: Gate, R: Wait>(
+pub(crate) fn visit_each<N: Named<CommitWorld>, C: Clock, V: Wire, G: Gate, R: Serves<N, G>>(
     desk: &mut Desk<'_, N, C, V, G>,
     rt: &R,
     maker: RoundMaker,
@@ -36,7 +36,7 @@ pub(crate) fn visit_each<N: Named<CommitWorld>, C: Clock, V: Wire, G: Gate, R: W
 }
 
 /// What a round does at one range: has it list its records, and deals with each transaction that it lists.
-fn visit<N: Named<CommitWorld>, C: Clock, V: Wire, G: Gate, R: Wait>(
+fn visit<N: Named<CommitWorld>, C: Clock, V: Wire, G: Gate, R: Serves<N, G>>(
     desk: &mut Desk<'_, N, C, V, G>,
     rt: &R,
     maker: RoundMaker,
@@ -54,7 +54,7 @@ fn visit<N: Named<CommitWorld>, C: Clock, V: Wire, G: Gate, R: Wait>(
 }
 
 /// Deals with each of the transactions that a range has listed, in their order.
-fn deal_with_each<N: Named<CommitWorld>, C: Clock, V: Wire, G: Gate, R: Wait>(
+fn deal_with_each<N: Named<CommitWorld>, C: Clock, V: Wire, G: Gate, R: Serves<N, G>>(
     desk: &mut Desk<'_, N, C, V, G>,
     rt: &R,
     maker: RoundMaker,

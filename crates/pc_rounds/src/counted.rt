@@ -15,9 +15,9 @@ use pc_history::{Actor, Named, Note};
 use pc_range::{CommitWorld, Gate};
 use pc_recoverer::Recoverer;
 use pc_scripted::Scripted;
+use pc_serving::Serves;
 use pc_wire::Wire;
 use std::marker::Model;
-use std::sync::Wait;
 
 /// The sessions of a workload with their scripts, and its recoverers with their rounds.
 pub type Clients<'a, N, C, V, G> = (
@@ -103,7 +103,7 @@ impl<'a, N: Named<CommitWorld>, C: Clock + Drop, V: Wire + Drop, G: Gate> Counte
     }
 
     /// Makes its next round; nothing where none is left or its list has ended.
-    pub fn round<R: Wait>(&mut self, rt: &R) -> Result<(), NoMemory>
+    pub fn round<R: Serves<N, G>>(&mut self, rt: &R) -> Result<(), NoMemory>
         requires { GoesInRounds self.old }
         ensures ok { OnOk result (HasMadeNext self.old self.new) }
         ensures rule { C.rule self.new.recoverer.desk.log.clock ≡ C.rule self.old.recoverer.desk.log.clock }
@@ -122,7 +122,7 @@ impl<'a, N: Named<CommitWorld>, C: Clock + Drop, V: Wire + Drop, G: Gate> Counte
     }
 
     /// Makes a round, where one is left.
-    fn make_one<R: Wait>(&mut self, rt: &R) -> Result<(), NoMemory>
+    fn make_one<R: Serves<N, G>>(&mut self, rt: &R) -> Result<(), NoMemory>
         requires counted { GoesInRounds self.old }
         requires going { self.old.recoverer.desk.log.stopped ≡ false }
         requires left { self.old.made < self.old.rounds }
@@ -139,7 +139,7 @@ impl<'a, N: Named<CommitWorld>, C: Clock + Drop, V: Wire + Drop, G: Gate> Counte
     }
 
     /// Makes all rounds that are left, unless its list ends.
-    pub fn make_all<R: Wait>(&mut self, rt: &R) -> Result<(), NoMemory>
+    pub fn make_all<R: Serves<N, G>>(&mut self, rt: &R) -> Result<(), NoMemory>
         requires { GoesInRounds self.old }
         ensures ok { OnOk result (HasMadeAll self.old self.new) }
         ensures rule { C.rule self.new.recoverer.desk.log.clock ≡ C.rule self.old.recoverer.desk.log.clock }

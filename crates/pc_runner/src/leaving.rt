@@ -17,6 +17,7 @@ use pc_in_turns::go_in_turns;
 use pc_range::{CommitWorld, Gate, Ranges};
 use pc_threads::go_on_threads;
 use pc_work::{Turn, Workload};
+use pc_serving::{Beside, OneByOne};
 use std::alloc::Global;
 use std::sync::Wait;
 use std::thread::Threads;
@@ -43,7 +44,7 @@ where
 {
     let sessions = begin(alloc, work, clocks, ranges, sessions)?;
     let recoverers = begin_recoverers(alloc, work, clocks, ranges, recoverers)?;
-    let (sessions, recoverers) = go_in_turns(rt, work, stated, sessions, recoverers)?;
+    let (sessions, recoverers) = go_in_turns(&OneByOne::new(rt), work, stated, sessions, recoverers)?;
     finish(alloc, sessions, recoverers)
 }
 
@@ -74,6 +75,6 @@ where
 {
     let sessions = begin(alloc, work, clocks, ranges, sessions)?;
     let recoverers = begin_recoverers(alloc, work, clocks, ranges, recoverers)?;
-    let (sessions, recoverers) = go_on_threads(rt, work, sessions, recoverers)?;
+    let (sessions, recoverers) = go_on_threads(&Beside::new(rt), work, sessions, recoverers)?;
     finish(alloc, sessions, recoverers)
 }

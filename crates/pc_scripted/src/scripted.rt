@@ -24,12 +24,12 @@ use pc_history::{Actor, Named, Note};
 use pc_proto::{Answer, Call};
 use pc_range::{CommitWorld, Gate};
 use pc_script::ScriptRun;
+use pc_serving::Serves;
 use pc_session::{Session, Token};
 use pc_wire::Wire;
 use pc_work::Script;
 use std::alloc::Global;
 use std::marker::Model;
-use std::sync::Wait;
 
 /// One session with its script. It asks the script's calls in order, some of them again where they were refused, and does its jobs.
 ///
@@ -136,7 +136,7 @@ impl<'a, N: Named<CommitWorld>, C: Clock + Drop, V: Wire + Drop, G: Gate> Script
     }
 
     /// Asks the script's next call, and is told its answer; nothing where the script is over or the list has ended.
-    pub fn turn<R: Wait>(&mut self, rt: &R) -> Result<(), NoMemory>
+    pub fn turn<R: Serves<N, G>>(&mut self, rt: &R) -> Result<(), NoMemory>
         requires { IsScripted self.old }
         ensures ok { OnOk result (HasMoved (AsksInTurn self.old) self.old self.new) }
         ensures rule { C.rule self.new.session.desk.log.clock ≡ C.rule self.old.session.desk.log.clock }
@@ -158,7 +158,7 @@ impl<'a, N: Named<CommitWorld>, C: Clock + Drop, V: Wire + Drop, G: Gate> Script
     }
 
     /// Asks the call, which comes next, and is told its answer.
-    fn call<R: Wait>(&mut self, rt: &R, call: Call) -> Result<(), NoMemory>
+    fn call<R: Serves<N, G>>(&mut self, rt: &R, call: Call) -> Result<(), NoMemory>
         requires scripted { IsScripted self.old }
         requires going { self.old.session.desk.log.stopped ≡ false }
         requires next { next_call self.old.at ≡ Some call }
@@ -172,7 +172,7 @@ impl<'a, N: Named<CommitWorld>, C: Clock + Drop, V: Wire + Drop, G: Gate> Script
     }
 
     /// Does its oldest job; nothing where none waits or the list has ended.
-    pub fn finish_job<R: Wait>(&mut self, rt: &R) -> Result<(), NoMemory>
+    pub fn finish_job<R: Serves<N, G>>(&mut self, rt: &R) -> Result<(), NoMemory>
         requires { IsScripted self.old }
         ensures ok { OnOk result (HasMoved (FinishesInTurn self.old) self.old self.new) }
         ensures rule { C.rule self.new.session.desk.log.clock ≡ C.rule self.old.session.desk.log.clock }
@@ -187,7 +187,7 @@ impl<'a, N: Named<CommitWorld>, C: Clock + Drop, V: Wire + Drop, G: Gate> Script
     }
 
     /// Does its oldest job, where one waits.
-    fn step<R: Wait>(&mut self, rt: &R) -> Result<(), NoMemory>
+    fn step<R: Serves<N, G>>(&mut self, rt: &R) -> Result<(), NoMemory>
         requires scripted { IsScripted self.old }
         requires going { self.old.session.desk.log.stopped ≡ false }
         requires some { jobs_of (own_list self.old) ≡ [] → ⊥ }
@@ -225,7 +225,7 @@ impl<'a, N: Named<CommitWorld>, C: Clock + Drop, V: Wire + Drop, G: Gate> Script
     }
 
     /// What it does by itself: its oldest job where one waits, else its script's next call.
-    fn go_on<R: Wait>(&mut self, rt: &R) -> Result<(), NoMemory>
+    fn go_on<R: Serves<N, G>>(&mut self, rt: &R) -> Result<(), NoMemory>
         requires scripted { IsScripted self.old }
         requires going { self.old.session.desk.log.stopped ≡ false }
         ensures ok { OnOk result (HasMoved (TakesNextAlone self.old) self.old self.new) }
@@ -239,7 +239,7 @@ impl<'a, N: Named<CommitWorld>, C: Clock + Drop, V: Wire + Drop, G: Gate> Script
     }
 
     /// Goes on by itself until so many items of its script are over, or all of it, and no job waits; or until its list has ended.
-    pub fn open<R: Wait>(&mut self, rt: &R, items: usize) -> Result<(), NoMemory>
+    pub fn open<R: Serves<N, G>>(&mut self, rt: &R, items: usize) -> Result<(), NoMemory>
         requires { IsScripted self.old }
         ensures ok { OnOk result (HasMoved (GoesUntil self.old (are_items_over items self.old.at.reruns self.old.script)) self.old self.new) }
         ensures rule { C.rule self.new.session.desk.log.clock ≡ C.rule self.old.session.desk.log.clock }
@@ -254,7 +254,7 @@ impl<'a, N: Named<CommitWorld>, C: Clock + Drop, V: Wire + Drop, G: Gate> Script
     }
 
     /// Goes on by itself until its script is over and no job waits, or its list has ended.
-    pub fn run_to_end<R: Wait>(&mut self, rt: &R) -> Result<(), NoMemory>
+    pub fn run_to_end<R: Serves<N, G>>(&mut self, rt: &R) -> Result<(), NoMemory>
         requires { IsScripted self.old }
         ensures ok { OnOk result (HasMoved (GoesUntil self.old (is_script_over self.old.at.reruns self.old.script)) self.old self.new) }
         ensures over { OnOk result (IsRunOut self.new) }

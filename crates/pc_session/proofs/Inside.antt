@@ -48,7 +48,6 @@ one_on old new c d part grown one session splits knows = record {
   whose = id_same old.log new.log part grown ∙ (one.whose ∙ ap (λ n. actors.Session n) (sym session));
   splits = splits ∙ (one.splits ∙ ap (λ (h : Head). h.splits) (sym (head_same old.log new.log part grown)));
   unpiped = piped_same old.log new.log part grown ∙ one.unpiped;
-  one_by_one = beside_same old.log new.log part grown ∙ one.one_by_one;
   knows = knows;
 }
 

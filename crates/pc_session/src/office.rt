@@ -33,11 +33,11 @@ use pc_exchange::{finish_job, make_round};
 use pc_history::{Actor, Named};
 use pc_proto::{Answer, Call, Reply, Request};
 use pc_range::{CommitWorld, Gate};
+use pc_serving::Serves;
 use pc_wire::Wire;
 use std::alloc::Global;
 use std::collections::VecDeque;
 use std::marker::Model;
-use std::sync::Wait;
 
 /// What a session works with: its desk, its coordinator, and the jobs that wait. It may be in the middle of a call.
 #[derive(Drop)]
@@ -73,7 +73,7 @@ impl<'a, N: Named<CommitWorld>, C: Clock, V: Wire, G: Gate> Office<'a, N, C, V, 
     }
 
     /// Asks the call, makes its messages and the rounds of its conflicts, and tells its answer.
-    pub(crate) fn call<R: Wait>(&mut self, rt: &R, call: Call) -> Result<Answer, Halt>
+    pub(crate) fn call<R: Serves<N, G>>(&mut self, rt: &R, call: Call) -> Result<Answer, Halt>
         requires rest { IsAtRest self.old }
         requires may { MayBeCalled self.old call }
         ensures ok { IfOk result (HasCalled self.old self.new call) }
@@ -177,7 +177,7 @@ impl<'a, N: Named<CommitWorld>, C: Clock, V: Wire, G: Gate> Office<'a, N, C, V, 
     }
 
     /// Does what is due. Gives the answer once it was told.
-    fn go_on<R: Wait>(&mut self, rt: &R, reading: u64) -> Result<Option<Answer>, Halt>
+    fn go_on<R: Serves<N, G>>(&mut self, rt: &R, reading: u64) -> Result<Option<Answer>, Halt>
         requires calls { HasOpenCall self.old reading }
         requires between { IsBetweenWaves self.old.desk }
         ensures ok { IfOk result (GoesOnOrTold self.old self.new reading) }
@@ -234,7 +234,7 @@ impl<'a, N: Named<CommitWorld>, C: Clock, V: Wire, G: Gate> Office<'a, N, C, V, 
     }
 
     /// A wave: the messages that wait are evaluated, and then their replies heard.
-    fn wave<R: Wait>(&mut self, rt: &R, reading: u64) -> Result<Option<Answer>, Halt>
+    fn wave<R: Serves<N, G>>(&mut self, rt: &R, reading: u64) -> Result<Option<Answer>, Halt>
         requires calls { HasOpenCall self.old reading }
         requires between { IsBetweenWaves self.old.desk }
         requires due { next_of self.old.coordinator ≡ nexts.Wave }
@@ -252,7 +252,7 @@ impl<'a, N: Named<CommitWorld>, C: Clock, V: Wire, G: Gate> Office<'a, N, C, V, 
     }
 
     /// Has the messages that wait evaluated.
-    fn deliver<R: Wait>(&mut self, rt: &R, reading: u64) -> Result<(), Halt>
+    fn deliver<R: Serves<N, G>>(&mut self, rt: &R, reading: u64) -> Result<(), Halt>
         requires calls { HasOpenCall self.old reading }
         requires whole { IsWholeOut self.old }
         requires none_waits { self.old.desk.replies ≡ [] }
@@ -296,7 +296,7 @@ impl<'a, N: Named<CommitWorld>, C: Clock, V: Wire, G: Gate> Office<'a, N, C, V, 
     }
 
     /// Makes the round of the conflict that the message of this number met, and tells the coordinator how it ended.
-    fn round<R: Wait>(
+    fn round<R: Serves<N, G>>(
         &mut self,
         rt: &R,
         reading: u64,
@@ -362,7 +362,7 @@ impl<'a, N: Named<CommitWorld>, C: Clock, V: Wire, G: Gate> Office<'a, N, C, V, 
     }
 
     /// Does the oldest job. False where none waits.
-    pub(crate) fn step<R: Wait>(&mut self, rt: &R) -> Result<bool, Halt>
+    pub(crate) fn step<R: Serves<N, G>>(&mut self, rt: &R) -> Result<bool, Halt>
         requires { IsAtRest self.old }
         ensures ok { IfOk result (HasStepped self.old self.new) }
         ensures err { IfErr result (HasHalted self.old.desk self.new.desk) }

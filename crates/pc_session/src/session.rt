@@ -26,10 +26,10 @@ use pc_desk::{Desk, Halt, Rest};
 use pc_history::{Actor, Named, Note};
 use pc_proto::{Answer, Call};
 use pc_range::{CommitWorld, Gate, Ranges};
+use pc_serving::Serves;
 use pc_wire::Wire;
 use std::alloc::Global;
 use std::marker::Model;
-use std::sync::Wait;
 
 /// One session of the ranges: it begins transactions, reads, writes and ends them, one call after another, and does what they leave.
 ///
@@ -61,6 +61,7 @@ impl<'a, N: Named<CommitWorld>, C: Clock, V: Wire, G: Gate> Session<'a, N, C, V,
         wire: V,
         tries: u32,
         pipelining: bool,
+        beside: bool,
         limit: u64,
         stop: Option<u64>,
     ) -> Session<'a, N, C, V, G>
@@ -74,13 +75,13 @@ impl<'a, N: Named<CommitWorld>, C: Clock, V: Wire, G: Gate> Session<'a, N, C, V,
         requires few { length actor.world.splits ≤ 31 }
         requires unpiped { pipelining ≡ false }
         requires quiet { (number : ℕ) → V.rule wire number ≡ verdicts.Deliver }
-        ensures made { result.desk ≡ new_desk actor.world actor.part actor.spare clock pipelining false limit stop ranges.now.limit }
+        ensures made { result.desk ≡ new_desk actor.world actor.part actor.spare clock pipelining beside limit stop ranges.now.limit }
         ensures session { result.coordinator.session ≡ number }
         ensures jobs { result.jobs ≡ [] }
         ensures rests { IsAtRest result }
     {
         let desk = Desk::new(
-            alloc, actor, ranges, clock, wire, pipelining, false, limit, stop,
+            alloc, actor, ranges, clock, wire, pipelining, beside, limit, stop,
         );
         let coordinator = Coordinator::new(alloc, number, tries, pipelining, ranges.splits());
         Session {
@@ -135,7 +136,7 @@ impl<'a, N: Named<CommitWorld>, C: Clock, V: Wire, G: Gate> Session<'a, N, C, V,
     }
 
     /// Asks the call, makes its messages and the rounds of its conflicts, and is told its answer.
-    pub fn call<R: Wait>(&mut self, rt: &R, call: Call) -> Result<Answer, Halt>
+    pub fn call<R: Serves<N, G>>(&mut self, rt: &R, call: Call) -> Result<Answer, Halt>
         requires { self.old.desk.log.stopped ≡ false → MayBeCalled self.old call }
         ensures ok { IfOk result (HasCalled self.old self.new call) }
         ensures err { IfErr result (HasHalted self.old.desk self.new.desk) }
@@ -186,7 +187,7 @@ impl<'a, N: Named<CommitWorld>, C: Clock, V: Wire, G: Gate> Session<'a, N, C, V,
     }
 
     /// Does the oldest job: settles each lock of a transaction that is over, and then removes its record. False where no job waits.
-    pub fn step<R: Wait>(&mut self, rt: &R) -> Result<bool, Halt>
+    pub fn step<R: Serves<N, G>>(&mut self, rt: &R) -> Result<bool, Halt>
         ensures ok { IfOk result (HasStepped self.old self.new) }
         ensures err { IfErr result (HasHalted self.old.desk self.new.desk) }
         ensures ended { IfErr result (BreaksOff (All IsInBetween) self.old.desk self.new.desk) }

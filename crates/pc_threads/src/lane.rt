@@ -8,9 +8,9 @@ use pc_clock::Clock;
 use pc_history::Named;
 use pc_range::{CommitWorld, Gate};
 use pc_scripted::Scripted;
+use pc_serving::Serves;
 use pc_wire::Wire;
 use std::marker::Model;
-use std::sync::Wait;
 
 /// A session that goes to the end of its script beside others, and how it ended.
 #[derive(Drop)]
@@ -47,14 +47,14 @@ impl<'a, N: Named<CommitWorld>, C: Clock + Drop, V: Wire + Drop, G: Gate> Lane<'
     }
 }
 
-impl<'a, N: Named<CommitWorld>, C: Clock + Drop, V: Wire + Drop, G: Gate> Runs
+impl<'a, N: Named<CommitWorld>, C: Clock + Drop, V: Wire + Drop, G: Gate> Runs<N, G>
     for Lane<'a, N, C, V, G> {
     ghost may_run = { λ l. IsScripted l.session };
 
     ghost has_run = { HasRunLane C.rule };
 
     /// The session goes by itself to the end of its script.
-    fn run<R: Wait>(&mut self, rt: &R) {
+    fn run<R: Serves<N, G>>(&mut self, rt: &R) {
         self.ended = self.session.run_to_end(rt);
     }
 }

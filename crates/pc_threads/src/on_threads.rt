@@ -17,10 +17,10 @@ use pc_history::Named;
 use pc_range::{CommitWorld, Gate};
 use pc_rounds::{Clients, CountedRecoverer};
 use pc_scripted::Scripted;
+use pc_serving::Serves;
 use pc_wire::Wire;
 use pc_work::Workload;
 use std::marker::{Send, Sync};
-use std::sync::Wait;
 use std::thread::Threads;
 
 /// The lanes of the sessions, and those of the recoverers.
@@ -35,7 +35,7 @@ pub fn go_on_threads<
     C: Clock + Drop + Send,
     V: Wire + Drop + Send,
     G: Gate + Sync,
-    R: Wait + Threads + Sync,
+    R: Serves<N, G> + Threads + Sync,
 >(
     rt: &R,
     work: &'a Workload,
@@ -62,7 +62,7 @@ fn run_to_ends<
     C: Clock + Drop + Send,
     V: Wire + Drop + Send,
     G: Gate + Sync,
-    R: Wait + Threads + Sync,
+    R: Serves<N, G> + Threads + Sync,
 >(
     rt: &R,
     mut lanes: Vec<Lane<'a, N, C, V, G>>,
@@ -73,7 +73,7 @@ fn run_to_ends<
     requires counted { All (λ l. GoesInRounds l.recoverer) round_lanes.items }
     ensures { IfOk result (λ gone. HaveRunToEnds C.rule lanes.entry.items round_lanes.entry.items gone.0.items gone.1.items) }
 {
-    run_both(rt, lanes.as_mut_slice(), round_lanes.as_mut_slice());
+    run_both::<N, G, _, _, _>(rt, lanes.as_mut_slice(), round_lanes.as_mut_slice());
     let sessions = take_back(lanes)?;
     let recoverers = take_rounds_back(round_lanes)?;
     Ok((sessions, recoverers))
@@ -81,7 +81,7 @@ fn run_to_ends<
 
 /// The sessions and the recoverers in lanes of their own, once the first session has gone on by itself until so many items of its script are
 /// over.
-fn start<'a, N: Named<CommitWorld>, C: Clock + Drop, V: Wire + Drop, G: Gate, R: Wait>(
+fn start<'a, N: Named<CommitWorld>, C: Clock + Drop, V: Wire + Drop, G: Gate, R: Serves<N, G>>(
     rt: &R,
     opening: usize,
     mut sessions: Vec<Scripted<'a, N, C, V, G>>,

@@ -8,9 +8,9 @@ use pc_clock::Clock;
 use pc_history::Named;
 use pc_range::{CommitWorld, Gate};
 use pc_rounds::CountedRecoverer;
+use pc_serving::Serves;
 use pc_wire::Wire;
 use std::marker::Model;
-use std::sync::Wait;
 
 /// A recoverer that makes its rounds beside others, and how it ended.
 #[derive(Drop)]
@@ -53,14 +53,14 @@ impl<'a, N: Named<CommitWorld>, C: Clock + Drop, V: Wire + Drop, G: Gate> RoundL
     }
 }
 
-impl<'a, N: Named<CommitWorld>, C: Clock + Drop, V: Wire + Drop, G: Gate> Runs
+impl<'a, N: Named<CommitWorld>, C: Clock + Drop, V: Wire + Drop, G: Gate> Runs<N, G>
     for RoundLane<'a, N, C, V, G> {
     ghost may_run = { λ l. GoesInRounds l.recoverer };
 
     ghost has_run = { HasRunRounds C.rule };
 
     /// The recoverer makes the rounds that are left to it.
-    fn run<R: Wait>(&mut self, rt: &R) {
+    fn run<R: Serves<N, G>>(&mut self, rt: &R) {
         self.ended = self.recoverer.make_all(rt);
     }
 }

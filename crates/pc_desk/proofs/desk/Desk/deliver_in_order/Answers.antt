@@ -4,7 +4,7 @@ use Rattle.std.proofs.lemmas.Result.{err_from_is_err_and}
 use Rattle.pc_desk.proofs.Ending.{ended_later}
 use Rattle.pc_desk.specs.Desk.{HasDelivered}
 use Rattle.pc_desk.specs.Waiting.{IsNewest}
-use Rattle.pc_desk.proofs.desk.Desk.deliver.Goals as goal
+use Rattle.pc_desk.proofs.desk.Desk.deliver_in_order.Goals as goal
 
 pub loop-self-init : goal.loop-self-init
 loop-self-init g c =
