@@ -1,0 +1,5 @@
+use Rattle.pc_base.proofs.KeyText.{key_is_text}
+use Rattle.pc_base.proofs.key.Key.new.Goals as goal
+
+pub unreachable-requires : goal.unreachable-requires
+unreachable-requires c = c.in_default.ensures.cases.0 (key_is_text c.args.bytes.now c.holes)
